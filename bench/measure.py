@@ -1,6 +1,5 @@
 """Builds the program and times runs of it."""
 
-import os
 import subprocess
 import sys
 import time
@@ -9,38 +8,44 @@ from typing import NamedTuple
 
 HOME = Path(__file__).resolve().parent.parent
 RUNS = 3
+LIMIT = 120  # seconds of one run
+
+# How the launcher ends where there is no program to run.
+NOT_BUILT = (126, 127)
 
 
 class Run(NamedTuple):
-    """The best of some runs: wall-clock seconds, the peak of its memory in bytes, and what it printed."""
+    """Wall-clock seconds, and what was printed."""
 
     seconds: float
-    peak: int
     printed: str
 
 
+class TooSlow(Exception):
+    """A run was ended at the limit."""
+
+
 def program() -> str:
-    """The program, which the launcher builds first where that is due."""
-    subprocess.run([HOME / "ats"], stdout=subprocess.DEVNULL, check=False)
-    built = HOME / "out" / "ats"
-    if not built.exists():
-        sys.exit("the program could not be built")
-    return str(built)
+    """The program, which the launcher keeps in out/ and builds first where that is due."""
+    status = subprocess.run([HOME / "ats"], stdout=subprocess.DEVNULL, check=False).returncode
+    if status in NOT_BUILT:
+        sys.exit("nothing is measured, since the program could not be built")
+    return str(HOME / "out" / "ats")
 
 
 def run(command: list[str]) -> Run:
     """One run, which must end with status 0."""
     start = time.perf_counter()
-    child = subprocess.Popen(command, stdout=subprocess.PIPE, text=True)
-    printed = child.stdout.read()
-    _, status, usage = os.wait4(child.pid, 0)
+    try:
+        ended = subprocess.run(command, stdout=subprocess.PIPE, text=True, timeout=LIMIT, check=False)
+    except subprocess.TimeoutExpired as late:
+        raise TooSlow from late
     seconds = time.perf_counter() - start
-    child.returncode = os.waitstatus_to_exitcode(status)
-    if child.returncode != 0:
-        sys.exit(f"{command[:2]} ended with status {child.returncode}: {printed.strip()}")
-    return Run(seconds, usage.ru_maxrss * 1024, printed)
+    if ended.returncode != 0:
+        sys.exit(f"{command[:2]} ended with status {ended.returncode}: {ended.stdout.strip()}")
+    return Run(seconds, ended.stdout)
 
 
 def best(command: list[str]) -> Run:
     """The fastest of some runs."""
-    return min((run(command) for _ in range(RUNS)), key=lambda r: r.seconds)
+    return min((run(command) for _ in range(RUNS)), key=lambda one: one.seconds)
