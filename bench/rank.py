@@ -1,0 +1,74 @@
+"""Times `rank` over collections of 1, 4 and 16 MiB.
+
+usage: python3 bench/rank.py [SHAPE]
+
+Prints the seconds, and how they grow and stand against Python's. Ends with 0 where both wanted
+ratios are met, and with 1 where one is not. Without SHAPE the texts have 200 words each.
+"""
+
+import sys
+import tempfile
+from pathlib import Path
+
+import corpora
+import measure
+
+SIZES = (1, 4, 16)
+GROWTH = 5.0
+AGAINST_PYTHON = 0.7
+ROWS = 10
+
+
+def rank(program: str, path: Path, query: str) -> float:
+    best = measure.best([program, "rank", str(path), str(ROWS), query])
+    rows = len(best.printed.splitlines())
+    if rows != ROWS:
+        sys.exit(f"{rows} rows were printed, and not {ROWS}")
+    print(f"{best.seconds:.3f} s", flush=True)
+    return best.seconds
+
+
+def python(path: Path, way: str) -> float:
+    command = [sys.executable, str(measure.HOME / "bench" / "baseline.py"), way, str(path)]
+    return min(float(measure.run(command).printed) for _ in range(measure.RUNS))
+
+
+def measured(program: str, shape: corpora.Shape, folder: str) -> tuple[dict[int, float], float]:
+    """The seconds of `rank` by size, and those of Python for the last size."""
+    query = corpora.query_of(corpora.vocabulary(shape.vocabulary))
+    print(f"rank over {shape.says}, for '{query}'; best of {measure.RUNS} runs each")
+    seconds = {}
+    for size in SIZES:
+        path = Path(folder) / f"{size}.json"
+        documents = corpora.write(str(path), shape, size * corpora.MIB)
+        print(f"{size:2} MiB, {documents:6} documents:", end=" ", flush=True)
+        seconds[size] = rank(program, path, query)
+    words, split = python(path, "words"), python(path, "split")
+    print(f"Python: json.load, re.findall(r'\\w+', text.casefold()) counted in a dict: {words:.3f} s")
+    print(f"  for information, by text.casefold().split() instead: {split:.3f} s, ratio {seconds[16] / split:.2f}")
+    return seconds, words
+
+
+def judge(name: str, ratio: float, wanted: float) -> bool:
+    met = ratio <= wanted
+    print(f"{name}: {ratio:.2f}, wanted at most {wanted}: {'met' if met else 'NOT MET'}")
+    return met
+
+
+def main() -> int:
+    shape = corpora.SHAPES[sys.argv[1] if len(sys.argv) > 1 else "articles"]
+    program = measure.program()
+    try:
+        with tempfile.TemporaryDirectory() as folder:
+            seconds, words = measured(program, shape, folder)
+    except measure.TooSlow:
+        print(f"\na run took more than {measure.LIMIT} s: NOT MET")
+        return 1
+    growth = judge("time(16 MiB) / time(4 MiB)", seconds[16] / seconds[4], GROWTH)
+    against = judge("time(16 MiB) / Python's", seconds[16] / words, AGAINST_PYTHON)
+    print("both ratios are met" if growth and against else "not both ratios are met")
+    return 0 if growth and against else 1
+
+
+if __name__ == "__main__":
+    sys.exit(main())
