@@ -1,12 +1,8 @@
 -- Why texts are no collection.
 use Rattle.std.specs.Prelude.{◌≡◌, ◌<◌, ◌≤◌, ◌^◌, ℕ, List, [], length, take, sum_by, slice_index_or}
-use Rattle.std.specs.List.{All}
+use Rattle.ats_impact.specs.Limits.{AllShort}
 use Rattle.ats_impact.specs.declared.collection.CollectionFault.{CollectionFault}
 use Rattle.ats_impact.specs.declared.collection.CollectionFault.TheVariants.{NoDocuments, TooMany, TextTooLong, AllTooLong, OutOfMemory}
-
--- no text has more than 2^20 bytes
-abbrev pub AllShort : List (List ℕ) → Type 0
-AllShort texts = All (λ text. length text ≤ 2 ^ 20) texts
 
 -- the first of these that holds, in this order, with its number; want of memory is free
 abbrev pub IsFirstCollectionFault : List (List ℕ) → CollectionFault → Type 0

@@ -1,0 +1,94 @@
+-- Counting the terms of a query among the terms of a text.
+use Rattle.std.proofs.Common.{◌≡◌, ◌≢◌, ◌<◌, ◌≤◌, ◌+◌, ℕ, Bool, true, false, cond, List, [], ◌∷◌, ◌++◌, length, map, take, set, get_or, nat_lt, refl, sym, ap, ap₂, ◌∙◌, inl, inr, arith, take_all}
+use Rattle.std.specs.Str.{bytes_eq}
+use Rattle.std.specs.Bool.{Decides}
+use Rattle.std.proofs.lemmas.Bool.{cases_eq, lt-ltb, le-ltb}
+use Rattle.std.proofs.lemmas.Slice.Eq.{bytes_eq-Decides}
+use Rattle.std.proofs.lemmas.List.{get_or-set_same, get_or-set_other, get_or-map, length-map, same_lists, get_or_default, map-append, take_more}
+use Rattle.std.proofs.lemmas.List.Sums.{sum_by_more, count_by-le-length, count_by_more_yes, count_by_more_no}
+use Rattle.ats_terms.specs.Terms.{terms, occurrences}
+use Rattle.ats_terms.specs.Query.{Rises}
+use Rattle.ats_terms.proofs.Order.{rises_apart}
+use Rattle.ats_impact.specs.Score.{count, counts, frequency}
+
+no : {P : Type 0} → (r : Bool) → Decides r P → ¬ P → r ≡ false
+no true decides not_so = absurd (not_so (decides.0 refl))
+no false decides not_so = refl
+
+abbrev pub term_at : List (List ℕ × ℕ) → ℕ → List ℕ
+term_at query k = (get_or query k ([], 0)).0
+
+-- one more of the term at a place
+pub counted_one : (query : List (List ℕ × ℕ)) (found : List ℕ) (term : List ℕ) (i k : ℕ) → Rises query → length found ≡ length query → i < length query
+    → term_at query i ≡ term → k < length query
+    → get_or (set found i (get_or found i 0 + 1)) k 0 ≡ get_or found k 0 + cond (bytes_eq (term_at query k) term) 1 0
+counted_one query found term i k rises same inside is within = elim (cases_eq k i) [
+  | inl here ↦
+      let yes : bytes_eq (term_at query i) term ≡ true = (bytes_eq-Decides (term_at query i) term).1 is in
+      rw (here, get_or-set_same found i (get_or found i 0 + 1) 0 (omega arith), yes) refl
+  | inr other ↦
+      let differ : term_at query k ≢ term = λ equal. rises_apart query k i ([], 0) rises within inside other (equal ∙ sym is) in
+      let not_so : bytes_eq (term_at query k) term ≡ false = no (bytes_eq (term_at query k) term) (bytes_eq-Decides (term_at query k) term) differ in
+      rw (get_or-set_other found i k (get_or found i 0 + 1) 0 other, not_so) (omega arith)
+]
+
+-- the occurrences in one term more
+pub occurs_more : (term : List ℕ) (all : List (List ℕ)) (i : ℕ) (next : List ℕ) → i < length all → next ≡ get_or all i next
+    → occurrences term (take (i + 1) all) ≡ occurrences term (take i all) + cond (bytes_eq term next) 1 0
+occurs_more term all i next inside is =
+    rw (← is) at (sum_by_more (λ x. cond (bytes_eq term x) 1 0) all i next inside)
+
+pub occurs_few : (term : List ℕ) (all : List (List ℕ)) → occurrences term all ≤ length all
+occurs_few term all = count_by-le-length (bytes_eq term) all
+
+-- counts at each place are the list of counts
+pub counted_all : (query : List (List ℕ × ℕ)) (found : List ℕ) (all : List (List ℕ)) → length found ≡ length query
+    → ((k : ℕ) → k < length query → get_or found k 0 ≡ occurrences (term_at query k) all)
+    → found ≡ map (λ pair. occurrences pair.0 all) query
+counted_all query found all same each =
+    same_lists found (map (λ (pair : List ℕ × ℕ). occurrences pair.0 all) query) (same ∙ sym (length-map query (λ (pair : List ℕ × ℕ). occurrences pair.0 all)))
+    (λ k d inside.
+    get_or_default found k d 0 inside ∙ each k (omega arith)
+    ∙ sym (get_or-map (λ (pair : List ℕ × ℕ). occurrences pair.0 all) query k ([], 0) d (omega arith)))
+
+-- a row of the table, and a place of it
+pub row_at : (query : List (List ℕ × ℕ)) (texts : List (List ℕ)) (i : ℕ) (row : List ℕ) → i < length texts → row ≡ get_or (map (counts query) texts) i row
+    → row ≡ counts query (get_or texts i [])
+row_at query texts i row inside is = is ∙ get_or-map (counts query) texts i [] row inside
+
+pub count_at : (query : List (List ℕ × ℕ)) (text : List ℕ) (k : ℕ) → k < length query → get_or (counts query text) k 0 ≡ count (term_at query k) text
+count_at query text k inside = get_or-map (λ (pair : List ℕ × ℕ). count pair.0 text) query k ([], 0) 0 inside
+
+pub length-counts : (query : List (List ℕ × ℕ)) (text : List ℕ) → length (counts query text) ≡ length query
+length-counts query text = length-map query (λ (pair : List ℕ × ℕ). count pair.0 text)
+
+-- one document more, that has the term or not
+pub frequency_yes : (term : List ℕ) (texts : List (List ℕ)) (i : ℕ) → i < length texts → 0 < count term (get_or texts i [])
+    → frequency term (take (i + 1) texts) ≡ frequency term (take i texts) + 1
+frequency_yes term texts i inside some =
+    count_by_more_yes (λ text. nat_lt 0 (count term text)) texts i [] inside (lt-ltb 0 (count term (get_or texts i [])) some)
+
+pub frequency_no : (term : List ℕ) (texts : List (List ℕ)) (i : ℕ) → i < length texts → count term (get_or texts i []) ≤ 0
+    → frequency term (take (i + 1) texts) ≡ frequency term (take i texts)
+frequency_no term texts i inside none =
+    count_by_more_no (λ text. nat_lt 0 (count term text)) texts i [] inside (le-ltb 0 (count term (get_or texts i [])) none)
+
+-- what a row of the table says of a place
+pub counted_at : (query : List (List ℕ × ℕ)) (texts : List (List ℕ)) (i k : ℕ) (row : List ℕ) (found : ℕ) → i < length texts → k < length query
+    → row ≡ get_or (map (counts query) texts) i row → found ≡ get_or row k 0 → found ≡ count (term_at query k) (get_or texts i [])
+counted_at query texts i k row found inside within is at =
+    at ∙ ap (λ r. get_or r k 0) (row_at query texts i row inside is) ∙ count_at query (get_or texts i []) k within
+
+pub row_long : (query : List (List ℕ × ℕ)) (texts : List (List ℕ)) (i k : ℕ) (row : List ℕ) → i < length texts → k < length query
+    → row ≡ get_or (map (counts query) texts) i row → k < length row
+row_long query texts i k row inside within is =
+    omega (arith, ap length (row_at query texts i row inside is), length-counts query (get_or texts i []))
+
+-- a list that is made item by item
+pub made_more : {X Y : Type 0} (f : X → Y) (xs : List X) (i : ℕ) (d : X) (made : List Y) (y : Y) → i < length xs → made ≡ map f (take i xs)
+    → y ≡ f (get_or xs i d) → made ++ y ∷ [] ≡ map f (take (i + 1) xs)
+made_more f xs i d made y inside so_far is =
+    ap₂ (λ m z. m ++ z ∷ []) so_far is ∙ sym (ap (map f) (take_more xs i d inside) ∙ map-append f (take i xs) (get_or xs i d ∷ []))
+
+pub made_all : {X Y : Type 0} (f : X → Y) (xs : List X) (i : ℕ) (made : List Y) → length xs ≤ i → made ≡ map f (take i xs) → made ≡ map f xs
+made_all f xs i made all so_far = so_far ∙ ap (map f) (take_all i xs all)
