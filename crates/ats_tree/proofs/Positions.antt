@@ -1,5 +1,5 @@
 -- Rising positions: by neighbours, as contracts say it, and by recursion, as the proofs use it.
-use Rattle.std.proofs.Common.{◌≡◌, ℕ, zero, suc, ◌+◌, ◌<◌, ◌≤◌, List, [], ◌∷◌, length, arith, All, get_or, add-one, ap, subst, sym}
+use Rattle.std.proofs.Common.{◌≡◌, ℕ, zero, suc, ◌+◌, ◌<◌, ◌≤◌, List, [], ◌∷◌, length, arith, All, drop, map}
 use Rattle.std.specs.List.Sorted.{IsStrictlyIncreasing}
 use Rattle.ats_tree.specs.Shown.{Shown, positions_of}
 use Rattle.ats_tree.specs.Part.{RisesFrom, RisesWithin}
@@ -8,6 +8,12 @@ use Rattle.ats_tree.specs.Part.{RisesFrom, RisesWithin}
 increasing-tail : (p : ℕ) (ps : List ℕ) → IsStrictlyIncreasing (p ∷ ps) → IsStrictlyIncreasing ps
 increasing-tail p ps rises k less =
     let next : suc k + 1 ≡ suc (k + 1) = omega arith in rw next at (rises (suc k) (omega arith))
+
+-- the leaves after the first rise where all do, each element of a list showing one
+pub rises-rest : {X : Type 0} (f : X → Shown) (xs : List X) → IsStrictlyIncreasing (positions_of (map f xs))
+    → IsStrictlyIncreasing (positions_of (map f (drop 1 xs)))
+rises-rest f [] rises = rises
+rises-rest f (x ∷ xs) rises = increasing-tail (f x).0 (positions_of (map f xs)) rises
 
 rises-first : (from : ℕ) (s : Shown) (rest : List Shown) → from ≤ s.0 → IsStrictlyIncreasing (positions_of (s ∷ rest)) → RisesFrom from (s ∷ rest)
 rises-first from s [] low rises = (low, tt)

@@ -8,8 +8,8 @@ use crate::revealing::Revealed;
 use ats_hash::{Hash32, Steps};
 use std::marker::PhantomData;
 
-/// Leaves and digests, taken from the front. A recursion has no proof yet under a bound that names a
-/// lifetime, as `Revealed` does, so it stands on this trait, which names none.
+/// Leaves and digests, taken from the front. It names no lifetime, since a recursion under a bound that
+/// names one, as `Revealed` does, gets no generated proof.
 pub(crate) trait Feed {
     /// The positions and bytes of the leaves left.
     ghost leaves: { Self → List Shown };
