@@ -1,5 +1,5 @@
 -- The numbers of paths, and how long paths are.
-use Rattle.std.proofs.Common.{◌≡◌, ℕ, zero, suc, ◌+◌, ◌*◌, ◌/◌, ◌%◌, ◌^◌, ◌<◌, ◌≤◌, List, [], ◌∷◌, ◌++◌, length, take, drop, map, Bool, true, false, ◌&&◌, cond, refl, sym, ◌∙◌, ap, arith, inl, inr, Option, Some, None, All, IsSome, nat_eq, subst}
+use Rattle.std.proofs.Common.{◌≡◌, ℕ, zero, suc, ◌+◌, ◌*◌, ◌/◌, ◌%◌, ◌^◌, ◌<◌, ◌≤◌, List, [], ◌∷◌, length, take, drop, map, Bool, true, false, ◌&&◌, cond, refl, sym, ◌∙◌, ap, arith, inl, inr, Option, Some, None, All, IsSome, nat_eq, subst}
 use Rattle.std.specs.Int.{bit_at}
 use Rattle.std.proofs.Math.Nat.{two-pow-succ, mod-eq_of_lt, mod-one}
 use Rattle.std.proofs.Math.Arith.{mod-mul}
@@ -7,12 +7,11 @@ use Rattle.std.proofs.Math.Pow.{pow_mono}
 use Rattle.std.proofs.lemmas.Nat.{pow_pos}
 use Rattle.std.proofs.lemmas.Nat.Bits.{bit_at-lt}
 use Rattle.std.proofs.lemmas.Bool.{cond-true, cond-false, cases_lt, cases_eq, cases_Bool, eq-eqb, ne_eqb}
-use Rattle.std.proofs.lemmas.List.{length-take, length-drop}
 use Rattle.std.proofs.lemmas.List.Elements.{All-append, All-map, All-nil, All-cons}
 use Rattle.ats_tree.specs.Paths.{Path, path_of, number_of, IsPathOf}
-use Rattle.ats_tree.specs.Tree.{Tree, empty, leaf, node, tree_within, tree_of}
+use Rattle.ats_tree.specs.Tree.{Tree, node, tree_within, tree_of}
 use Rattle.ats_tree.specs.Shown.{Shown, places}
-use Rattle.ats_tree.specs.Rebuild.{is_bare, need, digest_with, tree_of_places}
+use Rattle.ats_tree.specs.Rebuild.{is_bare, need, tree_of_places}
 use Rattle.ats_tree.specs.Strings.{Hashed, below, strings, string_at}
 use Rattle.ats_tree.proofs.Trees.{within-cut, within-suc, of-within}
 use Rattle.ats_tree.proofs.Places.{length-places}
