@@ -12,7 +12,8 @@ use Rattle.ats_tree.specs.Paths.{Path, path_of, number_of, IsPathOf}
 use Rattle.ats_tree.specs.Tree.{Tree, node, tree_within, tree_of}
 use Rattle.ats_tree.specs.Shown.{Shown, places}
 use Rattle.ats_tree.specs.Rebuild.{is_bare, need, tree_of_places}
-use Rattle.ats_tree.specs.Strings.{Hashed, below, strings, string_at}
+use Rattle.ats_tree.specs.Clashes.{Hashed}
+use Rattle.ats_tree.specs.Strings.{below, strings, string_at}
 use Rattle.ats_tree.proofs.Trees.{within-cut, within-suc, of-within}
 use Rattle.ats_tree.proofs.Places.{length-places}
 
@@ -120,12 +121,12 @@ path-ours H h ds path few there = ours-within H h ds path (subst (λ t. IsSome (
 
 -- the strings of a node with two parts have one turn more than those of the parts
 theirs-node : (H : List ℕ → List ℕ) (h : ℕ) (l r : Tree (Option (List ℕ))) (ds : List (List ℕ))
-    → ((es : List (List ℕ)) → All (λ s. length s.path ≤ h) (strings H l es))
-    → ((es : List (List ℕ)) → All (λ s. length s.path ≤ h) (strings H r es))
-    → All (λ s. length s.path ≤ suc h) (strings H (node l r) ds)
+    → ((es : List (List ℕ)) → All (λ s. length s.place ≤ h) (strings H l es))
+    → ((es : List (List ℕ)) → All (λ s. length s.place ≤ h) (strings H r es))
+    → All (λ s. length s.place ≤ suc h) (strings H (node l r) ds)
 theirs-node H h l r ds left right =
-    let Short : Hashed → Type 0 = λ s. length s.path ≤ suc h
-    in let deeper : (turn : Bool) (ss : List Hashed) → All (λ s. length s.path ≤ h) ss → All Short (map (below turn) ss) =
+    let Short : Hashed Path → Type 0 = λ s. length s.place ≤ suc h
+    in let deeper : (turn : Bool) (ss : List (Hashed Path)) → All (λ s. length s.place ≤ h) ss → All Short (map (below turn) ss) =
     λ turn ss all. All-map Short (below turn) ss (λ k d less. omega (arith, all k d less))
     in elim (cases_Bool (is_bare l && is_bare r)) [
       | inl bare ↦ subst (All Short) (sym (cond-true _ _ _ bare)) (All-nil Short)
@@ -136,17 +137,17 @@ theirs-node H h l r ds left right =
     ]
 
 theirs-within : (H : List ℕ → List ℕ) (h : ℕ) (os : List (Option (List ℕ))) (ds : List (List ℕ))
-    → All (λ s. length s.path ≤ h) (strings H (tree_within h os) ds)
+    → All (λ s. length s.place ≤ h) (strings H (tree_within h os) ds)
 unfolding tree_within
 theirs-within H zero [] ds = All-nil _
 theirs-within H zero (None ∷ os) ds = All-nil _
 theirs-within H zero (Some x ∷ os) ds =
-    let Short : Hashed → Type 0 = λ s. length s.path ≤ 0
-    in let here : Hashed = record { path = []; text = 0 ∷ x }
-    in let short : length here.path ≤ 0 = omega arith
+    let Short : Hashed Path → Type 0 = λ s. length s.place ≤ 0
+    in let here : Hashed Path = record { place = []; text = 0 ∷ x }
+    in let short : length here.place ≤ 0 = omega arith
     in All-cons Short here [] short (All-nil Short)
 theirs-within H (suc h) os ds =
-    let Listed : Tree (Option (List ℕ)) → Type 0 = λ t. All (λ s. length s.path ≤ suc h) (strings H t ds)
+    let Listed : Tree (Option (List ℕ)) → Type 0 = λ t. All (λ s. length s.place ≤ suc h) (strings H t ds)
     in elim (cases_lt (2 ^ h) (length os)) [
       | inl long ↦
           subst Listed (sym (within-cut h os long))
@@ -157,8 +158,8 @@ theirs-within H (suc h) os ds =
     ]
 
 pub path-theirs : (H : List ℕ → List ℕ) (h n : ℕ) (shown : List Shown) (ds : List (List ℕ)) → n ≤ 2 ^ h
-    → All (λ s. length s.path ≤ h) (strings H (tree_of_places n shown) ds)
+    → All (λ s. length s.place ≤ h) (strings H (tree_of_places n shown) ds)
 path-theirs H h n shown ds few =
     let short : length (places 0 n shown) ≤ 2 ^ h = omega (arith, length-places 0 n shown)
-    in let Listed : Tree (Option (List ℕ)) → Type 0 = λ t. All (λ s. length s.path ≤ h) (strings H t ds)
+    in let Listed : Tree (Option (List ℕ)) → Type 0 = λ t. All (λ s. length s.place ≤ h) (strings H t ds)
     in subst Listed (sym (of-within h (places 0 n shown) short)) (theirs-within H h (places 0 n shown) ds)
