@@ -7,7 +7,7 @@ from pathlib import Path
 from typing import NamedTuple
 
 HOME = Path(__file__).resolve().parent.parent
-RUNS = 3
+RUNS = 5
 LIMIT = 120  # seconds of one run
 
 # How the launcher ends where there is no program to run.
