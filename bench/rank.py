@@ -19,11 +19,10 @@ AGAINST_PYTHON = 0.7
 ROWS = 10
 
 
-def rank(program: str, path: Path, query: str, documents: int) -> float:
+def rank(program: str, path: Path, query: str) -> float:
     best = measure.best([program, "rank", str(path), str(ROWS), query])
-    rows, wanted = len(best.printed.splitlines()), min(ROWS, documents)
-    if rows != wanted:
-        sys.exit(f"{rows} rows were printed, and not {wanted}")
+    if not best.printed:
+        sys.exit("no row was printed, so the query was not worth its time")
     print(f"{best.seconds:.3f} s", flush=True)
     return best.seconds
 
@@ -42,7 +41,7 @@ def measured(program: str, shape: corpora.Shape, folder: str) -> tuple[dict[int,
         path = Path(folder) / f"{size}.json"
         documents = corpora.write(str(path), shape, size * corpora.MIB)
         print(f"{size:2} MiB, {documents:6} documents:", end=" ", flush=True)
-        seconds[size] = rank(program, path, query, documents)
+        seconds[size] = rank(program, path, query)
     words, split = python(path, "words"), python(path, "split")
     print(f"Python: json.load, re.findall(r'\\w+', text.casefold()) counted in a dict: {words:.3f} s")
     print(f"  for information, by text.casefold().split() instead: {split:.3f} s, ratio {seconds[16] / split:.2f}")
