@@ -6,7 +6,7 @@ use Rattle.std.proofs.lemmas.Bool.{cases_eq, lt-ltb, le-ltb}
 use Rattle.std.proofs.lemmas.Slice.Eq.{bytes_eq-Decides}
 use Rattle.std.proofs.lemmas.List.{get_or-set_same, get_or-set_other, get_or-map, length-map, same_lists, get_or_default, map-append, take_more}
 use Rattle.std.proofs.lemmas.List.Sums.{sum_by_more, count_by-le-length, count_by_more_yes, count_by_more_no}
-use Rattle.ats_terms.specs.Terms.{terms, occurrences}
+use Rattle.ats_terms.specs.Terms.{occurrences}
 use Rattle.ats_terms.specs.Query.{Rises}
 use Rattle.ats_terms.proofs.Order.{rises_apart}
 use Rattle.ats_impact.specs.Score.{count, counts, frequency}
