@@ -1,12 +1,13 @@
 -- Counting the terms of a query among the terms of a text.
-use Rattle.std.proofs.Common.{◌≡◌, ◌≢◌, ◌<◌, ◌≤◌, ◌+◌, ℕ, Bool, true, false, cond, List, [], ◌∷◌, ◌++◌, length, map, take, set, get_or, nat_lt, refl, sym, ap, ap₂, ◌∙◌, inl, inr, arith, take_all}
+use Rattle.std.proofs.Common.{◌≡◌, ◌≢◌, ◌<◌, ◌≤◌, ◌+◌, ℕ, Bool, true, false, cond, List, [], ◌∷◌, ◌++◌, length, map, take, set, get_or, nat_lt, count_by, refl, sym, ap, ap₂, ◌∙◌, inl, inr, arith, take_all}
+use Rattle.std.specs.List.{All}
 use Rattle.std.specs.Str.{bytes_eq}
 use Rattle.std.specs.Bool.{Decides}
-use Rattle.std.proofs.lemmas.Bool.{cases_eq, lt-ltb, le-ltb}
+use Rattle.std.proofs.lemmas.Bool.{cases_eq}
 use Rattle.std.proofs.lemmas.Slice.Eq.{bytes_eq-Decides}
 use Rattle.std.proofs.lemmas.List.{get_or-set_same, get_or-set_other, get_or-map, length-map, same_lists, get_or_default, map-append, take_more}
-use Rattle.std.proofs.lemmas.List.Sums.{sum_by_more, count_by-le-length, count_by_more_yes, count_by_more_no}
-use Rattle.ats_terms.specs.Terms.{terms, occurrences}
+use Rattle.std.proofs.lemmas.List.Sums.{sum_by_more, sum_by-cons, count_by-le-length}
+use Rattle.ats_terms.specs.Terms.{occurrences}
 use Rattle.ats_terms.specs.Query.{Rises}
 use Rattle.ats_terms.proofs.Order.{rises_apart}
 use Rattle.ats_impact.specs.Score.{count, counts, frequency}
@@ -62,27 +63,27 @@ count_at query text k inside = get_or-map (λ (pair : List ℕ × ℕ). count pa
 pub length-counts : (query : List (List ℕ × ℕ)) (text : List ℕ) → length (counts query text) ≡ length query
 length-counts query text = length-map query (λ (pair : List ℕ × ℕ). count pair.0 text)
 
--- one document more, that has the term or not
-pub frequency_yes : (term : List ℕ) (texts : List (List ℕ)) (i : ℕ) → i < length texts → 0 < count term (get_or texts i [])
-    → frequency term (take (i + 1) texts) ≡ frequency term (take i texts) + 1
-frequency_yes term texts i inside some =
-    count_by_more_yes (λ text. nat_lt 0 (count term text)) texts i [] inside (lt-ltb 0 (count term (get_or texts i [])) some)
+-- a place of the table counts the documents that have its term
+pub frequency_by_table : (query : List (List ℕ × ℕ)) (texts : List (List ℕ)) (k : ℕ) → k < length query
+    → count_by (λ row. nat_lt 0 (get_or row k 0)) (map (counts query) texts) ≡ frequency (term_at query k) texts
+frequency_by_table query [] k inside = refl
+frequency_by_table query (text ∷ rest) k inside =
+    let one : ℕ → ℕ = λ n. cond (nat_lt 0 n) 1 0 in
+    let here : one (get_or (counts query text) k 0) ≡ one (count (term_at query k) text) = ap one (count_at query text k inside) in
+    omega (
+      arith,
+      here,
+      frequency_by_table query rest k inside,
+      sum_by-cons (λ (row : List ℕ). one (get_or row k 0)) (counts query text) (map (counts query) rest),
+      sum_by-cons (λ (x : List ℕ). one (count (term_at query k) x)) text rest,
+    )
 
-pub frequency_no : (term : List ℕ) (texts : List (List ℕ)) (i : ℕ) → i < length texts → count term (get_or texts i []) ≤ 0
-    → frequency term (take (i + 1) texts) ≡ frequency term (take i texts)
-frequency_no term texts i inside none =
-    count_by_more_no (λ text. nat_lt 0 (count term text)) texts i [] inside (le-ltb 0 (count term (get_or texts i [])) none)
-
--- what a row of the table says of a place
-pub counted_at : (query : List (List ℕ × ℕ)) (texts : List (List ℕ)) (i k : ℕ) (row : List ℕ) (found : ℕ) → i < length texts → k < length query
-    → row ≡ get_or (map (counts query) texts) i row → found ≡ get_or row k 0 → found ≡ count (term_at query k) (get_or texts i [])
-counted_at query texts i k row found inside within is at =
-    at ∙ ap (λ r. get_or r k 0) (row_at query texts i row inside is) ∙ count_at query (get_or texts i []) k within
-
-pub row_long : (query : List (List ℕ × ℕ)) (texts : List (List ℕ)) (i k : ℕ) (row : List ℕ) → i < length texts → k < length query
-    → row ≡ get_or (map (counts query) texts) i row → k < length row
-row_long query texts i k row inside within is =
-    omega (arith, ap length (row_at query texts i row inside is), length-counts query (get_or texts i []))
+-- each row of the table has a count for each term
+pub rows_long : (query : List (List ℕ × ℕ)) (texts : List (List ℕ)) (k : ℕ) → k < length query → All (λ row. k < length row) (map (counts query) texts)
+rows_long query texts k inside i d within =
+    let size : i < length texts = omega (arith, length-map texts (counts query)) in
+    let is : get_or (map (counts query) texts) i d ≡ counts query (get_or texts i []) = get_or-map (counts query) texts i [] d size in
+    omega (arith, ap length is, length-counts query (get_or texts i []))
 
 -- a list that is made item by item
 pub made_more : {X Y : Type 0} (f : X → Y) (xs : List X) (i : ℕ) (d : X) (made : List Y) (y : Y) → i < length xs → made ≡ map f (take i xs)

@@ -1,10 +1,10 @@
 // The scores of documents, from one table of how often each of them has each term of a query.
-ghost use Rattle.std.specs.Prelude.{◌≡◌, ◌≤◌, ◌<◌, ◌+◌, ◌^◌, [], List, ℕ, length, map, slice_index, slice_index_or, if◌then◌else◌, IfOk};
+ghost use Rattle.std.specs.Prelude.{◌≡◌, ◌≤◌, ◌<◌, ◌+◌, ◌^◌, [], List, ℕ, length, map, count_by, nat_lt, slice_index, slice_index_or, if◌then◌else◌, IfOk};
 ghost use Rattle.std.specs.List.{All};
 ghost use Rattle.std.specs.Str.{bytes_eq};
 ghost use Rattle.ats_terms.specs.Terms.{terms, occurrences};
 ghost use Rattle.ats_terms.specs.Query.{IsQuery};
-ghost use Rattle.ats_impact.specs.Score.{counts, coefficient, frequency, part, score, total_terms};
+ghost use Rattle.ats_impact.specs.Score.{counts, coefficient, part, score, total_terms};
 
 use crate::collection::{Collection, Document};
 use crate::memory::OutOfMemory;
@@ -75,12 +75,11 @@ pub(crate) fn table(
     Ok(table)
 }
 
-// How many of the documents have term k of the query.
-fn frequency(table: &[Counts], documents: &[Document], query: &Query, k: usize) -> u32
-    requires table { table.now ≡ map (counts query.now) documents.now }
-    requires few { length documents.now ≤ 65536 }
-    requires inside { k < length query.now }
-    ensures { result ≡ frequency (slice_index_or query.now k ([], 0)).0 documents.now }
+// How many rows of the table have a count at this place.
+fn frequency(table: &[Counts], k: usize) -> u32
+    requires few { length table.now ≤ 65536 }
+    requires inside { All (λ row. k < length row) table.now }
+    ensures { result ≡ count_by (λ row. nat_lt 0 (slice_index row k)) table.now }
 {
     let mut found: u32 = 0;
     for counts in table {
@@ -105,7 +104,7 @@ pub(crate) fn coefficients(
     let mut coefficients = Vec::new(alloc);
     let n = collection.documents();
     for k in 0..query.len() {
-        let idf = idf(n, frequency(table, collection.all(), query, k));
+        let idf = idf(n, frequency(table, k));
         coefficients.push(u64::from(query.weight(k)) * u64::from(idf))?;
     }
     Ok(coefficients)

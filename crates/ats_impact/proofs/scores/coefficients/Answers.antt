@@ -1,8 +1,8 @@
-use Rattle.std.proofs.Common.{◌≡◌, ◌<◌, ◌*◌, ◌^◌, ℕ, List, [], length, get_or, sym, ap, ap₂, ◌∙◌, arith}
+use Rattle.std.proofs.Common.{◌≡◌, ◌<◌, ◌*◌, ◌^◌, ℕ, List, [], length, get_or, count_by, nat_lt, ap, ap₂, ◌∙◌, arith}
 use Rattle.std.proofs.lemmas.List.Elements.{All-push}
 use Rattle.ats_impact.specs.Numbers.{idf}
 use Rattle.ats_impact.specs.Score.{coefficient, frequency}
-use Rattle.ats_impact.proofs.Occurrences.{term_at, made_more}
+use Rattle.ats_impact.proofs.Occurrences.{term_at, made_more, frequency_by_table, rows_long}
 use Rattle.ats_impact.proofs.Parts.{small_product}
 use Rattle.ats_impact.proofs.scores.coefficients.Goals as goal
 
@@ -14,7 +14,7 @@ loop-k-preserved c =
     let pair = get_or query k ([], 0) in
     let inside : k < length query = omega (arith, c.len-k-end.ensures.value) in
     let found : c.frequency.result ≡ frequency (term_at query k) texts =
-    c.frequency.ensures ∙ ap (frequency (term_at query k)) c.all.ensures.same in
+    c.frequency.ensures ∙ ap (count_by (λ (row : List ℕ). nat_lt 0 (get_or row k 0))) c.requires ∙ frequency_by_table query texts k inside in
     let second : c.idf-idf.result ≡ idf (length texts) (frequency (term_at query k) texts) =
     c.idf-idf.ensures.value ∙ ap₂ idf c.documents-n.ensures.value found in
     let made : c.from.result * c.from-in-loop-k.result ≡ coefficient texts pair =
@@ -24,3 +24,7 @@ loop-k-preserved c =
       made = rw c.in_ok-push.ensures.items (made_more (coefficient texts) query k ([], 0) c.loop-k.coefficients.items _ inside c.loop-k.invariant.made made);
       small = rw c.in_ok-push.ensures.items (All-push (λ (x : ℕ). x < 2 ^ 40) c.loop-k.coefficients.items _ c.loop-k.invariant.small small);
     }
+
+pub frequency-requires-clause-inside : goal.frequency-requires-clause-inside
+frequency-requires-clause-inside c =
+    rw c.requires (rows_long c.args.query.now c.args.collection.now c.loop-k.k (omega (arith, c.len-k-end.ensures.value)))

@@ -1,4 +1,4 @@
-use Rattle.std.proofs.Common.{◌≡◌, ◌<◌, ◌≤◌, length, get_or, take, ap, sym, ◌∙◌, arith, length-take, take_all}
+use Rattle.std.proofs.Common.{◌≡◌, ◌<◌, length, get_or, take, ap, ◌∙◌, arith, length-take, take_all}
 use Rattle.std.proofs.lemmas.List.{get_or_default}
 use Rattle.ats_terms.specs.Terms.{occurrences}
 use Rattle.ats_impact.proofs.Occurrences.{term_at, occurs_few, counted_all}

@@ -1,8 +1,7 @@
-use Rattle.std.proofs.Common.{◌≡◌, ◌≤◌, take}
-use Rattle.ats_impact.specs.Score.{frequency}
-use Rattle.ats_impact.proofs.Occurrences.{term_at}
+use Rattle.std.proofs.Common.{◌≡◌, ◌≤◌, take, get_or, count_by, nat_lt}
 use Rattle.ats_impact.proofs.scores.frequency.Given as goal
 
--- the documents so far that have the term
+-- the rows so far that have a count
 abbrev pub invariant-loop-counts : goal.invariant-loop-counts
-invariant-loop-counts l = (l.found ≡ frequency (term_at l.query l.k) (take l.counts-index l.documents)) × (l.found ≤ l.counts-index)
+invariant-loop-counts l =
+    (l.found ≡ count_by (λ row. nat_lt 0 (get_or row l.k 0)) (take l.counts-index l.table)) × (l.found ≤ l.counts-index)

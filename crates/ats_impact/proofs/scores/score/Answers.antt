@@ -1,8 +1,8 @@
-use Rattle.std.proofs.Common.{◌≡◌, ◌<◌, ◌≤◌, ◌+◌, ◌*◌, ◌^◌, ℕ, List, [], length, get_or, take, sum_by, sym, ap, ◌∙◌, arith}
+use Rattle.std.proofs.Common.{◌≡◌, ◌<◌, [], length, get_or, ap, ◌∙◌, arith}
 use Rattle.std.proofs.lemmas.List.{get_or-map}
 use Rattle.std.proofs.lemmas.List.Sums.{sum_by_more}
 use Rattle.ats_terms.specs.Terms.{terms, occurrences}
-use Rattle.ats_impact.specs.Score.{counts, coefficient, part}
+use Rattle.ats_impact.specs.Score.{coefficient, part}
 use Rattle.ats_impact.proofs.Occurrences.{term_at, occurs_few, count_at}
 use Rattle.ats_impact.proofs.scores.score.Goals as goal
 

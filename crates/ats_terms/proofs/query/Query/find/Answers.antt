@@ -1,5 +1,5 @@
-use Rattle.std.proofs.Common.{◌≡◌, ◌≢◌, ◌<◌, ℕ, List, [], length, get_or, Option, Result, Ok, Err, IfSome, IfNone, arith, ap, rules}
-use Rattle.std.specs.List.{All, HoldsAt}
+use Rattle.std.proofs.Common.{◌≡◌, ◌≢◌, ◌<◌, ℕ, List, [], length, get_or, Result, Ok, Err, IfSome, IfNone, rules}
+use Rattle.std.specs.List.{All}
 use Rattle.std.specs.List.Sorted.{IsBinarySearchResult, IsSearchInRange}
 use Rattle.std.specs.Result.{result_ok}
 use Rattle.std.proofs.lemmas.Fn.{always_returns_same}
