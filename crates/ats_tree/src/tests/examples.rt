@@ -1,5 +1,5 @@
-//! The example tree of eight leaves that Certificate Transparency's implementations share. The digests
-//! were computed from RFC 6962, section 2.1, by a program of its own.
+//! The example tree of eight leaves that implementations of RFC 6962 share. An independent program
+//! computed the digests from the RFC's section 2.1.
 
 ghost use Rattle.std.specs.Prelude.{◌<◌, ◌≤◌};
 
