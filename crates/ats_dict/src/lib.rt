@@ -9,7 +9,11 @@
 //! How terms lie in memory and how they are searched may change without asking; the bytes may not.
 #![tactic(auto)]
 
+pub use dictionary::{DictLeaf, Dictionary, OutOfMemory};
 pub use header::Header;
+pub use spot::Spot;
 
+mod dictionary;
 mod header;
 mod pieces;
+mod spot;
