@@ -1,17 +1,15 @@
 -- Where a term stands among leaves whose terms rise.
-use Rattle.std.proofs.Common.{◌≡◌, ◌≢◌, ◌<◌, ◌≤◌, ◌+◌, ℕ, zero, suc, List, [], ◌∷◌, length, get_or, refl, sym, ap, ap₂, subst, ◌∙◌, arith, rules, true, inl, inr}
-use Rattle.std.specs.List.{All}
+use Rattle.std.proofs.Common.{◌≡◌, ◌≢◌, ◌<◌, ◌≤◌, ◌+◌, ℕ, suc, List, length, sym, ap, subst, ◌∙◌, arith, rules, true, inl, inr}
 use Rattle.std.specs.Ordering.{ordering_reverse, is_eq}
 use Rattle.std.specs.Str.{bytes_eq}
-use Rattle.std.specs.declared.cmp.Ordering.{Ordering}
 use Rattle.std.specs.declared.cmp.Ordering.TheVariants.{Less, Equal, Greater}
-use Rattle.std.proofs.lemmas.Bool.{cases_lt, cases_order}
+use Rattle.std.proofs.lemmas.Bool.{cases_order}
 use Rattle.std.proofs.lemmas.Cmp.{nat_list_cmp_total, tied_itself}
 use Rattle.std.proofs.lemmas.Map.Text.{is_eq-slice_cmp}
 use Rattle.std.proofs.lemmas.Slice.Eq.{bytes_eq-Decides}
 use Rattle.ats_dict.specs.Entry.{DictEntry}
-use Rattle.ats_dict.specs.Dictionary.{byte_cmp, IsBelow, IsDictionary, low, entry_at, term_at}
-use Rattle.ats_dict.specs.Found.{StandsAt, LiesBetween}
+use Rattle.ats_dict.specs.Dictionary.{byte_cmp, IsBelow, IsDictionary, term_at}
+use Rattle.ats_dict.specs.Found.{LiesBetween}
 use Rattle.ats_dict.proofs.Sentinels.{entry_at-suc, terms_rise}
 
 -- no term is below itself
@@ -44,11 +42,11 @@ pub stands_nowhere : (entries : List DictEntry) (term : List ℕ) → IsDictiona
 stands_nowhere entries term is p within above below q inside same = elim (cases_order q p) [
   | inl here ↦ irreflexive (term_at entries p) term above (subst (λ n. term_at entries n ≡ term) here same)
   | inr (inl before) ↦ irreflexive (term_at entries q) term
-    (nat_list_cmp_total.trans (term_at entries q) (term_at entries p) term (terms_rise entries is q p before (omega arith)) above) same
+      (nat_list_cmp_total.trans (term_at entries q) (term_at entries p) term (terms_rise entries is q p before (omega arith)) above) same
   | inr (inr after) ↦ elim (cases_order (p + 1) q) [
     | inl next ↦ irreflexive term (term_at entries (p + 1)) below (sym (subst (λ n. term_at entries n ≡ term) (sym next) same))
     | inr (inl past) ↦ irreflexive term (term_at entries q)
-      (nat_list_cmp_total.trans term (term_at entries (p + 1)) (term_at entries q) below (terms_rise entries is (p + 1) q past inside)) (sym same)
+        (nat_list_cmp_total.trans term (term_at entries (p + 1)) (term_at entries q) below (terms_rise entries is (p + 1) q past inside)) (sym same)
     | inr (inr never) ↦ absurd (omega arith)
   ]
 ]
@@ -61,5 +59,5 @@ lies_between entries term is p within above below = record {
   above = above;
   below = below;
   absent = λ k d inside same.
-    stands_nowhere entries term is p within above below (suc k) (omega arith) (ap (λ (e : DictEntry). e.term) (entry_at-suc entries k d inside) ∙ same);
+      stands_nowhere entries term is p within above below (suc k) (omega arith) (ap (λ (e : DictEntry). e.term) (entry_at-suc entries k d inside) ∙ same);
 }

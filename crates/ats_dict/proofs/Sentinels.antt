@@ -1,5 +1,5 @@
 -- The entries of all leaves, by their positions.
-use Rattle.std.proofs.Common.{◌≡◌, ◌<◌, ◌≤◌, ◌+◌, ◌-◌, ◌⊎◌, ℕ, zero, suc, List, [], ◌∷◌, ◌++◌, length, get_or, refl, sym, ap, ap₂, subst, ◌∙◌, arith, length-append, inl, inr}
+use Rattle.std.proofs.Common.{◌≡◌, ◌<◌, ◌≤◌, ◌+◌, ℕ, zero, suc, List, [], ◌∷◌, length, get_or, refl, sym, ap, subst, ◌∙◌, arith, length-append, inl, inr}
 use Rattle.std.proofs.lemmas.Bool.{cases_lt}
 use Rattle.std.proofs.lemmas.Bool.Decides.{nat_tests}
 use Rattle.std.proofs.lemmas.List.{get_or_append_left, get_or_at, get_or_default, map-append, length-map, get_or-map}
@@ -7,8 +7,8 @@ use Rattle.std.specs.Prelude.{map}
 use Rattle.std.proofs.Common.{nat_cmp, Less}
 use Rattle.std.specs.Ordering.{ordering_then}
 use Rattle.std.specs.Cmp.Lexicographic.{slice_cmp}
-use Rattle.ats_dict.specs.Entry.{DictEntry, IsDictTerm, IsDictEntry, dict_leaf_bytes}
-use Rattle.ats_dict.specs.Dictionary.{byte_cmp, IsBelow, IsDictionary, low, high, with_sentinels, entry_at, term_at, leaf_of, dict_leaves}
+use Rattle.ats_dict.specs.Entry.{DictEntry}
+use Rattle.ats_dict.specs.Dictionary.{IsBelow, IsDictionary, low, high, with_sentinels, entry_at, term_at, leaf_of, dict_leaves}
 
 -- the leaf of an entry stands one position past it, behind the low sentinel
 pub entry_at-suc : (entries : List DictEntry) (i : ℕ) (d : DictEntry) → i < length entries → entry_at entries (suc i) ≡ get_or entries i d
@@ -65,7 +65,7 @@ terms_rise entries is (suc i) (suc j) up inside =
     let Above : DictEntry → DictEntry → Type 0 = λ (later entry : DictEntry). IsBelow entry.term later.term in
     elim (cases_lt j (length entries)) [
       | inl in_order ↦ subst Below (sym (entry_at-suc entries j low in_order))
-        (subst (Above (get_or entries j low)) (sym (entry_at-suc entries i low within)) (is.rises i j low (omega arith) in_order))
+          (subst (Above (get_or entries j low)) (sym (entry_at-suc entries i low within)) (is.rises i j low (omega arith) in_order))
       | inr past ↦ subst Below (sym (entry_at-last entries (suc j) (omega arith)))
-        (subst (Above high) (sym (entry_at-suc entries i low within)) (high_above (get_or entries i low).term first.term.some first.term.front))
+          (subst (Above high) (sym (entry_at-suc entries i low within)) (high_above (get_or entries i low).term first.term.some first.term.front))
     ]

@@ -1,5 +1,5 @@
 -- The dictionary of a collection: its entries in byte order of their terms, between two sentinels.
-use Rattle.std.specs.Prelude.{◌≡◌, ◌≤◌, ◌^◌, ℕ, List, [], ◌∷◌, ◌++◌, length, map, replicate, slice_index_or}
+use Rattle.std.specs.Prelude.{◌≡◌, ◌≤◌, ◌-◌, ◌^◌, ℕ, List, [], ◌∷◌, ◌++◌, length, map, replicate, slice_index_or, slice_get, IfSome}
 use Rattle.std.specs.List.{All, AllPairs}
 use Rattle.std.specs.Cmp.Lexicographic.{slice_cmp}
 use Rattle.std.specs.Ordering.{nat_cmp}
@@ -19,6 +19,10 @@ pub record IsDictionary (entries : List DictEntry) : Type 0 where
   pub few : length entries ≤ 2 ^ 24
   pub each : All IsDictEntry entries
   pub rises : AllPairs (λ entry later. IsBelow entry.term later.term) entries
+
+-- the term is above the last entry's, if there is one
+abbrev pub IsAboveLast : List DictEntry → List ℕ → Type 0
+IsAboveLast entries term = IfSome (slice_get entries (length entries - 1)) (λ last. IsBelow last.term term)
 
 -- the root of a sentinel
 unfoldable pub zero_root : List ℕ

@@ -1,5 +1,5 @@
 -- Where a term stands among the leaves of a dictionary, or between which two it lies.
-use Rattle.std.specs.Prelude.{◌≡◌, ◌≢◌, ◌<◌, ◌≤◌, ◌+◌, ℕ, List, length}
+use Rattle.std.specs.Prelude.{◌≡◌, ◌≢◌, ◌≤◌, ◌+◌, ℕ, List, length}
 use Rattle.std.specs.List.{All}
 use Rattle.ats_dict.specs.declared.spot.Spot.{Spot}
 use Rattle.ats_dict.specs.declared.spot.Spot.TheVariants.{At, Between}

@@ -1,9 +1,9 @@
 //! The dictionary of a collection.
 
-ghost use Rattle.std.specs.Prelude.{◌≡◌, ◌+◌, ◌-◌, ◌<◌, ◌≤◌, ◌^◌, ℕ, List, [], ◌∷◌, ◌++◌, length, drop, slice_index, slice_index_or, slice_get, IfSome, OnOk, OnErr};
+ghost use Rattle.std.specs.Prelude.{◌≡◌, ◌+◌, ◌<◌, ◌≤◌, ◌^◌, ℕ, [], ◌∷◌, ◌++◌, length, drop, slice_index, OnOk, OnErr};
 ghost use Rattle.std.specs.Int.{to_be_bytes, w32};
-ghost use Rattle.ats_dict.specs.Entry.{DictEntry, IsDictTerm};
-ghost use Rattle.ats_dict.specs.Dictionary.{IsBelow, IsDictionary, entry_at, term_at, dict_leaves};
+ghost use Rattle.ats_dict.specs.Entry.{IsDictTerm};
+ghost use Rattle.ats_dict.specs.Dictionary.{IsAboveLast, IsDictionary, entry_at, term_at, dict_leaves};
 ghost use Rattle.ats_dict.specs.Found.{IsSpot};
 
 use crate::pieces::put;
@@ -112,7 +112,7 @@ impl Dictionary {
     /// Puts a term behind the last one, with the number of its documents and the root of its list.
     pub fn push(&mut self, term: &[u8], f: u32, list_root: &[u8; 32]) -> Result<(), OutOfMemory>
         requires term { IsDictTerm term.now }
-        requires above { IfSome (slice_get self.old (length self.old - 1)) (λ last. IsBelow last.term term.now) }
+        requires above { IsAboveLast self.old term.now }
         requires few { length self.old < 2 ^ 24 }
         ensures ok { OnOk result (self.new ≡ self.old ++ record { term = term.now; f = f; root = list_root.now } ∷ []) }
         ensures err { OnErr result (self.new ≡ self.old) }

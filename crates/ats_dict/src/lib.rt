@@ -11,9 +11,13 @@
 
 pub use dictionary::{DictLeaf, Dictionary, OutOfMemory};
 pub use header::Header;
+pub use laws::{headers_tell_their_parts, leaves_by_position, leaves_tell_their_parts, terms_rise};
 pub use spot::Spot;
 
 mod dictionary;
 mod header;
+mod laws;
 mod pieces;
 mod spot;
+#[cfg(test)]
+mod tests;

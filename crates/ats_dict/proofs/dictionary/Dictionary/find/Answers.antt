@@ -1,7 +1,7 @@
-use Rattle.std.proofs.Common.{◌≡◌, ◌+◌, ◌-◌, ◌/◌, ◌<◌, ◌≤◌, ◌∙◌, ℕ, ap, sym, subst, arith, length}
+use Rattle.std.proofs.Common.{◌≡◌, ◌+◌, ◌-◌, ◌/◌, ◌∙◌, ap, sym, subst, arith}
 use Rattle.ats_dict.specs.declared.spot.Spot.TheVariants.{At}
 use Rattle.ats_dict.specs.Entry.{DictEntry}
-use Rattle.ats_dict.specs.Dictionary.{IsBelow, IsDictionary, entry_at, term_at}
+use Rattle.ats_dict.specs.Dictionary.{IsBelow, term_at}
 use Rattle.ats_dict.proofs.Finding.{above_from, same_from, stands_once, stands_nowhere, lies_between}
 use Rattle.ats_dict.proofs.dictionary.Dictionary.find.Goals as goal
 

@@ -1,4 +1,4 @@
-use Rattle.std.proofs.Common.{◌≡◌, ◌∙◌, ◌+◌, ◌++◌, ◌∷◌, [], List, Bool, true, cond, ap, sym, arith, refl, length, length-append}
+use Rattle.std.proofs.Common.{◌≡◌, ◌∙◌, ◌+◌, ◌++◌, ◌∷◌, [], List, Bool, true, cond, ap, arith, refl, length, length-append}
 use Rattle.ats_dict.specs.declared.dictionary.Stored.{Stored}
 use Rattle.ats_dict.specs.Entry.{DictEntry}
 use Rattle.ats_dict.proofs.Packing.{IsOneMore, one_more}
@@ -19,7 +19,7 @@ grown c =
     let packed : c.pack.new.fronts.items ≡ fronts.items ++ length c.args.term.now ∷ c.args.term.now = c.in_ok-pack.ensures.ok in
     let start : c.len-start.result ≡ length fronts.items = omega (arith, c.len-start.ensures, fronts.ok.0) in
     let end : c.len.result ≡ length fronts.items + (length c.args.term.now + 1) =
-      omega (arith, c.len.ensures, c.pack.new.fronts.ok.0, ap length packed, length-append fronts.items (length c.args.term.now ∷ c.args.term.now)) in
+    omega (arith, c.len.ensures, c.pack.new.fronts.ok.0, ap length packed, length-append fronts.items (length c.args.term.now ∷ c.args.term.now)) in
     rw (packed, last)
     (one_more fronts.items all c.args.self.now (entry c) stored c.self.invariant c.self.view_is
     (record { term = c.requires.term; number = c.ranges.f.fits; root = c.told-list_root }) c.requires.above c.requires.few start end refl refl)

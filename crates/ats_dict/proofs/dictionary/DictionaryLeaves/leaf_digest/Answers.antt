@@ -1,7 +1,7 @@
 use Rattle.std.proofs.Common.{◌≡◌, ◌∙◌, ◌++◌, ◌∷◌, ℕ, List, ap, sym, arith, length, drop, append_assoc}
 use Rattle.std.specs.Int.{to_be_bytes, w32}
 use Rattle.ats_dict.specs.Entry.{dict_leaf_bytes}
-use Rattle.ats_dict.specs.Dictionary.{entry_at, leaf_of}
+use Rattle.ats_dict.specs.Dictionary.{leaf_of}
 use Rattle.ats_dict.proofs.Sentinels.{length-dict_leaves, get_or-dict_leaves}
 use Rattle.ats_dict.proofs.dictionary.DictionaryLeaves.leaf_digest.Goals as goal
 
