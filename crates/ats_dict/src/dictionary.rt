@@ -3,7 +3,7 @@
 ghost use Rattle.std.specs.Prelude.{◌≡◌, ◌+◌, ◌<◌, ◌≤◌, ◌^◌, ℕ, [], ◌∷◌, ◌++◌, length, drop, slice_index, OnOk, OnErr};
 ghost use Rattle.std.specs.Int.{to_be_bytes, w32};
 ghost use Rattle.ats_dict.specs.Entry.{IsDictTerm};
-ghost use Rattle.ats_dict.specs.Dictionary.{IsAboveLast, IsDictionary, entry_at, term_at, dict_leaves};
+ghost use Rattle.ats_dict.specs.Dictionary.{IsAboveLast, IsDictionary, entry_at, term_at, zero_root, dict_leaves};
 ghost use Rattle.ats_dict.specs.Found.{IsSpot};
 
 use crate::pieces::put;
@@ -69,6 +69,20 @@ impl Model for Dictionary {
     ghost view = { λ d. entries_of d.fronts.items d.entries.items };
 
     ghost invariant = { λ d. ArePacked d.fronts.items d.entries.items };
+}
+
+// A sentinel, by its length and its term.
+#[tactic(auto, unfolding(crate::specs::Dictionary::zero_root))]
+fn sentinel(front: &[u8]) -> Parts<'_>
+    ensures front { result.front.now ≡ front.now }
+    ensures number { result.f ≡ 0 }
+    ensures root { result.list_root ≡ zero_root }
+{
+    Parts {
+        front,
+        f: 0,
+        list_root: [0; 32],
+    }
 }
 
 // What stands behind the term in a leaf.
@@ -139,11 +153,7 @@ impl Dictionary {
         ensures front { result.front.now ≡ length (drop 1 result.front.now) ∷ drop 1 result.front.now }
     {
         if p == 0 {
-            return Parts {
-                front: &[0],
-                f: 0,
-                list_root: [0; 32],
-            };
+            return sentinel(&[0]);
         }
         match self.entries.get(p as usize - 1) {
             Some(stored) => Parts {
@@ -151,11 +161,7 @@ impl Dictionary {
                 f: stored.f,
                 list_root: stored.list_root,
             },
-            None => Parts {
-                front: &[1, 0xff],
-                f: 0,
-                list_root: [0; 32],
-            },
+            None => sentinel(&[1, 0xff]),
         }
     }
 

@@ -82,9 +82,10 @@ impl Header {
             → bytes.now ≡ header_bytes documents dict_leaves dict_root docs_root texts_root
             → result ≡ Some (record { documents = documents; dict_leaves = dict_leaves; dict_root = dict_root; docs_root = docs_root; texts_root = texts_root }) }
     {
+        let version = bytes[0];
         let documents = number_at(bytes, 1);
         let dict_leaves = number_at(bytes, 5);
-        if bytes[0] != VERSION || !are_in_range(documents, dict_leaves) {
+        if version != VERSION || !are_in_range(documents, dict_leaves) {
             return None;
         }
         Some(Header {

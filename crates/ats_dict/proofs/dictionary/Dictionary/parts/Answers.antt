@@ -2,7 +2,7 @@ use Rattle.std.proofs.Common.{◌≡◌, ◌≢◌, ◌∙◌, ◌+◌, ◌-◌,
 use Rattle.std.proofs.lemmas.List.{length-map, get_or-map}
 use Rattle.ats_dict.specs.declared.dictionary.Stored.{Stored}
 use Rattle.ats_dict.specs.Entry.{DictEntry}
-use Rattle.ats_dict.specs.Dictionary.{zero_root, high, entry_at}
+use Rattle.ats_dict.specs.Dictionary.{high, entry_at}
 use Rattle.ats_dict.specs.Packed.{entry_of, entries_of}
 use Rattle.ats_dict.proofs.Sentinels.{entry_at-suc, entry_at-last}
 use Rattle.ats_dict.proofs.dictionary.Dictionary.parts.Goals as goal
@@ -23,8 +23,8 @@ at_end : (fronts : List ℕ) (all : List Stored) (entries : List DictEntry) (p :
 at_end fronts all entries p same past within end = entry_at-last entries p (omega (arith, inside fronts all entries same))
 
 pub returns-then-p-eq0-clause-entry : goal.returns-then-p-eq0-clause-entry
-unfolding zero_root
-returns-then-p-eq0-clause-entry c = ap (entry_at c.args.self.now) c.if-p-eq0.true
+returns-then-p-eq0-clause-entry c =
+    rw (c.sentinel.ensures.front, c.sentinel.ensures.number, c.sentinel.ensures.root) (ap (entry_at c.args.self.now) c.if-p-eq0.true)
 
 pub returns-in-Some-clause-entry : goal.returns-in-Some-clause-entry
 returns-in-Some-clause-entry c =
@@ -34,7 +34,7 @@ returns-in-Some-clause-entry c =
     (at_stored c.self.inside.fronts.items c.self.inside.entries.items c.args.self.now c.args.p stored c.self.view_is c.if-p-eq0.false found.0 (found.1 stored))
 
 pub returns-in-None-clause-entry : goal.returns-in-None-clause-entry
-unfolding zero_root
 returns-in-None-clause-entry c =
-    at_end c.self.inside.fronts.items c.self.inside.entries.items c.args.self.now c.args.p c.self.view_is c.if-p-eq0.false c.requires
-    (rw c.deref.ensures.value at c.in-None.ensures.lookup.3)
+    rw (c.sentinel-in-None.ensures.front, c.sentinel-in-None.ensures.number, c.sentinel-in-None.ensures.root)
+    (at_end c.self.inside.fronts.items c.self.inside.entries.items c.args.self.now c.args.p c.self.view_is c.if-p-eq0.false c.requires
+    (rw c.deref.ensures.value at c.in-None.ensures.lookup.3))
