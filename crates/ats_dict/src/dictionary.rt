@@ -1,0 +1,221 @@
+//! The dictionary of a collection.
+
+ghost use Rattle.std.specs.Prelude.{◌≡◌, ◌+◌, ◌<◌, ◌≤◌, ◌^◌, ℕ, [], ◌∷◌, ◌++◌, length, drop, slice_index, OnOk, OnErr};
+ghost use Rattle.std.specs.Int.{to_be_bytes, w32};
+ghost use Rattle.ats_dict.specs.Entry.{IsDictTerm};
+ghost use Rattle.ats_dict.specs.Dictionary.{IsAboveLast, IsDictionary, entry_at, term_at, zero_root, dict_leaves};
+ghost use Rattle.ats_dict.specs.Found.{IsSpot};
+
+use crate::pieces::put;
+use crate::spot::Spot;
+use ats_hash::{Hash32, Steps};
+use ats_tree::Leaves;
+use std::alloc::Global;
+use std::cmp::Ordering;
+use std::marker::Model;
+
+/// Memory was wanted and was not there.
+#[derive(Clone, Copy, Debug, PartialEq, Eq)]
+pub struct OutOfMemory;
+
+/// A leaf of the dictionary. The low sentinel has the empty term, the high one the one byte 0xFF; both have
+/// `f` 0 and a root of zero bytes.
+#[derive(Clone, Copy, Debug)]
+pub struct DictLeaf<'a> {
+    /// The bytes of the term, 1 to 64 of them but in the low sentinel.
+    pub term: &'a [u8],
+    /// How many documents hold the term.
+    pub f: u32,
+    /// The root of the term's list.
+    pub list_root: [u8; 32],
+}
+
+// A leaf with the length in front of its term, as it is hashed.
+#[derive(Drop)]
+struct Parts<'a> {
+    front: &'a [u8],
+    f: u32,
+    list_root: [u8; 32],
+}
+
+// Where the length and the term of an entry stand, and what else its leaf has.
+#[derive(Clone, Copy)]
+struct Stored {
+    start: u32,
+    end: u32,
+    f: u32,
+    list_root: [u8; 32],
+}
+
+/// The terms of a collection in byte order, each with the number of its documents and the root of its list,
+/// between the two sentinels.
+///
+/// There are at most 2^24 terms of 1 to 64 bytes, of which none begins with 0xFF. They stand in one block
+/// of memory, each behind its length. A dictionary keeps its allocator.
+#[derive(Drop)]
+pub struct Dictionary {
+    fronts: Vec<u8>,
+    entries: Vec<Stored>,
+}
+
+impl Model for Dictionary {
+    ghost use Rattle.std.specs.Prelude.{List};
+    ghost use Rattle.ats_dict.specs.Entry.{DictEntry};
+
+    ghost Value = { List DictEntry };
+
+    ghost use Rattle.ats_dict.specs.Packed.{entries_of, ArePacked};
+
+    ghost view = { λ d. entries_of d.fronts.items d.entries.items };
+
+    ghost invariant = { λ d. ArePacked d.fronts.items d.entries.items };
+}
+
+// A sentinel, by its length and its term.
+#[tactic(auto, unfolding(crate::specs::Dictionary::zero_root))]
+fn sentinel(front: &[u8]) -> Parts<'_>
+    ensures front { result.front.now ≡ front.now }
+    ensures number { result.f ≡ 0 }
+    ensures root { result.list_root ≡ zero_root }
+{
+    Parts {
+        front,
+        f: 0,
+        list_root: [0; 32],
+    }
+}
+
+// What stands behind the term in a leaf.
+fn back(f: u32, list_root: &[u8; 32]) -> [u8; 36]
+    ensures { result ≡ to_be_bytes w32 f ++ list_root.now }
+{
+    let mut back = [0; 36];
+    put(&mut back, 0, &f.to_be_bytes());
+    put(&mut back, 4, list_root);
+    back
+}
+
+// Packs a term behind the others, its length first.
+fn pack(fronts: &mut Vec<u8>, term: &[u8]) -> Result<(), OutOfMemory>
+    requires { length term.now ≤ 64 }
+    ensures ok { OnOk result (fronts.new.items ≡ fronts.old.items ++ length term.now ∷ term.now) }
+    ensures err { OnErr result (fronts.new.items ≡ fronts.old.items) }
+{
+    let len = fronts.len();
+    if fronts.push(term.len() as u8).is_err() {
+        return Err(OutOfMemory);
+    }
+    if fronts.extend_from_slice(term).is_err() {
+        fronts.truncate(len);
+        return Err(OutOfMemory);
+    }
+    Ok(())
+}
+
+impl Dictionary {
+    /// No term but the sentinels. It takes no memory.
+    pub fn new(alloc: Global) -> Self
+        ensures { result ≡ [] }
+    {
+        Dictionary {
+            fronts: Vec::new(alloc),
+            entries: Vec::new(alloc),
+        }
+    }
+
+    /// Puts a term behind the last one, with the number of its documents and the root of its list.
+    pub fn push(&mut self, term: &[u8], f: u32, list_root: &[u8; 32]) -> Result<(), OutOfMemory>
+        requires term { IsDictTerm term.now }
+        requires above { IsAboveLast self.old term.now }
+        requires few { length self.old < 2 ^ 24 }
+        ensures ok { OnOk result (self.new ≡ self.old ++ record { term = term.now; f = f; root = list_root.now } ∷ []) }
+        ensures err { OnErr result (self.new ≡ self.old) }
+    {
+        let start = self.fronts.len();
+        pack(&mut self.fronts, term)?;
+        let stored = Stored {
+            start: start as u32,
+            end: self.fronts.len() as u32,
+            f,
+            list_root: *list_root,
+        };
+        if self.entries.push(stored).is_err() {
+            self.fronts.truncate(start);
+            return Err(OutOfMemory);
+        }
+        Ok(())
+    }
+
+    // The leaf at a position in the parts that are hashed.
+    fn parts(&self, p: u32) -> Parts<'_>
+        requires { p < length self.now + 2 }
+        ensures entry { entry_at self.now p ≡ record { term = drop 1 result.front.now; f = result.f; root = result.list_root } }
+        ensures front { result.front.now ≡ length (drop 1 result.front.now) ∷ drop 1 result.front.now }
+    {
+        if p == 0 {
+            return sentinel(&[0]);
+        }
+        match self.entries.get(p as usize - 1) {
+            Some(stored) => Parts {
+                front: &self.fronts[stored.start as usize..stored.end as usize],
+                f: stored.f,
+                list_root: stored.list_root,
+            },
+            None => sentinel(&[1, 0xff]),
+        }
+    }
+
+    /// The leaf at position `p`, from 0 and with the sentinels.
+    pub fn leaf(&self, p: u32) -> DictLeaf<'_>
+        requires { p < length self.now + 2 }
+        ensures { entry_at self.now p ≡ record { term = result.term.now; f = result.f; root = result.list_root } }
+    {
+        let Parts {
+            front,
+            f,
+            list_root,
+        } = self.parts(p);
+        DictLeaf {
+            term: &front[1..],
+            f,
+            list_root,
+        }
+    }
+
+    /// Where a term stands that is not empty and does not begin with 0xFF.
+    pub fn find(&self, term: &[u8]) -> Spot
+        requires some { 1 ≤ length term.now }
+        requires front { slice_index term.now 0 < 255 }
+        ensures spot { IsSpot self.now term.now result }
+        ensures only { (p : ℕ) → p < length self.now + 2 → term_at self.now p ≡ term.now → result ≡ Spot.At p }
+    {
+        let mut below: u32 = 0;
+        let mut above = self.len() - 1;
+        'halves: while above - below > 1 {
+            let middle = below + (above - below) / 2;
+            match term.cmp(self.leaf(middle).term) {
+                Ordering::Less => above = middle,
+                Ordering::Equal => return Spot::At(middle),
+                Ordering::Greater => below = middle,
+            }
+        }
+        Spot::Between(below)
+    }
+}
+
+impl Leaves for Dictionary {
+    ghost items = { dict_leaves };
+
+    fn len(&self) -> u32
+        ensures value { result ≡ length (dict_leaves self.now) }
+        ensures count { result ≡ length self.now + 2 }
+        ensures kept { IsDictionary self.now }
+    {
+        self.entries.len() as u32 + 2
+    }
+
+    fn leaf_digest<H: Hash32>(&self, i: u32, steps: &mut Steps) -> [u8; 32] {
+        let parts = self.parts(i);
+        H::digest2(0, parts.front, &back(parts.f, &parts.list_root), steps)
+    }
+}

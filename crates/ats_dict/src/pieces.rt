@@ -1,0 +1,11 @@
+//! Parts of a byte string, put one behind another.
+
+ghost use Rattle.std.specs.Prelude.{◌≡◌, ◌+◌, ◌≤◌, ◌++◌, length, take};
+
+/// Puts a part behind the first `place` bytes.
+pub(crate) fn put(bytes: &mut [u8], place: usize, part: &[u8])
+    requires { place + length part.now ≤ length bytes.old }
+    ensures { take (place + length part.now) bytes.new ≡ take place bytes.old ++ part.now }
+{
+    bytes[place..place + part.len()].copy_from_slice(part);
+}
