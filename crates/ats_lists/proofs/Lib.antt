@@ -1,0 +1,4 @@
+pub mod Rising
+pub mod Sorting
+pub mod PostingLemmas
+pub mod VocabularyLemmas
