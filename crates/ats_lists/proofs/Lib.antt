@@ -2,3 +2,4 @@ pub mod Rising
 pub mod Sorting
 pub mod PostingLemmas
 pub mod VocabularyLemmas
+pub mod MapLemmas

@@ -21,9 +21,10 @@ use Rattle.ats_impact.proofs.Tables.{impact_small}
 use Rattle.ats_impact.proofs.Occurrences.{occurs_few}
 use Rattle.ats_lists.specs.Postings.{text_of, count_in, posting, postings_of_first, postings}
 use Rattle.ats_lists.specs.Lists.{by_impact, list, entry_cmp, IsListOf, IsList}
+use Rattle.ats_lists.specs.Gathered.{doc_cmp}
 use Rattle.ats_lists.specs.declared.entry.Entry.{Entry}
 use Rattle.ats_lists.proofs.Rising.{rises_map, sorted_from_rises, sorted_permutation_is_one}
-use Rattle.ats_lists.proofs.Sorting.{doc_cmp, entry_cmp_total, entry_cmp_exact, distinct_docs, by_impact_rises, by_impact_same}
+use Rattle.ats_lists.proofs.Sorting.{entry_cmp_total, entry_cmp_exact, distinct_docs, by_impact_rises, by_impact_same}
 
 abbrev has : List (List ℕ) → List ℕ → ℕ → Bool
 has texts term doc = nat_lt 0 (count_in texts term doc)

@@ -15,8 +15,9 @@ use Rattle.std.proofs.lemmas.List.Sorted.{IsPermutation-refl, IsPermutation-cons
 use Rattle.std.proofs.lemmas.Map.Keys.{IsDistinct-from_apart, Less-from_sorted}
 use Rattle.std.proofs.lemmas.Map.Lookups.{CmpEqualImpliesEq, exact_unsigned}
 use Rattle.ats_lists.specs.Lists.{by_impact, entry_cmp}
+use Rattle.ats_lists.specs.Gathered.{doc_cmp, AreGathered}
 use Rattle.ats_lists.specs.declared.entry.Entry.{Entry}
-use Rattle.ats_lists.proofs.Rising.{rises_append, rises_map, sorted_permutation_is_one}
+use Rattle.ats_lists.proofs.Rising.{rises_append, rises_map, sorted_from_rises, sorted_permutation_is_one}
 
 pub entry_cmp_total : IsTotalOrder entry_cmp
 entry_cmp_total = then_total (on_total (λ (e : Entry). e.impact) (back_total nat_cmp_total)) (on_total (λ (e : Entry). e.doc) nat_cmp_total)
@@ -34,10 +35,6 @@ entry_cmp_exact a b is =
     let impacts : a.impact ≡ b.impact = sym (exact_unsigned b.impact a.impact both.0) in
     let made : ℕ → ℕ → Entry = λ doc impact. record { doc = doc; impact = impact } in
     ap₂ made docs impacts
-
--- the order of documents
-abbrev pub doc_cmp : Entry → Entry → Ordering
-doc_cmp a b = nat_cmp a.doc b.doc
 
 apart_then : (p : Ordering) → is_eq (ordering_then p Less) ≡ false
 apart_then Less = refl
@@ -139,3 +136,9 @@ all_upto n (e ∷ entries) all =
 -- entries of impacts 1 to n, put by impact, are the same entries
 pub by_impact_same : (n : ℕ) (entries : List Entry) → All (λ e. (1 ≤ e.impact) × (e.impact ≤ n)) entries → IsPermutation entries (by_impact n entries)
 by_impact_same n entries all = rw (all_upto n entries all) at (by_impact_upto n entries)
+
+-- gathered entries, sorted, are those put by impact
+pub sorted_gathered : (entries sorted : List Entry) → AreGathered entries → IsPermutation entries sorted → IsSorted entry_cmp sorted → sorted ≡ by_impact 2200 entries
+sorted_gathered entries sorted gathered same ordered =
+    sorted_permutation_is_one entry_cmp_total entry_cmp_exact entries sorted (by_impact 2200 entries) (distinct_docs entries gathered.rise) same ordered
+    (by_impact_same 2200 entries gathered.impacts) (sorted_from_rises entry_cmp_total (by_impact 2200 entries) (by_impact_rises 2200 entries gathered.rise))

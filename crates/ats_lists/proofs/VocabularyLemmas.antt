@@ -29,6 +29,7 @@ use Rattle.ats_terms.proofs.Order.{rises_less}
 use Rattle.ats_impact.specs.Score.{count, total_terms}
 use Rattle.ats_lists.specs.Postings.{text_of, count_in, posting, postings_of_first, postings}
 use Rattle.ats_lists.specs.Lists.{vocabulary}
+use Rattle.ats_lists.specs.Gathered.{if_some}
 use Rattle.ats_lists.specs.declared.entry.Entry.{Entry}
 use Rattle.ats_lists.proofs.PostingLemmas.{postings_more, postings_none}
 
@@ -153,22 +154,17 @@ keys_made : {X : Type 0} (g : List ℕ → X) (ks : List (List ℕ)) → map (λ
 keys_made g [] = refl
 keys_made g (k ∷ ks) = ap (λ t. k ∷ t) (keys_made g ks)
 
--- a list where it has an element
-abbrev pub kept : {X : Type 0} → List X → Option (List X)
-kept [] = None
-kept (x ∷ xs) = Some (x ∷ xs)
-
-kept_is : {X : Type 0} (xs : List X) → cond (nat_lt 0 (length xs)) (Some xs) None ≡ kept xs
-kept_is [] = refl
-kept_is (x ∷ xs) =
+some_is : {X : Type 0} (xs : List X) → cond (nat_lt 0 (length xs)) (Some xs) None ≡ if_some xs
+some_is [] = refl
+some_is (x ∷ xs) =
     let some : nat_lt 0 (length (x ∷ xs)) ≡ true = grind (arith, nat_tests) in
     rw some refl
 
 -- entries that have the postings of each term, where it has some, are those of the vocabulary
 pub entries_are : (texts : List (List ℕ)) (es : List (List ℕ × List Entry)) → IsStrictlySortedBy byte_cmp (map (λ e. e.0) es)
-    → ((q : List ℕ) → lookup (is_at (byte_cmp q)) es ≡ kept (postings texts q)) → es ≡ map (λ term. (term, postings texts term)) (vocabulary texts)
+    → ((q : List ℕ) → lookup (is_at (byte_cmp q)) es ≡ if_some (postings texts q)) → es ≡ map (λ term. (term, postings texts term)) (vocabulary texts)
 entries_are texts es rises same =
     same_lookups es (map (λ term. (term, postings texts term)) (vocabulary texts)) rises
     (rw (keys_made (postings texts) (vocabulary texts)) (vocabulary_rises texts))
-    (λ q. same q ∙ sym (kept_is (postings texts q)) ∙ ap (λ b. cond b (Some (postings texts q)) None) (sym (vocabulary_has texts q))
+    (λ q. same q ∙ sym (some_is (postings texts q)) ∙ ap (λ b. cond b (Some (postings texts q)) None) (sym (vocabulary_has texts q))
     ∙ sym (lookup_made (postings texts) q (vocabulary texts)))

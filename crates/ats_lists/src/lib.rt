@@ -9,7 +9,10 @@
 #![tactic(auto)]
 
 mod entry;
+mod gathering;
 mod leaves;
+mod memory;
 
 pub use entry::Entry;
 pub use leaves::ListLeaves;
+pub use memory::OutOfMemory;
