@@ -3,3 +3,5 @@ pub mod Sorting
 pub mod PostingLemmas
 pub mod VocabularyLemmas
 pub mod MapLemmas
+pub mod DocumentLemmas
+pub mod WholeLemmas

@@ -124,6 +124,10 @@ pub postings_none : (texts : List (List ℕ)) (term : List ℕ) → postings_of_
 unfolding postings_of_first
 postings_none texts term = refl
 
+pub list_rises : (texts : List (List ℕ)) (term : List ℕ) → IsStrictlySortedBy entry_cmp (list texts term)
+unfolding list
+list_rises texts term = by_impact_rises 2200 (postings texts term) (postings_rise (length texts) texts term)
+
 -- the list of a term is its postings in order
 pub list_is_sorted : (texts : List (List ℕ)) (term : List ℕ) → IsListOf texts term (list texts term)
 unfolding list

@@ -150,7 +150,7 @@ lookup_made g q [] = refl
 lookup_made g q (k ∷ ks) =
     rw (is_eq-slice_cmp q k) (lookup_step g q k (bytes_eq q k) (list_any (bytes_eq q) ks) (lookup (is_at (byte_cmp q)) (map (λ k. (k, g k)) ks)) refl (lookup_made g q ks))
 
-keys_made : {X : Type 0} (g : List ℕ → X) (ks : List (List ℕ)) → map (λ (e : List ℕ × X). e.0) (map (λ k. (k, g k)) ks) ≡ ks
+pub keys_made : {X : Type 0} (g : List ℕ → X) (ks : List (List ℕ)) → map (λ (e : List ℕ × X). e.0) (map (λ k. (k, g k)) ks) ≡ ks
 keys_made g [] = refl
 keys_made g (k ∷ ks) = ap (λ t. k ∷ t) (keys_made g ks)
 

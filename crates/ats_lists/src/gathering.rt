@@ -1,16 +1,19 @@
 //! Postings gathered by term, document by document.
 
-ghost use Rattle.std.specs.Prelude.{◌≡◌, ◌<◌, ◌+◌, ◌++◌, ◌∷◌, [], List, ℕ, map, slice_index_or, unwrap_or, Some, IfOk, OnOk, if◌then◌else◌};
+ghost use Rattle.std.specs.Prelude.{◌≡◌, ◌<◌, ◌+◌, ◌++◌, ◌∷◌, [], List, ℕ, length, unwrap_or, Some, IfOk, OnOk, if◌then◌else◌};
 ghost use Rattle.std.specs.List.{All};
-ghost use Rattle.std.specs.List.Sorted.{IsPermutation, IsSorted};
 ghost use Rattle.std.specs.BTreeMap.{keys};
 ghost use Rattle.std.specs.Str.{bytes_eq};
 ghost use Rattle.ats_terms.specs.Terms.{terms, IsTerm};
-ghost use Rattle.ats_lists.specs.Gathered.{entries_at, AreGathered};
-ghost use Rattle.ats_lists.specs.Lists.{by_impact, entry_cmp};
+ghost use Rattle.ats_terms.specs.Query.{counted};
+ghost use Rattle.ats_lists.specs.Postings.{text_of};
+ghost use Rattle.ats_lists.specs.Gathered.{entries_at, AreGathered, HasFirst};
+ghost use Rattle.ats_lists.specs.Lists.{by_impact};
 
 use crate::entry::Entry;
 use crate::memory::OutOfMemory;
+use ats_impact::{Collection, impact};
+use ats_terms::TermCounts;
 use std::alloc::Global;
 use std::cmp::Reverse;
 use std::collections::BTreeMap;
@@ -61,8 +64,8 @@ impl Entries {
     }
 }
 
-/// Puts an entry behind those of its term.
-pub(crate) fn add(
+// Puts an entry behind those of its term.
+fn add(
     alloc: Global,
     map: &mut TermMap,
     term: &[u8],
@@ -79,6 +82,29 @@ pub(crate) fn add(
             let entries = Entries::one(alloc, entry)?;
             map.insert(key, entries)?;
         }
+    }
+    Ok(())
+}
+
+/// Puts an entry of the next document behind those of each of its terms.
+pub(crate) fn add_document(
+    alloc: Global,
+    map: &mut TermMap,
+    collection: &Collection,
+    doc: u32,
+    counts: &TermCounts,
+) -> Result<(), OutOfMemory>
+    requires inside { doc < length collection.now }
+    requires counts { counts.now ≡ counted (terms (text_of collection.now doc)) }
+    requires before { HasFirst doc collection.now map.old }
+    ensures { OnOk result (HasFirst (doc + 1) collection.now map.new) }
+{
+    let documents = collection.documents();
+    let total = collection.total();
+    let len = collection.terms(doc).len() as u32;
+    for i in 0..counts.len() {
+        let impact = impact(counts.count(i), total, len, documents);
+        add(alloc, map, counts.term(i), Entry { doc, impact })?;
     }
     Ok(())
 }

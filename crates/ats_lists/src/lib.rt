@@ -8,11 +8,15 @@
 //! list, and the bytes of each leaf. How postings are gathered, sorted and kept may change without asking.
 #![tactic(auto)]
 
+mod building;
 mod entry;
 mod gathering;
 mod leaves;
+mod lists;
 mod memory;
 
+pub use building::ListsBuilder;
 pub use entry::Entry;
 pub use leaves::ListLeaves;
+pub use lists::Lists;
 pub use memory::OutOfMemory;
