@@ -1,8 +1,8 @@
 -- The places of terms that rise.
-use Rattle.std.proofs.Common.{◌≡◌, ◌≢◌, ◌<◌, ◌≤◌, ◌⊎◌, ℕ, zero, suc, List, [], ◌∷◌, length, get_or, refl, sym, ap, subst, ◌∙◌, inl, inr, arith}
-use Rattle.std.specs.List.{All, AllWithin}
+use Rattle.std.proofs.Common.{◌≡◌, ◌≢◌, ◌<◌, ◌≤◌, ℕ, zero, suc, List, [], ◌∷◌, length, get_or, refl, sym, subst, ◌∙◌, inl, inr, arith}
+use Rattle.std.specs.List.{All}
 use Rattle.std.specs.List.Sorted.{IsNonDecreasingBy, IsPartitionPoint}
-use Rattle.std.specs.Ordering.{ordering_index, ordering_reverse}
+use Rattle.std.specs.Ordering.{ordering_index}
 use Rattle.std.specs.declared.cmp.Ordering.{Ordering}
 use Rattle.std.specs.declared.cmp.Ordering.TheVariants.{Less, Equal, Greater}
 use Rattle.std.proofs.lemmas.Bool.{cases_lt, cases_order}
@@ -17,7 +17,7 @@ rises_past term (pair ∷ rest) zero d (less, rises) inside = less
 rises_past term (pair ∷ rest) (suc j) d (less, rises) inside =
     nat_list_cmp_total.trans term pair.0 (get_or rest j d).0 less (rises_past pair.0 rest j d rises (omega arith))
 
-rises_rest : (pair : List ℕ × ℕ) (rest : List (List ℕ × ℕ)) → Rises (pair ∷ rest) → Rises rest
+pub rises_rest : (pair : List ℕ × ℕ) (rest : List (List ℕ × ℕ)) → Rises (pair ∷ rest) → Rises rest
 rises_rest pair [] rises = tt
 rises_rest pair (next ∷ rest) rises = rises.1
 
@@ -33,7 +33,7 @@ rises_less (pair ∷ rest) (suc i) (suc j) d rises up inside = rises_less rest i
 unequal : (x y : List ℕ) (o : Ordering) → byte_cmp x y ≡ o → o ≢ Equal → x ≢ y
 unequal x y o is other same = other (sym is ∙ subst (λ z. byte_cmp x z ≡ Equal) same (tied_itself nat_list_cmp_total x))
 
-less_unequal : (x y : List ℕ) → byte_cmp x y ≡ Less → x ≢ y
+pub less_unequal : (x y : List ℕ) → byte_cmp x y ≡ Less → x ≢ y
 less_unequal x y less = unequal x y Less less (λ clash. cc)
 
 greater_unequal : (x y : List ℕ) → byte_cmp x y ≡ Greater → x ≢ y
