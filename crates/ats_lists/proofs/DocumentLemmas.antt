@@ -1,13 +1,14 @@
 -- What one document adds to the gathered postings, term by term.
-use Rattle.std.proofs.Common.{◌≡◌, ◌≢◌, ◌<◌, ◌≤◌, ◌+◌, ℕ, zero, suc, Bool, true, false, cond, List, [], ◌∷◌, ◌++◌, length, get_or, map, take, drop, nat_lt, sum_by, Option, Some, None, unwrap_or, refl, sym, ap, ap₂, subst, ◌∙◌, arith, append-nil, add-zero, zero-add, take_all}
+use Rattle.std.proofs.Common.{◌≡◌, ◌≢◌, ◌<◌, ◌≤◌, ◌+◌, ℕ, zero, suc, Bool, true, false, cond, List, [], ◌∷◌, ◌++◌, length, get_or, map, take, drop, nat_lt, sum_by, Vec, Option, Some, None, unwrap_or, refl, sym, ap, ap₂, subst, ◌∙◌, arith, append-nil, add-zero, zero-add, take_all}
 use Rattle.std.specs.List.{All}
 use Rattle.std.specs.Bool.{Decides}
 use Rattle.std.specs.BTreeMap.{keys}
 use Rattle.std.specs.Str.{bytes_eq}
+use Rattle.std.specs.declared.alloc.Global.{Global}
 use Rattle.std.proofs.lemmas.Bool.Decides.{nat_tests}
 use Rattle.std.proofs.lemmas.Cmp.{nat_list_eq_equiv}
 use Rattle.std.proofs.lemmas.List.{get_or-take, get_or-drop, get_or_default, length-take, length-drop}
-use Rattle.std.proofs.lemmas.List.Elements.{All-head, All-tail}
+use Rattle.std.proofs.lemmas.List.Elements.{All-nil, All-head, All-tail}
 use Rattle.std.proofs.lemmas.List.Sums.{sum_by-cons, sum_by_more, sum_by-take-drop}
 use Rattle.std.proofs.lemmas.Slice.Eq.{bytes_eq-Decides}
 use Rattle.ats_terms.specs.Terms.{terms, IsTerm, occurrences}
@@ -146,4 +147,11 @@ part_all doc texts pairs map counts has = record {
       ∙ ap (λ w. if_some (postings_of_first doc texts term ++ cond (nat_lt 0 w) (posting texts term doc ∷ []) [])) (counts.weights term)
       ∙ ap if_some (sym (postings_more doc texts term));
   terms = has.terms;
+}
+
+-- before the first document
+pub first_none : (texts : List (List ℕ)) (m : TermMap) → m.entries ≡ [] → HasFirst 0 texts m
+first_none texts m empty = record {
+  entries = λ term. rw (empty, postings_none texts term) refl;
+  terms = rw empty (All-nil (λ (key : Vec ℕ Global). IsTerm key.items));
 }

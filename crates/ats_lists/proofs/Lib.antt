@@ -5,3 +5,4 @@ pub mod VocabularyLemmas
 pub mod MapLemmas
 pub mod DocumentLemmas
 pub mod WholeLemmas
+pub mod Finding

@@ -86,6 +86,25 @@ lists_keep texts small terms =
           (All-is_member nat_list_eq_equiv words));
     }
 
+list_within : (n k : ℕ) (entries : List Entry) → n ≤ k → IsList n entries → IsList k entries
+list_within n k entries more is = record {
+  some = is.some;
+  few = omega (arith, is.few);
+  documents = All-weaker (λ (e : Entry). e.doc < n) (λ (e : Entry). e.doc < k) (λ e below. omega arith) entries is.documents;
+  impacts = is.impacts;
+  falling = is.falling;
+  once = is.once;
+}
+
+-- lists over some documents are lists over more
+pub lists_within : (n k : ℕ) (lists : List (List ℕ × List Entry)) → n ≤ k → AreLists n lists → AreLists k lists
+lists_within n k lists more are = record {
+  few = are.few;
+  rise = are.rise;
+  terms = are.terms;
+  each = All-weaker (λ (l : List ℕ × List Entry). IsList n l.1) (λ (l : List ℕ × List Entry). IsList k l.1) (λ l is. list_within n k l.1 more is) lists are.each;
+}
+
 -- ---- the map of all documents
 
 abbrev pub read : {X : Type 0} → Vec ℕ Global × X → List ℕ × X
@@ -138,3 +157,9 @@ module _ (texts : List (List ℕ)) (m : TermMap) (ordered : IsOrdered (λ x y. b
   made_lists =
       let sorted : List ℕ × List Entry → List ℕ × List Entry = λ e. (e.0, by_impact 2200 e.1) in
       sym (map-map sorted read m.entries) ∙ ap (map sorted) read_is ∙ map-map sorted (λ term. (term, postings texts term)) (vocabulary texts)
+
+  -- there are at most as many as terms
+  pub few_entries : length m.entries ≤ total_terms texts
+  few_entries =
+      let made : List ℕ → List ℕ × List Entry = λ term. (term, postings texts term) in
+      omega (arith, length-map m.entries (read {X = List Entry}), ap length read_is, length-map (vocabulary texts) made, vocabulary_few texts)

@@ -28,14 +28,14 @@ pub struct ListsBuilder<'a> {
 }
 
 impl<'a> Model for ListsBuilder<'a> {
-    ghost use Rattle.std.specs.Prelude.{List, ℕ};
+    ghost use Rattle.std.specs.Prelude.{◌≤◌, List, ℕ};
     ghost use Rattle.ats_lists.specs.Gathered.{HasFirst};
 
     ghost Value = { List (List ℕ) × ℕ };
 
     ghost view = { λ b. (b.collection.now, b.documents) };
 
-    ghost invariant = { λ b. HasFirst b.documents b.collection.now b.gathered };
+    ghost invariant = { λ b. (b.documents ≤ 65536) × HasFirst b.documents b.collection.now b.gathered };
 }
 
 impl<'a> ListsBuilder<'a> {
@@ -55,7 +55,7 @@ impl<'a> ListsBuilder<'a> {
     pub fn add(self, counts: &TermCounts) -> Result<Self, OutOfMemory>
         requires inside { self.1 < length self.0 }
         requires counts { counts.now ≡ counted (terms (text_of self.0 self.1)) }
-        ensures { IfOk result (λ made. made ≡ (self.0, self.1 + 1)) }
+        ensures { IfOk result (λ made. made ≡ (self.entry.0, self.entry.1 + 1)) }
     {
         let ListsBuilder {
             alloc,
@@ -75,8 +75,8 @@ impl<'a> ListsBuilder<'a> {
     /// The lists, where all documents were added.
     pub fn finish(self) -> Result<Lists, OutOfMemory>
         requires { self.1 ≡ length self.0 }
-        ensures same { IfOk result (λ made. made ≡ lists_of self.0) }
-        ensures lists { IfOk result (AreLists (length self.0)) }
+        ensures same { IfOk result (λ made. made ≡ lists_of self.entry.0) }
+        ensures lists { IfOk result (AreLists (length self.entry.0)) }
     {
         let ListsBuilder {
             alloc,

@@ -97,7 +97,8 @@ pub(crate) fn add_document(
     requires inside { doc < length collection.now }
     requires counts { counts.now ≡ counted (terms (text_of collection.now doc)) }
     requires before { HasFirst doc collection.now map.old }
-    ensures { OnOk result (HasFirst (doc + 1) collection.now map.new) }
+    ensures after { OnOk result (HasFirst (doc + 1) collection.now map.new) }
+    ensures few { doc < 65536 }
 {
     let documents = collection.documents();
     let total = collection.total();

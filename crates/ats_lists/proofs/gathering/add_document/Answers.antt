@@ -37,8 +37,8 @@ loop-i-preserved c =
       terms = c.in_ok-add.ensures.terms c.loop-i.invariant.terms;
     }
 
-pub returns : goal.returns
-returns c =
+pub returns-clause-after : goal.returns-clause-after
+returns-clause-after c =
     let texts : List (List ℕ) = c.args.collection.now in
     let pairs : List (List ℕ × ℕ) = c.args.counts.now in
     let all : List (List ℕ) = terms (text_of texts c.args.doc) in
