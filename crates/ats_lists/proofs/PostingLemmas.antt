@@ -23,7 +23,7 @@ use Rattle.ats_lists.specs.Postings.{text_of, count_in, posting, postings_of_fir
 use Rattle.ats_lists.specs.Lists.{by_impact, list, entry_cmp, IsListOf, IsList}
 use Rattle.ats_lists.specs.Gathered.{doc_cmp}
 use Rattle.ats_lists.specs.declared.entry.Entry.{Entry}
-use Rattle.ats_lists.proofs.Rising.{rises_map, sorted_from_rises, sorted_permutation_is_one}
+use Rattle.ats_lists.proofs.Rising.{rises_map, all_any, sorted_from_rises, sorted_permutation_is_one}
 use Rattle.ats_lists.proofs.Sorting.{entry_cmp_total, entry_cmp_exact, distinct_docs, by_impact_rises, by_impact_same}
 
 abbrev has : List (List ℕ) → List ℕ → ℕ → Bool
@@ -50,13 +50,6 @@ range_last a (suc n) =
     let same : (a + 1) + n ≡ a + suc n = omega arith in
     ap (λ t. a ∷ t) (rest ∙ ap (λ x. range_with_len (a + 1) n ++ x ∷ []) same)
 
-any : (x : ℕ) → Unit {0}
-any x = tt
-
-all_any : (xs : List ℕ) → AllByRecursion (λ _. Unit {0}) xs
-all_any [] = tt
-all_any (x ∷ xs) = (tt, all_any xs)
-
 -- postings stand in the order of documents
 pub postings_rise : (n : ℕ) (texts : List (List ℕ)) (term : List ℕ) → IsStrictlySortedBy doc_cmp (postings_of_first n texts term)
 unfolding postings_of_first posting
@@ -73,8 +66,13 @@ postings_below n texts term =
 pub postings_few : (n : ℕ) (texts : List (List ℕ)) (term : List ℕ) → length (postings_of_first n texts term) ≤ n
 unfolding postings_of_first
 postings_few n texts term =
-    omega (arith, length-map (holders n texts term) (posting texts term), length-filter (has texts term) (range_with_len 0 n),
-    count_by-le-length (has texts term) (range_with_len 0 n), length-range_with_len 0 n)
+    omega (
+      arith,
+      length-map (holders n texts term) (posting texts term),
+      length-filter (has texts term) (range_with_len 0 n),
+      count_by-le-length (has texts term) (range_with_len 0 n),
+      length-range_with_len 0 n,
+    )
 
 -- a document has at most as many terms as all
 pub terms_within : (texts : List (List ℕ)) (doc : ℕ) → doc < length texts → length (terms (text_of texts doc)) ≤ total_terms texts

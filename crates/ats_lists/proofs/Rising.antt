@@ -65,6 +65,11 @@ rises_append R (x ∷ xs) ys (head, first) second below = (
   rises_append R xs ys first second (All-tail (λ x. All (λ y. R x y ≡ Less) ys) x xs below),
 )
 
+-- what holds of any element
+pub all_any : {K : Type 0} (xs : List K) → AllByRecursion (λ _. Unit {0}) xs
+all_any [] = tt
+all_any (x ∷ xs) = (tt, all_any xs)
+
 below_map : {K J : Type 0} (P : K → Type 0) (R : K → K → Ordering) (S : J → J → Ordering) (f : K → J) (x : K) (xs : List K)
     → ((y z : K) → P y → P z → R y z ≡ Less → S (f y) (f z) ≡ Less) → P x → AllByRecursion P xs
     → AllByRecursion (λ y. R x y ≡ Less) xs → AllByRecursion (λ y. S (f x) y ≡ Less) (map f xs)

@@ -49,9 +49,6 @@ distinct_docs entries rises = IsDistinct-from_apart (eq_by_cmp entry_cmp) entrie
     let less : nat_cmp a.doc b.doc ≡ Less = Less-from_sorted doc_cmp entries i j d rises up inside in
     rw less (apart_then (nat_cmp b.impact a.impact)))
 
-has_impact : ℕ → Entry → Bool
-has_impact n entry = entry.impact == n
-
 same_impact : (n : ℕ) (a b : Entry) → (a.impact == n) ≡ true → (b.impact == n) ≡ true → doc_cmp a b ≡ Less → entry_cmp a b ≡ Less
 same_impact n a b first second less =
     let low : (b.impact == a.impact) ≡ true = grind (arith, nat_tests) in

@@ -1,7 +1,7 @@
 -- The distinct terms of all texts, and entries for each of them.
-use Rattle.std.proofs.Common.{◌≡◌, ◌<◌, ◌≤◌, ◌+◌, ℕ, zero, suc, Bool, true, false, ◌||◌, ◌&&◌, cond, List, [], ◌∷◌, ◌++◌, length, get_or, map, take, nat_lt, sum_by, fold, Option, Some, None, refl, sym, ap, ap₂, ◌∙◌, arith, length-append, add-one, zero-add, add-zero, take_all}
+use Rattle.std.proofs.Common.{◌≡◌, ◌↔◌, ◌<◌, ◌≤◌, ◌+◌, ℕ, zero, suc, Bool, true, false, ◌||◌, ◌&&◌, cond, List, [], ◌∷◌, ◌++◌, length, get_or, map, take, nat_lt, sum_by, fold, Option, Some, None, refl, sym, ap, ap₂, ◌∙◌, inl, inr, arith, length-append, add-one, zero-add, add-zero, take_all}
 use Rattle.std.specs.Prelude.{T}
-use Rattle.std.specs.List.{All, AllByRecursion, list_any, flat_map}
+use Rattle.std.specs.List.{All, AllByRecursion, Contains, list_any, flat_map}
 use Rattle.std.specs.List.Sorted.{IsStrictlySortedBy}
 use Rattle.std.specs.Map.{lookup}
 use Rattle.std.specs.BTreeMap.{is_at}
@@ -11,22 +11,24 @@ use Rattle.std.specs.FinMap.Entries.{find, below_all, is_sorted, same_entries}
 use Rattle.std.specs.Ordering.{match_ordering, is_eq, is_lt}
 use Rattle.std.specs.declared.cmp.Ordering.{Ordering}
 use Rattle.std.specs.declared.cmp.Ordering.TheVariants.{Less, Equal, Greater}
+use Rattle.std.proofs.lemmas.Bool.{cases_lt}
 use Rattle.std.proofs.lemmas.Bool.Decides.{nat_tests}
-use Rattle.std.proofs.lemmas.Cmp.{nat_list_cmp_total}
+use Rattle.std.proofs.lemmas.Cmp.{nat_list_cmp_total, nat_list_eq_equiv}
 use Rattle.std.proofs.lemmas.List.{get_or-map, length-map}
 use Rattle.std.proofs.lemmas.List.Concat.{length-flat_map}
 use Rattle.std.proofs.lemmas.List.Elements.{All-tail}
-use Rattle.std.proofs.lemmas.List.Sums.{sum_by-cons, sum_by-append, sum_by_more}
+use Rattle.std.proofs.lemmas.List.Sums.{get_or-le-sum_by, sum_by-cons, sum_by-append, sum_by_more}
 use Rattle.std.proofs.lemmas.Map.Keys.{sorted_from_all_adjacent}
 use Rattle.std.proofs.lemmas.Map.Lookups.{CmpEqualImpliesEq, exact_bytes}
 use Rattle.std.proofs.lemmas.Map.Text.{is_eq-slice_cmp}
+use Rattle.std.proofs.lemmas.Map.Views.{Contains-from_any, list_any-from_Contains}
 use Rattle.std.proofs.lemmas.Slice.Eq.{bytes_eq-Decides}
 use Rattle.ats_terms.specs.Terms.{terms, occurrences}
 use Rattle.ats_terms.specs.Query.{byte_cmp, put_term, counted, Rises}
 use Rattle.ats_terms.specs.Counted.{weight_of, Counts}
 use Rattle.ats_terms.proofs.Counting.{counted_counts}
 use Rattle.ats_terms.proofs.Order.{rises_less}
-use Rattle.ats_impact.specs.Score.{count, total_terms}
+use Rattle.ats_impact.specs.Score.{count, frequency, total_terms}
 use Rattle.ats_lists.specs.Postings.{text_of, count_in, posting, postings_of_first, postings}
 use Rattle.ats_lists.specs.Lists.{vocabulary}
 use Rattle.ats_lists.specs.Gathered.{if_some}
@@ -168,3 +170,60 @@ entries_are texts es rises same =
     (rw (keys_made (postings texts) (vocabulary texts)) (vocabulary_rises texts))
     (λ q. same q ∙ sym (some_is (postings texts q)) ∙ ap (λ b. cond b (Some (postings texts q)) None) (sym (vocabulary_has texts q))
     ∙ sym (lookup_made (postings texts) q (vocabulary texts)))
+
+-- ---- how many documents have a term
+
+frequent : (term : List ℕ) (texts : List (List ℕ)) (n : ℕ) → n ≤ length texts → length (postings_of_first n texts term) ≡ frequency term (take n texts)
+frequent term texts zero within = rw (postings_none texts term) refl
+frequent term texts (suc n) within =
+    let c : ℕ = count_in texts term n in
+    let size : length (postings_of_first (n + 1) texts term) ≡ length (postings_of_first n texts term) + cond (nat_lt 0 c) 1 0 =
+    ap length (postings_more n texts term) ∙ length-append (postings_of_first n texts term) _
+    ∙ ap (λ k. length (postings_of_first n texts term) + k) (length-cond (nat_lt 0 c) (posting texts term n)) in
+    let sums : frequency term (take (n + 1) texts) ≡ frequency term (take n texts) + cond (nat_lt 0 c) 1 0 =
+    sum_by_more (λ (text : List ℕ). cond (nat_lt 0 (count term text)) 1 0) texts n [] (omega arith) in
+    rw (← add-one n) (size ∙ ap (λ k. k + cond (nat_lt 0 c) 1 0) (frequent term texts n (omega arith)) ∙ sym sums)
+
+-- a term has a posting in each document that has it
+pub postings_frequency : (term : List ℕ) (texts : List (List ℕ)) → length (postings texts term) ≡ frequency term texts
+postings_frequency term texts = frequent term texts (length texts) (omega arith) ∙ ap (frequency term) (take_all (length texts) texts (omega arith))
+
+-- a term with a count in some document has a posting
+some_frequency : (term : List ℕ) (texts : List (List ℕ)) (doc : ℕ) → doc < length texts → 0 < count_in texts term doc → 0 < frequency term texts
+some_frequency term texts doc inside some =
+    let yes : nat_lt 0 (count_in texts term doc) ≡ true = grind (arith, nat_tests) in
+    let one : 0 < cond {A = ℕ} (nat_lt 0 (count_in texts term doc)) 1 0 = rw yes (omega arith) in
+    omega (arith, one, get_or-le-sum_by (λ (text : List ℕ). cond (nat_lt 0 (count term text)) 1 0) texts doc [] inside)
+
+later : (term : List ℕ) (text : List ℕ) (texts : List (List ℕ)) → (doc : ℕ) × (doc < length texts) × (0 < count_in texts term doc)
+    → (doc : ℕ) × (doc < length (text ∷ texts)) × (0 < count_in (text ∷ texts) term doc)
+later term text texts (doc, inside, some) = (suc doc, omega arith, some)
+
+-- and some document has each term with a posting
+some_document : (term : List ℕ) (texts : List (List ℕ)) → 0 < frequency term texts → (doc : ℕ) × (doc < length texts) × (0 < count_in texts term doc)
+some_document term [] some = absurd (omega arith)
+some_document term (text ∷ texts) some = elim (cases_lt 0 (count term text)) [
+  | inl here ↦ (0, omega arith, here)
+  | inr none ↦
+      let test : nat_lt 0 (count term text) ≡ false = grind (arith, nat_tests) in
+      let share : cond {A = ℕ} (nat_lt 0 (count term text)) 1 0 ≤ 0 = rw test (omega arith) in
+      let rest : 0 < frequency term texts = omega (arith, share, sum_by-cons (λ (t : List ℕ). cond {A = ℕ} (nat_lt 0 (count term t)) 1 0) text texts) in
+      later term text texts (some_document term texts rest)
+]
+
+found_some : (n : ℕ) → nat_lt 0 n ≡ true → 0 < n
+found_some n is = grind (arith, nat_tests)
+
+some_found : (n : ℕ) → 0 < n → nat_lt 0 n ≡ true
+some_found n some = grind (arith, nat_tests)
+
+-- the vocabulary has the terms that some document has
+pub vocabulary_contains : (texts : List (List ℕ)) (term : List ℕ)
+    → Contains (vocabulary texts) term ↔ ((doc : ℕ) × (doc < length texts) × (0 < count_in texts term doc))
+vocabulary_contains texts term =
+    let same : list_any (bytes_eq term) (vocabulary texts) ≡ nat_lt 0 (frequency term texts) =
+    vocabulary_has texts term ∙ ap (nat_lt 0) (postings_frequency term texts) in (
+      λ has. some_document term texts (found_some (frequency term texts) (sym same ∙ list_any-from_Contains nat_list_eq_equiv term (vocabulary texts) has)),
+      λ (doc, inside, some). Contains-from_any (λ x y equal. (bytes_eq-Decides x y).0 equal) term (vocabulary texts)
+          (same ∙ some_found (frequency term texts) (some_frequency term texts doc inside some)),
+    )

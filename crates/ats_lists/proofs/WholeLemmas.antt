@@ -20,15 +20,15 @@ use Rattle.std.proofs.lemmas.Map.Keys.{IsDistinct-IsPermutation, IsDistinct-from
 use Rattle.std.proofs.lemmas.Map.Made.{All-is_member}
 use Rattle.ats_terms.specs.Terms.{IsTerm}
 use Rattle.ats_terms.specs.Query.{byte_cmp}
-use Rattle.ats_impact.specs.Score.{total_terms}
+use Rattle.ats_impact.specs.Score.{frequency, total_terms}
 use Rattle.ats_lists.specs.Postings.{postings}
 use Rattle.ats_lists.specs.Lists.{by_impact, list, entry_cmp, vocabulary, lists_of, IsList, AreLists}
 use Rattle.ats_lists.specs.Gathered.{TermMap, entries_at, if_some, HasFirst, doc_cmp, AreGathered}
 use Rattle.ats_lists.specs.declared.entry.Entry.{Entry}
-use Rattle.ats_lists.proofs.Rising.{rises_map}
+use Rattle.ats_lists.proofs.Rising.{rises_map, all_any}
 use Rattle.ats_lists.proofs.Sorting.{by_impact_rises}
 use Rattle.ats_lists.proofs.PostingLemmas.{postings_rise, postings_below, postings_few, postings_impacts, list_is_sorted, list_rises}
-use Rattle.ats_lists.proofs.VocabularyLemmas.{vocabulary_rises, vocabulary_few, vocabulary_has, entries_are, keys_made}
+use Rattle.ats_lists.proofs.VocabularyLemmas.{vocabulary_rises, vocabulary_few, vocabulary_has, entries_are, keys_made, postings_frequency}
 
 -- ---- what each list keeps
 
@@ -105,6 +105,10 @@ lists_within n k lists more are = record {
   each = All-weaker (λ (l : List ℕ × List Entry). IsList n l.1) (λ (l : List ℕ × List Entry). IsList k l.1) (λ l is. list_within n k l.1 more is) lists are.each;
 }
 
+pub list_frequency : (texts : List (List ℕ)) (term : List ℕ) → length (list texts term) ≡ frequency term texts
+list_frequency texts term =
+    length_permutation (postings texts term) (list texts term) (list_is_sorted texts term).same ∙ postings_frequency term texts
+
 -- ---- the map of all documents
 
 abbrev pub read : {X : Type 0} → Vec ℕ Global × X → List ℕ × X
@@ -119,14 +123,16 @@ keys_read : {X : Type 0} (es : List (Vec ℕ Global × X)) → map (λ (e : List
 keys_read [] = refl
 keys_read (e ∷ es) = ap (λ t. e.0.items ∷ t) (keys_read es)
 
-all_any : {X : Type 0} (xs : List X) → AllByRecursion (λ _. Unit {0}) xs
-all_any [] = tt
-all_any (x ∷ xs) = (tt, all_any xs)
-
 read_rises : (m : TermMap) → IsOrdered (λ x y. byte_cmp x.items y.items) m → IsStrictlySortedBy byte_cmp (map (λ (e : List ℕ × List Entry). e.0) (map read m.entries))
 read_rises m ordered =
     rw (keys_read m.entries)
     (rises_map (λ _. Unit {0}) (λ (x y : Vec ℕ Global). byte_cmp x.items y.items) byte_cmp (λ key. key.items) (keys m) (λ y z here there less. less) (all_any (keys m)) ordered)
+
+postings_gathered : (texts : List (List ℕ)) (term : List ℕ) → AreGathered (postings texts term)
+postings_gathered texts term = record {
+  rise = postings_rise (length texts) texts term;
+  impacts = postings_impacts (length texts) texts term (omega arith);
+}
 
 module _ (texts : List (List ℕ)) (m : TermMap) (ordered : IsOrdered (λ x y. byte_cmp x.items y.items) m) (has : HasFirst (length texts) texts m) where
   -- the map has the postings of each term of the vocabulary
@@ -141,15 +147,13 @@ module _ (texts : List (List ℕ)) (m : TermMap) (ordered : IsOrdered (λ x y. b
 
   pub all_gathered : All (λ e. AreGathered e.1) m.entries
   all_gathered =
-      let posted : All (λ e. AreGathered e.1) (map (λ term. (term, postings texts term)) (vocabulary texts)) =
-      All-map (λ (e : List ℕ × List Entry). AreGathered e.1) (λ term. (term, postings texts term)) (vocabulary texts) (λ k d inside.
-      let term : List ℕ = get_or (vocabulary texts) k d in
-      record { rise = postings_rise (length texts) texts term; impacts = postings_impacts (length texts) texts term (omega arith) }) in
-      let told : All (λ e. AreGathered e.1) (map read m.entries) = rw read_is posted in
+      let size : length (map read m.entries) ≡ length m.entries = length-map m.entries (read {X = List Entry}) in
+      let posted : All (λ e. AreGathered e.1) (map read m.entries) =
+      rw read_is (All-map (λ (e : List ℕ × List Entry). AreGathered e.1) (λ term. (term, postings texts term)) (vocabulary texts) (λ k d inside.
+      postings_gathered texts (get_or (vocabulary texts) k d))) in
       λ k d inside.
-      let at : get_or (map read m.entries) k (read d) ≡ read (get_or m.entries k d) = get_or-map read m.entries k d (read d) inside in
-      let here : AreGathered (get_or (map read m.entries) k (read d)).1 = told k (read d) (omega (arith, length-map m.entries (read {X = List Entry}))) in
-      rw at at here
+      let here : AreGathered (get_or (map read m.entries) k (read d)).1 = posted k (read d) (omega (arith, size, inside)) in
+      rw (get_or-map read m.entries k d (read d) inside) at here
 
   -- the map's entries, put by impact, are the lists
   pub made_lists : map (λ e. (e.0.items, by_impact 2200 e.1)) m.entries ≡ lists_of texts

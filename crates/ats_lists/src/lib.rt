@@ -11,12 +11,16 @@
 mod building;
 mod entry;
 mod gathering;
+mod laws;
 mod leaves;
 mod lists;
 mod memory;
+#[cfg(test)]
+mod tests;
 
 pub use building::ListsBuilder;
 pub use entry::Entry;
+pub use laws::{lists_are_sorted_postings, lists_have_all_documents, vocabulary_has_all_terms};
 pub use leaves::ListLeaves;
 pub use lists::Lists;
 pub use memory::OutOfMemory;
