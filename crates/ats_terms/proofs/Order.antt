@@ -17,7 +17,7 @@ rises_past term (pair ∷ rest) zero d (less, rises) inside = less
 rises_past term (pair ∷ rest) (suc j) d (less, rises) inside =
     nat_list_cmp_total.trans term pair.0 (get_or rest j d).0 less (rises_past pair.0 rest j d rises (omega arith))
 
-rises_rest : (pair : List ℕ × ℕ) (rest : List (List ℕ × ℕ)) → Rises (pair ∷ rest) → Rises rest
+pub rises_rest : (pair : List ℕ × ℕ) (rest : List (List ℕ × ℕ)) → Rises (pair ∷ rest) → Rises rest
 rises_rest pair [] rises = tt
 rises_rest pair (next ∷ rest) rises = rises.1
 
@@ -33,7 +33,7 @@ rises_less (pair ∷ rest) (suc i) (suc j) d rises up inside = rises_less rest i
 unequal : (x y : List ℕ) (o : Ordering) → byte_cmp x y ≡ o → o ≢ Equal → x ≢ y
 unequal x y o is other same = other (sym is ∙ subst (λ z. byte_cmp x z ≡ Equal) same (tied_itself nat_list_cmp_total x))
 
-less_unequal : (x y : List ℕ) → byte_cmp x y ≡ Less → x ≢ y
+pub less_unequal : (x y : List ℕ) → byte_cmp x y ≡ Less → x ≢ y
 less_unequal x y less = unequal x y Less less (λ clash. cc)
 
 greater_unequal : (x y : List ℕ) → byte_cmp x y ≡ Greater → x ≢ y

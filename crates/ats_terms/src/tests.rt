@@ -1,4 +1,4 @@
-use crate::{OutOfMemory, Query, QueryFault, Terms};
+use crate::{OutOfMemory, Query, QueryFault, TermCounts, Terms};
 use std::alloc::{AllocError, Global};
 use std::process::Abort;
 use std::test::Fail;
@@ -85,13 +85,27 @@ fn refuses_with_the_number(rt: HostRuntime) -> Result<(), Fail> {
     Ok(())
 }
 
+#[test]
+fn counts_the_terms_of_a_text(rt: HostRuntime) -> Result<(), Fail> {
+    let terms = Terms::of(rt.alloc(), "red Red hen")?;
+    let counts = TermCounts::of(rt.alloc(), &terms)?;
+    assert_eq!(rt; counts.len(), 2);
+    assert_eq!(rt; counts.term(0), b"hen".as_slice());
+    assert_eq!(rt; counts.count(0), 1);
+    assert_eq!(rt; counts.term(1), b"red".as_slice());
+    assert_eq!(rt; counts.count(1), 2);
+    Ok(())
+}
+
 fn is_shared<T: Send + Sync>(_: &T) {}
 
 #[test]
 fn values_cross_threads(rt: HostRuntime) -> Result<(), Fail> {
     is_shared(&OutOfMemory);
     is_shared(&QueryFault::NoTerm);
-    is_shared(&Terms::of(rt.alloc(), "red")?);
+    let terms = Terms::of(rt.alloc(), "red")?;
+    is_shared(&terms);
+    is_shared(&TermCounts::of(rt.alloc(), &terms)?);
     is_shared(&Query::read(rt.alloc(), "red")?);
     Ok(())
 }

@@ -1,0 +1,157 @@
+-- What one document adds to the gathered postings, term by term.
+use Rattle.std.proofs.Common.{◌≡◌, ◌≢◌, ◌<◌, ◌≤◌, ◌+◌, ℕ, zero, suc, Bool, true, false, cond, List, [], ◌∷◌, ◌++◌, length, get_or, map, take, drop, nat_lt, sum_by, Vec, Option, Some, None, unwrap_or, refl, sym, ap, ap₂, subst, ◌∙◌, arith, append-nil, add-zero, zero-add, take_all}
+use Rattle.std.specs.List.{All}
+use Rattle.std.specs.Bool.{Decides}
+use Rattle.std.specs.BTreeMap.{keys}
+use Rattle.std.specs.Str.{bytes_eq}
+use Rattle.std.specs.declared.alloc.Global.{Global}
+use Rattle.std.proofs.lemmas.Bool.Decides.{nat_tests}
+use Rattle.std.proofs.lemmas.Cmp.{nat_list_eq_equiv}
+use Rattle.std.proofs.lemmas.List.{get_or-take, get_or-drop, get_or_default, length-take, length-drop}
+use Rattle.std.proofs.lemmas.List.Elements.{All-nil, All-head, All-tail}
+use Rattle.std.proofs.lemmas.List.Sums.{sum_by-cons, sum_by_more, sum_by-take-drop}
+use Rattle.std.proofs.lemmas.Slice.Eq.{bytes_eq-Decides}
+use Rattle.ats_terms.specs.Terms.{terms, IsTerm, occurrences}
+use Rattle.ats_terms.specs.Query.{Rises}
+use Rattle.ats_terms.specs.Counted.{weight_of, Counts}
+use Rattle.ats_terms.proofs.Order.{rises_apart}
+use Rattle.ats_impact.specs.Numbers.{impact}
+use Rattle.ats_impact.specs.Score.{total_terms}
+use Rattle.ats_impact.proofs.Occurrences.{occurs_few}
+use Rattle.ats_lists.specs.Postings.{text_of, count_in, posting, postings_of_first}
+use Rattle.ats_lists.specs.Gathered.{TermMap, entries_at, if_some, HasFirst}
+use Rattle.ats_lists.specs.declared.entry.Entry.{Entry}
+use Rattle.ats_lists.proofs.PostingLemmas.{postings_more, postings_none}
+
+-- ---- the weight of a term among pairs that rise
+
+differs : {P : Type 0} → (b : Bool) → Decides b P → ¬ P → b ≡ false
+differs true decides not_so = absurd (not_so (decides.0 refl))
+differs false decides not_so = refl
+
+no_weight : (term : List ℕ) (pairs : List (List ℕ × ℕ)) → All (λ pair. pair.0 ≢ term) pairs → weight_of term pairs ≡ 0
+no_weight term [] all = refl
+no_weight term (pair ∷ pairs) all =
+    let apart : pair.0 ≢ term = All-head (λ (p : List ℕ × ℕ). p.0 ≢ term) pair pairs all in
+    let other : bytes_eq term pair.0 ≡ false = differs (bytes_eq term pair.0) (bytes_eq-Decides term pair.0) (λ same. apart (sym same)) in
+    let rest : weight_of term pairs ≡ 0 = no_weight term pairs (All-tail (λ (p : List ℕ × ℕ). p.0 ≢ term) pair pairs all) in
+    rw (sum_by-cons (λ (p : List ℕ × ℕ). cond (bytes_eq term p.0) p.1 0) pair pairs, other, zero-add (weight_of term pairs)) rest
+
+-- terms at two places differ, by any defaults
+apart_at : (pairs : List (List ℕ × ℕ)) (k i : ℕ) (e d : List ℕ × ℕ) → Rises pairs → k < length pairs → i < length pairs → k ≢ i
+    → (get_or pairs k e).0 ≢ (get_or pairs i d).0
+apart_at pairs k i e d rises first second apart same =
+    rises_apart pairs k i d rises first second apart (ap (λ (p : List ℕ × ℕ). p.0) (get_or_default pairs k d e first) ∙ same)
+
+pub weight_before : (pairs : List (List ℕ × ℕ)) (i : ℕ) (d : List ℕ × ℕ) → Rises pairs → i < length pairs
+    → weight_of (get_or pairs i d).0 (take i pairs) ≡ 0
+weight_before pairs i d rises inside = no_weight (get_or pairs i d).0 (take i pairs) (λ k e within.
+    let below : k < i = omega (arith, length-take i pairs) in
+    rw (get_or-take i pairs k e below) (apart_at pairs k i e d rises (omega arith) inside (λ same. absurd (omega arith))))
+
+weight_behind : (pairs : List (List ℕ × ℕ)) (i : ℕ) (d : List ℕ × ℕ) → Rises pairs → i < length pairs
+    → weight_of (get_or pairs i d).0 (drop (i + 1) pairs) ≡ 0
+weight_behind pairs i d rises inside = no_weight (get_or pairs i d).0 (drop (i + 1) pairs) (λ k e within.
+    let above : (i + 1) + k < length pairs = omega (arith, length-drop (i + 1) pairs) in
+    rw (get_or-drop (i + 1) pairs k e) (apart_at pairs ((i + 1) + k) i e d rises above inside (λ same. absurd (omega arith))))
+
+-- the weight of a term is that of its one pair
+pub weight_at : (pairs : List (List ℕ × ℕ)) (i : ℕ) (d : List ℕ × ℕ) → Rises pairs → i < length pairs
+    → weight_of (get_or pairs i d).0 pairs ≡ (get_or pairs i d).1
+weight_at pairs i d rises inside =
+    let term : List ℕ = (get_or pairs i d).0 in
+    let f : List ℕ × ℕ → ℕ = λ p. cond (bytes_eq term p.0) p.1 0 in
+    let same : bytes_eq term term ≡ true = nat_list_eq_equiv.refl term in
+    let here : cond (bytes_eq term term) (get_or pairs i d).1 0 ≡ (get_or pairs i d).1 = rw same refl in
+    omega (arith, sum_by-take-drop f pairs (i + 1), sum_by_more f pairs i d inside, here, weight_before pairs i d rises inside, weight_behind pairs i d rises inside)
+
+-- a document's term stands in it at most as often as it has terms
+pub pair_within : (all : List (List ℕ)) (pairs : List (List ℕ × ℕ)) (i : ℕ) (d : List ℕ × ℕ) → Counts all pairs → i < length pairs
+    → (get_or pairs i d).1 ≤ length all
+pair_within all pairs i d counts inside =
+    omega (arith, weight_at pairs i d counts.rises inside, counts.weights (get_or pairs i d).0, occurs_few (get_or pairs i d).0 all)
+
+-- ---- the entries of a term, some of the document's pairs being put already
+
+abbrev pub so_far : ℕ → List (List ℕ) → List (List ℕ × ℕ) → List ℕ → List Entry
+so_far doc texts pairs term = postings_of_first doc texts term ++ cond (nat_lt 0 (weight_of term pairs)) (posting texts term doc ∷ []) []
+
+pub record HasPart (doc : ℕ) (texts : List (List ℕ)) (pairs : List (List ℕ × ℕ)) (map : TermMap) : Type 0 where
+  pub entries : (term : List ℕ) → entries_at map term ≡ if_some (so_far doc texts pairs term)
+  pub terms : All (λ key. IsTerm key.items) (keys map)
+
+some_push : {X : Type 0} (xs : List X) (x : X) → if_some (xs ++ x ∷ []) ≡ Some (xs ++ x ∷ [])
+some_push [] x = refl
+some_push (y ∷ xs) x = refl
+
+items_of : {X : Type 0} (xs : List X) → unwrap_or (if_some xs) [] ≡ xs
+items_of [] = refl
+items_of (x ∷ xs) = refl
+
+step_case : (ps : List Entry) (w c : ℕ) (b : Bool) (e p : Entry) (old new : Option (List Entry))
+    → old ≡ if_some (ps ++ cond (nat_lt 0 w) (p ∷ []) []) → new ≡ cond b (Some (unwrap_or old [] ++ e ∷ [])) old
+    → (b ≡ true → (w ≡ 0) × (e ≡ p)) → 0 < c → new ≡ if_some (ps ++ cond (nat_lt 0 (w + cond b c 0)) (p ∷ []) [])
+step_case ps w c true e p old new was gives at some =
+    let none : w ≡ 0 = (at refl).0 in
+    let entry : e ≡ p = (at refl).1 in
+    let before : old ≡ if_some ps = was ∙ ap (λ n. if_some (ps ++ cond (nat_lt 0 n) (p ∷ []) [])) none ∙ ap if_some (append-nil ps) in
+    let now : nat_lt 0 (w + c) ≡ true = grind (arith, nat_tests) in
+    rw now (gives ∙ ap (λ o. Some (unwrap_or o [] ++ e ∷ [])) before ∙ ap₂ (λ xs x. Some (xs ++ x ∷ [])) (items_of ps) entry ∙ sym (some_push ps p))
+step_case ps w c false e p old new was gives at some = rw (add-zero w) (gives ∙ was)
+
+-- one pair more
+pub part_more : (doc : ℕ) (texts : List (List ℕ)) (pairs : List (List ℕ × ℕ)) (i : ℕ) (d : List ℕ × ℕ) (old new : List ℕ → Option (List Entry)) (e : Entry)
+    → Rises pairs → i < length pairs → 0 < (get_or pairs i d).1 → e ≡ posting texts (get_or pairs i d).0 doc
+    → ((term : List ℕ) → old term ≡ if_some (so_far doc texts (take i pairs) term))
+    → ((term : List ℕ) → new term ≡ cond (bytes_eq (get_or pairs i d).0 term) (Some (unwrap_or (old term) [] ++ e ∷ [])) (old term))
+    → (term : List ℕ) → new term ≡ if_some (so_far doc texts (take (i + 1) pairs) term)
+part_more doc texts pairs i d old new e rises inside some is was gives term =
+    let t : List ℕ = (get_or pairs i d).0 in
+    let f : List ℕ × ℕ → ℕ = λ p. cond (bytes_eq term p.0) p.1 0 in
+    let turned : bytes_eq term t ≡ bytes_eq t term = nat_list_eq_equiv.symm term t in
+    let sums : weight_of term (take (i + 1) pairs) ≡ weight_of term (take i pairs) + cond (bytes_eq t term) (get_or pairs i d).1 0 =
+    rw turned at (sum_by_more f pairs i d inside) in
+    rw sums (step_case (postings_of_first doc texts term) (weight_of term (take i pairs)) (get_or pairs i d).1 (bytes_eq t term) e (posting texts term doc) (old term) (new term)
+    (was term) (gives term)
+    (λ equal.
+    let same : t ≡ term = (bytes_eq-Decides t term).0 equal in (
+      subst (λ x. weight_of x (take i pairs) ≡ 0) same (weight_before pairs i d rises inside),
+      is ∙ ap (λ x. posting texts x doc) same,
+    ))
+    some)
+
+-- the entry of a pair
+pub entry_is : (doc : ℕ) (texts : List (List ℕ)) (pairs : List (List ℕ × ℕ)) (i : ℕ) (d : List ℕ × ℕ) (e : Entry)
+    → Counts (terms (text_of texts doc)) pairs → i < length pairs → e.doc ≡ doc
+    → e.impact ≡ impact (get_or pairs i d).1 (total_terms texts) (length (terms (text_of texts doc))) (length texts)
+    → e ≡ posting texts (get_or pairs i d).0 doc
+unfolding posting
+entry_is doc texts pairs i d e counts inside first second =
+    let made : ℕ → ℕ → Entry = λ doc impact. record { doc = doc; impact = impact } in
+    let count : (get_or pairs i d).1 ≡ count_in texts (get_or pairs i d).0 doc = sym (weight_at pairs i d counts.rises inside) ∙ counts.weights (get_or pairs i d).0 in
+    ap₂ made first (second ∙ ap (λ c. impact c (total_terms texts) (length (terms (text_of texts doc))) (length texts)) count)
+
+-- before the first pair
+pub part_none : (doc : ℕ) (texts : List (List ℕ)) (map : TermMap) → HasFirst doc texts map → HasPart doc texts [] map
+part_none doc texts map has = record {
+  entries = λ term. has.entries term ∙ ap if_some (sym (append-nil (postings_of_first doc texts term)));
+  terms = has.terms;
+}
+
+-- after the last
+pub part_all : (doc : ℕ) (texts : List (List ℕ)) (pairs : List (List ℕ × ℕ)) (map : TermMap) → Counts (terms (text_of texts doc)) pairs
+    → HasPart doc texts pairs map → HasFirst (doc + 1) texts map
+part_all doc texts pairs map counts has = record {
+  entries = λ term.
+      has.entries term
+      ∙ ap (λ w. if_some (postings_of_first doc texts term ++ cond (nat_lt 0 w) (posting texts term doc ∷ []) [])) (counts.weights term)
+      ∙ ap if_some (sym (postings_more doc texts term));
+  terms = has.terms;
+}
+
+-- before the first document
+pub first_none : (texts : List (List ℕ)) (m : TermMap) → m.entries ≡ [] → HasFirst 0 texts m
+first_none texts m empty = record {
+  entries = λ term. rw (empty, postings_none texts term) refl;
+  terms = rw empty (All-nil (λ (key : Vec ℕ Global). IsTerm key.items));
+}

@@ -1,0 +1,48 @@
+-- A map whose keys are byte strings, looked up by bytes.
+use Rattle.std.proofs.Common.{◌≡◌, ◌<◌, ◌+◌, ℕ, Bool, true, false, cond, List, [], ◌∷◌, ◌++◌, Option, Some, None, unwrap_or, refl, sym, ap, subst, ◌∙◌}
+use Rattle.std.specs.Map.{lookup, IsKeyTest, AreApart, KeepsOthers}
+use Rattle.std.specs.BTreeMap.{BTreeMap, UpdatesBy, get_by}
+use Rattle.std.specs.Str.{bytes_eq}
+use Rattle.std.specs.Ordering.{is_eq, eq_by_cmp}
+use Rattle.std.proofs.lemmas.Bool.{cond-true, cond-false}
+use Rattle.std.proofs.lemmas.Cmp.{nat_list_cmp_total, nat_list_eq_equiv, eq_by_cmp_equiv}
+use Rattle.std.proofs.lemmas.Map.Text.{is_eq-slice_cmp}
+use Rattle.std.proofs.lemmas.Slice.Eq.{bytes_eq-Decides}
+use Rattle.ats_terms.specs.Query.{byte_cmp}
+
+other_entries : {K X : Type 0} (eq : K → K → Bool) (test : K → Bool) (old new : List (K × X)) → KeepsOthers eq test old new
+    → (other : K → Bool) → IsKeyTest eq other → AreApart test other → lookup other new ≡ lookup other old
+unfolding KeepsOthers
+other_entries eq test old new keeps = keeps
+
+apart : (bs cs ks : List ℕ) → bytes_eq bs cs ≡ false → is_eq (byte_cmp bs ks) ≡ true → is_eq (byte_cmp cs ks) ≡ false
+apart bs cs ks differ is =
+    let same : bytes_eq bs ks ≡ true = sym (is_eq-slice_cmp bs ks) ∙ is in
+    is_eq-slice_cmp cs ks ∙ nat_list_eq_equiv.symm cs ks ∙ sym (nat_list_eq_equiv.congr bs ks cs same) ∙ differ
+
+by_bytes : {W : Type 0} (f g : List ℕ → W) (bs cs : List ℕ) (w : W) (b : Bool) → bytes_eq bs cs ≡ b → g bs ≡ w → (b ≡ false → g cs ≡ f cs)
+    → g cs ≡ cond b w (f cs)
+by_bytes f g bs cs w true is here other = subst (λ l. g l ≡ w) ((bytes_eq-Decides bs cs).0 is) here
+by_bytes f g bs cs w false is here other = other refl
+
+-- after a change at some bytes, where `bytes` reads a key
+pub updates_by_bytes : {K X : Type 0} (bytes : K → List ℕ) (bs : List ℕ) (m n : BTreeMap K X) (w : Option X)
+    → UpdatesBy (λ x y. byte_cmp (bytes x) (bytes y)) (λ key. byte_cmp bs (bytes key)) m n w
+    → (cs : List ℕ) → get_by (λ key. byte_cmp cs (bytes key)) n ≡ cond (bytes_eq bs cs) w (get_by (λ key. byte_cmp cs (bytes key)) m)
+updates_by_bytes {K} {X} bytes bs m n w updates cs =
+    by_bytes (λ q. get_by (λ key. byte_cmp q (bytes key)) m) (λ q. get_by (λ key. byte_cmp q (bytes key)) n) bs cs w (bytes_eq bs cs) refl updates.1
+    (λ differ. other_entries _ _ m.entries n.entries updates.3 (λ key. is_eq (byte_cmp cs (bytes key)))
+    (λ x y. (eq_by_cmp_equiv nat_list_cmp_total).congr cs (bytes x) (bytes y)) (λ key. apart bs cs (bytes key) differ))
+
+put_case : {X : Type 0} (old new : List ℕ → Option (List X)) (bs cs : List ℕ) (x : X) (w : List X) (b : Bool) → bytes_eq bs cs ≡ b
+    → new cs ≡ cond b (Some w) (old cs) → w ≡ unwrap_or (old bs) [] ++ x ∷ []
+    → new cs ≡ cond b (Some (unwrap_or (old cs) [] ++ x ∷ [])) (old cs)
+put_case old new bs cs x w true is gives value =
+    gives ∙ ap (λ v. Some v) (value ∙ ap (λ q. unwrap_or (old q) [] ++ x ∷ []) ((bytes_eq-Decides bs cs).0 is))
+put_case old new bs cs x w false is gives value = gives
+
+-- one more element behind those at some bytes
+pub put_behind : {X : Type 0} (old new : List ℕ → Option (List X)) (bs : List ℕ) (x : X) (w : List X)
+    → ((cs : List ℕ) → new cs ≡ cond (bytes_eq bs cs) (Some w) (old cs)) → w ≡ unwrap_or (old bs) [] ++ x ∷ []
+    → (cs : List ℕ) → new cs ≡ cond (bytes_eq bs cs) (Some (unwrap_or (old cs) [] ++ x ∷ [])) (old cs)
+put_behind old new bs x w gives value cs = put_case old new bs cs x w (bytes_eq bs cs) refl (gives cs) value

@@ -1,0 +1,169 @@
+-- The lists of all terms.
+use Rattle.std.proofs.Common.{◌≡◌, ◌≢◌, ◌<◌, ◌≤◌, ◌+◌, ◌^◌, ℕ, zero, suc, Bool, true, false, cond, List, [], ◌∷◌, ◌++◌, length, get_or, map, nat_lt, Vec, Option, Some, None, refl, sym, ap, ap₂, subst, ◌∙◌, inl, inr, arith}
+use Rattle.std.specs.List.{All, AllByRecursion, IsDistinct, list_any}
+use Rattle.std.specs.List.Sorted.{IsPermutation, IsStrictlySortedBy}
+use Rattle.std.specs.Map.{lookup, keys_of}
+use Rattle.std.specs.BTreeMap.{IsOrdered, is_at, keys}
+use Rattle.std.specs.Ordering.{nat_cmp, eq_by_cmp, is_eq}
+use Rattle.std.specs.Str.{bytes_eq}
+use Rattle.std.specs.declared.alloc.Global.{Global}
+use Rattle.std.specs.declared.cmp.Ordering.{Ordering}
+use Rattle.std.specs.declared.cmp.Ordering.TheVariants.{Less, Equal, Greater}
+use Rattle.std.proofs.lemmas.Bool.{cases_lt}
+use Rattle.std.proofs.lemmas.Bool.Decides.{nat_tests}
+use Rattle.std.proofs.lemmas.Cmp.{eq_by_cmp_equiv, on_total, nat_cmp_total, nat_list_eq_equiv, tied_itself}
+use Rattle.std.proofs.lemmas.List.{length-map, get_or-map}
+use Rattle.std.proofs.lemmas.Simd.{map-map}
+use Rattle.std.proofs.lemmas.List.Elements.{All-map, All-weaker}
+use Rattle.std.proofs.lemmas.List.Sorted.{length_permutation, All-permutation}
+use Rattle.std.proofs.lemmas.Map.Keys.{IsDistinct-IsPermutation, IsDistinct-from_sorted, apart_from_distinct, Less-from_sorted}
+use Rattle.std.proofs.lemmas.Map.Made.{All-is_member}
+use Rattle.ats_terms.specs.Terms.{IsTerm}
+use Rattle.ats_terms.specs.Query.{byte_cmp}
+use Rattle.ats_impact.specs.Score.{frequency, total_terms}
+use Rattle.ats_lists.specs.Postings.{postings}
+use Rattle.ats_lists.specs.Lists.{by_impact, list, entry_cmp, vocabulary, lists_of, IsList, AreLists}
+use Rattle.ats_lists.specs.Gathered.{TermMap, entries_at, if_some, HasFirst, doc_cmp, AreGathered}
+use Rattle.ats_lists.specs.declared.entry.Entry.{Entry}
+use Rattle.ats_lists.proofs.Rising.{rises_map, all_any}
+use Rattle.ats_lists.proofs.Sorting.{by_impact_rises}
+use Rattle.ats_lists.proofs.PostingLemmas.{postings_rise, postings_below, postings_few, postings_impacts, list_is_sorted, list_rises}
+use Rattle.ats_lists.proofs.VocabularyLemmas.{vocabulary_rises, vocabulary_few, vocabulary_has, entries_are, keys_made, postings_frequency}
+
+-- ---- what each list keeps
+
+falls : (a b : Entry) → entry_cmp a b ≡ Less → b.impact ≤ a.impact
+falls a b less = elim (cases_lt a.impact b.impact) [
+  | inl up ↦
+      let above : nat_cmp b.impact a.impact ≡ Greater = grind (arith, nat_tests) in
+      let clash : Greater ≡ Less = rw above at less in
+      absurd (cc)
+  | inr le ↦ le
+]
+
+other_docs : (a b : Entry) → eq_by_cmp doc_cmp a b ≡ false → a.doc ≢ b.doc
+other_docs a b differ same =
+    let tied : nat_cmp a.doc b.doc ≡ Equal = subst (λ d. nat_cmp a.doc d ≡ Equal) same (tied_itself nat_cmp_total a.doc) in
+    let clash : true ≡ false = rw tied at differ in
+    absurd (cc)
+
+pub list_keeps : (texts : List (List ℕ)) (term : List ℕ) → 1 ≤ length (postings texts term) → IsList (length texts) (list texts term)
+list_keeps texts term some =
+    let n : ℕ = length texts in
+    let all : List Entry = postings texts term in
+    let same : IsPermutation all (list texts term) = (list_is_sorted texts term).same in
+    let size : length (list texts term) ≡ length all = length_permutation all (list texts term) same in
+    let rises : IsStrictlySortedBy entry_cmp (list texts term) = list_rises texts term in
+    let apart : IsDistinct (eq_by_cmp doc_cmp) (list texts term) =
+    IsDistinct-IsPermutation (eq_by_cmp doc_cmp) (eq_by_cmp_equiv (on_total (λ (e : Entry). e.doc) nat_cmp_total)).symm all (list texts term) same
+    (IsDistinct-from_sorted doc_cmp all (postings_rise n texts term)) in
+    record {
+      some = omega arith;
+      few = omega (arith, postings_few n texts term);
+      documents = All-permutation (λ (e : Entry). e.doc < n) all (list texts term) same (postings_below n texts term);
+      impacts = All-permutation (λ (e : Entry). (1 ≤ e.impact) × (e.impact ≤ 2200)) all (list texts term) same (postings_impacts n texts term (omega arith));
+      falling = λ i j d up inside. falls (get_or (list texts term) i d) (get_or (list texts term) j d) (Less-from_sorted entry_cmp (list texts term) i j d rises up inside);
+      once = λ i j d up inside.
+          other_docs (get_or (list texts term) i d) (get_or (list texts term) j d) (apart_from_distinct (eq_by_cmp doc_cmp) (list texts term) i j d apart up inside);
+    }
+
+some_of : (n : ℕ) → nat_lt 0 n ≡ true → 1 ≤ n
+some_of n is = grind (arith, nat_tests)
+
+-- the lists of a collection's texts
+pub lists_keep : (texts : List (List ℕ)) → total_terms texts ≤ 2 ^ 24 → All IsTerm (vocabulary texts) → AreLists (length texts) (lists_of texts)
+unfolding lists_of
+lists_keep texts small terms =
+    let words : List (List ℕ) = vocabulary texts in
+    let made : List ℕ → List ℕ × List Entry = λ term. (term, list texts term) in
+    record {
+      few = omega (arith, length-map words made, vocabulary_few texts);
+      rise = rw (keys_made (list texts) words) (vocabulary_rises texts);
+      terms = All-map (λ (l : List ℕ × List Entry). IsTerm l.0) made words terms;
+      each = All-map (λ (l : List ℕ × List Entry). IsList (length texts) l.1) made words
+          (All-weaker (λ term. list_any (bytes_eq term) words ≡ true) (λ term. IsList (length texts) (list texts term))
+          (λ term is. list_keeps texts term (some_of (length (postings texts term)) (sym (vocabulary_has texts term) ∙ is))) words
+          (All-is_member nat_list_eq_equiv words));
+    }
+
+list_within : (n k : ℕ) (entries : List Entry) → n ≤ k → IsList n entries → IsList k entries
+list_within n k entries more is = record {
+  some = is.some;
+  few = omega (arith, is.few);
+  documents = All-weaker (λ (e : Entry). e.doc < n) (λ (e : Entry). e.doc < k) (λ e below. omega arith) entries is.documents;
+  impacts = is.impacts;
+  falling = is.falling;
+  once = is.once;
+}
+
+-- lists over some documents are lists over more
+pub lists_within : (n k : ℕ) (lists : List (List ℕ × List Entry)) → n ≤ k → AreLists n lists → AreLists k lists
+lists_within n k lists more are = record {
+  few = are.few;
+  rise = are.rise;
+  terms = are.terms;
+  each = All-weaker (λ (l : List ℕ × List Entry). IsList n l.1) (λ (l : List ℕ × List Entry). IsList k l.1) (λ l is. list_within n k l.1 more is) lists are.each;
+}
+
+pub list_frequency : (texts : List (List ℕ)) (term : List ℕ) → length (list texts term) ≡ frequency term texts
+list_frequency texts term =
+    length_permutation (postings texts term) (list texts term) (list_is_sorted texts term).same ∙ postings_frequency term texts
+
+-- ---- the map of all documents
+
+abbrev pub read : {X : Type 0} → Vec ℕ Global × X → List ℕ × X
+read e = (e.0.items, e.1)
+
+lookup_read : {X : Type 0} (q : List ℕ) (es : List (Vec ℕ Global × X))
+    → lookup (is_at (byte_cmp q)) (map read es) ≡ lookup (is_at (λ (key : Vec ℕ Global). byte_cmp q key.items)) es
+lookup_read q [] = refl
+lookup_read q (e ∷ es) = ap (cond (is_eq (byte_cmp q e.0.items)) (Some e.1)) (lookup_read q es)
+
+keys_read : {X : Type 0} (es : List (Vec ℕ Global × X)) → map (λ (e : List ℕ × X). e.0) (map read es) ≡ map (λ key. key.items) (keys_of es)
+keys_read [] = refl
+keys_read (e ∷ es) = ap (λ t. e.0.items ∷ t) (keys_read es)
+
+read_rises : (m : TermMap) → IsOrdered (λ x y. byte_cmp x.items y.items) m → IsStrictlySortedBy byte_cmp (map (λ (e : List ℕ × List Entry). e.0) (map read m.entries))
+read_rises m ordered =
+    rw (keys_read m.entries)
+    (rises_map (λ _. Unit {0}) (λ (x y : Vec ℕ Global). byte_cmp x.items y.items) byte_cmp (λ key. key.items) (keys m) (λ y z here there less. less) (all_any (keys m)) ordered)
+
+postings_gathered : (texts : List (List ℕ)) (term : List ℕ) → AreGathered (postings texts term)
+postings_gathered texts term = record {
+  rise = postings_rise (length texts) texts term;
+  impacts = postings_impacts (length texts) texts term (omega arith);
+}
+
+module _ (texts : List (List ℕ)) (m : TermMap) (ordered : IsOrdered (λ x y. byte_cmp x.items y.items) m) (has : HasFirst (length texts) texts m) where
+  -- the map has the postings of each term of the vocabulary
+  pub read_is : map read m.entries ≡ map (λ term. (term, postings texts term)) (vocabulary texts)
+  read_is = entries_are texts (map read m.entries) (read_rises m ordered) (λ q. lookup_read q m.entries ∙ has.entries q)
+
+  pub terms_are : All IsTerm (vocabulary texts)
+  terms_are =
+      let same : map (λ key. key.items) (keys m) ≡ vocabulary texts =
+      sym (keys_read m.entries) ∙ ap (map (λ (e : List ℕ × List Entry). e.0)) read_is ∙ keys_made (postings texts) (vocabulary texts) in
+      rw same at (All-map IsTerm (λ (key : Vec ℕ Global). key.items) (keys m) has.terms)
+
+  pub all_gathered : All (λ e. AreGathered e.1) m.entries
+  all_gathered =
+      let size : length (map read m.entries) ≡ length m.entries = length-map m.entries (read {X = List Entry}) in
+      let posted : All (λ e. AreGathered e.1) (map read m.entries) =
+      rw read_is (All-map (λ (e : List ℕ × List Entry). AreGathered e.1) (λ term. (term, postings texts term)) (vocabulary texts) (λ k d inside.
+      postings_gathered texts (get_or (vocabulary texts) k d))) in
+      λ k d inside.
+      let here : AreGathered (get_or (map read m.entries) k (read d)).1 = posted k (read d) (omega (arith, size, inside)) in
+      rw (get_or-map read m.entries k d (read d) inside) at here
+
+  -- the map's entries, put by impact, are the lists
+  pub made_lists : map (λ e. (e.0.items, by_impact 2200 e.1)) m.entries ≡ lists_of texts
+  unfolding lists_of list
+  made_lists =
+      let sorted : List ℕ × List Entry → List ℕ × List Entry = λ e. (e.0, by_impact 2200 e.1) in
+      sym (map-map sorted read m.entries) ∙ ap (map sorted) read_is ∙ map-map sorted (λ term. (term, postings texts term)) (vocabulary texts)
+
+  -- there are at most as many as terms
+  pub few_entries : length m.entries ≤ total_terms texts
+  few_entries =
+      let made : List ℕ → List ℕ × List Entry = λ term. (term, postings texts term) in
+      omega (arith, length-map m.entries (read {X = List Entry}), ap length read_is, length-map (vocabulary texts) made, vocabulary_few texts)

@@ -1,0 +1,12 @@
+use Rattle.std.proofs.Common.{◌≡◌, ◌++◌, map}
+use Rattle.std.specs.List.{All}
+use Rattle.ats_lists.specs.Gathered.{AreGathered}
+use Rattle.ats_lists.specs.Lists.{by_impact}
+use Rattle.ats_lists.proofs.lists.sorted_lists.Given as goal
+
+-- the lists so far and those of the entries that are left
+abbrev pub invariant-loop-term : goal.invariant-loop-term
+invariant-loop-term l = record {
+  whole : l.lists.items ++ map (λ e. (e.0.items, by_impact 2200 e.1)) l.term-iterator ≡ map (λ e. (e.0.items, by_impact 2200 e.1)) l.fn.gathered.entries;
+  gathered : All (λ e. AreGathered e.1) l.term-iterator;
+}

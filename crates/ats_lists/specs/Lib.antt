@@ -1,0 +1,4 @@
+pub mod Postings
+pub mod Lists
+pub mod Leaf
+pub mod Gathered

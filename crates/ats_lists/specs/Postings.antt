@@ -1,0 +1,31 @@
+-- The postings of a term: the documents that have it, each with the term's impact there.
+use Rattle.std.specs.Prelude.{ℕ, Bool, List, [], length, map, filter, slice_index_or, nat_lt}
+use Rattle.std.specs.List.{range_with_len}
+use Rattle.ats_terms.specs.Terms.{terms}
+use Rattle.ats_impact.specs.Numbers.{impact}
+use Rattle.ats_impact.specs.Score.{count, total_terms}
+use Rattle.ats_lists.specs.declared.entry.Entry.{Entry}
+
+-- the text of a document
+abbrev pub text_of : List (List ℕ) → ℕ → List ℕ
+text_of texts doc = slice_index_or texts doc []
+
+-- how often the term stands in the document
+abbrev pub count_in : List (List ℕ) → List ℕ → ℕ → ℕ
+count_in texts term doc = count term (text_of texts doc)
+
+-- the document, with the term's impact there
+unfoldable pub posting : List (List ℕ) → List ℕ → ℕ → Entry
+posting texts term doc = record {
+  doc = doc;
+  impact = impact (count_in texts term doc) (total_terms texts) (length (terms (text_of texts doc))) (length texts);
+}
+
+-- the postings of those of the first n documents that have the term, in the order of documents
+unfoldable pub postings_of_first : ℕ → List (List ℕ) → List ℕ → List Entry
+postings_of_first n texts term =
+    map (posting texts term) (filter (λ doc. nat_lt 0 (count_in texts term doc)) (range_with_len 0 n))
+
+-- the postings of all documents
+abbrev pub postings : List (List ℕ) → List ℕ → List Entry
+postings texts term = postings_of_first (length texts) texts term

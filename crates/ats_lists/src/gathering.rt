@@ -1,0 +1,106 @@
+//! Postings gathered by term, document by document.
+
+ghost use Rattle.std.specs.Prelude.{◌≡◌, ◌<◌, ◌+◌, ◌++◌, ◌∷◌, [], List, ℕ, length, unwrap_or, Some, IfOk, OnOk, if◌then◌else◌};
+ghost use Rattle.std.specs.List.{All};
+ghost use Rattle.std.specs.BTreeMap.{keys};
+ghost use Rattle.std.specs.Str.{bytes_eq};
+ghost use Rattle.ats_terms.specs.Terms.{terms, IsTerm};
+ghost use Rattle.ats_terms.specs.Query.{counted};
+ghost use Rattle.ats_lists.specs.Postings.{text_of};
+ghost use Rattle.ats_lists.specs.Gathered.{entries_at, AreGathered, HasFirst};
+ghost use Rattle.ats_lists.specs.Lists.{by_impact};
+
+use crate::entry::Entry;
+use crate::memory::OutOfMemory;
+use ats_impact::{Collection, impact};
+use ats_terms::TermCounts;
+use std::alloc::Global;
+use std::cmp::Reverse;
+use std::collections::BTreeMap;
+use std::marker::Model;
+
+/// The entries of one term.
+#[derive(Drop)]
+pub(crate) struct Entries {
+    items: Vec<Entry>,
+}
+
+impl Model for Entries {
+    ghost use Rattle.std.specs.Prelude.{List};
+    ghost use Rattle.ats_lists.specs.declared.entry.Entry.{Entry};
+
+    ghost Value = { List Entry };
+
+    ghost view = { λ e. e.items.items };
+}
+
+/// The entries of each term, in the order of documents.
+pub(crate) type TermMap = BTreeMap<Vec<u8>, Entries>;
+
+impl Entries {
+    fn one(alloc: Global, entry: Entry) -> Result<Self, OutOfMemory>
+        ensures { IfOk result (λ entries. entries ≡ entry ∷ []) }
+    {
+        let mut items = Vec::new(alloc);
+        items.push(entry)?;
+        Ok(Entries { items })
+    }
+
+    fn push(&mut self, entry: Entry) -> Result<(), OutOfMemory>
+        ensures { OnOk result (self.new ≡ self.old ++ entry ∷ []) }
+    {
+        self.items.push(entry)?;
+        Ok(())
+    }
+
+    /// The entries by impact descending, then document ascending.
+    pub(crate) fn sorted(self) -> Result<Vec<Entry>, OutOfMemory>
+        requires { AreGathered self }
+        ensures { IfOk result (λ sorted. sorted.items ≡ by_impact 2200 self) }
+    {
+        let Entries { mut items } = self;
+        items.sort_by_key(|entry| (Reverse(entry.impact), entry.doc))?;
+        Ok(items)
+    }
+}
+
+// Puts an entry behind those of its term.
+fn add(alloc: Global, map: &mut TermMap, term: &[u8], entry: Entry) -> Result<(), OutOfMemory>
+    requires { IsTerm term.now }
+    ensures entries { OnOk result ((q : List ℕ) → entries_at map.new q ≡ (if bytes_eq term.now q then Some (unwrap_or (entries_at map.old q) [] ++ entry ∷ []) else entries_at map.old q)) }
+    ensures terms { All (λ key. IsTerm key.items) (keys map.old) → OnOk result (All (λ key. IsTerm key.items) (keys map.new)) }
+{
+    match map.get_mut(term) {
+        Some(entries) => entries.push(entry)?,
+        None => {
+            let key = Vec::from_slice(alloc, term)?;
+            let entries = Entries::one(alloc, entry)?;
+            map.insert(key, entries)?;
+        }
+    }
+    Ok(())
+}
+
+/// Puts an entry of the next document behind those of each of its terms.
+pub(crate) fn add_document(
+    alloc: Global,
+    map: &mut TermMap,
+    collection: &Collection,
+    doc: u32,
+    counts: &TermCounts,
+) -> Result<(), OutOfMemory>
+    requires inside { doc < length collection.now }
+    requires counts { counts.now ≡ counted (terms (text_of collection.now doc)) }
+    requires before { HasFirst doc collection.now map.old }
+    ensures after { OnOk result (HasFirst (doc + 1) collection.now map.new) }
+    ensures few { doc < 65536 }
+{
+    let documents = collection.documents();
+    let total = collection.total();
+    let len = collection.terms(doc).len() as u32;
+    for i in 0..counts.len() {
+        let impact = impact(counts.count(i), total, len, documents);
+        add(alloc, map, counts.term(i), Entry { doc, impact })?;
+    }
+    Ok(())
+}

@@ -1,0 +1,26 @@
+//! The inverted lists of a collection: for each distinct term the documents that have it.
+//!
+//! An entry is a document with the term's impact there. A list stands by impact descending, then document
+//! ascending, so that the first entries of a list bound all later ones.
+//! The room stands on the collections and impacts of `ats_impact`, and on the trees of `ats_tree`, whose
+//! leaves a list lends. The contracts promise that [`Lists::of`] answers exactly the lists that the plain
+//! counts over the texts give, in byte order of the terms, that a term is found exactly where it has a
+//! list, and the bytes of each leaf. How postings are gathered, sorted and kept may change without asking.
+#![tactic(auto)]
+
+mod building;
+mod entry;
+mod gathering;
+mod laws;
+mod leaves;
+mod lists;
+mod memory;
+#[cfg(test)]
+mod tests;
+
+pub use building::ListsBuilder;
+pub use entry::Entry;
+pub use laws::{lists_are_sorted_postings, lists_have_all_documents, vocabulary_has_all_terms};
+pub use leaves::ListLeaves;
+pub use lists::Lists;
+pub use memory::OutOfMemory;

@@ -1,0 +1,187 @@
+-- The runs of terms that stand in byte order.
+use Rattle.std.proofs.Common.{◌≡◌, ◌≢◌, ◌<◌, ◌≤◌, ◌+◌, ◌-◌, ◌⊎◌, ℕ, suc, List, [], ◌∷◌, ◌++◌, length, get_or, take, set, map, fold, false, inl, inr, refl, sym, ap, ap₂, subst, ◌∙◌, arith, length-append, length-take, sum_by, zero-add}
+use Rattle.std.specs.List.{All, zip}
+use Rattle.std.specs.List.Sorted.{IsSorted}
+use Rattle.std.specs.Ordering.{is_lt, ordering_reverse}
+use Rattle.std.specs.declared.cmp.Ordering.{Ordering}
+use Rattle.std.specs.declared.cmp.Ordering.TheVariants.{Less, Equal, Greater}
+use Rattle.std.proofs.lemmas.Cmp.{nat_list_cmp_total, tied_itself}
+use Rattle.std.proofs.lemmas.List.{get_or-map, get_or_default, length-map, take_more}
+use Rattle.std.proofs.lemmas.List.Elements.{All-nil, All-tail, All-push}
+use Rattle.std.proofs.lemmas.Slice.Zip.{firsts-zip, seconds-zip, get_or-zip}
+use Rattle.std.proofs.lemmas.List.Sums.{get_or-le-sum_by}
+use Rattle.ats_terms.specs.Query.{byte_cmp, put_term, counted}
+use Rattle.ats_terms.proofs.Counting.{equal_from, all_weigh}
+
+-- every term of the pairs is below this one
+abbrev pub AreBelow : List (List ℕ × ℕ) → List ℕ → Type 0
+AreBelow pairs term = All (λ pair. byte_cmp pair.0 term ≡ Less) pairs
+
+-- the pairs end with this term, and the others are below it
+pub record EndsWith (pairs : List (List ℕ × ℕ)) (term : List ℕ) : Type 0 where
+  pub front : List (List ℕ × ℕ)
+  pub weight : ℕ
+  pub same : pairs ≡ front ++ (term, weight) ∷ []
+  pub below : AreBelow front term
+
+above : (pair : List ℕ × ℕ) (term : List ℕ) → byte_cmp pair.0 term ≡ Less → byte_cmp term pair.0 ≡ Greater
+above pair term less = nat_list_cmp_total.antisymm term pair.0 ∙ ap ordering_reverse less
+
+put_above : (pairs : List (List ℕ × ℕ)) (term : List ℕ) → AreBelow pairs term → put_term pairs term ≡ pairs ++ (term, 1) ∷ []
+unfolding put_term
+put_above [] term below = refl
+put_above (pair ∷ rest) term below =
+    let here : byte_cmp term pair.0 ≡ Greater = above pair term (below 0 pair (omega arith)) in
+    rw here (ap (λ ps. pair ∷ ps) (put_above rest term (All-tail (λ (p : List ℕ × ℕ). byte_cmp p.0 term ≡ Less) pair rest below)))
+
+put_last : (front : List (List ℕ × ℕ)) (term : List ℕ) (weight : ℕ) → AreBelow front term
+    → put_term (front ++ (term, weight) ∷ []) term ≡ front ++ (term, weight + 1) ∷ []
+unfolding put_term
+put_last [] term weight below = let same : byte_cmp term term ≡ Equal = tied_itself nat_list_cmp_total term in rw same refl
+put_last (pair ∷ front) term weight below =
+    let here : byte_cmp term pair.0 ≡ Greater = above pair term (below 0 pair (omega arith)) in
+    rw here (ap (λ ps. pair ∷ ps) (put_last front term weight (All-tail (λ (p : List ℕ × ℕ). byte_cmp p.0 term ≡ Less) pair front below)))
+
+below_next : (pairs : List (List ℕ × ℕ)) (last term : List ℕ) → EndsWith pairs last → byte_cmp last term ≡ Less → AreBelow pairs term
+below_next pairs last term ends less =
+    subst (λ ps. AreBelow ps term) (sym ends.same)
+    (All-push (λ (p : List ℕ × ℕ). byte_cmp p.0 term ≡ Less) ends.front (last, ends.weight)
+    (λ k d inside. nat_list_cmp_total.trans (get_or ends.front k d).0 last term (ends.below k d inside) less) less)
+
+-- the pairs of the first terms, of which this one is the last
+pub record AreRuns (all : List (List ℕ)) (i : ℕ) (last : List ℕ) (pairs : List (List ℕ × ℕ)) : Type 0 where
+  pub made : pairs ≡ counted (take i all)
+  pub follows : (i ≡ 0) × (last ≡ []) ⊎ (0 < i) × (last ≡ get_or all (i - 1) []) × EndsWith pairs last
+
+fold_more : (front : List (List ℕ)) (term : List ℕ) (pairs : List (List ℕ × ℕ)) → fold put_term pairs (front ++ term ∷ []) ≡ put_term (fold put_term pairs front) term
+fold_more [] term pairs = refl
+fold_more (first ∷ front) term pairs = fold_more front term (put_term pairs first)
+
+counted_more : (all : List (List ℕ)) (i : ℕ) → i < length all → counted (take (i + 1) all) ≡ put_term (counted (take i all)) (get_or all i [])
+counted_more all i inside = ap counted (take_more all i [] inside) ∙ fold_more (take i all) (get_or all i []) []
+
+pub runs_start : (all : List (List ℕ)) → AreRuns all 0 [] []
+runs_start all = record { made = refl; follows = inl (refl, refl) }
+
+-- no run is longer than the terms so far
+pub run_few : (all : List (List ℕ)) (i : ℕ) (last : List ℕ) (pairs : List (List ℕ × ℕ)) (k : ℕ) (d : List ℕ × ℕ) → AreRuns all i last pairs → k < length pairs
+    → (get_or pairs k d).1 ≤ i
+run_few all i last pairs k d runs inside =
+    let sum : sum_by (λ p. p.1) pairs ≡ length (take i all) = ap (sum_by (λ p. p.1)) runs.made ∙ all_weigh (take i all) [] ∙ zero-add (length (take i all)) in
+    omega (arith, get_or-le-sum_by (λ (p : List ℕ × ℕ). p.1) pairs k d inside, sum, length-take i all)
+
+-- where a term was, the pairs end with it
+pub begun : (all : List (List ℕ)) (i : ℕ) (last : List ℕ) (pairs : List (List ℕ × ℕ)) → AreRuns all i last pairs → 1 ≤ length last → EndsWith pairs last
+begun all i last pairs runs some = elim runs.follows [
+  | inl start ↦ absurd (omega (arith, ap length start.1))
+  | inr follows ↦ follows.2
+]
+
+-- the last term again, which gets one more
+pub runs_again : (all : List (List ℕ)) (i : ℕ) (last : List ℕ) (pairs more : List (List ℕ × ℕ)) → AreRuns all i last pairs → i < length all
+    → get_or all i [] ≡ last → 1 ≤ length last
+    → ((front : List (List ℕ × ℕ)) (weight : ℕ) → pairs ≡ front ++ (last, weight) ∷ [] → more ≡ front ++ (last, weight + 1) ∷ [])
+    → AreRuns all (i + 1) last more
+runs_again all i last pairs more runs inside again some bump =
+    let ends = begun all i last pairs runs some in
+    let next : more ≡ ends.front ++ (last, ends.weight + 1) ∷ [] = bump ends.front ends.weight ends.same in
+    let put : put_term pairs last ≡ more = ap (λ ps. put_term ps last) ends.same ∙ put_last ends.front last ends.weight ends.below ∙ sym next in
+    let here : i + 1 - 1 ≡ i = omega arith in
+    let still : EndsWith more last = record { front = ends.front; weight = ends.weight + 1; same = next; below = ends.below } in
+    record {
+      made = sym put ∙ ap₂ put_term runs.made (sym again) ∙ sym (counted_more all i inside);
+      follows = inr (omega arith, sym again ∙ ap (λ k. get_or all k []) (sym here), still);
+    }
+
+not_less : (o : Ordering) → is_lt (ordering_reverse o) ≡ false → o ≢ Equal → o ≡ Less
+not_less Less order other = refl
+not_less Equal order other = absurd (other refl)
+not_less Greater order other = absurd (cc)
+
+less_next : (all : List (List ℕ)) (i : ℕ) → IsSorted byte_cmp all → 0 < i → i < length all → get_or all (i - 1) [] ≢ get_or all i []
+    → byte_cmp (get_or all (i - 1) []) (get_or all i []) ≡ Less
+less_next all i order up inside differ =
+    let before = get_or all (i - 1) [] in
+    let term = get_or all i [] in
+    let here : i - 1 + 1 ≡ i = omega arith in
+    let sorted : is_lt (byte_cmp (get_or all (i - 1 + 1) []) before) ≡ false = order (i - 1) [] (omega arith) (omega arith) in
+    let turned : is_lt (ordering_reverse (byte_cmp before term)) ≡ false =
+    ap is_lt (sym (nat_list_cmp_total.antisymm term before)) ∙ ap (λ k. is_lt (byte_cmp (get_or all k []) before)) (sym here) ∙ sorted in
+    not_less (byte_cmp before term) turned (λ equal. differ (equal_from before term equal))
+
+-- another term, which begins a run
+pub runs_next : (all : List (List ℕ)) (i : ℕ) (last : List ℕ) (pairs : List (List ℕ × ℕ)) → AreRuns all i last pairs → IsSorted byte_cmp all
+    → i < length all → get_or all i [] ≢ last → AreRuns all (i + 1) (get_or all i []) (pairs ++ (get_or all i [], 1) ∷ [])
+runs_next all i last pairs runs order inside differ =
+    let term = get_or all i [] in
+    let here : i + 1 - 1 ≡ i = omega arith in
+    let below : AreBelow pairs term = elim runs.follows [
+      | inl start ↦
+          let none : pairs ≡ [] = runs.made ∙ ap (λ k. counted (take k all)) start.0 in
+          subst (λ ps. AreBelow ps term) (sym none) (All-nil (λ (p : List ℕ × ℕ). byte_cmp p.0 term ≡ Less))
+      | inr (up, is, ends) ↦
+          below_next pairs last term ends (ap (λ t. byte_cmp t term) is ∙ less_next all i order up inside (λ same. differ (sym same ∙ sym is)))
+    ] in
+    let ends : EndsWith (pairs ++ (term, 1) ∷ []) term = record { front = pairs; weight = 1; same = refl; below = below } in
+    record {
+      made = sym (put_above pairs term below) ∙ ap (λ ps. put_term ps term) runs.made ∙ sym (counted_more all i inside);
+      follows = inr (omega arith, ap (λ k. get_or all k []) (sym here), ends);
+    }
+
+-- terms in order are in order wherever they stand
+pub sorted_map : {X : Type 0} (f : X → List ℕ) (xs : List X) → IsSorted (λ x y. byte_cmp (f x) (f y)) xs → IsSorted byte_cmp (map f xs)
+sorted_map f [] order k d from until = absurd (omega arith)
+sorted_map f (x ∷ xs) order k d from until =
+    let size = length-map (x ∷ xs) f in
+    let here = get_or-map f (x ∷ xs) k x d (omega (arith, size)) in
+    let next = get_or-map f (x ∷ xs) (k + 1) x d (omega (arith, size)) in
+    ap₂ (λ a b. is_lt (byte_cmp a b)) next here ∙ order k x from (omega (arith, size))
+
+pub zip_push : {A B : Type 0} (ks : List A) (vs : List B) (k : A) (v : B) → length vs ≡ length ks
+    → zip (ks ++ k ∷ []) (vs ++ v ∷ []) ≡ zip ks vs ++ (k, v) ∷ []
+zip_push [] [] k v same = refl
+zip_push [] (w ∷ vs) k v same = absurd (omega arith)
+zip_push (j ∷ ks) [] k v same = absurd (omega arith)
+zip_push (j ∷ ks) (w ∷ vs) k v same = ap (λ ps. (j, w) ∷ ps) (zip_push ks vs k v (omega arith))
+
+set_last : (ws : List ℕ) (w v : ℕ) → set (ws ++ w ∷ []) (length ws) v ≡ ws ++ v ∷ []
+set_last [] w v = refl
+set_last (x ∷ ws) w v = ap (λ l. x ∷ l) (set_last ws w v)
+
+get_last : (ws : List ℕ) (w d : ℕ) → get_or (ws ++ w ∷ []) (length ws) d ≡ w
+get_last [] w d = refl
+get_last (x ∷ ws) w d = get_last ws w d
+
+zip_parts : (front : List (List ℕ × ℕ)) (k : List ℕ) (w : ℕ) → zip (map (λ p. p.0) front ++ k ∷ []) (map (λ p. p.1) front ++ w ∷ []) ≡ front ++ (k, w) ∷ []
+zip_parts [] k w = refl
+zip_parts (p ∷ front) k w = ap (λ ps. p ∷ ps) (zip_parts front k w)
+
+map_parts : {X : Type 0} (f : List ℕ × ℕ → X) (front : List (List ℕ × ℕ)) (p : List ℕ × ℕ) → map f (front ++ p ∷ []) ≡ map f front ++ f p ∷ []
+map_parts f [] p = refl
+map_parts f (q ∷ front) p = ap (λ l. f q ∷ l) (map_parts f front p)
+
+-- the last pair gets one more
+pub zip_bump : (ks : List (List ℕ)) (ws : List ℕ) (run d : ℕ) (front : List (List ℕ × ℕ)) (k : List ℕ) (w : ℕ) → length ws ≡ length ks
+    → run + 1 ≡ length ws → zip ks ws ≡ front ++ (k, w) ∷ [] → zip ks (set ws run (get_or ws run d + 1)) ≡ front ++ (k, w + 1) ∷ []
+zip_bump ks ws run d front k w same last is =
+    let names : ks ≡ map (λ p. p.0) front ++ k ∷ [] = sym (firsts-zip ks ws same) ∙ ap (map (λ p. p.0)) is ∙ map_parts (λ p. p.0) front (k, w) in
+    let weights : ws ≡ map (λ p. p.1) front ++ w ∷ [] = sym (seconds-zip ks ws same) ∙ ap (map (λ p. p.1)) is ∙ map_parts (λ p. p.1) front (k, w) in
+    let place : run ≡ length (map (λ (p : List ℕ × ℕ). p.1) front) =
+    omega (arith, ap length weights, length-append (map (λ (p : List ℕ × ℕ). p.1) front) (w ∷ [])) in
+    let here : get_or ws run d ≡ w = ap₂ (λ l i. get_or l i d) weights place ∙ get_last (map (λ p. p.1) front) w d in
+    let bumped : set ws run (get_or ws run d + 1) ≡ map (λ p. p.1) front ++ (w + 1) ∷ [] =
+    ap (λ v. set ws run (v + 1)) here ∙ ap₂ (λ l i. set l i (w + 1)) weights place ∙ set_last (map (λ p. p.1) front) w (w + 1) in
+    ap₂ zip names bumped ∙ zip_parts front k (w + 1)
+
+-- a pair has its term and its count at one place
+pub length_zipped : {A B : Type 0} (ks : List A) (vs : List B) → length vs ≡ length ks → length (zip ks vs) ≡ length ks
+length_zipped [] [] same = refl
+length_zipped [] (v ∷ vs) same = refl
+length_zipped (k ∷ ks) [] same = absurd (omega arith)
+length_zipped (k ∷ ks) (v ∷ vs) same = ap suc (length_zipped ks vs (omega arith))
+
+-- the count at a place of the pairs
+pub count_at : (terms : List (List ℕ)) (counts : List ℕ) (i seen : ℕ) (d : List ℕ × ℕ) → length counts ≡ length terms → i < length terms
+    → seen ≡ get_or counts i seen → seen ≡ (get_or (zip terms counts) i d).1
+count_at terms counts i seen d same inside is =
+    rw (get_or-zip terms counts i d inside (omega arith)) (is ∙ get_or_default counts i seen d.1 (omega arith))

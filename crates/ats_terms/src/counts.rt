@@ -1,0 +1,114 @@
+ghost use Rattle.std.specs.Prelude.{◌≡◌, ◌<◌, ◌≤◌, ◌^◌, [], List, ℕ, length, map, slice_index_or, sum_by, IfOk};
+ghost use Rattle.std.specs.List.{All};
+ghost use Rattle.std.specs.List.Sorted.{IsPermutation, IsSorted};
+ghost use Rattle.ats_terms.specs.Terms.{IsTerm};
+ghost use Rattle.ats_terms.specs.Query.{byte_cmp, counted};
+ghost use Rattle.ats_terms.specs.Counted.{Counts};
+ghost use Rattle.ats_terms.specs.Distinct.{AreDistinct};
+
+use crate::terms::{OutOfMemory, Terms, pack};
+use std::alloc::Global;
+use std::marker::Model;
+
+/// The distinct terms of a list of terms in byte order, each with how often it stands there.
+///
+/// They take their distinct bytes, and 8 bytes for each term.
+#[derive(Drop)]
+pub struct TermCounts {
+    terms: Terms,
+    counts: Vec<u32>,
+}
+
+impl Model for TermCounts {
+    ghost use Rattle.std.specs.Prelude.{◌≡◌, List, ℕ, length};
+    ghost use Rattle.std.specs.List.{zip};
+    ghost use Rattle.ats_terms.specs.Distinct.{AreDistinct};
+
+    ghost Value = { List (List ℕ × ℕ) };
+
+    ghost view = { λ t. zip t.terms t.counts.items };
+
+    ghost invariant = { λ t. (length t.counts.items ≡ length t.terms) × AreDistinct (zip t.terms t.counts.items) };
+}
+
+// Each of the terms, in byte order.
+fn in_order<'a>(alloc: Global, terms: &'a Terms) -> Result<Vec<&'a [u8]>, OutOfMemory>
+    ensures same { IfOk result (λ sorted. IsPermutation terms.now (map (λ term. term.now) sorted.items)) }
+    ensures order { IfOk result (λ sorted. IsSorted byte_cmp (map (λ term. term.now) sorted.items)) }
+    ensures terms { IfOk result (λ sorted. All IsTerm (map (λ term. term.now) sorted.items)) }
+{
+    let mut sorted = Vec::with_capacity(alloc, terms.len())?;
+    for i in 0..terms.len() {
+        sorted.push(terms.get(i))?;
+    }
+    sorted.sort_unstable();
+    Ok(sorted)
+}
+
+// The terms without those that repeat the one before, each with the length of its run.
+fn runs(alloc: Global, sorted: &[&[u8]]) -> Result<TermCounts, OutOfMemory>
+    requires few { length sorted.now < 2 ^ 32 }
+    requires order { IsSorted byte_cmp (map (λ term. term.now) sorted.now) }
+    requires terms { All IsTerm (map (λ term. term.now) sorted.now) }
+    ensures { IfOk result (λ made. made ≡ counted (map (λ term. term.now) sorted.now)) }
+{
+    let mut bytes = Vec::new(alloc);
+    let mut ends = Vec::new(alloc);
+    let mut counts: Vec<u32> = Vec::new(alloc);
+    let mut last: &[u8] = &[];
+    for term in sorted {
+        if *term == last {
+            let run = counts.len() - 1;
+            counts[run] += 1;
+            continue;
+        }
+        pack(&mut bytes, &mut ends, term)?;
+        counts.push(1)?;
+        last = term;
+    }
+    let terms = Terms::packed(bytes, ends);
+    Ok(TermCounts { terms, counts })
+}
+
+impl TermCounts {
+    /// The distinct terms of a list. A list of 2^32 terms and more is answered as want of memory.
+    pub fn of(alloc: Global, terms: &Terms) -> Result<Self, OutOfMemory>
+        ensures counted { IfOk result (λ made. made ≡ counted terms.now) }
+        ensures counts { IfOk result (Counts terms.now) }
+        ensures sum { IfOk result (λ made. sum_by (λ pair. pair.1) made ≡ length terms.now) }
+        ensures few { IfOk result (λ made. length made ≤ length terms.now) }
+    {
+        if terms.len() > u32::MAX as usize {
+            return Err(OutOfMemory);
+        }
+        let sorted = in_order(alloc, terms)?;
+        let made = runs(alloc, &sorted)?;
+        Ok(made)
+    }
+
+    /// The number of distinct terms.
+    pub fn len(&self) -> usize
+        ensures value { result ≡ length self.now }
+        ensures distinct { AreDistinct self.now }
+    {
+        self.counts.len()
+    }
+
+    /// Term `i` in byte order, counted from 0.
+    pub fn term(&self, i: usize) -> &[u8]
+        requires { i < length self.now }
+        ensures value { (d : List ℕ × ℕ) → result.now ≡ (slice_index_or self.now i d).0 }
+        ensures term { IsTerm result.now }
+    {
+        self.terms.get(i)
+    }
+
+    /// How often term `i` stands in the list.
+    pub fn count(&self, i: usize) -> u32
+        requires { i < length self.now }
+        ensures value { (d : List ℕ × ℕ) → result ≡ (slice_index_or self.now i d).1 }
+        ensures some { 1 ≤ result }
+    {
+        self.counts[i]
+    }
+}
