@@ -97,14 +97,11 @@ impl DocTerms {
         ensures value { result ≡ impact_at self.now p }
         ensures few { result ≤ 2200 }
     {
-        if p == 0 {
+        if p == 0 || p as usize > self.counts.len() {
             return 0;
         }
-        let i = p as usize - 1;
-        if i == self.counts.len() {
-            return 0;
-        }
-        impact(self.counts.count(i), self.total, self.len, self.documents)
+        let count = self.counts.count(p as usize - 1);
+        impact(count, self.total, self.len, self.documents)
     }
 
     /// Where a term stands that is not empty and does not begin with 0xFF.
