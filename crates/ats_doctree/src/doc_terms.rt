@@ -95,6 +95,7 @@ impl DocTerms {
     pub fn impact(&self, p: u32) -> u16
         requires { p < length self.now + 2 }
         ensures value { result ≡ impact_at self.now p }
+        ensures some { 1 ≤ p → p ≤ length self.now → 1 ≤ result }
         ensures few { result ≤ 2200 }
     {
         if p == 0 || p as usize > self.counts.len() {
