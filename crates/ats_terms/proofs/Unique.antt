@@ -1,5 +1,5 @@
 -- A list has one list of pairs that rises and counts its terms.
-use Rattle.std.proofs.Common.{◌≡◌, ◌≢◌, ◌<◌, ◌≤◌, ℕ, List, [], ◌∷◌, length, sum_by, Bool, true, false, cond, refl, sym, ap, ap₂, ◌∙◌, arith}
+use Rattle.std.proofs.Common.{◌≡◌, ◌≢◌, ◌<◌, ◌≤◌, ℕ, List, [], ◌∷◌, length, sum_by, Bool, true, false, cond, refl, sym, ap, ap₂, ◌∙◌, arith, get_or, zero, suc}
 use Rattle.std.specs.List.{All}
 use Rattle.std.specs.Str.{bytes_eq}
 use Rattle.std.specs.Bool.{Decides}
@@ -17,7 +17,7 @@ use Rattle.ats_terms.specs.Query.{byte_cmp, counted, RisesFrom, Rises}
 use Rattle.ats_terms.specs.Distinct.{AreDistinct}
 use Rattle.ats_terms.specs.Counted.{weight_of, Counts}
 use Rattle.ats_terms.proofs.Counting.{equal_from, counted_counts, all_terms}
-use Rattle.ats_terms.proofs.Order.{less_unequal, rises_rest}
+use Rattle.ats_terms.proofs.Order.{less_unequal, rises_less, rises_rest}
 
 abbrev share : List ℕ → List ℕ × ℕ → ℕ
 share term pair = cond (bytes_eq term pair.0) pair.1 0
@@ -104,3 +104,21 @@ pub counted_distinct : (all : List (List ℕ)) → All IsTerm all → AreDistinc
 counted_distinct all each =
     let own = counted_counts all in
     record { rises = own.rises; terms = all_terms all [] each (All-nil (λ (p : List ℕ × ℕ). IsTerm p.0)); some = own.some }
+
+-- the weight of a pair's term is the pair's
+pub weight_at : (pairs : List (List ℕ × ℕ)) (i : ℕ) (d : List ℕ × ℕ) → Rises pairs → i < length pairs
+    → weight_of (get_or pairs i d).0 pairs ≡ (get_or pairs i d).1
+weight_at [] i d rises inside = absurd (omega arith)
+weight_at (pair ∷ rest) zero d rises inside = first_weight pair rest rises
+weight_at (pair ∷ rest) (suc i) d rises inside =
+    let term = (get_or rest i d).0 in
+    let less : byte_cmp pair.0 term ≡ Less = rises_less (pair ∷ rest) 0 (suc i) d rises (omega arith) inside in
+    let here : share term pair ≡ 0 = share_other (bytes_eq term pair.0) pair.1 (bytes_eq-Decides term pair.0) (λ same. less_unequal pair.0 term less (sym same)) in
+    omega (arith, here, weight_at rest i d (rises_rest pair rest rises) (omega arith), sum_by-cons (share term) pair rest)
+
+-- a term that is in no pair weighs nothing
+pub weight_absent : (term : List ℕ) (pairs : List (List ℕ × ℕ)) → All (λ pair. pair.0 ≢ term) pairs → weight_of term pairs ≡ 0
+weight_absent term [] absent = refl
+weight_absent term (pair ∷ pairs) absent =
+    let here : share term pair ≡ 0 = share_other (bytes_eq term pair.0) pair.1 (bytes_eq-Decides term pair.0) (λ same. absent 0 pair (omega arith) (sym same)) in
+    omega (arith, here, weight_absent term pairs (All-tail (λ (p : List ℕ × ℕ). p.0 ≢ term) pair pairs absent), sum_by-cons (share term) pair pairs)

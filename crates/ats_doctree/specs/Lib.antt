@@ -1,0 +1,5 @@
+pub mod Impacts
+pub mod Sentinels
+pub mod Found
+pub mod DocumentLeaf
+pub mod Kept

@@ -1,0 +1,9 @@
+/// Memory was wanted and not there.
+#[derive(Clone, Copy, Debug, PartialEq, Eq)]
+pub struct OutOfMemory;
+
+impl From<ats_terms::OutOfMemory> for OutOfMemory {
+    fn from(_: ats_terms::OutOfMemory) -> Self {
+        OutOfMemory
+    }
+}
