@@ -7,9 +7,9 @@ use Rattle.ats_impact.specs.Score.{total_terms}
 use Rattle.ats_lists.specs.Lists.{vocabulary}
 use Rattle.ats_lists.proofs.VocabularyLemmas.{vocabulary_few}
 use Rattle.ats_dict.specs.Dictionary.{dict_leaves}
-use Rattle.ats_dict.specs.Header.{header_bytes, IsHeader}
+use Rattle.ats_dict.specs.Header.{header_bytes}
 use Rattle.ats_commit.specs.Trees.{dictionary_of, documents_of}
-use Rattle.ats_commit.specs.Root.{header_of}
+use Rattle.ats_commit.specs.Root.{header_of, HasHeaderInRange}
 use Rattle.ats_commit.proofs.DictionaryLemmas.{dictionary_count}
 
 module _ (H : List ℕ → List ℕ) (sized : (bytes : List ℕ) → length (H bytes) ≡ 32) where
@@ -22,8 +22,7 @@ module _ (H : List ℕ → List ℕ) (sized : (bytes : List ℕ) → length (H b
   length-mth : (ds : List (List ℕ)) → length (mth H ds) ≡ 32
   length-mth ds = length-digest_of (tree_of ds)
 
-  pub header_in_range : (texts : List (List ℕ)) → AreWithin texts → total_terms texts ≤ 2 ^ 24
-      → IsHeader (length texts) (length (dict_leaves (dictionary_of H texts))) (mth H (dict_leaves (dictionary_of H texts))) (mth H (documents_of H texts)) (mth H texts)
+  pub header_in_range : (texts : List (List ℕ)) → AreWithin texts → total_terms texts ≤ 2 ^ 24 → HasHeaderInRange H texts
   header_in_range texts within few = record {
     numbers = record {
       some = within.some;

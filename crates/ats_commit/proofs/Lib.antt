@@ -1,2 +1,3 @@
 pub mod DictionaryLemmas
 pub mod HeaderLemmas
+pub mod TermLemmas

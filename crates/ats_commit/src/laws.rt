@@ -4,6 +4,7 @@
 ghost use Rattle.std.specs.Prelude.{◌≡◌, ◌+◌, ◌<◌, ◌≤◌, ◌^◌, ◌∷◌, ◌++◌, List, ℕ, Some, length, map, slice_get};
 ghost use Rattle.std.specs.Int.{to_be_bytes, w32};
 ghost use Rattle.std.specs.List.{All};
+ghost use Rattle.std.specs.Str.{IsUtf8};
 ghost use Rattle.ats_tree.specs.Tree.{mth};
 ghost use Rattle.ats_impact.specs.Limits.{AreWithin};
 ghost use Rattle.ats_impact.specs.Score.{frequency, total_terms};
@@ -13,9 +14,8 @@ ghost use Rattle.ats_doctree.specs.DocumentLeaf.{doc_leaf_bytes};
 ghost use Rattle.ats_doctree.specs.Impacts.{doc_terms};
 ghost use Rattle.ats_doctree.specs.Sentinels.{terms_leaves};
 ghost use Rattle.ats_dict.specs.Dictionary.{dict_leaves};
-ghost use Rattle.ats_dict.specs.Header.{IsHeader};
 ghost use Rattle.ats_commit.specs.Trees.{dictionary_of, documents_of};
-ghost use Rattle.ats_commit.specs.Root.{header_of, root_of};
+ghost use Rattle.ats_commit.specs.Root.{header_of, root_of, HasHeaderInRange};
 
 use ats_hash::HashKind;
 
@@ -36,12 +36,11 @@ pub fn documents_have_all_texts<H: HashKind>()
         ≡ Some (doc_leaf_bytes (length (doc_terms texts doc) + 2) (mth H.hash (terms_leaves (doc_terms texts doc)))) }
 {}
 
-/// The numbers and roots of a collection within the limits are those of a header in range, so that its
-/// bytes are read back.
+/// A collection within the limits has a header in range, so that its bytes are read back. Its terms are
+/// few: texts in UTF-8 have no more terms than bytes, and a `Collection` tells their number.
 pub fn headers_are_in_range<H: HashKind>()
-    ensures { (texts : List (List ℕ)) → AreWithin texts → total_terms texts ≤ 2 ^ 24
-        → IsHeader (length texts) (length (dict_leaves (dictionary_of H.hash texts)))
-        (mth H.hash (dict_leaves (dictionary_of H.hash texts))) (mth H.hash (documents_of H.hash texts)) (mth H.hash texts) }
+    ensures texts { (texts : List (List ℕ)) → All IsUtf8 texts → AreWithin texts → HasHeaderInRange H.hash texts }
+    ensures counted { (texts : List (List ℕ)) → AreWithin texts → total_terms texts ≤ 2 ^ 24 → HasHeaderInRange H.hash texts }
 {}
 
 /// The root is the digest of the header under the tag 2. The header is the version 1, the numbers of
