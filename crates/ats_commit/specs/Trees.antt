@@ -1,0 +1,37 @@
+-- The trees of a collection, each as the list of its leaves, under a hash function H.
+use Rattle.std.specs.Prelude.{◌<◌, ◌≤◌, ◌^◌, ℕ, List, length, map}
+use Rattle.ats_tree.specs.Tree.{mth}
+use Rattle.ats_lists.specs.Leaf.{leaf_bytes}
+use Rattle.ats_lists.specs.Lists.{lists_of}
+use Rattle.ats_lists.specs.declared.entry.Entry.{Entry}
+use Rattle.ats_dict.specs.Entry.{DictEntry}
+use Rattle.ats_doctree.specs.DocumentLeaf.{doc_leaf_bytes}
+use Rattle.ats_doctree.specs.Impacts.{text_terms}
+use Rattle.ats_doctree.specs.Sentinels.{terms_leaves}
+use Rattle.ats_doctree.specs.declared.doc_leaf.DocLeaf.{DocLeaf}
+
+-- the entry of a term's list: the term, how many entries the list has, and its root
+abbrev pub dict_entry : (List ℕ → List ℕ) → List ℕ × List Entry → DictEntry
+dict_entry H list = record { term = list.0; f = length list.1; root = mth H (map leaf_bytes list.1) }
+
+-- the entries of the dictionary, one for each list
+abbrev pub dictionary_of : (List ℕ → List ℕ) → List (List ℕ) → List DictEntry
+dictionary_of H texts = map (dict_entry H) (lists_of texts)
+
+-- the leaf of a document whose terms tree has these leaves: their number and their root
+abbrev pub terms_root : (List ℕ → List ℕ) → List (List ℕ) → List ℕ
+terms_root H leaves = doc_leaf_bytes (length leaves) (mth H leaves)
+
+-- the leaves of the documents tree, one for each text
+abbrev pub documents_of : (List ℕ → List ℕ) → List (List ℕ) → List (List ℕ)
+documents_of H texts = map (λ text. terms_root H (terms_leaves (text_terms texts text))) texts
+
+-- the bytes of a documents leaf
+abbrev pub leaf_of : DocLeaf → List ℕ
+leaf_of leaf = doc_leaf_bytes leaf.leaves leaf.root
+
+-- at least one document, and none past the last; a document's number has 32 bits
+pub record IsRange (from to documents : ℕ) : Type 0 where
+  pub some : from < to
+  pub within : to ≤ documents
+  pub few : to < 2 ^ 32

@@ -1,0 +1,55 @@
+//! What holds of the trees, the header and the root of any texts, as contracts of functions that do
+//! nothing. Who believes these sentences need not read how the definitions are made.
+
+ghost use Rattle.std.specs.Prelude.{◌≡◌, ◌+◌, ◌<◌, ◌≤◌, ◌^◌, ◌∷◌, ◌++◌, List, ℕ, Some, length, map, slice_get};
+ghost use Rattle.std.specs.Int.{to_be_bytes, w32};
+ghost use Rattle.std.specs.List.{All};
+ghost use Rattle.std.specs.Str.{IsUtf8};
+ghost use Rattle.ats_tree.specs.Tree.{mth};
+ghost use Rattle.ats_impact.specs.Limits.{AreWithin};
+ghost use Rattle.ats_impact.specs.Score.{frequency, total_terms};
+ghost use Rattle.ats_lists.specs.Leaf.{leaf_bytes};
+ghost use Rattle.ats_lists.specs.Lists.{list, vocabulary};
+ghost use Rattle.ats_doctree.specs.DocumentLeaf.{doc_leaf_bytes};
+ghost use Rattle.ats_doctree.specs.Impacts.{doc_terms};
+ghost use Rattle.ats_doctree.specs.Sentinels.{terms_leaves};
+ghost use Rattle.ats_dict.specs.Dictionary.{dict_leaves};
+ghost use Rattle.ats_commit.specs.Trees.{dictionary_of, documents_of};
+ghost use Rattle.ats_commit.specs.Root.{header_of, root_of, HasHeaderInRange};
+
+use ats_hash::HashKind;
+
+/// The dictionary has the terms that have a list, each with the number of documents that have it and the
+/// root of its list.
+pub fn dictionary_has_all_terms<H: HashKind>()
+    ensures terms { (texts : List (List ℕ)) → map (λ entry. entry.term) (dictionary_of H.hash texts) ≡ vocabulary texts }
+    ensures numbers { (texts : List (List ℕ)) → All (λ entry. entry.f ≡ frequency entry.term texts) (dictionary_of H.hash texts) }
+    ensures roots { (texts : List (List ℕ)) → All (λ entry. entry.root ≡ mth H.hash (map leaf_bytes (list texts entry.term))) (dictionary_of H.hash texts) }
+{}
+
+/// The documents tree has a leaf for each text, with the number of leaves of its terms tree, which are its
+/// terms and two sentinels, and their root.
+pub fn documents_have_all_texts<H: HashKind>()
+    ensures count { (texts : List (List ℕ)) → length (documents_of H.hash texts) ≡ length texts }
+    ensures leaf { (texts : List (List ℕ)) (doc : ℕ) → doc < length texts
+        → slice_get (documents_of H.hash texts) doc
+        ≡ Some (doc_leaf_bytes (length (doc_terms texts doc) + 2) (mth H.hash (terms_leaves (doc_terms texts doc)))) }
+{}
+
+/// A collection within the limits has a header in range, so that its bytes are read back. Its terms are
+/// few: texts in UTF-8 have no more terms than bytes, and a `Collection` tells their number.
+pub fn headers_are_in_range<H: HashKind>()
+    ensures texts { (texts : List (List ℕ)) → All IsUtf8 texts → AreWithin texts → HasHeaderInRange H.hash texts }
+    ensures counted { (texts : List (List ℕ)) → AreWithin texts → total_terms texts ≤ 2 ^ 24 → HasHeaderInRange H.hash texts }
+{}
+
+/// The root is the digest of the header under the tag 2. The header is the version 1, the numbers of
+/// documents and of dictionary leaves, high byte first, and the roots of the dictionary, the documents and
+/// the texts, 105 bytes in all.
+pub fn roots_bind_headers<H: HashKind>()
+    ensures root { (texts : List (List ℕ)) → root_of H.hash texts ≡ H.hash (2 ∷ header_of H.hash texts) }
+    ensures header { (texts : List (List ℕ)) → header_of H.hash texts
+        ≡ 1 ∷ to_be_bytes w32 (length texts) ++ to_be_bytes w32 (length (vocabulary texts) + 2)
+        ++ mth H.hash (dict_leaves (dictionary_of H.hash texts)) ++ mth H.hash (documents_of H.hash texts) ++ mth H.hash texts }
+    ensures size { (texts : List (List ℕ)) → length (header_of H.hash texts) ≡ 105 }
+{}

@@ -1,0 +1,24 @@
+//! The commitment to a whole collection: the leaves of its trees, its header, and its root.
+//!
+//! The root is the digest of the header, which binds the numbers of documents and of dictionary leaves to
+//! the roots of the dictionary, of the documents and of the texts. The dictionary binds each term to the
+//! root of its list, and the documents tree binds each document to the root of its terms.
+//! The room stands on `ats_lists`, `ats_doctree` and `ats_dict`, which make the leaves of those trees, and
+//! says from plain definitions over the texts what they are together. The contracts promise the root of a
+//! header in one step, and the leaves of the documents and texts trees byte by byte. The laws say what the
+//! definitions mean. How leaves are lent may change without asking; the bytes may not.
+#![tactic(auto)]
+
+pub use commitment::root_of_header;
+pub use documents::DocLeaves;
+pub use laws::{
+    dictionary_has_all_terms, documents_have_all_texts, headers_are_in_range, roots_bind_headers,
+};
+pub use texts::TextLeaves;
+
+mod commitment;
+mod documents;
+mod laws;
+#[cfg(test)]
+mod tests;
+mod texts;
