@@ -95,16 +95,14 @@ impl DocTerms {
     pub fn impact(&self, p: u32) -> u16
         requires { p < length self.now + 2 }
         ensures value { result ≡ impact_at self.now p }
+        ensures some { 1 ≤ p → p ≤ length self.now → 1 ≤ result }
         ensures few { result ≤ 2200 }
     {
-        if p == 0 {
+        if p == 0 || p as usize > self.counts.len() {
             return 0;
         }
-        let i = p as usize - 1;
-        if i == self.counts.len() {
-            return 0;
-        }
-        impact(self.counts.count(i), self.total, self.len, self.documents)
+        let count = self.counts.count(p as usize - 1);
+        impact(count, self.total, self.len, self.documents)
     }
 
     /// Where a term stands that is not empty and does not begin with 0xFF.

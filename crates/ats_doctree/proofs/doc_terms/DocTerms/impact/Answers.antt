@@ -10,16 +10,16 @@ impact-requires-clause-within c =
       arith,
       size,
       c.requires,
-      c.if-i-len.false,
+      c.if-p-len.false,
       c.len.ensures.value,
       length-with_impacts c.self.inside.total c.self.inside.len c.self.inside.documents c.self.inside.counts,
     ) in
-    omega (arith, c.count.ensures.value ([], 0), c.self.invariant.within (c.args.p - 1) ([], 0) inside)
+    omega (arith, c.count-count.ensures.value ([], 0), c.self.invariant.within (c.args.p - 1) ([], 0) inside)
 
 pub returns-clause-value : goal.returns-clause-value
 returns-clause-value c =
     c.impact.ensures.value
-    ∙ ap (λ n. impact n c.self.inside.total c.self.inside.len c.self.inside.documents) (c.count.ensures.value ([], 0))
+    ∙ ap (λ n. impact n c.self.inside.total c.self.inside.len c.self.inside.documents) (c.count-count.ensures.value ([], 0))
     ∙ ap (λ (item : List ℕ × ℕ). item.1)
     (sym (item_of_count c.self.inside.total c.self.inside.len c.self.inside.documents c.self.inside.counts c.args.self.now c.args.p c.self.view_is
-    (omega arith) c.requires (omega (arith, c.if-i-len.false, c.len.ensures.value))))
+    (omega arith) c.requires (omega (arith, c.if-p-len.false, c.len.ensures.value))))
