@@ -1,5 +1,5 @@
 -- What one document adds to the gathered postings, term by term.
-use Rattle.std.proofs.Common.{◌≡◌, ◌≢◌, ◌<◌, ◌≤◌, ◌+◌, ℕ, zero, suc, Bool, true, false, cond, List, [], ◌∷◌, ◌++◌, length, get_or, map, take, drop, nat_lt, sum_by, Vec, Option, Some, None, unwrap_or, refl, sym, ap, ap₂, subst, ◌∙◌, arith, append-nil, add-zero, zero-add, take_all}
+use Rattle.std.proofs.Common.{◌≡◌, ◌≢◌, ◌<◌, ◌≤◌, ◌+◌, ℕ, Bool, true, false, cond, List, [], ◌∷◌, ◌++◌, length, get_or, map, take, drop, nat_lt, Vec, Option, Some, unwrap_or, refl, sym, ap, ap₂, subst, ◌∙◌, arith, append-nil, add-zero, zero-add}
 use Rattle.std.specs.List.{All}
 use Rattle.std.specs.Bool.{Decides}
 use Rattle.std.specs.BTreeMap.{keys}
@@ -11,7 +11,7 @@ use Rattle.std.proofs.lemmas.List.{get_or-take, get_or-drop, get_or_default, len
 use Rattle.std.proofs.lemmas.List.Elements.{All-nil, All-head, All-tail}
 use Rattle.std.proofs.lemmas.List.Sums.{sum_by-cons, sum_by_more, sum_by-take-drop}
 use Rattle.std.proofs.lemmas.Slice.Eq.{bytes_eq-Decides}
-use Rattle.ats_terms.specs.Terms.{terms, IsTerm, occurrences}
+use Rattle.ats_terms.specs.Terms.{terms, IsTerm}
 use Rattle.ats_terms.specs.Query.{Rises}
 use Rattle.ats_terms.specs.Counted.{weight_of, Counts}
 use Rattle.ats_terms.proofs.Order.{rises_apart}

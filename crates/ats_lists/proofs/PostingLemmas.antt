@@ -1,26 +1,21 @@
 -- The postings of a term, document by document, and the list that they make.
-use Rattle.std.proofs.Common.{◌≡◌, ◌≢◌, ◌<◌, ◌≤◌, ◌+◌, ℕ, zero, suc, Bool, true, false, cond, List, [], ◌∷◌, ◌++◌, length, get_or, map, nat_lt, refl, sym, ap, subst, ◌∙◌, arith, length-append, add-one}
-use Rattle.std.specs.List.{All, AllByRecursion, IsDistinct, filter, range_with_len, sum_by, count_by}
-use Rattle.std.specs.List.Sorted.{IsPermutation, IsSorted, IsStrictlySortedBy}
-use Rattle.std.specs.Ordering.{nat_cmp, eq_by_cmp, is_eq, is_lt, ordering_then}
-use Rattle.std.specs.declared.cmp.Ordering.{Ordering}
-use Rattle.std.specs.declared.cmp.Ordering.TheVariants.{Less, Equal, Greater}
+use Rattle.std.proofs.Common.{◌≡◌, ◌<◌, ◌≤◌, ◌+◌, ℕ, zero, suc, Bool, true, false, cond, List, [], ◌∷◌, ◌++◌, length, get_or, map, nat_lt, refl, ap, ◌∙◌, arith, add-one}
+use Rattle.std.specs.List.{All, filter, range_with_len}
+use Rattle.std.specs.List.Sorted.{IsStrictlySortedBy}
+use Rattle.std.specs.Ordering.{nat_cmp}
 use Rattle.std.proofs.lemmas.Bool.Decides.{nat_tests}
-use Rattle.std.proofs.lemmas.Cmp.{eq_by_cmp_equiv, on_total, nat_cmp_total}
 use Rattle.std.proofs.lemmas.List.{length-map, map-append}
-use Rattle.std.proofs.lemmas.List.Elements.{All-map, All-filter, All-weaker, All-from_get_or, recursion_from_All, filter-append, filter_passes}
+use Rattle.std.proofs.lemmas.List.Elements.{All-map, All-filter, All-weaker, All-from_get_or, filter-append, filter_passes}
 use Rattle.std.proofs.lemmas.List.FromFn.{get_or-range_with_len, length-range_with_len}
 use Rattle.std.proofs.lemmas.List.Kept.{IsStrictlySortedBy-filter}
 use Rattle.std.proofs.lemmas.List.Sums.{get_or-le-sum_by, length-filter, count_by-le-length}
-use Rattle.std.proofs.lemmas.List.Sorted.{All-permutation, length_permutation}
-use Rattle.std.proofs.lemmas.Map.Keys.{IsDistinct-IsPermutation, IsDistinct-from_sorted, apart_from_distinct, Less-from_sorted, sorted_from_strictly_increasing}
+use Rattle.std.proofs.lemmas.Map.Keys.{sorted_from_strictly_increasing}
 use Rattle.ats_terms.specs.Terms.{terms}
-use Rattle.ats_impact.specs.Numbers.{impact}
-use Rattle.ats_impact.specs.Score.{count, total_terms}
+use Rattle.ats_impact.specs.Score.{total_terms}
 use Rattle.ats_impact.proofs.Tables.{impact_small}
 use Rattle.ats_impact.proofs.Occurrences.{occurs_few}
 use Rattle.ats_lists.specs.Postings.{text_of, count_in, posting, postings_of_first, postings}
-use Rattle.ats_lists.specs.Lists.{by_impact, list, entry_cmp, IsListOf, IsList}
+use Rattle.ats_lists.specs.Lists.{by_impact, list, entry_cmp, IsListOf}
 use Rattle.ats_lists.specs.Gathered.{doc_cmp}
 use Rattle.ats_lists.specs.declared.entry.Entry.{Entry}
 use Rattle.ats_lists.proofs.Rising.{rises_map, all_any, sorted_from_rises, sorted_permutation_is_one}

@@ -1,14 +1,13 @@
 -- The distinct terms of all texts, and entries for each of them.
-use Rattle.std.proofs.Common.{◌≡◌, ◌↔◌, ◌<◌, ◌≤◌, ◌+◌, ℕ, zero, suc, Bool, true, false, ◌||◌, ◌&&◌, cond, List, [], ◌∷◌, ◌++◌, length, get_or, map, take, nat_lt, sum_by, fold, Option, Some, None, refl, sym, ap, ap₂, ◌∙◌, inl, inr, arith, length-append, add-one, zero-add, add-zero, take_all}
+use Rattle.std.proofs.Common.{◌≡◌, ◌↔◌, ◌<◌, ◌≤◌, ◌+◌, ℕ, zero, suc, Bool, true, false, ◌||◌, ◌&&◌, cond, List, [], ◌∷◌, length, map, take, nat_lt, sum_by, fold, Option, Some, None, refl, sym, ap, ◌∙◌, inl, inr, arith, length-append, add-one, zero-add, add-zero, take_all}
 use Rattle.std.specs.Prelude.{T}
 use Rattle.std.specs.List.{All, AllByRecursion, Contains, list_any, flat_map}
 use Rattle.std.specs.List.Sorted.{IsStrictlySortedBy}
 use Rattle.std.specs.Map.{lookup}
 use Rattle.std.specs.BTreeMap.{is_at}
 use Rattle.std.specs.Str.{bytes_eq}
-use Rattle.std.specs.Cmp.{IsTotalOrder}
 use Rattle.std.specs.FinMap.Entries.{find, below_all, is_sorted, same_entries}
-use Rattle.std.specs.Ordering.{match_ordering, is_eq, is_lt}
+use Rattle.std.specs.Ordering.{match_ordering, is_eq}
 use Rattle.std.specs.declared.cmp.Ordering.{Ordering}
 use Rattle.std.specs.declared.cmp.Ordering.TheVariants.{Less, Equal, Greater}
 use Rattle.std.proofs.lemmas.Bool.{cases_lt}
@@ -19,17 +18,17 @@ use Rattle.std.proofs.lemmas.List.Concat.{length-flat_map}
 use Rattle.std.proofs.lemmas.List.Elements.{All-tail}
 use Rattle.std.proofs.lemmas.List.Sums.{get_or-le-sum_by, sum_by-cons, sum_by-append, sum_by_more}
 use Rattle.std.proofs.lemmas.Map.Keys.{sorted_from_all_adjacent}
-use Rattle.std.proofs.lemmas.Map.Lookups.{CmpEqualImpliesEq, exact_bytes}
+use Rattle.std.proofs.lemmas.Map.Lookups.{exact_bytes}
 use Rattle.std.proofs.lemmas.Map.Text.{is_eq-slice_cmp}
 use Rattle.std.proofs.lemmas.Map.Views.{Contains-from_any, list_any-from_Contains}
 use Rattle.std.proofs.lemmas.Slice.Eq.{bytes_eq-Decides}
 use Rattle.ats_terms.specs.Terms.{terms, occurrences}
 use Rattle.ats_terms.specs.Query.{byte_cmp, put_term, counted, Rises}
-use Rattle.ats_terms.specs.Counted.{weight_of, Counts}
+use Rattle.ats_terms.specs.Counted.{weight_of}
 use Rattle.ats_terms.proofs.Counting.{counted_counts}
 use Rattle.ats_terms.proofs.Order.{rises_less}
 use Rattle.ats_impact.specs.Score.{count, frequency, total_terms}
-use Rattle.ats_lists.specs.Postings.{text_of, count_in, posting, postings_of_first, postings}
+use Rattle.ats_lists.specs.Postings.{count_in, posting, postings_of_first, postings}
 use Rattle.ats_lists.specs.Lists.{vocabulary}
 use Rattle.ats_lists.specs.Gathered.{if_some}
 use Rattle.ats_lists.specs.declared.entry.Entry.{Entry}

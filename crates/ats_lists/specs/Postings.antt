@@ -1,5 +1,5 @@
 -- The postings of a term: the documents that have it, each with the term's impact there.
-use Rattle.std.specs.Prelude.{ℕ, Bool, List, [], length, map, filter, slice_index_or, nat_lt}
+use Rattle.std.specs.Prelude.{ℕ, List, [], length, map, filter, slice_index_or, nat_lt}
 use Rattle.std.specs.List.{range_with_len}
 use Rattle.ats_terms.specs.Terms.{terms}
 use Rattle.ats_impact.specs.Numbers.{impact}

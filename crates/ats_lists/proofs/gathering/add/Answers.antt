@@ -1,6 +1,4 @@
-use Rattle.std.proofs.Common.{◌≡◌, ◌++◌, ◌∷◌, [], List, ℕ, Option, Some, None, Vec, unwrap_or, sym, ap, ◌∙◌, refl}
-use Rattle.std.specs.List.{All}
-use Rattle.std.specs.BTreeMap.{keys}
+use Rattle.std.proofs.Common.{◌≡◌, ◌++◌, ◌∷◌, [], List, ℕ, Some, None, Vec, unwrap_or, sym, ap, ◌∙◌}
 use Rattle.std.specs.Option.{is_some, IsSome}
 use Rattle.std.specs.declared.alloc.Global.{Global}
 use Rattle.std.proofs.lemmas.Map.Views.{All-keys-insert_entry}

@@ -1,13 +1,13 @@
-use Rattle.std.proofs.Common.{◌≡◌, ◌<◌, ◌≤◌, ℕ, zero, List, [], length, get_or, take, take_all, ap, sym, ◌∙◌, refl, arith}
+use Rattle.std.proofs.Common.{◌≡◌, ◌<◌, ℕ, List, [], length, get_or, take, take_all, ap, ◌∙◌, refl, arith}
 use Rattle.ats_terms.specs.Terms.{terms}
 use Rattle.ats_terms.specs.Counted.{Counts}
 use Rattle.ats_terms.proofs.Counting.{counted_counts}
 use Rattle.ats_impact.specs.Numbers.{impact}
 use Rattle.ats_impact.specs.Score.{total_terms}
-use Rattle.ats_lists.specs.Postings.{text_of, posting}
+use Rattle.ats_lists.specs.Postings.{text_of}
 use Rattle.ats_lists.specs.Gathered.{entries_at}
 use Rattle.ats_lists.specs.declared.entry.Entry.{Entry}
-use Rattle.ats_lists.proofs.DocumentLemmas.{HasPart, pair_within, part_none, part_more, part_all, entry_is}
+use Rattle.ats_lists.proofs.DocumentLemmas.{pair_within, part_more, part_all, entry_is}
 use Rattle.ats_lists.proofs.gathering.add_document.Goals as goal
 
 pub impact-impact-requires-clause-within : goal.impact-impact-requires-clause-within

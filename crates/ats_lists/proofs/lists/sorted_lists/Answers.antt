@@ -1,8 +1,7 @@
-use Rattle.std.proofs.Common.{◌≡◌, ◌∷◌, ◌++◌, ℕ, List, Vec, map, ◌∙◌, ap, append_assoc}
+use Rattle.std.proofs.Common.{◌≡◌, ◌∷◌, ℕ, List, Vec, append_assoc}
 use Rattle.std.specs.declared.alloc.Global.{Global}
 use Rattle.std.proofs.lemmas.List.Elements.{All-tail}
 use Rattle.ats_lists.specs.Gathered.{AreGathered}
-use Rattle.ats_lists.specs.Lists.{by_impact}
 use Rattle.ats_lists.specs.declared.entry.Entry.{Entry}
 use Rattle.ats_lists.proofs.lists.sorted_lists.Goals as goal
 

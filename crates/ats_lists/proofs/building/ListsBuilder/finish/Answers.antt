@@ -1,6 +1,5 @@
-use Rattle.std.proofs.Common.{◌≡◌, ◌≤◌, ℕ, List, length, map, sym, ap, ◌∙◌, arith}
-use Rattle.ats_lists.specs.Gathered.{HasFirst}
-use Rattle.ats_lists.specs.Lists.{by_impact, lists_of, AreLists}
+use Rattle.std.proofs.Common.{◌≡◌, ℕ, List, length, sym, ap, ◌∙◌, arith}
+use Rattle.ats_lists.specs.Lists.{lists_of}
 use Rattle.ats_lists.proofs.WholeLemmas.{few_entries, all_gathered, made_lists, terms_are, lists_keep, lists_within}
 use Rattle.ats_lists.proofs.building.ListsBuilder.finish.Goals as goal
 

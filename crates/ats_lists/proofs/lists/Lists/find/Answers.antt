@@ -1,4 +1,4 @@
-use Rattle.std.proofs.Common.{◌≡◌, ℕ, List, [], length, get_or, rules}
+use Rattle.std.proofs.Common.{ℕ, List, [], get_or, rules}
 use Rattle.std.proofs.lemmas.Fn.{always_returns_same}
 use Rattle.ats_terms.specs.Query.{byte_cmp}
 use Rattle.ats_terms.proofs.Counting.{equal_from}
