@@ -1,0 +1,5 @@
+pub mod Table
+pub mod Grammar
+pub mod Front
+pub mod Pending
+pub mod State
