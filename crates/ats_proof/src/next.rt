@@ -3,7 +3,7 @@
 use crate::fault::ShapeKind;
 
 /// What the bytes of a proof have next.
-#[derive(Clone, Copy, Debug, PartialEq, Eq)]
+#[derive(Clone, Copy)]
 pub(crate) enum Next {
     /// Nothing more.
     End,

@@ -4,7 +4,7 @@ ghost use Rattle.std.specs.Prelude.{◌+◌, ◌<◌, ◌^◌};
 ghost use Rattle.ats_proof.specs.Pending.{pending};
 
 /// The fields of the front, of the header, and the number of query terms.
-#[derive(Clone, Copy, Debug, PartialEq, Eq)]
+#[derive(Clone, Copy)]
 pub(crate) enum FrontPart {
     Magic,
     Version,
@@ -19,7 +19,7 @@ pub(crate) enum FrontPart {
 }
 
 /// The fields of the dictionary section.
-#[derive(Clone, Copy, Debug, PartialEq, Eq)]
+#[derive(Clone, Copy)]
 pub(crate) enum DictPart {
     LeafCount,
     Position,
@@ -32,7 +32,7 @@ pub(crate) enum DictPart {
 }
 
 /// The fields of the slots and of the met ids.
-#[derive(Clone, Copy, Debug, PartialEq, Eq)]
+#[derive(Clone, Copy)]
 pub(crate) enum MetPart {
     SlotKind,
     SlotIndex,
@@ -41,7 +41,7 @@ pub(crate) enum MetPart {
 }
 
 /// The fields of the prefixes.
-#[derive(Clone, Copy, Debug, PartialEq, Eq)]
+#[derive(Clone, Copy)]
 pub(crate) enum ListPart {
     EntryCount,
     MetIndex,
@@ -51,7 +51,7 @@ pub(crate) enum ListPart {
 }
 
 /// The fields of the documents section and of the answer.
-#[derive(Clone, Copy, Debug, PartialEq, Eq)]
+#[derive(Clone, Copy)]
 pub(crate) enum DocsPart {
     LeafTerms,
     TermsRoot,
@@ -63,7 +63,7 @@ pub(crate) enum DocsPart {
 }
 
 /// The fields of a terms section.
-#[derive(Clone, Copy, Debug, PartialEq, Eq)]
+#[derive(Clone, Copy)]
 pub(crate) enum TermsPart {
     LeafCount,
     Position,
@@ -77,7 +77,7 @@ pub(crate) enum TermsPart {
 }
 
 /// The field that comes next.
-#[derive(Clone, Copy, Debug, PartialEq, Eq)]
+#[derive(Clone, Copy)]
 pub(crate) enum Part {
     Front(FrontPart),
     Dict(DictPart),
@@ -89,7 +89,7 @@ pub(crate) enum Part {
 
 /// What a reader of a proof keeps: the field that comes next, and of those before it only what bears on it
 /// or on later ones.
-#[derive(Clone, Copy, Debug)]
+#[derive(Clone, Copy)]
 pub(crate) struct State {
     pub(crate) part: Part,
     /// Whether the algorithm is TRA.
