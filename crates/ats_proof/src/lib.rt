@@ -2,6 +2,7 @@
 
 pub use fault::{ShapeFault, ShapeKind};
 
+mod advancing;
 mod coming;
 mod entering;
 mod fault;

@@ -1,0 +1,191 @@
+//! Where a reader stands after the field that comes next.
+
+ghost use Rattle.std.specs.Prelude.{◌≡◌};
+ghost use Rattle.ats_proof.specs.declared.state.Part.TheVariants as parts;
+ghost use Rattle.ats_proof.specs.Table.{follow, IsWithin};
+ghost use Rattle.ats_proof.specs.State.{in_front, in_dict, in_met, in_list, in_docs, in_terms, remaining};
+
+use crate::state::{DictPart, DocsPart, FrontPart, ListPart, MetPart, Part, State, TermsPart};
+
+impl State {
+    /// What stands after the field that comes next, which is this number where it is one.
+    pub(crate) fn advance(self, number: u32) -> State
+        requires { IsWithin (remaining self) number }
+        ensures { remaining result ≡ follow (remaining self) number }
+    {
+        match self.part {
+            Part::Front(part) => self.advance_in_front(part, number),
+            Part::Dict(part) => self.advance_in_dict(part, number),
+            Part::Met(part) => self.advance_in_met(part, number),
+            Part::List(part) => self.advance_in_list(part, number),
+            Part::Docs(part) => self.advance_in_docs(part, number),
+            Part::Terms(part) => self.advance_in_terms(part, number),
+        }
+    }
+
+    fn advance_in_front(mut self, part: FrontPart, number: u32) -> State
+        requires part { self.part ≡ parts.Front part }
+        ensures { remaining result ≡ follow (in_front part self) number }
+    {
+        match part {
+            FrontPart::Magic => {
+                self.part = Part::Front(FrontPart::Version);
+                self
+            }
+            FrontPart::Version => {
+                self.part = Part::Front(FrontPart::Algorithm);
+                self
+            }
+            FrontPart::Algorithm => {
+                self.tra = number == 1;
+                self.part = Part::Front(FrontPart::HeaderVersion);
+                self
+            }
+            FrontPart::HeaderVersion => {
+                self.part = Part::Front(FrontPart::Documents);
+                self
+            }
+            FrontPart::Documents => {
+                self.part = Part::Front(FrontPart::DictLeaves);
+                self
+            }
+            FrontPart::DictLeaves => {
+                self.part = Part::Front(FrontPart::DictRoot);
+                self
+            }
+            FrontPart::DictRoot => {
+                self.part = Part::Front(FrontPart::DocsRoot);
+                self
+            }
+            FrontPart::DocsRoot => {
+                self.part = Part::Front(FrontPart::TextsRoot);
+                self
+            }
+            FrontPart::TextsRoot => {
+                self.part = Part::Front(FrontPart::Terms);
+                self
+            }
+            FrontPart::Terms => {
+                self.slots = number;
+                self.present = 0;
+                self.part = Part::Dict(DictPart::LeafCount);
+                self
+            }
+        }
+    }
+
+    fn advance_in_dict(mut self, part: DictPart, number: u32) -> State
+        requires part { self.part ≡ parts.Dict part }
+        ensures { remaining result ≡ follow (in_dict part self) number }
+    {
+        match part {
+            DictPart::LeafCount => { self.at_dict_leaves(number, 0) }
+            DictPart::Position => {
+                self.low = u64::from(number) + 1;
+                self.part = Part::Dict(DictPart::Length);
+                self
+            }
+            DictPart::Length => {
+                self.size = number;
+                self.part = Part::Dict(DictPart::Term);
+                self
+            }
+            DictPart::Term => {
+                self.part = Part::Dict(DictPart::Frequency);
+                self
+            }
+            DictPart::Frequency => {
+                self.part = Part::Dict(DictPart::ListRoot);
+                self
+            }
+            DictPart::ListRoot => { self.at_dict_leaves(self.left, self.low) }
+            DictPart::DigestCount => { self.at_dict_digests(number) }
+            DictPart::Digest => { self.at_dict_digests(self.left) }
+        }
+    }
+
+    fn advance_in_met(mut self, part: MetPart, number: u32) -> State
+        requires part { self.part ≡ parts.Met part }
+        requires range { IsWithin (in_met part self) number }
+        ensures { remaining result ≡ follow (in_met part self) number }
+    {
+        match part {
+            MetPart::SlotKind => {
+                self.present += number;
+                self.part = Part::Met(MetPart::SlotIndex);
+                self
+            }
+            MetPart::SlotIndex => { self.at_slots(self.slots, number.into()) }
+            MetPart::MetCount => {
+                self.met = number;
+                self.at_met_ids(number, 0)
+            }
+            MetPart::MetId => { self.at_met_ids(self.left, u64::from(number) + 1) }
+        }
+    }
+
+    fn advance_in_list(mut self, part: ListPart, number: u32) -> State
+        requires part { self.part ≡ parts.List part }
+        ensures { remaining result ≡ follow (in_list part self) number }
+    {
+        match part {
+            ListPart::EntryCount => { self.at_entries(number) }
+            ListPart::MetIndex => {
+                self.part = Part::List(ListPart::Impact);
+                self
+            }
+            ListPart::Impact => { self.at_entries(self.left) }
+            ListPart::DigestCount => { self.at_list_digests(number) }
+            ListPart::Digest => { self.at_list_digests(self.left) }
+        }
+    }
+
+    fn advance_in_docs(mut self, part: DocsPart, number: u32) -> State
+        requires part { self.part ≡ parts.Docs part }
+        ensures { remaining result ≡ follow (in_docs part self) number }
+    {
+        match part {
+            DocsPart::LeafTerms => {
+                self.part = Part::Docs(DocsPart::TermsRoot);
+                self
+            }
+            DocsPart::TermsRoot => { self.at_doc_leaves(self.left) }
+            DocsPart::DigestCount => { self.at_docs_digests(number) }
+            DocsPart::Digest => { self.at_docs_digests(self.left) }
+            DocsPart::RowCount => { self.at_rows(number) }
+            DocsPart::Row => { self.at_rows(self.left) }
+            DocsPart::End => { self }
+        }
+    }
+
+    fn advance_in_terms(mut self, part: TermsPart, number: u32) -> State
+        requires part { self.part ≡ parts.Terms part }
+        ensures { remaining result ≡ follow (in_terms part self) number }
+    {
+        match part {
+            TermsPart::LeafCount => { self.at_term_leaves(number, 0) }
+            TermsPart::Position => {
+                self.low = u64::from(number) + 1;
+                self.part = Part::Terms(TermsPart::Length);
+                return self;
+            }
+            TermsPart::Length => {
+                self.size = number;
+                self.part = Part::Terms(TermsPart::Term);
+                return self;
+            }
+            TermsPart::Term => {
+                self.part = Part::Terms(TermsPart::Impact);
+                return self;
+            }
+            TermsPart::Impact => { self.at_term_leaves(self.left, self.low) }
+            TermsPart::DigestCount => { self.at_term_digests(number) }
+            TermsPart::Digest => { self.at_term_digests(self.left) }
+            TermsPart::SlotKind => {
+                self.part = Part::Terms(TermsPart::SlotIndex);
+                return self;
+            }
+            TermsPart::SlotIndex => { self.at_doc_slots(self.left, number.into()) }
+        }
+    }
+}
