@@ -3,3 +3,4 @@ pub mod Grammar
 pub mod Front
 pub mod Pending
 pub mod State
+pub mod Reading

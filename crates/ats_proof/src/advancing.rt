@@ -1,8 +1,9 @@
 //! Where a reader stands after the field that comes next.
 
-ghost use Rattle.std.specs.Prelude.{◌≡◌};
+ghost use Rattle.std.specs.Prelude.{◌≡◌, ◌+◌, ◌*◌, ◌<◌};
 ghost use Rattle.ats_proof.specs.declared.state.Part.TheVariants as parts;
-ghost use Rattle.ats_proof.specs.Table.{follow, IsWithin};
+ghost use Rattle.ats_proof.specs.Pending.{may_be_empty};
+ghost use Rattle.ats_proof.specs.Table.{head, follow, size_of, IsWithin};
 ghost use Rattle.ats_proof.specs.State.{in_front, in_dict, in_met, in_list, in_docs, in_terms, remaining};
 
 use crate::state::{DictPart, DocsPart, FrontPart, ListPart, MetPart, Part, State, TermsPart};
@@ -11,7 +12,8 @@ impl State {
     /// What stands after the field that comes next, which is this number where it is one.
     pub(crate) fn advance(self, number: u32) -> State
         requires { IsWithin (remaining self) number }
-        ensures { remaining result ≡ follow (remaining self) number }
+        ensures part { remaining result ≡ follow (remaining self) number }
+        ensures smaller { may_be_empty result.part < may_be_empty self.part + 2 * size_of (head (remaining self)) }
     {
         match self.part {
             Part::Front(part) => self.advance_in_front(part, number),
@@ -25,7 +27,8 @@ impl State {
 
     fn advance_in_front(mut self, part: FrontPart, number: u32) -> State
         requires part { self.part ≡ parts.Front part }
-        ensures { remaining result ≡ follow (in_front part self) number }
+        ensures part { remaining result ≡ follow (in_front part self) number }
+        ensures smaller { may_be_empty result.part < may_be_empty self.part + 2 * size_of (head (in_front part self)) }
     {
         match part {
             FrontPart::Magic => {
@@ -76,7 +79,8 @@ impl State {
 
     fn advance_in_dict(mut self, part: DictPart, number: u32) -> State
         requires part { self.part ≡ parts.Dict part }
-        ensures { remaining result ≡ follow (in_dict part self) number }
+        ensures part { remaining result ≡ follow (in_dict part self) number }
+        ensures smaller { may_be_empty result.part < may_be_empty self.part + 2 * size_of (head (in_dict part self)) }
     {
         match part {
             DictPart::LeafCount => { self.at_dict_leaves(number, 0) }
@@ -107,7 +111,8 @@ impl State {
     fn advance_in_met(mut self, part: MetPart, number: u32) -> State
         requires part { self.part ≡ parts.Met part }
         requires range { IsWithin (in_met part self) number }
-        ensures { remaining result ≡ follow (in_met part self) number }
+        ensures part { remaining result ≡ follow (in_met part self) number }
+        ensures smaller { may_be_empty result.part < may_be_empty self.part + 2 * size_of (head (in_met part self)) }
     {
         match part {
             MetPart::SlotKind => {
@@ -126,7 +131,8 @@ impl State {
 
     fn advance_in_list(mut self, part: ListPart, number: u32) -> State
         requires part { self.part ≡ parts.List part }
-        ensures { remaining result ≡ follow (in_list part self) number }
+        ensures part { remaining result ≡ follow (in_list part self) number }
+        ensures smaller { may_be_empty result.part < may_be_empty self.part + 2 * size_of (head (in_list part self)) }
     {
         match part {
             ListPart::EntryCount => { self.at_entries(number) }
@@ -142,7 +148,9 @@ impl State {
 
     fn advance_in_docs(mut self, part: DocsPart, number: u32) -> State
         requires part { self.part ≡ parts.Docs part }
-        ensures { remaining result ≡ follow (in_docs part self) number }
+        requires range { IsWithin (in_docs part self) number }
+        ensures part { remaining result ≡ follow (in_docs part self) number }
+        ensures smaller { may_be_empty result.part < may_be_empty self.part + 2 * size_of (head (in_docs part self)) }
     {
         match part {
             DocsPart::LeafTerms => {
@@ -160,7 +168,8 @@ impl State {
 
     fn advance_in_terms(mut self, part: TermsPart, number: u32) -> State
         requires part { self.part ≡ parts.Terms part }
-        ensures { remaining result ≡ follow (in_terms part self) number }
+        ensures part { remaining result ≡ follow (in_terms part self) number }
+        ensures smaller { may_be_empty result.part < may_be_empty self.part + 2 * size_of (head (in_terms part self)) }
     {
         match part {
             TermsPart::LeafCount => { self.at_term_leaves(number, 0) }

@@ -1,7 +1,7 @@
 //! What comes next where a reader stands.
 
 ghost use Rattle.std.specs.Prelude.{◌≡◌};
-ghost use Rattle.ats_proof.specs.Table.{head};
+ghost use Rattle.ats_proof.specs.Table.{head, IsSized};
 ghost use Rattle.ats_proof.specs.State.{in_front, in_dict, in_met, in_list, in_docs, in_terms, remaining};
 
 use crate::fault::ShapeKind;
@@ -15,7 +15,8 @@ const U16_MAX: u32 = 0xffff;
 impl State {
     /// The field that comes next.
     pub(crate) fn next(&self) -> Next
-        ensures { result ≡ head (remaining self.now) }
+        ensures next { result ≡ head (remaining self.now) }
+        ensures size { IsSized result }
     {
         match self.part {
             Part::Front(part) => self.next_in_front(part),
@@ -28,7 +29,8 @@ impl State {
     }
 
     fn next_in_front(&self, part: FrontPart) -> Next
-        ensures { result ≡ head (in_front part self.now) }
+        ensures next { result ≡ head (in_front part self.now) }
+        ensures size { IsSized result }
     {
         match part {
             FrontPart::Magic => Next::Number {
@@ -80,7 +82,8 @@ impl State {
     }
 
     fn next_in_dict(&self, part: DictPart) -> Next
-        ensures { result ≡ head (in_dict part self.now) }
+        ensures next { result ≡ head (in_dict part self.now) }
+        ensures size { IsSized result }
     {
         match part {
             DictPart::LeafCount => Next::Number {
@@ -119,7 +122,8 @@ impl State {
     }
 
     fn next_in_met(&self, part: MetPart) -> Next
-        ensures { result ≡ head (in_met part self.now) }
+        ensures next { result ≡ head (in_met part self.now) }
+        ensures size { IsSized result }
     {
         match part {
             MetPart::SlotKind => Next::Number {
@@ -150,7 +154,8 @@ impl State {
     }
 
     fn next_in_list(&self, part: ListPart) -> Next
-        ensures { result ≡ head (in_list part self.now) }
+        ensures next { result ≡ head (in_list part self.now) }
+        ensures size { IsSized result }
     {
         match part {
             ListPart::EntryCount => Next::Number {
@@ -176,7 +181,8 @@ impl State {
     }
 
     fn next_in_docs(&self, part: DocsPart) -> Next
-        ensures { result ≡ head (in_docs part self.now) }
+        ensures next { result ≡ head (in_docs part self.now) }
+        ensures size { IsSized result }
     {
         match part {
             DocsPart::LeafTerms | DocsPart::Row => Next::Number {
@@ -203,7 +209,8 @@ impl State {
     }
 
     fn next_in_terms(&self, part: TermsPart) -> Next
-        ensures { result ≡ head (in_terms part self.now) }
+        ensures next { result ≡ head (in_terms part self.now) }
+        ensures size { IsSized result }
     {
         match part {
             TermsPart::LeafCount => Next::Number {

@@ -2,13 +2,15 @@
 
 ghost use Rattle.std.specs.Prelude.{◌≡◌, ◌+◌, ◌<◌, ◌^◌};
 ghost use Rattle.ats_proof.specs.Grammar.{dict_leaves, dict_digests, digests, slots, met_ids, prefixes, entries, list_digests, documents, doc_leaves, doc_digests, term_sections, term_leaves, term_digests, doc_slots, rows};
+ghost use Rattle.ats_proof.specs.Pending.{may_be_empty};
 ghost use Rattle.ats_proof.specs.State.{lists_left, sections_left, docs_left, remaining};
 
 use crate::state::{DictPart, DocsPart, ListPart, MetPart, Part, State, TermsPart};
 
 impl State {
     pub(crate) fn at_rows(mut self, n: u32) -> State
-        ensures { remaining result ≡ rows n }
+        ensures part { remaining result ≡ rows n }
+        ensures weight { may_be_empty result.part ≡ 0 }
     {
         if n == 0 {
             self.part = Part::Docs(DocsPart::End);
@@ -20,7 +22,8 @@ impl State {
     }
 
     pub(crate) fn at_term_sections(mut self, n: u32) -> State
-        ensures { remaining result ≡ term_sections n self.present }
+        ensures part { remaining result ≡ term_sections n self.present }
+        ensures weight { may_be_empty result.part ≡ 0 }
     {
         if n == 0 {
             self.part = Part::Docs(DocsPart::RowCount);
@@ -32,7 +35,8 @@ impl State {
     }
 
     pub(crate) fn at_doc_slots(mut self, n: u32, low: u64) -> State
-        ensures { remaining result ≡ doc_slots n low (sections_left self) }
+        ensures part { remaining result ≡ doc_slots n low (sections_left self) }
+        ensures weight { may_be_empty result.part ≡ 0 }
     {
         if n == 0 {
             return self.at_term_sections(self.sections);
@@ -44,7 +48,8 @@ impl State {
     }
 
     pub(crate) fn at_term_digests(mut self, n: u32) -> State
-        ensures { remaining result ≡ digests n (doc_slots self.present 0 (sections_left self)) }
+        ensures part { remaining result ≡ digests n (doc_slots self.present 0 (sections_left self)) }
+        ensures weight { may_be_empty result.part ≡ 0 }
     {
         if n == 0 {
             return self.at_doc_slots(self.present, 0);
@@ -55,7 +60,8 @@ impl State {
     }
 
     pub(crate) fn at_term_leaves(mut self, n: u32, low: u64) -> State
-        ensures { remaining result ≡ term_leaves n low (term_digests self.present (sections_left self)) }
+        ensures part { remaining result ≡ term_leaves n low (term_digests self.present (sections_left self)) }
+        ensures weight { may_be_empty result.part ≡ 0 }
     {
         if n == 0 {
             self.part = Part::Terms(TermsPart::DigestCount);
@@ -68,7 +74,8 @@ impl State {
     }
 
     pub(crate) fn at_docs_digests(mut self, n: u32) -> State
-        ensures { remaining result ≡ digests n (term_sections self.met self.present) }
+        ensures part { remaining result ≡ digests n (term_sections self.met self.present) }
+        ensures weight { may_be_empty result.part ≡ 0 }
     {
         if n == 0 {
             return self.at_term_sections(self.met);
@@ -79,7 +86,8 @@ impl State {
     }
 
     pub(crate) fn at_doc_leaves(mut self, n: u32) -> State
-        ensures { remaining result ≡ doc_leaves n (docs_left self) }
+        ensures part { remaining result ≡ doc_leaves n (docs_left self) }
+        ensures weight { may_be_empty result.part ≡ 0 }
     {
         if n == 0 {
             self.part = Part::Docs(DocsPart::DigestCount);
@@ -91,7 +99,8 @@ impl State {
     }
 
     pub(crate) fn at_documents(mut self) -> State
-        ensures { remaining result ≡ documents self.tra self.met self.present }
+        ensures part { remaining result ≡ documents self.tra self.met self.present }
+        ensures weight { may_be_empty result.part ≡ 0 }
     {
         if self.tra {
             return self.at_doc_leaves(self.met);
@@ -101,7 +110,8 @@ impl State {
     }
 
     pub(crate) fn at_prefixes(mut self, n: u32) -> State
-        ensures { remaining result ≡ prefixes n (documents self.tra self.met self.present) }
+        ensures part { remaining result ≡ prefixes n (documents self.tra self.met self.present) }
+        ensures weight { may_be_empty result.part ≡ 0 }
     {
         if n == 0 {
             return self.at_documents();
@@ -112,7 +122,8 @@ impl State {
     }
 
     pub(crate) fn at_list_digests(mut self, n: u32) -> State
-        ensures { remaining result ≡ digests n (lists_left self) }
+        ensures part { remaining result ≡ digests n (lists_left self) }
+        ensures weight { may_be_empty result.part ≡ 0 }
     {
         if n == 0 {
             return self.at_prefixes(self.sections);
@@ -123,7 +134,8 @@ impl State {
     }
 
     pub(crate) fn at_entries(mut self, n: u32) -> State
-        ensures { remaining result ≡ entries n (list_digests (lists_left self)) }
+        ensures part { remaining result ≡ entries n (list_digests (lists_left self)) }
+        ensures weight { may_be_empty result.part ≡ 0 }
     {
         if n == 0 {
             self.part = Part::List(ListPart::DigestCount);
@@ -135,7 +147,8 @@ impl State {
     }
 
     pub(crate) fn at_met_ids(mut self, n: u32, low: u64) -> State
-        ensures { remaining result ≡ met_ids n low (prefixes self.present (documents self.tra self.met self.present)) }
+        ensures part { remaining result ≡ met_ids n low (prefixes self.present (documents self.tra self.met self.present)) }
+        ensures weight { may_be_empty result.part ≡ 0 }
     {
         if n == 0 {
             return self.at_prefixes(self.present);
@@ -148,7 +161,8 @@ impl State {
 
     pub(crate) fn at_slots(mut self, n: u32, low: u64) -> State
         requires { self.present + n < 2 ^ 32 }
-        ensures { remaining result ≡ slots self.tra n low self.present }
+        ensures part { remaining result ≡ slots self.tra n low self.present }
+        ensures weight { may_be_empty result.part ≡ 0 }
     {
         if n == 0 {
             self.part = Part::Met(MetPart::MetCount);
@@ -162,7 +176,8 @@ impl State {
     }
 
     pub(crate) fn at_dict_digests(mut self, n: u32) -> State
-        ensures { remaining result ≡ digests n (slots self.tra self.slots 0 0) }
+        ensures part { remaining result ≡ digests n (slots self.tra self.slots 0 0) }
+        ensures weight { may_be_empty result.part ≡ 0 }
     {
         if n == 0 {
             self.present = 0;
@@ -174,7 +189,8 @@ impl State {
     }
 
     pub(crate) fn at_dict_leaves(mut self, n: u32, low: u64) -> State
-        ensures { remaining result ≡ dict_leaves n low (dict_digests self.tra self.slots) }
+        ensures part { remaining result ≡ dict_leaves n low (dict_digests self.tra self.slots) }
+        ensures weight { may_be_empty result.part ≡ 0 }
     {
         if n == 0 {
             self.part = Part::Dict(DictPart::DigestCount);

@@ -7,4 +7,5 @@ mod coming;
 mod entering;
 mod fault;
 mod next;
+mod reading;
 mod state;
