@@ -1,5 +1,6 @@
 -- Two fronts of the same bytes agree as far as both go.
-use Rattle.std.proofs.Common.{◌≡◌, ◌∙◌, ℕ, ◌+◌, ◌<◌, ◌≤◌, ◌^◌, List, [], ◌∷◌, ◌++◌, length, take, drop, refl, sym, ap, ap₂, subst, append_assoc, length-append, arith, inl, inr}
+use Rattle.std.proofs.Common.{◌≡◌, ◌∙◌, ℕ, ◌+◌, ◌<◌, ◌≤◌, ◌^◌, List, [], ◌∷◌, ◌++◌, length, take, drop, refl, sym, ap, ap₂, subst, append_assoc, length-append, arith, inl, inr, Result, Ok, Err}
+use Rattle.std.specs.Prelude.{IfErr, OnOk}
 use Rattle.std.specs.List.{concat}
 use Rattle.std.proofs.lemmas.List.{take_at, drop_at, append-nil}
 use Rattle.std.proofs.lemmas.List.Folds.{concat-append}
@@ -141,3 +142,15 @@ refused bytes t left fault few reached is at = inr (record {
   at = omega (arith, at, ap length reached.front.parts, length-append (concat reached.fields) left);
   kind = is.same;
 })
+
+pub reached_few : (bytes : List ℕ) (t : Table) (left : List ℕ) → IsReached bytes t left → length left ≤ length bytes
+reached_few bytes t left reached = omega (arith, ap length reached.front.parts, length-append (concat reached.fields) left)
+
+-- an answer that is right is the only right one
+pub reads : (bytes : List ℕ) (answer : Result (Unit {0}) ShapeFault) → IfErr answer (λ f. IsBad bytes f) → (fields : List (List ℕ)) → Spells bytes fields → answer ≡ Ok tt
+reads bytes (Ok x) bad fields spells = refl
+reads bytes (Err e) bad fields spells = absurd (no_fault bytes e fields bad spells)
+
+pub refuses : (bytes : List ℕ) (answer : Result (Unit {0}) ShapeFault) → OnOk answer (IsSpelling bytes) → IfErr answer (λ f. IsBad bytes f) → (fault : ShapeFault) → IsBad bytes fault → answer ≡ Err fault
+refuses bytes (Ok x) good bad fault is = absurd (no_fault bytes fault good.fields is good.spells)
+refuses bytes (Err e) good bad fault is = ap Err (one_fault bytes e fault bad is)

@@ -2,6 +2,7 @@
 
 ghost use Rattle.std.specs.Prelude.{◌≡◌};
 ghost use Rattle.ats_proof.specs.Table.{head, IsSized};
+ghost use Rattle.ats_proof.specs.Grammar.{proof};
 ghost use Rattle.ats_proof.specs.State.{in_front, in_dict, in_met, in_list, in_docs, in_terms, remaining};
 
 use crate::fault::ShapeKind;
@@ -13,6 +14,23 @@ const MAGIC: u32 = 0x4154_5350;
 const U16_MAX: u32 = 0xffff;
 
 impl State {
+    /// Before the first field.
+    pub(crate) fn start() -> State
+        ensures { remaining result ≡ proof }
+    {
+        State {
+            part: Part::Front(FrontPart::Magic),
+            tra: false,
+            left: 0,
+            low: 0,
+            size: 0,
+            slots: 0,
+            present: 0,
+            met: 0,
+            sections: 0,
+        }
+    }
+
     /// The field that comes next.
     pub(crate) fn next(&self) -> Next
         ensures next { result ≡ head (remaining self.now) }

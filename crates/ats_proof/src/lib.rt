@@ -1,6 +1,7 @@
 #![tactic(auto)]
 
 pub use fault::{ShapeFault, ShapeKind};
+pub use scanning::scan;
 
 mod advancing;
 mod coming;
@@ -8,4 +9,5 @@ mod entering;
 mod fault;
 mod next;
 mod reading;
+mod scanning;
 mod state;

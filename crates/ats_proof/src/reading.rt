@@ -1,8 +1,8 @@
 //! Reading a proof field by field.
 
-ghost use Rattle.std.specs.Prelude.{◌≡◌, ◌⊎◌, length, IfOk, IfErr};
+ghost use Rattle.std.specs.Prelude.{◌≡◌, ◌⊎◌, [], length, IfOk, IfErr, IfSome, IfNone};
 ghost use Rattle.ats_proof.specs.Table.{IsSized, number};
-ghost use Rattle.ats_proof.specs.Front.{IsOpen};
+ghost use Rattle.ats_proof.specs.declared.next.Next.TheVariants.{End};
 ghost use Rattle.ats_proof.specs.Reading.{IsTaken, IsRefused};
 
 use crate::fault::ShapeKind;
@@ -22,14 +22,15 @@ fn number_of(bytes: &[u8]) -> u32
 }
 
 /// Takes the field that comes next from the front of the bytes. Answers its number, or 0 where it is none,
-/// and the bytes after it.
-pub(crate) fn take(next: Next, bytes: &[u8]) -> Result<(u32, &[u8]), ShapeKind>
-    requires size { IsSized next }
-    requires more { IsOpen next bytes.now }
-    ensures taken { IfOk result (λ x. IsTaken next bytes.now x.0 x.1.now) }
+/// and the bytes after it; or nothing, where no field comes and no bytes are left.
+pub(crate) fn take(next: Next, bytes: &[u8]) -> Result<Option<(u32, &[u8])>, ShapeKind>
+    requires { IsSized next }
+    ensures taken { IfOk result (λ step. IfSome step (λ x. IsTaken next bytes.now x.0 x.1.now)) }
+    ensures done { IfOk result (λ step. IfNone step ((next ≡ End) × (bytes.now ≡ []))) }
     ensures refused { IfErr result (λ kind. IsRefused next bytes.now kind) }
 {
     match next {
+        Next::End if bytes.is_empty() => Ok(None),
         Next::End => Err(ShapeKind::Trailing),
         Next::Number {
             size,
@@ -45,14 +46,14 @@ pub(crate) fn take(next: Next, bytes: &[u8]) -> Result<(u32, &[u8]), ShapeKind>
             if u64::from(number) < low || number > high {
                 return Err(kind);
             }
-            Ok((number, after))
+            Ok(Some((number, after)))
         }
         Next::Bytes { size } => {
             if bytes.len() < size as usize {
                 return Err(ShapeKind::Cut);
             }
             let (_, after) = bytes.split_at(size as usize);
-            Ok((0, after))
+            Ok(Some((0, after)))
         }
     }
 }
