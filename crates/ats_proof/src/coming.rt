@@ -11,8 +11,6 @@ use crate::state::{DictPart, DocsPart, FrontPart, ListPart, MetPart, Part, State
 
 const MAGIC: u32 = 0x4154_5350;
 
-const U16_MAX: u32 = 0xffff;
-
 impl State {
     /// Before the first field.
     pub(crate) fn start() -> State
@@ -51,51 +49,14 @@ impl State {
         ensures size { IsSized result }
     {
         match part {
-            FrontPart::Magic => Next::Number {
-                size: 4,
-                low: MAGIC.into(),
-                high: MAGIC,
-                kind: ShapeKind::Magic,
-            },
-            FrontPart::Version => Next::Number {
-                size: 1,
-                low: 1,
-                high: 1,
-                kind: ShapeKind::Version,
-            },
-            FrontPart::Algorithm => Next::Number {
-                size: 1,
-                low: 1,
-                high: 2,
-                kind: ShapeKind::Algorithm,
-            },
-            FrontPart::HeaderVersion => Next::Number {
-                size: 1,
-                low: 1,
-                high: 1,
-                kind: ShapeKind::Version,
-            },
-            FrontPart::Documents => Next::Number {
-                size: 4,
-                low: 1,
-                high: 65536,
-                kind: ShapeKind::Count,
-            },
-            FrontPart::DictLeaves => Next::Number {
-                size: 4,
-                low: 2,
-                high: 16777218,
-                kind: ShapeKind::Count,
-            },
-            FrontPart::DictRoot | FrontPart::DocsRoot | FrontPart::TextsRoot => Next::Bytes {
-                size: 32,
-            },
-            FrontPart::Terms => Next::Number {
-                size: 2,
-                low: 1,
-                high: 32,
-                kind: ShapeKind::Count,
-            },
+            FrontPart::Magic => Next::number(4, MAGIC.into(), MAGIC, ShapeKind::Magic),
+            FrontPart::Version => Next::number(1, 1, 1, ShapeKind::Version),
+            FrontPart::Algorithm => Next::number(1, 1, 2, ShapeKind::Algorithm),
+            FrontPart::HeaderVersion => Next::number(1, 1, 1, ShapeKind::Version),
+            FrontPart::Documents => Next::count(4, 1, 65_536),
+            FrontPart::DictLeaves => Next::count(4, 2, 16777218),
+            FrontPart::DictRoot | FrontPart::DocsRoot | FrontPart::TextsRoot => Next::bytes(32),
+            FrontPart::Terms => Next::count(2, 1, 32),
         }
     }
 
@@ -104,38 +65,13 @@ impl State {
         ensures size { IsSized result }
     {
         match part {
-            DictPart::LeafCount => Next::Number {
-                size: 2,
-                low: 1,
-                high: 64,
-                kind: ShapeKind::Count,
-            },
-            DictPart::Position => Next::Number {
-                size: 4,
-                low: self.low,
-                high: u32::MAX,
-                kind: ShapeKind::Order,
-            },
-            DictPart::Length => Next::Number {
-                size: 1,
-                low: 0,
-                high: 64,
-                kind: ShapeKind::Count,
-            },
-            DictPart::Term => Next::Bytes { size: self.size },
-            DictPart::Frequency => Next::Number {
-                size: 4,
-                low: 0,
-                high: u32::MAX,
-                kind: ShapeKind::Count,
-            },
-            DictPart::DigestCount => Next::Number {
-                size: 2,
-                low: 0,
-                high: U16_MAX,
-                kind: ShapeKind::Count,
-            },
-            DictPart::ListRoot | DictPart::Digest => Next::Bytes { size: 32 },
+            DictPart::LeafCount => Next::count(2, 1, 64),
+            DictPart::Position => Next::rising(self.low),
+            DictPart::Length => Next::count(1, 0, 64),
+            DictPart::Term => Next::bytes(self.size),
+            DictPart::Frequency => Next::any_4(),
+            DictPart::DigestCount => Next::any_2(),
+            DictPart::ListRoot | DictPart::Digest => Next::bytes(32),
         }
     }
 
@@ -144,30 +80,10 @@ impl State {
         ensures size { IsSized result }
     {
         match part {
-            MetPart::SlotKind => Next::Number {
-                size: 1,
-                low: 0,
-                high: 1,
-                kind: ShapeKind::Count,
-            },
-            MetPart::SlotIndex => Next::Number {
-                size: 2,
-                low: self.low,
-                high: U16_MAX,
-                kind: ShapeKind::Order,
-            },
-            MetPart::MetCount => Next::Number {
-                size: 4,
-                low: 0,
-                high: 65536,
-                kind: ShapeKind::Count,
-            },
-            MetPart::MetId => Next::Number {
-                size: 4,
-                low: self.low,
-                high: u32::MAX,
-                kind: ShapeKind::Order,
-            },
+            MetPart::SlotKind => Next::count(1, 0, 1),
+            MetPart::SlotIndex => Next::index(self.low),
+            MetPart::MetCount => Next::count(4, 0, 65_536),
+            MetPart::MetId => Next::rising(self.low),
         }
     }
 
@@ -176,25 +92,10 @@ impl State {
         ensures size { IsSized result }
     {
         match part {
-            ListPart::EntryCount => Next::Number {
-                size: 4,
-                low: 1,
-                high: 65536,
-                kind: ShapeKind::Count,
-            },
-            ListPart::MetIndex => Next::Number {
-                size: 4,
-                low: 0,
-                high: u32::MAX,
-                kind: ShapeKind::Count,
-            },
-            ListPart::Impact | ListPart::DigestCount => Next::Number {
-                size: 2,
-                low: 0,
-                high: U16_MAX,
-                kind: ShapeKind::Count,
-            },
-            ListPart::Digest => Next::Bytes { size: 32 },
+            ListPart::EntryCount => Next::count(4, 1, 65_536),
+            ListPart::MetIndex => Next::any_4(),
+            ListPart::Impact | ListPart::DigestCount => Next::any_2(),
+            ListPart::Digest => Next::bytes(32),
         }
     }
 
@@ -203,25 +104,10 @@ impl State {
         ensures size { IsSized result }
     {
         match part {
-            DocsPart::LeafTerms | DocsPart::Row => Next::Number {
-                size: 4,
-                low: 0,
-                high: u32::MAX,
-                kind: ShapeKind::Count,
-            },
-            DocsPart::DigestCount => Next::Number {
-                size: 4,
-                low: 0,
-                high: 65536,
-                kind: ShapeKind::Count,
-            },
-            DocsPart::TermsRoot | DocsPart::Digest => Next::Bytes { size: 32 },
-            DocsPart::RowCount => Next::Number {
-                size: 2,
-                low: 0,
-                high: 1000,
-                kind: ShapeKind::Count,
-            },
+            DocsPart::LeafTerms | DocsPart::Row => Next::any_4(),
+            DocsPart::DigestCount => Next::count(4, 0, 65_536),
+            DocsPart::TermsRoot | DocsPart::Digest => Next::bytes(32),
+            DocsPart::RowCount => Next::count(2, 0, 1000),
             DocsPart::End => Next::End,
         }
     }
@@ -231,44 +117,14 @@ impl State {
         ensures size { IsSized result }
     {
         match part {
-            TermsPart::LeafCount => Next::Number {
-                size: 2,
-                low: 1,
-                high: 64,
-                kind: ShapeKind::Count,
-            },
-            TermsPart::Position => Next::Number {
-                size: 4,
-                low: self.low,
-                high: u32::MAX,
-                kind: ShapeKind::Order,
-            },
-            TermsPart::Length => Next::Number {
-                size: 1,
-                low: 0,
-                high: 64,
-                kind: ShapeKind::Count,
-            },
-            TermsPart::Term => Next::Bytes { size: self.size },
-            TermsPart::Impact | TermsPart::DigestCount => Next::Number {
-                size: 2,
-                low: 0,
-                high: U16_MAX,
-                kind: ShapeKind::Count,
-            },
-            TermsPart::Digest => Next::Bytes { size: 32 },
-            TermsPart::SlotKind => Next::Number {
-                size: 1,
-                low: 0,
-                high: 1,
-                kind: ShapeKind::Count,
-            },
-            TermsPart::SlotIndex => Next::Number {
-                size: 2,
-                low: self.low,
-                high: U16_MAX,
-                kind: ShapeKind::Order,
-            },
+            TermsPart::LeafCount => Next::count(2, 1, 64),
+            TermsPart::Position => Next::rising(self.low),
+            TermsPart::Length => Next::count(1, 0, 64),
+            TermsPart::Term => Next::bytes(self.size),
+            TermsPart::Impact | TermsPart::DigestCount => Next::any_2(),
+            TermsPart::Digest => Next::bytes(32),
+            TermsPart::SlotKind => Next::count(1, 0, 1),
+            TermsPart::SlotIndex => Next::index(self.low),
         }
     }
 }
