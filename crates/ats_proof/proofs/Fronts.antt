@@ -1,16 +1,17 @@
 -- Two fronts of the same bytes agree as far as both go.
-use Rattle.std.proofs.Common.{◌≡◌, ◌∙◌, ℕ, ◌+◌, ◌<◌, ◌≤◌, ◌^◌, List, [], ◌∷◌, ◌++◌, length, take, drop, refl, sym, ap, ap₂, subst, append_assoc, length-append, arith, inl, inr, Result, Ok, Err}
+use Rattle.std.proofs.Common.{◌≡◌, ◌∙◌, ℕ, ◌+◌, ◌≤◌, ◌^◌, List, [], ◌∷◌, ◌++◌, length, take, drop, refl, sym, ap, ap₂, subst, append_assoc, length-append, arith, inl, inr, Result, Ok, Err}
 use Rattle.std.specs.Prelude.{IfErr, OnOk}
 use Rattle.std.specs.List.{concat}
 use Rattle.std.proofs.lemmas.List.{take_at, drop_at, append-nil}
 use Rattle.std.proofs.lemmas.List.Folds.{concat-append}
 use Rattle.ats_proof.specs.declared.fault.ShapeFault.{ShapeFault}
 use Rattle.ats_proof.specs.declared.fault.ShapeKind.{ShapeKind}
+use Rattle.ats_proof.specs.declared.fault.ShapeKind.TheVariants.{Trailing}
 use Rattle.ats_proof.specs.declared.next.Next.{Next}
 use Rattle.ats_proof.specs.declared.next.Next.TheVariants as next
 use Rattle.ats_proof.specs.Table.{Table, End, Number, Bytes, number, head, follow, size_of, IsWithin}
 use Rattle.ats_proof.specs.Grammar.{proof}
-use Rattle.ats_proof.specs.Front.{IsField, Come, IsFront, Spells, IsSpelling, IsLongest, IsLong, IsFirst, IsBad, IsOpen, kind_of}
+use Rattle.ats_proof.specs.Front.{IsField, Come, IsFront, Spells, IsSpelling, IsLongest, IsBad, IsOpen, kind_of}
 use Rattle.ats_proof.specs.Reading.{IsNumberOf, IsTaken, IsStuck, IsRefused, IsReached}
 
 -- ---- fields of one size
@@ -154,3 +155,24 @@ reads bytes (Err e) bad fields spells = absurd (no_fault bytes e fields bad spel
 pub refuses : (bytes : List ℕ) (answer : Result (Unit {0}) ShapeFault) → OnOk answer (IsSpelling bytes) → IfErr answer (λ f. IsBad bytes f) → (fault : ShapeFault) → IsBad bytes fault → answer ≡ Err fault
 refuses bytes (Ok x) good bad fault is = absurd (no_fault bytes fault good.fields is good.spells)
 refuses bytes (Err e) good bad fault is = ap Err (one_fault bytes e fault bad is)
+
+pub one_spelling : (bytes : List ℕ) (fields others : List (List ℕ)) → Spells bytes fields → Spells bytes others → fields ≡ others
+one_spelling bytes fields others spells other =
+    (both_longest bytes fields others End End [] [] spells.whole other.whole (whole_is_longest bytes fields spells.whole) (whole_is_longest bytes others other.whole)).fields_same
+
+pub trailing : (bytes more : List ℕ) (fields : List (List ℕ)) → Spells bytes fields → 1 ≤ length more → length bytes + length more ≤ 2 ^ 26
+    → IsBad (bytes ++ more) (record { at = length bytes; kind = Trailing })
+trailing bytes more fields spells some few =
+    let join : bytes ≡ concat fields = spells.whole.parts ∙ append-nil (concat fields) in
+    let front : IsFront (bytes ++ more) fields End more = record { come = spells.whole.come; parts = ap (λ (xs : List ℕ). xs ++ more) join } in
+    inr (record {
+      few = omega (arith, few, length-append bytes more);
+      fields = fields;
+      table = End;
+      left = more;
+      front = front;
+      longest = longest (bytes ++ more) fields End more front (λ field after e is. is);
+      more = some;
+      at = ap length join;
+      kind = refl;
+    })

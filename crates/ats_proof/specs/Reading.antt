@@ -3,7 +3,7 @@ use Rattle.std.specs.Prelude.{◌≡◌, ℕ, List, ◌++◌, length}
 use Rattle.ats_proof.specs.declared.fault.ShapeKind.{ShapeKind}
 use Rattle.ats_proof.specs.declared.next.Next.{Next}
 use Rattle.ats_proof.specs.declared.next.Next.TheVariants as next
-use Rattle.ats_proof.specs.Table.{Table, number, head}
+use Rattle.ats_proof.specs.Table.{Table, number}
 use Rattle.ats_proof.specs.Front.{IsField, IsFront, IsOpen, kind_of}
 
 -- this is the number of the field, if it is one

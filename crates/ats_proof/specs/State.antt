@@ -1,5 +1,5 @@
 -- Where a reader of a proof stands determines what comes next.
-use Rattle.std.specs.Prelude.{ℕ, suc, ◌==◌}
+use Rattle.std.specs.Prelude.{suc, ◌==◌}
 use Rattle.ats_proof.specs.declared.fault.ShapeKind.TheVariants.{Version, Algorithm, Count}
 use Rattle.ats_proof.specs.declared.state.FrontPart.{FrontPart}
 use Rattle.ats_proof.specs.declared.state.FrontPart.TheVariants as front

@@ -10,12 +10,14 @@
 #![tactic(auto)]
 
 pub use fault::{ShapeFault, ShapeKind};
+pub use laws::{further_bytes_are_trailing, spellings_tell_their_fields};
 pub use scanning::scan;
 
 mod advancing;
 mod coming;
 mod entering;
 mod fault;
+mod laws;
 mod next;
 mod reading;
 mod scanning;

@@ -1,4 +1,4 @@
-use Rattle.std.proofs.Common.{◌≡◌, ◌+◌, ◌-◌, length, arith}
+use Rattle.std.proofs.Common.{arith}
 use Rattle.ats_proof.specs.State.{remaining}
 use Rattle.ats_proof.specs.Table.{head}
 use Rattle.ats_proof.specs.Reading.{IsTaken, IsRefused}
