@@ -51,16 +51,19 @@ within End left n after taken = taken.is
 within (Number size low high kind rest) left n after taken = subst (λ (k : ℕ). (low ≤ k) × (k ≤ high)) (sym taken.value) (taken.is.1, taken.is.2)
 within (Bytes size rest) left n after taken = tt
 
+pub front_more : (bytes : List ℕ) (fields : List (List ℕ)) (t : Table) (left : List ℕ) (n : ℕ) (field after : List ℕ) → IsFront bytes fields t left
+    → left ≡ field ++ after → IsField (head t) field → IsNumberOf (head t) field n → IsFront bytes (fields ++ field ∷ []) (follow t n) after
+front_more bytes fields t left n field after front parts is value = record {
+  come = subst (λ (u : Table). Come (fields ++ field ∷ []) proof u) (sym (follow_same t field n value)) (come_more fields proof t field front.come is);
+  parts = front.parts ∙ ap (λ (xs : List ℕ). concat fields ++ xs) parts ∙ sym (append_assoc (concat fields) field after)
+      ∙ ap (λ (xs : List ℕ). (concat fields ++ xs) ++ after) (sym (append-nil field))
+      ∙ ap (λ (xs : List ℕ). xs ++ after) (sym (concat-append fields (field ∷ [])));
+}
+
 pub reached_more : (bytes : List ℕ) (t : Table) (left : List ℕ) (n : ℕ) (after : List ℕ) → IsReached bytes t left → IsTaken (head t) left n after → IsReached bytes (follow t n) after
 reached_more bytes t left n after reached taken = record {
   fields = reached.fields ++ taken.field ∷ [];
-  front = record {
-    come = subst (λ (u : Table). Come (reached.fields ++ taken.field ∷ []) proof u) (sym (follow_same t taken.field n taken.value))
-        (come_more reached.fields proof t taken.field reached.front.come taken.is);
-    parts = reached.front.parts ∙ ap (λ (xs : List ℕ). concat reached.fields ++ xs) taken.parts ∙ sym (append_assoc (concat reached.fields) taken.field after)
-        ∙ ap (λ (xs : List ℕ). (concat reached.fields ++ xs) ++ after) (sym (append-nil taken.field))
-        ∙ ap (λ (xs : List ℕ). xs ++ after) (sym (concat-append reached.fields (taken.field ∷ [])));
-  };
+  front = front_more bytes reached.fields t left n taken.field after reached.front taken.parts taken.is taken.value;
 }
 
 pub shorter : (n : Next) (left : List ℕ) (k : ℕ) (after : List ℕ) → IsTaken n left k after → length left ≡ size_of n + length after

@@ -10,7 +10,7 @@
 #![tactic(auto)]
 
 pub use fault::{ShapeFault, ShapeKind};
-pub use laws::{further_bytes_are_trailing, spellings_tell_their_fields};
+pub use laws::{faults_stay, further_bytes_are_trailing, spellings_tell_their_fields};
 pub use scanning::scan;
 
 mod advancing;
