@@ -1,0 +1,215 @@
+use super::*;
+use std::alloc::{AllocError, Global};
+use std::process::Abort;
+use std::test::*;
+
+fn put_leaf(out: &mut Vec<u8>, position: u8, term: &[u8], f: u8) -> Result<(), AllocError> {
+    out.extend_from_slice(&[0, 0, 0, position, 3])?;
+    out.extend_from_slice(term)?;
+    out.extend_from_slice(&[0, 0, 0, f])?;
+    out.extend_from_slice(&[7; 32])
+}
+
+// The front, the header, the dictionary section, the slots and the met ids for "red hen" over
+// ["red fox", "red red hen", "blue hen"], with any digests.
+fn begun(alloc: Global, algorithm: u8) -> Result<Vec<u8>, AllocError> {
+    let mut out = Vec::new(alloc);
+    out.extend_from_slice(b"ATSP\x01")?;
+    out.extend_from_slice(&[algorithm, 1, 0, 0, 0, 3, 0, 0, 0, 6])?;
+    out.extend_from_slice(&[7; 96])?;
+    out.extend_from_slice(&[0, 2, 0, 2])?;
+    put_leaf(&mut out, 3, b"hen", 2)?;
+    put_leaf(&mut out, 4, b"red", 2)?;
+    out.extend_from_slice(&[0, 3])?;
+    out.extend_from_slice(&[7; 96])?;
+    out.extend_from_slice(&[1, 0, 0, 1, 0, 1])?;
+    out.extend_from_slice(&[0, 0, 0, 3, 0, 0, 0, 0, 0, 0, 0, 1, 0, 0, 0, 2])?;
+    Ok(out)
+}
+
+// Two entries each, and the row of document 1.
+fn tnra(alloc: Global) -> Result<Vec<u8>, AllocError> {
+    let mut out = begun(alloc, 2)?;
+    out.extend_from_slice(&[0, 0, 0, 2, 0, 0, 0, 2, 4, 39, 0, 0, 0, 1, 3, 128, 0, 0])?;
+    out.extend_from_slice(&[0, 0, 0, 2, 0, 0, 0, 1, 4, 249, 0, 0, 0, 0, 4, 39, 0, 0])?;
+    out.extend_from_slice(&[0, 1, 0, 0, 0, 1])?;
+    Ok(out)
+}
+
+fn put_terms(
+    out: &mut Vec<u8>,
+    leaves: &[u8],
+    digests: &[u8],
+    slots: &[u8],
+) -> Result<(), AllocError> {
+    out.extend_from_slice(&[0, 2])?;
+    out.extend_from_slice(leaves)?;
+    out.extend_from_slice(digests)?;
+    out.extend_from_slice(slots)
+}
+
+// One entry and one digest for hen, two entries for red, the documents and their terms.
+fn tra(alloc: Global) -> Result<Vec<u8>, AllocError> {
+    let mut out = begun(alloc, 1)?;
+    let mut two = [7; 66];
+    two[0] = 0;
+    two[1] = 2;
+    let mut one = [7; 34];
+    one[0] = 0;
+    one[1] = 1;
+    out.extend_from_slice(&[0, 0, 0, 1, 0, 0, 0, 2, 4, 39])?;
+    out.extend_from_slice(&one)?;
+    out.extend_from_slice(&[0, 0, 0, 2, 0, 0, 0, 1, 4, 249, 0, 0, 0, 0, 4, 39, 0, 0])?;
+    out.extend_from_slice(&[7; 108])?;
+    out.extend_from_slice(&[0, 0, 0, 0])?;
+    put_terms(
+        &mut out,
+        b"\x00\x00\x00\x01\x03fox\x03\x84\x00\x00\x00\x02\x03red\x04\x27",
+        &two,
+        &[0, 0, 0, 1, 0, 1],
+    )?;
+    put_terms(
+        &mut out,
+        b"\x00\x00\x00\x01\x03hen\x03\x80\x00\x00\x00\x02\x03red\x04\xf9",
+        &two,
+        &[1, 0, 0, 1, 0, 1],
+    )?;
+    put_terms(
+        &mut out,
+        b"\x00\x00\x00\x02\x03hen\x04\x27\x00\x00\x00\x03\x01\xff\x00\x00",
+        &one,
+        &[1, 0, 0, 0, 0, 0],
+    )?;
+    out.extend_from_slice(&[0, 1, 0, 0, 0, 1])?;
+    Ok(out)
+}
+
+fn fault(at: u64, kind: ShapeKind) -> Result<(), ShapeFault> {
+    Err(ShapeFault { at, kind })
+}
+
+#[test]
+fn worked_proofs(rt: HostRuntime) -> Result<(), Fail> {
+    let mut bytes = tnra(rt.alloc())?;
+    assert_eq!(rt; bytes.len(), 365);
+    assert_eq!(rt; scan(&bytes), Ok(()));
+    bytes.push(0)?;
+    assert_eq!(rt; scan(&bytes), fault(365, ShapeKind::Trailing));
+    let mut bytes = tra(rt.alloc())?;
+    assert_eq!(rt; bytes.len(), 751);
+    assert_eq!(rt; scan(&bytes), Ok(()));
+    bytes.push(0)?;
+    assert_eq!(rt; scan(&bytes), fault(751, ShapeKind::Trailing));
+    Ok(())
+}
+
+// Where the fields of the shorter proof begin, and its end.
+const TNRA_FIELDS: [usize; 48] = [
+    0, 4, 5, 6, 7, 11, 15, 47, 79, 111, 113, 115, 119, 120, 123, 127, 159, 163, 164, 167, 171, 203,
+    205, 237, 269, 301, 302, 304, 305, 307, 311, 315, 319, 323, 327, 331, 333, 337, 339, 341, 345,
+    349, 351, 355, 357, 359, 361, 365,
+];
+
+// Where the fields of the longer proof begin from its prefixes on, and its end.
+const TRA_FIELDS: [usize; 68] = [
+    323, 327, 331, 333, 335, 367, 371, 375, 377, 381, 383, 385, 389, 421, 425, 457, 461, 493, 497,
+    499, 503, 504, 507, 509, 513, 514, 517, 519, 521, 553, 585, 586, 588, 589, 591, 593, 597, 598,
+    601, 603, 607, 608, 611, 613, 615, 647, 679, 680, 682, 683, 685, 687, 691, 692, 695, 697, 701,
+    702, 703, 705, 707, 739, 740, 742, 743, 745, 747, 751,
+];
+
+// Each field without its last byte.
+fn cuts(rt: &impl Abort, bytes: &[u8], fields: &[usize]) -> Result<(), Fail> {
+    for (start, end) in fields.iter().zip(fields.iter().skip(1)) {
+        let cut = bytes
+            .get(..end.saturating_sub(1))
+            .ok_or("the proof is as long")?;
+        assert_eq!(rt; scan(cut), fault(*start as u64, ShapeKind::Cut));
+    }
+    Ok(())
+}
+
+#[test]
+fn each_field_is_cut(rt: HostRuntime) -> Result<(), Fail> {
+    cuts(&rt, &tnra(rt.alloc())?, &TNRA_FIELDS)?;
+    cuts(&rt, &tra(rt.alloc())?, &TRA_FIELDS)
+}
+
+// A place, what stands from there on, and the fault: in the fields that both have.
+const BEGUN: [(usize, &[u8], u64, ShapeKind); 21] = [
+    (0, b"ATSQ", 0, ShapeKind::Magic),
+    (4, &[0], 4, ShapeKind::Version),
+    (4, &[2], 4, ShapeKind::Version),
+    (5, &[0], 5, ShapeKind::Algorithm),
+    (5, &[3], 5, ShapeKind::Algorithm),
+    (6, &[0], 6, ShapeKind::Version),
+    (6, &[2], 6, ShapeKind::Version),
+    (7, &[0, 0, 0, 0], 7, ShapeKind::Count),
+    (7, &[0, 1, 0, 1], 7, ShapeKind::Count),
+    (11, &[0, 0, 0, 1], 11, ShapeKind::Count),
+    (11, &[1, 0, 0, 3], 11, ShapeKind::Count),
+    (111, &[0, 0], 111, ShapeKind::Count),
+    (111, &[0, 33], 111, ShapeKind::Count),
+    (113, &[0, 0], 113, ShapeKind::Count),
+    (113, &[0, 65], 113, ShapeKind::Count),
+    (119, &[65], 119, ShapeKind::Count),
+    (159, &[0, 0, 0, 3], 159, ShapeKind::Order),
+    (301, &[2], 301, ShapeKind::Count),
+    (302, &[0, 1, 1, 0, 0], 305, ShapeKind::Order),
+    (307, &[0, 1, 0, 1], 307, ShapeKind::Count),
+    (315, &[0, 0, 0, 0], 315, ShapeKind::Order),
+];
+
+// The same in the later fields of the shorter proof.
+const TNRA: [(usize, &[u8], u64, ShapeKind); 3] = [
+    (323, &[0, 0, 0, 0], 323, ShapeKind::Count),
+    (323, &[0, 1, 0, 1], 323, ShapeKind::Count),
+    (359, &[3, 233], 359, ShapeKind::Count),
+];
+
+// The same in the later fields of the longer proof.
+const TRA: [(usize, &[u8], u64, ShapeKind); 10] = [
+    (323, &[0, 0, 0, 0], 323, ShapeKind::Count),
+    (323, &[0, 1, 0, 1], 323, ShapeKind::Count),
+    (493, &[0, 1, 0, 1], 493, ShapeKind::Count),
+    (497, &[0, 0], 497, ShapeKind::Count),
+    (497, &[0, 65], 497, ShapeKind::Count),
+    (503, &[65], 503, ShapeKind::Count),
+    (509, &[0, 0, 0, 1], 509, ShapeKind::Order),
+    (585, &[2], 585, ShapeKind::Count),
+    (586, &[0, 1, 1, 0, 0], 589, ShapeKind::Order),
+    (745, &[3, 233], 745, ShapeKind::Count),
+];
+
+fn faults(
+    rt: &impl Abort,
+    alloc: Global,
+    bytes: &[u8],
+    cases: &[(usize, &[u8], u64, ShapeKind)],
+) -> Result<(), Fail> {
+    for (from, instead, at, kind) in cases {
+        let mut changed = Vec::new(alloc);
+        changed.extend_from_slice(bytes.get(..*from).ok_or("the proof is as long")?)?;
+        changed.extend_from_slice(instead)?;
+        assert_eq!(rt; scan(&changed), fault(*at, *kind));
+    }
+    Ok(())
+}
+
+#[test]
+fn each_field_has_its_faults(rt: HostRuntime) -> Result<(), Fail> {
+    faults(&rt, rt.alloc(), &tnra(rt.alloc())?, &BEGUN)?;
+    faults(&rt, rt.alloc(), &tnra(rt.alloc())?, &TNRA)?;
+    faults(&rt, rt.alloc(), &tra(rt.alloc())?, &BEGUN[5..])?;
+    faults(&rt, rt.alloc(), &tra(rt.alloc())?, &TRA)
+}
+
+fn crosses_threads<T: Send + Sync>(_value: &T) {}
+
+#[test]
+fn faults_cross_threads() {
+    crosses_threads(&ShapeFault {
+        at: 0,
+        kind: ShapeKind::Long,
+    });
+}
