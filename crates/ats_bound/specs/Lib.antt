@@ -1,0 +1,3 @@
+pub mod Cut
+pub mod Settled
+pub mod Chosen
