@@ -5,8 +5,10 @@ mod bracket;
 mod cut;
 mod memory;
 mod picks;
+mod settling;
 
 pub use bracket::{Bracket, Brackets};
 pub use cut::Cut;
 pub use memory::OutOfMemory;
 pub use picks::Picks;
+pub use settling::settled;
