@@ -1,2 +1,3 @@
 pub mod Places
-pub mod Choosing
+pub mod Chain
+pub mod Order

@@ -2,12 +2,16 @@
 #![tactic(auto)]
 
 mod bracket;
+mod choosing;
 mod cut;
 mod memory;
 mod picks;
 mod settling;
+#[cfg(test)]
+mod tests;
 
 pub use bracket::{Bracket, Brackets};
+pub use choosing::choose;
 pub use cut::Cut;
 pub use memory::OutOfMemory;
 pub use picks::Picks;

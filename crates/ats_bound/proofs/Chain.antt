@@ -7,6 +7,7 @@ use Rattle.std.specs.List.Sorted.{IsPermutation, IsSorted}
 use Rattle.std.proofs.lemmas.Bool.{cases_lt, cases_order}
 use Rattle.std.proofs.lemmas.Bool.Decides.{nat_tests}
 use Rattle.std.proofs.lemmas.List.{get_or-take, get_or-drop}
+use Rattle.std.proofs.lemmas.List.Elements.{All-take}
 use Rattle.std.proofs.lemmas.List.FromFn.{length-range_with_len}
 use Rattle.std.proofs.lemmas.List.Sums.{sum_by-cons, sum_by-le, sum_by-take-drop, sum_by-take-le}
 use Rattle.std.proofs.lemmas.List.Sorted.{All-permutation, length_permutation, sum_by-IsPermutation}
@@ -294,3 +295,8 @@ pub chosen_is_settled : (brackets : List Bracket) (threshold r : ℕ) (answer pi
     → IsSettled brackets answer threshold r → IsChosen brackets r picks → IsSettled brackets picks threshold r
 chosen_is_settled brackets threshold r answer picks proper inside settled chosen =
     rw chosen.first (chosen_settled brackets threshold r answer chosen.all proper inside settled chosen.same chosen.ordered)
+
+-- the picks of the chosen answer are places
+pub chosen_are_picks : (brackets : List Bracket) (r : ℕ) (picks : List ℕ) → IsChosen brackets r picks → ArePicks brackets picks
+chosen_are_picks brackets r picks chosen =
+    rw chosen.first (All-take (λ i. i < length brackets) r chosen.all (All-permutation (λ i. i < length brackets) _ _ chosen.same (range_below (length brackets))))
