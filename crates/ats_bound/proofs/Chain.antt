@@ -1,5 +1,5 @@
 -- The chosen answer is settled wherever any answer is.
-use Rattle.std.proofs.Common.{◌≡◌, ◌⊎◌, ◌<◌, ◌≤◌, ◌+◌, ◌-◌, ◌*◌, min, ℕ, zero, suc, true, false, nat_lt, nat_eq, cond, List, [], ◌∷◌, length, take, drop, get_or, refl, sym, ap, ◌∙◌, inl, inr, arith, add-one, take_all, length-take, length-drop, drop-cons}
+use Rattle.std.proofs.Common.{◌≡◌, ◌⊎◌, ◌<◌, ◌≤◌, ◌+◌, ◌-◌, ◌*◌, min, ℕ, zero, suc, true, false, nat_eq, cond, List, length, take, drop, get_or, sym, ap, ◌∙◌, inl, inr, arith, take_all, length-take, length-drop, drop-cons}
 use Rattle.std.specs.List.{All, sum_by, range_with_len}
 use Rattle.std.specs.Ordering.{nat_cmp, is_lt}
 use Rattle.std.specs.declared.cmp.Ordering.TheVariants.{Less, Equal}
@@ -9,7 +9,7 @@ use Rattle.std.proofs.lemmas.Bool.Decides.{nat_tests}
 use Rattle.std.proofs.lemmas.List.{get_or-take, get_or-drop}
 use Rattle.std.proofs.lemmas.List.Elements.{All-take}
 use Rattle.std.proofs.lemmas.List.FromFn.{length-range_with_len}
-use Rattle.std.proofs.lemmas.List.Sums.{sum_by-cons, sum_by-le, sum_by-take-drop, sum_by-take-le}
+use Rattle.std.proofs.lemmas.List.Sums.{sum_by-cons, sum_by-le, sum_by-take-drop}
 use Rattle.std.proofs.lemmas.List.Sorted.{All-permutation, length_permutation, sum_by-IsPermutation}
 use Rattle.ats_impact.specs.Rank.{times}
 use Rattle.ats_bound.specs.declared.bracket.Bracket.{Bracket}
@@ -48,11 +48,13 @@ not_before a b not_less =
 not_before_trans : (a b c : Bracket) → NotBefore a b → NotBefore b c → NotBefore a c
 not_before_trans a b c first second =
     let one : b.lo ≤ a.lo = first.0 in
-    let two : c.lo ≤ b.lo = second.0 in
-    (omega (arith, one, two), λ (le : a.lo ≤ c.lo).
-      let up : b.hi ≤ a.hi = first.1 (omega (arith, two, le)) in
-      let upper : c.hi ≤ b.hi = second.1 (omega (arith, one, le)) in
-      omega (arith, up, upper))
+    let two : c.lo ≤ b.lo = second.0 in (
+      omega (arith, one, two),
+      λ (le : a.lo ≤ c.lo).
+          let up : b.hi ≤ a.hi = first.1 (omega (arith, two, le)) in
+          let upper : c.hi ≤ b.hi = second.1 (omega (arith, one, le)) in
+          omega (arith, up, upper),
+    )
 
 module _ (brackets : List Bracket) (all : List ℕ) (ordered : IsSorted (place_cmp brackets) all) where
   abbrev at : ℕ → Bracket

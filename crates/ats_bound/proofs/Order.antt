@@ -1,5 +1,5 @@
 -- Brackets with their places, put in order.
-use Rattle.std.proofs.Common.{◌≡◌, ◌<◌, ◌≤◌, ◌+◌, ◌^◌, ◌++◌, ℕ, zero, suc, false, nat_eq, cond, List, [], ◌∷◌, length, map, take, get_or, refl, sym, ap, ap₂, ◌∙◌, add-one, add-zero, zero-add, arith, length-take}
+use Rattle.std.proofs.Common.{◌≡◌, ◌<◌, ◌≤◌, ◌+◌, ◌++◌, ℕ, zero, suc, false, nat_eq, cond, List, [], ◌∷◌, length, map, take, get_or, refl, sym, ap, ap₂, ◌∙◌, add-one, add-zero, zero-add, arith, length-take}
 use Rattle.std.specs.List.{All, range_with_len}
 use Rattle.std.specs.Ordering.{is_lt}
 use Rattle.std.specs.List.Sorted.{IsPermutation, IsSorted}
@@ -23,9 +23,13 @@ few_documents limit brackets k inside distinct low =
     let size : length (map doc (take k brackets)) ≡ length (take k brackets) = length-map (take k brackets) doc in
     let once : (i : ℕ) → times i (map doc (take k brackets)) ≤ 1 = λ i.
     rw (take-map doc k brackets) at (few_of (map doc brackets) k i (distinct i)) in
-    omega (arith, size, length-take k brackets,
+    omega (
+      arith,
+      size,
+      length-take k brackets,
       few_places limit (map doc (take k brackets))
-      (λ j d within. let there : j < length (take k brackets) = omega (arith, size, within) in rw (get_or-map doc (take k brackets) j none d there) (low j none there)) once)
+          (λ j d within. let there : j < length (take k brackets) = omega (arith, size, within) in rw (get_or-map doc (take k brackets) j none d there) (low j none there)) once,
+    )
   where
     few_of : (docs : List ℕ) (k i : ℕ) → times i docs ≤ 1 → times i (take k docs) ≤ 1
     few_of docs k i few = omega (arith, few, sum_by-take-le (λ x. cond (nat_eq x i) 1 0) docs k)

@@ -1,5 +1,5 @@
 -- How often places stand in an answer.
-use Rattle.std.proofs.Common.{◌≡◌, ◌⊎◌, ◌<◌, ◌≤◌, ◌+◌, ◌-◌, ◌==◌, ℕ, zero, suc, Bool, true, false, cond, nat_eq, List, [], ◌∷◌, length, get_or, refl, sym, ap, take, ◌∙◌, inl, inr, arith, add-zero, zero-add}
+use Rattle.std.proofs.Common.{◌≡◌, ◌⊎◌, ◌<◌, ◌≤◌, ◌+◌, ℕ, zero, suc, true, false, cond, nat_eq, List, [], ◌∷◌, length, get_or, refl, sym, ap, take, ◌∙◌, inl, inr, arith, zero-add}
 use Rattle.std.specs.List.{All, sum_by, range_with_len}
 use Rattle.std.proofs.lemmas.Bool.{cases_order}
 use Rattle.std.proofs.lemmas.Bool.Decides.{nat_tests}
@@ -56,16 +56,22 @@ pub counted_places : (n : ℕ) (numbers : List ℕ) → All (λ m. m < n) number
 counted_places n [] inside = none_at_all n (range_with_len 0 n)
 counted_places n (m ∷ numbers) inside =
     let low : m < n = All-head (λ m. m < n) m numbers inside in
-    omega (arith,
+    omega (
+      arith,
       sum_both (λ i. cond (nat_eq m i) 1 0) (λ i. times i numbers) (λ i. times i (m ∷ numbers)) (range_with_len 0 n) (λ i. times-cons i m numbers),
       one_inside m 0 n (omega arith) (omega (arith, low)),
-      counted_places n numbers (All-tail (λ m. m < n) m numbers inside))
+      counted_places n numbers (All-tail (λ m. m < n) m numbers inside),
+    )
 
 -- distinct numbers below n are at most n
 pub few_places : (n : ℕ) (numbers : List ℕ) → All (λ m. m < n) numbers → ((i : ℕ) → times i numbers ≤ 1) → length numbers ≤ n
 few_places n numbers inside once =
-    omega (arith, counted_places n numbers inside, length-range_with_len 0 n,
-      sum_by-le (λ i. times i numbers) 1 (range_with_len 0 n) (λ k d within. once (get_or (range_with_len 0 n) k d)))
+    omega (
+      arith,
+      counted_places n numbers inside,
+      length-range_with_len 0 n,
+      sum_by-le (λ i. times i numbers) 1 (range_with_len 0 n) (λ k d within. once (get_or (range_with_len 0 n) k d)),
+    )
 
 -- a list that counts for something has an element that does
 pub some_place : (numbers range : List ℕ) → 0 < sum_by (λ i. times i numbers) range

@@ -1,10 +1,10 @@
 //! Bounds of the scores of documents.
 
+ghost use Rattle.std.specs.Prelude.{◌≡◌, ◌<◌, ◌++◌, ◌∷◌, [], length, slice_index_or, is_ok, if◌then◌else◌};
+
 use crate::memory::OutOfMemory;
 use std::alloc::Global;
 use std::marker::Model;
-
-ghost use Rattle.std.specs.Prelude.{◌≡◌, ◌<◌, ◌++◌, ◌∷◌, [], length, slice_index_or, is_ok, if◌then◌else◌};
 
 /// A document, counted from 0, with what it scores at least and at most.
 #[derive(Clone, Copy, Debug, PartialEq, Eq)]

@@ -1,18 +1,18 @@
 //! The chosen answer.
 
-use crate::bracket::Bracket;
-use crate::memory::OutOfMemory;
-use crate::picks::Picks;
-use ats_impact::Top;
-use std::alloc::Global;
-use std::cmp::Reverse;
-
 ghost use Rattle.std.specs.Prelude.{◌≡◌, ◌<◌, ◌^◌, ℕ, List, length, map, IfOk, OnOk};
 ghost use Rattle.std.specs.List.{range_with_len, All};
 ghost use Rattle.std.specs.List.Sorted.{IsPermutation, IsSorted};
 ghost use Rattle.ats_bound.specs.Settled.{ArePicks, HaveDistinctDocs, IsSettled};
 ghost use Rattle.ats_bound.specs.Chosen.{AreBrackets, IsChosen};
 ghost use Rattle.ats_bound.specs.Placed.{placed_cmp, IsPlaced};
+
+use crate::bracket::Bracket;
+use crate::memory::OutOfMemory;
+use crate::picks::Picks;
+use ats_impact::Top;
+use std::alloc::Global;
+use std::cmp::Reverse;
 
 // A bracket with its place in the list.
 #[derive(Clone, Copy)]

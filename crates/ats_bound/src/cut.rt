@@ -1,10 +1,10 @@
 //! How far each list is shown.
 
+ghost use Rattle.std.specs.Prelude.{◌≡◌, ◌<◌, ◌++◌, ◌∷◌, [], length, slice_index, is_ok, if◌then◌else◌};
+
 use crate::memory::OutOfMemory;
 use std::alloc::Global;
 use std::marker::Model;
-
-ghost use Rattle.std.specs.Prelude.{◌≡◌, ◌<◌, ◌++◌, ◌∷◌, [], length, slice_index, is_ok, if◌then◌else◌};
 
 /// How many entries of each present term's list are shown, each from 1 to the length of the list.
 #[derive(Drop)]

@@ -1,10 +1,10 @@
 //! Answers, as places in a list of brackets.
 
+ghost use Rattle.std.specs.Prelude.{◌≡◌, ◌<◌, ◌++◌, ◌∷◌, [], length, slice_index, is_ok, if◌then◌else◌};
+
 use crate::memory::OutOfMemory;
 use std::alloc::Global;
 use std::marker::Model;
-
-ghost use Rattle.std.specs.Prelude.{◌≡◌, ◌<◌, ◌++◌, ◌∷◌, [], length, slice_index, is_ok, if◌then◌else◌};
 
 /// The places of an answer's brackets in a list of brackets, each counted from 0, best row first.
 #[derive(Drop)]

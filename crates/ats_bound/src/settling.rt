@@ -1,11 +1,11 @@
 //! Whether an answer is settled.
 
-use crate::bracket::Bracket;
-use ats_impact::Top;
-
 ghost use Rattle.std.specs.Prelude.{◌≡◌, ◌⊎◌, ◌↔◌, ◌+◌, ◌<◌, ◌≤◌, ℕ, IsTrue, length};
 ghost use Rattle.ats_impact.specs.Rank.{times};
 ghost use Rattle.ats_bound.specs.Settled.{bracket_at, row, AreDistinct, ArePicks, HaveDistinctDocs, IsOutside, IsSettled};
+
+use crate::bracket::Bracket;
+use ats_impact::Top;
 
 // The bracket of a pick.
 fn picked(brackets: &[Bracket], pick: u32) -> Bracket

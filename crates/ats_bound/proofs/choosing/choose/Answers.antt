@@ -33,6 +33,6 @@ pub returns-clause-settled : goal.returns-clause-settled
 returns-clause-settled c =
     IfOk-weaker c.places_of.result (IsMade c)
     (λ picks. (threshold : ℕ) (answer : List ℕ) → ArePicks c.args.brackets.now answer
-      → IsSettled c.args.brackets.now answer threshold c.args.top → IsSettled c.args.brackets.now picks threshold c.args.top)
+    → IsSettled c.args.brackets.now answer threshold c.args.top → IsSettled c.args.brackets.now picks threshold c.args.top)
     (λ picks is threshold answer inside settled. chosen_is_settled c.args.brackets.now threshold c.args.top answer picks c.requires.proper inside settled (is_chosen c picks is))
     c.places_of.ensures

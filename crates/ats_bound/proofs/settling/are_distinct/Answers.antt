@@ -1,4 +1,4 @@
-use Rattle.std.proofs.Common.{◌≡◌, ◌<◌, ◌≤◌, ℕ, List, length, take, take_all, get_or, refl, arith, rules}
+use Rattle.std.proofs.Common.{◌≡◌, ◌≤◌, ℕ, List, take, take_all, get_or, refl, arith, rules}
 use Rattle.ats_impact.specs.Rank.{times}
 use Rattle.ats_bound.specs.Settled.{AreDistinct}
 use Rattle.ats_bound.proofs.Places.{distinct_more, twice_before}
