@@ -1,4 +1,5 @@
-ghost use Rattle.std.specs.Prelude.{◌≡◌};
+ghost use Rattle.std.specs.Prelude.{◌≡◌, [], ◌∷◌};
+ghost use Rattle.ats_bound.specs.Cut.{bracket, lane_of, threshold};
 
 use crate::{Bracket, Brackets, Cut, Lane, OutOfMemory, Picks, Walk, choose, settled};
 use ats_impact::Top;
@@ -85,6 +86,31 @@ fn lists_keep_what_is_pushed(rt: HostRuntime) -> Result<(), Fail> {
     assert_eq!(rt; cut.get(0), 2);
     assert_eq!(rt; cut.as_slice(), [2].as_slice());
     Ok(())
+}
+
+// What the definitions say of cuts of the lists of "hen" and "red", whose coefficients are 6, and of
+// "fox", whose coefficient is 12.
+fn sample_bounds()
+    ensures first_threshold { threshold (lane_of 6 (record { doc = 2; impact = 1063 } ∷ record { doc = 1; impact = 896 } ∷ []) 1
+        ∷ lane_of 6 (record { doc = 1; impact = 1273 } ∷ record { doc = 0; impact = 1063 } ∷ []) 1 ∷ []) ≡ 14016 }
+    ensures second_threshold { threshold (lane_of 6 (record { doc = 2; impact = 1063 } ∷ record { doc = 1; impact = 896 } ∷ []) 1
+        ∷ lane_of 6 (record { doc = 1; impact = 1273 } ∷ record { doc = 0; impact = 1063 } ∷ []) 2 ∷ []) ≡ 6378 }
+    ensures second_bracket { bracket (lane_of 6 (record { doc = 2; impact = 1063 } ∷ record { doc = 1; impact = 896 } ∷ []) 1
+        ∷ lane_of 6 (record { doc = 1; impact = 1273 } ∷ record { doc = 0; impact = 1063 } ∷ []) 2 ∷ []) 0
+        ≡ record { doc = 0; lo = 6378; hi = 12756 } }
+    ensures whole_bracket { bracket (lane_of 6 (record { doc = 2; impact = 1063 } ∷ record { doc = 1; impact = 896 } ∷ []) 2
+        ∷ lane_of 6 (record { doc = 1; impact = 1273 } ∷ record { doc = 0; impact = 1063 } ∷ []) 2 ∷ []) 1
+        ≡ record { doc = 1; lo = 13014; hi = 13014 } }
+    ensures fox_threshold { threshold (lane_of 12 (record { doc = 0; impact = 1063 } ∷ []) 1
+        ∷ lane_of 6 (record { doc = 1; impact = 1273 } ∷ record { doc = 0; impact = 1063 } ∷ []) 1 ∷ []) ≡ 7638 }
+    ensures fox_bracket { bracket (lane_of 12 (record { doc = 0; impact = 1063 } ∷ []) 1
+        ∷ lane_of 6 (record { doc = 1; impact = 1273 } ∷ record { doc = 0; impact = 1063 } ∷ []) 1 ∷ []) 0
+        ≡ record { doc = 0; lo = 12756; hi = 20394 } }
+{}
+
+#[test]
+fn definitions_bound_the_sample() {
+    sample_bounds();
 }
 
 fn crosses_threads<T: Send + Sync>(_value: &T) {}
