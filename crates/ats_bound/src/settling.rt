@@ -100,7 +100,7 @@ pub fn settled(brackets: &[Bracket], picks: &[u32], threshold: u64, top: Top) ->
     ensures { IsTrue result ↔ IsSettled brackets.now picks.now threshold top }
 {
     let rows = top.get() as usize;
-    if picks.len() > rows || !are_distinct(picks) || !rows_fall(brackets, picks) {
+    if picks.len() > rows || !rows_fall(brackets, picks) || !are_distinct(picks) {
         return false;
     }
     if !is_whole(brackets, picks, threshold, rows) {
