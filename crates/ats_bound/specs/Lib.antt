@@ -1,0 +1,4 @@
+pub mod Cut
+pub mod Settled
+pub mod Chosen
+pub mod Placed

@@ -1,0 +1,29 @@
+//! Cuts of inverted lists, brackets of scores, and when an answer is settled.
+//!
+//! A cut shows the first entries of each list of a query. What is shown bounds the score of each document
+//! that it names by a bracket, and that of every other document by a threshold. An answer is settled where
+//! these bounds alone show that it is right. The room stands on the entries of `ats_lists` and the number
+//! of rows of `ats_impact`. The contracts promise that [`settled`] answers exactly the rules of a settled
+//! answer, and that what [`choose`] answers is settled wherever any answer is. How places are looked up
+//! and brackets sorted may change without asking.
+#![tactic(auto)]
+
+mod bracket;
+mod choosing;
+mod cut;
+mod lane;
+mod memory;
+mod picks;
+mod settling;
+#[cfg(test)]
+mod tests;
+mod walk;
+
+pub use bracket::{Bracket, Brackets};
+pub use choosing::choose;
+pub use cut::Cut;
+pub use lane::Lane;
+pub use memory::OutOfMemory;
+pub use picks::Picks;
+pub use settling::settled;
+pub use walk::Walk;

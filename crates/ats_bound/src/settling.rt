@@ -1,0 +1,114 @@
+//! Whether an answer is settled.
+
+ghost use Rattle.std.specs.Prelude.{◌≡◌, ◌⊎◌, ◌↔◌, ◌+◌, ◌<◌, ◌≤◌, ℕ, IsTrue, length};
+ghost use Rattle.ats_impact.specs.Rank.{times};
+ghost use Rattle.ats_bound.specs.Settled.{bracket_at, row, AreDistinct, ArePicks, HaveDistinctDocs, IsOutside, IsSettled};
+
+use crate::bracket::Bracket;
+use ats_impact::Top;
+
+// The bracket of a pick.
+fn picked(brackets: &[Bracket], pick: u32) -> Bracket
+    requires { pick < length brackets.now }
+    ensures { result ≡ bracket_at brackets.now pick }
+{
+    brackets[pick as usize]
+}
+
+// Whether some pick is this place.
+fn is_picked(picks: &[u32], place: usize) -> bool
+    ensures { IsTrue result ↔ (1 ≤ times place picks.now) }
+{
+    for pick in picks {
+        if *pick as usize == place {
+            return true;
+        }
+    }
+    false
+}
+
+// Whether no place is picked twice.
+fn are_distinct(picks: &[u32]) -> bool
+    ensures { IsTrue result ↔ AreDistinct picks.now }
+{
+    for (k, pick) in picks.iter().enumerate() {
+        if is_picked(&picks[..k], *pick as usize) {
+            return false;
+        }
+    }
+    true
+}
+
+// Whether each of the first places is picked. It stops at the first that is not, which comes early
+// where picks are few.
+fn are_all_picked(places: usize, picks: &[u32]) -> bool
+    ensures { IsTrue result ↔ ((i : ℕ) → i < places → 1 ≤ times i picks.now) }
+{
+    for place in 0..places {
+        if !is_picked(picks, place) {
+            return false;
+        }
+    }
+    true
+}
+
+// Whether the answer has as many rows as it may have, or all there can be.
+fn is_whole(brackets: &[Bracket], picks: &[u32], threshold: u64, rows: usize) -> bool
+    ensures { IsTrue result ↔ ((length picks.now ≡ rows) ⊎ (((i : ℕ) → i < length brackets.now → 1 ≤ times i picks.now) × (threshold ≡ 0))) }
+{
+    if picks.len() == rows {
+        return true;
+    }
+    if threshold > 0 {
+        return false;
+    }
+    are_all_picked(brackets.len(), picks)
+}
+
+// Whether no row can score more than the row before it scores at least.
+fn rows_fall(brackets: &[Bracket], picks: &[u32]) -> bool
+    requires { ArePicks brackets.now picks.now }
+    ensures { IsTrue result ↔ ((k : ℕ) → k + 1 < length picks.now → (row brackets.now picks.now (k + 1)).hi ≤ (row brackets.now picks.now k).lo) }
+{
+    for k in 1..picks.len() {
+        if picked(brackets, picks[k]).hi > picked(brackets, picks[k - 1]).lo {
+            return false;
+        }
+    }
+    true
+}
+
+// Whether no bracket outside the answer goes above this score.
+fn rest_is_within(brackets: &[Bracket], picks: &[u32], score: u64) -> bool
+    ensures { IsTrue result ↔ ((i : ℕ) → IsOutside brackets.now picks.now i → (bracket_at brackets.now i).hi ≤ score) }
+{
+    for (place, bracket) in brackets.iter().enumerate() {
+        if bracket.hi > score && !is_picked(picks, place) {
+            return false;
+        }
+    }
+    true
+}
+
+/// Whether the picks are an answer that no document outside it, met or not, can change.
+///
+/// The brackets are those of all documents that are met, and the threshold is what any other document
+/// can score at most.
+pub fn settled(brackets: &[Bracket], picks: &[u32], threshold: u64, top: Top) -> bool
+    requires picks { ArePicks brackets.now picks.now }
+    requires distinct { HaveDistinctDocs brackets.now }
+    ensures { IsTrue result ↔ IsSettled brackets.now picks.now threshold top }
+{
+    let rows = top.get() as usize;
+    if picks.len() > rows || !rows_fall(brackets, picks) || !are_distinct(picks) {
+        return false;
+    }
+    if !is_whole(brackets, picks, threshold, rows) {
+        return false;
+    }
+    if picks.is_empty() {
+        return true;
+    }
+    let score = picked(brackets, picks[picks.len() - 1]).lo;
+    threshold <= score && rest_is_within(brackets, picks, score)
+}
