@@ -1,0 +1,19 @@
+//! The index of a collection: its lists, its dictionary, the terms of its documents, and its root.
+//!
+//! An owner builds an index from a collection once, and a server answers queries from it.
+//! The room stands on `ats_lists`, `ats_dict` and `ats_doctree`, whose parts it makes from one count of each
+//! document's terms, and on `ats_commit`, which says what they are together. The contracts promise that an
+//! index is seen as its collection alone: each part is that of the collection's texts under the hash
+//! function. How the parts are made and kept may change without asking.
+#![tactic(auto)]
+
+mod build;
+mod dictionary;
+mod documents;
+mod index;
+mod memory;
+#[cfg(test)]
+mod tests;
+
+pub use index::Index;
+pub use memory::OutOfMemory;
