@@ -6,11 +6,14 @@ ghost use Rattle.ats_doctree.specs.Impacts.{doc_terms};
 ghost use Rattle.ats_commit.specs.Trees.{dictionary_of};
 ghost use Rattle.ats_commit.specs.Root.{root_of};
 ghost use Rattle.ats_index.specs.Parts.{header_parts, leaf_of_terms};
+ghost use Rattle.ats_index.specs.Spelling.{index_bytes};
 
 use crate::build::header_of;
 use crate::dictionary::dictionary_of;
 use crate::documents::{DocumentParts, counted};
 use crate::memory::OutOfMemory;
+use crate::write::{put_lists, put_texts};
+use ats_base::Bytes;
 use ats_commit::root_of_header;
 use ats_dict::{Dictionary, Header};
 use ats_doctree::{DocLeaf, DocTerms};
@@ -97,6 +100,17 @@ impl<H: HashKind> Index<H> {
         ensures { result.now ≡ leaf_of_terms H.hash (doc_terms self.now doc) }
     {
         &self.leaves[doc as usize]
+    }
+
+    /// The bytes of the index.
+    pub fn bytes(&self) -> Result<Bytes, OutOfMemory>
+        ensures { IfOk result (λ bytes. bytes ≡ index_bytes H.hash self.now) }
+    {
+        let mut bytes = Bytes::new(self.alloc);
+        put_texts(&mut bytes, &self.collection)?;
+        put_lists(&mut bytes, &self.lists)?;
+        bytes.extend(&self.root)?;
+        Ok(bytes)
     }
 }
 

@@ -11,9 +11,13 @@ mod build;
 mod dictionary;
 mod documents;
 mod index;
+mod load;
 mod memory;
+mod read;
 #[cfg(test)]
 mod tests;
+mod write;
 
 pub use index::Index;
+pub use load::LoadFault;
 pub use memory::OutOfMemory;

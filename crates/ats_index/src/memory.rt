@@ -35,3 +35,15 @@ impl From<ats_dict::OutOfMemory> for OutOfMemory {
         OutOfMemory
     }
 }
+
+impl From<ats_base::OutOfMemory> for OutOfMemory {
+    fn from(_: ats_base::OutOfMemory) -> Self {
+        OutOfMemory
+    }
+}
+
+impl From<ats_impact::OutOfMemory> for OutOfMemory {
+    fn from(_: ats_impact::OutOfMemory) -> Self {
+        OutOfMemory
+    }
+}
