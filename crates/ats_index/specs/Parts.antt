@@ -36,15 +36,15 @@ header_parts H texts = record {
 
 -- each part is that of the collection of these texts
 pub record IsIndexOf
-  (H : List ℕ → List ℕ)
-  (texts : List (List ℕ))
-  (lists : List (List ℕ × List Entry))
-  (dictionary : List DictEntry)
-  (terms : List (List (List ℕ × ℕ)))
-  (leaves : List DocLeaf)
-  (header : Header)
-  (root : List ℕ)
-  : Type 0 where
+    (H : List ℕ → List ℕ)
+    (texts : List (List ℕ))
+    (lists : List (List ℕ × List Entry))
+    (dictionary : List DictEntry)
+    (terms : List (List (List ℕ × ℕ)))
+    (leaves : List DocLeaf)
+    (header : Header)
+    (root : List ℕ)
+    : Type 0 where
   pub own_lists : lists ≡ lists_of texts
   pub own_dictionary : dictionary ≡ dictionary_of H texts
   pub own_terms : terms ≡ all_terms texts

@@ -6,7 +6,7 @@ ghost use Rattle.ats_doctree.specs.Impacts.{doc_terms};
 ghost use Rattle.ats_commit.specs.Trees.{dictionary_of};
 ghost use Rattle.ats_commit.specs.Root.{root_of};
 ghost use Rattle.ats_index.specs.Parts.{header_parts, leaf_of_terms};
-ghost use Rattle.ats_index.specs.Spelling.{index_bytes};
+ghost use Rattle.ats_index.specs.Spelling.{IsSpelling};
 
 use crate::build::header_of;
 use crate::dictionary::dictionary_of;
@@ -23,7 +23,7 @@ use ats_lists::Lists;
 use std::alloc::Global;
 use std::marker::{Model, PhantomData};
 
-/// A collection with all that its root commits to.
+/// A collection of 1 to 65,536 texts with all that its root commits to, under a hash function.
 ///
 /// It keeps its allocator.
 #[derive(Drop)]
@@ -102,9 +102,11 @@ impl<H: HashKind> Index<H> {
         &self.leaves[doc as usize]
     }
 
-    /// The bytes of the index.
+    /// The bytes of the index. Numbers stand high byte first: `ATSI`, the version 1 in one byte, the number of
+    /// texts in 4, and each text behind its length in 4. Then the number of terms in 4 and, for each in byte
+    /// order, its length in one, the term, the number of its entries in 4, and each entry in 6. Then the root.
     pub fn bytes(&self) -> Result<Bytes, OutOfMemory>
-        ensures { IfOk result (λ bytes. bytes ≡ index_bytes H.hash self.now) }
+        ensures { IfOk result (λ bytes. IsSpelling H.hash bytes self.now) }
     {
         let mut bytes = Bytes::new(self.alloc);
         put_texts(&mut bytes, &self.collection)?;

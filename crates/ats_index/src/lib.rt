@@ -3,8 +3,9 @@
 //! An owner builds an index from a collection once, and a server answers queries from it.
 //! The room stands on `ats_lists`, `ats_dict` and `ats_doctree`, whose parts it makes from one count of each
 //! document's terms, and on `ats_commit`, which says what they are together. The contracts promise that an
-//! index is seen as its collection alone: each part is that of the collection's texts under the hash
-//! function. How the parts are made and kept may change without asking.
+//! index is seen as its collection alone, that each part is that collection's under the hash function, that
+//! its bytes are one spelling, and that bytes are loaded exactly where they are the spelling of some
+//! collection. How the parts are made and kept may change without asking; the bytes may not.
 #![tactic(auto)]
 
 mod build;

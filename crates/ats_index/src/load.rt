@@ -1,6 +1,6 @@
 //! An index from its bytes.
 
-ghost use Rattle.std.specs.Prelude.{IfOk, IfErr};
+ghost use Rattle.std.specs.Prelude.{◌≡◌, ℕ, List, IfOk, IfErr};
 ghost use Rattle.ats_index.specs.Spelling.{IsSpelling};
 ghost use Rattle.ats_index.specs.LoadFaults.{IsLoadFault};
 
@@ -36,6 +36,7 @@ impl<H: Hash32> Index<H> {
     /// be theirs.
     pub fn load(alloc: Global, bytes: &[u8]) -> Result<Self, LoadFault>
         ensures ok { IfOk result (IsSpelling H.hash bytes.now) }
+        ensures only { (texts : List (List ℕ)) → IsSpelling H.hash bytes.now texts → IfOk result (λ index. index ≡ texts) }
         ensures fault { IfErr result (IsLoadFault H.hash bytes.now) }
     {
         let texts = match read_texts(alloc, bytes)? {

@@ -13,6 +13,7 @@ returns-then-bytes-lt9-clause-none c documents rest few is = elim c.then-bytes-l
 
 pub returns-clause-some : goal.returns-clause-some
 returns-clause-some c documents rest few is =
-    let bytes : List ℕ = c.args.bytes.now in
-    (c.read_u32.ensures ∙ rw (to_end 5 bytes) (front_number bytes documents rest few is),
-    rw (to_end 4 (take (length bytes - 5) (drop 5 bytes)), to_end 5 bytes) (front_rest bytes documents rest few is))
+    let bytes : List ℕ = c.args.bytes.now in (
+      c.read_u32.ensures ∙ rw (to_end 5 bytes) (front_number bytes documents rest few is),
+      rw (to_end 4 (take (length bytes - 5) (drop 5 bytes)), to_end 5 bytes) (front_rest bytes documents rest few is),
+    )

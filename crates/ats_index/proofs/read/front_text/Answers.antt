@@ -20,9 +20,10 @@ returns-then-behind-len-clause-none c text rest utf8 short is =
 pub returns-in-Ok-clause-some : goal.returns-in-Ok-clause-some
 returns-in-Ok-clause-some c text rest short is =
     let bytes : List ℕ = c.args.bytes.now in
-    let len : c.read_u32-len.result ≡ length text = c.read_u32-len.ensures ∙ text_number bytes text rest short is in
-    (c.in-Ok.ensures.cases.0 ∙ rw (len, to_end 4 bytes) (text_first bytes text rest short is),
-    rw (to_end c.read_u32-len.result (take (length bytes - 4) (drop 4 bytes)), to_end 4 bytes, len) (text_rest bytes text rest short is))
+    let len : c.read_u32-len.result ≡ length text = c.read_u32-len.ensures ∙ text_number bytes text rest short is in (
+      c.in-Ok.ensures.cases.0 ∙ rw (len, to_end 4 bytes) (text_first bytes text rest short is),
+      rw (to_end c.read_u32-len.result (take (length bytes - 4) (drop 4 bytes)), to_end 4 bytes, len) (text_rest bytes text rest short is),
+    )
 
 pub returns-in-Err-clause-none : goal.returns-in-Err-clause-none
 returns-in-Err-clause-none c text rest utf8 short is =

@@ -23,12 +23,13 @@ pub loop-document-preserved : goal.loop-document-preserved
 loop-document-preserved c = record {
   utf8 = rw c.in_ok-push.ensures (All-push IsUtf8 c.loop-document.texts c.in-Some-front_text.found.0.now c.loop-document.invariant.utf8 c.in-Some-front_text.ensures.utf8);
   read = λ texts behind utf8 within is.
-    let i : ℕ = c.loop-document._document in
-    let so_far = c.loop-document.invariant.read texts behind utf8 within is in
-    let inside : i < length texts = omega (arith, so_far.0, c.loop-document-test.true) in
-    let found = c.in-Some-front_text.ensures.some (get_or texts i []) (flat_map text_bytes (drop (i + 1) texts) ++ behind) (short_text texts i within inside)
-      (next_text texts c.loop-document.rest.now behind i inside so_far.2) in
-    (so_far.0,
-    c.in_ok-push.ensures ∙ ap₂ (λ (xs : List (List ℕ)) (x : List ℕ). xs ++ x ∷ []) so_far.1 found.0 ∙ sym (rw add-one (take-suc texts i [] inside)),
-    found.1);
+      let i : ℕ = c.loop-document._document in
+      let so_far = c.loop-document.invariant.read texts behind utf8 within is in
+      let inside : i < length texts = omega (arith, so_far.0, c.loop-document-test.true) in
+      let found = c.in-Some-front_text.ensures.some (get_or texts i []) (flat_map text_bytes (drop (i + 1) texts) ++ behind) (short_text texts i within inside)
+      (next_text texts c.loop-document.rest.now behind i inside so_far.2) in (
+        so_far.0,
+        c.in_ok-push.ensures ∙ ap₂ (λ (xs : List (List ℕ)) (x : List ℕ). xs ++ x ∷ []) so_far.1 found.0 ∙ sym (rw add-one (take-suc texts i [] inside)),
+        found.1,
+      );
 }

@@ -10,5 +10,5 @@ abbrev pub invariant-loop-document : goal.invariant-loop-document
 invariant-loop-document l = record {
   utf8 : All IsUtf8 l.texts;
   read : (all : List (List ℕ)) (behind : List ℕ) → All IsUtf8 all → AreWithin all → l.bytes ≡ texts_bytes all ++ behind
-    → (l.documents ≡ length all) × (l.texts ≡ take l._document all) × (l.rest ≡ flat_map text_bytes (drop l._document all) ++ behind);
+      → (l.documents ≡ length all) × (l.texts ≡ take l._document all) × (l.rest ≡ flat_map text_bytes (drop l._document all) ++ behind);
 }
