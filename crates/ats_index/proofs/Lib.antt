@@ -1,0 +1,5 @@
+pub mod Entries
+pub mod Whole
+pub mod Writing
+pub mod Reading
+pub mod Loading

@@ -1,0 +1,53 @@
+-- The parts of a collection's index, under a hash function H.
+use Rattle.std.specs.Prelude.{◌≡◌, ℕ, List, length, map}
+use Rattle.ats_tree.specs.Tree.{mth}
+use Rattle.ats_lists.specs.Lists.{lists_of}
+use Rattle.ats_lists.specs.declared.entry.Entry.{Entry}
+use Rattle.ats_dict.specs.Dictionary.{dict_leaves}
+use Rattle.ats_dict.specs.Entry.{DictEntry}
+use Rattle.ats_dict.specs.declared.header.Header.{Header}
+use Rattle.ats_doctree.specs.Impacts.{text_terms}
+use Rattle.ats_doctree.specs.Sentinels.{terms_leaves}
+use Rattle.ats_doctree.specs.declared.doc_leaf.DocLeaf.{DocLeaf}
+use Rattle.ats_commit.specs.Trees.{dictionary_of, documents_of}
+use Rattle.ats_commit.specs.Root.{root_of}
+
+-- the documents leaf of a document with these terms
+abbrev pub leaf_of_terms : (List ℕ → List ℕ) → List (List ℕ × ℕ) → DocLeaf
+leaf_of_terms H terms = record { leaves = length (terms_leaves terms); root = mth H (terms_leaves terms) }
+
+-- the terms of each document with their impacts, in the order of documents
+abbrev pub all_terms : List (List ℕ) → List (List (List ℕ × ℕ))
+all_terms texts = map (text_terms texts) texts
+
+-- the documents leaf of each document
+abbrev pub all_leaves : (List ℕ → List ℕ) → List (List ℕ) → List DocLeaf
+all_leaves H texts = map (λ text. leaf_of_terms H (text_terms texts text)) texts
+
+-- the numbers and roots of the header
+abbrev pub header_parts : (List ℕ → List ℕ) → List (List ℕ) → Header
+header_parts H texts = record {
+  documents = length texts;
+  dict_leaves = length (dict_leaves (dictionary_of H texts));
+  dict_root = mth H (dict_leaves (dictionary_of H texts));
+  docs_root = mth H (documents_of H texts);
+  texts_root = mth H texts;
+}
+
+-- each part is that of the collection of these texts
+pub record IsIndexOf
+    (H : List ℕ → List ℕ)
+    (texts : List (List ℕ))
+    (lists : List (List ℕ × List Entry))
+    (dictionary : List DictEntry)
+    (terms : List (List (List ℕ × ℕ)))
+    (leaves : List DocLeaf)
+    (header : Header)
+    (root : List ℕ)
+    : Type 0 where
+  pub own_lists : lists ≡ lists_of texts
+  pub own_dictionary : dictionary ≡ dictionary_of H texts
+  pub own_terms : terms ≡ all_terms texts
+  pub own_leaves : leaves ≡ all_leaves H texts
+  pub own_header : header ≡ header_parts H texts
+  pub own_root : root ≡ root_of H texts

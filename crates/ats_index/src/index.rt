@@ -1,0 +1,144 @@
+//! The index of a collection.
+
+ghost use Rattle.std.specs.Prelude.{◌≡◌, ◌<◌, List, ℕ, length, slice_index_or, IfOk};
+ghost use Rattle.ats_lists.specs.Lists.{lists_of};
+ghost use Rattle.ats_doctree.specs.Impacts.{doc_terms};
+ghost use Rattle.ats_commit.specs.Trees.{dictionary_of};
+ghost use Rattle.ats_commit.specs.Root.{root_of};
+ghost use Rattle.ats_index.specs.Parts.{header_parts, leaf_of_terms};
+ghost use Rattle.ats_index.specs.Spelling.{IsSpelling};
+
+use crate::build::header_of;
+use crate::dictionary::dictionary_of;
+use crate::documents::{DocumentParts, counted};
+use crate::memory::OutOfMemory;
+use crate::write::{put_lists, put_texts};
+use ats_base::Bytes;
+use ats_commit::root_of_header;
+use ats_dict::{Dictionary, Header};
+use ats_doctree::{DocLeaf, DocTerms};
+use ats_hash::{Hash32, HashKind, Steps};
+use ats_impact::Collection;
+use ats_lists::Lists;
+use std::alloc::Global;
+use std::marker::{Model, PhantomData};
+
+/// A collection of 1 to 65,536 texts with all that its root commits to, under a hash function.
+///
+/// It keeps its allocator.
+#[derive(Drop)]
+pub struct Index<H: HashKind> {
+    alloc: Global,
+    collection: Collection,
+    lists: Lists,
+    dictionary: Dictionary,
+    terms: Vec<DocTerms>,
+    leaves: Vec<DocLeaf>,
+    header: Header,
+    root: [u8; 32],
+    kind: PhantomData<H>,
+}
+
+impl<H: HashKind> Model for Index<H> {
+    ghost use Rattle.std.specs.Prelude.{List, ℕ};
+    ghost use Rattle.ats_index.specs.Parts.{IsIndexOf};
+
+    ghost Value = { List (List ℕ) };
+
+    ghost view = { λ i. i.collection };
+
+    ghost invariant = { λ i. IsIndexOf H.hash i.collection i.lists i.dictionary i.terms.items i.leaves.items i.header i.root };
+}
+
+impl<H: HashKind> Index<H> {
+    /// The root of the collection.
+    pub fn root(&self) -> [u8; 32]
+        ensures { result ≡ root_of H.hash self.now }
+    {
+        self.root
+    }
+
+    /// The header that the root is the digest of.
+    pub fn header(&self) -> &Header
+        ensures { result.now ≡ header_parts H.hash self.now }
+    {
+        &self.header
+    }
+
+    /// The texts.
+    pub fn collection(&self) -> &Collection
+        ensures { result.now ≡ self.now }
+    {
+        &self.collection
+    }
+
+    /// The inverted lists.
+    pub fn lists(&self) -> &Lists
+        ensures { result.now ≡ lists_of self.now }
+    {
+        &self.lists
+    }
+
+    /// The distinct terms, each with the number of its documents and the root of its list.
+    pub fn dictionary(&self) -> &Dictionary
+        ensures { result.now ≡ dictionary_of H.hash self.now }
+    {
+        &self.dictionary
+    }
+
+    /// The terms of a document, counted from 0, with their impacts.
+    pub fn doc_terms(&self, doc: u32) -> &DocTerms
+        requires { doc < length self.now }
+        ensures { result.now ≡ doc_terms self.now doc }
+    {
+        &self.terms[doc as usize]
+    }
+
+    /// The leaf of a document, counted from 0, in the documents tree.
+    pub fn doc_leaf(&self, doc: u32) -> &DocLeaf
+        requires { doc < length self.now }
+        ensures { result.now ≡ leaf_of_terms H.hash (doc_terms self.now doc) }
+    {
+        &self.leaves[doc as usize]
+    }
+
+    /// The bytes of the index. Numbers stand high byte first: `ATSI`, the version 1 in one byte, the number of
+    /// texts in 4, and each text behind its length in 4. Then the number of terms in 4 and, for each in byte
+    /// order, its length in one, the term, the number of its entries in 4, and each entry in 6. Then the root.
+    pub fn bytes(&self) -> Result<Bytes, OutOfMemory>
+        ensures { IfOk result (λ bytes. IsSpelling H.hash bytes self.now) }
+    {
+        let mut bytes = Bytes::new(self.alloc);
+        put_texts(&mut bytes, &self.collection)?;
+        put_lists(&mut bytes, &self.lists)?;
+        bytes.extend(&self.root)?;
+        Ok(bytes)
+    }
+}
+
+impl<H: Hash32> Index<H> {
+    /// The index of a collection. Want of memory drops the collection.
+    pub fn build(alloc: Global, collection: Collection) -> Result<Self, OutOfMemory>
+        ensures { IfOk result (λ index. index ≡ collection) }
+    {
+        let DocumentParts {
+            lists,
+            terms,
+            leaves,
+        } = counted::<H>(alloc, &collection)?;
+        let dictionary = dictionary_of::<H>(alloc, &lists)?;
+        let header = header_of::<H>(alloc, &collection, &dictionary, &leaves);
+        let root = root_of_header::<H>(&header, &mut Steps::new(alloc));
+        Ok(Index {
+            alloc,
+            collection,
+            lists,
+            dictionary,
+            terms,
+            leaves,
+            header,
+            root,
+            kind: PhantomData,
+        })
+    }
+}

@@ -1,0 +1,24 @@
+//! The index of a collection: its lists, its dictionary, the terms of its documents, and its root.
+//!
+//! An owner builds an index from a collection once, and a server answers queries from it.
+//! The room stands on `ats_lists`, `ats_dict` and `ats_doctree`, whose parts it makes from one count of each
+//! document's terms, and on `ats_commit`, which says what they are together. The contracts promise that an
+//! index is seen as its collection alone, that each part is that collection's under the hash function, that
+//! its bytes are one spelling, and that bytes are loaded exactly where they are the spelling of some
+//! collection. How the parts are made and kept may change without asking; the bytes may not.
+#![tactic(auto)]
+
+mod build;
+mod dictionary;
+mod documents;
+mod index;
+mod load;
+mod memory;
+mod read;
+#[cfg(test)]
+mod tests;
+mod write;
+
+pub use index::Index;
+pub use load::LoadFault;
+pub use memory::OutOfMemory;

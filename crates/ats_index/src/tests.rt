@@ -1,0 +1,111 @@
+//! The example of three texts. An independent program computed its bytes from the definitions: words and
+//! impacts, RFC 6962, section 2.1, and the layout of the leaves and of the fields.
+
+use super::*;
+use ats_hash::Sha;
+use ats_impact::{Collection, Texts};
+use ats_tree::Leaves;
+use std::alloc::Global;
+use std::process::Abort;
+use std::test::Fail;
+
+const EXAMPLE: [u8; 152] = [
+    0x41, 0x54, 0x53, 0x49, 0x01, 0x00, 0x00, 0x00, 0x03, 0x00, 0x00, 0x00, 0x07, 0x72, 0x65, 0x64,
+    0x20, 0x66, 0x6f, 0x78, 0x00, 0x00, 0x00, 0x0b, 0x72, 0x65, 0x64, 0x20, 0x72, 0x65, 0x64, 0x20,
+    0x68, 0x65, 0x6e, 0x00, 0x00, 0x00, 0x08, 0x62, 0x6c, 0x75, 0x65, 0x20, 0x68, 0x65, 0x6e, 0x00,
+    0x00, 0x00, 0x04, 0x04, 0x62, 0x6c, 0x75, 0x65, 0x00, 0x00, 0x00, 0x01, 0x00, 0x00, 0x00, 0x02,
+    0x04, 0x27, 0x03, 0x66, 0x6f, 0x78, 0x00, 0x00, 0x00, 0x01, 0x00, 0x00, 0x00, 0x00, 0x04, 0x27,
+    0x03, 0x68, 0x65, 0x6e, 0x00, 0x00, 0x00, 0x02, 0x00, 0x00, 0x00, 0x02, 0x04, 0x27, 0x00, 0x00,
+    0x00, 0x01, 0x03, 0x80, 0x03, 0x72, 0x65, 0x64, 0x00, 0x00, 0x00, 0x02, 0x00, 0x00, 0x00, 0x01,
+    0x04, 0xf9, 0x00, 0x00, 0x00, 0x00, 0x04, 0x27, 0x29, 0x79, 0x78, 0x11, 0x0f, 0xfb, 0x58, 0x07,
+    0x33, 0xea, 0xf8, 0x93, 0x8f, 0x93, 0x28, 0x11, 0x46, 0x90, 0xe8, 0x02, 0xab, 0x31, 0x08, 0xa3,
+    0xbf, 0xab, 0xc3, 0x4b, 0xa2, 0xdb, 0x24, 0x90,
+];
+
+const ROOT: [u8; 32] = [
+    0x29, 0x79, 0x78, 0x11, 0x0f, 0xfb, 0x58, 0x07, 0x33, 0xea, 0xf8, 0x93, 0x8f, 0x93, 0x28, 0x11,
+    0x46, 0x90, 0xe8, 0x02, 0xab, 0x31, 0x08, 0xa3, 0xbf, 0xab, 0xc3, 0x4b, 0xa2, 0xdb, 0x24, 0x90,
+];
+
+fn example(alloc: Global) -> Result<Index<Sha>, Fail> {
+    let mut texts = Texts::new(alloc);
+    for text in ["red fox", "red red hen", "blue hen"] {
+        texts.push(text)?;
+    }
+    Ok(Index::build(alloc, Collection::new(alloc, texts)?)?)
+}
+
+#[test]
+fn bytes_of_three_texts(rt: HostRuntime) -> Result<(), Fail> {
+    let index = example(rt.alloc())?;
+    assert_eq!(rt; index.root(), ROOT);
+    assert_eq!(rt; index.bytes()?.as_slice(), EXAMPLE.as_slice());
+    Ok(())
+}
+
+#[test]
+fn bytes_of_a_text_without_terms(rt: HostRuntime) -> Result<(), Fail> {
+    let mut texts = Texts::new(rt.alloc());
+    texts.push("!!")?;
+    let index = Index::<Sha>::build(rt.alloc(), Collection::new(rt.alloc(), texts)?)?;
+    assert_eq!(rt; index.bytes()?.len(), 51);
+    Ok(())
+}
+
+#[test]
+fn parts_of_three_texts(rt: HostRuntime) -> Result<(), Fail> {
+    let index = example(rt.alloc())?;
+    assert_eq!(rt; index.header().documents, 3);
+    assert_eq!(rt; index.header().dict_leaves, 6);
+    assert_eq!(rt; index.collection().documents(), 3);
+    assert_eq!(rt; index.lists().len(), 4);
+    assert_eq!(rt; index.dictionary().leaf(1).term, b"blue".as_slice());
+    assert_eq!(rt; index.doc_terms(1).len(), 4);
+    assert_eq!(rt; index.doc_leaf(1).leaves, 4);
+    Ok(())
+}
+
+#[test]
+fn loads_its_own_bytes(rt: HostRuntime) -> Result<(), Fail> {
+    let bytes = EXAMPLE;
+    let index = Index::<Sha>::load(rt.alloc(), &bytes)
+        .ok()
+        .ok_or("refused")?;
+    assert_eq!(rt; index.root(), ROOT);
+    assert_eq!(rt; index.bytes()?.as_slice(), bytes.as_slice());
+    Ok(())
+}
+
+// No index is loaded from these bytes.
+fn refuses<R: Abort + Alloc<A = Global>>(rt: &R, bytes: &[u8]) {
+    let fault = Index::<Sha>::load(rt.alloc(), bytes).err();
+    assert_eq!(rt; fault, Some(LoadFault::BadIndex { at: 0 }));
+}
+
+#[test]
+fn refuses_changed_bytes(rt: HostRuntime) -> Result<(), Fail> {
+    let bytes = EXAMPLE;
+    refuses(&rt, &bytes[..151]);
+    refuses(&rt, &bytes[..47]);
+    refuses(&rt, &[]);
+    let mut longer = [0; 153];
+    longer[..152].copy_from_slice(&EXAMPLE);
+    refuses(&rt, &longer);
+    let mut impact = EXAMPLE;
+    impact[113] = 0xfa;
+    refuses(&rt, &impact);
+    let mut version = EXAMPLE;
+    version[4] = 2;
+    refuses(&rt, &version);
+    Ok(())
+}
+
+fn crosses_threads<T: Send + Sync>(_value: &T) {}
+
+#[test]
+fn types_cross_threads(rt: HostRuntime) -> Result<(), Fail> {
+    crosses_threads(&example(rt.alloc())?);
+    crosses_threads(&LoadFault::BadIndex { at: 0 });
+    crosses_threads(&OutOfMemory);
+    Ok(())
+}
