@@ -9,7 +9,7 @@ use Rattle.ats_proof.specs.declared.fault.ShapeKind.{ShapeKind}
 use Rattle.ats_proof.specs.declared.fault.ShapeKind.TheVariants.{Trailing}
 use Rattle.ats_proof.specs.declared.next.Next.{Next}
 use Rattle.ats_proof.specs.declared.next.Next.TheVariants as next
-use Rattle.ats_proof.specs.Table.{Table, End, Number, Bytes, number, head, follow, size_of, IsWithin}
+use Rattle.ats_proof.specs.Table.{Table, End, Number, Bytes, number, head, follow, size_of}
 use Rattle.ats_proof.specs.Grammar.{proof}
 use Rattle.ats_proof.specs.Front.{IsField, Come, IsFront, Spells, IsSpelling, IsLongest, IsBad, IsOpen, kind_of}
 use Rattle.ats_proof.specs.Reading.{IsNumberOf, IsTaken, IsStuck, IsRefused, IsReached}
@@ -46,11 +46,6 @@ follow_same End field n is = refl
 follow_same (Number size low high kind rest) field n is = ap rest is
 follow_same (Bytes size rest) field n is = refl
 
-pub within : (t : Table) (left : List ℕ) (n : ℕ) (after : List ℕ) → IsTaken (head t) left n after → IsWithin t n
-within End left n after taken = taken.is
-within (Number size low high kind rest) left n after taken = subst (λ (k : ℕ). (low ≤ k) × (k ≤ high)) (sym taken.value) (taken.is.1, taken.is.2)
-within (Bytes size rest) left n after taken = tt
-
 pub front_more : (bytes : List ℕ) (fields : List (List ℕ)) (t : Table) (left : List ℕ) (n : ℕ) (field after : List ℕ) → IsFront bytes fields t left
     → left ≡ field ++ after → IsField (head t) field → IsNumberOf (head t) field n → IsFront bytes (fields ++ field ∷ []) (follow t n) after
 front_more bytes fields t left n field after front parts is value = record {
@@ -65,9 +60,6 @@ reached_more bytes t left n after reached taken = record {
   fields = reached.fields ++ taken.field ∷ [];
   front = front_more bytes reached.fields t left n taken.field after reached.front taken.parts taken.is taken.value;
 }
-
-pub shorter : (n : Next) (left : List ℕ) (k : ℕ) (after : List ℕ) → IsTaken n left k after → length left ≡ size_of n + length after
-shorter n left k after taken = omega (arith, ap length taken.parts, length-append taken.field after, field_size n taken.field taken.is)
 
 -- ---- a front that is stuck is the longest
 

@@ -9,7 +9,7 @@ use Rattle.ats_proof.specs.declared.fault.ShapeKind.TheVariants.{Cut}
 use Rattle.ats_proof.specs.declared.next.Next.{Next}
 use Rattle.ats_proof.specs.declared.next.Next.TheVariants as next
 use Rattle.ats_proof.specs.Table.{Table, number, head, follow, size_of}
-use Rattle.ats_proof.specs.Front.{IsFront, IsLongest, IsFirst, IsField}
+use Rattle.ats_proof.specs.Front.{IsFront, IsLongest, IsFirst}
 use Rattle.ats_proof.specs.Reading.{IsNumberOf, IsStuck, IsRefused}
 use Rattle.ats_proof.proofs.Fronts.{field_size, front_more, longest}
 
