@@ -1,7 +1,11 @@
-"""Builds the program and times runs of it."""
+"""Builds the programs and times runs of them."""
 
+import os
+import shutil
 import subprocess
 import sys
+import tempfile
+import threading
 import time
 from pathlib import Path
 from typing import NamedTuple
@@ -15,10 +19,11 @@ NOT_BUILT = (126, 127)
 
 
 class Run(NamedTuple):
-    """Wall-clock seconds, and what was printed."""
+    """Wall-clock seconds, what was printed, and the most bytes of memory that were held."""
 
     seconds: float
     printed: str
+    peak: int
 
 
 class TooSlow(Exception):
@@ -33,17 +38,33 @@ def program() -> str:
     return str(HOME / "out" / "ats")
 
 
+def bench_program() -> str:
+    """The program that does one kind of work alone, proved and built where that is due, and kept in out/ too."""
+    room = HOME / "crates" / "ats_bench"
+    built = subprocess.run(["rt", "run", "--", "nodes", "0"], cwd=room, capture_output=True, text=True, check=False)
+    if built.returncode != 0:
+        sys.exit(f"nothing is measured, since ats_bench could not be built:\n{built.stdout}{built.stderr}")
+    return shutil.copy(room / "out" / "ats_bench", HOME / "out" / "ats_bench")
+
+
 def run(command: list[str]) -> Run:
     """One run, which must end with status 0."""
-    start = time.perf_counter()
-    try:
-        ended = subprocess.run(command, stdout=subprocess.PIPE, text=True, timeout=LIMIT, check=False)
-    except subprocess.TimeoutExpired as late:
-        raise TooSlow from late
-    seconds = time.perf_counter() - start
-    if ended.returncode != 0:
-        sys.exit(f"{command[:2]} ended with status {ended.returncode}: {ended.stdout.strip()}")
-    return Run(seconds, ended.stdout)
+    with tempfile.TemporaryFile("w+", encoding="utf-8") as printed:
+        start = time.perf_counter()
+        process = subprocess.Popen(command, stdout=printed)
+        killer = threading.Timer(LIMIT, process.kill)
+        killer.start()
+        _, status, used = os.wait4(process.pid, 0)
+        seconds = time.perf_counter() - start
+        killer.cancel()
+        process.returncode = os.waitstatus_to_exitcode(status)
+        printed.seek(0)
+        text = printed.read()
+    if seconds >= LIMIT:
+        raise TooSlow
+    if process.returncode != 0:
+        sys.exit(f"{command[:2]} ended with status {process.returncode}: {text.strip()}")
+    return Run(seconds, text, used.ru_maxrss * 1024)
 
 
 def best(command: list[str]) -> Run:

@@ -1,0 +1,108 @@
+"""Times `build` over collections of 1, 4 and 16 MiB, beside the hashing alone.
+
+usage: python3 bench/build.py [SHAPE ..]
+
+Prints, for each shape, the seconds, how they grow, and how they stand against the time that the
+SHA-256 blocks of the index's trees take alone; then the most memory that a run held. Ends with 0 where
+all that is wanted is met, and with 1 where something is not. Without SHAPE it goes through three.
+"""
+
+import json
+import sys
+import tempfile
+from collections import Counter
+from pathlib import Path
+
+import corpora
+import measure
+
+SHAPES = ("notes", "books", "lexicon")
+SIZES = (1, 4, 16)
+GROWTH = 1.2  # over the growth of the input
+AGAINST_BLOCKS = 2.5
+PEAK = 1 << 30  # bytes, for 16 MiB of short texts
+NODES = 2_000_000
+
+
+def blocks_of(length: int) -> int:
+    """The blocks of FIPS 180-4 for so many bytes: one bit, eight bytes of length, and padding follow."""
+    return (length + 8) // 64 + 1
+
+
+def blocks_of_tree(leaves: list[int]) -> int:
+    """The blocks of a tree whose leaves have these lengths: a tag is hashed in front of each."""
+    return sum(blocks_of(1 + leaf) for leaf in leaves) + (len(leaves) - 1) * blocks_of(1 + 64)
+
+
+def blocks_of_index(path: Path) -> int:
+    """All blocks that an index of the collection needs. Words stand between single spaces here."""
+    texts = json.loads(path.read_text(encoding="utf-8"))
+    sentinels, frequency, blocks = [3, 4], Counter(), 0
+    for text in texts:
+        terms = set(text.split())
+        frequency.update(terms)
+        blocks += blocks_of_tree(sentinels + [1 + len(term) + 2 for term in terms])
+    blocks += sum(blocks_of_tree([6] * count) for count in frequency.values())
+    blocks += blocks_of_tree([37, 38] + [1 + len(term) + 36 for term in frequency])
+    blocks += blocks_of_tree([36] * len(texts)) + blocks_of_tree([len(text) for text in texts])
+    return blocks + blocks_of(1 + 105)
+
+
+def seconds_of_a_block(bench: str) -> float:
+    """Of the blocks of inner nodes, which are most of an index's."""
+    none = measure.best([bench, "nodes", "0"]).seconds
+    some = measure.best([bench, "nodes", str(NODES)]).seconds
+    return (some - none) / (NODES * blocks_of(1 + 64))
+
+
+def build(program: str, path: Path) -> measure.Run:
+    best = measure.best([program, "build", str(path), str(path.with_suffix(".index"))])
+    if len(best.printed) != 65:
+        sys.exit(f"no root was printed, but: {best.printed.strip()}")
+    return best
+
+
+def judge(name: str, value: float, wanted: float) -> bool:
+    met = value <= wanted
+    print(f"  {name}: {value:.2f}, wanted at most {wanted:.2f}: {'met' if met else 'NOT MET'}")
+    return met
+
+
+def measured(program: str, block: float, name: str, folder: str) -> bool:
+    """One shape."""
+    shape = corpora.SHAPES[name]
+    print(f"build over {shape.says} ({name}); best of {measure.RUNS} runs each")
+    times, text, met, run = [], [], True, None
+    for size in SIZES:
+        path = Path(folder) / f"{name}-{size}.json"
+        documents = corpora.write(str(path), shape, size * corpora.MIB)
+        blocks = blocks_of_index(path)
+        run = build(program, path)
+        times.append(run.seconds)
+        text.append(path.stat().st_size)
+        print(f"{size:2} MiB, {documents:6} documents, {blocks:9} blocks: {run.seconds:.3f} s, {run.peak >> 20} MiB at most")
+        met &= judge("time / that of its blocks alone", run.seconds / (blocks * block), AGAINST_BLOCKS)
+    for (early, late), (small, large) in zip(zip(times, times[1:]), zip(text, text[1:])):
+        met &= judge("growth of the time / growth of the input", late / early / (large / small), GROWTH)
+    if name == "notes":
+        met &= judge("memory in GiB", run.peak / PEAK, 1.0)
+    return met
+
+
+def main() -> int:
+    names = sys.argv[1:] or SHAPES
+    program, bench = measure.program(), measure.bench_program()
+    block = seconds_of_a_block(bench)
+    print(f"SHA-256: {block * 1e6:.3f} us a block, {1 / block:.0f} blocks a second, best of {measure.RUNS} runs\n")
+    try:
+        with tempfile.TemporaryDirectory() as folder:
+            met = [measured(program, block, name, folder) for name in names]
+    except measure.TooSlow:
+        print(f"\na run took more than {measure.LIMIT} s: NOT MET")
+        return 1
+    print("all is met" if all(met) else "not all is met")
+    return 0 if all(met) else 1
+
+
+if __name__ == "__main__":
+    sys.exit(main())
