@@ -33,7 +33,7 @@ unfolding writing after
 after-writing limit bytes more =
     let sum : length bytes + length more ≡ length (bytes ++ more) = sym (length-append bytes more) in
     let kept : (if nat_lt limit (length bytes + length more) then None else joined (if nat_lt limit (length bytes) then None else Some bytes) more)
-        ≡ (if nat_lt limit (length (bytes ++ more)) then None else Some (bytes ++ more)) =
+    ≡ (if nat_lt limit (length (bytes ++ more)) then None else Some (bytes ++ more)) =
     elim (cases_lt limit (length bytes + length more)) [
       | inl over ↦ (grind (arith, nat_tests))
       | inr fits ↦ (grind (arith, nat_tests))

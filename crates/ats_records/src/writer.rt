@@ -53,7 +53,8 @@ impl ProofWriter {
     #[tactic(auto, unfolding(crate::specs::Written::writing))]
     /// A writer of at most `limit` bytes, of which none is there. It takes no memory.
     pub fn new(alloc: Global, limit: u64) -> Self
-        ensures { result ≡ writing limit [] }
+        ensures made { result ≡ writing limit [] }
+        ensures size { result.asked ≡ 0 }
     {
         ProofWriter {
             limit,
@@ -66,6 +67,7 @@ impl ProofWriter {
     fn append(&mut self, bytes: &[u8]) -> Result<(), OutOfMemory>
         requires { self.old.asked + length bytes.now ≤ 2 ^ 63 }
         ensures ok { OnOk result (self.new ≡ after self.old bytes.now) }
+        ensures size { OnOk result (self.new.asked ≡ self.old.asked + length bytes.now) }
         ensures err { OnErr result (self.new ≡ self.old) }
     {
         let asked = self.asked + bytes.len() as u64;
@@ -87,6 +89,7 @@ impl ProofWriter {
     ) -> Result<(), OutOfMemory>
         requires { self.old.asked + 113 ≤ 2 ^ 63 }
         ensures ok { OnOk result (self.new ≡ after self.old (front_record algorithm (header_bytes header.now.documents header.now.dict_leaves header.now.dict_root header.now.docs_root header.now.texts_root) terms)) }
+        ensures size { OnOk result (self.new.asked ≡ self.old.asked + 113) }
         ensures err { OnErr result (self.new ≡ self.old) }
     {
         let mut record = Packed::new();
@@ -101,6 +104,7 @@ impl ProofWriter {
     pub fn count16(&mut self, n: u16) -> Result<(), OutOfMemory>
         requires { self.old.asked + 2 ≤ 2 ^ 63 }
         ensures ok { OnOk result (self.new ≡ after self.old (count16_record n)) }
+        ensures size { OnOk result (self.new.asked ≡ self.old.asked + 2) }
         ensures err { OnErr result (self.new ≡ self.old) }
     {
         self.append(&n.to_be_bytes())
@@ -110,6 +114,7 @@ impl ProofWriter {
     pub fn count32(&mut self, n: u32) -> Result<(), OutOfMemory>
         requires { self.old.asked + 4 ≤ 2 ^ 63 }
         ensures ok { OnOk result (self.new ≡ after self.old (count32_record n)) }
+        ensures size { OnOk result (self.new.asked ≡ self.old.asked + 4) }
         ensures err { OnErr result (self.new ≡ self.old) }
     {
         self.append(&n.to_be_bytes())
@@ -121,6 +126,7 @@ impl ProofWriter {
         requires term { length leaf.now.term.now ≤ 64 }
         requires few { self.old.asked + 41 + length leaf.now.term.now ≤ 2 ^ 63 }
         ensures ok { OnOk result (self.new ≡ after self.old (dict_leaf_record position leaf.now.term.now leaf.now.f leaf.now.list_root)) }
+        ensures size { OnOk result (self.new.asked ≡ self.old.asked + 41 + length leaf.now.term.now) }
         ensures err { OnErr result (self.new ≡ self.old) }
     {
         let mut record = Packed::new();
@@ -136,6 +142,7 @@ impl ProofWriter {
     pub fn digest(&mut self, digest: &[u8; 32]) -> Result<(), OutOfMemory>
         requires { self.old.asked + 32 ≤ 2 ^ 63 }
         ensures ok { OnOk result (self.new ≡ after self.old (digest_record digest.now)) }
+        ensures size { OnOk result (self.new.asked ≡ self.old.asked + 32) }
         ensures err { OnErr result (self.new ≡ self.old) }
     {
         self.append(digest)
@@ -145,6 +152,7 @@ impl ProofWriter {
     pub fn slot(&mut self, slot: Slot) -> Result<(), OutOfMemory>
         requires { self.old.asked + 3 ≤ 2 ^ 63 }
         ensures ok { OnOk result (self.new ≡ after self.old (slot_record slot.present slot.index)) }
+        ensures size { OnOk result (self.new.asked ≡ self.old.asked + 3) }
         ensures err { OnErr result (self.new ≡ self.old) }
     {
         let [high, low] = slot.index.to_be_bytes();
@@ -155,6 +163,7 @@ impl ProofWriter {
     pub fn met(&mut self, id: u32) -> Result<(), OutOfMemory>
         requires { self.old.asked + 4 ≤ 2 ^ 63 }
         ensures ok { OnOk result (self.new ≡ after self.old (met_record id)) }
+        ensures size { OnOk result (self.new.asked ≡ self.old.asked + 4) }
         ensures err { OnErr result (self.new ≡ self.old) }
     {
         self.append(&id.to_be_bytes())
@@ -164,6 +173,7 @@ impl ProofWriter {
     pub fn entry(&mut self, index: u32, impact: u16) -> Result<(), OutOfMemory>
         requires { self.old.asked + 6 ≤ 2 ^ 63 }
         ensures ok { OnOk result (self.new ≡ after self.old (entry_record index impact)) }
+        ensures size { OnOk result (self.new.asked ≡ self.old.asked + 6) }
         ensures err { OnErr result (self.new ≡ self.old) }
     {
         let [a, b, c, d] = index.to_be_bytes();
@@ -175,6 +185,7 @@ impl ProofWriter {
     pub fn doc_leaf(&mut self, leaf: &DocLeaf) -> Result<(), OutOfMemory>
         requires { self.old.asked + 36 ≤ 2 ^ 63 }
         ensures ok { OnOk result (self.new ≡ after self.old (doc_leaf_record leaf.now.leaves leaf.now.root)) }
+        ensures size { OnOk result (self.new.asked ≡ self.old.asked + 36) }
         ensures err { OnErr result (self.new ≡ self.old) }
     {
         self.append(&leaf.bytes())
@@ -186,6 +197,7 @@ impl ProofWriter {
         requires term { length leaf.now.term.now ≤ 64 }
         requires few { self.old.asked + 7 + length leaf.now.term.now ≤ 2 ^ 63 }
         ensures ok { OnOk result (self.new ≡ after self.old (term_leaf_record position leaf.now.term.now leaf.now.impact)) }
+        ensures size { OnOk result (self.new.asked ≡ self.old.asked + 7 + length leaf.now.term.now) }
         ensures err { OnErr result (self.new ≡ self.old) }
     {
         let mut record = Packed::new();
@@ -200,6 +212,7 @@ impl ProofWriter {
     pub fn answer(&mut self, index: u32) -> Result<(), OutOfMemory>
         requires { self.old.asked + 4 ≤ 2 ^ 63 }
         ensures ok { OnOk result (self.new ≡ after self.old (answer_record index)) }
+        ensures size { OnOk result (self.new.asked ≡ self.old.asked + 4) }
         ensures err { OnErr result (self.new ≡ self.old) }
     {
         self.append(&index.to_be_bytes())
