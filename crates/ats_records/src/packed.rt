@@ -1,6 +1,6 @@
 //! A record of a few parts, put together before it is written.
 
-ghost use Rattle.std.specs.Prelude.{◌≡◌, ◌+◌, ◌≤◌, ◌++◌, [], length};
+ghost use Rattle.std.specs.Prelude.{◌≡◌, ◌+◌, ◌≤◌, ◌++◌, ◌∷◌, [], length};
 
 use std::marker::Model;
 
@@ -42,6 +42,16 @@ impl Packed {
         let end = self.len + part.len();
         self.bytes[self.len..end].copy_from_slice(part);
         self.len = end;
+    }
+
+    /// Puts a term at the end, behind its length in one byte.
+    pub(crate) fn put_term(&mut self, term: &[u8])
+        requires short { length term.now ≤ 64 }
+        requires room { length self.old + 65 ≤ 113 }
+        ensures { self.new ≡ self.old ++ length term.now ∷ term.now }
+    {
+        self.put(&[term.len() as u8]);
+        self.put(term);
     }
 
     pub(crate) fn as_slice(&self) -> &[u8]

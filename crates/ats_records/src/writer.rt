@@ -131,8 +131,7 @@ impl ProofWriter {
     {
         let mut record = Packed::new();
         record.put(&position.to_be_bytes());
-        record.put(&[leaf.term.len() as u8]);
-        record.put(leaf.term);
+        record.put_term(leaf.term);
         record.put(&leaf.f.to_be_bytes());
         record.put(&leaf.list_root);
         self.append(record.as_slice())
@@ -202,8 +201,7 @@ impl ProofWriter {
     {
         let mut record = Packed::new();
         record.put(&position.to_be_bytes());
-        record.put(&[leaf.term.len() as u8]);
-        record.put(leaf.term);
+        record.put_term(leaf.term);
         record.put(&leaf.impact.to_be_bytes());
         self.append(record.as_slice())
     }
