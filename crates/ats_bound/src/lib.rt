@@ -18,6 +18,7 @@ mod settling;
 #[cfg(test)]
 mod tests;
 mod walk;
+mod work;
 
 pub use bracket::{Bracket, Brackets};
 pub use choosing::choose;
@@ -27,3 +28,4 @@ pub use memory::OutOfMemory;
 pub use picks::Picks;
 pub use settling::settled;
 pub use walk::Walk;
+pub use work::{Mark, Work};
