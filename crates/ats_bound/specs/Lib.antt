@@ -3,3 +3,4 @@ pub mod Settled
 pub mod Chosen
 pub mod Placed
 pub mod Work
+pub mod Ranked

@@ -1,0 +1,1 @@
+-- A settled answer is a top answer.
