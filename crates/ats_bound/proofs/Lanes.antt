@@ -1,12 +1,11 @@
 -- What the shown entries of one list say of a document's impact there.
-use Rattle.std.proofs.Common.{◌≡◌, ◌≢◌, ◌⊎◌, ◌<◌, ◌≤◌, ◌+◌, ◌-◌, ◌*◌, ◌||◌, ℕ, zero, suc, Bool, true, false, nat_eq, cond, List, [], ◌∷◌, length, take, drop, map, get_or, refl, sym, ap, subst, ◌∙◌, inl, inr, arith, length-take, length-drop}
-use Rattle.std.specs.List.{All, sum_by, list_any}
+use Rattle.std.proofs.Common.{◌≡◌, ◌≢◌, ◌<◌, ◌≤◌, ◌+◌, ◌-◌, ℕ, suc, Bool, true, false, nat_eq, cond, List, [], ◌∷◌, length, take, drop, map, get_or, refl, sym, ap, ◌∙◌, inl, inr, arith, length-take, length-drop}
+use Rattle.std.specs.List.{All, list_any}
 use Rattle.std.proofs.lemmas.Bool.{cases_order, cases_lt, cases_Bool}
 use Rattle.std.proofs.lemmas.Bool.Decides.{nat_tests}
 use Rattle.std.proofs.lemmas.List.{get_or-take, get_or-drop, get_or-map, get_or_default}
 use Rattle.std.proofs.lemmas.List.Folds.{list_any_at}
 use Rattle.std.proofs.lemmas.List.Sums.{sum_by-cons, sum_by-take-drop, sum_by-take-le, get_or-le-sum_by}
-use Rattle.ats_lists.specs.Lists.{IsList}
 use Rattle.ats_lists.specs.declared.entry.Entry.{Entry}
 use Rattle.ats_bound.specs.Cut.{ShownLane, lane_of, names, rest_impact, shown_impact}
 use Rattle.ats_bound.specs.Ranked.{WholeLane, IsWholeLane, impact_in}
@@ -151,9 +150,9 @@ module _ (n : ℕ) (lane : WholeLane) (is : IsWholeLane n lane) (doc : ℕ) wher
   hidden_none seen =
       let found = place seen in
       unnamed_has_none doc (drop k entries) (λ j d inside same.
-        let here = hidden_at j d inside in
-        let other : (get_or entries (k + j) none).doc ≡ doc = sym (ap (λ (e : Entry). e.doc) here.1) ∙ same in
-        is.list.once found.0 (k + j) none (omega (arith, found.1)) here.0 (found.2 ∙ sym other))
+      let here = hidden_at j d inside in
+      let other : (get_or entries (k + j) none).doc ≡ doc = sym (ap (λ (e : Entry). e.doc) here.1) ∙ same in
+      is.list.once found.0 (k + j) none (omega (arith, found.1)) here.0 (found.2 ∙ sym other))
 
   abbrev last : ℕ
   last = (get_or entries (k - 1) none).impact
@@ -174,15 +173,15 @@ module _ (n : ℕ) (lane : WholeLane) (is : IsWholeLane n lane) (doc : ℕ) wher
     | inl more ↦
         let fall : All (λ (e : Entry). e.impact ≤ last) (drop k entries) =
         λ j d inside.
-          let here = hidden_at j d inside in
-          let le : (get_or entries (k + j) none).impact ≤ last = is.list.falling (k - 1) (k + j) none (omega (arith, is.some)) here.0 in
-          rw (here.1) le in
+        let here = hidden_at j d inside in
+        let le : (get_or entries (k + j) none).impact ≤ last = is.list.falling (k - 1) (k + j) none (omega (arith, is.some)) here.0 in
+        rw (here.1) le in
         let once : (i j : ℕ) (d : Entry) → i < j → j < length (drop k entries)
-            → (get_or (drop k entries) i d).doc ≢ (get_or (drop k entries) j d).doc =
+        → (get_or (drop k entries) i d).doc ≢ (get_or (drop k entries) j d).doc =
         λ i j d less inside.
-          let first = hidden_at i d (omega (arith, less, inside)) in
-          let second = hidden_at j d inside in
-          rw (first.1, second.1) (is.list.once (k + i) (k + j) none (omega (arith, less)) second.0) in
+        let first = hidden_at i d (omega (arith, less, inside)) in
+        let second = hidden_at j d inside in
+        rw (first.1, second.1) (is.list.once (k + i) (k + j) none (omega (arith, less)) second.0) in
         omega (arith, at_most doc last (drop k entries) fall once, rest_is more)
     | inr all ↦ omega (arith, unnamed_has_none doc (drop k entries) (λ j d inside. absurd (omega (arith, inside, length-drop k entries, all))))
   ]

@@ -1,5 +1,5 @@
 -- The bytes of each record of a proof. All numbers have their high byte first.
-use Rattle.std.specs.Prelude.{ℕ, List, [], ◌∷◌, ◌++◌, Bool, true, false}
+use Rattle.std.specs.Prelude.{ℕ, List, ◌∷◌, ◌++◌, Bool, true, false}
 use Rattle.std.specs.Int.{to_be_bytes, w16, w32}
 use Rattle.ats_dict.specs.Entry.{dict_leaf_bytes}
 use Rattle.ats_doctree.specs.DocumentLeaf.{doc_leaf_bytes}

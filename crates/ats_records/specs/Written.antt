@@ -1,5 +1,5 @@
 -- What a writer of records was asked for.
-use Rattle.std.specs.Prelude.{◌≡◌, ◌≤◌, ◌<◌, ◌+◌, ℕ, List, [], ◌++◌, length, nat_lt, if◌then◌else◌, Option, Some, None}
+use Rattle.std.specs.Prelude.{◌≡◌, ◌≤◌, ◌<◌, ◌+◌, ℕ, List, ◌++◌, length, nat_lt, if◌then◌else◌, Option, Some, None}
 
 -- the most bytes that a writer keeps, how many it was asked for, and which, while they are no more than that
 pub record Written : Type 0 where

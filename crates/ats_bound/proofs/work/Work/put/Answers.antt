@@ -1,4 +1,4 @@
-use Rattle.std.proofs.Common.{◌≡◌, ◌<◌, ℕ, List, take, length, sym, subst, ap₂, arith, length-take}
+use Rattle.std.proofs.Common.{◌<◌, ℕ, List, take, length, sym, subst, ap₂, arith, length-take}
 use Rattle.std.proofs.Math.Seq.{take-set-lt}
 use Rattle.std.proofs.lemmas.List.{length-set}
 use Rattle.ats_bound.specs.declared.work.Mark.{Mark}

@@ -1,5 +1,4 @@
-use Rattle.std.proofs.Common.{rules, ◌≡◌, ◌∙◌, sym, ap, ap₂, ◌+◌, ◌≤◌, ◌<◌, [], length, Some, None, OnOk, ℕ, true, false, nat_lt, List, ◌++◌, arith}
-use Rattle.ats_records.specs.Written.{Written, after}
+use Rattle.std.proofs.Common.{sym, length}
 use Rattle.ats_records.proofs.Appending.{after_beyond, after_within, none_kept}
 use Rattle.ats_records.proofs.writer.ProofWriter.append.Goals as goal
 use Rattle.ats_records.proofs.writer.ProofWriter.append.Goals.{then-asked-self+in-Some-1, then-asked-self+in-None-1, else-asked-self+in-Some+in_ok-extend, else-asked-self+in_default}
