@@ -29,7 +29,7 @@ none_kept limit asked n (Some bytes) holds not fits = not bytes refl
 
 -- what is asked for after some bytes stands behind them
 pub after-writing : (limit : ℕ) (bytes more : List ℕ) → after (writing limit bytes) more ≡ writing limit (bytes ++ more)
-unfolding writing after
+unfolding after
 after-writing limit bytes more =
     let sum : length bytes + length more ≡ length (bytes ++ more) = sym (length-append bytes more) in
     let kept : (if nat_lt limit (length bytes + length more) then None else joined (if nat_lt limit (length bytes) then None else Some bytes) more)

@@ -8,9 +8,10 @@ pub record Written : Type 0 where
   pub kept : Option (List ℕ)
 
 -- these bytes were asked for, in all
-unfoldable pub writing : ℕ → List ℕ → Written
+abbrev pub writing : ℕ → List ℕ → Written
 writing limit bytes = record { limit = limit; asked = length bytes; kept = if nat_lt limit (length bytes) then None else Some bytes }
 
+-- more bytes behind those that are kept
 abbrev pub joined : Option (List ℕ) → List ℕ → Option (List ℕ)
 joined None more = None
 joined (Some bytes) more = Some (bytes ++ more)

@@ -1,6 +1,6 @@
 //! The writer of a proof's records.
 
-ghost use Rattle.std.specs.Prelude.{◌≡◌, ◌+◌, ◌≤◌, ◌<◌, ◌^◌, [], length, Some, OnOk, OnErr, IfOk, IfErr};
+ghost use Rattle.std.specs.Prelude.{◌≡◌, ◌+◌, ◌≤◌, ◌<◌, ◌^◌, ℕ, List, [], length, Some, OnOk, OnErr, IfOk, IfErr};
 ghost use Rattle.ats_dict.specs.Header.{header_bytes};
 ghost use Rattle.ats_records.specs.Records.{algorithm_byte, front_record, count16_record, count32_record, dict_leaf_record, digest_record, slot_record, met_record, entry_record, doc_leaf_record, term_leaf_record, answer_record};
 ghost use Rattle.ats_records.specs.Written.{writing, after};
@@ -50,7 +50,6 @@ fn algorithm_byte(algorithm: Algorithm) -> u8
 }
 
 impl ProofWriter {
-    #[tactic(auto, unfolding(crate::specs::Written::writing))]
     /// A writer of at most `limit` bytes, of which none is there. It takes no memory.
     pub fn new(alloc: Global, limit: u64) -> Self
         ensures made { result ≡ writing limit [] }
@@ -219,6 +218,7 @@ impl ProofWriter {
     /// All bytes, or how many were asked for where those are more than the limit.
     pub fn finish(self) -> Result<Bytes, u64>
         ensures bytes { IfOk result (λ bytes. self.kept ≡ Some bytes) }
+        ensures whole { (bytes : List ℕ) → self ≡ writing self.limit bytes → IfOk result (λ made. made ≡ bytes) }
         ensures number { IfOk result (λ bytes. length bytes ≡ self.asked) }
         ensures within { IfOk result (λ _. self.asked ≤ self.limit) }
         ensures asked { IfErr result (λ n. n ≡ self.asked) }
