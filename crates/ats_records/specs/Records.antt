@@ -2,18 +2,25 @@
 use Rattle.std.specs.Prelude.{ℕ, List, ◌∷◌, ◌++◌, Bool, true, false}
 use Rattle.std.specs.Int.{to_be_bytes, w16, w32}
 use Rattle.ats_dict.specs.Entry.{dict_leaf_bytes}
+use Rattle.ats_dict.specs.Header.{header_bytes}
+use Rattle.ats_dict.specs.declared.header.Header.{Header}
 use Rattle.ats_doctree.specs.DocumentLeaf.{doc_leaf_bytes}
 use Rattle.ats_doctree.specs.Sentinels.{leaf_bytes}
+use Rattle.ats_doctree.specs.declared.doc_leaf.DocLeaf.{DocLeaf}
 use Rattle.ats_records.specs.declared.record.Algorithm.{Algorithm}
 use Rattle.ats_records.specs.declared.record.Algorithm.TheVariants.{Tra, Tnra}
+use Rattle.ats_records.specs.declared.record.Slot.{Slot}
 
 abbrev pub algorithm_byte : Algorithm → ℕ
 algorithm_byte Tra = 1
 algorithm_byte Tnra = 2
 
 -- ATSP, version 1, the algorithm, the header, and how many terms the query has in 2 bytes
-abbrev pub front_record : Algorithm → List ℕ → ℕ → List ℕ
-front_record algorithm header terms = 65 ∷ 84 ∷ 83 ∷ 80 ∷ 1 ∷ algorithm_byte algorithm ∷ header ++ to_be_bytes w16 terms
+abbrev pub front_record : Algorithm → Header → ℕ → List ℕ
+front_record algorithm header terms =
+    65 ∷ 84 ∷ 83 ∷ 80 ∷ 1 ∷ algorithm_byte algorithm
+    ∷ header_bytes header.documents header.dict_leaves header.dict_root header.docs_root header.texts_root
+    ++ to_be_bytes w16 terms
 
 -- a count, in 2 bytes or in 4
 abbrev pub count16_record : ℕ → List ℕ
@@ -36,8 +43,8 @@ kind_byte true = 1
 kind_byte false = 0
 
 -- the kind in one byte, then the index in 2
-abbrev pub slot_record : Bool → ℕ → List ℕ
-slot_record present index = kind_byte present ∷ to_be_bytes w16 index
+abbrev pub slot_record : Slot → List ℕ
+slot_record slot = kind_byte slot.present ∷ to_be_bytes w16 slot.index
 
 -- the number of a met document in 4 bytes
 abbrev pub met_record : ℕ → List ℕ
@@ -48,8 +55,8 @@ abbrev pub entry_record : ℕ → ℕ → List ℕ
 entry_record index impact = to_be_bytes w32 index ++ to_be_bytes w16 impact
 
 -- the leaf of the documents as it is hashed
-abbrev pub doc_leaf_record : ℕ → List ℕ → List ℕ
-doc_leaf_record leaves root = doc_leaf_bytes leaves root
+abbrev pub doc_leaf_record : DocLeaf → List ℕ
+doc_leaf_record leaf = doc_leaf_bytes leaf.leaves leaf.root
 
 -- the position in 4 bytes, then the leaf of the document's terms as it is hashed
 abbrev pub term_leaf_record : ℕ → List ℕ → ℕ → List ℕ

@@ -1,7 +1,6 @@
 //! The writer of a proof's records.
 
-ghost use Rattle.std.specs.Prelude.{◌≡◌, ◌+◌, ◌≤◌, ◌<◌, ◌^◌, ℕ, List, [], length, Some, OnOk, OnErr, IfOk, IfErr};
-ghost use Rattle.ats_dict.specs.Header.{header_bytes};
+ghost use Rattle.std.specs.Prelude.{◌≡◌, ◌+◌, ◌≤◌, ◌<◌, ◌^◌, ℕ, List, [], length, Some, IsOk, OnOk, OnErr, IfOk, IfErr};
 ghost use Rattle.ats_records.specs.Records.{algorithm_byte, front_record, count16_record, count32_record, dict_leaf_record, digest_record, slot_record, met_record, entry_record, doc_leaf_record, term_leaf_record, answer_record};
 ghost use Rattle.ats_records.specs.Written.{writing, after};
 
@@ -21,7 +20,8 @@ const VERSION: u8 = 1;
 /// A proof that is being written, record by record.
 ///
 /// It keeps the bytes while they are within its limit. Past that it only counts them, and takes no memory.
-/// A writer keeps its allocator. Which record comes next is the caller's to know.
+/// A writer keeps its allocator. Which record comes next is the caller's to know. Where a record finds no
+/// memory, the writer is as it was before.
 #[derive(Drop)]
 pub struct ProofWriter {
     limit: u64,
@@ -67,6 +67,7 @@ impl ProofWriter {
         requires { self.old.asked + length bytes.now ≤ 2 ^ 63 }
         ensures ok { OnOk result (self.new ≡ after self.old bytes.now) }
         ensures size { OnOk result (self.new.asked ≡ self.old.asked + length bytes.now) }
+        ensures counts { self.old.limit < self.old.asked + length bytes.now → IsOk result }
         ensures err { OnErr result (self.new ≡ self.old) }
     {
         let asked = self.asked + bytes.len() as u64;
@@ -87,8 +88,9 @@ impl ProofWriter {
         terms: u16,
     ) -> Result<(), OutOfMemory>
         requires { self.old.asked + 113 ≤ 2 ^ 63 }
-        ensures ok { OnOk result (self.new ≡ after self.old (front_record algorithm (header_bytes header.now.documents header.now.dict_leaves header.now.dict_root header.now.docs_root header.now.texts_root) terms)) }
+        ensures ok { OnOk result (self.new ≡ after self.old (front_record algorithm header.now terms)) }
         ensures size { OnOk result (self.new.asked ≡ self.old.asked + 113) }
+        ensures counts { self.old.limit < self.old.asked + 113 → IsOk result }
         ensures err { OnErr result (self.new ≡ self.old) }
     {
         let mut record = Packed::new();
@@ -104,6 +106,7 @@ impl ProofWriter {
         requires { self.old.asked + 2 ≤ 2 ^ 63 }
         ensures ok { OnOk result (self.new ≡ after self.old (count16_record n)) }
         ensures size { OnOk result (self.new.asked ≡ self.old.asked + 2) }
+        ensures counts { self.old.limit < self.old.asked + 2 → IsOk result }
         ensures err { OnErr result (self.new ≡ self.old) }
     {
         self.append(&n.to_be_bytes())
@@ -114,6 +117,7 @@ impl ProofWriter {
         requires { self.old.asked + 4 ≤ 2 ^ 63 }
         ensures ok { OnOk result (self.new ≡ after self.old (count32_record n)) }
         ensures size { OnOk result (self.new.asked ≡ self.old.asked + 4) }
+        ensures counts { self.old.limit < self.old.asked + 4 → IsOk result }
         ensures err { OnErr result (self.new ≡ self.old) }
     {
         self.append(&n.to_be_bytes())
@@ -126,6 +130,7 @@ impl ProofWriter {
         requires few { self.old.asked + 41 + length leaf.now.term.now ≤ 2 ^ 63 }
         ensures ok { OnOk result (self.new ≡ after self.old (dict_leaf_record position leaf.now.term.now leaf.now.f leaf.now.list_root)) }
         ensures size { OnOk result (self.new.asked ≡ self.old.asked + 41 + length leaf.now.term.now) }
+        ensures counts { self.old.limit < self.old.asked + 41 + length leaf.now.term.now → IsOk result }
         ensures err { OnErr result (self.new ≡ self.old) }
     {
         let mut record = Packed::new();
@@ -141,6 +146,7 @@ impl ProofWriter {
         requires { self.old.asked + 32 ≤ 2 ^ 63 }
         ensures ok { OnOk result (self.new ≡ after self.old (digest_record digest.now)) }
         ensures size { OnOk result (self.new.asked ≡ self.old.asked + 32) }
+        ensures counts { self.old.limit < self.old.asked + 32 → IsOk result }
         ensures err { OnErr result (self.new ≡ self.old) }
     {
         self.append(digest)
@@ -149,8 +155,9 @@ impl ProofWriter {
     /// Where a section shows a term.
     pub fn slot(&mut self, slot: Slot) -> Result<(), OutOfMemory>
         requires { self.old.asked + 3 ≤ 2 ^ 63 }
-        ensures ok { OnOk result (self.new ≡ after self.old (slot_record slot.present slot.index)) }
+        ensures ok { OnOk result (self.new ≡ after self.old (slot_record slot)) }
         ensures size { OnOk result (self.new.asked ≡ self.old.asked + 3) }
+        ensures counts { self.old.limit < self.old.asked + 3 → IsOk result }
         ensures err { OnErr result (self.new ≡ self.old) }
     {
         let [high, low] = slot.index.to_be_bytes();
@@ -162,6 +169,7 @@ impl ProofWriter {
         requires { self.old.asked + 4 ≤ 2 ^ 63 }
         ensures ok { OnOk result (self.new ≡ after self.old (met_record id)) }
         ensures size { OnOk result (self.new.asked ≡ self.old.asked + 4) }
+        ensures counts { self.old.limit < self.old.asked + 4 → IsOk result }
         ensures err { OnErr result (self.new ≡ self.old) }
     {
         self.append(&id.to_be_bytes())
@@ -172,6 +180,7 @@ impl ProofWriter {
         requires { self.old.asked + 6 ≤ 2 ^ 63 }
         ensures ok { OnOk result (self.new ≡ after self.old (entry_record index impact)) }
         ensures size { OnOk result (self.new.asked ≡ self.old.asked + 6) }
+        ensures counts { self.old.limit < self.old.asked + 6 → IsOk result }
         ensures err { OnErr result (self.new ≡ self.old) }
     {
         let [a, b, c, d] = index.to_be_bytes();
@@ -182,8 +191,9 @@ impl ProofWriter {
     /// A leaf of the documents.
     pub fn doc_leaf(&mut self, leaf: &DocLeaf) -> Result<(), OutOfMemory>
         requires { self.old.asked + 36 ≤ 2 ^ 63 }
-        ensures ok { OnOk result (self.new ≡ after self.old (doc_leaf_record leaf.now.leaves leaf.now.root)) }
+        ensures ok { OnOk result (self.new ≡ after self.old (doc_leaf_record leaf.now)) }
         ensures size { OnOk result (self.new.asked ≡ self.old.asked + 36) }
+        ensures counts { self.old.limit < self.old.asked + 36 → IsOk result }
         ensures err { OnErr result (self.new ≡ self.old) }
     {
         self.append(&leaf.bytes())
@@ -196,6 +206,7 @@ impl ProofWriter {
         requires few { self.old.asked + 7 + length leaf.now.term.now ≤ 2 ^ 63 }
         ensures ok { OnOk result (self.new ≡ after self.old (term_leaf_record position leaf.now.term.now leaf.now.impact)) }
         ensures size { OnOk result (self.new.asked ≡ self.old.asked + 7 + length leaf.now.term.now) }
+        ensures counts { self.old.limit < self.old.asked + 7 + length leaf.now.term.now → IsOk result }
         ensures err { OnErr result (self.new ≡ self.old) }
     {
         let mut record = Packed::new();
@@ -210,6 +221,7 @@ impl ProofWriter {
         requires { self.old.asked + 4 ≤ 2 ^ 63 }
         ensures ok { OnOk result (self.new ≡ after self.old (answer_record index)) }
         ensures size { OnOk result (self.new.asked ≡ self.old.asked + 4) }
+        ensures counts { self.old.limit < self.old.asked + 4 → IsOk result }
         ensures err { OnErr result (self.new ≡ self.old) }
     {
         self.append(&index.to_be_bytes())
