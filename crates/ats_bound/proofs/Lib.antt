@@ -1,3 +1,6 @@
 pub mod Places
 pub mod Chain
 pub mod Order
+pub mod Lanes
+pub mod Scores
+pub mod Ranking

@@ -11,12 +11,12 @@ use Rattle.ats_impact.specs.Rank.{times}
 pub times-cons : (n m : ℕ) (numbers : List ℕ) → times n (m ∷ numbers) ≡ cond (nat_eq m n) 1 0 + times n numbers
 times-cons n m numbers = sum_by-cons (λ x. cond (nat_eq x n) 1 0) m numbers
 
-times_same : (n m : ℕ) (numbers : List ℕ) → m ≡ n → times n (m ∷ numbers) ≡ 1 + times n numbers
+pub times_same : (n m : ℕ) (numbers : List ℕ) → m ≡ n → times n (m ∷ numbers) ≡ 1 + times n numbers
 times_same n m numbers is =
     let yes : nat_eq m n ≡ true = grind (arith, nat_tests) in
     times-cons n m numbers ∙ ap (λ b. cond b 1 0 + times n numbers) yes
 
-times_other : (n m : ℕ) (numbers : List ℕ) → ((m < n) ⊎ (n < m)) → times n (m ∷ numbers) ≡ times n numbers
+pub times_other : (n m : ℕ) (numbers : List ℕ) → ((m < n) ⊎ (n < m)) → times n (m ∷ numbers) ≡ times n numbers
 times_other n m numbers other =
     let no : nat_eq m n ≡ false = grind (arith, nat_tests) in
     times-cons n m numbers ∙ ap (λ b. cond b 1 0 + times n numbers) no ∙ zero-add (times n numbers)

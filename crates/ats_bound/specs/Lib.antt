@@ -2,3 +2,5 @@ pub mod Cut
 pub mod Settled
 pub mod Chosen
 pub mod Placed
+pub mod Work
+pub mod Ranked

@@ -12,18 +12,22 @@ mod bracket;
 mod choosing;
 mod cut;
 mod lane;
+mod laws;
 mod memory;
 mod picks;
 mod settling;
 #[cfg(test)]
 mod tests;
 mod walk;
+mod work;
 
 pub use bracket::{Bracket, Brackets};
 pub use choosing::choose;
 pub use cut::Cut;
 pub use lane::Lane;
+pub use laws::{cuts_bound_scores, settled_answers_are_top};
 pub use memory::OutOfMemory;
 pub use picks::Picks;
 pub use settling::settled;
 pub use walk::Walk;
+pub use work::{Mark, Work};

@@ -1,7 +1,8 @@
 ghost use Rattle.std.specs.Prelude.{◌≡◌, [], ◌∷◌};
 ghost use Rattle.ats_bound.specs.Cut.{bracket, lane_of, threshold};
 
-use crate::{Bracket, Brackets, Cut, Lane, OutOfMemory, Picks, Walk, choose, settled};
+use crate::{Bracket, Brackets, Cut, Lane, Mark, OutOfMemory, Picks, Walk, Work, choose, settled};
+use ats_hash::Steps;
 use ats_impact::Top;
 use ats_lists::Entry;
 use std::test::Fail;
@@ -113,6 +114,29 @@ fn definitions_bound_the_sample() {
     sample_bounds();
 }
 
+#[test]
+fn begins_anew_in_the_same_room(rt: HostRuntime) -> Result<(), Fail> {
+    let mut work = Work::with_room(rt.alloc(), 3)?;
+    let mut steps = Steps::new(rt.alloc());
+    assert_eq!(rt; work.room(), 3);
+    work.begin(2, &mut steps);
+    let mark = Mark {
+        lo: 13014,
+        held: 6378,
+        list: 1,
+        row: true,
+    };
+    work.put(1, mark, &mut steps);
+    assert_eq!(rt; work.get(1, &mut steps), mark);
+    assert_eq!(rt; work.get(0, &mut steps).lo, 0);
+    assert_eq!(rt; steps.count(), 5);
+    assert!(rt; work.room() == 3);
+    work.begin(3, &mut steps);
+    assert!(rt; !work.get(1, &mut steps).row);
+    assert_eq!(rt; steps.count(), 9);
+    Ok(())
+}
+
 fn crosses_threads<T: Send + Sync>(_value: &T) {}
 
 #[test]
@@ -133,4 +157,5 @@ fn types_cross_threads(rt: HostRuntime) {
     crosses_threads(&Cut::new(alloc));
     crosses_threads(&Brackets::new(alloc));
     crosses_threads(&Picks::new(alloc));
+    crosses_threads(&Work::with_room(alloc, 0));
 }

@@ -1,0 +1,29 @@
+//! What a cut of whole lists says of scores, as contracts of functions that do nothing. No hash and no text
+//! stands in these sentences: scores are any sums over lists.
+
+ghost use Rattle.std.specs.Prelude.{◌≡◌, ◌+◌, ◌<◌, ◌≤◌, ℕ, List};
+ghost use Rattle.std.specs.List.{All};
+ghost use Rattle.ats_impact.specs.Rank.{IsTopBy};
+ghost use Rattle.ats_bound.specs.declared.bracket.Bracket.{Bracket};
+ghost use Rattle.ats_bound.specs.Cut.{IsMet, bracket, lower, missing, threshold};
+ghost use Rattle.ats_bound.specs.Settled.{ArePicks, IsSettled};
+ghost use Rattle.ats_bound.specs.Ranked.{WholeLane, AreScores, HoldsScore, AreOfMet, answer_of, cut_of};
+
+/// A document that no shown entry names scores at most the threshold. One that a shown entry names is one
+/// of the n documents and scores above 0, and its bracket from the shown entries holds its score.
+pub fn cuts_bound_scores()
+    ensures unmet { (n : ℕ) (score : ℕ → ℕ) (lanes : List WholeLane) (doc : ℕ) → AreScores n score lanes → doc < n
+        → ¬ IsMet (cut_of lanes) doc → score doc ≤ threshold (cut_of lanes) }
+    ensures met { (n : ℕ) (score : ℕ → ℕ) (lanes : List WholeLane) (doc : ℕ) → AreScores n score lanes
+        → IsMet (cut_of lanes) doc → (doc < n) × (0 < score doc) }
+    ensures bracket { (n : ℕ) (score : ℕ → ℕ) (lanes : List WholeLane) (doc : ℕ) → AreScores n score lanes
+        → IsMet (cut_of lanes) doc → HoldsScore score (bracket (cut_of lanes) doc) }
+{}
+
+/// A settled answer is a top answer, whatever the brackets are made from: they need only be those of the
+/// met documents, and hold their scores.
+pub fn settled_answers_are_top()
+    ensures { (n r : ℕ) (score : ℕ → ℕ) (lanes : List WholeLane) (brackets : List Bracket) (picks : List ℕ)
+        → AreScores n score lanes → AreOfMet lanes brackets → All (HoldsScore score) brackets → ArePicks brackets picks
+        → IsSettled brackets picks (threshold (cut_of lanes)) r → IsTopBy n score r (answer_of brackets picks) }
+{}

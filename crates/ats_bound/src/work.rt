@@ -1,0 +1,112 @@
+//! The marks of a check.
+
+ghost use Rattle.std.specs.Prelude.{◌≡◌, ◌+◌, ◌<◌, ◌≤◌, ◌^◌, length, replicate, take, slice_set, IfOk};
+ghost use Rattle.ats_bound.specs.Work.{zero_mark, begun, mark_at};
+
+use crate::memory::OutOfMemory;
+use ats_hash::Steps;
+use std::alloc::Global;
+use std::marker::Model;
+
+/// What a check notes of a document.
+#[derive(Clone, Copy, Debug, PartialEq, Eq)]
+pub struct Mark {
+    /// What the document scores at least, by the entries read so far.
+    pub lo: u64,
+    /// What the rests of the lists that name the document come to.
+    pub held: u64,
+    /// A list, for the notes of the call that uses the work.
+    pub list: u32,
+    /// A row, for the notes of the call that uses the work.
+    pub row: bool,
+}
+
+const ZERO: Mark = Mark {
+    lo: 0,
+    held: 0,
+    list: 0,
+    row: false,
+};
+
+/// Memory for the marks of a check, taken once and used for many.
+///
+/// A check takes no memory of its own: it begins as many marks as it needs, up to the room that is there.
+#[derive(Drop)]
+pub struct Work {
+    marks: Vec<Mark>,
+    len: u32,
+}
+
+impl Model for Work {
+    ghost use Rattle.std.specs.Prelude.{◌≤◌, ◌<◌, ◌^◌, length, take};
+    ghost use Rattle.ats_bound.specs.Work.{Marked};
+
+    ghost Value = { Marked };
+
+    ghost view = { λ w. record { marks = take w.len w.marks.items; room = length w.marks.items } };
+
+    ghost invariant = { λ w. (w.len ≤ length w.marks.items) × (length w.marks.items < 2 ^ 32) };
+}
+
+// Makes the first n marks zero marks, and ticks for each.
+fn clear(marks: &mut [Mark], n: usize, steps: &mut Steps)
+    requires room { n ≤ length marks.old }
+    requires count { steps.old + n < 2 ^ 64 }
+    ensures marks { take n marks.new ≡ replicate n zero_mark }
+    ensures steps { steps.new ≡ steps.old + n }
+{
+    for i in 0..n {
+        marks[i] = ZERO;
+        steps.tick();
+    }
+}
+
+impl Work {
+    /// Room for `n` marks, of which none is begun.
+    pub fn with_room(alloc: Global, n: u32) -> Result<Self, OutOfMemory>
+        ensures { IfOk result (λ work. work ≡ begun 0 n) }
+    {
+        let marks = vec![in alloc; ZERO; n as usize]?;
+        Ok(Work { marks, len: 0 })
+    }
+
+    /// How many marks may be begun.
+    pub fn room(&self) -> u32
+        ensures { result ≡ self.now.room }
+    {
+        self.marks.len() as u32
+    }
+
+    /// Begins `n` marks in place of those that are there. Nothing of these is kept.
+    pub fn begin(&mut self, n: u32, steps: &mut Steps)
+        requires room { n ≤ self.old.room }
+        requires count { steps.old ≤ 2 ^ 63 }
+        ensures marks { self.new ≡ begun n self.old.room }
+        ensures steps { steps.new ≡ steps.old + n }
+    {
+        clear(&mut self.marks, n as usize, steps);
+        self.len = n;
+    }
+
+    /// The mark at place `i`, counted from 0.
+    pub fn get(&self, i: u32, steps: &mut Steps) -> Mark
+        requires inside { i < length self.now.marks }
+        requires count { steps.old + 1 < 2 ^ 64 }
+        ensures mark { result ≡ mark_at self.now.marks i }
+        ensures steps { steps.new ≡ steps.old + 1 }
+    {
+        steps.tick();
+        self.marks[i as usize]
+    }
+
+    /// Puts a mark at place `i`, counted from 0.
+    pub fn put(&mut self, i: u32, mark: Mark, steps: &mut Steps)
+        requires inside { i < length self.old.marks }
+        requires count { steps.old + 1 < 2 ^ 64 }
+        ensures marks { self.new ≡ record { marks = slice_set self.old.marks i mark; room = self.old.room } }
+        ensures steps { steps.new ≡ steps.old + 1 }
+    {
+        steps.tick();
+        self.marks[i as usize] = mark;
+    }
+}
