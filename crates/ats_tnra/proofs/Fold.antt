@@ -5,7 +5,7 @@ use Rattle.std.specs.Ordering.{nat_cmp, is_lt}
 use Rattle.std.specs.declared.cmp.Ordering.TheVariants.{Less}
 use Rattle.std.proofs.lemmas.Bool.{cases_lt}
 use Rattle.std.proofs.lemmas.Bool.Decides.{nat_tests}
-use Rattle.std.proofs.lemmas.List.{get_or_append_left}
+use Rattle.std.proofs.lemmas.List.{get_or_append_left, get_or_default}
 use Rattle.std.proofs.lemmas.List.Elements.{All-push}
 use Rattle.std.proofs.lemmas.List.Folds.{list_any-append}
 use Rattle.std.proofs.lemmas.List.Sums.{sum_by-cons, sum_by-append, sum_by_more_le}
@@ -75,15 +75,10 @@ sums_next t parts front p b next =
           (λ i d inside. omega (arith, next.upper i d inside, old_cover i d inside)) (omega (arith, covers, covers_are, next.hi));
     }
   where
-    one_default : (xs : List Bracket) (i : ℕ) (d e : Bracket) → i < length xs → get_or xs i d ≡ get_or xs i e
-    one_default [] i d e inside = absurd (omega arith)
-    one_default (x ∷ xs) zero d e inside = refl
-    one_default (x ∷ xs) (suc i) d e inside = one_default xs i d e (omega arith)
-
     differs : (i : ℕ) (d : Bracket) → i < length front → nat_eq p.doc (get_or front i d).doc ≡ false
     differs i d inside =
         let e : Bracket = record { doc = 0; lo = 0; hi = 0 } in
-        let is : get_or front i d ≡ get_or front i e = one_default front i d e inside in
+        let is : get_or front i d ≡ get_or front i e = get_or_default front i d e inside in
         other_doc p.doc (get_or front i d).doc (λ same. omega (arith, next.low i inside, same, ap (λ (b : Bracket). b.doc) is))
 
     old_gain : (i : ℕ) (d : Bracket) → i < length front → gain_of (get_or front i d).doc (parts ++ p ∷ []) ≡ gain_of (get_or front i d).doc parts

@@ -128,3 +128,15 @@ fewer_hidden lanes cut i is low more =
 pub ones : (lanes : List Lane) → replicate (length lanes) 1 ≡ first_cut (whole_lanes lanes)
 ones [] = refl
 ones (lane ∷ lanes) = ap (λ rest. 1 ∷ rest) (ones lanes)
+
+abbrev pub no_lane : Lane
+no_lane = record { coefficient = 0; entries = record { ref_ptr = (0, 0); now = [] } }
+
+abbrev pub no_shown : ShownLane
+no_shown = record { coefficient = 0; total = 0; shown = [] }
+
+-- the rest of the lane that is shown at a place
+pub rest_here : (lanes : List Lane) (cut : List ℕ) (i amount : ℕ) (d : ShownLane) → IsCut (whole_lanes lanes) cut → i < length lanes
+    → amount ≡ rest (lane_of (get_or lanes i no_lane).coefficient (get_or lanes i no_lane).entries.now (get_or cut i 0)) → amount ≡ rest (get_or (shown (whole_lanes lanes) cut) i d)
+rest_here lanes cut i amount d is low amount_is =
+    amount_is ∙ sym (ap rest (at_lane lanes cut i d no_lane low (omega (arith, low, cut_size lanes cut is))))

@@ -44,6 +44,7 @@ fn bracket_of(part: Part, lo: u64, hi: u64) -> Bracket
     requires high { hi ≤ 2 ^ 60 }
     ensures doc { result.doc ≡ part.doc }
     ensures lo { result.lo ≡ lo + part.gain }
+    ensures little_more { result.lo ≤ lo + 2 ^ 32 }
     ensures hi { result.hi + part.cover ≡ hi + part.gain }
 {
     Bracket {
