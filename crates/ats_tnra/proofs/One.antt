@@ -91,7 +91,7 @@ one_list lanes (a ∷ xs) (b ∷ ys) first second same left right =
     let here : a ≡ bracket lanes a.doc = All-head (λ (b : Bracket). b ≡ bracket lanes b.doc) a xs left in
     let there : b ≡ bracket lanes b.doc = All-head (λ (b : Bracket). b ≡ bracket lanes b.doc) b ys right in
     let rest : xs ≡ ys = one_list lanes xs ys (tail_rises a xs first) (tail_rises b ys second) (tails a b xs ys first second is same)
-        (All-tail (λ (b : Bracket). b ≡ bracket lanes b.doc) a xs left) (All-tail (λ (b : Bracket). b ≡ bracket lanes b.doc) b ys right) in
+    (All-tail (λ (b : Bracket). b ≡ bracket lanes b.doc) a xs left) (All-tail (λ (b : Bracket). b ≡ bracket lanes b.doc) b ys right) in
     ap₂ (λ head rest. head ∷ rest) (here ∙ ap (bracket lanes) is ∙ sym there) rest
 
 -- two lists of the brackets of a cut are one

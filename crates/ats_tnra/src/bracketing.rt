@@ -55,7 +55,12 @@ fn bracket_of(part: Part, lo: u64, hi: u64) -> Bracket
 }
 
 /// The brackets of the documents that a cut meets, by document ascending. The limit is the cut's threshold.
-pub(crate) fn brackets(alloc: Global, lanes: &[Lane<'_>], counts: &[u32], limit: u64) -> Result<Brackets, OutOfMemory>
+pub(crate) fn brackets(
+    alloc: Global,
+    lanes: &[Lane<'_>],
+    counts: &[u32],
+    limit: u64,
+) -> Result<Brackets, OutOfMemory>
     requires lanes { AreWholeLanes (whole_lanes lanes.now) }
     requires cut { IsCut (whole_lanes lanes.now) counts.now }
     requires sum { limit ≡ threshold (shown (whole_lanes lanes.now) counts.now) }

@@ -10,9 +10,9 @@
 
 mod bracketing;
 mod parts;
-mod turns;
-mod walking;
 #[cfg(test)]
 mod tests;
+mod turns;
+mod walking;
 
 pub use walking::walk;

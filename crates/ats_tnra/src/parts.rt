@@ -73,7 +73,11 @@ fn sort_parts(parts: &mut Vec<Part>) -> Result<(), OutOfMemory>
 }
 
 /// What the shown entries of all lanes say, in the order of documents.
-pub(crate) fn sorted_parts(alloc: Global, lanes: &[Lane<'_>], counts: &[u32]) -> Result<Vec<Part>, OutOfMemory>
+pub(crate) fn sorted_parts(
+    alloc: Global,
+    lanes: &[Lane<'_>],
+    counts: &[u32],
+) -> Result<Vec<Part>, OutOfMemory>
     requires lanes { AreWholeLanes (whole_lanes lanes.now) }
     requires cut { IsCut (whole_lanes lanes.now) counts.now }
     ensures same { IfOk result (λ parts. IsPermutation (all_parts (shown (whole_lanes lanes.now) counts.now)) parts.items) }

@@ -5,22 +5,63 @@ use ats_lists::Entry;
 use std::test::Fail;
 
 // The lists of "red fox", "red red hen" and "blue hen".
-const HEN: [Entry; 2] = [Entry { doc: 2, impact: 1063 }, Entry { doc: 1, impact: 896 }];
-const RED: [Entry; 2] = [Entry { doc: 1, impact: 1273 }, Entry { doc: 0, impact: 1063 }];
-const FOX: [Entry; 1] = [Entry { doc: 0, impact: 1063 }];
+const HEN: [Entry; 2] = [
+    Entry {
+        doc: 2,
+        impact: 1063,
+    },
+    Entry {
+        doc: 1,
+        impact: 896,
+    },
+];
+
+const RED: [Entry; 2] = [
+    Entry {
+        doc: 1,
+        impact: 1273,
+    },
+    Entry {
+        doc: 0,
+        impact: 1063,
+    },
+];
+
+const FOX: [Entry; 1] = [Entry {
+    doc: 0,
+    impact: 1063,
+}];
+
+fn bracket(doc: u32, lo: u64, hi: u64) -> Bracket {
+    Bracket { doc, lo, hi }
+}
 
 // The query "red hen".
 #[test]
 fn a_document_outside_may_win_until_lists_are_whole(rt: HostRuntime) -> Result<(), Fail> {
     let lanes = [
-        Lane { coefficient: 6, entries: &HEN },
-        Lane { coefficient: 6, entries: &RED },
+        Lane {
+            coefficient: 6,
+            entries: &HEN,
+        },
+        Lane {
+            coefficient: 6,
+            entries: &RED,
+        },
     ];
     let end = walk(rt.alloc(), &lanes, Top::new(1)?)?;
     assert_eq!(rt; end.cut.as_slice(), [2, 2].as_slice());
     assert_eq!(rt; end.threshold, 0);
     assert_eq!(rt; end.picks.as_slice(), [1].as_slice());
-    assert_eq!(rt; end.brackets.get(1), Bracket { doc: 1, lo: 13014, hi: 13014 });
+    assert_eq!(rt;
+        end.brackets.as_slice(),
+        [
+            bracket(0, 6378, 6378),
+            bracket(1, 13014, 13014),
+            bracket(2, 6378, 6378)
+        ]
+        .as_slice()
+    );
     Ok(())
 }
 
@@ -28,13 +69,27 @@ fn a_document_outside_may_win_until_lists_are_whole(rt: HostRuntime) -> Result<(
 #[test]
 fn a_weight_leads_the_walk(rt: HostRuntime) -> Result<(), Fail> {
     let lanes = [
-        Lane { coefficient: 12, entries: &HEN },
-        Lane { coefficient: 6, entries: &RED },
+        Lane {
+            coefficient: 12,
+            entries: &HEN,
+        },
+        Lane {
+            coefficient: 6,
+            entries: &RED,
+        },
     ];
     let end = walk(rt.alloc(), &lanes, Top::new(1)?)?;
     assert_eq!(rt; end.cut.as_slice(), [2, 2].as_slice());
     assert_eq!(rt; end.picks.as_slice(), [1].as_slice());
-    assert_eq!(rt; end.brackets.get(1), Bracket { doc: 1, lo: 18390, hi: 18390 });
+    assert_eq!(rt;
+        end.brackets.as_slice(),
+        [
+            bracket(0, 6378, 6378),
+            bracket(1, 18390, 18390),
+            bracket(2, 12756, 12756)
+        ]
+        .as_slice()
+    );
     Ok(())
 }
 
@@ -42,16 +97,23 @@ fn a_weight_leads_the_walk(rt: HostRuntime) -> Result<(), Fail> {
 #[test]
 fn the_first_cut_settles_the_answer(rt: HostRuntime) -> Result<(), Fail> {
     let lanes = [
-        Lane { coefficient: 12, entries: &FOX },
-        Lane { coefficient: 6, entries: &RED },
+        Lane {
+            coefficient: 12,
+            entries: &FOX,
+        },
+        Lane {
+            coefficient: 6,
+            entries: &RED,
+        },
     ];
     let end = walk(rt.alloc(), &lanes, Top::new(1)?)?;
     assert_eq!(rt; end.cut.as_slice(), [1, 1].as_slice());
     assert_eq!(rt; end.threshold, 7638);
     assert_eq!(rt; end.picks.as_slice(), [0].as_slice());
-    assert_eq!(rt; end.brackets.len(), 2);
-    assert_eq!(rt; end.brackets.get(0), Bracket { doc: 0, lo: 12756, hi: 20394 });
-    assert_eq!(rt; end.brackets.get(1), Bracket { doc: 1, lo: 7638, hi: 7638 });
+    assert_eq!(rt;
+        end.brackets.as_slice(),
+        [bracket(0, 12756, 20394), bracket(1, 7638, 7638)].as_slice()
+    );
     Ok(())
 }
 
@@ -68,8 +130,14 @@ fn no_lanes_settle_the_empty_answer(rt: HostRuntime) -> Result<(), Fail> {
 #[test]
 fn more_rows_than_documents_show_whole_lists(rt: HostRuntime) -> Result<(), Fail> {
     let lanes = [
-        Lane { coefficient: 6, entries: &HEN },
-        Lane { coefficient: 6, entries: &RED },
+        Lane {
+            coefficient: 6,
+            entries: &HEN,
+        },
+        Lane {
+            coefficient: 6,
+            entries: &RED,
+        },
     ];
     let end = walk(rt.alloc(), &lanes, Top::new(10)?)?;
     assert_eq!(rt; end.cut.as_slice(), [2, 2].as_slice());

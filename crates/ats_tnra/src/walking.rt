@@ -50,7 +50,12 @@ fn first_stand(alloc: Global, lanes: &[Lane<'_>], top: Top) -> Result<Walk, OutO
     let mut counts = first_counts(alloc, lanes)?;
     while let Some(lane) = next_lane(lanes, &counts) {
         let walk = stand(alloc, lanes, &counts, top)?;
-        if settled(walk.brackets.as_slice(), walk.picks.as_slice(), walk.threshold, top) {
+        if settled(
+            walk.brackets.as_slice(),
+            walk.picks.as_slice(),
+            walk.threshold,
+            top,
+        ) {
             return Ok(walk);
         }
         counts[lane] += 1;

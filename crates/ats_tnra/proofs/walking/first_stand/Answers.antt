@@ -70,6 +70,6 @@ returns c =
     let none : threshold (shown lanes counts) ≡ 0 = rw c.deref.ensures.value at c.in_default.ensures in
     IfOk-weaker c.stand-2.result (IsStand lanes c.args.top c.deref-2.result.now) (IsEnd lanes c.args.top)
     (λ walk made.
-        let stand : IsStand lanes c.args.top counts walk = rw c.deref-2.ensures.value at made in
-        end_at lanes c.args.top counts walk c.loop-lane.invariant.reached stand (whole_settled lanes c.args.top counts walk stand none))
+    let stand : IsStand lanes c.args.top counts walk = rw c.deref-2.ensures.value at made in
+    end_at lanes c.args.top counts walk c.loop-lane.invariant.reached stand (whole_settled lanes c.args.top counts walk stand none))
     c.stand-2.ensures
