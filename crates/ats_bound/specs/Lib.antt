@@ -4,3 +4,4 @@ pub mod Chosen
 pub mod Placed
 pub mod Work
 pub mod Ranked
+pub mod Schedule

@@ -1,0 +1,7 @@
+pub mod Shown
+pub mod Advance
+pub mod One
+pub mod Whole
+pub mod Joined
+pub mod Fold
+pub mod Greatest

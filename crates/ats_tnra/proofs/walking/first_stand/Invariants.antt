@@ -1,0 +1,15 @@
+use Rattle.std.specs.List.{sum_by}
+use Rattle.ats_bound.specs.Schedule.{shown, whole_lanes}
+use Rattle.ats_tnra.specs.Parts.{IsCut}
+use Rattle.ats_tnra.specs.Stand.{IsReached}
+use Rattle.ats_tnra.proofs.Shown.{hidden}
+use Rattle.ats_tnra.proofs.walking.first_stand.Given as goal
+
+abbrev pub invariant-loop-lane : goal.invariant-loop-lane
+invariant-loop-lane l = record {
+  cut : IsCut (whole_lanes l.lanes) l.counts.items;
+  reached : IsReached (whole_lanes l.lanes) l.top l.counts.items;
+}
+
+abbrev pub decreases-loop-lane : goal.decreases-loop-lane
+decreases-loop-lane l = sum_by hidden (shown (whole_lanes l.lanes) l.counts.items)
