@@ -1,8 +1,9 @@
--- Why a file was not read as what a command wants; want of memory is free.
+-- Why a file was not read as what a command wants, or no ranking was made of it; want of memory is free.
 use Rattle.std.specs.Prelude.{◌≡◌, ◌⊎◌, ℕ, List}
 use Rattle.ats_base.specs.Outside.{Rose, IsMissing, IsLonger}
 use Rattle.ats_top.specs.Read.{Files}
-use Rattle.ats_top.specs.Refusals.{IsCollectionRefused, IsIndexRefused}
+use Rattle.ats_top.specs.Words.{RankWords}
+use Rattle.ats_top.specs.Refusals.{AsksRanking, IsCollectionRefused, IsIndexRefused, IsRankingRefused}
 use Rattle.ats_top.specs.declared.stops.Refusal.{Refusal}
 use Rattle.ats_top.specs.declared.stops.Refusal.TheVariants.{FileTooLong}
 use Rattle.ats_top.specs.declared.stops.Stop.{Stop}
@@ -24,3 +25,10 @@ CollectionStop files name before now stop = StopsBy files name before now (IsCol
 
 abbrev pub IndexStop : (List ℕ → List ℕ) → Files → List ℕ → ℕ → ℕ → Stop → Type 0
 IndexStop H files name before now stop = StopsBy files name before now (IsIndexRefused H files name) stop
+
+-- the words are tried first
+abbrev pub RankingStop : Files → RankWords → ℕ → ℕ → Stop → Type 0
+RankingStop files words before now Usage = ⊥
+RankingStop files words before now Shelf = AsksRanking words × (Rose before now ⊎ IsMissing files words.collection)
+RankingStop files words before now (Input refusal) = IsRankingRefused files words refusal
+RankingStop files words before now Memory = Unit {0}

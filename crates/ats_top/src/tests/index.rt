@@ -168,7 +168,12 @@ fn builds_under_another_hash(rt: HostRuntime) -> Result<(), Fail> {
     let mut shelf = shelf_of(alloc, FOXES)?;
     let mut built = MemSink::new(alloc);
     let words_of_build = words(alloc, &BUILD)?;
-    let status = run_with::<Weak, MemShelf, MemSink>(alloc, &words_of_build, &mut shelf, &mut built);
+    let status = run_with::<Weak, MemShelf, MemSink>(
+        alloc,
+        &words_of_build,
+        &mut shelf,
+        &mut built,
+    );
     assert_eq!(rt; status, 0);
     assert_eq!(rt; built.bytes().len(), 65);
     let mut told = MemSink::new(alloc);
