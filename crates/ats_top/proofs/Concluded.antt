@@ -1,12 +1,12 @@
 -- What follows from how a command ended and what it printed.
-use Rattle.std.proofs.Common.{◌≡◌, ◌≢◌, ◌⊎◌, ◌≤◌, ◌∙◌, ℕ, List, length, Option, Some, None, Result, Ok, Err, refl, sym, ap, subst, inl, inr, arith, take_all}
+use Rattle.std.proofs.Common.{◌≡◌, ◌≢◌, ◌⊎◌, ◌≤◌, ◌∙◌, ℕ, List, length, Option, Some, None, Result, Ok, Err, sym, subst, inl, inr, arith, take_all}
 use Rattle.ats_base.specs.Outside.{Rose, IsMissing, Puts}
 use Rattle.ats_top.specs.Words.{Command, Rank, Build, Root, command_of, read_name}
 use Rattle.ats_top.specs.Stops.{status_of, text_of, text_of_stop, line_of_refusal}
 use Rattle.ats_top.specs.Read.{Files, IsTold}
 use Rattle.ats_top.specs.Refusals.{Asks, IsRefused}
 use Rattle.ats_top.specs.Done.{IsDone, Changes, IsServed}
-use Rattle.ats_top.specs.Run.{Said, Ends, Ended, IsStatus, TookAll, TookPart, Ran}
+use Rattle.ats_top.specs.Run.{Said, Ends, Ended, IsStatus, TookAll, Ran}
 use Rattle.ats_top.specs.declared.stops.Refusal.{Refusal}
 use Rattle.ats_top.specs.declared.stops.Stop.{Stop}
 use Rattle.ats_top.specs.declared.stops.Stop.TheVariants.{Usage, Shelf, Input, Memory}

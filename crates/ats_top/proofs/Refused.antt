@@ -1,5 +1,5 @@
 -- What is within the limits is not refused, and a file that is not there is neither served nor refused.
-use Rattle.std.proofs.Common.{◌≡◌, ◌∙◌, ◌<◌, ◌≤◌, ◌^◌, ℕ, List, [], length, Option, Some, None, MatchOption, true, false, sym, ap, subst, arith}
+use Rattle.std.proofs.Common.{◌≡◌, ◌∙◌, ◌<◌, ◌≤◌, ◌^◌, ℕ, List, [], length, Option, Some, None, MatchOption, sym, ap, subst, arith}
 use Rattle.ats_base.specs.Outside.{IsMissing, IsLonger}
 use Rattle.ats_terms.specs.Query.{HasQuery}
 use Rattle.ats_terms.specs.Faults.{IsFirstFault}
@@ -13,7 +13,6 @@ use Rattle.ats_index.specs.Spelling.{IsSpelling}
 use Rattle.ats_top.specs.Input.{AreJsonTexts}
 use Rattle.ats_top.specs.declared.input.JsonFault.{JsonFault}
 use Rattle.ats_top.specs.declared.input.JsonFault.TheVariants as json
-use Rattle.ats_index.specs.declared.load.LoadFault.TheVariants as index
 use Rattle.ats_top.specs.Words.{RankWords, Command, Rank, Build, Root, read_name}
 use Rattle.ats_top.specs.Read.{Files, IsTold, IsFile, HasCollection, HasIndex}
 use Rattle.ats_top.specs.Refusals.{IsRowCount, AsksRanking, Asks, IsJsonRefused, AreTextsRefused, IsCollectionRefused, IsIndexRefused, IsRankingRefused, IsRefused}

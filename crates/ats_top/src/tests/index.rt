@@ -91,9 +91,10 @@ fn expect_refused(
 #[test]
 fn refuses_changed_indexes(rt: HostRuntime) -> Result<(), Fail> {
     let index = example(&rt)?;
+    let (shorter, texts) = (&index[..151], &index[..47]);
     let mut shelf = MemShelf::new(rt.alloc());
-    expect_refused(&rt, &mut shelf, &index[..151])?;
-    expect_refused(&rt, &mut shelf, &index[..47])?;
+    expect_refused(&rt, &mut shelf, shorter)?;
+    expect_refused(&rt, &mut shelf, texts)?;
     expect_refused(&rt, &mut shelf, &[])?;
     let mut longer = [0; 153];
     longer[..152].copy_from_slice(&index);
