@@ -1,152 +1,218 @@
 -- What follows from how a command ended and what it printed.
-use Rattle.std.proofs.Common.{◌≡◌, ◌≢◌, ◌⊎◌, ◌∙◌, ℕ, List, Option, Some, None, Result, Ok, Err, sym, subst, inl, inr, arith}
-use Rattle.ats_base.specs.Outside.{Rose, IsMissing}
-use Rattle.ats_top.specs.Words.{RankWords, rank_words}
+use Rattle.std.proofs.Common.{◌≡◌, ◌≢◌, ◌⊎◌, ◌≤◌, ◌∙◌, ℕ, List, length, Option, Some, None, Result, Ok, Err, sym, subst, inl, inr, arith, take_all}
+use Rattle.ats_base.specs.Outside.{Rose, IsMissing, Puts}
+use Rattle.ats_top.specs.Words.{Command, Rank, Build, Root, command_of, read_name}
 use Rattle.ats_top.specs.Stops.{status_of, text_of, text_of_stop, line_of_refusal}
-use Rattle.ats_top.specs.Run.{Files, Asks, IsServed, IsRanked, IsRefused, Said, Ended, IsStatus, TookAll}
+use Rattle.ats_top.specs.Read.{Files, IsTold}
+use Rattle.ats_top.specs.Refusals.{Asks, IsRefused}
+use Rattle.ats_top.specs.Done.{IsDone, Changes, IsServed}
+use Rattle.ats_top.specs.Run.{Said, Ends, Ended, IsStatus, TookAll, Ran}
 use Rattle.ats_top.specs.declared.stops.Refusal.{Refusal}
 use Rattle.ats_top.specs.declared.stops.Stop.{Stop}
 use Rattle.ats_top.specs.declared.stops.Stop.TheVariants.{Usage, Shelf, Input, Memory}
-use Rattle.ats_top.proofs.Refused.{served_kept, missing_kept}
+use Rattle.ats_top.proofs.Refused.{served_kept, missing_kept, served_there}
 
-same_some : {X : Type 0} (o : Option X) (x y : X) → o ≡ Some x → o ≡ Some y → x ≡ y
-same_some o x y first second = let both = sym first ∙ second in cc
+-- the words of a command are one
+same_command : (said : List (List ℕ)) (command other : Command) → command_of said ≡ Some command → command_of said ≡ Some other → command ≡ other
+same_command said command other first second = let both = sym first ∙ second in cc
 
-no_words : (said : List (List ℕ)) (words : RankWords) → rank_words said ≡ None → rank_words said ≡ Some words → ⊥
-no_words said words none some = let both = sym none ∙ some in cc
+no_command : (said : List (List ℕ)) (command : Command) → command_of said ≡ None → command_of said ≡ Some command → ⊥
+no_command said command none some = let both = sym none ∙ some in cc
 
 never : (result status other : ℕ) → (result ≡ status) ⊎ (result ≡ 7) → result ≡ other → status ≢ other → 7 ≢ other → ⊥
 never result status other (inl is) same first second = first (sym is ∙ same)
 never result status other (inr is) same first second = second (sym is ∙ same)
 
--- how a run ended, what it printed, and the status that it answered
-module _ (files : Files) (before now : ℕ) (said : List (List ℕ)) (taken_before taken_now : Option (List ℕ)) (faults_before faults_now result : ℕ) where
-  abbrev This : Result (List ℕ) Stop → Type 0
-  This end = Ended files before now said taken_before taken_now faults_before faults_now result end
+-- what is done was served
+done_served : (H : List ℕ → List ℕ) (before now : Files) (command : Command) (text : List ℕ) → IsDone H before now command text → IsServed H before command
+done_served H before now (Rank words) text (ranked, same) = (ranked.asks, (ranked.texts, ranked.collection))
+done_served H before now (Build words) text built = (built.texts, built.collection)
+done_served H before now (Root words) text (rooted, same) = (rooted.texts, rooted.index)
 
-  pub is_status : (end : Result (List ℕ) Stop) → This end → IsStatus result
-  is_status (Ok text) ended = elim ended.prints.answer [ inl is ↦ inl is | inr is ↦ inr (inr (inr (inr (inr is)))) ]
-  is_status (Err Usage) ended = elim ended.prints.answer [ inl is ↦ inr (inl is) | inr is ↦ inr (inr (inr (inr (inr is)))) ]
-  is_status (Err Shelf) ended = elim ended.prints.answer [ inl is ↦ inr (inr (inl is)) | inr is ↦ inr (inr (inr (inr (inr is)))) ]
-  is_status (Err (Input refusal)) ended = elim ended.prints.answer [ inl is ↦ inr (inr (inr (inl is))) | inr is ↦ inr (inr (inr (inr (inr is)))) ]
-  is_status (Err Memory) ended = elim ended.prints.answer [ inl is ↦ inr (inr (inr (inr (inl is)))) | inr is ↦ inr (inr (inr (inr (inr is)))) ]
+-- what is done changes no more than the command may
+done_changes : (H : List ℕ → List ℕ) (before now : Files) (command : Command) (text : List ℕ) → IsDone H before now command text
+    → (now ≡ before) ⊎ Changes H before now command
+done_changes H before now (Rank words) text (ranked, same) = inl same
+done_changes H before now (Build words) text built = inr (record {
+  texts = built.texts;
+  bytes = built.bytes;
+  n = length built.bytes;
+  collection = built.collection;
+  spelling = built.spelling;
+  within = omega arith;
+  stored = subst (λ b. Puts before now words.index b) (sym (take_all (length built.bytes) built.bytes (omega arith))) built.stored;
+})
+done_changes H before now (Root words) text (rooted, same) = inl same
+
+-- a run
+module _ (H : List ℕ → List ℕ) (said : List (List ℕ)) (files_before files_now : Files) (before now : ℕ) (taken_before taken_now : Option (List ℕ)) (faults_before faults_now result : ℕ) where
+  abbrev Sinks : Type 0
+  Sinks = (result ≡ 7) × Rose faults_before faults_now
+
+  -- a run that ended so
+  record This (end : Result (List ℕ) Stop) : Type 0 where
+    ends : Ends H files_before files_now before now said end
+    answer : (result ≡ status_of end) ⊎ Sinks
+    took : result ≢ 7 → TookAll taken_before taken_now (text_of end)
+
+  is_status : (end : Result (List ℕ) Stop) → This end → IsStatus result
+  is_status (Ok text) this = elim this.answer [ inl is ↦ inl is | inr is ↦ inr (inr (inr (inr (inr is.0)))) ]
+  is_status (Err Usage) this = elim this.answer [ inl is ↦ inr (inl is) | inr is ↦ inr (inr (inr (inr (inr is.0)))) ]
+  is_status (Err Shelf) this = elim this.answer [ inl is ↦ inr (inr (inl is)) | inr is ↦ inr (inr (inr (inr (inr is.0)))) ]
+  is_status (Err (Input refusal)) this = elim this.answer [ inl is ↦ inr (inr (inr (inl is))) | inr is ↦ inr (inr (inr (inr (inr is.0)))) ]
+  is_status (Err Memory) this = elim this.answer [ inl is ↦ inr (inr (inr (inr (inl is)))) | inr is ↦ inr (inr (inr (inr (inr is.0)))) ]
+
+  -- a status that is not that of the end, nor 7
+  other : (status told : ℕ) → (result ≡ status) ⊎ Sinks → result ≡ told → status ≢ told → 7 ≢ told → ⊥
+  other status told (inl is) same first second = first (sym is ∙ same)
+  other status told (inr is) same first second = second (sym is.0 ∙ same)
 
   took : (end : Result (List ℕ) Stop) → This end → (k : ℕ) → result ≡ k → k ≢ 7 → TookAll taken_before taken_now (text_of end)
-  took end ended k is other = ended.prints.all (λ seven. other (sym is ∙ seven))
+  took end this k is differs = this.took (λ seven. differs (sym is ∙ seven))
 
-  pub done : (end : Result (List ℕ) Stop) → This end → result ≡ 0
-      → Said said (λ words. (text : List ℕ) × IsRanked files words text × TookAll taken_before taken_now text)
-  done (Ok text) ended is = (ended.ends.0, ended.ends.1, (text, ended.ends.2, took (Ok text) ended 0 is (omega arith)))
-  done (Err Usage) ended is = absurd (never result 2 0 ended.prints.answer is (omega arith) (omega arith))
-  done (Err Shelf) ended is = absurd (never result 3 0 ended.prints.answer is (omega arith) (omega arith))
-  done (Err (Input refusal)) ended is = absurd (never result 4 0 ended.prints.answer is (omega arith) (omega arith))
-  done (Err Memory) ended is = absurd (never result 6 0 ended.prints.answer is (omega arith) (omega arith))
+  done : (end : Result (List ℕ) Stop) → This end → result ≡ 0
+      → Said said (λ command. (text : List ℕ) × IsDone H files_before files_now command text × TookAll taken_before taken_now text)
+  done (Ok text) this is = (this.ends.0, this.ends.1, (text, this.ends.2, took (Ok text) this 0 is (omega arith)))
+  done (Err Usage) this is = absurd (other 2 0 this.answer is (omega arith) (omega arith))
+  done (Err Shelf) this is = absurd (other 3 0 this.answer is (omega arith) (omega arith))
+  done (Err (Input refusal)) this is = absurd (other 4 0 this.answer is (omega arith) (omega arith))
+  done (Err Memory) this is = absurd (other 6 0 this.answer is (omega arith) (omega arith))
 
-  pub usage : (end : Result (List ℕ) Stop) → This end → result ≡ 2
-      → (rank_words said ≡ None) × TookAll taken_before taken_now (text_of_stop Usage)
-  usage (Ok text) ended is = absurd (never result 0 2 ended.prints.answer is (omega arith) (omega arith))
-  usage (Err Usage) ended is = (ended.ends, took (Err Usage) ended 2 is (omega arith))
-  usage (Err Shelf) ended is = absurd (never result 3 2 ended.prints.answer is (omega arith) (omega arith))
-  usage (Err (Input refusal)) ended is = absurd (never result 4 2 ended.prints.answer is (omega arith) (omega arith))
-  usage (Err Memory) ended is = absurd (never result 6 2 ended.prints.answer is (omega arith) (omega arith))
+  usage : (end : Result (List ℕ) Stop) → This end → result ≡ 2
+      → (command_of said ≡ None) × TookAll taken_before taken_now (text_of_stop Usage)
+  usage (Ok text) this is = absurd (other 0 2 this.answer is (omega arith) (omega arith))
+  usage (Err Usage) this is = (this.ends.0, took (Err Usage) this 2 is (omega arith))
+  usage (Err Shelf) this is = absurd (other 3 2 this.answer is (omega arith) (omega arith))
+  usage (Err (Input refusal)) this is = absurd (other 4 2 this.answer is (omega arith) (omega arith))
+  usage (Err Memory) this is = absurd (other 6 2 this.answer is (omega arith) (omega arith))
 
-  pub shelf : (end : Result (List ℕ) Stop) → This end → result ≡ 3
-      → Said said (λ words. Asks words × (Rose before now ⊎ IsMissing files words.collection)) × TookAll taken_before taken_now (text_of_stop Shelf)
-  shelf (Ok text) ended is = absurd (never result 0 3 ended.prints.answer is (omega arith) (omega arith))
-  shelf (Err Usage) ended is = absurd (never result 2 3 ended.prints.answer is (omega arith) (omega arith))
-  shelf (Err Shelf) ended is = (ended.ends, took (Err Shelf) ended 3 is (omega arith))
-  shelf (Err (Input refusal)) ended is = absurd (never result 4 3 ended.prints.answer is (omega arith) (omega arith))
-  shelf (Err Memory) ended is = absurd (never result 6 3 ended.prints.answer is (omega arith) (omega arith))
+  unsaid : (end : Result (List ℕ) Stop) → This end → command_of said ≡ None → (result ≡ 2) ⊎ Sinks
+  unsaid (Ok text) this none = absurd (no_command said this.ends.0 none this.ends.1)
+  unsaid (Err Usage) this none = this.answer
+  unsaid (Err Shelf) this none = absurd (no_command said this.ends.0 none this.ends.1)
+  unsaid (Err (Input refusal)) this none = absurd (no_command said this.ends.0 none this.ends.1)
+  unsaid (Err Memory) this none = absurd (no_command said this.ends.0 none this.ends.1)
 
-  pub input : (end : Result (List ℕ) Stop) → This end → result ≡ 4
-      → Said said (λ words. (refusal : Refusal) × IsRefused files words refusal × TookAll taken_before taken_now (line_of_refusal refusal))
-  input (Ok text) ended is = absurd (never result 0 4 ended.prints.answer is (omega arith) (omega arith))
-  input (Err Usage) ended is = absurd (never result 2 4 ended.prints.answer is (omega arith) (omega arith))
-  input (Err Shelf) ended is = absurd (never result 3 4 ended.prints.answer is (omega arith) (omega arith))
-  input (Err (Input refusal)) ended is = (ended.ends.0, ended.ends.1, (refusal, ended.ends.2, took (Err (Input refusal)) ended 4 is (omega arith)))
-  input (Err Memory) ended is = absurd (never result 6 4 ended.prints.answer is (omega arith) (omega arith))
+  shelf : (end : Result (List ℕ) Stop) → This end → result ≡ 3
+      → Said said (λ command. Asks command × (Rose before now ⊎ IsMissing files_before (read_name command))) × TookAll taken_before taken_now (text_of_stop Shelf)
+  shelf (Ok text) this is = absurd (other 0 3 this.answer is (omega arith) (omega arith))
+  shelf (Err Usage) this is = absurd (other 2 3 this.answer is (omega arith) (omega arith))
+  shelf (Err Shelf) this is = ((this.ends.0, this.ends.1, (this.ends.2.0, this.ends.2.1)), took (Err Shelf) this 3 is (omega arith))
+  shelf (Err (Input refusal)) this is = absurd (other 4 3 this.answer is (omega arith) (omega arith))
+  shelf (Err Memory) this is = absurd (other 6 3 this.answer is (omega arith) (omega arith))
 
-  pub memory : (end : Result (List ℕ) Stop) → This end → result ≡ 6
-      → Said said (λ words. Unit {0}) × TookAll taken_before taken_now (text_of_stop Memory)
-  memory (Ok text) ended is = absurd (never result 0 6 ended.prints.answer is (omega arith) (omega arith))
-  memory (Err Usage) ended is = absurd (never result 2 6 ended.prints.answer is (omega arith) (omega arith))
-  memory (Err Shelf) ended is = absurd (never result 3 6 ended.prints.answer is (omega arith) (omega arith))
-  memory (Err (Input refusal)) ended is = absurd (never result 4 6 ended.prints.answer is (omega arith) (omega arith))
-  memory (Err Memory) ended is = (ended.ends, took (Err Memory) ended 6 is (omega arith))
+  input : (end : Result (List ℕ) Stop) → This end → result ≡ 4
+      → Said said (λ command. (refusal : Refusal) × IsRefused H files_before command refusal × TookAll taken_before taken_now (line_of_refusal refusal))
+  input (Ok text) this is = absurd (other 0 4 this.answer is (omega arith) (omega arith))
+  input (Err Usage) this is = absurd (other 2 4 this.answer is (omega arith) (omega arith))
+  input (Err Shelf) this is = absurd (other 3 4 this.answer is (omega arith) (omega arith))
+  input (Err (Input refusal)) this is = (this.ends.0, this.ends.1, (refusal, this.ends.2.0, took (Err (Input refusal)) this 4 is (omega arith)))
+  input (Err Memory) this is = absurd (other 6 4 this.answer is (omega arith) (omega arith))
 
-  pub unsaid : (end : Result (List ℕ) Stop) → This end → rank_words said ≡ None → (result ≡ 2) ⊎ ((result ≡ 7) × Rose faults_before faults_now)
-  unsaid (Ok text) ended none = absurd (no_words said ended.ends.0 none ended.ends.1)
-  unsaid (Err Usage) ended none = elim ended.prints.answer [ inl is ↦ inl is | inr is ↦ inr (is, (ended.prints.part is).0) ]
-  unsaid (Err Shelf) ended none = absurd (no_words said ended.ends.0 none ended.ends.1)
-  unsaid (Err (Input refusal)) ended none = absurd (no_words said ended.ends.0 none ended.ends.1)
-  unsaid (Err Memory) ended none = absurd (no_words said ended.ends.0 none ended.ends.1)
-
--- the words of a command are one
-same_words : (said : List (List ℕ)) (words others : RankWords) → rank_words said ≡ Some words → rank_words said ≡ Some others → words ≡ others
-same_words said words others first second = same_some (rank_words said) words others first second
-
--- what is ranked was served
-ranked_served : (files : Files) (words : RankWords) (text : List ℕ) → IsRanked files words text → IsServed files words
-ranked_served files words text ranked = record { asks = ranked.asks; bytes = ranked.bytes; texts = ranked.texts; file = ranked.file; collection = ranked.collection }
-
--- where the files are told
-module _ (files : List ℕ → Option (List ℕ)) (before now : ℕ) (said : List (List ℕ)) (taken_before taken_now : Option (List ℕ)) (faults_before faults_now result : ℕ) where
-  abbrev EndedTold : Result (List ℕ) Stop → Type 0
-  EndedTold end = Ended (Some files) before now said taken_before taken_now faults_before faults_now result end
-
-  abbrev Failing : Type 0
-  Failing = (result ≡ 7) × Rose faults_before faults_now
-
-  or_fails : (end : Result (List ℕ) Stop) → EndedTold end → (result ≡ status_of end) ⊎ Failing
-  or_fails end ended = elim ended.prints.answer [ inl is ↦ inl is | inr is ↦ inr (is, (ended.prints.part is).0) ]
+  memory : (end : Result (List ℕ) Stop) → This end → result ≡ 6
+      → Said said (λ command. Unit {0}) × TookAll taken_before taken_now (text_of_stop Memory)
+  memory (Ok text) this is = absurd (other 0 6 this.answer is (omega arith) (omega arith))
+  memory (Err Usage) this is = absurd (other 2 6 this.answer is (omega arith) (omega arith))
+  memory (Err Shelf) this is = absurd (other 3 6 this.answer is (omega arith) (omega arith))
+  memory (Err (Input refusal)) this is = absurd (other 4 6 this.answer is (omega arith) (omega arith))
+  memory (Err Memory) this is = ((this.ends.0, this.ends.1, tt), took (Err Memory) this 6 is (omega arith))
 
   -- a refused input is served by no run
-  pub refused : (end : Result (List ℕ) Stop) → EndedTold end → Said said (λ words. (refusal : Refusal) × IsRefused (Some files) words refusal)
-      → (result ≡ 4) ⊎ ((result ≡ 6) ⊎ (((result ≡ 3) × Rose before now) ⊎ Failing))
-  refused (Ok text) ended (words, is, (refusal, cause)) =
-      let same = same_words said ended.ends.0 words ended.ends.1 is in
-      absurd (served_kept files words (subst (λ w. IsServed (Some files) w) same (ranked_served (Some files) ended.ends.0 text ended.ends.2)) refusal cause)
-  refused (Err Usage) ended (words, is, (refusal, cause)) = absurd (no_words said words ended.ends is)
-  refused (Err Shelf) ended (words, is, (refusal, cause)) =
-      let same = same_words said ended.ends.0 words ended.ends.1 is in
-      let asks : Asks words = subst Asks same ended.ends.2.0 in
-      elim ended.ends.2.1 [
-        | inl rose ↦ elim (or_fails (Err Shelf) ended) [ inl three ↦ inr (inr (inl (three, rose))) | inr fails ↦ inr (inr (inr fails)) ]
-        | inr missing ↦ absurd (missing_kept files words refusal asks (subst (λ w. files w.collection ≡ None) same missing) cause)
+  refused : (end : Result (List ℕ) Stop) → This end → IsTold files_before → Said said (λ command. (refusal : Refusal) × IsRefused H files_before command refusal)
+      → (result ≡ 4) ⊎ ((result ≡ 6) ⊎ (((result ≡ 3) × Rose before now) ⊎ Sinks))
+  refused (Ok text) this told (command, is, (refusal, cause)) =
+      let same = same_command said this.ends.0 command this.ends.1 is in
+      let served = subst (λ c. IsServed H files_before c) same (done_served H files_before files_now this.ends.0 text this.ends.2) in
+      absurd (served_kept H files_before command told served refusal cause)
+  refused (Err Usage) this told (command, is, (refusal, cause)) = absurd (no_command said command this.ends.0 is)
+  refused (Err Shelf) this told (command, is, (refusal, cause)) =
+      let same = same_command said this.ends.0 command this.ends.1 is in
+      let asks : Asks command = subst Asks same this.ends.2.0 in
+      elim this.ends.2.1 [
+        | inl rose ↦ elim this.answer [ inl three ↦ inr (inr (inl (three, rose))) | inr sinks ↦ inr (inr (inr sinks)) ]
+        | inr missing ↦
+            let gone = subst (λ c. IsMissing files_before (read_name c)) same missing in
+            absurd (missing_kept H files_before command asks gone refusal cause)
       ]
-  refused (Err (Input other)) ended told = elim (or_fails (Err (Input other)) ended) [ inl four ↦ inl four | inr fails ↦ inr (inr (inr fails)) ]
-  refused (Err Memory) ended told = elim (or_fails (Err Memory) ended) [ inl six ↦ inr (inl six) | inr fails ↦ inr (inr (inr fails)) ]
+  refused (Err (Input found)) this told refusal = elim this.answer [ inl four ↦ inl four | inr sinks ↦ inr (inr (inr sinks)) ]
+  refused (Err Memory) this told refusal = elim this.answer [ inl six ↦ inr (inl six) | inr sinks ↦ inr (inr (inr sinks)) ]
 
   -- a file that is not there is a fault of the shelf
-  pub missing : (end : Result (List ℕ) Stop) → EndedTold end → Said said (λ words. Asks words × (files words.collection ≡ None))
-      → (result ≡ 3) ⊎ ((result ≡ 6) ⊎ Failing)
-  missing (Ok text) ended (words, is, (asks, none)) =
-      let same = same_words said ended.ends.0 words ended.ends.1 is in
-      let there : files words.collection ≡ Some ended.ends.2.bytes = subst (λ w. files w.collection ≡ Some ended.ends.2.bytes) same ended.ends.2.file.held in
-      let both = sym none ∙ there in
-      absurd (cc)
-  missing (Err Usage) ended (words, is, (asks, none)) = absurd (no_words said words ended.ends is)
-  missing (Err Shelf) ended told = elim (or_fails (Err Shelf) ended) [ inl three ↦ inl three | inr fails ↦ inr (inr fails) ]
-  missing (Err (Input refusal)) ended (words, is, (asks, none)) =
-      let same = same_words said ended.ends.0 words ended.ends.1 is in
-      absurd (missing_kept files words refusal asks none (subst (λ w. IsRefused (Some files) w refusal) same ended.ends.2))
-  missing (Err Memory) ended told = elim (or_fails (Err Memory) ended) [ inl six ↦ inr (inl six) | inr fails ↦ inr (inr fails) ]
+  missing : (end : Result (List ℕ) Stop) → This end → Said said (λ command. Asks command × IsMissing files_before (read_name command))
+      → (result ≡ 3) ⊎ ((result ≡ 6) ⊎ Sinks)
+  missing (Ok text) this (command, is, (asks, gone)) =
+      let same = same_command said this.ends.0 command this.ends.1 is in
+      let served = subst (λ c. IsServed H files_before c) same (done_served H files_before files_now this.ends.0 text this.ends.2) in
+      absurd (served_there H files_before command served gone)
+  missing (Err Usage) this (command, is, asked) = absurd (no_command said command this.ends.0 is)
+  missing (Err Shelf) this asked = elim this.answer [ inl three ↦ inl three | inr sinks ↦ inr (inr sinks) ]
+  missing (Err (Input refusal)) this (command, is, (asks, gone)) =
+      let same = same_command said this.ends.0 command this.ends.1 is in
+      absurd (missing_kept H files_before command asks gone refusal (subst (λ c. IsRefused H files_before c refusal) same this.ends.2.0))
+  missing (Err Memory) this asked = elim this.answer [ inl six ↦ inr (inl six) | inr sinks ↦ inr (inr sinks) ]
 
-  -- where everything is within the limits and nothing fails, the ranking is printed, or memory is wanted
-  pub complete : (end : Result (List ℕ) Stop) → EndedTold end → Said said (λ words. IsServed (Some files) words)
+  -- where everything is within the limits and nothing fails, the command is done, or memory is wanted
+  complete : (end : Result (List ℕ) Stop) → This end → IsTold files_before → Said said (λ command. IsServed H files_before command)
       → (Rose before now → ⊥) → (Rose faults_before faults_now → ⊥) → (result ≡ 0) ⊎ (result ≡ 6)
-  complete (Ok text) ended told still quiet = elim (or_fails (Ok text) ended) [ inl zero_ ↦ inl zero_ | inr fails ↦ absurd (quiet fails.1) ]
-  complete (Err Usage) ended (words, is, served) still quiet = absurd (no_words said words ended.ends is)
-  complete (Err Shelf) ended (words, is, served) still quiet =
-      let same = same_words said ended.ends.0 words ended.ends.1 is in
-      elim ended.ends.2.1 [
+  complete (Ok text) this told asked still quiet = elim this.answer [ inl is ↦ inl is | inr sinks ↦ absurd (quiet sinks.1) ]
+  complete (Err Usage) this told (command, is, served) still quiet = absurd (no_command said command this.ends.0 is)
+  complete (Err Shelf) this told (command, is, served) still quiet =
+      let same = same_command said this.ends.0 command this.ends.1 is in
+      elim this.ends.2.1 [
         | inl rose ↦ absurd (still rose)
-        | inr missing_ ↦
-            let none : files words.collection ≡ None = subst (λ w. files w.collection ≡ None) same missing_ in
-            let both = sym none ∙ served.file.held in
-            absurd (cc)
+        | inr gone ↦ absurd (served_there H files_before command served (subst (λ c. IsMissing files_before (read_name c)) same gone))
       ]
-  complete (Err (Input refusal)) ended (words, is, served) still quiet =
-      let same = same_words said ended.ends.0 words ended.ends.1 is in
-      absurd (served_kept files words served refusal (subst (λ w. IsRefused (Some files) w refusal) same ended.ends.2))
-  complete (Err Memory) ended told still quiet = elim (or_fails (Err Memory) ended) [ inl six ↦ inr six | inr fails ↦ absurd (quiet fails.1) ]
+  complete (Err (Input refusal)) this told (command, is, served) still quiet =
+      let same = same_command said this.ends.0 command this.ends.1 is in
+      absurd (served_kept H files_before command told served refusal (subst (λ c. IsRefused H files_before c refusal) same this.ends.2.0))
+  complete (Err Memory) this told asked still quiet = elim this.answer [ inl six ↦ inr six | inr sinks ↦ absurd (quiet sinks.1) ]
+
+  or_said : (command : Command) → command_of said ≡ Some command → (files_now ≡ files_before) ⊎ Changes H files_before files_now command
+      → (files_now ≡ files_before) ⊎ Said said (λ c. Changes H files_before files_now c)
+  or_said command is (inl same) = inl same
+  or_said command is (inr changes) = inr (command, is, changes)
+
+  files : (end : Result (List ℕ) Stop) → This end → (files_now ≡ files_before) ⊎ Said said (λ command. Changes H files_before files_now command)
+  files (Ok text) this = or_said this.ends.0 this.ends.1 (done_changes H files_before files_now this.ends.0 text this.ends.2)
+  files (Err Usage) this = inl this.ends.1
+  files (Err Shelf) this = or_said this.ends.0 this.ends.1 this.ends.2.2
+  files (Err (Input refusal)) this = inl this.ends.2.1
+  files (Err Memory) this = inl this.ends.2
+
+  no_stop : (status : ℕ) → (result ≡ status) ⊎ Sinks → (result ≡ 2) ⊎ ((result ≡ 4) ⊎ (result ≡ 6)) → status ≢ 2 → status ≢ 4 → status ≢ 6 → ⊥
+  no_stop status answer (inl is) two four six = other status 2 answer is two (omega arith)
+  no_stop status answer (inr (inl is)) two four six = other status 4 answer is four (omega arith)
+  no_stop status answer (inr (inr is)) two four six = other status 6 answer is six (omega arith)
+
+  kept : (end : Result (List ℕ) Stop) → This end → (result ≡ 2) ⊎ ((result ≡ 4) ⊎ (result ≡ 6)) → files_now ≡ files_before
+  kept (Ok text) this is = absurd (no_stop 0 this.answer is (omega arith) (omega arith) (omega arith))
+  kept (Err Usage) this is = this.ends.1
+  kept (Err Shelf) this is = absurd (no_stop 3 this.answer is (omega arith) (omega arith) (omega arith))
+  kept (Err (Input refusal)) this is = this.ends.2.1
+  kept (Err Memory) this is = this.ends.2
+
+  pub ran : Ended H said files_before files_now before now taken_before taken_now faults_before faults_now result
+      → (Said said (λ command. IsMissing files_before (read_name command)) → now ≡ before) → before ≤ now → faults_before ≤ faults_now
+      → Ran H said files_before files_now before now taken_before taken_now faults_before faults_now result
+  ran ended uncounted later sink_later =
+      let end = ended.end in
+      let answer : (result ≡ status_of end) ⊎ Sinks = elim ended.prints.answer [ inl is ↦ inl is | inr is ↦ inr (is, (ended.prints.part is).0) ] in
+      let this : This end = record { ends = ended.ends; answer = answer; took = ended.prints.all } in
+      record {
+        status = is_status end this;
+        done = done end this;
+        usage = usage end this;
+        unsaid = unsaid end this;
+        shelf = shelf end this;
+        missing = missing end this;
+        input = input end this;
+        refused = refused end this;
+        memory = memory end this;
+        sink = λ seven. let failed = ended.prints.part seven in (end, ended.ends, failed.0, failed.1);
+        complete = complete end this;
+        files = files end this;
+        kept = kept end this;
+        uncounted = uncounted;
+        later = later;
+        sink_later = sink_later;
+      }

@@ -1,5 +1,6 @@
--- What is within the limits is not refused.
-use Rattle.std.proofs.Common.{◌≡◌, ◌∙◌, ◌<◌, ◌≤◌, ℕ, List, [], length, Option, Some, None, MatchOption, sym, ap, subst, arith}
+-- What is within the limits is not refused, and a file that is not there is neither served nor refused.
+use Rattle.std.proofs.Common.{◌≡◌, ◌∙◌, ◌<◌, ◌≤◌, ◌^◌, ℕ, List, [], length, Option, Some, None, MatchOption, sym, ap, subst, arith}
+use Rattle.ats_base.specs.Outside.{IsMissing, IsLonger}
 use Rattle.ats_terms.specs.Query.{HasQuery}
 use Rattle.ats_terms.specs.Faults.{IsFirstFault}
 use Rattle.ats_terms.specs.declared.query.QueryFault.{QueryFault}
@@ -8,13 +9,16 @@ use Rattle.ats_impact.specs.Limits.{AreWithin}
 use Rattle.ats_impact.specs.CollectionFaults.{IsFirstCollectionFault}
 use Rattle.ats_impact.specs.declared.collection.CollectionFault.{CollectionFault}
 use Rattle.ats_impact.specs.declared.collection.CollectionFault.TheVariants as collection
+use Rattle.ats_index.specs.Spelling.{IsSpelling}
 use Rattle.ats_top.specs.Input.{AreJsonTexts}
 use Rattle.ats_top.specs.declared.input.JsonFault.{JsonFault}
 use Rattle.ats_top.specs.declared.input.JsonFault.TheVariants as json
-use Rattle.ats_top.specs.Words.{RankWords}
-use Rattle.ats_top.specs.Run.{IsRowCount, Asks, IsFile, IsServed, IsJsonRefused, IsCollectionRefused, IsRefused}
+use Rattle.ats_top.specs.Words.{RankWords, Command, Rank, Build, Root, read_name}
+use Rattle.ats_top.specs.Read.{Files, IsTold, IsFile, HasCollection, HasIndex}
+use Rattle.ats_top.specs.Refusals.{IsRowCount, AsksRanking, Asks, IsJsonRefused, AreTextsRefused, IsCollectionRefused, IsIndexRefused, IsRankingRefused, IsRefused}
+use Rattle.ats_top.specs.Done.{IsServed}
 use Rattle.ats_top.specs.declared.stops.Refusal.{Refusal}
-use Rattle.ats_top.specs.declared.stops.Refusal.TheVariants.{ROut, QueryTooLong, NoTerm, TooManyWords, TooManyTerms, FileTooLong, NotJson, NotArray, BadItem, NoDocuments, TooManyDocuments, TextTooLong, AllTooLong}
+use Rattle.ats_top.specs.declared.stops.Refusal.TheVariants.{ROut, QueryTooLong, NoTerm, TooManyWords, TooManyTerms, FileTooLong, NotJson, NotArray, BadItem, NoDocuments, TooManyDocuments, TextTooLong, AllTooLong, BadIndex}
 use Rattle.ats_top.proofs.JsonLemmas.{same_texts, IsJsonRefusal, no_json_fault}
 
 same_some : {X : Type 0} (o : Option X) (x y : X) → o ≡ Some x → o ≡ Some y → x ≡ y
@@ -50,58 +54,109 @@ longer : (o : Option (List ℕ)) (bytes : List ℕ) (limit : ℕ) → o ≡ Some
 longer None bytes limit is short long = long
 longer (Some file) bytes limit is short long = let same : file ≡ bytes = cc in omega (arith, ap length same)
 
-same_bytes : (files : List ℕ → Option (List ℕ)) (name first second : List ℕ) → IsFile (Some files) name first → IsFile (Some files) name second → first ≡ second
-same_bytes files name first second one other = same_some (files name) first second one.held other.held
+-- a told file that is no longer than the limit
+not_longer : (files : Files) (name bytes : List ℕ) (limit : ℕ) → IsTold files → IsFile files name limit bytes → IsLonger files name limit → ⊥
+not_longer None name bytes limit told file long = absurd (cc)
+not_longer (Some map) name bytes limit told file long = longer (map name) bytes limit file.held file.short long
 
-module _ (files : List ℕ → Option (List ℕ)) (words : RankWords) (served : IsServed (Some files) words) where
-  json_kept : (fault : JsonFault) → IsJsonRefused (Some files) words fault → IsJsonRefusal fault → ⊥
-  json_kept fault refused free =
-      let same = same_bytes files words.collection served.bytes refused.1.0 served.file refused.1.1 in
-      no_json_fault refused.1.0 served.texts fault (subst (λ b. AreJsonTexts b served.texts) same served.collection.json) refused.1.2 free
-
-  collection_kept : (fault : CollectionFault) → IsCollectionRefused (Some files) words fault → IsCollectionRefusal fault → ⊥
-  collection_kept fault (asks, (bytes, texts, file, are, is)) free =
-      let same = same_bytes files words.collection served.bytes bytes served.file file in
-      let alike : served.texts ≡ texts = same_texts bytes served.texts texts (subst (λ b. AreJsonTexts b served.texts) same served.collection.json) are in
-      no_collection_fault texts fault (subst AreWithin alike served.collection.within) is free
-
-  -- what is served is not refused, where the files are told
-  pub served_kept : (refusal : Refusal) → IsRefused (Some files) words refusal → ⊥
-  served_kept (ROut r) refused = refused.1 (subst IsRowCount (sym refused.0) served.asks.rows)
-  served_kept (QueryTooLong bytes) refused = no_query_fault words.query (query.TooLong bytes) served.asks.query refused.1 tt
-  served_kept NoTerm refused = no_query_fault words.query query.NoTerm served.asks.query refused.1 tt
-  served_kept (TooManyWords count) refused = no_query_fault words.query (query.TooManyWords count) served.asks.query refused.1 tt
-  served_kept (TooManyTerms distinct) refused = no_query_fault words.query (query.TooManyTerms distinct) served.asks.query refused.1 tt
-  served_kept (FileTooLong limit) refused =
-      longer (files words.collection) served.bytes limit served.file.held (omega (arith, served.file.short, refused.1)) refused.2
-  served_kept NotJson refused = json_kept json.NotJson refused tt
-  served_kept NotArray refused = json_kept json.NotArray refused tt
-  served_kept (BadItem doc) refused = json_kept (json.BadItem doc) refused tt
-  served_kept NoDocuments refused = collection_kept collection.NoDocuments refused tt
-  served_kept (TooManyDocuments n) refused = collection_kept (collection.TooMany n) refused tt
-  served_kept (TextTooLong doc) refused = collection_kept (collection.TextTooLong doc) refused tt
-  served_kept (AllTooLong bytes) refused = collection_kept (collection.AllTooLong bytes) refused tt
-
-no_file : (files : List ℕ → Option (List ℕ)) (name bytes : List ℕ) → files name ≡ None → IsFile (Some files) name bytes → ⊥
-no_file files name bytes none file = let both = sym none ∙ file.held in cc
+-- a told file has one content
+one_file : (files : Files) (name first second : List ℕ) (limit other : ℕ) → IsTold files → IsFile files name limit first → IsFile files name other second → first ≡ second
+one_file None name first second limit other told one two = absurd (cc)
+one_file (Some map) name first second limit other told one two = same_some (map name) first second one.held two.held
 
 no_length : (o : Option (List ℕ)) (limit : ℕ) → o ≡ None → MatchOption o ⊥ (λ file. limit < length file) → ⊥
 no_length None limit none long = long
 no_length (Some file) limit none long = absurd (cc)
 
--- where the words and the query are within the limits and the file is not there, nothing is refused
-pub missing_kept : (files : List ℕ → Option (List ℕ)) (words : RankWords) (refusal : Refusal) → Asks words → files words.collection ≡ None
-    → IsRefused (Some files) words refusal → ⊥
-missing_kept files words (ROut r) asks none refused = refused.1 (subst IsRowCount (sym refused.0) asks.rows)
-missing_kept files words (QueryTooLong bytes) asks none refused = no_query_fault words.query (query.TooLong bytes) asks.query refused.1 tt
-missing_kept files words NoTerm asks none refused = no_query_fault words.query query.NoTerm asks.query refused.1 tt
-missing_kept files words (TooManyWords count) asks none refused = no_query_fault words.query (query.TooManyWords count) asks.query refused.1 tt
-missing_kept files words (TooManyTerms distinct) asks none refused = no_query_fault words.query (query.TooManyTerms distinct) asks.query refused.1 tt
-missing_kept files words (FileTooLong limit) asks none refused = no_length (files words.collection) limit none refused.2
-missing_kept files words NotJson asks none refused = no_file files words.collection refused.1.0 none refused.1.1
-missing_kept files words NotArray asks none refused = no_file files words.collection refused.1.0 none refused.1.1
-missing_kept files words (BadItem doc) asks none refused = no_file files words.collection refused.1.0 none refused.1.1
-missing_kept files words NoDocuments asks none (a, (bytes, texts, file, are, is)) = no_file files words.collection bytes none file
-missing_kept files words (TooManyDocuments n) asks none (a, (bytes, texts, file, are, is)) = no_file files words.collection bytes none file
-missing_kept files words (TextTooLong doc) asks none (a, (bytes, texts, file, are, is)) = no_file files words.collection bytes none file
-missing_kept files words (AllTooLong total) asks none (a, (bytes, texts, file, are, is)) = no_file files words.collection bytes none file
+missing_longer : (files : Files) (name : List ℕ) (limit : ℕ) → IsMissing files name → IsLonger files name limit → ⊥
+missing_longer None name limit missing long = missing
+missing_longer (Some map) name limit missing long = no_length (map name) limit missing long
+
+-- a file that is not there is none
+pub missing_file : (files : Files) (name bytes : List ℕ) (limit : ℕ) → IsMissing files name → IsFile files name limit bytes → ⊥
+missing_file None name bytes limit missing file = missing
+missing_file (Some map) name bytes limit missing file = let both = sym missing ∙ file.held in cc
+
+module _ (files : Files) (told : IsTold files) (name : List ℕ) (texts : List (List ℕ)) (has : HasCollection files name texts) where
+  json_kept : (fault : JsonFault) → IsJsonRefused files name fault → IsJsonRefusal fault → ⊥
+  json_kept fault refused free =
+      let same = one_file files name has.bytes refused.0 (2 ^ 26) (2 ^ 26) told has.file refused.1 in
+      no_json_fault refused.0 texts fault (subst (λ b. AreJsonTexts b texts) same has.collection.json) refused.2 free
+
+  texts_kept : (fault : CollectionFault) → AreTextsRefused files name fault → IsCollectionRefusal fault → ⊥
+  texts_kept fault (bytes, others, file, are, is) free =
+      let same = one_file files name has.bytes bytes (2 ^ 26) (2 ^ 26) told has.file file in
+      let alike : texts ≡ others = same_texts bytes texts others (subst (λ b. AreJsonTexts b texts) same has.collection.json) are in
+      no_collection_fault others fault (subst AreWithin alike has.collection.within) is free
+
+  -- a collection is not refused
+  collection_kept : (refusal : Refusal) → IsCollectionRefused files name refusal → ⊥
+  collection_kept (FileTooLong limit) refused =
+      not_longer files name has.bytes (2 ^ 26) told has.file (subst (IsLonger files name) refused.0 refused.1)
+  collection_kept NotJson refused = json_kept json.NotJson refused tt
+  collection_kept NotArray refused = json_kept json.NotArray refused tt
+  collection_kept (BadItem doc) refused = json_kept (json.BadItem doc) refused tt
+  collection_kept NoDocuments refused = texts_kept collection.NoDocuments refused tt
+  collection_kept (TooManyDocuments n) refused = texts_kept (collection.TooMany n) refused tt
+  collection_kept (TextTooLong doc) refused = texts_kept (collection.TextTooLong doc) refused tt
+  collection_kept (AllTooLong bytes) refused = texts_kept (collection.AllTooLong bytes) refused tt
+  collection_kept _ refused = refused
+
+-- an index is not refused
+index_kept : (H : List ℕ → List ℕ) (files : Files) (name : List ℕ) (texts : List (List ℕ)) → IsTold files → HasIndex H files name texts
+    → (refusal : Refusal) → IsIndexRefused H files name refusal → ⊥
+index_kept H files name texts told has (FileTooLong limit) refused =
+    not_longer files name has.bytes (2 ^ 29) told has.file (subst (IsLonger files name) refused.0 refused.1)
+index_kept H files name texts told has (BadIndex at) (bytes, file, fault) =
+    let same = one_file files name has.bytes bytes (2 ^ 29) (2 ^ 29) told has.file file in
+    fault.1 texts (subst (λ b. IsSpelling H b texts) same has.spelling)
+index_kept H files name texts told has _ refused = refused
+
+-- the words and the collection of a ranking are not refused, if a collection that is not refused is one
+ranking_kept : (files : Files) (words : RankWords) → AsksRanking words → ((refusal : Refusal) → IsCollectionRefused files words.collection refusal → ⊥)
+    → (refusal : Refusal) → IsRankingRefused files words refusal → ⊥
+ranking_kept files words asks kept (ROut r) refused = refused.1 (subst IsRowCount (sym refused.0) asks.rows)
+ranking_kept files words asks kept (QueryTooLong bytes) refused = no_query_fault words.query (query.TooLong bytes) asks.query refused.1 tt
+ranking_kept files words asks kept NoTerm refused = no_query_fault words.query query.NoTerm asks.query refused.1 tt
+ranking_kept files words asks kept (TooManyWords count) refused = no_query_fault words.query (query.TooManyWords count) asks.query refused.1 tt
+ranking_kept files words asks kept (TooManyTerms distinct) refused = no_query_fault words.query (query.TooManyTerms distinct) asks.query refused.1 tt
+ranking_kept files words asks kept other refused = kept other refused.1
+
+-- what is served is not refused, where the files are told
+pub served_kept : (H : List ℕ → List ℕ) (files : Files) (command : Command) → IsTold files → IsServed H files command
+    → (refusal : Refusal) → IsRefused H files command refusal → ⊥
+served_kept H files (Rank words) told (asks, (texts, has)) refusal refused =
+    ranking_kept files words asks (collection_kept files told words.collection texts has) refusal refused
+served_kept H files (Build words) told (texts, has) refusal refused = collection_kept files told words.collection texts has refusal refused
+served_kept H files (Root words) told (texts, has) refusal refused = index_kept H files words.index texts told has refusal refused
+
+module _ (files : Files) (name : List ℕ) (missing : IsMissing files name) where
+  collection_missing : (refusal : Refusal) → IsCollectionRefused files name refusal → ⊥
+  collection_missing (FileTooLong limit) refused = missing_longer files name limit missing refused.1
+  collection_missing NotJson refused = missing_file files name refused.0 (2 ^ 26) missing refused.1
+  collection_missing NotArray refused = missing_file files name refused.0 (2 ^ 26) missing refused.1
+  collection_missing (BadItem doc) refused = missing_file files name refused.0 (2 ^ 26) missing refused.1
+  collection_missing NoDocuments (bytes, texts, file, are, is) = missing_file files name bytes (2 ^ 26) missing file
+  collection_missing (TooManyDocuments n) (bytes, texts, file, are, is) = missing_file files name bytes (2 ^ 26) missing file
+  collection_missing (TextTooLong doc) (bytes, texts, file, are, is) = missing_file files name bytes (2 ^ 26) missing file
+  collection_missing (AllTooLong total) (bytes, texts, file, are, is) = missing_file files name bytes (2 ^ 26) missing file
+  collection_missing _ refused = refused
+
+  index_missing : (H : List ℕ → List ℕ) (refusal : Refusal) → IsIndexRefused H files name refusal → ⊥
+  index_missing H (FileTooLong limit) refused = missing_longer files name limit missing refused.1
+  index_missing H (BadIndex at) (bytes, file, fault) = missing_file files name bytes (2 ^ 29) missing file
+  index_missing H _ refused = refused
+
+-- where the words are within the limits and the file is not there, nothing is refused
+pub missing_kept : (H : List ℕ → List ℕ) (files : Files) (command : Command) → Asks command → IsMissing files (read_name command)
+    → (refusal : Refusal) → IsRefused H files command refusal → ⊥
+missing_kept H files (Rank words) asks missing refusal refused =
+    ranking_kept files words asks (collection_missing files words.collection missing) refusal refused
+missing_kept H files (Build words) asks missing refusal refused = collection_missing files words.collection missing refusal refused
+missing_kept H files (Root words) asks missing refusal refused = index_missing files words.index missing H refusal refused
+
+-- what is served is there
+pub served_there : (H : List ℕ → List ℕ) (files : Files) (command : Command) → IsServed H files command → IsMissing files (read_name command) → ⊥
+served_there H files (Rank words) (asks, (texts, has)) missing = missing_file files words.collection has.bytes (2 ^ 26) missing has.file
+served_there H files (Build words) (texts, has) missing = missing_file files words.collection has.bytes (2 ^ 26) missing has.file
+served_there H files (Root words) (texts, has) missing = missing_file files words.index has.bytes (2 ^ 29) missing has.file

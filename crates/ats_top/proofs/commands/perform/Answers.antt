@@ -3,39 +3,45 @@ use Rattle.ats_top.specs.declared.stops.Stop.TheVariants.{Usage, Shelf, Input, M
 use Rattle.ats_top.proofs.commands.perform.Goals as goal
 
 pub returns-in-Ok-clause-ended : goal.returns-in-Ok-clause-ended
-returns-in-Ok-clause-ended g c = (
-  Ok (string_bytes c.in-Ok.text),
-  record { ends = c.in-Ok.ensures.ok; prints = rw c.as_str.ensures.value at c.print.ensures.prints },
-)
+returns-in-Ok-clause-ended g c = record {
+  end = Ok (string_bytes c.in-Ok.text);
+  ends = c.in-Ok.ensures.ok;
+  prints = rw c.as_str.ensures.value at c.print.ensures.prints;
+}
 
 pub returns-in-Err-Usage-clause-ended : goal.returns-in-Err-Usage-clause-ended
-returns-in-Err-Usage-clause-ended g c = (
-  Err Usage,
-  record { ends = rw c.in-Err-Usage.field-0-is at c.in-Err-Usage.ensures.cause; prints = c.print-in-Err-Usage.ensures.prints },
-)
+returns-in-Err-Usage-clause-ended g c = record {
+  end = Err Usage;
+  ends = rw c.in-Err-Usage.field-0-is at c.in-Err-Usage.ensures.stop;
+  prints = c.print-in-Err-Usage.ensures.prints;
+}
 
 pub returns-in-Err-Shelf-clause-ended : goal.returns-in-Err-Shelf-clause-ended
-returns-in-Err-Shelf-clause-ended g c = (
-  Err Shelf,
-  record { ends = rw c.in-Err-Shelf.field-0-is at c.in-Err-Shelf.ensures.cause; prints = c.print-in-Err-Shelf.ensures.prints },
-)
+returns-in-Err-Shelf-clause-ended g c = record {
+  end = Err Shelf;
+  ends = rw c.in-Err-Shelf.field-0-is at c.in-Err-Shelf.ensures.stop;
+  prints = c.print-in-Err-Shelf.ensures.prints;
+}
 
 pub returns-in-Err-Memory-clause-ended : goal.returns-in-Err-Memory-clause-ended
-returns-in-Err-Memory-clause-ended g c = (
-  Err Memory,
-  record { ends = rw c.in-Err-Memory.field-0-is at c.in-Err-Memory.ensures.cause; prints = c.print-in-Err-Memory.ensures.prints },
-)
+returns-in-Err-Memory-clause-ended g c = record {
+  end = Err Memory;
+  ends = rw c.in-Err-Memory.field-0-is at c.in-Err-Memory.ensures.stop;
+  prints = c.print-in-Err-Memory.ensures.prints;
+}
 
 pub returns-in-Ok-line-clause-ended : goal.returns-in-Ok-line-clause-ended
-returns-in-Ok-line-clause-ended g c = (
-  Err (Input c.in-Err-Input.refusal),
-  record {
-    ends = rw c.in-Err-Input.field-0-is at c.in-Err-Input.ensures.cause;
-    prints = rw (c.as_str-in-Ok-line.ensures.value, c.in-Ok-line.ensures) at c.print-in-Ok-line.ensures.prints;
-  },
-)
+returns-in-Ok-line-clause-ended g c = record {
+  end = Err (Input c.in-Err-Input.refusal);
+  ends = rw c.in-Err-Input.field-0-is at c.in-Err-Input.ensures.stop;
+  prints = rw (c.as_str-in-Ok-line.ensures.value, c.in-Ok-line.ensures) at c.print-in-Ok-line.ensures.prints;
+}
 
 pub returns-in-Err-clause-ended : goal.returns-in-Err-clause-ended
 returns-in-Err-clause-ended g c =
-    let cause = rw c.in-Err-Input.field-0-is at c.in-Err-Input.ensures.cause in
-    (Err Memory, record { ends = (cause.0, cause.1, tt); prints = c.print-in-Err.ensures.prints })
+    let cause = rw c.in-Err-Input.field-0-is at c.in-Err-Input.ensures.stop in
+    record {
+      end = Err Memory;
+      ends = (cause.0, cause.1, cause.2.1);
+      prints = c.print-in-Err.ensures.prints;
+    }

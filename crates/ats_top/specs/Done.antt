@@ -1,0 +1,67 @@
+-- What the commands do where they are done, and what of it is left where they are not.
+use Rattle.std.specs.Prelude.{◌≡◌, ◌≤◌, ℕ, List, length, take, map}
+use Rattle.ats_base.specs.Outside.{Puts}
+use Rattle.ats_terms.specs.Query.{IsQueryOf}
+use Rattle.ats_impact.specs.Rank.{IsRanking, IsTop}
+use Rattle.ats_impact.specs.declared.rank.Row.{Row}
+use Rattle.ats_commit.specs.Root.{root_of}
+use Rattle.ats_index.specs.Spelling.{IsSpelling}
+use Rattle.ats_top.specs.Words.{RankWords, BuildWords, RootWords, Command, Rank, Build, Root}
+use Rattle.ats_top.specs.Print.{lines, line_of_root}
+use Rattle.ats_top.specs.Read.{Files, HasCollection, HasIndex}
+use Rattle.ats_top.specs.Refusals.{AsksRanking}
+
+-- the text is the lines of the ranking of the named file's collection, and its documents are a top answer
+pub record IsRanked (files : Files) (words : RankWords) (text : List ℕ) : Type 0 where
+  pub asks : AsksRanking words
+  pub texts : List (List ℕ)
+  pub query : List (List ℕ × ℕ)
+  pub rows : List Row
+  pub collection : HasCollection files words.collection texts
+  pub asked : IsQueryOf words.query query
+  pub ranking : IsRanking texts query words.r rows
+  pub top : IsTop texts query words.r (map (λ row. row.doc) rows)
+  pub printed : text ≡ lines rows
+
+-- INDEX was given the index bytes of the named file's collection, and the text is the line of its root
+pub record IsBuilt (H : List ℕ → List ℕ) (before now : Files) (words : BuildWords) (text : List ℕ) : Type 0 where
+  pub texts : List (List ℕ)
+  pub bytes : List ℕ
+  pub collection : HasCollection before words.collection texts
+  pub spelling : IsSpelling H bytes texts
+  pub stored : Puts before now words.index bytes
+  pub printed : text ≡ line_of_root (root_of H texts)
+
+-- the named file is the index of a collection, and the text is the line of its root
+pub record IsRooted (H : List ℕ → List ℕ) (files : Files) (words : RootWords) (text : List ℕ) : Type 0 where
+  pub texts : List (List ℕ)
+  pub index : HasIndex H files words.index texts
+  pub printed : text ≡ line_of_root (root_of H texts)
+
+-- the command of these words is done: this is its text, and what the shelf holds after it
+abbrev pub IsDone : (List ℕ → List ℕ) → Files → Files → Command → List ℕ → Type 0
+IsDone H before now (Rank words) text = IsRanked before words text × (now ≡ before)
+IsDone H before now (Build words) text = IsBuilt H before now words text
+IsDone H before now (Root words) text = IsRooted H before words text × (now ≡ before)
+
+-- INDEX was given a prefix of the index bytes of the named file's collection, which may be all of them
+pub record IsStoredPart (H : List ℕ → List ℕ) (before now : Files) (words : BuildWords) : Type 0 where
+  pub texts : List (List ℕ)
+  pub bytes : List ℕ
+  pub n : ℕ
+  pub collection : HasCollection before words.collection texts
+  pub spelling : IsSpelling H bytes texts
+  pub within : n ≤ length bytes
+  pub stored : Puts before now words.index (take n bytes)
+
+-- how a command may change what the shelf holds
+abbrev pub Changes : (List ℕ → List ℕ) → Files → Files → Command → Type 0
+Changes H before now (Rank words) = ⊥
+Changes H before now (Build words) = IsStoredPart H before now words
+Changes H before now (Root words) = ⊥
+
+-- what the words say is within the limits, and the named file is of the form that the command reads
+abbrev pub IsServed : (List ℕ → List ℕ) → Files → Command → Type 0
+IsServed H files (Rank words) = AsksRanking words × ((texts : List (List ℕ)) × HasCollection files words.collection texts)
+IsServed H files (Build words) = (texts : List (List ℕ)) × HasCollection files words.collection texts
+IsServed H files (Root words) = (texts : List (List ℕ)) × HasIndex H files words.index texts

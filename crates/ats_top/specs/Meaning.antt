@@ -1,0 +1,9 @@
+-- The command that the program's own value of it means.
+use Rattle.ats_top.specs.Words.{Command, Rank, Build, Root}
+use Rattle.ats_top.specs.declared.words.Command.{Command as Said}
+use Rattle.ats_top.specs.declared.words.Command.TheVariants as said
+
+abbrev pub meaning : Said → Command
+meaning (said.Rank collection r query) = Rank (record { collection = collection.now; r = r; query = query.now })
+meaning (said.Build collection index) = Build (record { collection = collection.now; index = index.now })
+meaning (said.Root index) = Root (record { index = index.now })

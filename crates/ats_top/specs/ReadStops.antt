@@ -1,0 +1,34 @@
+-- Why a file was not read as what a command wants, or no ranking was made of it; want of memory is free.
+use Rattle.std.specs.Prelude.{◌≡◌, ◌⊎◌, ℕ, List}
+use Rattle.ats_base.specs.Outside.{Rose, IsMissing, IsLonger}
+use Rattle.ats_top.specs.Read.{Files}
+use Rattle.ats_top.specs.Words.{RankWords}
+use Rattle.ats_top.specs.Refusals.{AsksRanking, IsCollectionRefused, IsIndexRefused, IsRankingRefused}
+use Rattle.ats_top.specs.declared.stops.Refusal.{Refusal}
+use Rattle.ats_top.specs.declared.stops.Refusal.TheVariants.{FileTooLong}
+use Rattle.ats_top.specs.declared.stops.Stop.{Stop}
+use Rattle.ats_top.specs.declared.stops.Stop.TheVariants.{Usage, Shelf, Input, Memory}
+
+-- a shelf's fault, or a refusal of which this holds
+abbrev pub StopsBy : Files → List ℕ → ℕ → ℕ → (Refusal → Type 0) → Stop → Type 0
+StopsBy files name before now refused Usage = ⊥
+StopsBy files name before now refused Shelf = Rose before now ⊎ IsMissing files name
+StopsBy files name before now refused (Input refusal) = refused refusal
+StopsBy files name before now refused Memory = Unit {0}
+
+abbrev pub FileStop : Files → List ℕ → (limit : ℕ) → ℕ → ℕ → Stop → Type 0
+FileStop files name limit before now stop =
+    StopsBy files name before now (λ refusal. (refusal ≡ FileTooLong limit) × IsLonger files name limit) stop
+
+abbrev pub CollectionStop : Files → List ℕ → ℕ → ℕ → Stop → Type 0
+CollectionStop files name before now stop = StopsBy files name before now (IsCollectionRefused files name) stop
+
+abbrev pub IndexStop : (List ℕ → List ℕ) → Files → List ℕ → ℕ → ℕ → Stop → Type 0
+IndexStop H files name before now stop = StopsBy files name before now (IsIndexRefused H files name) stop
+
+-- the words are tried first
+abbrev pub RankingStop : Files → RankWords → ℕ → ℕ → Stop → Type 0
+RankingStop files words before now Usage = ⊥
+RankingStop files words before now Shelf = AsksRanking words × (Rose before now ⊎ IsMissing files words.collection)
+RankingStop files words before now (Input refusal) = IsRankingRefused files words refusal
+RankingStop files words before now Memory = Unit {0}

@@ -1,0 +1,75 @@
+-- Why a command refuses its words or its file: the first limit or form that is not kept, in the order of the trials.
+use Rattle.std.specs.Prelude.{◌≡◌, ◌≤◌, ◌^◌, ℕ, List}
+use Rattle.ats_base.specs.Outside.{IsLonger}
+use Rattle.ats_terms.specs.Query.{HasQuery}
+use Rattle.ats_terms.specs.Faults.{IsFirstFault}
+use Rattle.ats_terms.specs.declared.query.QueryFault.TheVariants as query
+use Rattle.ats_impact.specs.CollectionFaults.{IsFirstCollectionFault}
+use Rattle.ats_impact.specs.declared.collection.CollectionFault.{CollectionFault}
+use Rattle.ats_impact.specs.declared.collection.CollectionFault.TheVariants as collection
+use Rattle.ats_index.specs.LoadFaults.{IsLoadFault}
+use Rattle.ats_index.specs.declared.load.LoadFault.TheVariants as index
+use Rattle.ats_top.specs.Input.{AreJsonTexts, IsFirstJsonFault}
+use Rattle.ats_top.specs.declared.input.JsonFault.{JsonFault}
+use Rattle.ats_top.specs.declared.input.JsonFault.TheVariants as json
+use Rattle.ats_top.specs.Words.{RankWords, Command, Rank, Build, Root}
+use Rattle.ats_top.specs.Read.{Files, IsFile}
+use Rattle.ats_top.specs.declared.stops.Refusal.{Refusal}
+use Rattle.ats_top.specs.declared.stops.Refusal.TheVariants.{ROut, QueryTooLong, NoTerm, TooManyWords, TooManyTerms, FileTooLong, NotJson, NotArray, BadItem, NoDocuments, TooManyDocuments, TextTooLong, AllTooLong, BadIndex}
+
+-- an answer may have 1 to 1,000 rows
+pub record IsRowCount (r : ℕ) : Type 0 where
+  pub some : 1 ≤ r
+  pub few : r ≤ 1000
+
+-- the number of rows and the query are within the limits
+pub record AsksRanking (words : RankWords) : Type 0 where
+  pub rows : IsRowCount words.r
+  pub query : HasQuery words.query
+
+-- what the words of a command say is within the limits
+abbrev pub Asks : Command → Type 0
+Asks (Rank words) = AsksRanking words
+Asks (Build words) = Unit {0}
+Asks (Root words) = Unit {0}
+
+-- the first refusal of the file's bytes is that of the JSON text
+abbrev pub IsJsonRefused : Files → List ℕ → JsonFault → Type 0
+IsJsonRefused files name fault = (bytes : List ℕ) × IsFile files name (2 ^ 26) bytes × IsFirstJsonFault bytes fault
+
+-- the first refusal of the file's bytes is that of its texts as a collection
+abbrev pub AreTextsRefused : Files → List ℕ → CollectionFault → Type 0
+AreTextsRefused files name fault = (bytes : List ℕ) × (texts : List (List ℕ))
+    × IsFile files name (2 ^ 26) bytes × AreJsonTexts bytes texts × IsFirstCollectionFault texts fault
+
+-- the named file as a collection: its length, its JSON text, its texts
+abbrev pub IsCollectionRefused : Files → List ℕ → Refusal → Type 0
+IsCollectionRefused files name (FileTooLong limit) = (limit ≡ 2 ^ 26) × IsLonger files name limit
+IsCollectionRefused files name NotJson = IsJsonRefused files name json.NotJson
+IsCollectionRefused files name NotArray = IsJsonRefused files name json.NotArray
+IsCollectionRefused files name (BadItem doc) = IsJsonRefused files name (json.BadItem doc)
+IsCollectionRefused files name NoDocuments = AreTextsRefused files name collection.NoDocuments
+IsCollectionRefused files name (TooManyDocuments n) = AreTextsRefused files name (collection.TooMany n)
+IsCollectionRefused files name (TextTooLong doc) = AreTextsRefused files name (collection.TextTooLong doc)
+IsCollectionRefused files name (AllTooLong bytes) = AreTextsRefused files name (collection.AllTooLong bytes)
+IsCollectionRefused files name _ = ⊥
+
+-- the named file as an index: its length, and that it is the index of no collection
+abbrev pub IsIndexRefused : (List ℕ → List ℕ) → Files → List ℕ → Refusal → Type 0
+IsIndexRefused H files name (FileTooLong limit) = (limit ≡ 2 ^ 29) × IsLonger files name limit
+IsIndexRefused H files name (BadIndex at) = (bytes : List ℕ) × IsFile files name (2 ^ 29) bytes × IsLoadFault H bytes (index.BadIndex at)
+IsIndexRefused H files name _ = ⊥
+
+-- rows, query, collection
+abbrev pub IsRankingRefused : Files → RankWords → Refusal → Type 0
+IsRankingRefused files words (ROut r) = (r ≡ words.r) × (IsRowCount r → ⊥)
+IsRankingRefused files words (QueryTooLong bytes) = IsRowCount words.r × IsFirstFault words.query (query.TooLong bytes)
+IsRankingRefused files words NoTerm = IsRowCount words.r × IsFirstFault words.query query.NoTerm
+IsRankingRefused files words (TooManyWords count) = IsRowCount words.r × IsFirstFault words.query (query.TooManyWords count)
+IsRankingRefused files words (TooManyTerms distinct) = IsRowCount words.r × IsFirstFault words.query (query.TooManyTerms distinct)
+IsRankingRefused files words refusal = AsksRanking words × IsCollectionRefused files words.collection refusal
+
+abbrev pub IsRefused : (List ℕ → List ℕ) → Files → Command → Refusal → Type 0
+IsRefused H files (Rank words) refusal = IsRankingRefused files words refusal
+IsRefused H files (Build words) refusal = IsCollectionRefused files words.collection refusal
+IsRefused H files (Root words) refusal = IsIndexRefused H files words.index refusal

@@ -1,0 +1,68 @@
+// The files that commands read.
+ghost use Rattle.std.specs.Prelude.{◌≡◌, ◌≤◌, ◌^◌, IfOk, IfErr};
+ghost use Rattle.ats_base.specs.Outside.{IsMissing};
+ghost use Rattle.ats_top.specs.Read.{IsFile, HasCollection, HasIndex};
+ghost use Rattle.ats_top.specs.ReadStops.{FileStop, CollectionStop, IndexStop};
+
+use crate::input::read_collection;
+use crate::stops::{Refusal, Stop};
+use ats_base::{Bytes, GatherFault, Shelf, gather};
+use ats_hash::Hash32;
+use ats_impact::Collection;
+use ats_index::Index;
+use std::alloc::Global;
+
+// The most bytes that the file of a collection may have.
+const COLLECTION_LIMIT: u64 = 1 << 26;
+
+// The most bytes that the file of an index may have.
+const INDEX_LIMIT: u64 = 1 << 29;
+
+fn file<S: Shelf>(alloc: Global, name: &str, limit: u64, shelf: &mut S) -> Result<Bytes, Stop>
+    requires { limit ≤ 2 ^ 29 }
+    ensures ok { IfOk result (IsFile (S.files shelf.old) name.now limit) }
+    ensures stop { IfErr result (FileStop (S.files shelf.old) name.now limit (S.faults shelf.old) (S.faults shelf.new)) }
+    ensures files { S.files shelf.new ≡ S.files shelf.old }
+    ensures later { S.faults shelf.old ≤ S.faults shelf.new }
+    ensures uncounted { IsMissing (S.files shelf.old) name.now → S.faults shelf.new ≡ S.faults shelf.old }
+{
+    match gather(alloc, shelf, name, limit) {
+        Ok(bytes) => Ok(bytes),
+        Err(GatherFault::ReadFault) => Err(Stop::Shelf),
+        Err(GatherFault::TooLong) => Err(Stop::Input(Refusal::FileTooLong { limit })),
+        Err(GatherFault::OutOfMemory) => Err(Stop::Memory),
+    }
+}
+
+/// The collection that the named file is.
+pub(crate) fn collection<S: Shelf>(
+    alloc: Global,
+    name: &str,
+    shelf: &mut S,
+) -> Result<Collection, Stop>
+    ensures ok { IfOk result (HasCollection (S.files shelf.old) name.now) }
+    ensures stop { IfErr result (CollectionStop (S.files shelf.old) name.now (S.faults shelf.old) (S.faults shelf.new)) }
+    ensures files { S.files shelf.new ≡ S.files shelf.old }
+    ensures later { S.faults shelf.old ≤ S.faults shelf.new }
+    ensures uncounted { IsMissing (S.files shelf.old) name.now → S.faults shelf.new ≡ S.faults shelf.old }
+{
+    let bytes = file(alloc, name, COLLECTION_LIMIT, shelf)?;
+    let texts = read_collection(alloc, bytes.as_slice())?;
+    Ok(Collection::new(alloc, texts)?)
+}
+
+/// The index that the named file is.
+pub(crate) fn index<H: Hash32, S: Shelf>(
+    alloc: Global,
+    name: &str,
+    shelf: &mut S,
+) -> Result<Index<H>, Stop>
+    ensures ok { IfOk result (HasIndex H.hash (S.files shelf.old) name.now) }
+    ensures stop { IfErr result (IndexStop H.hash (S.files shelf.old) name.now (S.faults shelf.old) (S.faults shelf.new)) }
+    ensures files { S.files shelf.new ≡ S.files shelf.old }
+    ensures later { S.faults shelf.old ≤ S.faults shelf.new }
+    ensures uncounted { IsMissing (S.files shelf.old) name.now → S.faults shelf.new ≡ S.faults shelf.old }
+{
+    let bytes = file(alloc, name, INDEX_LIMIT, shelf)?;
+    Ok(Index::<H>::load(alloc, bytes.as_slice())?)
+}
