@@ -1,2 +1,5 @@
 pub mod Fronts
 pub mod Staying
+pub mod Numbers
+pub mod Standing
+pub mod Runs

@@ -1,6 +1,7 @@
 pub mod Table
 pub mod Grammar
 pub mod Front
+pub mod Parts
 pub mod Pending
 pub mod State
 pub mod Reading
