@@ -1,0 +1,29 @@
+//! What a proof's records hold.
+
+/// How a proof was made, and so which sections it has.
+#[derive(Clone, Copy, Debug, PartialEq, Eq)]
+pub enum Algorithm {
+    /// The threshold algorithm with random access: the documents show the terms of each.
+    Tra,
+    /// The threshold algorithm with no random access: the lists alone are shown.
+    Tnra,
+}
+
+/// Where a section of leaves shows a term.
+#[derive(Clone, Copy, Debug, PartialEq, Eq)]
+pub struct Slot {
+    /// Whether the term stands at a leaf; else it is absent, between two neighbours.
+    pub present: bool,
+    /// Which of the section's leaves that is, counted from 0; of two neighbours the lower one.
+    pub index: u16,
+}
+
+/// A leaf of the terms of a document. The low sentinel has the empty term, the high one the one byte 0xFF;
+/// both have impact 0.
+#[derive(Clone, Copy, Debug, PartialEq, Eq)]
+pub struct TermLeaf<'a> {
+    /// The bytes of the term, at most 64 of them.
+    pub term: &'a [u8],
+    /// The term's impact in the document.
+    pub impact: u16,
+}
