@@ -1,7 +1,7 @@
 -- Runs of like parts that stand in bytes.
 use Rattle.std.proofs.Common.{◌≡◌, ◌∙◌, ℕ, zero, suc, ◌+◌, List, [], ◌∷◌, ◌++◌, drop, refl, sym, ap}
 use Rattle.std.specs.List.{flat_map}
-use Rattle.ats_proof.specs.Table.{Table}
+use Rattle.ats_grammar.specs.Table.{Table}
 use Rattle.ats_proof.specs.Parts.{parts_in, total_size}
 use Rattle.ats_proof.proofs.Standing.{Stands, HasFront, both, nothing}
 

@@ -1,7 +1,2 @@
-pub mod Table
-pub mod Grammar
-pub mod Front
 pub mod Parts
-pub mod Pending
-pub mod State
-pub mod Reading
+pub mod Value

@@ -1,6 +1,7 @@
 -- Numbers as bytes, and like parts that stand one after another in bytes.
-use Rattle.std.specs.Prelude.{ℕ, zero, suc, ◌+◌, ◌/◌, ◌%◌, ◌^◌, List, [], ◌∷◌, take, drop}
-use Rattle.ats_proof.specs.Table.{number}
+use Rattle.std.specs.Prelude.{ℕ, zero, suc, ◌+◌, ◌/◌, ◌%◌, ◌^◌, List, [], ◌∷◌, length, take, drop}
+use Rattle.std.specs.List.{flat_map}
+use Rattle.ats_grammar.specs.Table.{number}
 
 -- so many bytes whose number is n, the high byte first
 abbrev pub spelled : (size n : ℕ) → List ℕ
@@ -20,3 +21,14 @@ parts_in size read (suc n) bytes = read bytes ∷ parts_in size read n (drop (si
 abbrev pub total_size : (List ℕ → ℕ) → ℕ → List ℕ → ℕ
 total_size size zero bytes = 0
 total_size size (suc n) bytes = size bytes + total_size size n (drop (size bytes) bytes)
+
+-- the parts whose number stands in so many bytes before them, and how many bytes number and parts have
+abbrev pub counted_in : {X : Type 0} → ℕ → (List ℕ → ℕ) → (List ℕ → X) → List ℕ → List X
+counted_in width size read bytes = parts_in size read (number_in width bytes) (drop width bytes)
+
+abbrev pub counted_size : ℕ → (List ℕ → ℕ) → List ℕ → ℕ
+counted_size width size bytes = width + total_size size (number_in width bytes) (drop width bytes)
+
+-- the fields of parts behind their number
+abbrev pub counted : {X : Type 0} → ℕ → (X → List (List ℕ)) → List X → List (List ℕ)
+counted width spell xs = spelled width (length xs) ∷ flat_map spell xs
