@@ -3,9 +3,7 @@ use Rattle.std.proofs.Common.{◌≡◌, ◌∙◌, ℕ, zero, suc, ◌+◌, ◌
 use Rattle.std.specs.List.{concat, flat_map}
 use Rattle.std.proofs.lemmas.List.{take_at, drop_at, drop-drop, get_or-drop, length-drop}
 use Rattle.ats_grammar.specs.declared.fault.ShapeKind.{ShapeKind}
-use Rattle.ats_grammar.specs.declared.next.Next.{Next}
-use Rattle.ats_grammar.specs.declared.next.Next.TheVariants as next
-use Rattle.ats_grammar.specs.Table.{Table, End, Number, Bytes, number, head, follow}
+use Rattle.ats_grammar.specs.Table.{Table, End, Number, Bytes, number}
 use Rattle.ats_grammar.specs.Front.{IsField, Come}
 use Rattle.ats_proof.specs.Parts.{spelled, number_in, parts_in, total_size}
 use Rattle.ats_proof.proofs.Numbers.{AreBytes, spelled-number}
@@ -89,3 +87,23 @@ both a k t fields bytes b m u first second = record {
 -- no fields
 pub nothing : (t : Table) (fields : List (List ℕ)) (bytes : List ℕ) → Stands t fields bytes → HasFront [] 0 t fields bytes
 nothing t fields bytes is = record { after = fields; split = refl; stands = is; room = omega arith }
+
+-- ---- a front, and the field after it
+
+pub then_bytes : {a : List (List ℕ)} {k size : ℕ} {rest : Table} {fields : List (List ℕ)} {bytes : List ℕ} → HasFront a k (Bytes size rest) fields bytes
+    → HasFront (a ++ take size (drop k bytes) ∷ []) (k + size) rest fields bytes
+then_bytes {a} {k} {size} {rest} {fields} {bytes} is =
+    both a k (Bytes size rest) fields bytes (take size (drop k bytes) ∷ []) size rest is (has_bytes size rest is.after (drop k bytes) is.stands)
+
+pub record HasNumberAfter (a : List (List ℕ)) (k size low high : ℕ) (rest : ℕ → Table) (fields : List (List ℕ)) (bytes : List ℕ) : Type 0 where
+  pub front : HasFront (a ++ spelled size (number_in size (drop k bytes)) ∷ []) (k + size) (rest (number_in size (drop k bytes))) fields bytes
+  pub range : IsRanged low high (number_in size (drop k bytes))
+
+pub then_number : {a : List (List ℕ)} {k size low high : ℕ} {kind : ShapeKind} {rest : ℕ → Table} {fields : List (List ℕ)} {bytes : List ℕ}
+    → HasFront a k (Number size low high kind rest) fields bytes → HasNumberAfter a k size low high rest fields bytes
+then_number {a} {k} {size} {low} {high} {kind} {rest} {fields} {bytes} is =
+    let number = has_number size low high kind rest is.after (drop k bytes) is.stands in
+    record {
+      front = both a k (Number size low high kind rest) fields bytes (spelled size (number_in size (drop k bytes)) ∷ []) size (rest (number_in size (drop k bytes))) is number.front;
+      range = number.range;
+    }

@@ -1,0 +1,140 @@
+-- Bytes whose fields are a proof's spell what they say.
+use Rattle.std.proofs.Common.{◌≡◌, ◌∙◌, ℕ, zero, suc, ◌+◌, ◌==◌, ◌<◌, ◌≤◌, Bool, true, false, if◌then◌else◌, List, [], ◌∷◌, ◌++◌, length, take, drop, refl, sym, ap, subst, append_assoc, append-nil, add_assoc, zero-add, arith}
+use Rattle.std.proofs.lemmas.List.Sums.{sum_by-cons}
+use Rattle.std.specs.List.{flat_map, sum_by}
+use Rattle.ats_grammar.specs.declared.fault.ShapeKind.TheVariants.{Count, Order, Algorithm}
+use Rattle.ats_grammar.specs.Table.{Table, End, Bytes, Number}
+use Rattle.ats_grammar.specs.Grammar.{proof, header, any_2, digests, query_terms, dictionary, dict_leaves, dict_digests, slots, met, met_ids, prefixes, documents, doc_leaves, doc_digests, term_sections, answer, rows}
+use Rattle.ats_records.specs.declared.record.Slot.{Slot}
+use Rattle.ats_proof.specs.Parts.{spelled, number_in, parts_in, total_size, counted_in, counted_size, counted}
+use Rattle.ats_proof.specs.Value.{Proof, digest_fields, slot_fields, id_fields, entry_fields, prefix_fields, doc_fields, section_fields, fields_of, front_fields, header_fields, documents_fields, number_of_algorithm, kind_of_slot, present_in}
+use Rattle.ats_proof.specs.Reading.{digest_in, digest_size, slot_in, slot_size, id_in, id_size, entry_in, entry_size, prefix_in, prefix_size, doc_in, doc_size, section_in, section_size, header_in, terms_in, dict_digests_place, slots_place, slots_in, met_place, met_in, lists_place, docs_place, doc_digests_place, sections_place, is_tra, answer_place, documents_in, proof_in}
+use Rattle.ats_proof.proofs.Standing.{Stands, HasFront, nothing, then_number, then_bytes}
+use Rattle.ats_proof.proofs.Runs.{HasPart, AreGood, final, runs, length-parts, then_run, then_counted}
+use Rattle.ats_proof.proofs.Formats.{U, id_part, one_id, row_part, one_row, slot_part, one_slot, doc_part, one_doc, entry_part, one_entry}
+use Rattle.ats_proof.proofs.Tables.{rows_run, ids_run, slots_run, docs_run, dict_run, prefix_part, prefixes_run, section_part, sections_run}
+use Rattle.ats_proof.proofs.Sections.{then_digests, one_prefix, one_section, RiseFrom}
+
+abbrev pub next_slot : ℕ × ℕ → Slot → ℕ × ℕ
+next_slot s slot = (slot.index, s.1 + kind_of_slot slot)
+
+-- how many terms the slots find present
+present_after : (n : ℕ) (s : ℕ × ℕ) (bytes : List ℕ) → (final slot_size slot_in next_slot n s bytes).1 ≡ s.1 + present_in (parts_in slot_size slot_in n bytes)
+present_after zero s bytes = omega arith
+present_after (suc n) s bytes = present_after n (next_slot s (slot_in bytes)) (drop 3 bytes) ∙ add_assoc s.1 (kind_of_slot (slot_in bytes)) (present_in (parts_in slot_size slot_in n (drop 3 bytes)))
+    ∙ ap (λ (k : ℕ). s.1 + k) (sym (sum_by-cons kind_of_slot (slot_in bytes) (parts_in slot_size slot_in n (drop 3 bytes))))
+
+-- positions of the dictionary's leaves rise, and so do met ids
+abbrev pub EntriesRise : List ℕ → Type 0
+EntriesRise bytes = AreGood entry_size entry_in (λ _ e. e.position + 1) (λ low e. low ≤ e.position) (number_in 2 bytes) 0 (drop 2 bytes)
+
+abbrev pub IdsRise : List ℕ → Type 0
+IdsRise bytes = AreGood id_size id_in (λ _ id. id + 1) (λ low id. low ≤ id) (number_in 4 bytes) 0 (drop 4 bytes)
+
+-- ---- the front and the header
+
+same_algorithm : (n : ℕ) (bytes : List ℕ) → 1 ≤ n → n ≤ 2 → n ≡ number_of_algorithm (documents_in (n == 1) bytes)
+same_algorithm zero bytes some few = absurd (omega (arith, some))
+same_algorithm (suc zero) bytes some few = refl
+same_algorithm (suc (suc zero)) bytes some few = refl
+same_algorithm (suc (suc (suc n))) bytes some few = absurd (omega (arith, few))
+
+abbrev FrontWith : List (List ℕ) → List ℕ → ℕ → ℕ → ℕ → ℕ → Type 0
+FrontWith fields bytes magic version algorithm again =
+    HasFront (spelled 4 magic ∷ spelled 1 version ∷ spelled 1 algorithm ∷ spelled 1 again ∷ spelled 4 (number_in 4 (drop 7 bytes)) ∷ spelled 4 (number_in 4 (drop 11 bytes))
+        ∷ take 32 (drop 15 bytes) ∷ take 32 (drop 47 bytes) ∷ take 32 (drop 79 bytes) ∷ []) 111 (query_terms (is_tra bytes)) fields bytes
+
+then_front : (fields : List (List ℕ)) (bytes : List ℕ) → Stands proof fields bytes
+    → HasFront (front_fields (documents_in (is_tra bytes) bytes) ++ header_fields (header_in bytes)) 111 (query_terms (is_tra bytes)) fields bytes
+then_front fields bytes is =
+    let magic = then_number (nothing proof fields bytes is) in
+    let version = then_number magic.front in
+    let algorithm = then_number version.front in
+    let again = then_number algorithm.front in
+    let numbers = then_number (then_number again.front).front in
+    let roots = then_bytes (then_bytes (then_bytes numbers.front)) in
+    let m : number_in 4 bytes ≡ 0x41545350 = omega (arith, magic.range.least, magic.range.most) in
+    let v : number_in 1 (drop 4 bytes) ≡ 1 = omega (arith, version.range.least, version.range.most) in
+    let w : number_in 1 (drop 6 bytes) ≡ 1 = omega (arith, again.range.least, again.range.most) in
+    let a = same_algorithm (number_in 1 (drop 5 bytes)) bytes algorithm.range.least algorithm.range.most in
+    let whole : FrontWith fields bytes (number_in 4 bytes) (number_in 1 (drop 4 bytes)) (number_in 1 (drop 5 bytes)) (number_in 1 (drop 6 bytes)) = roots in
+    let first = subst (λ (n : ℕ). FrontWith fields bytes n (number_in 1 (drop 4 bytes)) (number_in 1 (drop 5 bytes)) (number_in 1 (drop 6 bytes))) m whole in
+    let second = subst (λ (n : ℕ). FrontWith fields bytes 0x41545350 n (number_in 1 (drop 5 bytes)) (number_in 1 (drop 6 bytes))) v first in
+    let third = subst (λ (n : ℕ). FrontWith fields bytes 0x41545350 1 (number_in 1 (drop 5 bytes)) n) w second in
+    subst (λ (n : ℕ). FrontWith fields bytes 0x41545350 1 n 1) a third
+
+-- ---- the dictionary section, the slots and the met ids
+
+module _ {a fields : List (List ℕ)} {bytes : List ℕ} where
+
+  then_dict : (tra : Bool) (n : ℕ) → HasFront a 113 (dictionary tra n) fields bytes
+      → HasPart (a ++ counted 2 entry_fields (proof_in bytes).dict) (dict_digests_place bytes) (dict_digests tra n) (EntriesRise (drop 113 bytes)) fields bytes
+  then_dict tra n is =
+      let there = subst (λ (f : ℕ → Table). HasFront a 113 (Number 2 1 64 Count f) fields bytes) (λ i. λ m. dict_run m 0 (dict_digests tra n) i) is in
+      then_counted entry_part entry_size entry_in entry_fields (λ _ e. e.position + 1) (λ low e. low ≤ e.position) one_entry 0 (λ _ _. dict_digests tra n) there
+
+  then_slots : (tra : Bool) → HasFront a (slots_place bytes) (slots tra (terms_in bytes) 0 0) fields bytes
+      → HasFront (a ++ flat_map slot_fields (slots_in bytes)) (met_place bytes) (met tra (present_in (slots_in bytes))) fields bytes
+  then_slots tra is =
+      let there = subst (λ (t : Table). HasFront a (slots_place bytes) t fields bytes) (slots_run tra (terms_in bytes) 0 0) is in
+      let run = then_run slot_part slot_size slot_in slot_fields next_slot (λ _ _. U) one_slot (terms_in bytes) (0, 0) (λ s. met tra s.1) there in
+      subst (λ (p : ℕ). HasFront (a ++ flat_map slot_fields (slots_in bytes)) (met_place bytes) (met tra p) fields bytes)
+          (present_after (terms_in bytes) (0, 0) (drop (slots_place bytes) bytes) ∙ zero-add (present_in (slots_in bytes))) run.front
+
+  then_met : (tra : Bool) (present : ℕ) → HasFront a (met_place bytes) (met tra present) fields bytes
+      → HasPart (a ++ counted 4 id_fields (proof_in bytes).met) (lists_place bytes) (prefixes present (documents tra (met_in bytes) present)) (IdsRise (drop (met_place bytes) bytes)) fields bytes
+  then_met tra present is =
+      let there = subst (λ (f : ℕ → Table). HasFront a (met_place bytes) (Number 4 0 65536 Count f) fields bytes) (λ i. λ m. ids_run m 0 (prefixes present (documents tra m present)) i) is in
+      then_counted id_part id_size id_in id_fields (λ _ id. id + 1) (λ low id. low ≤ id) one_id 0 (λ m _. prefixes present (documents tra m present)) there
+
+  then_lists : {rest : Table} → HasFront a (lists_place bytes) (prefixes (present_in (slots_in bytes)) rest) fields bytes
+      → HasFront (a ++ flat_map prefix_fields (proof_in bytes).lists) (docs_place bytes) rest fields bytes
+  then_lists {rest} is =
+      let there = subst (λ (t : Table). HasFront a (lists_place bytes) t fields bytes) (prefixes_run (present_in (slots_in bytes)) rest) is in
+      (then_run prefix_part prefix_size prefix_in prefix_fields (λ _ _. tt) (λ _ _. U) one_prefix (present_in (slots_in bytes)) tt (λ _. rest) there).front
+
+  then_docs : HasFront a (docs_place bytes) (documents true (met_in bytes) (present_in (slots_in bytes))) fields bytes
+      → HasFront (a ++ documents_fields (documents_in true bytes)) (answer_place true bytes) answer fields bytes
+  then_docs is =
+      let present = present_in (slots_in bytes) in
+      let rest = term_sections (met_in bytes) present in
+      let there = subst (λ (t : Table). HasFront a (docs_place bytes) t fields bytes) (docs_run (met_in bytes) (doc_digests rest)) is in
+      let leaves = then_run doc_part doc_size doc_in doc_fields (λ _ _. tt) (λ _ _. U) one_doc (met_in bytes) tt (λ _. doc_digests rest) there in
+      let digests = then_digests rest leaves.front in
+      let sections = then_run (section_part present) (section_size present) (section_in present) section_fields (λ _ _. tt) (λ _ _. U)
+          (λ s k f b stands. let one = one_section present s k f b stands in record { front = one.front; is_good = tt }) (met_in bytes) tt (λ _. answer)
+          (subst (λ (t : Table). HasFront (a ++ flat_map doc_fields (parts_in doc_size doc_in (met_in bytes) (drop (docs_place bytes) bytes)) ++ counted 4 digest_fields (counted_in 4 digest_size digest_in (drop (doc_digests_place bytes) bytes)))
+              (sections_place bytes) t fields bytes) (sections_run (met_in bytes) present) digests) in
+      let x = flat_map doc_fields (parts_in doc_size doc_in (met_in bytes) (drop (docs_place bytes) bytes)) in
+      let y = counted 4 digest_fields (counted_in 4 digest_size digest_in (drop (doc_digests_place bytes) bytes)) in
+      let z = flat_map section_fields (parts_in (section_size present) (section_in present) (met_in bytes) (drop (sections_place bytes) bytes)) in
+      subst (λ (xs : List (List ℕ)). HasFront xs (answer_place true bytes) answer fields bytes) (append_assoc (a ++ x) y z ∙ append_assoc a x (y ++ z) ∙ ap (λ (xs : List (List ℕ)). a ++ xs) (sym (append_assoc x y z))) sections.front
+
+  then_documents : (tra : Bool) → HasFront a (docs_place bytes) (documents tra (met_in bytes) (present_in (slots_in bytes))) fields bytes
+      → HasFront (a ++ documents_fields (documents_in tra bytes)) (answer_place tra bytes) answer fields bytes
+  then_documents true is = then_docs is
+  then_documents false is = subst (λ (xs : List (List ℕ)). HasFront xs (docs_place bytes) answer fields bytes) (sym (append-nil a)) is
+
+  then_answer : {k : ℕ} → HasFront a k answer fields bytes → HasFront (a ++ counted 2 id_fields (counted_in 2 id_size id_in (drop k bytes))) (k + counted_size 2 id_size (drop k bytes)) End fields bytes
+  then_answer {k} is =
+      let there = subst (λ (f : ℕ → Table). HasFront a k (Number 2 0 1000 Count f) fields bytes) (λ i. λ m. rows_run m i) is in
+      (then_counted row_part id_size id_in id_fields (λ _ _. tt) (λ _ _. U) one_row tt (λ _ _. End) there).front
+
+-- ---- the whole
+
+pub record IsRead (fields : List (List ℕ)) (bytes : List ℕ) : Type 0 where
+  pub front : HasFront (fields_of (proof_in bytes)) (answer_place (is_tra bytes) bytes + counted_size 2 id_size (drop (answer_place (is_tra bytes) bytes) bytes)) End fields bytes
+  pub entries_rise : EntriesRise (drop 113 bytes)
+  pub ids_rise : IdsRise (drop (met_place bytes) bytes)
+
+pub is_read : (fields : List (List ℕ)) (bytes : List ℕ) → Stands proof fields bytes → IsRead fields bytes
+is_read fields bytes is =
+    let terms = then_number (then_front fields bytes is) in
+    let tra = is_tra bytes in
+    let begun = subst (λ (n : ℕ). HasFront (front_fields (documents_in tra bytes) ++ header_fields (header_in bytes) ++ spelled 2 n ∷ []) 113 (dictionary tra (terms_in bytes)) fields bytes)
+        (sym (length-parts slot_size slot_in (terms_in bytes) (drop (slots_place bytes) bytes))) terms.front in
+    let dict = then_dict tra (terms_in bytes) begun in
+    let dict_digests = then_digests (slots tra (terms_in bytes) 0 0) dict.front in
+    let met = then_met tra (present_in (slots_in bytes)) (then_slots tra dict_digests) in
+    let documents = then_documents tra (then_lists met.front) in
+    record { front = then_answer documents; entries_rise = dict.is_good; ids_rise = met.is_good }
