@@ -5,3 +5,5 @@ pub mod Formats
 pub mod Tables
 pub mod Sections
 pub mod Whole
+pub mod Taking
+pub mod Cutting

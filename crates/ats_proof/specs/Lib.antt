@@ -1,3 +1,5 @@
 pub mod Parts
 pub mod Value
 pub mod Reading
+pub mod Runs
+pub mod Seen

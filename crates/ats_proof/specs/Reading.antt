@@ -17,8 +17,12 @@ digest_in bytes = take 32 bytes
 abbrev pub term_length_in : List ℕ → ℕ
 term_length_in bytes = number_in 1 (drop 4 bytes)
 
+-- a leaf's position, length and term, and so many bytes behind the term
+abbrev pub leaf_size : ℕ → List ℕ → ℕ
+leaf_size behind bytes = 5 + term_length_in bytes + behind
+
 abbrev pub entry_size : List ℕ → ℕ
-entry_size bytes = 5 + term_length_in bytes + 4 + 32
+entry_size bytes = leaf_size 36 bytes
 
 abbrev pub entry_in : List ℕ → ShownEntry
 entry_in bytes = record {
@@ -64,7 +68,7 @@ abbrev pub doc_in : List ℕ → DocLeaf
 doc_in bytes = record { leaves = number_in 4 bytes; root = take 32 (drop 4 bytes) }
 
 abbrev pub term_size : List ℕ → ℕ
-term_size bytes = 5 + term_length_in bytes + 2
+term_size bytes = leaf_size 2 bytes
 
 abbrev pub term_in : List ℕ → ShownTerm
 term_in bytes = record {

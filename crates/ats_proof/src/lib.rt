@@ -3,3 +3,9 @@
 
 pub use ats_grammar::{ShapeFault, ShapeKind};
 pub use ats_records::{Algorithm, Slot, TermLeaf};
+pub use dict::DictView;
+
+mod bytes;
+mod dict;
+mod digests;
+mod leaves;
