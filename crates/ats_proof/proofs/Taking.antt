@@ -4,8 +4,8 @@ use Rattle.std.specs.List.{All, AllByRecursion}
 use Rattle.std.specs.List.Sorted.{IsStrictlyIncreasing}
 use Rattle.std.proofs.lemmas.List.{drop-drop, length-take-le, length-drop}
 use Rattle.std.proofs.lemmas.List.Elements.{All-from_recursion}
-use Rattle.ats_proof.specs.Parts.{parts_in, total_size}
-use Rattle.ats_proof.specs.Reading.{digest_size, digest_in}
+use Rattle.ats_proof.specs.Parts.{number_in, parts_in, total_size, counted_size}
+use Rattle.ats_proof.specs.Reading.{digest_size, digest_in, posting_size}
 use Rattle.ats_proof.proofs.Runs.{AreGood}
 
 module _ {X : Type 0} (size : List ℕ → ℕ) (read : List ℕ → X) where
@@ -42,11 +42,11 @@ module _ {X : Type 0} (k : ℕ) (read : List ℕ → X) where
       let e : k + k * i ≡ k * suc i = omega arith in
       part_at n i (drop k bytes) (omega (arith, within)) ∙ ap (λ (xs : List ℕ). Some (read xs)) (drop-drop (k * i) k bytes) ∙ ap (λ (j : ℕ). Some (read (drop j bytes))) e
 
-sized : (n : ℕ) (bytes : List ℕ) → 32 * n ≤ length bytes → AllByRecursion (λ d. length d ≡ 32) (parts_in digest_size digest_in n bytes)
+sized : (n : ℕ) (bytes : List ℕ) → n * 32 ≤ length bytes → AllByRecursion (λ d. length d ≡ 32) (parts_in digest_size digest_in n bytes)
 sized zero bytes fits = tt
 sized (suc n) bytes fits = (length-take-le 32 bytes (omega (arith, fits)), sized n (drop 32 bytes) (omega (arith, fits, length-drop 32 bytes)))
 
-pub digests-sized : (n : ℕ) (bytes : List ℕ) → 32 * n ≤ length bytes → All (λ d. length d ≡ 32) (parts_in digest_size digest_in n bytes)
+pub digests-sized : (n : ℕ) (bytes : List ℕ) → n * 32 ≤ length bytes → All (λ d. length d ≡ 32) (parts_in digest_size digest_in n bytes)
 digests-sized n bytes fits = All-from_recursion (λ d. length d ≡ 32) _ (sized n bytes fits)
 
 module _ (size : List ℕ → ℕ) (n : ℕ) (bytes : List ℕ) (some : 0 < n) (fits : total_size size n bytes ≤ length bytes) where
@@ -62,3 +62,7 @@ pub increasing-tail : (p : ℕ) (ps : List ℕ) → IsStrictlyIncreasing (p ∷ 
 increasing-tail p ps rises k below =
     let e : suc k + 1 ≡ suc (k + 1) = omega arith in
     subst (λ (j : ℕ). slice_index ps k < slice_index (p ∷ ps) j) e (rises (suc k) (omega (arith, below)))
+
+-- what stands behind the entries of a prefix
+pub after_postings : (bytes : List ℕ) → drop (number_in 4 bytes * 6) (drop 4 bytes) ≡ drop (counted_size 4 posting_size bytes) bytes
+after_postings bytes = drop-drop (number_in 4 bytes * 6) 4 bytes ∙ ap (λ (n : ℕ). drop (4 + n) bytes) (sym (total_fixed 6 (λ b. b) (number_in 4 bytes) (drop 4 bytes)))

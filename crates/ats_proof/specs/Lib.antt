@@ -3,3 +3,4 @@ pub mod Value
 pub mod Reading
 pub mod Runs
 pub mod Seen
+pub mod SeenLists

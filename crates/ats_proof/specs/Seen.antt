@@ -4,8 +4,8 @@ use Rattle.ats_tree.specs.Shown.{Shown}
 use Rattle.ats_dict.specs.Entry.{DictEntry}
 use Rattle.ats_dict.specs.declared.dictionary.DictLeaf.{DictLeaf}
 use Rattle.ats_proof.specs.Parts.{parts_in}
-use Rattle.ats_proof.specs.Value.{ShownEntry, Prefix}
-use Rattle.ats_proof.specs.Reading.{digest_size, digest_in, entry_size, entry_in, term_length_in, posting_size, posting_in, prefix_size, prefix_in}
+use Rattle.ats_proof.specs.Value.{ShownEntry}
+use Rattle.ats_proof.specs.Reading.{digest_size, digest_in, entry_size, entry_in, term_length_in}
 use Rattle.ats_proof.specs.Runs.{leaves_in}
 use Rattle.ats_proof.specs.declared.digests.DigestRun.{DigestRun}
 use Rattle.ats_proof.specs.declared.leaves.LeafRun.{LeafRun}

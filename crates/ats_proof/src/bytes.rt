@@ -1,6 +1,6 @@
 //! Numbers and digests at the front of bytes.
 
-ghost use Rattle.std.specs.Prelude.{◌≡◌, ◌≤◌, length, take};
+ghost use Rattle.std.specs.Prelude.{◌≡◌, ◌≤◌, ◌<◌, ◌*◌, length, take, drop};
 ghost use Rattle.ats_proof.specs.Parts.{number_in};
 
 pub(crate) fn number_1(bytes: &[u8]) -> u8
@@ -31,4 +31,16 @@ pub(crate) fn digest(bytes: &[u8]) -> [u8; 32]
     let mut digest = [0; 32];
     digest.copy_from_slice(&bytes[..32]);
     digest
+}
+
+/// What stands from one of some parts on, which have one size.
+pub(crate) fn nth(bytes: &[u8], count: u32, size: usize, i: u32) -> &[u8]
+    requires within { i < count }
+    requires small { size ≤ 64 }
+    requires room { count * size ≤ length bytes.now }
+    ensures part { result.now ≡ drop (size * i) bytes.now }
+    ensures room { size ≤ length result.now }
+{
+    let (_, part) = bytes.split_at(size * i as usize);
+    part
 }

@@ -30,10 +30,10 @@ impl<'a> DictView<'a> {
         }
         let leaf = self.leaves.first();
         let (_, term) = leaf.front.split_at(1);
-        let (f, root) = leaf.back.split_at(4);
+        let (_, root) = leaf.back.split_at(4);
         Some(DictLeaf {
             term,
-            f: number_4(f),
+            f: number_4(leaf.back),
             list_root: digest(root),
         })
     }

@@ -4,8 +4,10 @@
 pub use ats_grammar::{ShapeFault, ShapeKind};
 pub use ats_records::{Algorithm, Slot, TermLeaf};
 pub use dict::DictView;
+pub use lists::{ListView, ListsView};
 
 mod bytes;
 mod dict;
 mod digests;
 mod leaves;
+mod lists;
