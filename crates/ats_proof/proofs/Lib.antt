@@ -7,3 +7,4 @@ pub mod Sections
 pub mod Whole
 pub mod Taking
 pub mod Cutting
+pub mod Items

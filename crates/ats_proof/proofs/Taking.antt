@@ -1,6 +1,7 @@
 -- Taking parts from the front of a run, and reading one of a run of one size.
 use Rattle.std.proofs.Common.{◌≡◌, ◌∙◌, ℕ, zero, suc, ◌+◌, ◌-◌, ◌*◌, ◌<◌, ◌≤◌, List, [], ◌∷◌, ◌++◌, length, map, get_or, take, drop, slice_get, slice_index, Some, zero-mul, refl, sym, ap, subst, arith}
-use Rattle.std.specs.List.{All, AllByRecursion}
+use Rattle.std.specs.List.{All, AllByRecursion, sum_by}
+use Rattle.std.proofs.lemmas.List.Sums.{sum_by-cons}
 use Rattle.std.specs.List.Sorted.{IsStrictlyIncreasing}
 use Rattle.std.proofs.lemmas.List.{drop-drop, length-take-le, length-drop}
 use Rattle.std.proofs.lemmas.List.Elements.{All-from_recursion}
@@ -66,3 +67,33 @@ increasing-tail p ps rises k below =
 -- what stands behind the entries of a prefix
 pub after_postings : (bytes : List ℕ) → drop (number_in 4 bytes * 6) (drop 4 bytes) ≡ drop (counted_size 4 posting_size bytes) bytes
 after_postings bytes = drop-drop (number_in 4 bytes * 6) 4 bytes ∙ ap (λ (n : ℕ). drop (4 + n) bytes) (sym (total_fixed 6 (λ b. b) (number_in 4 bytes) (drop 4 bytes)))
+
+-- ---- going along a run, part by part
+
+-- so many parts are left of those in the bytes, and the rest has room for them
+pub record IsAlong (size : List ℕ → ℕ) (count : ℕ) (bytes : List ℕ) (left : ℕ) (rest : List ℕ) : Type 0 where
+  pub fits : total_size size left rest ≤ length rest
+  pub same : length bytes + total_size size left rest ≡ length rest + total_size size count bytes
+
+pub along_more : (size : List ℕ → ℕ) (count : ℕ) (bytes : List ℕ) (left : ℕ) (rest : List ℕ) → 0 < left → IsAlong size count bytes left rest → IsAlong size count bytes (left - 1) (drop (size rest) rest)
+along_more size count bytes left rest some is =
+    let e = total_more size (λ b. b) left rest some in
+    record {
+      fits = rest_fits size left rest some is.fits;
+      same = omega (arith, is.same, is.fits, e, length-drop (size rest) rest);
+    }
+
+-- the items of the parts passed, which are no more than their bytes
+pub record AreCounted {X : Type 0} (size : List ℕ → ℕ) (read : List ℕ → X) (items_of : X → ℕ) (count : ℕ) (bytes : List ℕ) (left : ℕ) (rest : List ℕ) (items : ℕ) : Type 0 where
+  pub sum : items + sum_by items_of (parts_in size read left rest) ≡ sum_by items_of (parts_in size read count bytes)
+  pub few : items + length rest ≤ length bytes
+
+pub counted_more : {X : Type 0} (size : List ℕ → ℕ) (read : List ℕ → X) (items_of : X → ℕ) (count : ℕ) (bytes : List ℕ) (left : ℕ) (rest : List ℕ) (items more : ℕ) → 0 < left
+    → size rest ≤ length rest → more ≡ items_of (read rest) → more ≤ size rest
+    → AreCounted size read items_of count bytes left rest items → AreCounted size read items_of count bytes (left - 1) (drop (size rest) rest) (items + more)
+counted_more size read items_of count bytes left rest items more some room same few is =
+    let e = ap (sum_by items_of) (parts_more size read left rest some) ∙ sum_by-cons items_of (read rest) (parts_in size read (left - 1) (drop (size rest) rest)) in
+    record {
+      sum = omega (arith, is.sum, e, same);
+      few = omega (arith, is.few, room, few, length-drop (size rest) rest);
+    }

@@ -4,3 +4,4 @@ pub mod Reading
 pub mod Runs
 pub mod Seen
 pub mod SeenLists
+pub mod Told

@@ -11,3 +11,5 @@ mod dict;
 mod digests;
 mod leaves;
 mod lists;
+mod places;
+mod sizes;

@@ -30,7 +30,7 @@ impl<'a> ListsView<'a> {
     ghost use Rattle.ats_proof.specs.SeenLists.{lists_of, list_of};
 
     // The first prefix left, and the bytes after it.
-    fn cut(&self) -> (ListView<'a>, &'a [u8])
+    pub(crate) fn cut(&self) -> (ListView<'a>, &'a [u8])
         requires { 0 < self.now.left }
         ensures list { list_of result.0 ≡ prefix_in self.now.bytes.now }
         ensures rest { result.1.now ≡ drop (prefix_size self.now.bytes.now) self.now.bytes.now }
