@@ -3,8 +3,8 @@ pub mod Standing
 pub mod Runs
 pub mod Formats
 pub mod Tables
-pub mod Sections
-pub mod Whole
 pub mod Taking
+pub mod Sections
 pub mod Cutting
 pub mod Items
+pub mod Whole

@@ -5,3 +5,4 @@ pub mod Runs
 pub mod Seen
 pub mod SeenLists
 pub mod Told
+pub mod Views

@@ -38,3 +38,13 @@ pub record IsEnded (bytes : List ℕ) (tra : Bool) (ended : Ended) : Type 0 wher
   pub sections : tra ≡ true → ended.sections ≡ sections_place bytes
   pub answer : ended.answer ≡ answer_place tra bytes
   pub items : ended.items ≡ items_of_documents (documents_in tra bytes)
+
+-- the whole
+pub record IsPlaced (bytes : List ℕ) (tra : Bool) (begun : Begun) (ended : Ended) (docs : ℕ) (items : ℕ) : Type 0 where
+  pub room : HasRoom bytes
+  pub are_rising : AreRising bytes
+  pub same : tra ≡ is_tra bytes
+  pub first : IsBegun bytes begun
+  pub rest : IsEnded bytes tra ended
+  pub docs_at : docs ≡ docs_place bytes
+  pub counted : items ≡ items_of (proof_in bytes)

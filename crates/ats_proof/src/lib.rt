@@ -5,6 +5,7 @@ pub use ats_grammar::{ShapeFault, ShapeKind};
 pub use ats_records::{Algorithm, Slot, TermLeaf};
 pub use dict::DictView;
 pub use lists::{ListView, ListsView};
+pub use view::ProofView;
 
 mod bytes;
 mod dict;
@@ -12,4 +13,6 @@ mod digests;
 mod leaves;
 mod lists;
 mod places;
+mod reading;
 mod sizes;
+mod view;

@@ -55,3 +55,51 @@ impl Begun {
         }
     }
 }
+
+impl Ended {
+    ghost use Rattle.ats_proof.specs.Reading.{is_tra, docs_place, doc_digests_place, sections_place, answer_place, documents_in, met_in, slots_in};
+    ghost use Rattle.ats_proof.specs.Told.{HasRoom, IsEnded};
+    ghost use Rattle.ats_proof.specs.Value.{items_of_documents, present_in};
+    ghost use Rattle.std.specs.Prelude.{true, false};
+
+    // The parts behind the prefixes where documents are shown.
+    fn of_tra(bytes: &[u8], docs: usize, met: u32, present: u32) -> Ended
+        requires few { length bytes.now ≤ 2 ^ 26 }
+        requires docs { docs ≡ docs_place bytes.now }
+        requires met { met ≡ met_in bytes.now }
+        requires present { present ≡ present_in (slots_in bytes.now) }
+        requires room { answer_place true bytes.now ≤ length bytes.now }
+        ensures { IsEnded bytes.now true result }
+    {
+        let doc_digests = docs + met as usize * 36;
+        let digests = bytes.split_at(doc_digests).1;
+        let sections = doc_digests + counted_digests_size_4(digests);
+        let sum = sections_sum(present, met, bytes.split_at(sections).1);
+        Ended {
+            doc_digests,
+            sections,
+            answer: sections + sum.size,
+            items: u64::from(met) + u64::from(number_4(digests)) + sum.items,
+        }
+    }
+
+    /// The parts behind the prefixes.
+    pub(crate) fn of(bytes: &[u8], tra: bool, docs: usize, met: u32, present: u32) -> Ended
+        requires room { HasRoom bytes.now }
+        requires tra { tra ≡ is_tra bytes.now }
+        requires docs { docs ≡ docs_place bytes.now }
+        requires met { met ≡ met_in bytes.now }
+        requires present { present ≡ present_in (slots_in bytes.now) }
+        ensures { IsEnded bytes.now tra result }
+    {
+        if tra {
+            return Ended::of_tra(bytes, docs, met, present);
+        }
+        Ended {
+            doc_digests: docs,
+            sections: docs,
+            answer: docs,
+            items: 0,
+        }
+    }
+}

@@ -1,0 +1,55 @@
+//! Reading a whole proof.
+
+ghost use Rattle.std.specs.Prelude.{◌≡◌, ◌≤◌, ℕ, List, length, Ok, Err, OnOk, IfOk, IfErr};
+ghost use Rattle.ats_grammar.specs.declared.fault.ShapeFault.{ShapeFault};
+ghost use Rattle.ats_grammar.specs.Front.{IsBad, IsSpelling};
+
+use crate::bytes::{number_1, number_2};
+use crate::places::{Begun, Ended};
+use crate::sizes::lists_sum;
+use crate::view::ProofView;
+use ats_grammar::{ShapeFault, scan};
+
+impl<'a> ProofView<'a> {
+    ghost use Rattle.ats_proof.specs.Value.{Proof, IsProof};
+    ghost use Rattle.ats_proof.specs.Views.{proof_of};
+
+    // The view of bytes that spell a proof.
+    fn of(bytes: &'a [u8]) -> ProofView<'a>
+        requires { IsSpelling bytes.now }
+        ensures { result.bytes.now ≡ bytes.now }
+    {
+        let tra = number_1(bytes.split_at(5).1) == 1;
+        let begun = Begun::of(bytes);
+        let lists = lists_sum(begun.present, bytes.split_at(begun.lists).1);
+        let docs = begun.lists + lists.size;
+        let ended = Ended::of(bytes, tra, docs, begun.met, begun.present);
+        let dict = u64::from(number_2(bytes.split_at(113).1));
+        let digests = u64::from(number_2(bytes.split_at(begun.dict_digests).1));
+        let rows = u64::from(number_2(bytes.split_at(ended.answer).1));
+        ProofView {
+            bytes,
+            tra,
+            begun,
+            docs,
+            ended,
+            items: dict
+                + digests
+                + u64::from(begun.terms)
+                + u64::from(begun.met)
+                + lists.items
+                + ended.items
+                + rows,
+        }
+    }
+
+    /// Reads the bytes of a proof from left to right, and tells the first fault where they spell none.
+    pub fn read(bytes: &'a [u8]) -> Result<ProofView<'a>, ShapeFault>
+        ensures spelled { IfOk result (λ view. IsProof bytes.now (proof_of view)) }
+        ensures refused { IfErr result (λ fault. IsBad bytes.now fault) }
+        ensures exact { (fault : ShapeFault) → IsBad bytes.now fault → result ≡ Err fault }
+    {
+        scan(bytes)?;
+        Ok(ProofView::of(bytes))
+    }
+}
