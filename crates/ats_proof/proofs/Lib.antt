@@ -1,2 +1,10 @@
-pub mod Fronts
-pub mod Staying
+pub mod Numbers
+pub mod Standing
+pub mod Runs
+pub mod Formats
+pub mod Tables
+pub mod Taking
+pub mod Sections
+pub mod Cutting
+pub mod Items
+pub mod Whole

@@ -1,6 +1,8 @@
-pub mod Table
-pub mod Grammar
-pub mod Front
-pub mod Pending
-pub mod State
+pub mod Parts
+pub mod Value
 pub mod Reading
+pub mod Runs
+pub mod Seen
+pub mod SeenLists
+pub mod Told
+pub mod Views

@@ -1,59 +1,55 @@
-//! Reading a proof field by field.
+//! Reading a whole proof.
 
-ghost use Rattle.std.specs.Prelude.{◌≡◌, ◌⊎◌, [], length, IfOk, IfErr, IfSome, IfNone};
-ghost use Rattle.ats_proof.specs.Table.{IsSized, number};
-ghost use Rattle.ats_proof.specs.declared.next.Next.TheVariants.{End};
-ghost use Rattle.ats_proof.specs.Reading.{IsTaken, IsRefused};
+ghost use Rattle.std.specs.Prelude.{◌≡◌, ◌≤◌, ℕ, List, length, Ok, Err, OnOk, IfOk, IfErr};
+ghost use Rattle.ats_grammar.specs.declared.fault.ShapeFault.{ShapeFault};
+ghost use Rattle.ats_grammar.specs.Front.{IsBad, IsSpelling};
 
-use crate::fault::ShapeKind;
-use crate::next::Next;
+use crate::bytes::{number_1, number_2};
+use crate::places::{Begun, Ended};
+use crate::sizes::lists_sum;
+use crate::view::ProofView;
+use ats_grammar::{ShapeFault, scan};
 
-// The number that these bytes are, high byte first.
-fn number_of(bytes: &[u8]) -> u32
-    requires { (length bytes.now ≡ 1) ⊎ (length bytes.now ≡ 2) ⊎ (length bytes.now ≡ 4) }
-    ensures { result ≡ number bytes.now }
-{
-    match bytes {
-        [a] => u32::from(*a),
-        [a, b] => u32::from(u16::from_be_bytes([*a, *b])),
-        [a, b, c, d] => u32::from_be_bytes([*a, *b, *c, *d]),
-        _ => unreachable!(),
+impl<'a> ProofView<'a> {
+    ghost use Rattle.ats_proof.specs.Value.{Proof, IsProof};
+    ghost use Rattle.ats_proof.specs.Views.{proof_of};
+
+    // The view of bytes that spell a proof.
+    fn of(bytes: &'a [u8]) -> ProofView<'a>
+        requires { IsSpelling bytes.now }
+        ensures { result.bytes.now ≡ bytes.now }
+    {
+        let tra = number_1(bytes.split_at(5).1) == 1;
+        let begun = Begun::of(bytes);
+        let lists = lists_sum(begun.present, bytes.split_at(begun.lists).1);
+        let docs = begun.lists + lists.size;
+        let ended = Ended::of(bytes, tra, docs, begun.met, begun.present);
+        let dict = u64::from(number_2(bytes.split_at(113).1));
+        let digests = u64::from(number_2(bytes.split_at(begun.dict_digests).1));
+        let rows = u64::from(number_2(bytes.split_at(ended.answer).1));
+        ProofView {
+            bytes,
+            tra,
+            begun,
+            docs,
+            ended,
+            items: dict
+                + digests
+                + u64::from(begun.terms)
+                + u64::from(begun.met)
+                + lists.items
+                + ended.items
+                + rows,
+        }
     }
-}
 
-/// Takes the field that comes next from the front of the bytes. Answers its number, or 0 where it is none,
-/// and the bytes after it; or nothing, where no field comes and no bytes are left.
-pub(crate) fn take(next: Next, bytes: &[u8]) -> Result<Option<(u32, &[u8])>, ShapeKind>
-    requires { IsSized next }
-    ensures taken { IfOk result (λ step. IfSome step (λ x. IsTaken next bytes.now x.0 x.1.now)) }
-    ensures done { IfOk result (λ step. IfNone step ((next ≡ End) × (bytes.now ≡ []))) }
-    ensures refused { IfErr result (λ kind. IsRefused next bytes.now kind) }
-{
-    match next {
-        Next::End if bytes.is_empty() => Ok(None),
-        Next::End => Err(ShapeKind::Trailing),
-        Next::Number {
-            size,
-            low,
-            high,
-            kind,
-        } => {
-            if bytes.len() < size as usize {
-                return Err(ShapeKind::Cut);
-            }
-            let (field, after) = bytes.split_at(size as usize);
-            let number = number_of(field);
-            if u64::from(number) < low || number > high {
-                return Err(kind);
-            }
-            Ok(Some((number, after)))
-        }
-        Next::Bytes { size } => {
-            if bytes.len() < size as usize {
-                return Err(ShapeKind::Cut);
-            }
-            let (_, after) = bytes.split_at(size as usize);
-            Ok(Some((0, after)))
-        }
+    /// Reads the bytes of a proof from left to right, and tells the first fault where they spell none.
+    pub fn read(bytes: &'a [u8]) -> Result<ProofView<'a>, ShapeFault>
+        ensures spelled { IfOk result (λ view. IsProof bytes.now (proof_of view)) }
+        ensures refused { IfErr result (λ fault. IsBad bytes.now fault) }
+        ensures exact { (fault : ShapeFault) → IsBad bytes.now fault → result ≡ Err fault }
+    {
+        scan(bytes)?;
+        Ok(ProofView::of(bytes))
     }
 }

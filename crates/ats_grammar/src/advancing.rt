@@ -1,0 +1,162 @@
+//! Where a reader stands after the field that comes next.
+
+ghost use Rattle.std.specs.Prelude.{◌≡◌, ◌+◌, ◌*◌, ◌<◌};
+ghost use Rattle.ats_grammar.specs.declared.state.Part.TheVariants as parts;
+ghost use Rattle.ats_grammar.specs.Pending.{pending, may_be_empty};
+ghost use Rattle.ats_grammar.specs.Table.{head, follow, size_of, IsWithin};
+ghost use Rattle.ats_grammar.specs.State.{in_front, in_dict, in_met, in_list, in_docs, in_terms, remaining_in, remaining};
+
+use crate::state::{DictPart, DocsPart, FrontPart, ListPart, MetPart, Part, State, TermsPart};
+
+impl State {
+    // The same numbers with another field to come, which finds no term present.
+    fn before(mut self, part: Part) -> State
+        requires { pending part ≡ 0 }
+        ensures remaining { remaining result ≡ remaining_in part self }
+        ensures part { result.part ≡ part }
+    {
+        self.part = part;
+        self
+    }
+
+    /// What stands after the field that comes next, which is this number where it is one.
+    pub(crate) fn advance(self, number: u32) -> State
+        requires { IsWithin (remaining self) number }
+        ensures part { remaining result ≡ follow (remaining self) number }
+        ensures smaller { may_be_empty result.part < may_be_empty self.part + 2 * size_of (head (remaining self)) }
+    {
+        match self.part {
+            Part::Front(part) => self.advance_in_front(part, number),
+            Part::Dict(part) => self.advance_in_dict(part, number),
+            Part::Met(part) => self.advance_in_met(part, number),
+            Part::List(part) => self.advance_in_list(part, number),
+            Part::Docs(part) => self.advance_in_docs(part, number),
+            Part::Terms(part) => self.advance_in_terms(part, number),
+        }
+    }
+
+    fn advance_in_front(mut self, part: FrontPart, number: u32) -> State
+        requires part { self.part ≡ parts.Front part }
+        ensures part { remaining result ≡ follow (in_front part self) number }
+        ensures smaller { may_be_empty result.part < may_be_empty self.part + 2 * size_of (head (in_front part self)) }
+    {
+        match part {
+            FrontPart::Magic => self.before(Part::Front(FrontPart::Version)),
+            FrontPart::Version => self.before(Part::Front(FrontPart::Algorithm)),
+            FrontPart::Algorithm => {
+                self.tra = number == 1;
+                self.before(Part::Front(FrontPart::HeaderVersion))
+            }
+            FrontPart::HeaderVersion => self.before(Part::Front(FrontPart::Documents)),
+            FrontPart::Documents => self.before(Part::Front(FrontPart::DictLeaves)),
+            FrontPart::DictLeaves => self.before(Part::Front(FrontPart::DictRoot)),
+            FrontPart::DictRoot => self.before(Part::Front(FrontPart::DocsRoot)),
+            FrontPart::DocsRoot => self.before(Part::Front(FrontPart::TextsRoot)),
+            FrontPart::TextsRoot => self.before(Part::Front(FrontPart::Terms)),
+            FrontPart::Terms => {
+                self.slots = number;
+                self.present = 0;
+                self.before(Part::Dict(DictPart::LeafCount))
+            }
+        }
+    }
+
+    fn advance_in_dict(mut self, part: DictPart, number: u32) -> State
+        requires part { self.part ≡ parts.Dict part }
+        ensures part { remaining result ≡ follow (in_dict part self) number }
+        ensures smaller { may_be_empty result.part < may_be_empty self.part + 2 * size_of (head (in_dict part self)) }
+    {
+        match part {
+            DictPart::LeafCount => self.at_dict_leaves(number, 0),
+            DictPart::Position => {
+                self.low = u64::from(number) + 1;
+                self.before(Part::Dict(DictPart::Length))
+            }
+            DictPart::Length => {
+                self.size = number;
+                self.before(Part::Dict(DictPart::Term))
+            }
+            DictPart::Term => self.before(Part::Dict(DictPart::Frequency)),
+            DictPart::Frequency => self.before(Part::Dict(DictPart::ListRoot)),
+            DictPart::ListRoot => self.at_dict_leaves(self.left, self.low),
+            DictPart::DigestCount => self.at_dict_digests(number),
+            DictPart::Digest => self.at_dict_digests(self.left),
+        }
+    }
+
+    fn advance_in_met(mut self, part: MetPart, number: u32) -> State
+        requires part { self.part ≡ parts.Met part }
+        requires range { IsWithin (in_met part self) number }
+        ensures part { remaining result ≡ follow (in_met part self) number }
+        ensures smaller { may_be_empty result.part < may_be_empty self.part + 2 * size_of (head (in_met part self)) }
+    {
+        match part {
+            MetPart::SlotKind => {
+                self.present += number;
+                self.part = Part::Met(MetPart::SlotIndex);
+                self
+            }
+            MetPart::SlotIndex => self.at_slots(self.slots, number.into()),
+            MetPart::MetCount => {
+                self.met = number;
+                self.at_met_ids(number, 0)
+            }
+            MetPart::MetId => self.at_met_ids(self.left, u64::from(number) + 1),
+        }
+    }
+
+    fn advance_in_list(mut self, part: ListPart, number: u32) -> State
+        requires part { self.part ≡ parts.List part }
+        ensures part { remaining result ≡ follow (in_list part self) number }
+        ensures smaller { may_be_empty result.part < may_be_empty self.part + 2 * size_of (head (in_list part self)) }
+    {
+        match part {
+            ListPart::EntryCount => self.at_entries(number),
+            ListPart::MetIndex => self.before(Part::List(ListPart::Impact)),
+            ListPart::Impact => self.at_entries(self.left),
+            ListPart::DigestCount => self.at_list_digests(number),
+            ListPart::Digest => self.at_list_digests(self.left),
+        }
+    }
+
+    fn advance_in_docs(mut self, part: DocsPart, number: u32) -> State
+        requires part { self.part ≡ parts.Docs part }
+        requires range { IsWithin (in_docs part self) number }
+        ensures part { remaining result ≡ follow (in_docs part self) number }
+        ensures smaller { may_be_empty result.part < may_be_empty self.part + 2 * size_of (head (in_docs part self)) }
+    {
+        match part {
+            DocsPart::LeafTerms => self.before(Part::Docs(DocsPart::TermsRoot)),
+            DocsPart::TermsRoot => self.at_doc_leaves(self.left),
+            DocsPart::DigestCount => self.at_docs_digests(number),
+            DocsPart::Digest => self.at_docs_digests(self.left),
+            DocsPart::RowCount => self.at_rows(number),
+            DocsPart::Row => self.at_rows(self.left),
+            DocsPart::End => self,
+        }
+    }
+
+    fn advance_in_terms(mut self, part: TermsPart, number: u32) -> State
+        requires part { self.part ≡ parts.Terms part }
+        ensures part { remaining result ≡ follow (in_terms part self) number }
+        ensures smaller { may_be_empty result.part < may_be_empty self.part + 2 * size_of (head (in_terms part self)) }
+    {
+        match part {
+            TermsPart::LeafCount => self.at_term_leaves(number, 0),
+            TermsPart::Position => {
+                self.low = u64::from(number) + 1;
+                self.before(Part::Terms(TermsPart::Length))
+            }
+            TermsPart::Length => {
+                self.size = number;
+                self.before(Part::Terms(TermsPart::Term))
+            }
+            TermsPart::Term => self.before(Part::Terms(TermsPart::Impact)),
+            TermsPart::Impact => self.at_term_leaves(self.left, self.low),
+            TermsPart::DigestCount => self.at_term_digests(number),
+            TermsPart::Digest => self.at_term_digests(self.left),
+            TermsPart::SlotKind => self.before(Part::Terms(TermsPart::SlotIndex)),
+            TermsPart::SlotIndex => self.at_doc_slots(self.left, number.into()),
+        }
+    }
+}

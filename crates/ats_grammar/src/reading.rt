@@ -1,0 +1,59 @@
+//! Reading a proof field by field.
+
+ghost use Rattle.std.specs.Prelude.{◌≡◌, ◌⊎◌, [], length, IfOk, IfErr, IfSome, IfNone};
+ghost use Rattle.ats_grammar.specs.Table.{IsSized, number};
+ghost use Rattle.ats_grammar.specs.declared.next.Next.TheVariants.{End};
+ghost use Rattle.ats_grammar.specs.Reading.{IsTaken, IsRefused};
+
+use crate::fault::ShapeKind;
+use crate::next::Next;
+
+// The number that these bytes are, high byte first.
+fn number_of(bytes: &[u8]) -> u32
+    requires { (length bytes.now ≡ 1) ⊎ (length bytes.now ≡ 2) ⊎ (length bytes.now ≡ 4) }
+    ensures { result ≡ number bytes.now }
+{
+    match bytes {
+        [a] => u32::from(*a),
+        [a, b] => u32::from(u16::from_be_bytes([*a, *b])),
+        [a, b, c, d] => u32::from_be_bytes([*a, *b, *c, *d]),
+        _ => unreachable!(),
+    }
+}
+
+/// Takes the field that comes next from the front of the bytes. Answers its number, or 0 where it is none,
+/// and the bytes after it; or nothing, where no field comes and no bytes are left.
+pub(crate) fn take(next: Next, bytes: &[u8]) -> Result<Option<(u32, &[u8])>, ShapeKind>
+    requires { IsSized next }
+    ensures taken { IfOk result (λ step. IfSome step (λ x. IsTaken next bytes.now x.0 x.1.now)) }
+    ensures done { IfOk result (λ step. IfNone step ((next ≡ End) × (bytes.now ≡ []))) }
+    ensures refused { IfErr result (λ kind. IsRefused next bytes.now kind) }
+{
+    match next {
+        Next::End if bytes.is_empty() => Ok(None),
+        Next::End => Err(ShapeKind::Trailing),
+        Next::Number {
+            size,
+            low,
+            high,
+            kind,
+        } => {
+            if bytes.len() < size as usize {
+                return Err(ShapeKind::Cut);
+            }
+            let (field, after) = bytes.split_at(size as usize);
+            let number = number_of(field);
+            if u64::from(number) < low || number > high {
+                return Err(kind);
+            }
+            Ok(Some((number, after)))
+        }
+        Next::Bytes { size } => {
+            if bytes.len() < size as usize {
+                return Err(ShapeKind::Cut);
+            }
+            let (_, after) = bytes.split_at(size as usize);
+            Ok(Some((0, after)))
+        }
+    }
+}

@@ -1,5 +1,0 @@
-use Rattle.ats_proof.proofs.Fronts.{one_spelling}
-use Rattle.ats_proof.proofs.laws.spellings_tell_their_fields.Goals as goal
-
-pub returns : goal.returns
-returns c = one_spelling

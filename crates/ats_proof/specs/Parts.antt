@@ -1,0 +1,34 @@
+-- Numbers as bytes, and like parts that stand one after another in bytes.
+use Rattle.std.specs.Prelude.{ℕ, zero, suc, ◌+◌, ◌/◌, ◌%◌, ◌^◌, List, [], ◌∷◌, length, take, drop}
+use Rattle.std.specs.List.{flat_map}
+use Rattle.ats_grammar.specs.Table.{number}
+
+-- so many bytes whose number is n, the high byte first
+abbrev pub spelled : (size n : ℕ) → List ℕ
+spelled zero n = []
+spelled (suc k) n = n / 256 ^ k ∷ spelled k (n % 256 ^ k)
+
+-- the number of so many bytes at the front
+abbrev pub number_in : ℕ → List ℕ → ℕ
+number_in size bytes = number (take size bytes)
+
+-- each of the next parts, of which each has the size that its own bytes tell
+abbrev pub parts_in : {X : Type 0} → (List ℕ → ℕ) → (List ℕ → X) → ℕ → List ℕ → List X
+parts_in size read zero bytes = []
+parts_in size read (suc n) bytes = read bytes ∷ parts_in size read n (drop (size bytes) bytes)
+
+-- how many bytes the next parts have
+abbrev pub total_size : (List ℕ → ℕ) → ℕ → List ℕ → ℕ
+total_size size zero bytes = 0
+total_size size (suc n) bytes = size bytes + total_size size n (drop (size bytes) bytes)
+
+-- the parts whose number stands in so many bytes before them, and how many bytes number and parts have
+abbrev pub counted_in : {X : Type 0} → ℕ → (List ℕ → ℕ) → (List ℕ → X) → List ℕ → List X
+counted_in width size read bytes = parts_in size read (number_in width bytes) (drop width bytes)
+
+abbrev pub counted_size : ℕ → (List ℕ → ℕ) → List ℕ → ℕ
+counted_size width size bytes = width + total_size size (number_in width bytes) (drop width bytes)
+
+-- the fields of parts behind their number
+abbrev pub counted : {X : Type 0} → ℕ → (X → List (List ℕ)) → List X → List (List ℕ)
+counted width spell xs = spelled width (length xs) ∷ flat_map spell xs

@@ -1,0 +1,11 @@
+-- What the view of a whole proof says.
+use Rattle.std.specs.Prelude.{◌≡◌, ℕ, Bool, true, false}
+use Rattle.ats_records.specs.declared.record.Algorithm.{Algorithm}
+use Rattle.ats_records.specs.declared.record.Algorithm.TheVariants.{Tra, Tnra}
+use Rattle.ats_proof.specs.declared.view.ProofView.{ProofView}
+use Rattle.ats_proof.specs.Value.{Proof}
+use Rattle.ats_proof.specs.Reading.{proof_in}
+
+-- the proof that a view says
+abbrev pub proof_of : ProofView → Proof
+proof_of view = proof_in view.bytes.now

@@ -1,0 +1,46 @@
+//! Numbers and digests at the front of bytes.
+
+ghost use Rattle.std.specs.Prelude.{◌≡◌, ◌≤◌, ◌<◌, ◌*◌, length, take, drop};
+ghost use Rattle.ats_proof.specs.Parts.{number_in};
+
+pub(crate) fn number_1(bytes: &[u8]) -> u8
+    requires { 1 ≤ length bytes.now }
+    ensures { result ≡ number_in 1 bytes.now }
+{
+    bytes[0]
+}
+
+pub(crate) fn number_2(bytes: &[u8]) -> u16
+    requires { 2 ≤ length bytes.now }
+    ensures { result ≡ number_in 2 bytes.now }
+{
+    u16::from_be_bytes([bytes[0], bytes[1]])
+}
+
+pub(crate) fn number_4(bytes: &[u8]) -> u32
+    requires { 4 ≤ length bytes.now }
+    ensures { result ≡ number_in 4 bytes.now }
+{
+    u32::from_be_bytes([bytes[0], bytes[1], bytes[2], bytes[3]])
+}
+
+pub(crate) fn digest(bytes: &[u8]) -> [u8; 32]
+    requires { 32 ≤ length bytes.now }
+    ensures { result ≡ take 32 bytes.now }
+{
+    let mut digest = [0; 32];
+    digest.copy_from_slice(&bytes[..32]);
+    digest
+}
+
+/// What stands from one of some parts on, which have one size.
+pub(crate) fn nth(bytes: &[u8], count: u32, size: usize, i: u32) -> &[u8]
+    requires within { i < count }
+    requires small { size ≤ 64 }
+    requires room { count * size ≤ length bytes.now }
+    ensures part { result.now ≡ drop (size * i) bytes.now }
+    ensures room { size ≤ length result.now }
+{
+    let (_, part) = bytes.split_at(size * i as usize);
+    part
+}

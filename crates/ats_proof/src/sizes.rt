@@ -1,0 +1,169 @@
+//! How many bytes the sections have whose parts tell their own sizes, and how many items.
+
+ghost use Rattle.std.specs.Prelude.{◌≡◌, ◌≤◌, ◌<◌, ◌+◌, ◌*◌, ◌^◌, length, sum_by};
+ghost use Rattle.ats_proof.specs.Parts.{total_size, parts_in, counted_size, number_in};
+ghost use Rattle.ats_proof.specs.Value.{items_of_prefix, items_of_section, kind_of_slot, present_in};
+ghost use Rattle.ats_proof.specs.Reading.{leaf_size, prefix_size, prefix_in, section_size, section_in, slot_size, slot_in, digest_size, posting_size};
+
+use crate::bytes::{number_1, number_2, number_4};
+use crate::leaves::cut_leaf;
+
+/// How many bytes some parts have, and how many items they are.
+#[derive(Clone, Copy)]
+pub(crate) struct Sum {
+    pub(crate) size: usize,
+    pub(crate) items: u64,
+}
+
+// How many bytes so many leaves have, each with so many behind its term.
+fn leaves_size(count: u32, behind: usize, bytes: &[u8]) -> usize
+    requires { total_size (leaf_size behind) count bytes.now ≤ length bytes.now }
+    ensures { result ≡ total_size (leaf_size behind) count bytes.now }
+{
+    let mut left = count;
+    let mut rest = bytes;
+    'leaves: while left > 0 {
+        rest = cut_leaf(rest, behind).rest;
+        left -= 1;
+    }
+    bytes.len() - rest.len()
+}
+
+/// How many bytes leaves and their number in two bytes have.
+pub(crate) fn counted_leaves_size(behind: usize, bytes: &[u8]) -> usize
+    requires { counted_size 2 (leaf_size behind) bytes.now ≤ length bytes.now }
+    ensures { result ≡ counted_size 2 (leaf_size behind) bytes.now }
+{
+    let count = u32::from(number_2(bytes));
+    let (_, leaves) = bytes.split_at(2);
+    2 + leaves_size(count, behind, leaves)
+}
+
+/// How many bytes digests and their number in two bytes have.
+pub(crate) fn counted_digests_size_2(bytes: &[u8]) -> usize
+    requires { counted_size 2 digest_size bytes.now ≤ length bytes.now }
+    ensures { result ≡ counted_size 2 digest_size bytes.now }
+{
+    2 + usize::from(number_2(bytes)) * 32
+}
+
+/// How many bytes digests and their number in four bytes have.
+pub(crate) fn counted_digests_size_4(bytes: &[u8]) -> usize
+    requires { counted_size 4 digest_size bytes.now ≤ length bytes.now }
+    ensures { result ≡ counted_size 4 digest_size bytes.now }
+{
+    4 + number_4(bytes) as usize * 32
+}
+
+// 1 where a slot finds its term present, else 0.
+fn kind_of(bytes: &[u8]) -> u32
+    requires { 3 ≤ length bytes.now }
+    ensures kind { result ≡ kind_of_slot (slot_in bytes.now) }
+    ensures few { result ≤ 1 }
+{
+    u32::from(number_1(bytes) == 1)
+}
+
+/// How many terms so many slots find present.
+pub(crate) fn present_count(count: u32, bytes: &[u8]) -> u32
+    requires { count * 3 ≤ length bytes.now }
+    ensures { result ≡ present_in (parts_in slot_size slot_in count bytes.now) }
+{
+    let mut left = count;
+    let mut rest = bytes;
+    let mut present = 0;
+    'slots: while left > 0 {
+        present += kind_of(rest);
+        let (_, after) = rest.split_at(3);
+        rest = after;
+        left -= 1;
+    }
+    present
+}
+
+// How many bytes entries and their number have.
+fn counted_postings_size(bytes: &[u8]) -> usize
+    requires { counted_size 4 posting_size bytes.now ≤ length bytes.now }
+    ensures { result ≡ counted_size 4 posting_size bytes.now }
+{
+    4 + number_4(bytes) as usize * 6
+}
+
+// How many bytes and items a prefix has.
+fn list_sum(bytes: &[u8]) -> Sum
+    requires few { length bytes.now ≤ 2 ^ 26 }
+    requires fits { prefix_size bytes.now ≤ length bytes.now }
+    ensures size { result.size ≡ prefix_size bytes.now }
+    ensures items { result.items ≡ items_of_prefix (prefix_in bytes.now) }
+{
+    let entries = counted_postings_size(bytes);
+    let (_, digests) = bytes.split_at(entries);
+    Sum {
+        size: entries + counted_digests_size_2(digests),
+        items: u64::from(number_4(bytes)) + u64::from(number_2(digests)),
+    }
+}
+
+/// How many bytes and items so many prefixes have.
+pub(crate) fn lists_sum(count: u32, bytes: &[u8]) -> Sum
+    requires few { length bytes.now ≤ 2 ^ 26 }
+    requires fits { total_size prefix_size count bytes.now ≤ length bytes.now }
+    ensures size { result.size ≡ total_size prefix_size count bytes.now }
+    ensures items { result.items ≡ sum_by items_of_prefix (parts_in prefix_size prefix_in count bytes.now) }
+    ensures few { result.items ≤ 2 ^ 26 }
+{
+    let mut left = count;
+    let mut rest = bytes;
+    let mut items = 0;
+    'lists: while left > 0 {
+        let list = list_sum(rest);
+        items += list.items;
+        let (_, after) = rest.split_at(list.size);
+        rest = after;
+        left -= 1;
+    }
+    Sum {
+        size: bytes.len() - rest.len(),
+        items,
+    }
+}
+
+// How many bytes and items a terms section has, with so many slots.
+fn section_sum(present: u32, bytes: &[u8]) -> Sum
+    requires few { length bytes.now ≤ 2 ^ 26 }
+    requires fits { section_size present bytes.now ≤ length bytes.now }
+    ensures size { result.size ≡ section_size present bytes.now }
+    ensures items { result.items ≡ items_of_section (section_in present bytes.now) }
+{
+    let leaves = counted_leaves_size(2, bytes);
+    let (_, digests) = bytes.split_at(leaves);
+    let slots = leaves + counted_digests_size_2(digests);
+    Sum {
+        size: slots + present as usize * 3,
+        items: u64::from(number_2(bytes)) + u64::from(number_2(digests)) + u64::from(present),
+    }
+}
+
+/// How many bytes and items so many terms sections have.
+pub(crate) fn sections_sum(present: u32, count: u32, bytes: &[u8]) -> Sum
+    requires few { length bytes.now ≤ 2 ^ 26 }
+    requires fits { total_size (section_size present) count bytes.now ≤ length bytes.now }
+    ensures size { result.size ≡ total_size (section_size present) count bytes.now }
+    ensures items { result.items ≡ sum_by items_of_section (parts_in (section_size present) (section_in present) count bytes.now) }
+    ensures few { result.items ≤ 2 ^ 26 }
+{
+    let mut left = count;
+    let mut rest = bytes;
+    let mut items = 0;
+    'sections: while left > 0 {
+        let section = section_sum(present, rest);
+        items += section.items;
+        let (_, after) = rest.split_at(section.size);
+        rest = after;
+        left -= 1;
+    }
+    Sum {
+        size: bytes.len() - rest.len(),
+        items,
+    }
+}
