@@ -1,6 +1,6 @@
 -- What the shown entries of a cut say, entry by entry.
 use Rattle.std.specs.Prelude.{◌≡◌, ◌<◌, ◌≤◌, ◌*◌, ◌==◌, ℕ, Bool, List, length, map, slice_index, slice_index_or, if◌then◌else◌}
-use Rattle.std.specs.List.{All, list_any, sum_by, flat_map}
+use Rattle.std.specs.List.{list_any, sum_by, flat_map}
 use Rattle.std.specs.Ordering.{nat_cmp}
 use Rattle.std.specs.declared.cmp.Ordering.{Ordering}
 use Rattle.ats_lists.specs.declared.entry.Entry.{Entry}
