@@ -5,8 +5,7 @@ use Rattle.std.proofs.lemmas.Bool.Decides.{nat_tests}
 use Rattle.std.proofs.lemmas.List.Sums.{sum_by-le}
 use Rattle.ats_lists.specs.declared.entry.Entry.{Entry}
 use Rattle.ats_bound.specs.Cut.{ShownLane, lane_of, rest, rest_impact, threshold}
-use Rattle.ats_bound.specs.Schedule.{WholeLane, IsNextLane, shown, shown_at}
-use Rattle.ats_tnra.specs.Parts.{IsCut}
+use Rattle.ats_bound.specs.Schedule.{IsCut, IsNextLane, WholeLane, shown, shown_at}
 use Rattle.ats_tnra.proofs.Shown.{get_or-shown}
 
 pub record IsGreatest (lanes : List ShownLane) (i place greatest : ℕ) : Type 0 where

@@ -7,8 +7,7 @@ use Rattle.std.proofs.lemmas.List.Sums.{sum_by-set}
 use Rattle.ats_lists.specs.declared.entry.Entry.{Entry}
 use Rattle.ats_bound.specs.declared.lane.Lane.{Lane}
 use Rattle.ats_bound.specs.Cut.{ShownLane, lane_of, rest}
-use Rattle.ats_bound.specs.Schedule.{WholeLane, IsWholeLane, AreWholeLanes, IsOpen, first_cut, shown, whole_lane, whole_lanes}
-use Rattle.ats_tnra.specs.Parts.{IsCut}
+use Rattle.ats_bound.specs.Schedule.{AreWholeLanes, IsCut, IsOpen, IsWholeLane, WholeLane, first_cut, shown, whole_lane, whole_lanes}
 
 pub length-shown : (lanes : List WholeLane) (cut : List ℕ) → length cut ≡ length lanes → length (shown lanes cut) ≡ length lanes
 length-shown [] cut same = refl
