@@ -34,6 +34,11 @@ whole_lane lane = record { coefficient = lane.coefficient; entries = lane.entrie
 abbrev pub whole_lanes : List Lane → List WholeLane
 whole_lanes lanes = map whole_lane lanes
 
+-- of each list from one entry to all are shown
+pub record IsCut (lanes : List WholeLane) (cut : List ℕ) : Type 0 where
+  pub size : length cut ≡ length lanes
+  pub each : (i : ℕ) (d : WholeLane) → i < length lanes → (1 ≤ slice_index cut i) × (slice_index cut i ≤ length (slice_index_or lanes i d).entries)
+
 -- what a cut shows: of each list the first entries, as many as the cut says
 abbrev pub shown : List WholeLane → List ℕ → List ShownLane
 shown [] cut = []

@@ -1,11 +1,10 @@
 -- The schedule has one cut after each number of turns.
-use Rattle.std.proofs.Common.{◌≡◌, ◌<◌, ◌≤◌, ◌+◌, ℕ, zero, suc, List, set, get_or, refl, sym, ap, subst, ◌∙◌, arith, inl, inr}
+use Rattle.std.proofs.Common.{◌≡◌, ◌+◌, ℕ, zero, suc, List, set, get_or, refl, sym, ap, subst, ◌∙◌, arith, inl, inr}
 use Rattle.std.proofs.lemmas.Bool.{cases_order}
 use Rattle.ats_bound.specs.declared.bracket.Bracket.{Bracket}
 use Rattle.ats_bound.specs.declared.walk.Walk.{Walk}
-use Rattle.ats_bound.specs.Cut.{rest, threshold}
 use Rattle.ats_bound.specs.Settled.{ArePicks, IsSettled}
-use Rattle.ats_bound.specs.Schedule.{WholeLane, IsNextLane, IsTurn, IsScheduled, AreBracketsOf, CanSettle, IsFirstSettled, first_cut, shown, shown_at}
+use Rattle.ats_bound.specs.Schedule.{WholeLane, IsNextLane, IsTurn, IsScheduled, CanSettle, IsFirstSettled, first_cut, shown}
 use Rattle.ats_tnra.specs.Stand.{IsStand, IsEnd, IsReached}
 use Rattle.ats_tnra.proofs.One.{one_bracketing}
 

@@ -1,14 +1,12 @@
 -- The greatest rest of the first lanes, at the first place that has it.
-use Rattle.std.proofs.Common.{◌≡◌, ◌<◌, ◌≤◌, ◌+◌, ◌*◌, ℕ, zero, suc, true, nat_eq, cond, ◌-◌, mul-zero, length-take, List, [], ◌∷◌, length, map, take, get_or, refl, sym, ap, ◌∙◌, arith, inl, inr}
-use Rattle.std.specs.List.{All, sum_by}
+use Rattle.std.proofs.Common.{◌≡◌, ◌<◌, ◌≤◌, ◌+◌, ◌*◌, ℕ, true, nat_eq, cond, ◌-◌, mul-zero, length-take, List, [], length, map, get_or, sym, ap, ◌∙◌, arith, inl, inr}
 use Rattle.std.proofs.lemmas.Bool.{cases_order, cases_lt}
 use Rattle.std.proofs.lemmas.Bool.Decides.{nat_tests}
 use Rattle.std.proofs.lemmas.List.Sums.{sum_by-le}
 use Rattle.ats_lists.specs.declared.entry.Entry.{Entry}
 use Rattle.ats_bound.specs.Cut.{ShownLane, lane_of, rest, rest_impact, threshold}
-use Rattle.ats_bound.specs.Schedule.{WholeLane, IsNextLane, IsOpen, shown, shown_at}
-use Rattle.ats_tnra.specs.Parts.{IsCut}
-use Rattle.ats_tnra.proofs.Shown.{get_or-shown, length-shown}
+use Rattle.ats_bound.specs.Schedule.{IsCut, IsNextLane, WholeLane, shown, shown_at}
+use Rattle.ats_tnra.proofs.Shown.{get_or-shown}
 
 pub record IsGreatest (lanes : List ShownLane) (i place greatest : ℕ) : Type 0 where
   pub most : (j : ℕ) (d : ShownLane) → j < i → rest (get_or lanes j d) ≤ greatest

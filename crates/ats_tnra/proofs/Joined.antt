@@ -1,16 +1,15 @@
 -- What all parts of a cut say of a document.
-use Rattle.std.proofs.Common.{◌≡◌, ◌≢◌, ◌<◌, ◌≤◌, ◌+◌, ◌*◌, ◌||◌, ◌++◌, min, ℕ, zero, suc, Bool, true, false, nat_eq, cond, List, [], ◌∷◌, length, map, take, get_or, refl, sym, ap, ap₂, ◌∙◌, arith, inl, inr, length-take, mul-zero, mul-add, get_or-take}
+use Rattle.std.proofs.Common.{◌≡◌, ◌≢◌, ◌<◌, ◌≤◌, ◌+◌, ◌*◌, ◌||◌, ℕ, suc, Bool, true, false, nat_eq, cond, List, [], ◌∷◌, length, map, take, get_or, refl, sym, ap, ap₂, ◌∙◌, arith, inl, inr, length-take, mul-zero, mul-add, get_or-take}
 use Rattle.std.specs.List.{All, list_any, sum_by}
 use Rattle.std.specs.List.Sorted.{IsPermutation}
 use Rattle.std.proofs.lemmas.Bool.{cases_eq}
-use Rattle.std.proofs.lemmas.Bool.Decides.{nat_tests}
 use Rattle.std.proofs.lemmas.List.Elements.{All-head, All-tail, All-cons, All-nil}
 use Rattle.std.proofs.lemmas.List.Folds.{list_any-append}
 use Rattle.std.proofs.lemmas.List.Sums.{sum_by-cons, sum_by-append}
 use Rattle.std.proofs.lemmas.List.Sorted.{sum_by-IsPermutation, list_any-IsPermutation}
 use Rattle.ats_lists.specs.declared.entry.Entry.{Entry}
 use Rattle.ats_bound.specs.declared.bracket.Bracket.{Bracket}
-use Rattle.ats_bound.specs.Cut.{ShownLane, bracket, lane_of, lower, missing, names, rest, shown_impact, threshold}
+use Rattle.ats_bound.specs.Cut.{ShownLane, lane_of, lower, missing, names, rest, shown_impact, threshold}
 use Rattle.ats_bound.specs.Schedule.{WholeLane, IsWholeLane, AreBracketsOf, shown}
 use Rattle.ats_tnra.specs.declared.parts.Part.{Part}
 use Rattle.ats_tnra.specs.Parts.{all_parts, cover_of, gain_of, has_part, part, parts_of}

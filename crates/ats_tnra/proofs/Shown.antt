@@ -1,15 +1,13 @@
 -- What a cut shows, list by list.
-use Rattle.std.proofs.Common.{◌≡◌, ◌≢◌, ◌<◌, ◌≤◌, ◌+◌, ◌-◌, ◌*◌, min, ℕ, zero, suc, List, [], ◌∷◌, length, map, take, set, replicate, get_or, refl, sym, ap, ap₂, ◌∙◌, arith, inl, inr, length-take, length-set, get_or-set_same, get_or-set_other}
-use Rattle.std.specs.List.{All, sum_by}
+use Rattle.std.proofs.Common.{◌≡◌, ◌≢◌, ◌<◌, ◌≤◌, ◌+◌, ◌-◌, ℕ, zero, suc, List, [], ◌∷◌, length, take, set, replicate, get_or, refl, sym, ap, ◌∙◌, arith, inl, inr, length-take, length-set, get_or-set_same, get_or-set_other}
+use Rattle.std.specs.List.{sum_by}
 use Rattle.std.proofs.lemmas.Bool.{cases_order}
-use Rattle.std.proofs.lemmas.List.{get_or-map, length-map, get_or-take}
-use Rattle.std.proofs.lemmas.List.Elements.{All-cons, All-head, All-tail, All-nil}
+use Rattle.std.proofs.lemmas.List.{get_or-map, length-map}
 use Rattle.std.proofs.lemmas.List.Sums.{sum_by-set}
 use Rattle.ats_lists.specs.declared.entry.Entry.{Entry}
 use Rattle.ats_bound.specs.declared.lane.Lane.{Lane}
 use Rattle.ats_bound.specs.Cut.{ShownLane, lane_of, rest}
-use Rattle.ats_bound.specs.Schedule.{WholeLane, IsWholeLane, AreWholeLanes, IsOpen, first_cut, shown, shown_at, whole_lane, whole_lanes}
-use Rattle.ats_tnra.specs.Parts.{IsCut}
+use Rattle.ats_bound.specs.Schedule.{AreWholeLanes, IsCut, IsOpen, IsWholeLane, WholeLane, first_cut, shown, whole_lane, whole_lanes}
 
 pub length-shown : (lanes : List WholeLane) (cut : List ℕ) → length cut ≡ length lanes → length (shown lanes cut) ≡ length lanes
 length-shown [] cut same = refl

@@ -1,22 +1,22 @@
 -- Where nothing that is not shown can add to a score, the chosen answer is settled.
-use Rattle.std.proofs.Common.{◌≡◌, ◌⊎◌, ◌<◌, ◌≤◌, ◌+◌, ◌-◌, ◌*◌, min, ℕ, zero, suc, Bool, true, false, nat_eq, cond, List, length, take, drop, get_or, sym, refl, ap, ◌∙◌, inl, inr, arith, take_all, length-take, length-drop}
-use Rattle.std.specs.List.{All, sum_by, range_with_len}
+use Rattle.std.proofs.Common.{◌≡◌, ◌⊎◌, ◌<◌, ◌≤◌, ◌+◌, ◌-◌, min, ℕ, zero, suc, Bool, true, false, nat_eq, cond, List, length, take, drop, get_or, sym, refl, ap, ◌∙◌, inl, inr, arith, take_all, length-take, length-drop}
+use Rattle.std.specs.List.{All, range_with_len}
 use Rattle.std.specs.Ordering.{nat_cmp, is_lt}
-use Rattle.std.specs.declared.cmp.Ordering.TheVariants.{Less, Equal}
+use Rattle.std.specs.declared.cmp.Ordering.TheVariants.{Less}
 use Rattle.std.specs.List.Sorted.{IsPermutation, IsSorted}
 use Rattle.std.proofs.lemmas.Bool.{cases_lt}
 use Rattle.std.proofs.lemmas.Bool.Decides.{nat_tests}
 use Rattle.std.proofs.lemmas.List.{get_or-take, get_or-drop}
 use Rattle.std.proofs.lemmas.List.FromFn.{length-range_with_len}
-use Rattle.std.proofs.lemmas.List.Sums.{sum_by-take-le, sum_by-take-drop, sum_by-le-sum_by}
+use Rattle.std.proofs.lemmas.List.Sums.{sum_by-take-drop, sum_by-le-sum_by}
 use Rattle.std.proofs.lemmas.List.Sorted.{All-permutation, length_permutation, sum_by-IsPermutation}
 use Rattle.ats_impact.specs.Rank.{times}
 use Rattle.ats_bound.specs.declared.bracket.Bracket.{Bracket}
 use Rattle.ats_bound.specs.declared.walk.Walk.{Walk}
 use Rattle.ats_bound.specs.Cut.{ShownLane, bracket, missing, names, rest, threshold}
 use Rattle.ats_bound.specs.Settled.{IsOutside, IsSettled, bracket_at, row, last_row}
-use Rattle.ats_bound.specs.Chosen.{IsChosen, bracket_cmp, place_cmp}
-use Rattle.ats_bound.specs.Schedule.{WholeLane, AreBracketsOf, shown}
+use Rattle.ats_bound.specs.Chosen.{bracket_cmp, place_cmp}
+use Rattle.ats_bound.specs.Schedule.{WholeLane, shown}
 use Rattle.ats_bound.proofs.Places.{position_of, range_once, range_has, range_below}
 use Rattle.ats_tnra.specs.Stand.{IsStand}
 

@@ -1,11 +1,10 @@
 -- What the shown entries of a cut say, entry by entry.
-use Rattle.std.specs.Prelude.{◌≡◌, ◌<◌, ◌≤◌, ◌*◌, ◌==◌, ℕ, Bool, List, length, map, slice_index, slice_index_or, if◌then◌else◌}
-use Rattle.std.specs.List.{All, list_any, sum_by, flat_map}
+use Rattle.std.specs.Prelude.{◌*◌, ◌==◌, ℕ, Bool, List, map, if◌then◌else◌}
+use Rattle.std.specs.List.{list_any, sum_by, flat_map}
 use Rattle.std.specs.Ordering.{nat_cmp}
 use Rattle.std.specs.declared.cmp.Ordering.{Ordering}
 use Rattle.ats_lists.specs.declared.entry.Entry.{Entry}
 use Rattle.ats_bound.specs.Cut.{ShownLane, rest}
-use Rattle.ats_bound.specs.Schedule.{WholeLane}
 use Rattle.ats_tnra.specs.declared.parts.Part.{Part}
 
 -- an entry's document, what the entry adds to its score, and the rest of its lane, which can add no more to it
@@ -35,8 +34,3 @@ cover_of doc parts = sum_by (λ (p : Part). if p.doc == doc then p.cover else 0)
 -- by document
 abbrev pub part_cmp : Part → Part → Ordering
 part_cmp a b = nat_cmp a.doc b.doc
-
--- a cut of the lanes: from one entry to all entries of each list are shown
-pub record IsCut (lanes : List WholeLane) (cut : List ℕ) : Type 0 where
-  pub size : length cut ≡ length lanes
-  pub each : (i : ℕ) (d : WholeLane) → i < length lanes → (1 ≤ slice_index cut i) × (slice_index cut i ≤ length (slice_index_or lanes i d).entries)

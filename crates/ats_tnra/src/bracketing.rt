@@ -3,8 +3,8 @@
 ghost use Rattle.std.specs.Prelude.{◌≡◌, ◌<◌, ◌≤◌, ◌+◌, ◌^◌, ◌*◌, ℕ, length, IfOk};
 ghost use Rattle.std.specs.List.Sorted.{IsSorted};
 ghost use Rattle.ats_bound.specs.Cut.{threshold};
-ghost use Rattle.ats_bound.specs.Schedule.{AreBracketsOf, AreWholeLanes, shown, whole_lanes};
-ghost use Rattle.ats_tnra.specs.Parts.{IsCut, cover_of, part_cmp};
+ghost use Rattle.ats_bound.specs.Schedule.{AreBracketsOf, AreWholeLanes, IsCut, shown, whole_lanes};
+ghost use Rattle.ats_tnra.specs.Parts.{cover_of, part_cmp};
 ghost use Rattle.ats_tnra.specs.Sums.{AreSums};
 
 use crate::parts::{Part, sorted_parts};

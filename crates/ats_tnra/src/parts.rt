@@ -3,8 +3,8 @@
 ghost use Rattle.std.specs.Prelude.{◌≡◌, ◌<◌, ◌≤◌, ◌++◌, ◌*◌, ◌+◌, ◌^◌, length, slice_index, slice_index_or, map, IfOk, OnOk};
 ghost use Rattle.std.specs.List.Sorted.{IsPermutation, IsSorted};
 ghost use Rattle.ats_bound.specs.Cut.{lane_of, rest};
-ghost use Rattle.ats_bound.specs.Schedule.{AreWholeLanes, IsWholeLane, shown, whole_lane, whole_lanes};
-ghost use Rattle.ats_tnra.specs.Parts.{IsCut, all_parts, part_cmp, parts_of};
+ghost use Rattle.ats_bound.specs.Schedule.{AreWholeLanes, IsCut, IsWholeLane, shown, whole_lane, whole_lanes};
+ghost use Rattle.ats_tnra.specs.Parts.{all_parts, part_cmp, parts_of};
 
 use ats_bound::{Lane, OutOfMemory};
 use std::alloc::Global;

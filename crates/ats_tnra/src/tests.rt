@@ -144,3 +144,29 @@ fn more_rows_than_documents_show_whole_lists(rt: HostRuntime) -> Result<(), Fail
     assert_eq!(rt; end.picks.as_slice(), [1, 0, 2].as_slice());
     Ok(())
 }
+
+// Each list ends with the document that the other begins with.
+#[test]
+fn a_tie_goes_to_the_first_list(rt: HostRuntime) -> Result<(), Fail> {
+    let up = [Entry { doc: 0, impact: 10 }, Entry { doc: 1, impact: 10 }];
+    let down = [Entry { doc: 1, impact: 10 }, Entry { doc: 0, impact: 10 }];
+    let lanes = [
+        Lane {
+            coefficient: 1,
+            entries: &up,
+        },
+        Lane {
+            coefficient: 1,
+            entries: &down,
+        },
+    ];
+    let end = walk(rt.alloc(), &lanes, Top::new(1)?)?;
+    assert_eq!(rt; end.cut.as_slice(), [2, 1].as_slice());
+    assert_eq!(rt; end.threshold, 10);
+    assert_eq!(rt; end.picks.as_slice(), [1].as_slice());
+    assert_eq!(rt;
+        end.brackets.as_slice(),
+        [bracket(0, 10, 20), bracket(1, 20, 20)].as_slice()
+    );
+    Ok(())
+}

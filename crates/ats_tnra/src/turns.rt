@@ -2,8 +2,7 @@
 
 ghost use Rattle.std.specs.Prelude.{◌≡◌, ◌<◌, ◌≤◌, ◌^◌, ◌*◌, ℕ, length, IfOk, MatchOption};
 ghost use Rattle.ats_bound.specs.Cut.{rest, threshold};
-ghost use Rattle.ats_bound.specs.Schedule.{AreWholeLanes, IsNextLane, first_cut, shown, shown_at, whole_lanes};
-ghost use Rattle.ats_tnra.specs.Parts.{IsCut};
+ghost use Rattle.ats_bound.specs.Schedule.{AreWholeLanes, IsCut, IsNextLane, first_cut, shown, shown_at, whole_lanes};
 
 use crate::parts::rest;
 use ats_bound::{Lane, OutOfMemory};

@@ -4,8 +4,7 @@ ghost use Rattle.std.specs.Prelude.{◌≡◌, ℕ, IfOk, List};
 ghost use Rattle.ats_bound.specs.Chosen.{IsChosen};
 ghost use Rattle.ats_bound.specs.Cut.{threshold};
 ghost use Rattle.ats_bound.specs.Settled.{IsSettled};
-ghost use Rattle.ats_bound.specs.Schedule.{AreBracketsOf, AreWholeLanes, IsFirstSettled, shown, whole_lanes};
-ghost use Rattle.ats_tnra.specs.Parts.{IsCut};
+ghost use Rattle.ats_bound.specs.Schedule.{AreBracketsOf, AreWholeLanes, IsCut, IsFirstSettled, shown, whole_lanes};
 ghost use Rattle.ats_tnra.specs.Stand.{IsEnd, IsStand};
 
 use crate::bracketing::brackets;

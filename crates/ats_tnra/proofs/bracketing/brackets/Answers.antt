@@ -1,4 +1,4 @@
-use Rattle.std.proofs.Common.{◌≡◌, ◌≤◌, ℕ, List}
+use Rattle.std.proofs.Common.{List}
 use Rattle.std.specs.List.{All}
 use Rattle.std.proofs.lemmas.Result.{IfOk-weaker}
 use Rattle.ats_bound.specs.declared.bracket.Bracket.{Bracket}

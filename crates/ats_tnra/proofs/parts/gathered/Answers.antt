@@ -1,6 +1,5 @@
-use Rattle.std.proofs.Common.{◌≡◌, ◌<◌, ◌≤◌, ◌+◌, ◌++◌, ℕ, List, [], length, map, take, get_or, sym, ap, ap₂, ◌∙◌, arith, take_all, length-append, length-take}
+use Rattle.std.proofs.Common.{◌≡◌, ◌<◌, ◌≤◌, ◌++◌, ℕ, List, [], length, take, get_or, sym, ap, ap₂, ◌∙◌, arith, take_all, length-append, length-take}
 use Rattle.std.proofs.lemmas.List.{flat_map_more, length-map, take_more}
-use Rattle.ats_lists.specs.declared.entry.Entry.{Entry}
 use Rattle.ats_bound.specs.declared.lane.Lane.{Lane}
 use Rattle.ats_bound.specs.Cut.{ShownLane, lane_of, rest}
 use Rattle.ats_bound.specs.Schedule.{IsWholeLane, shown, whole_lane, whole_lanes}

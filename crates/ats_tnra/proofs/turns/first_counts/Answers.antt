@@ -1,4 +1,4 @@
-use Rattle.std.proofs.Common.{◌≡◌, ◌∙◌, rules}
+use Rattle.std.proofs.Common.{◌∙◌, rules}
 use Rattle.ats_tnra.proofs.Shown.{ones}
 use Rattle.ats_tnra.proofs.turns.first_counts.Goals as goal
 

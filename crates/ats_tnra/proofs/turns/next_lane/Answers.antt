@@ -1,4 +1,4 @@
-use Rattle.std.proofs.Common.{◌≡◌, ◌<◌, ◌≤◌, ℕ, List, length, get_or, subst, subst₂, arith}
+use Rattle.std.proofs.Common.{◌≡◌, ◌<◌, ℕ, List, length, get_or, subst, subst₂, arith}
 use Rattle.ats_bound.specs.declared.lane.Lane.{Lane}
 use Rattle.ats_bound.specs.Cut.{ShownLane, rest}
 use Rattle.ats_bound.specs.Schedule.{WholeLane, shown, whole_lane, whole_lanes}

@@ -1,4 +1,3 @@
-use Rattle.std.proofs.Common.{◌≡◌}
 use Rattle.ats_bound.specs.Schedule.{shown, whole_lanes}
 use Rattle.ats_tnra.proofs.Greatest.{IsGreatest}
 use Rattle.ats_tnra.proofs.turns.next_lane.Given as goal

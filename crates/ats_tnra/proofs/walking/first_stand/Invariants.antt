@@ -1,6 +1,5 @@
 use Rattle.std.specs.List.{sum_by}
-use Rattle.ats_bound.specs.Schedule.{shown, whole_lanes}
-use Rattle.ats_tnra.specs.Parts.{IsCut}
+use Rattle.ats_bound.specs.Schedule.{IsCut, shown, whole_lanes}
 use Rattle.ats_tnra.specs.Stand.{IsReached}
 use Rattle.ats_tnra.proofs.Shown.{hidden}
 use Rattle.ats_tnra.proofs.walking.first_stand.Given as goal

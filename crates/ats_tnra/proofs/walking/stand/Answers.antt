@@ -1,4 +1,3 @@
-use Rattle.std.proofs.Common.{◌≡◌, ℕ, List}
 use Rattle.ats_bound.specs.Schedule.{shown, whole_lanes}
 use Rattle.ats_tnra.proofs.One.{are_brackets, risen_are_distinct}
 use Rattle.ats_tnra.proofs.walking.stand.Goals as goal

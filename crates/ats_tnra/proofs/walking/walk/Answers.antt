@@ -1,4 +1,4 @@
-use Rattle.std.proofs.Common.{◌≡◌, List}
+use Rattle.std.proofs.Common.{◌≡◌}
 use Rattle.std.proofs.lemmas.Result.{IfOk-weaker}
 use Rattle.ats_bound.specs.declared.walk.Walk.{Walk}
 use Rattle.ats_bound.specs.Chosen.{IsChosen}
