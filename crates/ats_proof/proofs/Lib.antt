@@ -8,3 +8,4 @@ pub mod Sections
 pub mod Cutting
 pub mod Items
 pub mod Whole
+pub mod Answering
