@@ -9,3 +9,4 @@ pub mod Cutting
 pub mod Items
 pub mod Whole
 pub mod Answering
+pub mod Encoding

@@ -1,12 +1,12 @@
 //! A whole proof.
 
-ghost use Rattle.std.specs.Prelude.{◌≡◌, ◌<◌, ◌≤◌, ◌+◌, ◌*◌, ◌^◌, ℕ, List, length, take, drop, slice_get, Some};
+ghost use Rattle.std.specs.Prelude.{◌≡◌, ◌<◌, ◌≤◌, ◌+◌, ◌*◌, ◌^◌, ℕ, List, length, map, take, drop, slice_get, Some};
 ghost use Rattle.ats_grammar.specs.Table.{number};
 ghost use Rattle.ats_proof.specs.Parts.{parts_in};
 ghost use Rattle.ats_proof.specs.Reading.{slot_size, slot_in};
 ghost use Rattle.ats_proof.specs.Told.{IsPlaced};
 
-use crate::bytes::{digest, nth, number_1, number_2, number_4};
+use crate::bytes::{are_bytes, digest, nth, number_1, number_2, number_4};
 use crate::dict::DictView;
 use crate::digests::counted_digests_2;
 use crate::leaves::LeafRun;
@@ -32,7 +32,8 @@ impl<'a> ProofView<'a> {
     ghost use Rattle.std.specs.Prelude.{None, true, false};
     ghost use Rattle.ats_proof.specs.Value.{algorithm_of, items_of, present_in};
     ghost use Rattle.ats_proof.specs.Views.{proof_of};
-    ghost use Rattle.ats_proof.specs.Seen.{entries_of, digests_of};
+    ghost use Rattle.ats_proof.specs.Runs.{shown_entry};
+    ghost use Rattle.ats_proof.specs.Seen.{entries_of, digests_of, leaves_of};
     ghost use Rattle.ats_proof.specs.SeenLists.{lists_of};
 
     /// Which algorithm made the proof.
@@ -126,8 +127,10 @@ impl<'a> ProofView<'a> {
     /// The dictionary section.
     pub fn dict(&self) -> DictView<'a>
         ensures entries { entries_of result ≡ (proof_of self.now).dict }
+        ensures shown { leaves_of result.leaves ≡ map shown_entry (proof_of self.now).dict }
         ensures digests { digests_of result.digests ≡ (proof_of self.now).dict_digests }
     {
+        are_bytes(self.bytes);
         let left = u32::from(number_2(self.bytes.split_at(113).1));
         let (digests, _) = counted_digests_2(self.bytes.split_at(self.begun.dict_digests).1);
         let leaves = LeafRun {
