@@ -10,3 +10,4 @@ pub mod Items
 pub mod Whole
 pub mod Answering
 pub mod Encoding
+pub mod Documents

@@ -7,3 +7,5 @@ pub mod SeenLists
 pub mod Told
 pub mod Views
 pub mod SeenCursor
+pub mod SeenTerms
+pub mod SeenDocs

@@ -153,7 +153,7 @@ impl<'a> ProofView<'a> {
 }
 
 // One of some slots.
-fn slot_at(bytes: &[u8], count: u32, i: u32) -> Slot
+pub(crate) fn slot_at(bytes: &[u8], count: u32, i: u32) -> Slot
     requires within { i < count }
     requires room { count * 3 ≤ length bytes.now }
     ensures { slice_get (parts_in slot_size slot_in count bytes.now) i ≡ Some result }
