@@ -11,3 +11,4 @@ pub mod Whole
 pub mod Answering
 pub mod Encoding
 pub mod Documents
+pub mod Showing
