@@ -7,7 +7,7 @@ use Rattle.ats_dict.specs.Entry.{DictEntry}
 use Rattle.ats_grammar.specs.Table.{number}
 use Rattle.ats_tree.specs.Shown.{positions_of}
 use Rattle.ats_proof.specs.Parts.{number_in, total_size}
-use Rattle.ats_proof.specs.Reading.{term_length_in, leaf_size, entry_in}
+use Rattle.ats_proof.specs.Reading.{term_length_in, leaf_size, entry_in, term_in}
 use Rattle.ats_proof.specs.Runs.{leaf_in, leaves_in}
 use Rattle.ats_proof.proofs.Taking.{parts_more, increasing-tail}
 
@@ -40,3 +40,12 @@ entry_of_parts bytes front back front_is back_is =
         ∙ ap (take 32) (drop-drop 4 (5 + term_length_in bytes) bytes) in
     ap₂ (λ (t : List ℕ) (n : ℕ). let e : DictEntry = record { term = t; f = n; root = take 32 (drop 4 back) } in e) term f
     ∙ ap (λ (r : List ℕ). let e : DictEntry = record { term = (entry_in bytes).entry.term; f = (entry_in bytes).entry.f; root = r } in e) root
+
+-- the term and the impact that a leaf of a document's terms tells
+pub term_of_parts : (bytes front back : List ℕ) → front ≡ take (1 + term_length_in bytes) (drop 4 bytes) → back ≡ take 2 (drop (5 + term_length_in bytes) bytes)
+    → (let t : List ℕ × ℕ = (drop 1 front, number_in 2 back) in t) ≡ (term_in bytes).term
+term_of_parts bytes front back front_is back_is =
+    let later = drop (5 + term_length_in bytes) bytes in
+    let term : drop 1 front ≡ take (term_length_in bytes) (drop 5 bytes) = ap (drop 1) front_is ∙ drop-take 1 (term_length_in bytes) (drop 4 bytes) ∙ ap (take (term_length_in bytes)) (drop-drop 1 4 bytes) in
+    let impact : number_in 2 back ≡ number_in 2 later = ap (number_in 2) back_is ∙ ap number (take-take 2 2 later (omega arith)) in
+    ap₂ (λ (t : List ℕ) (n : ℕ). let p : List ℕ × ℕ = (t, n) in p) term impact

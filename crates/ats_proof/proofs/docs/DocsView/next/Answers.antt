@@ -1,0 +1,41 @@
+use Rattle.std.proofs.Common.{◌≡◌, ◌<◌, ◌≤◌, ◌*◌, Some, length, drop, refl, ap, arith}
+use Rattle.std.proofs.lemmas.List.{length-drop}
+use Rattle.ats_proof.specs.Reading.{section_size, section_in, id_size, id_in, doc_size, doc_in}
+use Rattle.ats_proof.proofs.Taking.{rest_fits, parts_more}
+use Rattle.ats_proof.proofs.Documents.{rest_sections_rise}
+use Rattle.ats_proof.proofs.docs.DocsView.next.Goals as goal
+
+pub invariant_of-self : goal.invariant_of-self
+invariant_of-self c =
+    let view = c.args.self.now in
+    let some : 0 < view.left = omega (arith, c.if-self-eq0.false) in
+    record {
+      ids_room = rw c.split_at.ensures.back (omega (arith, some, view.ids_room, length-drop 4 view.ids.now));
+      leaves_room = rw c.split_at-2.ensures.back (omega (arith, some, view.leaves_room, length-drop 36 view.leaves.now));
+      fits = rw c.cut.ensures.rest (rest_fits (section_size view.present) view.left view.sections.now some view.fits);
+      rise = rw c.cut.ensures.rest (rest_sections_rise view.present view.left view.sections.now some view.rise);
+    }
+
+pub returns-clause-section : goal.returns-clause-section
+returns-clause-section c =
+    let view = c.args.self.now in
+    let some : 0 < view.left = omega (arith, c.if-self-eq0.false) in
+    rw (parts_more (section_size view.present) (section_in view.present) view.left view.sections.now some) (ap Some c.cut.ensures.section)
+
+pub returns-clause-passed_ids : goal.returns-clause-passed_ids
+returns-clause-passed_ids c =
+    let view = c.args.self.now in
+    let some : 0 < view.left = omega (arith, c.if-self-eq0.false) in
+    rw (c.split_at.ensures.back, parts_more id_size id_in view.left view.ids.now some) refl
+
+pub returns-clause-passed_leaves : goal.returns-clause-passed_leaves
+returns-clause-passed_leaves c =
+    let view = c.args.self.now in
+    let some : 0 < view.left = omega (arith, c.if-self-eq0.false) in
+    rw (c.split_at-2.ensures.back, parts_more doc_size doc_in view.left view.leaves.now some) refl
+
+pub returns-clause-passed_sections : goal.returns-clause-passed_sections
+returns-clause-passed_sections c =
+    let view = c.args.self.now in
+    let some : 0 < view.left = omega (arith, c.if-self-eq0.false) in
+    rw (c.cut.ensures.rest, parts_more (section_size view.present) (section_in view.present) view.left view.sections.now some) refl

@@ -1,0 +1,54 @@
+//! The documents of a whole proof.
+
+ghost use Rattle.std.specs.Prelude.{◌≡◌, true, None, Some, IfSome, IfNone};
+
+use crate::digests::counted_digests_4;
+use crate::docs::DocsView;
+use crate::docs_cursor::DocsCursor;
+use crate::view::ProofView;
+
+impl<'a> ProofView<'a> {
+    ghost use Rattle.ats_proof.specs.Runs.{shown_docs};
+    ghost use Rattle.ats_proof.specs.SeenDocs.{documents_of, docs_leaves_of, ids_of};
+    ghost use Rattle.ats_proof.specs.Views.{proof_of};
+
+    // The documents of a proof that shows them.
+    fn shown_documents(&self) -> DocsView<'a>
+        requires { self.now.tra ≡ true }
+        ensures documents { (proof_of self.now).docs ≡ Some (documents_of result) }
+        ensures met { ids_of result ≡ (proof_of self.now).met }
+        ensures whole { docs_leaves_of result.whole ≡ shown_docs (proof_of self.now).met (documents_of result).leaves }
+    {
+        let ids = self.bytes.split_at(self.begun.met_at + 4).1;
+        let leaves = self.bytes.split_at(self.docs).1;
+        let digests = counted_digests_4(self.bytes.split_at(self.ended.doc_digests).1).0;
+        let left = self.begun.met;
+        let whole = DocsCursor {
+            left,
+            ids,
+            leaves,
+            digests,
+        };
+        DocsView {
+            left,
+            ids,
+            leaves,
+            present: self.begun.present,
+            sections: self.bytes.split_at(self.ended.sections).1,
+            whole,
+        }
+    }
+
+    /// The met documents, `None` where the algorithm shows none.
+    pub fn docs(&self) -> Option<DocsView<'a>>
+        ensures none { IfNone result ((proof_of self.now).docs ≡ None) }
+        ensures documents { IfSome result (λ docs. (proof_of self.now).docs ≡ Some (documents_of docs)) }
+        ensures met { IfSome result (λ docs. ids_of docs ≡ (proof_of self.now).met) }
+        ensures whole { IfSome result (λ docs. docs_leaves_of docs.whole ≡ shown_docs (proof_of self.now).met (documents_of docs).leaves) }
+    {
+        if self.tra {
+            return Some(self.shown_documents());
+        }
+        None
+    }
+}

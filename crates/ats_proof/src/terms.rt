@@ -1,0 +1,69 @@
+//! What a proof shows of the terms of a document.
+
+ghost use Rattle.std.specs.Prelude.{◌≡◌, slice_get, option_map};
+
+use crate::bytes::number_2;
+use crate::digests::DigestRun;
+use crate::leaves::LeafRun;
+use ats_hash::Steps;
+use ats_records::TermLeaf;
+use ats_tree::Revealed;
+
+/// The leaves of a document's terms that a proof shows, of which those that were passed are gone, and the
+/// digests left.
+#[derive(Clone, Copy)]
+pub struct TermsView<'a> {
+    pub(crate) leaves: LeafRun<'a>,
+    pub(crate) digests: DigestRun<'a>,
+    pub ghost behind: { leaves.behind ≡ 2 },
+}
+
+impl<'a> TermsView<'a> {
+    ghost use Rattle.ats_proof.specs.SeenTerms.{terms_of, term_of};
+
+    /// The first leaf left, `None` where none is left.
+    pub fn leaf(&self) -> Option<TermLeaf<'a>>
+        ensures { option_map term_of result ≡ option_map (λ t. t.term) (slice_get (terms_of self.now) 0) }
+    {
+        if self.leaves.left == 0 {
+            return None;
+        }
+        let leaf = self.leaves.first();
+        let (_, term) = leaf.front.split_at(1);
+        Some(TermLeaf {
+            term,
+            impact: number_2(leaf.back),
+        })
+    }
+}
+
+impl<'a> Revealed<'a> for TermsView<'a> {
+    ghost use Rattle.ats_proof.specs.Seen.{leaves_of, digests_of, term_front};
+
+    ghost shown = { λ s. leaves_of s.leaves };
+
+    ghost digests = { λ s. digests_of s.digests };
+
+    ghost front_part = { λ s. term_front s.leaves.bytes.now };
+
+    fn position(&self) -> Option<u32> {
+        self.digests.are_sized();
+        self.leaves.position()
+    }
+
+    fn leaf_front(&self) -> &'a [u8] {
+        self.leaves.first().front
+    }
+
+    fn leaf_back(&self) -> &'a [u8] {
+        self.leaves.first().back
+    }
+
+    fn pass_leaf(&mut self, steps: &mut Steps) {
+        self.leaves.pass(steps);
+    }
+
+    fn pass_digest(&mut self, steps: &mut Steps) -> Option<&'a [u8]> {
+        self.digests.pass(steps)
+    }
+}
