@@ -5,7 +5,7 @@ ghost use Rattle.std.specs.Prelude.{◌≡◌, ◌+◌, ◌<◌, ◌≤◌, ℕ,
 ghost use Rattle.std.specs.List.{All};
 ghost use Rattle.ats_impact.specs.Rank.{IsTopBy};
 ghost use Rattle.ats_bound.specs.declared.bracket.Bracket.{Bracket};
-ghost use Rattle.ats_bound.specs.Cut.{IsMet, bracket, lower, missing, threshold};
+ghost use Rattle.ats_bound.specs.Cut.{ShownLane, IsMet, bracket, held, missing, threshold};
 ghost use Rattle.ats_bound.specs.Settled.{ArePicks, IsSettled};
 ghost use Rattle.ats_bound.specs.Ranked.{WholeLane, AreScores, HoldsScore, AreOfMet, answer_of, cut_of};
 
@@ -18,6 +18,11 @@ pub fn cuts_bound_scores()
         → IsMet (cut_of lanes) doc → (doc < n) × (0 < score doc) }
     ensures bracket { (n : ℕ) (score : ℕ → ℕ) (lanes : List WholeLane) (doc : ℕ) → AreScores n score lanes
         → IsMet (cut_of lanes) doc → HoldsScore score (bracket (cut_of lanes) doc) }
+{}
+
+/// What the lists that name a document can add, and what the others can, come to the threshold.
+pub fn rests_are_held_or_missing()
+    ensures { (lanes : List ShownLane) (doc : ℕ) → held lanes doc + missing lanes doc ≡ threshold lanes }
 {}
 
 /// A settled answer is a top answer, whatever the brackets are made from: they need only be those of the
