@@ -26,7 +26,10 @@ pub use bracket::{Bracket, Brackets};
 pub use choosing::choose;
 pub use cut::Cut;
 pub use lane::Lane;
-pub use laws::{cuts_bound_scores, rests_are_held_or_missing, settled_answers_are_top};
+pub use laws::{
+    cuts_bound_scores, rests_are_held_or_missing, scores_are_sums_over_lists,
+    settled_answers_are_top,
+};
 pub use memory::OutOfMemory;
 pub use picks::Picks;
 pub use settling::settled;
