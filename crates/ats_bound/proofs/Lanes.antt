@@ -11,8 +11,8 @@ use Rattle.ats_bound.specs.Cut.{ShownLane, lane_of, names, rest_impact, shown_im
 use Rattle.ats_bound.specs.Ranked.{WholeLane, IsWholeLane, impact_in}
 
 -- the entry's impact, if it is the document's
-abbrev pub part : ℕ → Entry → ℕ
-part doc entry = cond (nat_eq entry.doc doc) entry.impact 0
+abbrev pub share : ℕ → Entry → ℕ
+share doc entry = cond (nat_eq entry.doc doc) entry.impact 0
 
 -- whether the entry is the document's
 abbrev pub is_of : ℕ → Entry → Bool
@@ -22,13 +22,13 @@ is_of doc entry = nat_eq entry.doc doc
 abbrev pub none : Entry
 none = record { doc = 0; impact = 0 }
 
-part_of : (doc : ℕ) (entry : Entry) → entry.doc ≡ doc → part doc entry ≡ entry.impact
-part_of doc entry is =
+share_of : (doc : ℕ) (entry : Entry) → entry.doc ≡ doc → share doc entry ≡ entry.impact
+share_of doc entry is =
     let yes : nat_eq entry.doc doc ≡ true = grind (arith, nat_tests) in
     ap (λ b. cond b entry.impact 0) yes
 
-part_other : (doc : ℕ) (entry : Entry) → entry.doc ≢ doc → part doc entry ≡ 0
-part_other doc entry other =
+share_other : (doc : ℕ) (entry : Entry) → entry.doc ≢ doc → share doc entry ≡ 0
+share_other doc entry other =
     let no : nat_eq entry.doc doc ≡ false = grind (arith, nat_tests) in
     ap (λ b. cond b entry.impact 0) no
 
@@ -38,8 +38,8 @@ unnamed_has_none doc [] other = refl
 unnamed_has_none doc (entry ∷ entries) other =
     omega (
       arith,
-      sum_by-cons (part doc) entry entries,
-      part_other doc entry (other 0 none (omega arith)),
+      sum_by-cons (share doc) entry entries,
+      share_other doc entry (other 0 none (omega arith)),
       unnamed_has_none doc entries (λ k d inside. other (suc k) d (omega arith)),
     )
 
@@ -71,19 +71,19 @@ pub at_most : (doc b : ℕ) (entries : List Entry) → All (λ (entry : Entry). 
     → impact_in doc entries ≤ b
 at_most doc b [] each once = omega arith
 at_most doc b (entry ∷ entries) each once =
-    let step = sum_by-cons (part doc) entry entries in
+    let step = sum_by-cons (share doc) entry entries in
     let first : entry.impact ≤ b = each 0 none (omega arith) in
     elim (cases_order entry.doc doc) [
       | inl is ↦
           let others : All (λ (later : Entry). later.doc ≢ doc) entries =
           λ k d inside same. once 0 (suc k) d (omega arith) (omega arith) (is ∙ sym same) in
-          omega (arith, step, part_of doc entry is, first, unnamed_has_none doc entries others)
+          omega (arith, step, share_of doc entry is, first, unnamed_has_none doc entries others)
       | inr other ↦
           let apart : entry.doc ≢ doc = λ same. elim other [ inl less ↦ omega (arith, less, same) | inr more ↦ omega (arith, more, same) ] in
           omega (
             arith,
             step,
-            part_other doc entry apart,
+            share_other doc entry apart,
             at_most doc b entries (λ k d inside. each (suc k) d (omega arith)) (λ i j d less inside. once (suc i) (suc j) d (omega arith) (omega arith)),
           )
     ]
@@ -99,11 +99,11 @@ module _ (n : ℕ) (lane : WholeLane) (is : IsWholeLane n lane) (doc : ℕ) wher
   cut = lane_of lane.coefficient lane.entries lane.shown
 
   whole_is : impact_in doc (take k entries) + impact_in doc (drop k entries) ≡ impact_in doc entries
-  whole_is = sum_by-take-drop (part doc) entries k
+  whole_is = sum_by-take-drop (share doc) entries k
 
   -- what is shown is part of the whole
   pub shown_within : shown_impact doc cut ≤ impact_in doc entries
-  shown_within = sum_by-take-le (part doc) entries k
+  shown_within = sum_by-take-le (share doc) entries k
 
   size : length (take k entries) ≡ k
   size = omega (arith, length-take k entries, is.within)
@@ -128,8 +128,8 @@ module _ (n : ℕ) (lane : WholeLane) (is : IsWholeLane n lane) (doc : ℕ) wher
       let impact : 1 ≤ (get_or (take k entries) found.0 none).impact = rw at ((is.list.impacts found.0 none (omega (arith, low, is.within))).0) in
       omega (
         arith,
-        get_or-le-sum_by (part doc) (take k entries) found.0 none found.1,
-        part_of doc (get_or (take k entries) found.0 none) found.2,
+        get_or-le-sum_by (share doc) (take k entries) found.0 none found.1,
+        share_of doc (get_or (take k entries) found.0 none) found.2,
         impact,
       )
 

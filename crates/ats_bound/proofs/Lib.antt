@@ -4,3 +4,4 @@ pub mod Order
 pub mod Lanes
 pub mod Scores
 pub mod Ranking
+pub mod Texts

@@ -1,11 +1,11 @@
 -- What the shown entries of all lists say of scores.
-use Rattle.std.proofs.Common.{◌≡◌, ◌<◌, ◌≤◌, ◌+◌, ◌*◌, ℕ, Bool, true, false, cond, List, [], ◌∷◌, inl, inr, arith}
+use Rattle.std.proofs.Common.{◌≡◌, ◌<◌, ◌≤◌, ◌+◌, ◌*◌, ℕ, Bool, true, false, cond, List, [], ◌∷◌, refl, inl, inr, arith}
 use Rattle.std.specs.List.{All, list_any}
 use Rattle.std.proofs.Math.Nat.{mul-le-mul_left, mul-add}
 use Rattle.std.proofs.lemmas.Bool.{cases_Bool}
 use Rattle.std.proofs.lemmas.List.Elements.{All-head, All-tail}
 use Rattle.std.proofs.lemmas.List.Sums.{sum_by-cons}
-use Rattle.ats_bound.specs.Cut.{ShownLane, IsMet, names, rest, rest_impact, shown_impact, lower, missing, threshold, bracket}
+use Rattle.ats_bound.specs.Cut.{ShownLane, IsMet, names, rest, rest_impact, shown_impact, lower, missing, held, threshold, bracket}
 use Rattle.ats_bound.specs.Ranked.{WholeLane, IsWholeLane, AreScores, HoldsScore, cut_of, impact_in, whole_score}
 use Rattle.ats_bound.proofs.Lanes.{cut, shown_within, shown_none, shown_some, shown_below, whole_within}
 
@@ -114,3 +114,20 @@ bracket_holds n score lanes doc are met =
 -- a met document is one of the n
 pub met_below : (n : ℕ) (score : ℕ → ℕ) (lanes : List WholeLane) (doc : ℕ) → AreScores n score lanes → IsMet (cut_of lanes) doc → doc < n
 met_below n score lanes doc are met = (met_some n doc lanes are.each met).0
+
+-- a lane's rest is held or missing
+pub held_or_missing : (lanes : List ShownLane) (doc : ℕ) → held lanes doc + missing lanes doc ≡ threshold lanes
+held_or_missing [] doc = refl
+held_or_missing (lane ∷ lanes) doc =
+    let one : cond (names doc lane) (rest lane) 0 + cond (names doc lane) 0 (rest lane) ≡ rest lane = elim (cases_Bool (names doc lane)) [
+      | inl seen ↦ rw seen (omega arith)
+      | inr unseen ↦ rw unseen (omega arith)
+    ] in
+    omega (
+      arith,
+      sum_by-cons (λ (l : ShownLane). cond (names doc l) (rest l) 0) lane lanes,
+      sum_by-cons (missing_part doc) lane lanes,
+      sum_by-cons rest lane lanes,
+      one,
+      held_or_missing lanes doc,
+    )

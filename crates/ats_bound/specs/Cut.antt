@@ -51,6 +51,10 @@ lower lanes doc = sum_by (λ lane. lane.coefficient * shown_impact doc lane) lan
 abbrev pub missing : List ShownLane → ℕ → ℕ
 missing lanes doc = sum_by (λ lane. if names doc lane then 0 else rest lane) lanes
 
+-- what the lanes that name the document can add, at most
+abbrev pub held : List ShownLane → ℕ → ℕ
+held lanes doc = sum_by (λ lane. if names doc lane then rest lane else 0) lanes
+
 -- the bracket of a met document, from all shown entries
 abbrev pub bracket : List ShownLane → ℕ → Bracket
 bracket lanes doc = record { doc = doc; lo = lower lanes doc; hi = lower lanes doc + missing lanes doc }

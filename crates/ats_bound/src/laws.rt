@@ -1,13 +1,15 @@
-//! What a cut of whole lists says of scores, as contracts of functions that do nothing. No hash and no text
-//! stands in these sentences: scores are any sums over lists.
+//! What a cut of whole lists says of scores, as contracts of functions that do nothing. No hash
+//! stands in these sentences, and scores are any sums over lists.
 
-ghost use Rattle.std.specs.Prelude.{◌≡◌, ◌+◌, ◌<◌, ◌≤◌, ℕ, List};
+ghost use Rattle.std.specs.Prelude.{◌≡◌, ◌+◌, ◌<◌, ◌≤◌, ◌*◌, ℕ, List, [], length, sum_by, slice_index_or};
 ghost use Rattle.std.specs.List.{All};
 ghost use Rattle.ats_impact.specs.Rank.{IsTopBy};
+ghost use Rattle.ats_impact.specs.Score.{coefficient, score};
+ghost use Rattle.ats_lists.specs.Lists.{list};
 ghost use Rattle.ats_bound.specs.declared.bracket.Bracket.{Bracket};
-ghost use Rattle.ats_bound.specs.Cut.{IsMet, bracket, lower, missing, threshold};
+ghost use Rattle.ats_bound.specs.Cut.{ShownLane, IsMet, bracket, held, missing, threshold};
 ghost use Rattle.ats_bound.specs.Settled.{ArePicks, IsSettled};
-ghost use Rattle.ats_bound.specs.Ranked.{WholeLane, AreScores, HoldsScore, AreOfMet, answer_of, cut_of};
+ghost use Rattle.ats_bound.specs.Ranked.{WholeLane, AreScores, HoldsScore, AreOfMet, answer_of, cut_of, impact_in};
 
 /// A document that no shown entry names scores at most the threshold. One that a shown entry names is one
 /// of the n documents and scores above 0, and its bracket from the shown entries holds its score.
@@ -18,6 +20,18 @@ pub fn cuts_bound_scores()
         → IsMet (cut_of lanes) doc → (doc < n) × (0 < score doc) }
     ensures bracket { (n : ℕ) (score : ℕ → ℕ) (lanes : List WholeLane) (doc : ℕ) → AreScores n score lanes
         → IsMet (cut_of lanes) doc → HoldsScore score (bracket (cut_of lanes) doc) }
+{}
+
+/// What the lists that name a document can add, and what the others can, come to the threshold.
+pub fn rests_are_held_or_missing()
+    ensures { (lanes : List ShownLane) (doc : ℕ) → held lanes doc + missing lanes doc ≡ threshold lanes }
+{}
+
+/// What a document scores for a query is a sum over the lists of the query's terms, where a term that no
+/// document has adds nothing.
+pub fn scores_are_sums_over_lists()
+    ensures { (texts : List (List ℕ)) (query : List (List ℕ × ℕ)) (doc : ℕ) → doc < length texts
+        → score texts query (slice_index_or texts doc []) ≡ sum_by (λ pair. coefficient texts pair * impact_in doc (list texts pair.0)) query }
 {}
 
 /// A settled answer is a top answer, whatever the brackets are made from: they need only be those of the

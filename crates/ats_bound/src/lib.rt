@@ -2,10 +2,11 @@
 //!
 //! A cut shows the first entries of each list of a query. What is shown bounds the score of each document
 //! that it names by a bracket, and that of every other document by a threshold. An answer is settled where
-//! these bounds alone show that it is right. The room stands on the entries of `ats_lists` and the number
-//! of rows of `ats_impact`. The contracts promise that [`settled`] answers exactly the rules of a settled
-//! answer, and that what [`choose`] answers is settled wherever any answer is. How places are looked up
-//! and brackets sorted may change without asking.
+//! these bounds alone show that it is right. The room stands on the entries of `ats_lists`, the number of
+//! rows of `ats_impact` and the steps of `ats_hash`. The contracts promise that [`settled`] answers exactly
+//! the rules of a settled answer, that what [`choose`] answers is settled wherever any answer is, that a
+//! settled answer is a top answer wherever the brackets hold the scores, and that a [`Work`] begins with
+//! marks that say nothing. How places are looked up, brackets sorted and marks kept may change unasked.
 #![tactic(auto)]
 
 mod bracket;
@@ -25,7 +26,10 @@ pub use bracket::{Bracket, Brackets};
 pub use choosing::choose;
 pub use cut::Cut;
 pub use lane::Lane;
-pub use laws::{cuts_bound_scores, settled_answers_are_top};
+pub use laws::{
+    cuts_bound_scores, rests_are_held_or_missing, scores_are_sums_over_lists,
+    settled_answers_are_top,
+};
 pub use memory::OutOfMemory;
 pub use picks::Picks;
 pub use settling::settled;

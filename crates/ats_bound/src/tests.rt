@@ -1,5 +1,6 @@
 ghost use Rattle.std.specs.Prelude.{◌≡◌, [], ◌∷◌};
-ghost use Rattle.ats_bound.specs.Cut.{bracket, lane_of, threshold};
+ghost use Rattle.ats_bound.specs.Cut.{bracket, held, lane_of, threshold};
+ghost use Rattle.ats_bound.specs.Ranked.{whole_score};
 
 use crate::{Bracket, Brackets, Cut, Lane, Mark, OutOfMemory, Picks, Walk, Work, choose, settled};
 use ats_hash::Steps;
@@ -107,6 +108,10 @@ fn sample_bounds()
     ensures fox_bracket { bracket (lane_of 12 (record { doc = 0; impact = 1063 } ∷ []) 1
         ∷ lane_of 6 (record { doc = 1; impact = 1273 } ∷ record { doc = 0; impact = 1063 } ∷ []) 1 ∷ []) 0
         ≡ record { doc = 0; lo = 12756; hi = 20394 } }
+    ensures first_held { held (lane_of 6 (record { doc = 2; impact = 1063 } ∷ record { doc = 1; impact = 896 } ∷ []) 1
+        ∷ lane_of 6 (record { doc = 1; impact = 1273 } ∷ record { doc = 0; impact = 1063 } ∷ []) 1 ∷ []) 1 ≡ 7638 }
+    ensures whole_score { whole_score (record { coefficient = 6; entries = record { doc = 2; impact = 1063 } ∷ record { doc = 1; impact = 896 } ∷ []; shown = 1 }
+        ∷ record { coefficient = 6; entries = record { doc = 1; impact = 1273 } ∷ record { doc = 0; impact = 1063 } ∷ []; shown = 1 } ∷ []) 1 ≡ 13014 }
 {}
 
 #[test]
