@@ -8,7 +8,7 @@ use Rattle.std.proofs.lemmas.List.Folds.{list_any_at}
 use Rattle.std.proofs.lemmas.List.Sums.{sum_by-cons, sum_by-take-drop, sum_by-take-le, get_or-le-sum_by}
 use Rattle.ats_lists.specs.declared.entry.Entry.{Entry}
 use Rattle.ats_bound.specs.Cut.{ShownLane, lane_of, names, rest_impact, shown_impact}
-use Rattle.ats_bound.specs.Ranked.{WholeLane, IsWholeLane, impact_in}
+use Rattle.ats_bound.specs.Ranked.{CutLane, IsCutLane, impact_in}
 
 -- the entry's impact, if it is the document's
 abbrev pub share : ℕ → Entry → ℕ
@@ -88,7 +88,7 @@ at_most doc b (entry ∷ entries) each once =
           )
     ]
 
-module _ (n : ℕ) (lane : WholeLane) (is : IsWholeLane n lane) (doc : ℕ) where
+module _ (n : ℕ) (lane : CutLane) (is : IsCutLane n lane) (doc : ℕ) where
   abbrev entries : List Entry
   entries = lane.entries
 

@@ -7,7 +7,7 @@ use Rattle.ats_impact.specs.Rank.{times, IsTopBy}
 use Rattle.ats_bound.specs.declared.bracket.Bracket.{Bracket}
 use Rattle.ats_bound.specs.Cut.{IsMet, names, threshold}
 use Rattle.ats_bound.specs.Settled.{ArePicks, IsSettled, bracket_at, last_row}
-use Rattle.ats_bound.specs.Ranked.{WholeLane, AreScores, HoldsScore, AreOfMet, answer_of, cut_of, docs_of}
+use Rattle.ats_bound.specs.Ranked.{CutLane, AreScores, HoldsScore, AreOfMet, answer_of, cut_of, docs_of}
 use Rattle.ats_bound.proofs.Places.{times_same, times_other, stands, position_of, stands_twice}
 use Rattle.ats_bound.proofs.Scores.{unmet_scores, met_below}
 
@@ -30,7 +30,7 @@ once_of (x ∷ numbers) apart m =
           )
     ]
 
-module _ (n r : ℕ) (score : ℕ → ℕ) (lanes : List WholeLane) (brackets : List Bracket) (picks : List ℕ) (are : AreScores n score lanes)
+module _ (n r : ℕ) (score : ℕ → ℕ) (lanes : List CutLane) (brackets : List Bracket) (picks : List ℕ) (are : AreScores n score lanes)
     (of_met : AreOfMet lanes brackets) (hold : All (HoldsScore score) brackets) (inside : ArePicks brackets picks)
     (settled : IsSettled brackets picks (threshold (cut_of lanes)) r) where
   abbrev answer : List ℕ

@@ -9,16 +9,16 @@ ghost use Rattle.ats_lists.specs.Lists.{list};
 ghost use Rattle.ats_bound.specs.declared.bracket.Bracket.{Bracket};
 ghost use Rattle.ats_bound.specs.Cut.{ShownLane, IsMet, bracket, held, missing, threshold};
 ghost use Rattle.ats_bound.specs.Settled.{ArePicks, IsSettled};
-ghost use Rattle.ats_bound.specs.Ranked.{WholeLane, AreScores, HoldsScore, AreOfMet, answer_of, cut_of, impact_in};
+ghost use Rattle.ats_bound.specs.Ranked.{CutLane, AreScores, HoldsScore, AreOfMet, answer_of, cut_of, impact_in};
 
 /// A document that no shown entry names scores at most the threshold. One that a shown entry names is one
 /// of the n documents and scores above 0, and its bracket from the shown entries holds its score.
 pub fn cuts_bound_scores()
-    ensures unmet { (n : ℕ) (score : ℕ → ℕ) (lanes : List WholeLane) (doc : ℕ) → AreScores n score lanes → doc < n
+    ensures unmet { (n : ℕ) (score : ℕ → ℕ) (lanes : List CutLane) (doc : ℕ) → AreScores n score lanes → doc < n
         → ¬ IsMet (cut_of lanes) doc → score doc ≤ threshold (cut_of lanes) }
-    ensures met { (n : ℕ) (score : ℕ → ℕ) (lanes : List WholeLane) (doc : ℕ) → AreScores n score lanes
+    ensures met { (n : ℕ) (score : ℕ → ℕ) (lanes : List CutLane) (doc : ℕ) → AreScores n score lanes
         → IsMet (cut_of lanes) doc → (doc < n) × (0 < score doc) }
-    ensures bracket { (n : ℕ) (score : ℕ → ℕ) (lanes : List WholeLane) (doc : ℕ) → AreScores n score lanes
+    ensures bracket { (n : ℕ) (score : ℕ → ℕ) (lanes : List CutLane) (doc : ℕ) → AreScores n score lanes
         → IsMet (cut_of lanes) doc → HoldsScore score (bracket (cut_of lanes) doc) }
 {}
 
@@ -37,7 +37,7 @@ pub fn scores_are_sums_over_lists()
 /// A settled answer is a top answer, whatever the brackets are made from: they need only be those of the
 /// met documents, and hold their scores.
 pub fn settled_answers_are_top()
-    ensures { (n r : ℕ) (score : ℕ → ℕ) (lanes : List WholeLane) (brackets : List Bracket) (picks : List ℕ)
+    ensures { (n r : ℕ) (score : ℕ → ℕ) (lanes : List CutLane) (brackets : List Bracket) (picks : List ℕ)
         → AreScores n score lanes → AreOfMet lanes brackets → All (HoldsScore score) brackets → ArePicks brackets picks
         → IsSettled brackets picks (threshold (cut_of lanes)) r → IsTopBy n score r (answer_of brackets picks) }
 {}
