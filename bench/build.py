@@ -62,12 +62,6 @@ def build(program: str, path: Path) -> measure.Run:
     return best
 
 
-def judge(name: str, value: float, wanted: float) -> bool:
-    met = value <= wanted
-    print(f"  {name}: {value:.2f}, wanted at most {wanted:.2f}: {'met' if met else 'NOT MET'}")
-    return met
-
-
 def measured(program: str, block: float, name: str, folder: str) -> bool:
     """One shape."""
     shape = corpora.SHAPES[name]
@@ -81,11 +75,11 @@ def measured(program: str, block: float, name: str, folder: str) -> bool:
         times.append(run.seconds)
         text.append(path.stat().st_size)
         print(f"{size:2} MiB, {documents:6} documents, {blocks:9} blocks: {run.seconds:.3f} s, {run.peak >> 20} MiB at most")
-        met &= judge("time / that of its blocks alone", run.seconds / (blocks * block), AGAINST_BLOCKS)
+        met &= measure.judge("  time / that of its blocks alone", run.seconds / (blocks * block), AGAINST_BLOCKS)
     for (early, late), (small, large) in zip(zip(times, times[1:]), zip(text, text[1:])):
-        met &= judge("growth of the time / growth of the input", late / early / (large / small), GROWTH)
+        met &= measure.judge("  growth of the time / growth of the input", late / early / (large / small), GROWTH)
     if name == "notes":
-        met &= judge("memory in GiB", run.peak / PEAK, 1.0)
+        met &= measure.judge("  memory in GiB", run.peak / PEAK, 1.0)
     return met
 
 

@@ -44,6 +44,7 @@ def bench_program() -> str:
     built = subprocess.run(["rt", "run", "--", "nodes", "0"], cwd=room, capture_output=True, text=True, check=False)
     if built.returncode != 0:
         sys.exit(f"nothing is measured, since ats_bench could not be built:\n{built.stdout}{built.stderr}")
+    (HOME / "out").mkdir(exist_ok=True)
     return shutil.copy(room / "out" / "ats_bench", HOME / "out" / "ats_bench")
 
 
@@ -70,3 +71,10 @@ def run(command: list[str]) -> Run:
 def best(command: list[str]) -> Run:
     """The fastest of some runs."""
     return min((run(command) for _ in range(RUNS)), key=lambda one: one.seconds)
+
+
+def judge(name: str, value: float, wanted: float) -> bool:
+    """Prints whether a value is at most what is wanted."""
+    met = value <= wanted
+    print(f"{name}: {value:.2f}, wanted at most {wanted:.2f}: {'met' if met else 'NOT MET'}")
+    return met

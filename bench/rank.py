@@ -48,12 +48,6 @@ def measured(program: str, shape: corpora.Shape, folder: str) -> tuple[dict[int,
     return seconds, words
 
 
-def judge(name: str, ratio: float, wanted: float) -> bool:
-    met = ratio <= wanted
-    print(f"{name}: {ratio:.2f}, wanted at most {wanted}: {'met' if met else 'NOT MET'}")
-    return met
-
-
 def main() -> int:
     shape = corpora.SHAPES[sys.argv[1] if len(sys.argv) > 1 else "articles"]
     program = measure.program()
@@ -63,8 +57,8 @@ def main() -> int:
     except measure.TooSlow:
         print(f"\na run took more than {measure.LIMIT} s: NOT MET")
         return 1
-    growth = judge("time(16 MiB) / time(4 MiB)", seconds[16] / seconds[4], GROWTH)
-    against = judge("time(16 MiB) / Python's", seconds[16] / words, AGAINST_PYTHON)
+    growth = measure.judge("time(16 MiB) / time(4 MiB)", seconds[16] / seconds[4], GROWTH)
+    against = measure.judge("time(16 MiB) / Python's", seconds[16] / words, AGAINST_PYTHON)
     print("both ratios are met" if growth and against else "not both ratios are met")
     return 0 if growth and against else 1
 

@@ -1,13 +1,19 @@
 //! Work to be timed by the scripts under `bench/`: takes words, does one kind of work, and prints a count.
 //!
 //! `nodes COUNT` hashes so many inner nodes of a tree, each of 65 bytes with its tag, and prints how many digests
-//! were counted. The program measures no time itself and promises nothing that the rooms below it do not promise.
-//! Each kind of work may change as a script needs it.
+//! were counted; `read ENTRIES TIMES` writes a proof that shows so many entries of lists, reads it so many times, and
+//! prints how many items were read in all; `digest ENTRIES TIMES` hashes the bytes of that proof so many times, and
+//! prints how many digests were counted. The program measures no time itself and promises nothing that the rooms
+//! below it do not promise. Each kind of work may change as a script needs it.
 #![tactic(auto)]
 
 ghost use Rattle.std.specs.Prelude.{◌≡◌, ◌+◌, ◌<◌, ◌^◌};
 
+mod reading;
+
 use ats_hash::{Hash32, Sha, Steps};
+use reading::{hash_proof, read_proof};
+use std::alloc::Global;
 use std::process::ExitCode;
 use std::{env, io};
 
@@ -27,23 +33,33 @@ fn hash_nodes(count: u32, steps: &mut Steps)
     }
 }
 
+fn nodes(alloc: Global, count: u32) -> u64 {
+    let mut steps = Steps::new(alloc);
+    hash_nodes(count, &mut steps);
+    steps.count()
+}
+
+fn number(word: &String) -> Option<u32> {
+    word.as_str().parse::<u32>().ok()
+}
+
 // Does what the words say, and answers the count.
-fn work(rt: &HostRuntime, words: &[String]) -> Option<u64> {
-    let [job, count] = words else {
-        return None;
-    };
-    let count = count.as_str().parse::<u32>().ok()?;
-    let mut steps = Steps::new(rt.alloc());
-    match job.as_str() {
-        "nodes" => hash_nodes(count, &mut steps),
-        _ => return None,
+fn work(alloc: Global, words: &[String]) -> Option<u64> {
+    match words {
+        [job, count] if job.as_str() == "nodes" => Some(nodes(alloc, number(count)?)),
+        [job, entries, times] if job.as_str() == "read" => {
+            read_proof(alloc, number(entries)?, number(times)?)
+        }
+        [job, entries, times] if job.as_str() == "digest" => {
+            hash_proof(alloc, number(entries)?, number(times)?)
+        }
+        _ => None,
     }
-    Some(steps.count())
 }
 
 fn main(rt: HostRuntime) -> io::Result<ExitCode> {
     let words = words(&rt)?;
-    match work(&rt, &words) {
+    match work(rt.alloc(), &words) {
         Some(count) => {
             println!(rt; "{count}")?;
             Ok(ExitCode::from(0))

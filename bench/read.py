@@ -1,0 +1,49 @@
+"""Times the reading of proofs with 10^5 and 10^6 entries, beside hashing the same bytes.
+
+usage: python3 bench/read.py
+
+Prints what one reading takes, how that grows from 10^5 to 10^6 entries, and how fast bytes are read
+beside SHA-256 over the same bytes. Ends with 0 where both wanted ratios are met, and else with 1.
+"""
+
+import sys
+
+import measure
+
+TERMS = 32
+WANTED_GROWTH = 12.0
+WANTED_SPEED = 1.0
+WORK = 40_000_000  # entries that are read in one run
+
+
+def size(entries: int) -> int:
+    """The bytes of the proof: its front, one leaf, a slot for each term, and a list for each."""
+    front, leaf, numbers = 6 + 105 + 2, 4 + 1 + 4 + 32, 2 + 2 + 4 + 2
+    return front + leaf + numbers + TERMS * (3 + 4 + 2) + 6 * (entries // TERMS) * TERMS
+
+
+def seconds(bench: str, job: str, entries: int, times: int) -> float:
+    """Of one time: the making of the proof is in both runs, and drops out."""
+    some = measure.best([bench, job, str(entries), str(times)]).seconds
+    none = measure.best([bench, job, str(entries), "0"]).seconds
+    return (some - none) / times
+
+
+def main() -> int:
+    bench = measure.bench_program()
+    reads = {}
+    for entries in (100_000, 1_000_000):
+        reads[entries] = seconds(bench, "read", entries, WORK // entries)
+        print(f"reading {entries:9} entries, {size(entries):9} bytes: {reads[entries] * 1e3:.3f} ms")
+    hashed = seconds(bench, "digest", 1_000_000, 20)
+    print(f"hashing the bytes of the last one: {hashed * 1e3:.3f} ms")
+    speed = size(1_000_000) / reads[1_000_000] / 1e6
+    print(f"bytes a second: {speed:.0f} million read, {size(1_000_000) / hashed / 1e6:.0f} million hashed")
+    growth = measure.judge("time(10^6) / time(10^5)", reads[1_000_000] / reads[100_000], WANTED_GROWTH)
+    faster = measure.judge("time of reading / time of hashing", reads[1_000_000] / hashed, WANTED_SPEED)
+    print("both ratios are met" if growth and faster else "not both ratios are met")
+    return 0 if growth and faster else 1
+
+
+if __name__ == "__main__":
+    sys.exit(main())
