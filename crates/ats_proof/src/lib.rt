@@ -10,11 +10,14 @@
 #![tactic(auto)]
 
 pub use ats_grammar::{ShapeFault, ShapeKind};
-pub use ats_records::{Algorithm, Slot, TermLeaf};
+pub use ats_records::{Algorithm, ProofWriter, Slot, TermLeaf};
 pub use cursor::ListCursor;
 pub use dict::DictView;
 pub use docs::{DocView, DocsView};
 pub use docs_cursor::DocsCursor;
+pub use laws::{
+    bytes_say_one_proof, further_bytes_are_trailing, proofs_have_one_spelling, spellings_say_proofs,
+};
 pub use lists::{ListView, ListsView};
 pub use terms::TermsView;
 pub use view::ProofView;
@@ -25,6 +28,7 @@ mod dict;
 mod digests;
 mod docs;
 mod docs_cursor;
+mod laws;
 mod leaves;
 mod lists;
 mod met_documents;
