@@ -1,0 +1,62 @@
+//! A record of a few parts, put together before it is written.
+
+ghost use Rattle.std.specs.Prelude.{◌≡◌, ◌+◌, ◌≤◌, ◌++◌, ◌∷◌, [], length};
+
+use std::marker::Model;
+
+// The longest record is the front with its header.
+const ROOM: usize = 113;
+
+/// Up to 113 bytes that take no memory.
+#[derive(Drop)]
+pub(crate) struct Packed {
+    bytes: [u8; ROOM],
+    len: usize,
+}
+
+impl Model for Packed {
+    ghost use Rattle.std.specs.Prelude.{List, ℕ, take, ◌≤◌};
+
+    ghost Value = { List ℕ };
+
+    ghost view = { λ p. take p.len p.bytes };
+
+    ghost invariant = { λ p. p.len ≤ 113 };
+}
+
+impl Packed {
+    pub(crate) fn new() -> Self
+        ensures { result ≡ [] }
+    {
+        Packed {
+            bytes: [0; ROOM],
+            len: 0,
+        }
+    }
+
+    /// Puts bytes at the end.
+    pub(crate) fn put(&mut self, part: &[u8])
+        requires { length self.old + length part.now ≤ 113 }
+        ensures { self.new ≡ self.old ++ part.now }
+    {
+        let end = self.len + part.len();
+        self.bytes[self.len..end].copy_from_slice(part);
+        self.len = end;
+    }
+
+    /// Puts a term at the end, behind its length in one byte.
+    pub(crate) fn put_term(&mut self, term: &[u8])
+        requires short { length term.now ≤ 64 }
+        requires room { length self.old + 65 ≤ 113 }
+        ensures { self.new ≡ self.old ++ length term.now ∷ term.now }
+    {
+        self.put(&[term.len() as u8]);
+        self.put(term);
+    }
+
+    pub(crate) fn as_slice(&self) -> &[u8]
+        ensures { result.now ≡ self.now }
+    {
+        &self.bytes[..self.len]
+    }
+}
