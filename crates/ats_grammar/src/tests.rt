@@ -132,11 +132,14 @@ fn cuts(rt: &impl Abort, bytes: &[u8], fields: &[usize]) -> Result<(), Fail> {
 #[test]
 fn each_field_is_cut(rt: HostRuntime) -> Result<(), Fail> {
     cuts(&rt, &tnra(rt.alloc())?, &TNRA_FIELDS)?;
+    cuts(&rt, &tra(rt.alloc())?, &TNRA_FIELDS[..34])?;
     cuts(&rt, &tra(rt.alloc())?, &TRA_FIELDS)
 }
 
-// A place, what stands from there on, and the fault: in the fields that both have.
-const BEGUN: [(usize, &[u8], u64, ShapeKind); 21] = [
+// A place, what stands from there on, and the fault: in the fields that both have, each below and above its
+// range where that is possible.
+const BEGUN: [(usize, &[u8], u64, ShapeKind); 27] = [
+    (0, b"ATSO", 0, ShapeKind::Magic),
     (0, b"ATSQ", 0, ShapeKind::Magic),
     (4, &[0], 4, ShapeKind::Version),
     (4, &[2], 4, ShapeKind::Version),
@@ -154,30 +157,53 @@ const BEGUN: [(usize, &[u8], u64, ShapeKind); 21] = [
     (113, &[0, 65], 113, ShapeKind::Count),
     (119, &[65], 119, ShapeKind::Count),
     (159, &[0, 0, 0, 3], 159, ShapeKind::Order),
+    (163, &[65], 163, ShapeKind::Count),
     (301, &[2], 301, ShapeKind::Count),
+    (304, &[2], 304, ShapeKind::Count),
     (302, &[0, 1, 1, 0, 0], 305, ShapeKind::Order),
     (307, &[0, 1, 0, 1], 307, ShapeKind::Count),
     (315, &[0, 0, 0, 0], 315, ShapeKind::Order),
+    (319, &[0, 0, 0, 1], 319, ShapeKind::Order),
+    (323, &[0, 0, 0, 0], 323, ShapeKind::Count),
+    (323, &[0, 1, 0, 1], 323, ShapeKind::Count),
 ];
 
 // The same in the later fields of the shorter proof.
 const TNRA: [(usize, &[u8], u64, ShapeKind); 3] = [
-    (323, &[0, 0, 0, 0], 323, ShapeKind::Count),
-    (323, &[0, 1, 0, 1], 323, ShapeKind::Count),
+    (341, &[0, 0, 0, 0], 341, ShapeKind::Count),
+    (341, &[0, 1, 0, 1], 341, ShapeKind::Count),
     (359, &[3, 233], 359, ShapeKind::Count),
 ];
 
 // The same in the later fields of the longer proof.
-const TRA: [(usize, &[u8], u64, ShapeKind); 10] = [
-    (323, &[0, 0, 0, 0], 323, ShapeKind::Count),
-    (323, &[0, 1, 0, 1], 323, ShapeKind::Count),
+const TRA: [(usize, &[u8], u64, ShapeKind); 28] = [
+    (367, &[0, 0, 0, 0], 367, ShapeKind::Count),
+    (367, &[0, 1, 0, 1], 367, ShapeKind::Count),
     (493, &[0, 1, 0, 1], 493, ShapeKind::Count),
     (497, &[0, 0], 497, ShapeKind::Count),
     (497, &[0, 65], 497, ShapeKind::Count),
     (503, &[65], 503, ShapeKind::Count),
     (509, &[0, 0, 0, 1], 509, ShapeKind::Order),
+    (513, &[65], 513, ShapeKind::Count),
     (585, &[2], 585, ShapeKind::Count),
+    (588, &[2], 588, ShapeKind::Count),
     (586, &[0, 1, 1, 0, 0], 589, ShapeKind::Order),
+    (591, &[0, 0], 591, ShapeKind::Count),
+    (591, &[0, 65], 591, ShapeKind::Count),
+    (597, &[65], 597, ShapeKind::Count),
+    (603, &[0, 0, 0, 1], 603, ShapeKind::Order),
+    (607, &[65], 607, ShapeKind::Count),
+    (679, &[2], 679, ShapeKind::Count),
+    (682, &[2], 682, ShapeKind::Count),
+    (680, &[0, 2, 1, 0, 1], 683, ShapeKind::Order),
+    (685, &[0, 0], 685, ShapeKind::Count),
+    (685, &[0, 65], 685, ShapeKind::Count),
+    (691, &[65], 691, ShapeKind::Count),
+    (697, &[0, 0, 0, 2], 697, ShapeKind::Order),
+    (701, &[65], 701, ShapeKind::Count),
+    (739, &[2], 739, ShapeKind::Count),
+    (742, &[2], 742, ShapeKind::Count),
+    (740, &[0, 1, 0, 0, 0], 743, ShapeKind::Order),
     (745, &[3, 233], 745, ShapeKind::Count),
 ];
 
@@ -200,7 +226,7 @@ fn faults(
 fn each_field_has_its_faults(rt: HostRuntime) -> Result<(), Fail> {
     faults(&rt, rt.alloc(), &tnra(rt.alloc())?, &BEGUN)?;
     faults(&rt, rt.alloc(), &tnra(rt.alloc())?, &TNRA)?;
-    faults(&rt, rt.alloc(), &tra(rt.alloc())?, &BEGUN[5..])?;
+    faults(&rt, rt.alloc(), &tra(rt.alloc())?, &BEGUN)?;
     faults(&rt, rt.alloc(), &tra(rt.alloc())?, &TRA)
 }
 

@@ -13,12 +13,14 @@ use Rattle.ats_tree.specs.Shown.{positions_of}
 use Rattle.ats_lists.specs.declared.entry.Entry.{Entry}
 use Rattle.ats_lists.specs.Leaf.{leaf_bytes}
 use Rattle.ats_dict.specs.Entry.{dict_leaf_bytes}
+use Rattle.ats_doctree.specs.Sentinels as terms
 use Rattle.ats_grammar.specs.Table.{number}
 use Rattle.ats_proof.specs.Parts.{number_in, parts_in, total_size}
-use Rattle.ats_proof.specs.Reading.{term_length_in, leaf_size, entry_size, entry_in, id_in, posting_in, posting_size}
-use Rattle.ats_proof.specs.Runs.{leaf_in, leaves_in, shown_entry, shown_list, named, AreNamed}
+use Rattle.ats_proof.specs.Reading.{term_length_in, leaf_size, entry_size, entry_in, term_size, term_in, id_in, posting_in, posting_size}
+use Rattle.ats_proof.specs.Runs.{leaf_in, leaves_in, shown_entry, shown_term, shown_list, named, AreNamed}
 use Rattle.ats_proof.proofs.Numbers.{AreBytes}
 use Rattle.ats_proof.proofs.Taking.{part_at, parts_more}
+use Rattle.ats_proof.proofs.Cutting.{behind_term}
 use Rattle.ats_proof.proofs.Runs.{length-parts}
 
 number_2 : (bs : List ℕ) → length bs ≡ 2 → number bs ≡ from_be_bytes w16 bs
@@ -83,23 +85,35 @@ head_byte : (bytes : List ℕ) → 1 ≤ length bytes → take 1 bytes ≡ numbe
 head_byte [] some = absurd (omega (arith, some))
 head_byte (b ∷ bs) some = let e : b ≡ b * 1 + 0 = omega arith in ap (λ (n : ℕ). n ∷ []) e
 
+-- the length and the term
+front_bytes : (bytes : List ℕ) → 5 + term_length_in bytes ≤ length bytes
+    → take (1 + term_length_in bytes) (drop 4 bytes) ≡ length (take (term_length_in bytes) (drop 5 bytes)) ∷ take (term_length_in bytes) (drop 5 bytes)
+front_bytes bytes room =
+    let l = term_length_in bytes in
+    let term = take l (drop 5 bytes) in
+    let size : length term ≡ l = length-take-le l (drop 5 bytes) (omega (arith, room, length-drop 5 bytes)) in
+    take-add 1 l (drop 4 bytes) ∙ ap₂ (λ (xs ys : List ℕ). xs ++ take l ys) (head_byte (drop 4 bytes) (omega (arith, room, length-drop 4 bytes))) (drop-drop 1 4 bytes)
+    ∙ ap (λ (n : ℕ). n ∷ term) (sym size)
+
+-- the length, the term, and the bytes behind it
+leaf_parts : (behind : ℕ) (bytes : List ℕ) → 5 + term_length_in bytes ≤ length bytes
+    → take (1 + term_length_in bytes + behind) (drop 4 bytes)
+    ≡ (length (take (term_length_in bytes) (drop 5 bytes)) ∷ take (term_length_in bytes) (drop 5 bytes)) ++ take behind (drop (5 + term_length_in bytes) bytes)
+leaf_parts behind bytes room =
+    take-add (1 + term_length_in bytes) behind (drop 4 bytes)
+    ∙ ap₂ (λ (xs ys : List ℕ). xs ++ take behind ys) (front_bytes bytes room) (behind_term bytes)
+
 pub entry_bytes : (bytes : List ℕ) → entry_size bytes ≤ length bytes → AreBytes bytes → leaf_in 36 bytes ≡ shown_entry (entry_in bytes)
 unfolding dict_leaf_bytes
 entry_bytes bytes room small =
     let l = term_length_in bytes in
-    let leaf = drop 4 bytes in
     let term = take l (drop 5 bytes) in
     let later = drop (5 + l) bytes in
-    let size : length term ≡ l = length-take-le l (drop 5 bytes) (omega (arith, room, length-drop 5 bytes)) in
-    let front : take (1 + l) leaf ≡ length term ∷ term =
-        take-add 1 l leaf ∙ ap₂ (λ (xs ys : List ℕ). xs ++ take l ys) (head_byte leaf (omega (arith, room, length-drop 4 bytes))) (drop-drop 1 4 bytes)
-        ∙ ap (λ (n : ℕ). n ∷ term) (sym size) in
-    let seam : drop (1 + l) leaf ≡ later = let e : 4 + (1 + l) ≡ 5 + l = omega arith in drop-drop (1 + l) 4 bytes ∙ ap (λ (n : ℕ). drop n bytes) e in
     let f : take 4 later ≡ to_be_bytes w32 (number_in 4 later) = sym (be_4 later (omega (arith, room, length-drop (5 + l) bytes)) (small-drop (5 + l) bytes small)) in
     let back : take 36 later ≡ to_be_bytes w32 (number_in 4 later) ++ take 32 (drop (5 + l + 4) bytes) =
         take-add 4 32 later ∙ ap₂ (λ (xs ys : List ℕ). xs ++ take 32 ys) f (drop-drop 4 (5 + l) bytes) in
-    let whole : take (1 + l + 36) leaf ≡ (length term ∷ term) ++ (to_be_bytes w32 (number_in 4 later) ++ take 32 (drop (5 + l + 4) bytes)) =
-        take-add (1 + l) 36 leaf ∙ ap₂ (λ (xs ys : List ℕ). xs ++ take 36 ys) front seam ∙ ap (λ (xs : List ℕ). (length term ∷ term) ++ xs) back in
+    let whole : take (1 + l + 36) (drop 4 bytes) ≡ (length term ∷ term) ++ (to_be_bytes w32 (number_in 4 later) ++ take 32 (drop (5 + l + 4) bytes)) =
+        leaf_parts 36 bytes (omega (arith, room)) ∙ ap (λ (xs : List ℕ). (length term ∷ term) ++ xs) back in
     ap (λ (xs : List ℕ). (number_in 4 bytes, xs)) (whole ∙ sym (append_assoc (length term ∷ term) (to_be_bytes w32 (number_in 4 later)) (take 32 (drop (5 + l + 4) bytes))))
 
 pub entries_bytes : (n : ℕ) (bytes : List ℕ) → total_size entry_size n bytes ≤ length bytes → AreBytes bytes → leaves_in 36 n bytes ≡ map shown_entry (parts_in entry_size entry_in n bytes)
@@ -107,6 +121,23 @@ entries_bytes zero bytes fits small = refl
 entries_bytes (suc n) bytes fits small =
     ap₂ (λ x xs. x ∷ xs) (entry_bytes bytes (omega (arith, fits)) small)
     (entries_bytes n (drop (entry_size bytes) bytes) (omega (arith, fits, length-drop (entry_size bytes) bytes)) (small-drop (entry_size bytes) bytes small))
+
+-- ---- leaves of a document's terms
+
+term_bytes : (bytes : List ℕ) → term_size bytes ≤ length bytes → AreBytes bytes → leaf_in 2 bytes ≡ shown_term (term_in bytes)
+unfolding terms.leaf_bytes
+term_bytes bytes room small =
+    let l = term_length_in bytes in
+    let later = drop (5 + l) bytes in
+    let impact = be_2 later (omega (arith, room, length-drop (5 + l) bytes)) (small-drop (5 + l) bytes small) in
+    ap (λ (xs : List ℕ). (number_in 4 bytes, xs))
+    (leaf_parts 2 bytes (omega (arith, room)) ∙ ap (λ (xs : List ℕ). (length (take l (drop 5 bytes)) ∷ take l (drop 5 bytes)) ++ xs) (sym impact))
+
+pub terms_bytes : (n : ℕ) (bytes : List ℕ) → total_size term_size n bytes ≤ length bytes → AreBytes bytes → leaves_in 2 n bytes ≡ map shown_term (parts_in term_size term_in n bytes)
+terms_bytes zero bytes fits small = refl
+terms_bytes (suc n) bytes fits small =
+    ap₂ (λ x xs. x ∷ xs) (term_bytes bytes (omega (arith, fits)) small)
+    (terms_bytes n (drop (term_size bytes) bytes) (omega (arith, fits, length-drop (term_size bytes) bytes)) (small-drop (term_size bytes) bytes small))
 
 -- ---- the first of some entries that are left
 

@@ -24,8 +24,15 @@ doc_leaves_of view = parts_in doc_size doc_in view.left view.leaves.now
 abbrev pub sections_of : DocsView → List TermsSection
 sections_of view = parts_in (section_size view.present) (section_in view.present) view.left view.sections.now
 
+-- of the whole documents section, however many documents were passed
+abbrev pub whole_leaves_of : DocsView → List Shown
+whole_leaves_of view = docs_leaves_of view.whole
+
+abbrev pub whole_digests_of : DocsView → List (List ℕ)
+whole_digests_of view = digests_of view.whole.digests
+
 abbrev pub documents_of : DocsView → Documents
-documents_of view = record { leaves = doc_leaves_of view; digests = digests_of view.whole.digests; sections = sections_of view }
+documents_of view = record { leaves = doc_leaves_of view; digests = whole_digests_of view; sections = sections_of view }
 
 abbrev pub section_of : DocView → TermsSection
 section_of view = record {

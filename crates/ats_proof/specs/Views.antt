@@ -1,5 +1,5 @@
 -- What the view of a whole proof says.
-use Rattle.std.specs.Prelude.{◌≡◌, ℕ, Bool, true, false}
+use Rattle.std.specs.Prelude.{◌≡◌, ℕ, Bool, true, false, List}
 use Rattle.ats_records.specs.declared.record.Algorithm.{Algorithm}
 use Rattle.ats_records.specs.declared.record.Algorithm.TheVariants.{Tra, Tnra}
 use Rattle.ats_proof.specs.declared.view.ProofView.{ProofView}
@@ -9,3 +9,7 @@ use Rattle.ats_proof.specs.Reading.{proof_in}
 -- the proof that a view says
 abbrev pub proof_of : ProofView → Proof
 proof_of view = proof_in view.bytes.now
+
+-- the bytes that it lends from
+abbrev pub bytes_of : ProofView → List ℕ
+bytes_of view = view.bytes.now

@@ -1,11 +1,11 @@
 //! The met documents with what is shown of their terms.
 
-ghost use Rattle.std.specs.Prelude.{◌≡◌, ◌≤◌, ◌<◌, ◌+◌, ◌*◌, ◌^◌, length, drop, slice_get, option_map, Some};
+ghost use Rattle.std.specs.Prelude.{◌≡◌, ◌≤◌, ◌<◌, ◌+◌, ◌*◌, ◌^◌, length, map, drop, slice_get, option_map, Some};
 ghost use Rattle.ats_proof.specs.Parts.{parts_in, total_size};
 ghost use Rattle.ats_proof.specs.Reading.{section_size, section_in};
 ghost use Rattle.ats_proof.specs.Runs.{sections_rise};
 
-use crate::bytes::{digest, number_2, number_4};
+use crate::bytes::{are_bytes, digest, number_2, number_4};
 use crate::digests::counted_digests_2;
 use crate::docs_cursor::DocsCursor;
 use crate::leaves::LeafRun;
@@ -45,13 +45,13 @@ pub struct DocView<'a> {
 }
 
 impl<'a> DocsView<'a> {
-    ghost use Rattle.ats_proof.specs.SeenDocs.{ids_of, doc_leaves_of, sections_of, section_of, leaf_of, doc_of, docs_leaves_of};
+    ghost use Rattle.ats_proof.specs.SeenDocs.{ids_of, doc_leaves_of, sections_of, section_of, leaf_of, doc_of, docs_leaves_of, whole_leaves_of, whole_digests_of};
     ghost use Rattle.ats_proof.specs.Seen.{digests_of};
 
     /// The documents section. It is whole, however many documents were passed.
     pub fn revealed(&self, _proof: &ProofView<'a>) -> DocsCursor<'a>
-        ensures shown { docs_leaves_of result ≡ docs_leaves_of self.now.whole }
-        ensures digests { digests_of result.digests ≡ digests_of self.now.whole.digests }
+        ensures shown { docs_leaves_of result ≡ whole_leaves_of self.now }
+        ensures digests { digests_of result.digests ≡ whole_digests_of self.now }
     {
         self.whole
     }
@@ -90,7 +90,8 @@ impl<'a> DocsView<'a> {
         ensures passed_ids { ids_of self.new ≡ drop 1 (ids_of self.old) }
         ensures passed_leaves { doc_leaves_of self.new ≡ drop 1 (doc_leaves_of self.old) }
         ensures passed_sections { sections_of self.new ≡ drop 1 (sections_of self.old) }
-        ensures whole { docs_leaves_of self.new.whole ≡ docs_leaves_of self.old.whole }
+        ensures whole_leaves { whole_leaves_of self.new ≡ whole_leaves_of self.old }
+        ensures whole_digests { whole_digests_of self.new ≡ whole_digests_of self.old }
         ensures cost { steps.new ≡ steps.old + 1 }
     {
         steps.tick();
@@ -111,8 +112,8 @@ impl<'a> DocsView<'a> {
 }
 
 impl<'a> DocView<'a> {
-    ghost use Rattle.ats_proof.specs.Reading.{slot_size, slot_in};
-    ghost use Rattle.ats_proof.specs.Seen.{digests_of};
+    ghost use Rattle.ats_proof.specs.Runs.{shown_term};
+    ghost use Rattle.ats_proof.specs.Seen.{leaves_of, digests_of};
     ghost use Rattle.ats_proof.specs.SeenDocs.{section_of, leaf_of, doc_of};
     ghost use Rattle.ats_proof.specs.SeenTerms.{terms_of};
 
@@ -136,8 +137,10 @@ impl<'a> DocView<'a> {
     /// What is shown of the document's terms.
     pub fn terms(&self) -> TermsView<'a>
         ensures leaves { terms_of result ≡ (section_of self.now).leaves }
+        ensures shown { leaves_of result.leaves ≡ map shown_term (section_of self.now).leaves }
         ensures digests { digests_of result.digests ≡ (section_of self.now).digests }
     {
+        are_bytes(self.terms.leaves.bytes);
         self.terms
     }
 

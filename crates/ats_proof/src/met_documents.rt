@@ -9,7 +9,7 @@ use crate::view::ProofView;
 
 impl<'a> ProofView<'a> {
     ghost use Rattle.ats_proof.specs.Runs.{shown_docs};
-    ghost use Rattle.ats_proof.specs.SeenDocs.{documents_of, docs_leaves_of, ids_of};
+    ghost use Rattle.ats_proof.specs.SeenDocs.{documents_of, whole_leaves_of, ids_of};
     ghost use Rattle.ats_proof.specs.Views.{proof_of};
 
     // The documents of a proof that shows them.
@@ -17,7 +17,7 @@ impl<'a> ProofView<'a> {
         requires { self.now.tra ≡ true }
         ensures documents { (proof_of self.now).docs ≡ Some (documents_of result) }
         ensures met { ids_of result ≡ (proof_of self.now).met }
-        ensures whole { docs_leaves_of result.whole ≡ shown_docs (proof_of self.now).met (documents_of result).leaves }
+        ensures whole { whole_leaves_of result ≡ shown_docs (proof_of self.now).met (documents_of result).leaves }
     {
         let ids = self.bytes.split_at(self.begun.met_at + 4).1;
         let leaves = self.bytes.split_at(self.docs).1;
@@ -44,7 +44,7 @@ impl<'a> ProofView<'a> {
         ensures none { IfNone result ((proof_of self.now).docs ≡ None) }
         ensures documents { IfSome result (λ docs. (proof_of self.now).docs ≡ Some (documents_of docs)) }
         ensures met { IfSome result (λ docs. ids_of docs ≡ (proof_of self.now).met) }
-        ensures whole { IfSome result (λ docs. docs_leaves_of docs.whole ≡ shown_docs (proof_of self.now).met (documents_of docs).leaves) }
+        ensures whole { IfSome result (λ docs. whole_leaves_of docs ≡ shown_docs (proof_of self.now).met (documents_of docs).leaves) }
     {
         if self.tra {
             return Some(self.shown_documents());

@@ -3,7 +3,7 @@
 ghost use Rattle.std.specs.Prelude.{◌≡◌, ◌<◌, ◌≤◌, ◌+◌, ◌*◌, ◌^◌, ℕ, List, length, map, take, drop, slice_get, Some};
 ghost use Rattle.ats_grammar.specs.Table.{number};
 ghost use Rattle.ats_proof.specs.Parts.{parts_in};
-ghost use Rattle.ats_proof.specs.Reading.{slot_size, slot_in};
+ghost use Rattle.ats_proof.specs.Reading.{slot_size, slot_in, met_place};
 ghost use Rattle.ats_proof.specs.Told.{IsPlaced};
 
 use crate::bytes::{are_bytes, digest, nth, number_1, number_2, number_4};
@@ -31,7 +31,7 @@ pub struct ProofView<'a> {
 impl<'a> ProofView<'a> {
     ghost use Rattle.std.specs.Prelude.{None, true, false};
     ghost use Rattle.ats_proof.specs.Value.{algorithm_of, items_of, present_in};
-    ghost use Rattle.ats_proof.specs.Views.{proof_of};
+    ghost use Rattle.ats_proof.specs.Views.{proof_of, bytes_of};
     ghost use Rattle.ats_proof.specs.Runs.{shown_entry};
     ghost use Rattle.ats_proof.specs.Seen.{entries_of, digests_of, leaves_of};
     ghost use Rattle.ats_proof.specs.SeenLists.{lists_of};
@@ -90,7 +90,7 @@ impl<'a> ProofView<'a> {
         requires room { steps.old + 1 < 2 ^ 64 }
         ensures id { slice_get (proof_of self.now).met i ≡ Some (number result.now) }
         ensures size { length result.now ≡ 4 }
-        ensures lent { (place : ℕ) × (result.now ≡ take 4 (drop place self.now.bytes.now)) }
+        ensures lent { result.now ≡ take 4 (drop (met_place (bytes_of self.now) + 4 + 4 * i) (bytes_of self.now)) }
         ensures cost { steps.new ≡ steps.old + 1 }
     {
         steps.tick();

@@ -31,4 +31,5 @@ returns-clause-id c =
 pub returns-clause-lent : goal.returns-clause-lent
 returns-clause-lent c =
     let view = c.args.self.now in
-    (view.begun.met_at + 4 + 4 * c.args.i, rw (c.split_at-2.ensures.front, c.nth.ensures.part, c.split_at.ensures.back) (ap (take 4) (drop-drop (4 * c.args.i) (view.begun.met_at + 4) view.bytes.now)))
+    rw (c.split_at-2.ensures.front, c.nth.ensures.part, c.split_at.ensures.back)
+    (ap (take 4) (drop-drop (4 * c.args.i) (view.begun.met_at + 4) view.bytes.now) ∙ ap (λ (n : ℕ). take 4 (drop (n + 4 + 4 * c.args.i) view.bytes.now)) view.placed.first.met_at)
