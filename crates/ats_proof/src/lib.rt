@@ -4,17 +4,21 @@
 //! of others; then it passes from section to section, for their places and the number of items. It takes
 //! no memory. `specs/Value.antt` says what a proof says and which fields spell it.
 //! The crate stands on that grammar, on the records of `ats_records`, and on the leaves and headers of the
-//! rooms below. It promises that a view says the proof that its bytes spell, and that every slice that the
-//! views and cursors lend is the named part of these bytes; each of their counted calls is one step.
+//! rooms below. It promises that bytes spell one proof at most and are read exactly where they spell one,
+//! that a view says that proof, and that every slice that the views and cursors lend is the named part of
+//! the bytes; each of their counted calls is one step.
 //! What a view keeps may change without asking; what it says may not.
 #![tactic(auto)]
 
 pub use ats_grammar::{ShapeFault, ShapeKind};
-pub use ats_records::{Algorithm, Slot, TermLeaf};
+pub use ats_records::{Algorithm, ProofWriter, Slot, TermLeaf};
 pub use cursor::ListCursor;
 pub use dict::DictView;
 pub use docs::{DocView, DocsView};
 pub use docs_cursor::DocsCursor;
+pub use laws::{
+    bytes_say_one_proof, further_bytes_are_trailing, proofs_have_one_spelling, spellings_say_proofs,
+};
 pub use lists::{ListView, ListsView};
 pub use terms::TermsView;
 pub use view::ProofView;
@@ -25,6 +29,7 @@ mod dict;
 mod digests;
 mod docs;
 mod docs_cursor;
+mod laws;
 mod leaves;
 mod lists;
 mod met_documents;

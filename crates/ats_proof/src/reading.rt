@@ -1,6 +1,6 @@
 //! Reading a whole proof.
 
-ghost use Rattle.std.specs.Prelude.{◌≡◌, ◌≤◌, ℕ, List, length, Ok, Err, OnOk, IfOk, IfErr};
+ghost use Rattle.std.specs.Prelude.{◌≡◌, Err, IsOkAnd, IfOk, IfErr};
 ghost use Rattle.ats_grammar.specs.declared.fault.ShapeFault.{ShapeFault};
 ghost use Rattle.ats_grammar.specs.Front.{IsBad, IsSpelling};
 
@@ -46,6 +46,7 @@ impl<'a> ProofView<'a> {
     /// Reads the bytes of a proof from left to right, and tells the first fault where they spell none.
     pub fn read(bytes: &'a [u8]) -> Result<ProofView<'a>, ShapeFault>
         ensures spelled { IfOk result (λ view. IsProof bytes.now (proof_of view)) }
+        ensures accepted { (proof : Proof) → IsProof bytes.now proof → IsOkAnd result (λ view. proof_of view ≡ proof) }
         ensures refused { IfErr result (λ fault. IsBad bytes.now fault) }
         ensures exact { (fault : ShapeFault) → IsBad bytes.now fault → result ≡ Err fault }
     {
