@@ -1,90 +1,17 @@
+ghost use Rattle.std.specs.Prelude.{◌≤◌, ◌<◌, ◌+◌, ◌^◌};
+
 use super::*;
 use ats_hash::Steps;
+use ats_lists::Entry;
 use ats_tree::Revealed;
+use examples::{tnra, tra};
 use std::alloc::{AllocError, Global};
 use std::process::Abort;
 use std::test::*;
 
-fn put_leaf(out: &mut Vec<u8>, position: u8, term: &[u8], f: u8) -> Result<(), AllocError> {
-    out.extend_from_slice(&[0, 0, 0, position, 3])?;
-    out.extend_from_slice(term)?;
-    out.extend_from_slice(&[0, 0, 0, f])?;
-    out.extend_from_slice(&[7; 32])
-}
-
-// The front, the header, the dictionary section, the slots and the met ids for "red hen" over
-// ["red fox", "red red hen", "blue hen"], with any digests.
-fn begun(alloc: Global, algorithm: u8) -> Result<Vec<u8>, AllocError> {
-    let mut out = Vec::new(alloc);
-    out.extend_from_slice(b"ATSP\x01")?;
-    out.extend_from_slice(&[algorithm, 1, 0, 0, 0, 3, 0, 0, 0, 6])?;
-    out.extend_from_slice(&[7; 96])?;
-    out.extend_from_slice(&[0, 2, 0, 2])?;
-    put_leaf(&mut out, 3, b"hen", 2)?;
-    put_leaf(&mut out, 4, b"red", 2)?;
-    out.extend_from_slice(&[0, 3])?;
-    out.extend_from_slice(&[7; 96])?;
-    out.extend_from_slice(&[1, 0, 0, 1, 0, 1])?;
-    out.extend_from_slice(&[0, 0, 0, 3, 0, 0, 0, 0, 0, 0, 0, 1, 0, 0, 0, 2])?;
-    Ok(out)
-}
-
-// Two entries each, and the row of document 1.
-fn tnra(alloc: Global) -> Result<Vec<u8>, AllocError> {
-    let mut out = begun(alloc, 2)?;
-    out.extend_from_slice(&[0, 0, 0, 2, 0, 0, 0, 2, 4, 39, 0, 0, 0, 1, 3, 128, 0, 0])?;
-    out.extend_from_slice(&[0, 0, 0, 2, 0, 0, 0, 1, 4, 249, 0, 0, 0, 0, 4, 39, 0, 0])?;
-    out.extend_from_slice(&[0, 1, 0, 0, 0, 1])?;
-    Ok(out)
-}
-
-fn put_terms(
-    out: &mut Vec<u8>,
-    leaves: &[u8],
-    digests: &[u8],
-    slots: &[u8],
-) -> Result<(), AllocError> {
-    out.extend_from_slice(&[0, 2])?;
-    out.extend_from_slice(leaves)?;
-    out.extend_from_slice(digests)?;
-    out.extend_from_slice(slots)
-}
-
-// One entry and one digest for hen, two entries for red, the documents and their terms.
-fn tra(alloc: Global) -> Result<Vec<u8>, AllocError> {
-    let mut out = begun(alloc, 1)?;
-    let mut two = [7; 66];
-    two[0] = 0;
-    two[1] = 2;
-    let mut one = [7; 34];
-    one[0] = 0;
-    one[1] = 1;
-    out.extend_from_slice(&[0, 0, 0, 1, 0, 0, 0, 2, 4, 39])?;
-    out.extend_from_slice(&one)?;
-    out.extend_from_slice(&[0, 0, 0, 2, 0, 0, 0, 1, 4, 249, 0, 0, 0, 0, 4, 39, 0, 0])?;
-    out.extend_from_slice(&[7; 108])?;
-    out.extend_from_slice(&[0, 0, 0, 0])?;
-    put_terms(
-        &mut out,
-        b"\x00\x00\x00\x01\x03fox\x03\x84\x00\x00\x00\x02\x03red\x04\x27",
-        &two,
-        &[0, 0, 0, 1, 0, 1],
-    )?;
-    put_terms(
-        &mut out,
-        b"\x00\x00\x00\x01\x03hen\x03\x80\x00\x00\x00\x02\x03red\x04\xf9",
-        &two,
-        &[1, 0, 0, 1, 0, 1],
-    )?;
-    put_terms(
-        &mut out,
-        b"\x00\x00\x00\x02\x03hen\x04\x27\x00\x00\x00\x03\x01\xff\x00\x00",
-        &one,
-        &[1, 0, 0, 0, 0, 0],
-    )?;
-    out.extend_from_slice(&[0, 1, 0, 0, 0, 1])?;
-    Ok(out)
-}
+mod examples;
+mod passing;
+mod written;
 
 fn fault_of(bytes: &[u8]) -> Option<ShapeFault> {
     match ProofView::read(bytes) {
@@ -115,23 +42,8 @@ fn begins(rt: &impl Abort, alloc: Global, view: &ProofView<'_>) {
     assert_eq!(rt; steps.count(), 5);
 }
 
-#[test]
-fn the_shorter_proof_is_read_back(rt: HostRuntime) -> Result<(), Fail> {
-    let bytes = tnra(rt.alloc())?;
-    assert_eq!(rt; bytes.len(), 365);
-    let view = ProofView::read(&bytes).map_err(|_| "it is a proof")?;
-    begins(&rt, rt.alloc(), &view);
-    assert_eq!(rt; view.algorithm(), Algorithm::Tnra);
-    assert_eq!(rt; view.items(), 15);
-    assert!(rt; view.docs().is_none());
-    Ok(())
-}
-
-#[test]
-fn the_dictionary_section_is_read_back(rt: HostRuntime) -> Result<(), Fail> {
-    let bytes = tnra(rt.alloc())?;
-    let view = ProofView::read(&bytes).map_err(|_| "it is a proof")?;
-    let mut steps = Steps::new(rt.alloc());
+fn has_dictionary(rt: &impl Abort, alloc: Global, view: &ProofView<'_>) -> Result<(), Fail> {
+    let mut steps = Steps::new(alloc);
     let mut dict = view.dict();
     let leaf = dict.leaf().ok_or("hen is shown")?;
     assert_eq!(rt; dict.position(), Some(3));
@@ -142,22 +54,37 @@ fn the_dictionary_section_is_read_back(rt: HostRuntime) -> Result<(), Fail> {
     Ok(())
 }
 
-#[test]
-fn the_prefixes_are_read_back(rt: HostRuntime) -> Result<(), Fail> {
-    let bytes = tnra(rt.alloc())?;
-    let view = ProofView::read(&bytes).map_err(|_| "it is a proof")?;
-    let mut steps = Steps::new(rt.alloc());
+fn has_prefixes(rt: &impl Abort, alloc: Global, view: &ProofView<'_>) -> Result<(), Fail> {
+    let mut steps = Steps::new(alloc);
     let mut lists = view.lists();
     let hen = lists.next(&mut steps).ok_or("hen has a prefix")?;
     assert_eq!(rt; hen.len(), 2);
-    assert_eq!(rt; hen.entry(0, &mut steps).doc, 2);
-    assert_eq!(rt; hen.entry(1, &mut steps).impact, 896);
+    assert_eq!(rt; hen.entry(0, &mut steps), Entry { doc: 2, impact: 1063 });
+    assert_eq!(rt; hen.entry(1, &mut steps), Entry { doc: 1, impact: 896 });
     let red = lists.next(&mut steps).ok_or("red has a prefix")?;
     assert_eq!(rt; red.len(), 2);
-    assert_eq!(rt; red.entry(0, &mut steps).impact, 1273);
+    assert_eq!(rt; red.entry(0, &mut steps), Entry { doc: 1, impact: 1273 });
+    assert_eq!(rt; red.entry(1, &mut steps), Entry { doc: 0, impact: 1063 });
     assert!(rt; lists.next(&mut steps).is_none());
-    assert_eq!(rt; steps.count(), 6);
+    assert_eq!(rt; steps.count(), 7);
     Ok(())
+}
+
+fn is_the_shorter_proof(rt: &impl Abort, alloc: Global, view: &ProofView<'_>) -> Result<(), Fail> {
+    begins(rt, alloc, view);
+    assert_eq!(rt; view.algorithm(), Algorithm::Tnra);
+    assert_eq!(rt; view.items(), 15);
+    assert!(rt; view.docs().is_none());
+    has_dictionary(rt, alloc, view)?;
+    has_prefixes(rt, alloc, view)
+}
+
+#[test]
+fn the_shorter_proof_is_read_back(rt: HostRuntime) -> Result<(), Fail> {
+    let bytes = tnra(rt.alloc())?;
+    assert_eq!(rt; bytes.len(), 365);
+    let view = ProofView::read(&bytes).map_err(|_| "it is a proof")?;
+    is_the_shorter_proof(&rt, rt.alloc(), &view)
 }
 
 #[test]
@@ -185,15 +112,73 @@ fn the_longer_proof_is_read_back(rt: HostRuntime) -> Result<(), Fail> {
     Ok(())
 }
 
+// Both slots of a document, where two terms are present.
+fn slots_of(doc: &DocView<'_>, steps: &mut Steps) -> Option<(Slot, Slot)>
+    requires { steps.old + 2 < 2 ^ 64 }
+    ensures { steps.new ≤ steps.old + 2 }
+{
+    if doc.present != 2 {
+        return None;
+    }
+    let first = doc.slot(0, steps);
+    let second = doc.slot(1, steps);
+    Some((first, second))
+}
+
 #[test]
-fn three_faults(rt: HostRuntime) -> Result<(), Fail> {
+fn slots_of_a_document(rt: HostRuntime) -> Result<(), Fail> {
+    let bytes = tra(rt.alloc())?;
+    let view = ProofView::read(&bytes).map_err(|_| "it is a proof")?;
+    let mut steps = Steps::new(rt.alloc());
+    let mut docs = view.docs().ok_or("documents are shown")?;
+    let doc = docs.next(&mut steps).ok_or("document 0 is met")?;
+    assert_eq!(rt; slots_of(&doc, &mut steps), Some((slot(false, 0), slot(true, 1))));
+    let doc = docs.next(&mut steps).ok_or("document 1 is met")?;
+    assert_eq!(rt; slots_of(&doc, &mut steps), Some((slot(true, 0), slot(true, 1))));
+    let doc = docs.next(&mut steps).ok_or("document 2 is met")?;
+    assert_eq!(rt; slots_of(&doc, &mut steps), Some((slot(true, 0), slot(false, 0))));
+    assert_eq!(rt; steps.count(), 9);
+    Ok(())
+}
+
+// The bytes of the shorter proof with another byte at a place.
+fn changed(alloc: Global, at: usize, byte: u8) -> Result<Vec<u8>, AllocError> {
+    let mut bytes = tnra(alloc)?;
+    if let Some(place) = bytes.get_mut(at) {
+        *place = byte;
+    }
+    Ok(bytes)
+}
+
+fn fault(at: u64, kind: ShapeKind) -> Option<ShapeFault> {
+    Some(ShapeFault { at, kind })
+}
+
+#[test]
+fn faults_of_the_shorter_proof(rt: HostRuntime) -> Result<(), Fail> {
     let mut bytes = tnra(rt.alloc())?;
+    assert_eq!(rt; fault_of(&bytes), None);
     let cut = bytes.get(..364).ok_or("the proof is as long")?;
-    let kind = ShapeKind::Cut;
-    assert_eq!(rt; fault_of(cut), Some(ShapeFault { at: 361, kind }));
-    assert_eq!(rt; fault_of(&[]), Some(ShapeFault { at: 0, kind }));
+    assert_eq!(rt; fault_of(cut), fault(361, ShapeKind::Cut));
+    assert_eq!(rt; fault_of(&[]), fault(0, ShapeKind::Cut));
     bytes.push(0)?;
-    let kind = ShapeKind::Trailing;
-    assert_eq!(rt; fault_of(&bytes), Some(ShapeFault { at: 365, kind }));
+    assert_eq!(rt; fault_of(&bytes), fault(365, ShapeKind::Trailing));
+    let other = changed(rt.alloc(), 4, 2)?;
+    assert_eq!(rt; fault_of(&other), fault(4, ShapeKind::Version));
+    let other = changed(rt.alloc(), 5, 3)?;
+    assert_eq!(rt; fault_of(&other), fault(5, ShapeKind::Algorithm));
+    Ok(())
+}
+
+fn crosses_threads<T: Send + Sync>(_value: &T) {}
+
+#[test]
+fn views_cross_threads(rt: HostRuntime) -> Result<(), Fail> {
+    let bytes = tra(rt.alloc())?;
+    let view = ProofView::read(&bytes).map_err(|_| "it is a proof")?;
+    crosses_threads(&view);
+    crosses_threads(&view.dict());
+    crosses_threads(&view.lists());
+    crosses_threads(&view.docs());
     Ok(())
 }

@@ -1,0 +1,120 @@
+//! The cursors, leaf by leaf and digest by digest.
+
+ghost use Rattle.std.specs.Prelude.{◌≤◌, ◌<◌, ◌+◌, ◌^◌};
+
+use super::examples::{tnra, tra};
+use crate::*;
+use ats_hash::Steps;
+use ats_tree::Revealed;
+use std::test::*;
+
+// A leaf that was passed, with the bytes of both its parts.
+#[derive(Clone, Copy, Debug, PartialEq)]
+struct Passed<'a> {
+    position: u32,
+    front: &'a [u8],
+    back: &'a [u8],
+}
+
+// Removes and answers the first leaf left.
+fn pass<'a, R: Revealed<'a>>(revealed: &mut R, steps: &mut Steps) -> Option<Passed<'a>>
+    requires { steps.old + 1 < 2 ^ 64 }
+    ensures { steps.new ≤ steps.old + 1 }
+{
+    let position = revealed.position()?;
+    let front = revealed.leaf_front();
+    let back = revealed.leaf_back();
+    revealed.pass_leaf(steps);
+    Some(Passed {
+        position,
+        front,
+        back,
+    })
+}
+
+#[test]
+fn dictionary_section_is_passed(rt: HostRuntime) -> Result<(), Fail> {
+    let bytes = tnra(rt.alloc())?;
+    let view = ProofView::read(&bytes).map_err(|_| "it is a proof")?;
+    let mut steps = Steps::new(rt.alloc());
+    let mut dict = view.dict();
+    let hen = pass(&mut dict, &mut steps).ok_or("hen is shown")?;
+    assert_eq!(rt; hen.position, 3);
+    assert_eq!(rt; hen.front, b"\x03hen".as_slice());
+    assert_eq!(rt; hen.back.len(), 36);
+    assert!(rt; hen.back.starts_with(&[0, 0, 0, 2, 7]));
+    let leaf = dict.leaf().ok_or("red is shown")?;
+    assert_eq!(rt; leaf.term, b"red".as_slice());
+    assert_eq!(rt; dict.pass_digest(&mut steps), Some([7; 32].as_slice()));
+    let red = pass(&mut dict, &mut steps).ok_or("red is shown")?;
+    assert_eq!(rt; red.position, 4);
+    assert_eq!(rt; red.front, b"\x03red".as_slice());
+    assert!(rt; dict.leaf().is_none());
+    assert_eq!(rt; pass(&mut dict, &mut steps), None);
+    assert_eq!(rt; dict.pass_digest(&mut steps), Some([7; 32].as_slice()));
+    assert_eq!(rt; dict.pass_digest(&mut steps), Some([7; 32].as_slice()));
+    assert_eq!(rt; dict.pass_digest(&mut steps), None);
+    assert_eq!(rt; steps.count(), 6);
+    Ok(())
+}
+
+#[test]
+fn documents_section_is_passed(rt: HostRuntime) -> Result<(), Fail> {
+    let bytes = tra(rt.alloc())?;
+    let view = ProofView::read(&bytes).map_err(|_| "it is a proof")?;
+    let mut steps = Steps::new(rt.alloc());
+    let docs = view.docs().ok_or("documents are shown")?;
+    let mut shown = docs.revealed(&view);
+    let first = pass(&mut shown, &mut steps).ok_or("document 0 is met")?;
+    assert_eq!(rt; first.position, 0);
+    assert_eq!(rt; first.front, [7; 4].as_slice());
+    assert_eq!(rt; first.back, [7; 32].as_slice());
+    let second = pass(&mut shown, &mut steps).ok_or("document 1 is met")?;
+    assert_eq!(rt; second.position, 1);
+    let third = pass(&mut shown, &mut steps).ok_or("document 2 is met")?;
+    assert_eq!(rt; third.position, 2);
+    assert_eq!(rt; pass(&mut shown, &mut steps), None);
+    assert_eq!(rt; shown.pass_digest(&mut steps), None);
+    assert_eq!(rt; steps.count(), 4);
+    Ok(())
+}
+
+// However many documents were passed, the section is whole.
+#[test]
+fn documents_section_stays_whole(rt: HostRuntime) -> Result<(), Fail> {
+    let bytes = tra(rt.alloc())?;
+    let view = ProofView::read(&bytes).map_err(|_| "it is a proof")?;
+    let mut steps = Steps::new(rt.alloc());
+    let mut docs = view.docs().ok_or("documents are shown")?;
+    docs.next(&mut steps).ok_or("document 0 is met")?;
+    docs.next(&mut steps).ok_or("document 1 is met")?;
+    let mut shown = docs.revealed(&view);
+    let first = pass(&mut shown, &mut steps).ok_or("document 0 is met")?;
+    assert_eq!(rt; first.position, 0);
+    Ok(())
+}
+
+#[test]
+fn terms_section_is_passed(rt: HostRuntime) -> Result<(), Fail> {
+    let bytes = tra(rt.alloc())?;
+    let view = ProofView::read(&bytes).map_err(|_| "it is a proof")?;
+    let mut steps = Steps::new(rt.alloc());
+    let mut docs = view.docs().ok_or("documents are shown")?;
+    let doc = docs.next(&mut steps).ok_or("document 0 is met")?;
+    let mut terms = doc.terms();
+    let fox = pass(&mut terms, &mut steps).ok_or("fox is shown")?;
+    assert_eq!(rt; fox.position, 1);
+    assert_eq!(rt; fox.front, b"\x03fox".as_slice());
+    assert_eq!(rt; fox.back, [3, 132].as_slice());
+    let leaf = terms.leaf().ok_or("red is shown")?;
+    assert_eq!(rt; leaf.term, b"red".as_slice());
+    assert_eq!(rt; leaf.impact, 1063);
+    assert_eq!(rt; terms.pass_digest(&mut steps), Some([7; 32].as_slice()));
+    assert_eq!(rt; terms.pass_digest(&mut steps), Some([7; 32].as_slice()));
+    assert_eq!(rt; terms.pass_digest(&mut steps), None);
+    let red = pass(&mut terms, &mut steps).ok_or("red is shown")?;
+    assert_eq!(rt; red.position, 2);
+    assert!(rt; terms.leaf().is_none());
+    assert_eq!(rt; steps.count(), 6);
+    Ok(())
+}
