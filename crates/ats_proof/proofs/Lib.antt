@@ -8,3 +8,5 @@ pub mod Sections
 pub mod Cutting
 pub mod Items
 pub mod Whole
+pub mod Answering
+pub mod Encoding

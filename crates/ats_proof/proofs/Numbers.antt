@@ -4,6 +4,7 @@ use Rattle.std.proofs.Math.Nat.{mod-lt, mul-le-mul_right, pow-succ'}
 use Rattle.std.proofs.lemmas.Nat.{div-add-mod', div-mul-add, mod-mul-add}
 use Rattle.ats_grammar.specs.Table.{number}
 use Rattle.ats_proof.specs.Parts.{spelled}
+pub use Rattle.ats_proof.specs.Parts.{AreBytes}
 
 pub length-spelled : (k n : ℕ) → length (spelled k n) ≡ k
 length-spelled zero n = refl
@@ -24,10 +25,6 @@ pub number-spelled : (k n : ℕ) → number (spelled (suc k) n) ≡ n
 number-spelled k n =
     let rest : number (spelled k (n % 256 ^ k)) ≡ n % 256 ^ k = small_number k (n % 256 ^ k) (mod-lt n (power_some k)) in
     ap₂ (λ (a b : ℕ). n / 256 ^ k * 256 ^ a + b) (length-spelled k (n % 256 ^ k)) rest ∙ div-add-mod' n (256 ^ k)
-
--- each is a byte
-abbrev pub AreBytes : List ℕ → Type 0
-AreBytes bytes = (i : ℕ) → get_or bytes i 0 < 256
 
 number-below : (bytes : List ℕ) → AreBytes bytes → number bytes < 256 ^ length bytes
 number-below [] small = omega arith

@@ -6,3 +6,4 @@ pub mod Seen
 pub mod SeenLists
 pub mod Told
 pub mod Views
+pub mod SeenCursor

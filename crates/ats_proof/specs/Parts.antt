@@ -1,5 +1,5 @@
 -- Numbers as bytes, and like parts that stand one after another in bytes.
-use Rattle.std.specs.Prelude.{ℕ, zero, suc, ◌+◌, ◌/◌, ◌%◌, ◌^◌, List, [], ◌∷◌, length, take, drop}
+use Rattle.std.specs.Prelude.{◌<◌, get_or, ℕ, zero, suc, ◌+◌, ◌/◌, ◌%◌, ◌^◌, List, [], ◌∷◌, length, take, drop}
 use Rattle.std.specs.List.{flat_map}
 use Rattle.ats_grammar.specs.Table.{number}
 
@@ -32,3 +32,7 @@ counted_size width size bytes = width + total_size size (number_in width bytes) 
 -- the fields of parts behind their number
 abbrev pub counted : {X : Type 0} → ℕ → (X → List (List ℕ)) → List X → List (List ℕ)
 counted width spell xs = spelled width (length xs) ∷ flat_map spell xs
+
+-- each is a byte
+abbrev pub AreBytes : List ℕ → Type 0
+AreBytes bytes = (i : ℕ) → get_or bytes i 0 < 256

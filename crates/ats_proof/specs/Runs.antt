@@ -12,7 +12,7 @@ use Rattle.ats_doctree.specs.Sentinels as terms
 use Rattle.ats_doctree.specs.declared.doc_leaf.DocLeaf.{DocLeaf}
 use Rattle.ats_proof.specs.Parts.{number_in, parts_in, total_size}
 use Rattle.ats_proof.specs.Value.{ShownEntry, ShownTerm, TermsSection, Prefix}
-use Rattle.ats_proof.specs.Reading.{term_length_in, leaf_size, section_size, section_in}
+use Rattle.ats_proof.specs.Reading.{term_length_in, leaf_size, posting_size, posting_in, section_size, section_in}
 
 -- ---- leaves as they are hashed, with their positions
 
@@ -52,3 +52,7 @@ section_rises section = IsStrictlyIncreasing (map (λ t. t.position) section.lea
 
 abbrev pub sections_rise : ℕ → ℕ → List ℕ → Type 0
 sections_rise present n bytes = All section_rises (parts_in (section_size present) (section_in present) n bytes)
+
+-- each of the next entries names a met document
+abbrev pub AreNamed : ℕ → ℕ → List ℕ → Type 0
+AreNamed met n bytes = All (λ (e : Entry). e.doc < met) (parts_in posting_size posting_in n bytes)

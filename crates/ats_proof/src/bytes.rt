@@ -1,7 +1,7 @@
 //! Numbers and digests at the front of bytes.
 
 ghost use Rattle.std.specs.Prelude.{◌≡◌, ◌≤◌, ◌<◌, ◌*◌, length, take, drop};
-ghost use Rattle.ats_proof.specs.Parts.{number_in};
+ghost use Rattle.ats_proof.specs.Parts.{number_in, AreBytes};
 
 pub(crate) fn number_1(bytes: &[u8]) -> u8
     requires { 1 ≤ length bytes.now }
@@ -44,3 +44,8 @@ pub(crate) fn nth(bytes: &[u8], count: u32, size: usize, i: u32) -> &[u8]
     let (_, part) = bytes.split_at(size * i as usize);
     part
 }
+
+// What a slice of bytes holds.
+pub(crate) fn are_bytes(bytes: &[u8])
+    ensures { AreBytes bytes.now }
+{}

@@ -69,7 +69,8 @@ impl Ended {
         requires met { met ≡ met_in bytes.now }
         requires present { present ≡ present_in (slots_in bytes.now) }
         requires room { answer_place true bytes.now ≤ length bytes.now }
-        ensures { IsEnded bytes.now true result }
+        ensures ended { IsEnded bytes.now true result }
+        ensures few { result.items ≤ 2 ^ 34 }
     {
         let doc_digests = docs + met as usize * 36;
         let digests = bytes.split_at(doc_digests).1;
@@ -90,7 +91,8 @@ impl Ended {
         requires docs { docs ≡ docs_place bytes.now }
         requires met { met ≡ met_in bytes.now }
         requires present { present ≡ present_in (slots_in bytes.now) }
-        ensures { IsEnded bytes.now tra result }
+        ensures ended { IsEnded bytes.now tra result }
+        ensures few { result.items ≤ 2 ^ 34 }
     {
         if tra {
             return Ended::of_tra(bytes, docs, met, present);

@@ -17,7 +17,7 @@ impl<'a> ProofView<'a> {
     // The view of bytes that spell a proof.
     fn of(bytes: &'a [u8]) -> ProofView<'a>
         requires { IsSpelling bytes.now }
-        ensures { result.bytes.now ≡ bytes.now }
+        ensures proof { IsProof bytes.now (proof_of result) }
     {
         let tra = number_1(bytes.split_at(5).1) == 1;
         let begun = Begun::of(bytes);
@@ -49,7 +49,9 @@ impl<'a> ProofView<'a> {
         ensures refused { IfErr result (λ fault. IsBad bytes.now fault) }
         ensures exact { (fault : ShapeFault) → IsBad bytes.now fault → result ≡ Err fault }
     {
-        scan(bytes)?;
-        Ok(ProofView::of(bytes))
+        match scan(bytes) {
+            Ok(()) => Ok(ProofView::of(bytes)),
+            Err(fault) => Err(fault),
+        }
     }
 }

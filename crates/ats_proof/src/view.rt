@@ -1,11 +1,20 @@
 //! A whole proof.
 
-ghost use Rattle.std.specs.Prelude.{◌≡◌, ◌<◌, ◌≤◌, ◌+◌, ◌^◌, ℕ, List, length, take, drop, slice_get, Some, Ok, Err, OnOk, IfOk, IfErr};
-ghost use Rattle.ats_grammar.specs.declared.fault.ShapeFault.{ShapeFault};
-ghost use Rattle.ats_grammar.specs.Front.{IsBad, IsSpelling};
+ghost use Rattle.std.specs.Prelude.{◌≡◌, ◌<◌, ◌≤◌, ◌+◌, ◌*◌, ◌^◌, ℕ, List, length, map, take, drop, slice_get, Some};
+ghost use Rattle.ats_grammar.specs.Table.{number};
+ghost use Rattle.ats_proof.specs.Parts.{parts_in};
+ghost use Rattle.ats_proof.specs.Reading.{slot_size, slot_in};
 ghost use Rattle.ats_proof.specs.Told.{IsPlaced};
 
+use crate::bytes::{are_bytes, digest, nth, number_1, number_2, number_4};
+use crate::dict::DictView;
+use crate::digests::counted_digests_2;
+use crate::leaves::LeafRun;
+use crate::lists::ListsView;
 use crate::places::{Begun, Ended};
+use ats_dict::Header;
+use ats_hash::Steps;
+use ats_records::{Algorithm, Slot};
 
 /// A proof over its bytes, which it lends part by part.
 #[derive(Clone, Copy)]
@@ -17,4 +26,141 @@ pub struct ProofView<'a> {
     pub(crate) ended: Ended,
     pub(crate) items: u64,
     pub ghost placed: { IsPlaced bytes.now tra begun ended docs items },
+}
+
+impl<'a> ProofView<'a> {
+    ghost use Rattle.std.specs.Prelude.{None, true, false};
+    ghost use Rattle.ats_proof.specs.Value.{algorithm_of, items_of, present_in};
+    ghost use Rattle.ats_proof.specs.Views.{proof_of};
+    ghost use Rattle.ats_proof.specs.Runs.{shown_entry};
+    ghost use Rattle.ats_proof.specs.Seen.{entries_of, digests_of, leaves_of};
+    ghost use Rattle.ats_proof.specs.SeenLists.{lists_of};
+
+    /// Which algorithm made the proof.
+    pub fn algorithm(&self) -> Algorithm
+        ensures { result ≡ algorithm_of (proof_of self.now) }
+    {
+        if self.tra {
+            return Algorithm::Tra;
+        }
+        Algorithm::Tnra
+    }
+
+    /// The header of the collection.
+    pub fn header(&self) -> Header
+        ensures { result ≡ (proof_of self.now).header }
+    {
+        Header {
+            documents: number_4(self.bytes.split_at(7).1),
+            dict_leaves: number_4(self.bytes.split_at(11).1),
+            dict_root: digest(self.bytes.split_at(15).1),
+            docs_root: digest(self.bytes.split_at(47).1),
+            texts_root: digest(self.bytes.split_at(79).1),
+        }
+    }
+
+    /// How many terms the query has.
+    pub fn terms(&self) -> u32
+        ensures { result ≡ length (proof_of self.now).slots }
+    {
+        self.begun.terms
+    }
+
+    /// The slot of a query term.
+    pub fn slot(&self, i: u32, steps: &mut Steps) -> Slot
+        requires within { i < length (proof_of self.now).slots }
+        requires room { steps.old + 1 < 2 ^ 64 }
+        ensures slot { slice_get (proof_of self.now).slots i ≡ Some result }
+        ensures cost { steps.new ≡ steps.old + 1 }
+    {
+        steps.tick();
+        slot_at(self.bytes.split_at(self.begun.slots).1, self.begun.terms, i)
+    }
+
+    /// How many documents are met.
+    pub fn met(&self) -> u32
+        ensures { result ≡ length (proof_of self.now).met }
+    {
+        self.begun.met
+    }
+
+    /// The four bytes of the number of a met document.
+    pub fn met_id(&self, i: u32, steps: &mut Steps) -> &'a [u8]
+        requires within { i < length (proof_of self.now).met }
+        requires room { steps.old + 1 < 2 ^ 64 }
+        ensures id { slice_get (proof_of self.now).met i ≡ Some (number result.now) }
+        ensures size { length result.now ≡ 4 }
+        ensures lent { (place : ℕ) × (result.now ≡ take 4 (drop place self.now.bytes.now)) }
+        ensures cost { steps.new ≡ steps.old + 1 }
+    {
+        steps.tick();
+        let ids = self.bytes.split_at(self.begun.met_at + 4).1;
+        nth(ids, self.begun.met, 4, i).split_at(4).0
+    }
+
+    /// How many rows the answer has.
+    pub fn answers(&self) -> u32
+        ensures { result ≡ length (proof_of self.now).answer }
+    {
+        u32::from(number_2(self.bytes.split_at(self.ended.answer).1))
+    }
+
+    /// The met index of a row.
+    pub fn answer(&self, i: u32, steps: &mut Steps) -> u32
+        requires within { i < length (proof_of self.now).answer }
+        requires room { steps.old + 1 < 2 ^ 64 }
+        ensures row { slice_get (proof_of self.now).answer i ≡ Some result }
+        ensures cost { steps.new ≡ steps.old + 1 }
+    {
+        steps.tick();
+        let rows = self.bytes.split_at(self.ended.answer + 2).1;
+        number_4(nth(rows, self.answers(), 4, i))
+    }
+
+    /// The number of digests, leaves, slots, met ids, entries and rows.
+    pub fn items(&self) -> u64
+        ensures { result ≡ items_of (proof_of self.now) }
+    {
+        self.items
+    }
+
+    /// The dictionary section.
+    pub fn dict(&self) -> DictView<'a>
+        ensures entries { entries_of result ≡ (proof_of self.now).dict }
+        ensures shown { leaves_of result.leaves ≡ map shown_entry (proof_of self.now).dict }
+        ensures digests { digests_of result.digests ≡ (proof_of self.now).dict_digests }
+    {
+        are_bytes(self.bytes);
+        let left = u32::from(number_2(self.bytes.split_at(113).1));
+        let (digests, _) = counted_digests_2(self.bytes.split_at(self.begun.dict_digests).1);
+        let leaves = LeafRun {
+            left,
+            behind: 36,
+            bytes: self.bytes.split_at(115).1,
+        };
+        DictView { leaves, digests }
+    }
+
+    /// The prefixes.
+    pub fn lists(&self) -> ListsView<'a>
+        ensures { lists_of result ≡ (proof_of self.now).lists }
+    {
+        ListsView {
+            left: self.begun.present,
+            bytes: self.bytes.split_at(self.begun.lists).1,
+        }
+    }
+}
+
+// One of some slots.
+fn slot_at(bytes: &[u8], count: u32, i: u32) -> Slot
+    requires within { i < count }
+    requires room { count * 3 ≤ length bytes.now }
+    ensures { slice_get (parts_in slot_size slot_in count bytes.now) i ≡ Some result }
+{
+    let slot = nth(bytes, count, 3, i);
+    Slot {
+        present: number_1(slot) == 1,
+        index: number_2(slot.split_at(1).1),
+    }
 }

@@ -88,8 +88,8 @@ overflow_add-result c =
         c.sections_sum-sum.ensures.size ∙ ap₃ (λ p n xs. total_size (section_size p) n xs) c.requires.present met last in
     omega (arith, docs, met, leaves, size, sum_size, c.requires.room, c.requires.few)
 
-pub returns : goal.returns
-returns c =
+pub returns-clause-ended : goal.returns-clause-ended
+returns-clause-ended c =
     let bytes = c.args.bytes.now in
     let docs : c.args.docs ≡ docs_place bytes = c.requires.docs in
     let met : c.args.met ≡ met_in bytes = c.requires.met in
