@@ -20,7 +20,7 @@ AreSpots entries (pair ∷ query) (spot ∷ spots) = IsSpot entries pair.0 spot 
 -- the positions that show a term: its leaf, or both neighbours where it is absent
 abbrev pub needs : Spot → List ℕ
 needs (At p) = p ∷ []
-needs (Between p) = p ∷ p + 1 ∷ []
+needs (Between p) = p ∷ (p + 1) ∷ []
 
 -- the position of its leaf, or of the lower neighbour
 abbrev pub lower : Spot → ℕ

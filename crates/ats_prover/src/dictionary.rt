@@ -28,6 +28,8 @@ pub(crate) fn spots(
     ensures few { IfOk result (λ spots. length spots.items ≤ 32) }
     ensures low { IfOk result (λ spots. All (λ spot. lower spot ≤ 2 ^ 24) spots.items) }
 {
+    // Positions have 32 bits, and so has the one behind a lower neighbour.
+    prove!(dictionary.len() >= 2);
     let mut spots = Vec::new(alloc);
     for i in 0..query.len() {
         spots.push(dictionary.find(query.term(i)))?;
@@ -108,32 +110,6 @@ fn write_leaves(
     Ok(())
 }
 
-/// The leaves at these positions, and the digests that the tree needs besides them.
-pub(crate) fn write_dictionary<H: Hash32>(
-    alloc: Global,
-    writer: &mut ProofWriter,
-    dictionary: &Dictionary,
-    positions: &[u32],
-) -> Result<(), OutOfMemory>
-    requires rise { IsStrictlyIncreasing positions.now }
-    requires within { All (λ p. p < length dictionary.now + 2) positions.now }
-    requires few { length positions.now ≤ 64 }
-    requires room { writer.old.asked ≤ 2 ^ 59 }
-    ensures fields { OnOk result (writer.new ≡ put writer.old (counted 2 entry_fields (map (shown_entry dictionary.now) positions.now)
-        ++ counted 2 digest_fields (elided_digests H.hash (dict_leaves dictionary.now) positions.now))) }
-    ensures size { OnOk result (writer.new.asked ≤ writer.old.asked + 2 ^ 23) }
-{
-    let mut digests = Digests::new(alloc);
-    elided::<H, _>(
-        dictionary,
-        positions,
-        &mut digests,
-        &mut Steps::new(alloc),
-    )?;
-    write_leaves(writer, dictionary, positions)?;
-    write_digests(writer, &digests)
-}
-
 // Where the shown leaves show a term.
 fn slot(positions: &[u32], spot: &Spot) -> Slot
     requires rise { IsStrictlyIncreasing positions.now }
@@ -152,19 +128,53 @@ fn slot(positions: &[u32], spot: &Spot) -> Slot
     }
 }
 
-/// A slot for each term of the query.
-pub(crate) fn write_slots(
+// The leaves at these positions, and the digests that the tree needs besides them.
+fn write_section<H: Hash32>(
+    alloc: Global,
     writer: &mut ProofWriter,
+    dictionary: &Dictionary,
+    positions: &[u32],
+) -> Result<(), OutOfMemory>
+    requires rise { IsStrictlyIncreasing positions.now }
+    requires within { All (λ p. p < length dictionary.now + 2) positions.now }
+    requires few { length positions.now ≤ 64 }
+    requires room { writer.old.asked ≤ 2 ^ 59 }
+    ensures fields { OnOk result (writer.new ≡ put writer.old (counted 2 entry_fields (map (shown_entry dictionary.now) positions.now)
+        ++ counted 2 digest_fields (elided_digests H.hash (dict_leaves dictionary.now) positions.now))) }
+    ensures size { OnOk result (writer.new.asked ≤ writer.old.asked + 2 ^ 23) }
+{
+    // A dictionary's leaves have terms of at most 64 bytes, and positions of 32 bits.
+    prove!(dictionary.len() >= 2);
+    let mut digests = Digests::new(alloc);
+    elided::<H, _>(
+        dictionary,
+        positions,
+        &mut digests,
+        &mut Steps::new(alloc),
+    )?;
+    write_leaves(writer, dictionary, positions)?;
+    write_digests(writer, &digests)
+}
+
+/// The leaves at these positions, the digests that the tree needs besides them, and a slot for each term.
+pub(crate) fn write_terms<H: Hash32>(
+    alloc: Global,
+    writer: &mut ProofWriter,
+    dictionary: &Dictionary,
     positions: &[u32],
     spots: &[Spot],
 ) -> Result<(), OutOfMemory>
     requires rise { IsStrictlyIncreasing positions.now }
+    requires within { All (λ p. p < length dictionary.now + 2) positions.now }
     requires few { length positions.now ≤ 64 }
     requires terms { length spots.now ≤ 32 }
-    requires room { writer.old.asked ≤ 2 ^ 60 }
-    ensures fields { OnOk result (writer.new ≡ put writer.old (flat_map slot_fields (map (slot_of positions.now) spots.now))) }
-    ensures size { OnOk result (writer.new.asked ≤ writer.old.asked + 2 ^ 7) }
+    requires room { writer.old.asked ≤ 2 ^ 58 }
+    ensures fields { OnOk result (writer.new ≡ put writer.old (counted 2 entry_fields (map (shown_entry dictionary.now) positions.now)
+        ++ counted 2 digest_fields (elided_digests H.hash (dict_leaves dictionary.now) positions.now)
+        ++ flat_map slot_fields (map (slot_of positions.now) spots.now))) }
+    ensures size { OnOk result (writer.new.asked ≤ writer.old.asked + 2 ^ 24) }
 {
+    write_section::<H>(alloc, writer, dictionary, positions)?;
     for spot in spots {
         writer.slot(slot(positions, spot))?;
     }

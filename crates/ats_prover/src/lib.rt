@@ -14,10 +14,10 @@ mod dictionary;
 mod fault;
 mod lanes;
 mod prefixes;
-mod prove;
+mod proving;
 #[cfg(test)]
 mod tests;
 
 pub use ats_records::Algorithm;
 pub use fault::ProveFault;
-pub use prove::{prove, prove_within};
+pub use proving::{prove, prove_within};

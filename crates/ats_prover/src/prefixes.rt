@@ -9,10 +9,11 @@ ghost use Rattle.ats_bound.specs.Schedule.{whole_lanes};
 ghost use Rattle.ats_tnra.specs.Parts.{IsCut};
 ghost use Rattle.ats_bound.specs.Schedule.{AreWholeLanes};
 ghost use Rattle.ats_proof.specs.Parts.{counted};
-ghost use Rattle.ats_proof.specs.Value.{posting_fields, prefix_fields};
+ghost use Rattle.ats_proof.specs.Value.{id_fields, posting_fields, prefix_fields};
 ghost use Rattle.ats_prover.specs.Honest.{placed, prefix_of, prefixes};
 ghost use Rattle.ats_prover.specs.Writing.{put};
 
+use crate::answer::write_met;
 use crate::dictionary::{place, write_digests};
 use crate::fault::OutOfMemory;
 use ats_bound::Lane;
@@ -83,8 +84,8 @@ fn write_prefix<H: Hash32>(
     write_digests(writer, &digests)
 }
 
-/// Of each list the first entries, as many as the cut says.
-pub(crate) fn write_prefixes<H: Hash32>(
+/// The met documents, and of each list the first entries, as many as the cut says.
+pub(crate) fn write_lists<H: Hash32>(
     alloc: Global,
     writer: &mut ProofWriter,
     met: &[u32],
@@ -96,9 +97,11 @@ pub(crate) fn write_prefixes<H: Hash32>(
     requires lanes { AreWholeLanes (whole_lanes lanes.now) }
     requires cut { IsCut (whole_lanes lanes.now) cut.now }
     requires room { writer.old.asked ≤ 2 ^ 58 }
-    ensures fields { OnOk result (writer.new ≡ put writer.old (flat_map prefix_fields (prefixes H.hash met.now (whole_lanes lanes.now) cut.now))) }
-    ensures size { OnOk result (writer.new.asked ≤ writer.old.asked + 2 ^ 28) }
+    ensures fields { OnOk result (writer.new ≡ put writer.old (counted 4 id_fields met.now
+        ++ flat_map prefix_fields (prefixes H.hash met.now (whole_lanes lanes.now) cut.now))) }
+    ensures size { OnOk result (writer.new.asked ≤ writer.old.asked + 2 ^ 29) }
 {
+    write_met(writer, met)?;
     for (i, lane) in lanes.iter().enumerate() {
         write_prefix::<H>(alloc, writer, met, lane.entries, cut[i])?;
     }

@@ -1,14 +1,14 @@
 //! The proof of a query's best documents.
 
 ghost use Rattle.std.specs.Prelude.{◌≡◌, ◌≤◌, ◌+◌, ◌^◌, ◌++◌, ℕ, List, length, IfOk, IfErr, OnOk};
-ghost use Rattle.ats_records.specs.declared.record.Algorithm.TheVariants as algorithm;
+ghost use Rattle.ats_records.specs.declared.record.Algorithm.TheVariants.{Tnra};
 ghost use Rattle.ats_prover.specs.Honest.{IsProved, IsTooLong, IsFault, IsHonest};
 
-use crate::answer::{documents, write_answer, write_met};
-use crate::dictionary::{positions, spots, write_dictionary, write_slots};
+use crate::answer::{documents, write_answer};
+use crate::dictionary::{positions, spots, write_terms};
 use crate::fault::{OutOfMemory, ProveFault};
 use crate::lanes::lanes;
-use crate::prefixes::write_prefixes;
+use crate::prefixes::write_lists;
 use ats_base::Bytes;
 use ats_bound::{Lane, Walk};
 use ats_hash::Hash32;
@@ -27,8 +27,7 @@ fn write_walk<H: Hash32>(
     walk: &Walk,
 ) -> Result<(), OutOfMemory> {
     let met = documents(alloc, walk.brackets.as_slice())?;
-    write_met(writer, &met)?;
-    write_prefixes::<H>(alloc, writer, &met, lanes, walk.cut.as_slice())?;
+    write_lists::<H>(alloc, writer, &met, lanes, walk.cut.as_slice())?;
     write_answer(writer, walk.picks.as_slice())
 }
 
@@ -44,8 +43,7 @@ fn write_proof<H: Hash32>(
     let spots = spots(alloc, index.dictionary(), query)?;
     let positions = positions(alloc, &spots)?;
     writer.front(algorithm, index.header(), query.len() as u16)?;
-    write_dictionary::<H>(alloc, writer, index.dictionary(), &positions)?;
-    write_slots(writer, &positions, &spots)?;
+    write_terms::<H>(alloc, writer, index.dictionary(), &positions, &spots)?;
     let lanes = lanes(alloc, index, query, &spots)?;
     let end = walk(alloc, &lanes, top)?;
     write_walk::<H>(alloc, writer, &lanes, &end)
@@ -61,7 +59,7 @@ pub fn prove<H: Hash32>(
     top: Top,
     algorithm: Algorithm,
 ) -> Result<Bytes, ProveFault>
-    requires { algorithm ≡ algorithm.Tnra }
+    requires { algorithm ≡ Tnra }
     ensures ok { IfOk result (IsProved H.hash index.now query.now top) }
     ensures err { IfErr result (IsFault H.hash index.now query.now top (2 ^ 26)) }
 {
@@ -77,7 +75,7 @@ pub fn prove_within<H: Hash32>(
     algorithm: Algorithm,
     limit: u64,
 ) -> Result<Bytes, ProveFault>
-    requires algorithm { algorithm ≡ algorithm.Tnra }
+    requires algorithm { algorithm ≡ Tnra }
     requires limit { limit ≤ 2 ^ 26 }
     ensures ok { IfOk result (IsProved H.hash index.now query.now top) }
     ensures within { IfOk result (λ bytes. length bytes ≤ limit) }
