@@ -60,3 +60,10 @@ leaf_at entries (suc p) is inside = elim (cases_lt p (length entries)) [
       subst IsLeaf (sym (entry_at-suc entries p low within)) (record { short = entry.term.few; number = entry.number; root = entry.root })
   | inr past ↦ subst IsLeaf (sym (entry_at-last entries (suc p) (omega (arith, past, inside)))) (record { short = omega arith; number = omega arith; root = zero_root_size })
 ]
+
+pub lowers : (entries : List DictEntry) (query : List (List ℕ × ℕ)) (spots : List Spot) → length entries ≤ 2 ^ 24 → AreSpots entries query spots
+    → All (λ spot. lower spot ≤ 2 ^ 24) spots
+lowers entries query spots few are k d inside =
+    let same = spot_each entries query spots are in
+    let is = spot_at entries query spots k ([], 0) d are (omega (arith, inside, same)) in
+    omega (arith, lower_within entries (get_or query k ([], 0)).0 (get_or spots k d) is, few)

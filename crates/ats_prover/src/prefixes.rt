@@ -5,6 +5,7 @@ ghost use Rattle.std.specs.List.{All, flat_map, range_with_len};
 ghost use Rattle.std.specs.List.Sorted.{IsStrictlyIncreasing};
 ghost use Rattle.ats_tree.specs.Elided.{elided_digests};
 ghost use Rattle.ats_lists.specs.Leaf.{leaf_bytes};
+ghost use Rattle.ats_lists.specs.Lists.{IsList};
 ghost use Rattle.ats_bound.specs.Schedule.{whole_lanes};
 ghost use Rattle.ats_tnra.specs.Parts.{IsCut};
 ghost use Rattle.ats_bound.specs.Schedule.{AreWholeLanes};
@@ -32,6 +33,7 @@ fn write_entries(
     requires rise { IsStrictlyIncreasing met.now }
     requires documents { length met.now ≤ 65536 }
     requires few { length entries.now ≤ 65536 }
+    requires impacts { All (λ entry. entry.impact < 2 ^ 16) entries.now }
     requires room { writer.old.asked ≤ 2 ^ 60 }
     ensures fields { OnOk result (writer.new ≡ put writer.old (counted 4 posting_fields (map (placed met.now) entries.now))) }
     ensures size { OnOk result (writer.new.asked ≤ writer.old.asked + 2 ^ 19) }
@@ -64,7 +66,7 @@ fn write_prefix<H: Hash32>(
 ) -> Result<(), OutOfMemory>
     requires rise { IsStrictlyIncreasing met.now }
     requires documents { length met.now ≤ 65536 }
-    requires few { length entries.now ≤ 65536 }
+    requires list { IsList 65536 entries.now }
     requires some { 1 ≤ count }
     requires within { count ≤ length entries.now }
     requires room { writer.old.asked ≤ 2 ^ 59 }
@@ -95,6 +97,7 @@ pub(crate) fn write_lists<H: Hash32>(
     requires rise { IsStrictlyIncreasing met.now }
     requires documents { length met.now ≤ 65536 }
     requires lanes { AreWholeLanes (whole_lanes lanes.now) }
+    requires lists { All (λ lane. IsList 65536 lane.entries) (whole_lanes lanes.now) }
     requires cut { IsCut (whole_lanes lanes.now) cut.now }
     requires room { writer.old.asked ≤ 2 ^ 58 }
     ensures fields { OnOk result (writer.new ≡ put writer.old (counted 4 id_fields met.now
