@@ -6,3 +6,4 @@ pub mod Elided
 pub mod Needed
 pub mod Fronts
 pub mod Present
+pub mod Coming
