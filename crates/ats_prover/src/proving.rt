@@ -1,8 +1,16 @@
 //! The proof of a query's best documents.
 
-ghost use Rattle.std.specs.Prelude.{◌≡◌, ◌≤◌, ◌+◌, ◌^◌, ◌++◌, ℕ, List, length, IfOk, IfErr, OnOk};
+ghost use Rattle.std.specs.Prelude.{◌≡◌, ◌≤◌, ◌+◌, ◌^◌, ◌++◌, ℕ, List, length, map, IfOk, IfErr, OnOk};
+ghost use Rattle.std.specs.List.{All, flat_map};
+ghost use Rattle.ats_lists.specs.Lists.{IsList};
+ghost use Rattle.ats_bound.specs.declared.bracket.Bracket.{Bracket as Bounds};
+ghost use Rattle.ats_bound.specs.Schedule.{AreBracketsOf, AreWholeLanes, shown, whole_lanes};
+ghost use Rattle.ats_tnra.specs.Parts.{IsCut};
+ghost use Rattle.ats_proof.specs.Parts.{counted};
+ghost use Rattle.ats_proof.specs.Value.{id_fields, prefix_fields};
 ghost use Rattle.ats_records.specs.declared.record.Algorithm.TheVariants.{Tnra};
-ghost use Rattle.ats_prover.specs.Honest.{IsProved, IsTooLong, IsFault, IsHonest};
+ghost use Rattle.ats_prover.specs.Honest.{IsProved, IsFault, prefixes};
+ghost use Rattle.ats_prover.specs.Writing.{IsWritten, put};
 
 use crate::answer::{documents, write_answer};
 use crate::dictionary::{positions, spots, write_terms};
@@ -25,7 +33,17 @@ fn write_walk<H: Hash32>(
     writer: &mut ProofWriter,
     lanes: &[Lane<'_>],
     walk: &Walk,
-) -> Result<(), OutOfMemory> {
+) -> Result<(), OutOfMemory>
+    requires lanes { AreWholeLanes (whole_lanes lanes.now) }
+    requires lists { All (λ lane. IsList 65536 lane.entries) (whole_lanes lanes.now) }
+    requires cut { IsCut (whole_lanes lanes.now) walk.now.cut }
+    requires brackets { AreBracketsOf (shown (whole_lanes lanes.now) walk.now.cut) walk.now.brackets }
+    requires rows { length walk.now.picks ≤ 1000 }
+    requires room { writer.old.asked ≤ 2 ^ 57 }
+    ensures fields { OnOk result (writer.new ≡ put writer.old (counted 4 id_fields (map (λ (b : Bounds). b.doc) walk.now.brackets)
+        ++ flat_map prefix_fields (prefixes H.hash (map (λ (b : Bounds). b.doc) walk.now.brackets) (whole_lanes lanes.now) walk.now.cut)
+        ++ counted 2 id_fields walk.now.picks)) }
+{
     let met = documents(alloc, walk.brackets.as_slice())?;
     write_lists::<H>(alloc, writer, &met, lanes, walk.cut.as_slice())?;
     write_answer(writer, walk.picks.as_slice())
@@ -39,7 +57,11 @@ fn write_proof<H: Hash32>(
     query: &Query,
     top: Top,
     algorithm: Algorithm,
-) -> Result<(), OutOfMemory> {
+) -> Result<(), OutOfMemory>
+    requires algorithm { algorithm ≡ Tnra }
+    requires room { writer.old.asked ≡ 0 }
+    ensures { OnOk result (IsWritten H.hash index.now query.now top writer.old writer.new) }
+{
     let spots = spots(alloc, index.dictionary(), query)?;
     let positions = positions(alloc, &spots)?;
     writer.front(algorithm, index.header(), query.len() as u16)?;
