@@ -56,14 +56,13 @@ AreGoodEntries low (e ∷ es) = (low ≤ e.position) × (e.position ≤ 0xffff_f
 
 come_entries : (es : List ShownEntry) (low : ℕ) (rest : Table) → AreGoodEntries low es → Come (flat_map entry_fields es) (grammar.dict_leaves (length es) low rest) rest
 come_entries [] low rest good = refl
-come_entries (e ∷ es) low rest good = (
-  is_number 3 e.position low 0xffff_ffff good.0 good.1,
-  is_number 0 (length e.entry.term) 0 64 (omega arith) good.2.short,
-  sym (number-spelled 0 (length e.entry.term)),
-  is_number 3 e.entry.f 0 0xffff_ffff (omega arith) (omega (arith, good.2.number)),
-  good.2.root,
-  subst (λ (m : ℕ). Come (flat_map entry_fields es) (grammar.dict_leaves (length es) (m + 1) rest) rest) (sym (number-spelled 3 e.position)) (come_entries es (e.position + 1) rest good.3),
-)
+come_entries (e ∷ es) low rest good =
+    (is_number 3 e.position low 0xffff_ffff good.0 good.1,
+    (is_number 0 (length e.entry.term) 0 64 (omega arith) good.2.short,
+    (sym (number-spelled 0 (length e.entry.term)),
+    (is_number 3 e.entry.f 0 0xffff_ffff (omega arith) (omega (arith, good.2.number)),
+    (good.2.root,
+    subst (λ (m : ℕ). Come (flat_map entry_fields es) (grammar.dict_leaves (length es) (m + 1) rest) rest) (sym (number-spelled 3 e.position)) (come_entries es (e.position + 1) rest good.3))))))
 
 abbrev pub AreGoodSlots : ℕ → List Slot → Type 0
 AreGoodSlots low [] = Unit {0}
@@ -79,12 +78,10 @@ come_slots (s ∷ ss) low present good =
     let sum : present + kind_of_slot s + present_in ss ≡ present + present_in (s ∷ ss) = omega (arith, sum_by-cons kind_of_slot s ss) in
     let more = subst (λ n. Come (flat_map slot_fields ss) (grammar.slots false (length ss) s.index (present + kind_of_slot s)) (grammar.met false n)) sum
         (come_slots ss s.index (present + kind_of_slot s) good.2) in
-    (
-      is_number 0 (kind_of_slot s) 0 1 (omega arith) (small_kind s.present),
-      is_number 1 s.index low 0xffff good.0 good.1,
-      subst (λ (k : ℕ). Come (flat_map slot_fields ss) (grammar.slots false (length ss) (number (spelled 2 s.index)) (present + k)) (grammar.met false (present + present_in (s ∷ ss)))) (sym (number-spelled 0 (kind_of_slot s)))
-      (subst (λ (i : ℕ). Come (flat_map slot_fields ss) (grammar.slots false (length ss) i (present + kind_of_slot s)) (grammar.met false (present + present_in (s ∷ ss)))) (sym (number-spelled 1 s.index)) more),
-    )
+    (is_number 0 (kind_of_slot s) 0 1 (omega arith) (small_kind s.present),
+    (is_number 1 s.index low 0xffff good.0 good.1,
+    subst (λ (k : ℕ). Come (flat_map slot_fields ss) (grammar.slots false (length ss) (number (spelled 2 s.index)) (present + k)) (grammar.met false (present + present_in (s ∷ ss)))) (sym (number-spelled 0 (kind_of_slot s)))
+    (subst (λ (i : ℕ). Come (flat_map slot_fields ss) (grammar.slots false (length ss) i (present + kind_of_slot s)) (grammar.met false (present + present_in (s ∷ ss)))) (sym (number-spelled 1 s.index)) more)))
 
 abbrev pub AreGoodIds : ℕ → List ℕ → Type 0
 AreGoodIds low [] = Unit {0}
@@ -107,7 +104,7 @@ come_postings : (es : List Entry) (rest : Table) → All IsGoodPosting es → Co
 come_postings [] rest all = refl
 come_postings (e ∷ es) rest all =
     let first = All-head IsGoodPosting e es all in
-    (is_number 3 e.doc 0 0xffff_ffff (omega arith) first.0, is_number 1 e.impact 0 0xffff (omega arith) first.1, come_postings es rest (All-tail IsGoodPosting e es all))
+    (is_number 3 e.doc 0 0xffff_ffff (omega arith) first.0, (is_number 1 e.impact 0 0xffff (omega arith) first.1, come_postings es rest (All-tail IsGoodPosting e es all)))
 
 pub record IsGoodPrefix (prefix : Prefix) : Type 0 where
   pub some : 1 ≤ length prefix.entries
@@ -150,18 +147,16 @@ fields_with docs p = front_fields docs ++ header_fields p.header ++ spelled 2 (l
 
 come_front : (h : Header) → IsHeader h.documents h.dict_leaves h.dict_root h.docs_root h.texts_root → Come (front_fields None ++ header_fields h) grammar.proof (grammar.query_terms false)
 come_front h is =
-    (
-      is_number 3 0x41545350 0x41545350 0x41545350 (omega arith) (omega arith),
-      is_number 0 1 1 1 (omega arith) (omega arith),
-      is_number 0 2 1 2 (omega arith) (omega arith),
-      is_number 0 1 1 1 (omega arith) (omega arith),
-      is_number 3 h.documents 1 65536 is.numbers.some is.numbers.few,
-      is_number 3 h.dict_leaves 2 16777218 is.numbers.sentinels is.numbers.terms,
-      is.dict,
-      is.docs,
-      is.texts,
-      refl,
-    )
+    (is_number 3 0x41545350 0x41545350 0x41545350 (omega arith) (omega arith),
+    (is_number 0 1 1 1 (omega arith) (omega arith),
+    (is_number 0 2 1 2 (omega arith) (omega arith),
+    (is_number 0 1 1 1 (omega arith) (omega arith),
+    (is_number 3 h.documents 1 65536 is.numbers.some is.numbers.few,
+    (is_number 3 h.dict_leaves 2 16777218 is.numbers.sentinels is.numbers.terms,
+    (is.dict,
+    (is.docs,
+    (is.texts,
+    refl)))))))))
 
 pub come_proof : (p : Proof) → IsInRange p → Come (fields_of p) grammar.proof End
 come_proof p is =

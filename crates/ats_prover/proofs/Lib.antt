@@ -7,3 +7,4 @@ pub mod Needed
 pub mod Fronts
 pub mod Present
 pub mod Coming
+pub mod MetDocuments
