@@ -8,3 +8,5 @@ pub mod Fronts
 pub mod Present
 pub mod Coming
 pub mod MetDocuments
+pub mod Ranges
+pub mod Whole

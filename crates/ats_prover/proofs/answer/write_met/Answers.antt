@@ -6,7 +6,8 @@ use Rattle.ats_proof.specs.Value.{id_fields}
 use Rattle.ats_prover.specs.Writing.{put}
 use Rattle.ats_prover.proofs.Records.{spelled_4}
 use Rattle.ats_prover.proofs.Putting.{put_more}
-use Rattle.ats_prover.proofs.Coming
+use Rattle.ats_prover.proofs.Ranges
+use Rattle.ats_prover.proofs.Whole
 use Rattle.ats_prover.proofs.answer.write_met.Goals as goal
 
 pub loop-id-preserved : goal.loop-id-preserved
