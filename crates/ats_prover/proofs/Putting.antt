@@ -1,5 +1,5 @@
 -- Fields that are asked of a writer, one behind another.
-use Rattle.std.proofs.Common.{◌≡◌, ◌+◌, ◌<◌, ℕ, List, [], ◌∷◌, ◌++◌, length, take, get_or, Option, Some, None, nat_lt, refl, sym, ap, ap₂, ◌∙◌, arith, inl, inr, add-one, append_assoc, length-append}
+use Rattle.std.proofs.Common.{◌≡◌, ◌+◌, ◌<◌, ℕ, List, [], ◌∷◌, ◌++◌, length, take, get_or, Option, Some, None, nat_lt, refl, sym, ap, ap₂, ◌∙◌, arith, inl, inr, add-one, append_assoc, append-nil, length-append}
 use Rattle.std.specs.Prelude.{if◌then◌else◌}
 use Rattle.std.specs.List.{concat, flat_map}
 use Rattle.std.proofs.Math.Seq.{take-suc}
@@ -40,3 +40,13 @@ put_more spell w front xs i x d bytes inside is same =
     let more : (front ++ flat_map spell (take i xs)) ++ spell x ≡ front ++ flat_map spell (take (i + 1) xs) =
         rw (add-one, take-suc xs i d inside, is) (flat_map_more spell front (take i xs) (get_or xs i d)) in
     ap (after (put w (front ++ flat_map spell (take i xs)))) same ∙ put_put w (front ++ flat_map spell (take i xs)) (spell x) ∙ ap (put w) more
+
+three_more : (a b c d : List (List ℕ)) → a ++ (b ++ c ++ d) ≡ a ++ b ++ c ++ d
+three_more a b c d = sym (append_assoc a (b ++ c) d) ∙ ap (λ (xs : List (List ℕ)). xs ++ d) (sym (append_assoc a b c))
+
+-- all parts of a proof, of which one is empty
+pub put_all : (w : Written) (a b c d e f g : List (List ℕ)) → put (put (put w a) (b ++ c ++ d)) (e ++ f ++ g) ≡ put w (a ++ b ++ c ++ d ++ e ++ f ++ [] ++ g)
+put_all w a b c d e f g =
+    let left : List (List ℕ) = a ++ b ++ c ++ d in
+    ap (λ (v : Written). put v (e ++ f ++ g)) (put_put w a (b ++ c ++ d) ∙ ap (put w) (three_more a b c d))
+    ∙ put_put w left (e ++ f ++ g) ∙ ap (put w) (three_more left e f g ∙ ap (λ (xs : List (List ℕ)). xs ++ g) (sym (append-nil (left ++ e ++ f))))

@@ -1,5 +1,5 @@
 -- The honest proof, put together.
-use Rattle.std.proofs.Common.{◌≡◌, ◌+◌, ◌*◌, ◌^◌, ◌<◌, ◌≤◌, ◌++◌, ℕ, zero, suc, Bool, true, false, cond, nat_lt, List, [], ◌∷◌, length, map, take, set, get_or, Option, Some, None, refl, sym, ap, ap₂, subst, ◌∙◌, arith}
+use Rattle.std.proofs.Common.{◌≡◌, ◌+◌, ◌*◌, ◌^◌, ◌<◌, ◌≤◌, ◌++◌, ℕ, zero, suc, Bool, true, false, cond, nat_lt, List, [], ◌∷◌, length, map, take, set, get_or, Option, Some, None, refl, sym, ap, ap₂, subst, ◌∙◌, arith, append-nil}
 use Rattle.std.specs.Prelude.{filter}
 use Rattle.std.specs.List.{All, concat, count_by, flat_map, list_any, range_with_len}
 use Rattle.std.specs.List.Sorted.{IsStrictlyIncreasing}
@@ -34,16 +34,25 @@ use Rattle.ats_bound.specs.Chosen.{IsChosen}
 use Rattle.ats_bound.specs.Schedule.{WholeLane, AreWholeLanes, AreBracketsOf, IsFirstSettled, IsScheduled, shown}
 use Rattle.ats_tnra.specs.Parts.{IsCut}
 use Rattle.ats_tnra.proofs.Shown.{first_is_cut, cut_after}
-use Rattle.ats_proof.specs.Value.{Proof, Prefix, kind_of_slot, present_in}
+use Rattle.ats_dict.specs.declared.header.Header.{Header}
+use Rattle.ats_records.specs.Records.{front_record}
+use Rattle.ats_records.specs.Written.{Written, after, writing}
+use Rattle.ats_records.specs.declared.record.Algorithm.{Algorithm}
+use Rattle.ats_records.specs.declared.record.Algorithm.TheVariants.{Tnra}
+use Rattle.ats_proof.specs.Parts.{counted, spelled}
+use Rattle.ats_proof.specs.Value.{Proof, Prefix, AreDocumentsOf, fields_of, front_fields, header_fields, entry_fields, digest_fields, slot_fields, id_fields, prefix_fields, kind_of_slot, present_in}
+use Rattle.ats_prover.specs.Writing.{IsWritten, put}
+use Rattle.ats_prover.proofs.Putting.{put_all}
+use Rattle.ats_prover.proofs.Records.{front_is}
 use Rattle.ats_prover.specs.Terms.{AreSpots, AreNeeded, place, shown_entry, slot_of}
 use Rattle.ats_prover.specs.Lanes.{lane_of, lanes_of, present}
-use Rattle.ats_prover.specs.Honest.{IsHonest, placed, prefix_of, prefixes}
+use Rattle.ats_prover.specs.Honest.{IsHonest, IsProved, IsTooLong, placed, prefix_of, prefixes}
 use Rattle.ats_prover.proofs.Elided.{dictionary_few, prefix_few}
 use Rattle.ats_prover.proofs.Spots.{spot_each}
 use Rattle.ats_prover.proofs.Present.{absent_term}
 use Rattle.ats_prover.proofs.Fronts.{prefix_each, range_below}
 use Rattle.ats_prover.proofs.MetDocuments.{met_rises, met_below, rising_few, lists_below}
-use Rattle.ats_prover.proofs.Coming.{IsGoodPrefix, IsInRange}
+use Rattle.ats_prover.proofs.Coming.{IsGoodPrefix, IsInRange, come_proof}
 use Rattle.ats_prover.proofs.Ranges.{elided_sized, good_entries, good_ids, good_slots, positions_below, positions_some}
 
 -- ---- the cut of a schedule
@@ -132,3 +141,157 @@ small_rows brackets r picks few is = subst (All (λ n. n ≤ 0xffff_ffff)) (sym 
   where
     range_low : (n k d : ℕ) → k < length (range_with_len 0 n) → get_or (range_with_len 0 n) k d < n
     range_low n k d inside = range_below n n (omega arith) k d inside
+
+-- ---- all together
+
+-- what a walk and the dictionary give to a proof
+pub record HasParts (H : List ℕ → List ℕ) (texts : List (List ℕ)) (query : List (List ℕ × ℕ)) (r : ℕ) (spots : List Spot) (positions cut : List ℕ) (brackets : List Bracket) (picks : List ℕ) : Type 0 where
+  pub sized : (bytes : List ℕ) → length (H bytes) ≡ 32
+  pub dictionary : IsDictionary (dictionary_of H texts)
+  pub front : IsHeader (header_parts H texts).documents (header_parts H texts).dict_leaves (header_parts H texts).dict_root (header_parts H texts).docs_root (header_parts H texts).texts_root
+  pub is_query : IsQuery query
+  pub found : AreSpots (dictionary_of H texts) query spots
+  pub needed : AreNeeded spots positions
+  pub positions_few : length positions ≤ 64
+  pub whole : AreWholeLanes (lanes_of texts query)
+  pub lists : All (λ (lane : WholeLane). IsList 65536 lane.entries) (lanes_of texts query)
+  pub first : IsFirstSettled (lanes_of texts query) r cut
+  pub bounds : AreBracketsOf (shown (lanes_of texts query) cut) brackets
+  pub chosen : IsChosen brackets r picks
+  pub rows : length picks ≤ 1000
+
+abbrev pub docs_of : List Bracket → List ℕ
+docs_of brackets = map (λ (b : Bracket). b.doc) brackets
+
+abbrev pub proof_of : (List ℕ → List ℕ) → List (List ℕ) → List (List ℕ × ℕ) → List Spot → List ℕ → List ℕ → List Bracket → List ℕ → Proof
+proof_of H texts query spots positions cut brackets picks = record {
+  header = header_parts H texts;
+  dict = map (shown_entry (dictionary_of H texts)) positions;
+  dict_digests = elided_digests H (dict_leaves (dictionary_of H texts)) positions;
+  slots = map (slot_of positions) spots;
+  met = docs_of brackets;
+  lists = prefixes H (docs_of brackets) (lanes_of texts query) cut;
+  docs = None;
+  answer = picks;
+}
+
+pub is_honest : (H : List ℕ → List ℕ) (texts : List (List ℕ)) (query : List (List ℕ × ℕ)) (r : ℕ) (spots : List Spot) (positions cut : List ℕ) (brackets : List Bracket) (picks : List ℕ)
+    → HasParts H texts query r spots positions cut brackets picks → IsHonest H texts query r (proof_of H texts query spots positions cut brackets picks)
+is_honest H texts query r spots positions cut brackets picks parts = record {
+  spots = spots;
+  found = parts.found;
+  positions = positions;
+  needed = parts.needed;
+  cut = cut;
+  first = parts.first;
+  brackets = brackets;
+  bounds = parts.bounds;
+  header = refl;
+  dict = refl;
+  dict_digests = refl;
+  slots = refl;
+  met = refl;
+  lists = refl;
+  docs = refl;
+  answer = parts.chosen;
+}
+
+pub lists_each : (H : List ℕ → List ℕ) (texts : List (List ℕ)) (query : List (List ℕ × ℕ)) (r : ℕ) (spots : List Spot) (positions cut : List ℕ) (brackets : List Bracket) (picks : List ℕ)
+    → HasParts H texts query r spots positions cut brackets picks → length (prefixes H (docs_of brackets) (lanes_of texts query) cut) ≡ present_in (map (slot_of positions) spots)
+lists_each H texts query r spots positions cut brackets picks parts =
+    let is_cut = scheduled_is_cut (lanes_of texts query) parts.first.turns cut parts.whole parts.first.scheduled in
+    prefix_each H (docs_of brackets) (lanes_of texts query) cut is_cut.size ∙ lanes_each H texts query positions spots parts.found
+
+pub is_in_range : (H : List ℕ → List ℕ) (texts : List (List ℕ)) (query : List (List ℕ × ℕ)) (r : ℕ) (spots : List Spot) (positions cut : List ℕ) (brackets : List Bracket) (picks : List ℕ)
+    → HasParts H texts query r spots positions cut brackets picks → IsInRange (proof_of H texts query spots positions cut brackets picks)
+is_in_range H texts query r spots positions cut brackets picks parts =
+    let entries = dictionary_of H texts in
+    let lanes = lanes_of texts query in
+    let leaves = dict_leaves entries in
+    let docs = docs_of brackets in
+    let is_cut = scheduled_is_cut lanes parts.first.turns cut parts.whole parts.first.scheduled in
+    let rises = met_rises (shown lanes cut) brackets parts.bounds in
+    let below = met_below 65536 lanes cut brackets (lists_below lanes parts.lists) parts.bounds in
+    let few : length docs ≤ 65536 = rising_few 65536 docs rises below in
+    let terms : length (map (slot_of positions) spots) ≡ length query = length-map spots (slot_of positions) ∙ spot_each entries query spots parts.found in
+    let shown_size = length-map positions (shown_entry entries) in
+    let inside = positions_below entries query spots positions parts.found parts.needed in record {
+      front = parts.front;
+      terms = (omega (arith, terms, parts.is_query.some), omega (arith, terms, parts.is_query.few));
+      leaves = (omega (arith, shown_size, positions_some entries query spots positions parts.is_query.some parts.found parts.needed), omega (arith, shown_size, parts.positions_few));
+      entries = good_entries entries positions 0 parts.dictionary parts.needed.rise (λ k d less. omega arith) inside;
+      others = record {
+        few = omega (arith, dictionary_few H leaves positions (omega (arith, length-dict_leaves entries, parts.dictionary.few)) parts.positions_few);
+        each = elided_sized H parts.sized (tree_of_places (length leaves) (shown_with leaves positions)) (tree_of leaves);
+      };
+      places = good_slots entries positions query spots parts.dictionary parts.positions_few parts.is_query.rises parts.found;
+      ids = (few, good_ids docs 0 rises (λ k d less. omega arith) below);
+      prefix_each = lists_each H texts query r spots positions cut brackets picks parts;
+      fronts = good_prefixes H parts.sized docs lanes cut few parts.lists is_cut.each;
+      rows = (parts.rows, small_rows brackets r picks (omega (arith, few, length-map brackets (λ (b : Bracket). b.doc))) parts.chosen);
+      alone = refl;
+    }
+
+-- the parts of the honest proof were asked for, one behind another
+pub written : (H : List ℕ → List ℕ) (texts : List (List ℕ)) (query : List (List ℕ × ℕ)) (r : ℕ) (spots : List Spot) (positions cut : List ℕ) (brackets : List Bracket) (picks : List ℕ) (w x y z : Written)
+    → HasParts H texts query r spots positions cut brackets picks
+    → x ≡ put w (front_fields None ++ header_fields (header_parts H texts) ++ spelled 2 (length (map (slot_of positions) spots)) ∷ [])
+    → y ≡ put x (counted 2 entry_fields (map (shown_entry (dictionary_of H texts)) positions) ++ counted 2 digest_fields (elided_digests H (dict_leaves (dictionary_of H texts)) positions)
+      ++ flat_map slot_fields (map (slot_of positions) spots))
+    → z ≡ put y (counted 4 id_fields (docs_of brackets) ++ flat_map prefix_fields (prefixes H (docs_of brackets) (lanes_of texts query) cut) ++ counted 2 id_fields picks)
+    → IsWritten H texts query r w z
+written H texts query r spots positions cut brackets picks w x y z parts front terms walk =
+    let proof = proof_of H texts query spots positions cut brackets picks in
+    let a : List (List ℕ) = front_fields None ++ header_fields (header_parts H texts) ++ spelled 2 (length (map (slot_of positions) spots)) ∷ [] in
+    let b : List (List ℕ) = counted 2 entry_fields (map (shown_entry (dictionary_of H texts)) positions) in
+    let c : List (List ℕ) = counted 2 digest_fields (elided_digests H (dict_leaves (dictionary_of H texts)) positions) in
+    let d : List (List ℕ) = flat_map slot_fields (map (slot_of positions) spots) in
+    let e : List (List ℕ) = counted 4 id_fields (docs_of brackets) in
+    let f : List (List ℕ) = flat_map prefix_fields (prefixes H (docs_of brackets) (lanes_of texts query) cut) in
+    let g : List (List ℕ) = counted 2 id_fields picks in record {
+      proof = proof;
+      honest = is_honest H texts query r spots positions cut brackets picks parts;
+      come = come_proof proof (is_in_range H texts query r spots positions cut brackets picks parts);
+      prefix_each = lists_each H texts query r spots positions cut brackets picks parts;
+      asked = walk ∙ ap (λ (v : Written). put v (e ++ f ++ g)) (terms ∙ ap (λ (v : Written). put v (b ++ c ++ d)) front) ∙ put_all w a b c d e f g;
+    }
+
+-- the first record is the first fields
+pub front_put : (algorithm : Algorithm) (h own : Header) (n m : ℕ) (w : Written) → algorithm ≡ Tnra → h ≡ own → n ≡ m → own.documents < 2 ^ 32 → own.dict_leaves < 2 ^ 32 → m < 2 ^ 16
+    → after w (front_record algorithm h n) ≡ put w (front_fields None ++ header_fields own ++ spelled 2 m ∷ [])
+front_put algorithm h own n m w tnra header number documents leaves few =
+    ap (after w) (ap (λ (x : Algorithm). front_record x h n) tnra ∙ ap₂ (λ (x : Header) (k : ℕ). front_record Tnra x k) header number ∙ front_is own m documents leaves few)
+
+-- ---- what a finished writer gives
+
+abbrev pub AreJoined : Type 0
+AreJoined = (limit : ℕ) (bytes more : List ℕ) → after (writing limit bytes) more ≡ writing limit (bytes ++ more)
+
+pub all_asked : AreJoined → (H : List ℕ → List ℕ) (texts : List (List ℕ)) (query : List (List ℕ × ℕ)) (r limit : ℕ) (w : Written) (is : IsWritten H texts query r (writing limit []) w)
+    → w ≡ writing limit (concat (fields_of is.proof))
+all_asked joined H texts query r limit w is = is.asked ∙ joined limit [] (concat (fields_of is.proof))
+
+no_documents : (proof : Proof) → proof.docs ≡ None → AreDocumentsOf proof proof.docs
+no_documents proof none = subst (AreDocumentsOf proof) (sym none) tt
+
+pub is_proved : (H : List ℕ → List ℕ) (texts : List (List ℕ)) (query : List (List ℕ × ℕ)) (r limit : ℕ) (w : Written) (bytes : List ℕ) (is : IsWritten H texts query r (writing limit []) w)
+    → bytes ≡ concat (fields_of is.proof) → length bytes ≤ 2 ^ 26 → IsProved H texts query r bytes
+is_proved H texts query r limit w bytes is same few = record {
+  proof = is.proof;
+  honest = is.honest;
+  spells = record {
+    spells = record { whole = record { come = is.come; parts = same ∙ sym (append-nil (concat (fields_of is.proof))) }; few = few };
+    prefix_each = is.prefix_each;
+    documents = no_documents is.proof is.honest.docs;
+  };
+}
+
+pub is_too_long : AreJoined → (H : List ℕ → List ℕ) (texts : List (List ℕ)) (query : List (List ℕ × ℕ)) (r limit : ℕ) (w : Written) (n : ℕ) (is : IsWritten H texts query r (writing limit []) w)
+    → n ≡ w.asked → w.limit < w.asked → IsTooLong H texts query r limit n
+is_too_long joined H texts query r limit w n is same over =
+    let all = all_asked joined H texts query r limit w is in record {
+      proof = is.proof;
+      honest = is.honest;
+      bytes_are = same ∙ ap (λ (v : Written). v.asked) all;
+      beyond = omega (arith, same, over, ap (λ (v : Written). v.limit) all);
+    }

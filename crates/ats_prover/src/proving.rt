@@ -22,9 +22,10 @@ use ats_bound::{Lane, Walk};
 use ats_hash::Hash32;
 use ats_impact::Top;
 use ats_index::Index;
-use ats_records::{Algorithm, ProofWriter};
+use ats_records::{Algorithm, ProofWriter, records_are_joined};
 use ats_terms::Query;
 use ats_tnra::walk;
+use ats_tree::Leaves;
 use std::alloc::Global;
 
 // What a proof shows of where the walk ended: the met documents, the fronts of the lists, and the answer.
@@ -62,6 +63,11 @@ fn write_proof<H: Hash32>(
     requires room { writer.old.asked ≡ 0 }
     ensures { OnOk result (IsWritten H.hash index.now query.now top writer.old writer.new) }
 {
+    // A collection's header is in range, its dictionary is sorted, and an answer has few rows.
+    prove!(index.collection().documents() >= 1);
+    prove!(index.collection().total() <= 1 << 24);
+    prove!(index.dictionary().len() >= 2);
+    prove!(top.get() <= 1000);
     let spots = spots(alloc, index.dictionary(), query)?;
     let positions = positions(alloc, &spots)?;
     writer.front(algorithm, index.header(), query.len() as u16)?;
@@ -103,6 +109,7 @@ pub fn prove_within<H: Hash32>(
     ensures within { IfOk result (λ bytes. length bytes ≤ limit) }
     ensures err { IfErr result (IsFault H.hash index.now query.now top limit) }
 {
+    records_are_joined();
     let mut writer = ProofWriter::new(alloc, limit);
     write_proof(alloc, &mut writer, index, query, top, algorithm)?;
     match writer.finish() {
