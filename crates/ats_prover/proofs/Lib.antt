@@ -1,0 +1,12 @@
+pub mod Putting
+pub mod Records
+pub mod Places
+pub mod Spots
+pub mod Elided
+pub mod Needed
+pub mod Fronts
+pub mod Present
+pub mod Coming
+pub mod MetDocuments
+pub mod Ranges
+pub mod Whole

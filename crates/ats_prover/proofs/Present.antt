@@ -1,0 +1,145 @@
+-- The lists of the terms that are present.
+use Rattle.std.proofs.Common.{◌≡◌, ◌≢◌, ◌*◌, ◌/◌, ◌^◌, ◌+◌, ◌<◌, ◌≤◌, ◌++◌, ℕ, zero, suc, Bool, true, false, cond, nat_lt, List, [], ◌∷◌, length, map, take, get_or, refl, sym, ap, ap₂, subst, ◌∙◌, arith, inl, inr, append-nil}
+use Rattle.std.specs.Prelude.{filter, count_by, nat_le}
+use Rattle.std.specs.List.{All, list_any}
+use Rattle.std.specs.Str.{bytes_eq}
+use Rattle.std.proofs.lemmas.Bool.{cases_Bool, cases_lt, lt-ltb, le-ltb, ltb-false}
+use Rattle.std.proofs.lemmas.List.{length-map, get_or-map, map-append}
+use Rattle.std.proofs.lemmas.List.Elements.{filter_more}
+use Rattle.std.proofs.Math.Nat.{div-mul-le_self, mul-le-mul_left}
+use Rattle.std.proofs.Math.Pow.{pow_mono}
+use Rattle.std.proofs.lemmas.List.Folds.{list_any_none}
+use Rattle.std.proofs.lemmas.List.Sums.{count_by-le-length}
+use Rattle.std.proofs.lemmas.Slice.Eq.{bytes_eq-Decides}
+use Rattle.ats_impact.specs.Numbers.{idf, ratio, doublings, eighths, AreDoublings}
+use Rattle.ats_impact.specs.Score.{coefficient, frequency}
+use Rattle.ats_lists.specs.Lists.{IsList, list, lists_of, vocabulary}
+use Rattle.ats_lists.specs.Postings.{postings}
+use Rattle.ats_lists.specs.declared.entry.Entry.{Entry}
+use Rattle.ats_lists.proofs.VocabularyLemmas.{vocabulary_has, postings_frequency}
+use Rattle.ats_lists.proofs.WholeLemmas.{list_frequency}
+use Rattle.ats_dict.specs.Entry.{DictEntry}
+use Rattle.ats_dict.specs.Dictionary.{low, entry_at, term_at}
+use Rattle.ats_dict.specs.Found.{StandsAt, LiesBetween}
+use Rattle.ats_dict.proofs.Sentinels.{entry_at-suc}
+use Rattle.ats_commit.specs.Trees.{dict_entry, dictionary_of}
+use Rattle.ats_commit.proofs.DictionaryLemmas.{dictionary_terms}
+use Rattle.ats_bound.specs.Schedule.{WholeLane, IsWholeLane}
+use Rattle.ats_prover.specs.Lanes.{present, lane_of, lanes_of}
+
+abbrev has_list : List (List ℕ) → List ℕ × ℕ → Bool
+has_list texts pair = nat_lt 0 (frequency pair.0 texts)
+
+-- a term with a list has a lane
+pub lane_more : (texts : List (List ℕ)) (query : List (List ℕ × ℕ)) (i : ℕ) (d : List ℕ × ℕ) → i < length query → 0 < frequency (get_or query i d).0 texts
+    → lanes_of texts (take (i + 1) query) ≡ lanes_of texts (take i query) ++ lane_of texts (get_or query i d) ∷ []
+lane_more texts query i d inside some =
+    let yes : has_list texts (get_or query i d) ≡ true = lt-ltb 0 (frequency (get_or query i d).0 texts) some in
+    ap (map (lane_of texts)) (filter_more (has_list texts) query i d inside ∙ ap (λ b. filter (has_list texts) (take i query) ++ cond b (get_or query i d ∷ []) []) yes)
+    ∙ map-append (lane_of texts) (filter (has_list texts) (take i query)) (get_or query i d ∷ [])
+
+-- one without a list has none
+pub lane_none : (texts : List (List ℕ)) (query : List (List ℕ × ℕ)) (i : ℕ) (d : List ℕ × ℕ) → i < length query → frequency (get_or query i d).0 texts ≡ 0
+    → lanes_of texts (take (i + 1) query) ≡ lanes_of texts (take i query)
+lane_none texts query i d inside none =
+    let no : has_list texts (get_or query i d) ≡ false = ap (nat_lt 0) none in
+    ap (map (lane_of texts)) (filter_more (has_list texts) query i d inside ∙ ap (λ b. filter (has_list texts) (take i query) ++ cond b (get_or query i d ∷ []) []) no
+    ∙ append-nil (filter (has_list texts) (take i query)))
+
+-- a term that stands in the dictionary is that of its list
+pub standing_term : (H : List ℕ → List ℕ) (texts : List (List ℕ)) (term : List ℕ) (p : ℕ) (d : List ℕ × List Entry) → StandsAt (dictionary_of H texts) term (suc p)
+    → (p < length (lists_of texts)) × ((get_or (lists_of texts) p d).0 ≡ term)
+standing_term H texts term p d is =
+    let size = length-map (lists_of texts) (dict_entry H) in
+    let inside : p < length (lists_of texts) = omega (arith, is.within, size) in
+    let entry : entry_at (dictionary_of H texts) (suc p) ≡ dict_entry H (get_or (lists_of texts) p d) =
+        entry_at-suc (dictionary_of H texts) p low (omega (arith, inside, size)) ∙ get_or-map (dict_entry H) (lists_of texts) p d low inside in
+    (inside, ap (λ (e : DictEntry). e.term) (sym entry) ∙ is.same)
+
+-- each list is that of its term
+pub list_at : (texts : List (List ℕ)) (p : ℕ) (d : List ℕ × List Entry) → p < length (lists_of texts) → (get_or (lists_of texts) p d).1 ≡ list texts (get_or (lists_of texts) p d).0
+unfolding lists_of
+list_at texts p d inside =
+    let made : List ℕ → List ℕ × List Entry = λ term. (term, list texts term) in
+    let is : get_or (map made (vocabulary texts)) p d ≡ made (get_or (vocabulary texts) p []) =
+        get_or-map made (vocabulary texts) p [] d (omega (arith, inside, length-map (vocabulary texts) made)) in
+    rw is refl
+
+-- a term that lies between two leaves has no list
+pub absent_term : (H : List ℕ → List ℕ) (texts : List (List ℕ)) (term : List ℕ) (p : ℕ) → LiesBetween (dictionary_of H texts) term p → frequency term texts ≡ 0
+absent_term H texts term p is =
+    let entries = dictionary_of H texts in
+    let terms : List (List ℕ) = map (λ (e : DictEntry). e.term) entries in
+    let none : list_any (bytes_eq term) terms ≡ false = list_any_none (bytes_eq term) terms (λ k d inside.
+      let within : k < length entries = omega (arith, inside, length-map entries (λ (e : DictEntry). e.term)) in
+      let at : get_or terms k d ≡ (get_or entries k low).term = get_or-map (λ (e : DictEntry). e.term) entries k low d within in
+      other term (get_or terms k d) (λ same. is.absent k low within (sym at ∙ sym same))) in
+    let test : nat_lt 0 (frequency term texts) ≡ false =
+        ap (nat_lt 0) (sym (postings_frequency term texts)) ∙ sym (vocabulary_has texts term) ∙ ap (list_any (bytes_eq term)) (sym (dictionary_terms H texts)) ∙ none in
+    zero_of (frequency term texts) test
+  where
+    other : (xs ys : List ℕ) → (xs ≡ ys → ⊥) → bytes_eq xs ys ≡ false
+    other xs ys differ = elim (cases_Bool (bytes_eq xs ys)) [
+      | inl is ↦ absurd (differ ((bytes_eq-Decides xs ys).0 is))
+      | inr not ↦ not
+    ]
+    zero_of : (n : ℕ) → nat_lt 0 n ≡ false → n ≡ 0
+    zero_of n not = omega (arith, ltb-false 0 n not)
+
+-- the greatest coefficient
+pub few_doublings : (n f e : ℕ) → n ≤ 65536 → 1 ≤ f → 1024 * 2 ^ e ≤ ratio n f → e ≤ 15
+few_doublings n f e few some within = elim (cases_lt 15 e) [
+  | inl more ↦
+      let high : 2 ^ 16 ≤ 2 ^ e = pow_mono more in
+      let product : ratio n f * (2 * f + 1) ≤ 1024 * (2 * n + 2) = div-mul-le_self (1024 * (2 * n + 2)) (2 * f + 1) in
+      let three : ratio n f * 3 ≤ ratio n f * (2 * f + 1) = mul-le-mul_left (ratio n f) (omega (arith, some)) in
+      absurd (omega (arith, high, product, three, within, few))
+  | inr most ↦ most
+]
+
+pub few_idf : (n f : ℕ) → n ≤ 65536 → 1 ≤ f → (1024 ≤ ratio n f → AreDoublings (ratio n f) (doublings 63 (ratio n f))) → idf n f ≤ 128
+few_idf n f few some doubled = elim (cases_lt (ratio n f) 1024) [
+  | inl low ↦ rw (lt-ltb (ratio n f) 1024 low) (omega arith)
+  | inr high ↦
+      let e = few_doublings n f (doublings 63 (ratio n f)) few some (doubled high).within in
+      rw (le-ltb (ratio n f) 1024 high) (omega (arith, e, count_by-le-length (λ step. nat_le step (ratio n f / 2 ^ doublings 63 (ratio n f))) eighths))
+]
+
+-- ---- lanes
+
+pub lane_is : (texts : List (List ℕ)) (pair : List ℕ × ℕ) (lane : WholeLane) (documents weight : ℕ) → lane.entries ≡ list texts pair.0 → documents ≡ length texts → weight ≡ pair.1
+    → lane.coefficient ≡ weight * idf documents (length lane.entries) → lane ≡ lane_of texts pair
+lane_is texts pair lane documents weight entries number times coefficient_is =
+    let f : length lane.entries ≡ frequency pair.0 texts = ap (λ (es : List Entry). length es) entries ∙ list_frequency texts pair.0 in
+    let c : lane.coefficient ≡ coefficient texts pair =
+        coefficient_is ∙ ap₂ (λ w n. w * idf n (length lane.entries)) times number ∙ ap (λ m. pair.1 * idf (length texts) m) f in
+    ap₂ (λ (n : ℕ) (es : List Entry). let l : WholeLane = record { coefficient = n; entries = es } in l) c entries
+
+pub is_whole : (lane : WholeLane) → IsList 65536 lane.entries → 1 ≤ lane.coefficient → lane.coefficient ≤ 34935 → IsWholeLane lane
+is_whole lane is some few = record {
+  weighted = (some, few);
+  some = is.some;
+  few = is.few;
+  impacts = λ k d inside. (is.impacts k d inside).0;
+  falling = is.falling;
+  once = is.once;
+}
+
+-- the lane of a term that stands in the dictionary
+pub record IsLaneAt (H : List ℕ → List ℕ) (texts : List (List ℕ)) (query : List (List ℕ × ℕ)) (i : ℕ) (lane : WholeLane) : Type 0 where
+  pub same : lane ≡ lane_of texts (get_or query i ([], 0))
+  pub more : lanes_of texts (take (i + 1) query) ≡ lanes_of texts (take i query) ++ lane ∷ []
+
+pub lane_at : (H : List ℕ → List ℕ) (texts : List (List ℕ)) (query : List (List ℕ × ℕ)) (i p documents weight : ℕ) (lane : WholeLane) → i < length query
+    → StandsAt (dictionary_of H texts) (get_or query i ([], 0)).0 (suc p) → lane.entries ≡ (get_or (lists_of texts) p ([], [])).1 → 1 ≤ length lane.entries
+    → documents ≡ length texts → weight ≡ (get_or query i ([], 0)).1 → lane.coefficient ≡ weight * idf documents (length lane.entries) → IsLaneAt H texts query i lane
+lane_at H texts query i p documents weight lane inside stands entries some number times coefficient_is =
+    let pair = get_or query i ([], 0) in
+    let term = standing_term H texts pair.0 p ([], []) stands in
+    let own : lane.entries ≡ list texts pair.0 = entries ∙ list_at texts p ([], []) term.0 ∙ ap (list texts) term.1 in
+    let is = lane_is texts pair lane documents weight own number times coefficient_is in
+    let count : 0 < frequency pair.0 texts = omega (arith, some, ap (λ (es : List Entry). length es) own, list_frequency texts pair.0) in
+    record {
+      same = is;
+      more = lane_more texts query i ([], 0) inside count ∙ ap (λ (l : WholeLane). lanes_of texts (take i query) ++ l ∷ []) (sym is);
+    }

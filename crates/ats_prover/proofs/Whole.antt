@@ -1,0 +1,297 @@
+-- The honest proof, put together.
+use Rattle.std.proofs.Common.{◌≡◌, ◌+◌, ◌*◌, ◌^◌, ◌<◌, ◌≤◌, ◌++◌, ℕ, zero, suc, Bool, true, false, cond, nat_lt, List, [], ◌∷◌, length, map, take, set, get_or, Option, Some, None, refl, sym, ap, ap₂, subst, ◌∙◌, arith, append-nil}
+use Rattle.std.specs.Prelude.{filter}
+use Rattle.std.specs.List.{All, concat, count_by, flat_map, list_any, range_with_len}
+use Rattle.std.specs.List.Sorted.{IsStrictlyIncreasing}
+use Rattle.std.specs.Str.{bytes_eq}
+use Rattle.std.proofs.lemmas.List.{length-map, get_or-map, length-take-le}
+use Rattle.std.proofs.lemmas.List.Elements.{All-head, All-tail, All-take}
+use Rattle.std.proofs.lemmas.List.Folds.{list_any_at}
+use Rattle.std.proofs.lemmas.List.Sorted.{All-permutation}
+use Rattle.std.proofs.lemmas.List.Sums.{sum_by-cons, length-filter, count_by-le-length}
+use Rattle.std.proofs.lemmas.Slice.Eq.{bytes_eq-Decides}
+use Rattle.ats_terms.specs.Query.{IsQuery}
+use Rattle.ats_impact.specs.Score.{frequency}
+use Rattle.ats_tree.specs.Tree.{tree_of}
+use Rattle.ats_tree.specs.Rebuild.{tree_of_places}
+use Rattle.ats_tree.specs.Elided.{elided_digests, shown_with}
+use Rattle.ats_lists.specs.Leaf.{leaf_bytes}
+use Rattle.ats_lists.specs.Lists.{IsList}
+use Rattle.ats_lists.specs.declared.entry.Entry.{Entry}
+use Rattle.ats_lists.proofs.VocabularyLemmas.{vocabulary_has, postings_frequency}
+use Rattle.ats_dict.specs.Entry.{DictEntry}
+use Rattle.ats_dict.specs.Dictionary.{IsDictionary, low, dict_leaves}
+use Rattle.ats_dict.specs.Found.{StandsAt}
+use Rattle.ats_dict.specs.Header.{IsHeader}
+use Rattle.ats_dict.specs.declared.spot.Spot.{Spot}
+use Rattle.ats_dict.specs.declared.spot.Spot.TheVariants.{At, Between}
+use Rattle.ats_dict.proofs.Sentinels.{entry_at-suc, length-dict_leaves}
+use Rattle.ats_commit.specs.Trees.{dictionary_of}
+use Rattle.ats_commit.proofs.DictionaryLemmas.{dictionary_terms}
+use Rattle.ats_index.specs.Parts.{header_parts}
+use Rattle.ats_bound.specs.declared.bracket.Bracket.{Bracket}
+use Rattle.ats_bound.specs.Chosen.{IsChosen}
+use Rattle.ats_bound.specs.Schedule.{WholeLane, AreWholeLanes, AreBracketsOf, IsFirstSettled, IsScheduled, shown}
+use Rattle.ats_tnra.specs.Parts.{IsCut}
+use Rattle.ats_tnra.proofs.Shown.{first_is_cut, cut_after}
+use Rattle.ats_dict.specs.declared.header.Header.{Header}
+use Rattle.ats_records.specs.Records.{front_record}
+use Rattle.ats_records.specs.Written.{Written, after, writing}
+use Rattle.ats_records.specs.declared.record.Algorithm.{Algorithm}
+use Rattle.ats_records.specs.declared.record.Algorithm.TheVariants.{Tnra}
+use Rattle.ats_proof.specs.Parts.{counted, spelled}
+use Rattle.ats_proof.specs.Value.{Proof, Prefix, AreDocumentsOf, fields_of, front_fields, header_fields, entry_fields, digest_fields, slot_fields, id_fields, prefix_fields, kind_of_slot, present_in}
+use Rattle.ats_prover.specs.Writing.{IsWritten, put}
+use Rattle.ats_prover.proofs.Putting.{put_all}
+use Rattle.ats_prover.proofs.Records.{front_is}
+use Rattle.ats_prover.specs.Terms.{AreSpots, AreNeeded, place, shown_entry, slot_of}
+use Rattle.ats_prover.specs.Lanes.{lane_of, lanes_of, present}
+use Rattle.ats_prover.specs.Honest.{IsHonest, IsProved, IsTooLong, placed, prefix_of, prefixes}
+use Rattle.ats_prover.proofs.Elided.{dictionary_few, prefix_few}
+use Rattle.ats_prover.proofs.Spots.{spot_each}
+use Rattle.ats_prover.proofs.Present.{absent_term}
+use Rattle.ats_prover.proofs.Fronts.{prefix_each, range_below}
+use Rattle.ats_prover.proofs.MetDocuments.{met_rises, met_below, rising_few, lists_below}
+use Rattle.ats_prover.proofs.Coming.{IsGoodPrefix, IsInRange, come_proof}
+use Rattle.ats_prover.proofs.Ranges.{elided_sized, good_entries, good_ids, good_slots, positions_below, positions_some}
+
+-- ---- the cut of a schedule
+
+pub scheduled_is_cut : (lanes : List WholeLane) (n : ℕ) (cut : List ℕ) → AreWholeLanes lanes → IsScheduled lanes n cut → IsCut lanes cut
+scheduled_is_cut lanes zero cut whole is = subst (IsCut lanes) (sym is) (first_is_cut lanes whole)
+scheduled_is_cut lanes (suc n) cut whole is =
+    let turn = is.2 in
+    subst (IsCut lanes) (sym turn.counts) (cut_after lanes is.0 turn.place (scheduled_is_cut lanes n is.0 whole is.1) turn.next.inside turn.next.more)
+
+-- ---- as many lists as present slots
+
+present_term : (H : List ℕ → List ℕ) (texts : List (List ℕ)) (term : List ℕ) (p : ℕ) → StandsAt (dictionary_of H texts) term (suc p) → nat_lt 0 (frequency term texts) ≡ true
+present_term H texts term p is =
+    let entries = dictionary_of H texts in
+    let terms : List (List ℕ) = map (λ (e : DictEntry). e.term) entries in
+    let inside : p < length entries = omega (arith, is.within) in
+    let at : get_or terms p [] ≡ term = get_or-map (λ (e : DictEntry). e.term) entries p low [] inside ∙ ap (λ (e : DictEntry). e.term) (sym (entry_at-suc entries p low inside)) ∙ is.same in
+    ap (nat_lt 0) (sym (postings_frequency term texts)) ∙ sym (vocabulary_has texts term) ∙ ap (list_any (bytes_eq term)) (sym (dictionary_terms H texts))
+    ∙ list_any_at (bytes_eq term) terms p [] (omega (arith, inside, length-map entries (λ (e : DictEntry). e.term))) ((bytes_eq-Decides term (get_or terms p [])).1 (sym at))
+
+abbrev has_list : List (List ℕ) → List ℕ × ℕ → Bool
+has_list texts pair = nat_lt 0 (frequency pair.0 texts)
+
+kind_tells : (H : List ℕ → List ℕ) (texts : List (List ℕ)) (pair : List ℕ × ℕ) (positions : List ℕ) (spot : Spot) → AreSpots (dictionary_of H texts) (pair ∷ []) (spot ∷ [])
+    → cond (has_list texts pair) 1 0 ≡ kind_of_slot (slot_of positions spot)
+kind_tells H texts pair positions (At zero) are = absurd (omega (arith, are.0.some))
+kind_tells H texts pair positions (At (suc p)) are = ap (λ b. cond b 1 0) (present_term H texts pair.0 p are.0)
+kind_tells H texts pair positions (Between p) are = ap (λ n. cond (nat_lt 0 n) 1 0) (absent_term H texts pair.0 p are.0)
+
+count_present : (H : List ℕ → List ℕ) (texts : List (List ℕ)) (query : List (List ℕ × ℕ)) (positions : List ℕ) (spots : List Spot) → AreSpots (dictionary_of H texts) query spots
+    → count_by (has_list texts) query ≡ present_in (map (slot_of positions) spots)
+count_present H texts [] positions [] are = refl
+count_present H texts [] positions (s ∷ spots) are = absurd are
+count_present H texts (pair ∷ query) positions [] are = absurd are
+count_present H texts (pair ∷ query) positions (s ∷ spots) are =
+    omega (arith, sum_by-cons (λ p. cond (has_list texts p) 1 0) pair query, sum_by-cons kind_of_slot (slot_of positions s) (map (slot_of positions) spots),
+      kind_tells H texts pair positions s (are.0, tt), count_present H texts query positions spots are.1)
+
+pub lanes_each : (H : List ℕ → List ℕ) (texts : List (List ℕ)) (query : List (List ℕ × ℕ)) (positions : List ℕ) (spots : List Spot) → AreSpots (dictionary_of H texts) query spots
+    → length (lanes_of texts query) ≡ present_in (map (slot_of positions) spots)
+lanes_each H texts query positions spots are =
+    length-map (present texts query) (lane_of texts) ∙ length-filter (has_list texts) query ∙ count_present H texts query positions spots are
+
+-- ---- prefixes
+
+good_prefix : (H : List ℕ → List ℕ) → ((bytes : List ℕ) → length (H bytes) ≡ 32) → (met : List ℕ) (entries : List Entry) (count : ℕ) → length met ≤ 65536 → IsList 65536 entries
+    → 1 ≤ count → count ≤ length entries → IsGoodPrefix (prefix_of H met entries count)
+good_prefix H sized met entries count few is some within =
+    let size = length-map (take count entries) (placed met) in
+    let took = length-take-le count entries within in
+    let leaves : List (List ℕ) = map leaf_bytes entries in
+    let all = length-map entries leaf_bytes in
+    let none : Entry = record { doc = 0; impact = 0 } in record {
+      some = omega (arith, size, took, some);
+      few = omega (arith, size, took, within, is.few);
+      each = λ k d inside.
+        let here : k < length (take count entries) = omega (arith, inside, size) in
+        let e = get_or (take count entries) k none in
+        let at : get_or (map (placed met) (take count entries)) k d ≡ placed met e = get_or-map (placed met) (take count entries) k none d here in
+        let impact = (All-take (λ (x : Entry). (1 ≤ x.impact) × (x.impact ≤ 2200)) count entries is.impacts k none here).1 in
+        (omega (arith, ap (λ (x : Entry). x.doc) at, count_by-le-length (λ m. nat_lt m e.doc) met, few), omega (arith, ap (λ (x : Entry). x.impact) at, impact));
+      others = record {
+        few = prefix_few H leaves count (omega (arith, all, is.few)) (omega (arith, all, is.some)) some;
+        each = elided_sized H sized (tree_of_places (length leaves) (shown_with leaves (range_with_len 0 count))) (tree_of leaves);
+      };
+    }
+
+good_prefixes : (H : List ℕ → List ℕ) → ((bytes : List ℕ) → length (H bytes) ≡ 32) → (met : List ℕ) (lanes : List WholeLane) (cut : List ℕ) → length met ≤ 65536
+    → All (λ (lane : WholeLane). IsList 65536 lane.entries) lanes → ((i : ℕ) (d : WholeLane) → i < length lanes → (1 ≤ get_or cut i 0) × (get_or cut i 0 ≤ length (get_or lanes i d).entries))
+    → All IsGoodPrefix (prefixes H met lanes cut)
+good_prefixes H sized met [] cut few lists is k d inside = absurd (omega (arith, inside))
+good_prefixes H sized met (lane ∷ lanes) [] few lists is k d inside = absurd (omega (arith, inside))
+good_prefixes H sized met (lane ∷ lanes) (count ∷ cut) few lists is zero d inside =
+    let first = is 0 lane (omega arith) in
+    good_prefix H sized met lane.entries count few (All-head (λ (l : WholeLane). IsList 65536 l.entries) lane lanes lists) first.0 first.1
+good_prefixes H sized met (lane ∷ lanes) (count ∷ cut) few lists is (suc k) d inside =
+    good_prefixes H sized met lanes cut few (All-tail (λ (l : WholeLane). IsList 65536 l.entries) lane lanes lists) (λ i e less. is (suc i) e (omega (arith, less))) k d (omega (arith, inside))
+
+-- ---- rows
+
+pub small_rows : (brackets : List Bracket) (r : ℕ) (picks : List ℕ) → length brackets ≤ 65536 → IsChosen brackets r picks → All (λ n. n ≤ 0xffff_ffff) picks
+small_rows brackets r picks few is = subst (All (λ n. n ≤ 0xffff_ffff)) (sym is.first) (All-take (λ n. n ≤ 0xffff_ffff) r is.all
+    (All-permutation (λ n. n ≤ 0xffff_ffff) (range_with_len 0 (length brackets)) is.all is.same (λ k d inside.
+      omega (arith, range_low (length brackets) k d inside, few))))
+  where
+    range_low : (n k d : ℕ) → k < length (range_with_len 0 n) → get_or (range_with_len 0 n) k d < n
+    range_low n k d inside = range_below n n (omega arith) k d inside
+
+-- ---- all together
+
+-- what a walk and the dictionary give to a proof
+pub record HasParts (H : List ℕ → List ℕ) (texts : List (List ℕ)) (query : List (List ℕ × ℕ)) (r : ℕ) (spots : List Spot) (positions cut : List ℕ) (brackets : List Bracket) (picks : List ℕ) : Type 0 where
+  pub sized : (bytes : List ℕ) → length (H bytes) ≡ 32
+  pub dictionary : IsDictionary (dictionary_of H texts)
+  pub front : IsHeader (header_parts H texts).documents (header_parts H texts).dict_leaves (header_parts H texts).dict_root (header_parts H texts).docs_root (header_parts H texts).texts_root
+  pub is_query : IsQuery query
+  pub found : AreSpots (dictionary_of H texts) query spots
+  pub needed : AreNeeded spots positions
+  pub positions_few : length positions ≤ 64
+  pub whole : AreWholeLanes (lanes_of texts query)
+  pub lists : All (λ (lane : WholeLane). IsList 65536 lane.entries) (lanes_of texts query)
+  pub first : IsFirstSettled (lanes_of texts query) r cut
+  pub bounds : AreBracketsOf (shown (lanes_of texts query) cut) brackets
+  pub chosen : IsChosen brackets r picks
+  pub rows : length picks ≤ 1000
+
+abbrev pub docs_of : List Bracket → List ℕ
+docs_of brackets = map (λ (b : Bracket). b.doc) brackets
+
+abbrev pub proof_of : (List ℕ → List ℕ) → List (List ℕ) → List (List ℕ × ℕ) → List Spot → List ℕ → List ℕ → List Bracket → List ℕ → Proof
+proof_of H texts query spots positions cut brackets picks = record {
+  header = header_parts H texts;
+  dict = map (shown_entry (dictionary_of H texts)) positions;
+  dict_digests = elided_digests H (dict_leaves (dictionary_of H texts)) positions;
+  slots = map (slot_of positions) spots;
+  met = docs_of brackets;
+  lists = prefixes H (docs_of brackets) (lanes_of texts query) cut;
+  docs = None;
+  answer = picks;
+}
+
+pub is_honest : (H : List ℕ → List ℕ) (texts : List (List ℕ)) (query : List (List ℕ × ℕ)) (r : ℕ) (spots : List Spot) (positions cut : List ℕ) (brackets : List Bracket) (picks : List ℕ)
+    → HasParts H texts query r spots positions cut brackets picks → IsHonest H texts query r (proof_of H texts query spots positions cut brackets picks)
+is_honest H texts query r spots positions cut brackets picks parts = record {
+  spots = spots;
+  found = parts.found;
+  positions = positions;
+  needed = parts.needed;
+  cut = cut;
+  first = parts.first;
+  brackets = brackets;
+  bounds = parts.bounds;
+  header = refl;
+  dict = refl;
+  dict_digests = refl;
+  slots = refl;
+  met = refl;
+  lists = refl;
+  docs = refl;
+  answer = parts.chosen;
+}
+
+pub lists_each : (H : List ℕ → List ℕ) (texts : List (List ℕ)) (query : List (List ℕ × ℕ)) (r : ℕ) (spots : List Spot) (positions cut : List ℕ) (brackets : List Bracket) (picks : List ℕ)
+    → HasParts H texts query r spots positions cut brackets picks → length (prefixes H (docs_of brackets) (lanes_of texts query) cut) ≡ present_in (map (slot_of positions) spots)
+lists_each H texts query r spots positions cut brackets picks parts =
+    let is_cut = scheduled_is_cut (lanes_of texts query) parts.first.turns cut parts.whole parts.first.scheduled in
+    prefix_each H (docs_of brackets) (lanes_of texts query) cut is_cut.size ∙ lanes_each H texts query positions spots parts.found
+
+pub is_in_range : (H : List ℕ → List ℕ) (texts : List (List ℕ)) (query : List (List ℕ × ℕ)) (r : ℕ) (spots : List Spot) (positions cut : List ℕ) (brackets : List Bracket) (picks : List ℕ)
+    → HasParts H texts query r spots positions cut brackets picks → IsInRange (proof_of H texts query spots positions cut brackets picks)
+is_in_range H texts query r spots positions cut brackets picks parts =
+    let entries = dictionary_of H texts in
+    let lanes = lanes_of texts query in
+    let leaves = dict_leaves entries in
+    let docs = docs_of brackets in
+    let is_cut = scheduled_is_cut lanes parts.first.turns cut parts.whole parts.first.scheduled in
+    let rises = met_rises (shown lanes cut) brackets parts.bounds in
+    let below = met_below 65536 lanes cut brackets (lists_below lanes parts.lists) parts.bounds in
+    let few : length docs ≤ 65536 = rising_few 65536 docs rises below in
+    let terms : length (map (slot_of positions) spots) ≡ length query = length-map spots (slot_of positions) ∙ spot_each entries query spots parts.found in
+    let shown_size = length-map positions (shown_entry entries) in
+    let inside = positions_below entries query spots positions parts.found parts.needed in record {
+      front = parts.front;
+      terms = (omega (arith, terms, parts.is_query.some), omega (arith, terms, parts.is_query.few));
+      leaves = (omega (arith, shown_size, positions_some entries query spots positions parts.is_query.some parts.found parts.needed), omega (arith, shown_size, parts.positions_few));
+      entries = good_entries entries positions 0 parts.dictionary parts.needed.rise (λ k d less. omega arith) inside;
+      others = record {
+        few = omega (arith, dictionary_few H leaves positions (omega (arith, length-dict_leaves entries, parts.dictionary.few)) parts.positions_few);
+        each = elided_sized H parts.sized (tree_of_places (length leaves) (shown_with leaves positions)) (tree_of leaves);
+      };
+      places = good_slots entries positions query spots parts.dictionary parts.positions_few parts.is_query.rises parts.found;
+      ids = (few, good_ids docs 0 rises (λ k d less. omega arith) below);
+      prefix_each = lists_each H texts query r spots positions cut brackets picks parts;
+      fronts = good_prefixes H parts.sized docs lanes cut few parts.lists is_cut.each;
+      rows = (parts.rows, small_rows brackets r picks (omega (arith, few, length-map brackets (λ (b : Bracket). b.doc))) parts.chosen);
+      alone = refl;
+    }
+
+-- the parts of the honest proof were asked for, one behind another
+pub written : (H : List ℕ → List ℕ) (texts : List (List ℕ)) (query : List (List ℕ × ℕ)) (r : ℕ) (spots : List Spot) (positions cut : List ℕ) (brackets : List Bracket) (picks : List ℕ) (w x y z : Written)
+    → HasParts H texts query r spots positions cut brackets picks
+    → x ≡ put w (front_fields None ++ header_fields (header_parts H texts) ++ spelled 2 (length (map (slot_of positions) spots)) ∷ [])
+    → y ≡ put x (counted 2 entry_fields (map (shown_entry (dictionary_of H texts)) positions) ++ counted 2 digest_fields (elided_digests H (dict_leaves (dictionary_of H texts)) positions)
+      ++ flat_map slot_fields (map (slot_of positions) spots))
+    → z ≡ put y (counted 4 id_fields (docs_of brackets) ++ flat_map prefix_fields (prefixes H (docs_of brackets) (lanes_of texts query) cut) ++ counted 2 id_fields picks)
+    → IsWritten H texts query r w z
+written H texts query r spots positions cut brackets picks w x y z parts front terms walk =
+    let proof = proof_of H texts query spots positions cut brackets picks in
+    let a : List (List ℕ) = front_fields None ++ header_fields (header_parts H texts) ++ spelled 2 (length (map (slot_of positions) spots)) ∷ [] in
+    let b : List (List ℕ) = counted 2 entry_fields (map (shown_entry (dictionary_of H texts)) positions) in
+    let c : List (List ℕ) = counted 2 digest_fields (elided_digests H (dict_leaves (dictionary_of H texts)) positions) in
+    let d : List (List ℕ) = flat_map slot_fields (map (slot_of positions) spots) in
+    let e : List (List ℕ) = counted 4 id_fields (docs_of brackets) in
+    let f : List (List ℕ) = flat_map prefix_fields (prefixes H (docs_of brackets) (lanes_of texts query) cut) in
+    let g : List (List ℕ) = counted 2 id_fields picks in record {
+      proof = proof;
+      honest = is_honest H texts query r spots positions cut brackets picks parts;
+      come = come_proof proof (is_in_range H texts query r spots positions cut brackets picks parts);
+      prefix_each = lists_each H texts query r spots positions cut brackets picks parts;
+      asked = walk ∙ ap (λ (v : Written). put v (e ++ f ++ g)) (terms ∙ ap (λ (v : Written). put v (b ++ c ++ d)) front) ∙ put_all w a b c d e f g;
+    }
+
+-- the first record is the first fields
+pub front_put : (algorithm : Algorithm) (h own : Header) (n m : ℕ) (w : Written) → algorithm ≡ Tnra → h ≡ own → n ≡ m → own.documents < 2 ^ 32 → own.dict_leaves < 2 ^ 32 → m < 2 ^ 16
+    → after w (front_record algorithm h n) ≡ put w (front_fields None ++ header_fields own ++ spelled 2 m ∷ [])
+front_put algorithm h own n m w tnra header number documents leaves few =
+    ap (after w) (ap (λ (x : Algorithm). front_record x h n) tnra ∙ ap₂ (λ (x : Header) (k : ℕ). front_record Tnra x k) header number ∙ front_is own m documents leaves few)
+
+-- ---- what a finished writer gives
+
+abbrev pub AreJoined : Type 0
+AreJoined = (limit : ℕ) (bytes more : List ℕ) → after (writing limit bytes) more ≡ writing limit (bytes ++ more)
+
+pub all_asked : AreJoined → (H : List ℕ → List ℕ) (texts : List (List ℕ)) (query : List (List ℕ × ℕ)) (r limit : ℕ) (w : Written) (is : IsWritten H texts query r (writing limit []) w)
+    → w ≡ writing limit (concat (fields_of is.proof))
+all_asked joined H texts query r limit w is = is.asked ∙ joined limit [] (concat (fields_of is.proof))
+
+no_documents : (proof : Proof) → proof.docs ≡ None → AreDocumentsOf proof proof.docs
+no_documents proof none = subst (AreDocumentsOf proof) (sym none) tt
+
+pub is_proved : (H : List ℕ → List ℕ) (texts : List (List ℕ)) (query : List (List ℕ × ℕ)) (r limit : ℕ) (w : Written) (bytes : List ℕ) (is : IsWritten H texts query r (writing limit []) w)
+    → bytes ≡ concat (fields_of is.proof) → length bytes ≤ 2 ^ 26 → IsProved H texts query r bytes
+is_proved H texts query r limit w bytes is same few = record {
+  proof = is.proof;
+  honest = is.honest;
+  spells = record {
+    spells = record { whole = record { come = is.come; parts = same ∙ sym (append-nil (concat (fields_of is.proof))) }; few = few };
+    prefix_each = is.prefix_each;
+    documents = no_documents is.proof is.honest.docs;
+  };
+}
+
+pub is_too_long : AreJoined → (H : List ℕ → List ℕ) (texts : List (List ℕ)) (query : List (List ℕ × ℕ)) (r limit : ℕ) (w : Written) (n : ℕ) (is : IsWritten H texts query r (writing limit []) w)
+    → n ≡ w.asked → w.limit < w.asked → IsTooLong H texts query r limit n
+is_too_long joined H texts query r limit w n is same over =
+    let all = all_asked joined H texts query r limit w is in record {
+      proof = is.proof;
+      honest = is.honest;
+      bytes_are = same ∙ ap (λ (v : Written). v.asked) all;
+      beyond = omega (arith, same, over, ap (λ (v : Written). v.limit) all);
+    }

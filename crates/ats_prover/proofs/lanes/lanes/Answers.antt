@@ -1,0 +1,91 @@
+use Rattle.std.proofs.Common.{◌≡◌, ◌+◌, ◌-◌, ◌*◌, ◌<◌, ◌≤◌, ◌++◌, ℕ, suc, List, [], ◌∷◌, length, map, get_or, take, refl, subst, sym, ap, ap₂, ◌∙◌, arith, take_all, length-append}
+use Rattle.std.specs.List.{All}
+use Rattle.ats_lists.specs.Lists.{IsList, list, lists_of}
+use Rattle.ats_impact.specs.Numbers.{idf}
+use Rattle.ats_lists.specs.declared.entry.Entry.{Entry}
+use Rattle.ats_dict.specs.Found.{IsSpot, StandsAt, LiesBetween}
+use Rattle.ats_commit.specs.Trees.{dictionary_of}
+use Rattle.ats_bound.specs.Schedule.{WholeLane, IsWholeLane, AreWholeLanes, whole_lane, whole_lanes}
+use Rattle.ats_prover.specs.Lanes.{lane_of, lanes_of}
+use Rattle.ats_prover.proofs.Spots.{spot_at, spot_each}
+use Rattle.ats_prover.proofs.Present.{absent_term, is_whole, lane_at, lane_none, standing_term}
+use Rattle.std.proofs.lemmas.List.{length-map, map-append}
+use Rattle.std.proofs.lemmas.List.Elements.{All-push}
+use Rattle.ats_prover.proofs.lanes.lanes.Goals as goal
+use Rattle.ats_prover.proofs.lanes.lanes.Goals.{in-At+in_ok-push-in-At, in-Between}
+
+pub bounds : goal.bounds
+bounds g c = omega (arith, spot_each (dictionary_of g.H.HashKind.hash c.args.index.now) c.args.query.now c.args.spots.now c.requires, c.loop-i-test.true, c.len-i-end.ensures.value)
+
+pub bounds-spots-i : goal.bounds-spots-i
+bounds-spots-i g c = omega (arith, spot_each (dictionary_of g.H.HashKind.hash c.args.index.now) c.args.query.now c.args.spots.now c.requires, c.loop-i-test.true, c.len-i-end.ensures.value)
+
+pub overflow_sub-p : goal.overflow_sub-p
+overflow_sub-p g c =
+    let entries = dictionary_of g.H.HashKind.hash c.args.index.now in
+    let term = (get_or c.args.query.now c.loop-i.i ([], 0)).0 in
+    let is = subst (IsSpot entries term) c.in-At.is
+        (spot_at entries c.args.query.now c.args.spots.now c.loop-i.i ([], 0) _ c.requires (omega (arith, c.loop-i-test.true, c.len-i-end.ensures.value))) in
+    is.some
+
+pub list-requires : goal.list-requires
+list-requires g c =
+    let entries = dictionary_of g.H.HashKind.hash c.args.index.now in
+    let term = (get_or c.args.query.now c.loop-i.i ([], 0)).0 in
+    let is = subst (IsSpot entries term) c.in-At.is
+        (spot_at entries c.args.query.now c.args.spots.now c.loop-i.i ([], 0) _ c.requires (omega (arith, c.loop-i-test.true, c.len-i-end.ensures.value))) in
+    let p : c.in-At.p ≡ suc (c.in-At.p - 1) = omega (arith, is.some) in
+    omega (arith, (standing_term g.H.HashKind.hash c.args.index.now term (c.in-At.p - 1) ([], []) (subst (StandsAt entries term) p is)).0, ap (λ (ls : List (List ℕ × List Entry)). length ls) c.lists-lists.ensures)
+
+pub loop-i-preserved : goal.loop-i-preserved
+loop-i-preserved g c =
+    let H = g.H.HashKind.hash in
+    let texts = c.args.index.now in
+    let query = c.args.query.now in
+    let entries = dictionary_of H texts in
+    let i = c.loop-i.i in
+    let term = (get_or query i ([], 0)).0 in
+    let inside : i < length query = omega (arith, c.loop-i-test.true, c.len-i-end.ensures.value) in
+    let spot = spot_at entries query c.args.spots.now i ([], 0) _ c.requires inside in
+    elim c.match-spots-i.branch [
+      | in-At+in_ok-push-in-At w ↦
+          let is = subst (IsSpot entries term) w.in-At.is spot in
+          let p : w.in-At.p ≡ suc (w.in-At.p - 1) = omega (arith, is.some) in
+          let lane = whole_lane w.lane.result in
+          let at = lane_at H texts query i (w.in-At.p - 1) c.documents-documents.result w.weight.result lane inside (subst (StandsAt entries term) p is)
+              (w.lane.ensures.entries ∙ w.list.ensures.value ([], []) ∙ ap (λ (ls : List (List ℕ × List Entry)). (get_or ls (w.in-At.p - 1) ([], [])).1) c.lists-lists.ensures)
+              (subst (λ (es : List Entry). 1 ≤ length es) (sym w.lane.ensures.entries) w.list.ensures.list.some)
+              (c.documents-documents.ensures.value ∙ ap (λ (ts : List (List ℕ)). length ts) c.collection.ensures) (w.weight.ensures.value ([], 0))
+              (w.lane.ensures.coefficient ∙ ap (λ (es : List Entry). w.weight.result * idf c.documents-documents.result (length es)) (sym w.lane.ensures.entries)) in
+          let more : whole_lanes c.match-spots-i.lanes.items ≡ whole_lanes c.loop-i.lanes.items ++ lane ∷ [] =
+              ap (λ v. map whole_lane v.items) w.lanes-is ∙ ap (map whole_lane) w.in_ok-push-in-At.ensures.items ∙ map-append whole_lane c.loop-i.lanes.items (w.lane.result ∷ []) in
+          let list : IsList 65536 lane.entries = subst (IsList 65536) (sym w.lane.ensures.entries) w.list.ensures.list in
+          record {
+            lanes = more ∙ ap (λ (ls : List WholeLane). ls ++ lane ∷ []) c.loop-i.invariant.lanes ∙ sym at.more;
+            few = omega (arith, ap (λ (ls : List WholeLane). length ls) more, length-append (whole_lanes c.loop-i.lanes.items) (lane ∷ []), length-map c.loop-i.lanes.items whole_lane,
+                length-map c.match-spots-i.lanes.items whole_lane, c.loop-i.invariant.few);
+            each = subst (All IsWholeLane) (sym more) (All-push IsWholeLane (whole_lanes c.loop-i.lanes.items) lane c.loop-i.invariant.each (is_whole lane list w.lane.ensures.some w.lane.ensures.few));
+            lists = subst (All (λ (l : WholeLane). IsList 65536 l.entries)) (sym more) (All-push (λ (l : WholeLane). IsList 65536 l.entries) (whole_lanes c.loop-i.lanes.items) lane c.loop-i.invariant.lists list);
+          }
+      | in-Between w ↦
+          let is = subst (IsSpot entries term) w.in-Between.is spot in
+          let same : whole_lanes c.match-spots-i.lanes.items ≡ whole_lanes c.loop-i.lanes.items = ap (λ v. map whole_lane v.items) w.lanes-is in
+          let none = absent_term H texts term w.in-Between.field-0 is in record {
+            lanes = same ∙ c.loop-i.invariant.lanes ∙ sym (lane_none texts query i ([], 0) inside none);
+            few = omega (arith, ap (λ (ls : List WholeLane). length ls) same, length-map c.loop-i.lanes.items whole_lane, length-map c.match-spots-i.lanes.items whole_lane, c.loop-i.invariant.few);
+            each = subst (All IsWholeLane) (sym same) c.loop-i.invariant.each;
+            lists = subst (All (λ (l : WholeLane). IsList 65536 l.entries)) (sym same) c.loop-i.invariant.lists;
+          }
+    ]
+
+pub returns-clause-lanes : goal.returns-clause-lanes
+returns-clause-lanes g c = rw (take_all c.loop-i.i c.args.query.now (omega (arith, c.loop-i-test.false, c.len-i-end.ensures.value))) at c.loop-i.invariant.lanes
+
+pub returns-clause-whole : goal.returns-clause-whole
+returns-clause-whole g c = subst AreWholeLanes (returns-clause-lanes g c) (record {
+  few = omega (arith, length-map c.loop-i.lanes.items whole_lane, c.loop-i.invariant.few, c.loop-i-test.false, c.len-i-end.ensures.value, c.len-i-end.ensures.query.few, c.loop-i.auto.i-end);
+  each = c.loop-i.invariant.each;
+})
+
+pub returns-clause-lists : goal.returns-clause-lists
+returns-clause-lists g c = subst (All (λ (lane : WholeLane). IsList 65536 lane.entries)) (returns-clause-lanes g c) c.loop-i.invariant.lists

@@ -1,0 +1,56 @@
+use Rattle.std.proofs.Common.{◌≡◌, ◌+◌, ◌*◌, ◌^◌, ◌<◌, ◌≤◌, ◌++◌, ℕ, List, [], length, map, get_or, take, refl, subst, sym, ap, ap₂, ◌∙◌, arith, append-nil, take_all}
+use Rattle.std.specs.List.{flat_map}
+use Rattle.std.proofs.lemmas.List.{length-map, get_or-map}
+use Rattle.ats_lists.specs.Lists.{IsList}
+use Rattle.ats_bound.specs.Schedule.{WholeLane, whole_lane, whole_lanes}
+use Rattle.ats_records.specs.Written.{Written}
+use Rattle.ats_proof.specs.Parts.{counted}
+use Rattle.ats_proof.specs.Value.{Prefix, id_fields, prefix_fields}
+use Rattle.ats_prover.specs.Honest.{prefixes}
+use Rattle.ats_prover.specs.Writing.{put}
+use Rattle.ats_prover.proofs.Fronts.{prefix_each, prefix_more}
+use Rattle.ats_prover.proofs.prefixes.write_lists.Goals as goal
+
+pub loop-i-init : goal.loop-i-init
+loop-i-init g c = record {
+  fields = c.in_ok-write_met.ensures.fields ∙ ap (put c.args.writer.now) (sym (append-nil (counted 4 id_fields c.args.met.now)));
+  size = omega (arith, c.in_ok-write_met.ensures.size);
+}
+
+abbrev none : WholeLane
+none = record { coefficient = 0; entries = [] }
+
+pub write_prefix-requires-clause-list : goal.write_prefix-requires-clause-list
+write_prefix-requires-clause-list g c =
+    let i = c.loop-i.i in
+    let inside : i < length c.args.lanes.now = omega (arith, c.loop-i-test.true) in
+    let is = c.requires.lists i none (omega (arith, inside, length-map c.args.lanes.now whole_lane)) in
+    subst (λ (l : WholeLane). IsList 65536 l.entries) (get_or-map whole_lane c.args.lanes.now i _ none inside) is
+
+pub write_prefix-requires-clause-some : goal.write_prefix-requires-clause-some
+write_prefix-requires-clause-some g c =
+    (c.requires.cut.each c.loop-i.i none (omega (arith, c.loop-i-test.true, length-map c.args.lanes.now whole_lane))).0
+
+pub write_prefix-requires-clause-within : goal.write_prefix-requires-clause-within
+write_prefix-requires-clause-within g c =
+    let i = c.loop-i.i in
+    let inside : i < length c.args.lanes.now = omega (arith, c.loop-i-test.true) in
+    let is = (c.requires.cut.each i none (omega (arith, inside, length-map c.args.lanes.now whole_lane))).1 in
+    subst (λ (l : WholeLane). get_or c.args.cut.now i 0 ≤ length l.entries) (get_or-map whole_lane c.args.lanes.now i _ none inside) is
+
+pub loop-i-preserved : goal.loop-i-preserved
+loop-i-preserved g c =
+    let inside : c.loop-i.i < length c.args.lanes.now = omega (arith, c.loop-i-test.true) in record {
+      fields = prefix_more g.H.HashKind.hash c.args.met.now c.args.writer.now (counted 4 id_fields c.args.met.now) c.args.lanes.now c.args.cut.now c.loop-i.i _
+          c.loop-i.writer c.write_prefix.new.writer c.requires.cut.size inside c.loop-i.invariant.fields c.in_ok-write_prefix.ensures.fields;
+      size = omega (arith, c.in_ok-write_prefix.ensures.size, c.loop-i.invariant.size);
+    }
+
+pub returns-clause-fields : goal.returns-clause-fields
+returns-clause-fields g c =
+    let H = g.H.HashKind.hash in
+    let lanes = whole_lanes c.args.lanes.now in
+    let all : List Prefix = prefixes H c.args.met.now lanes c.args.cut.now in
+    let each = prefix_each H c.args.met.now lanes c.args.cut.now c.requires.cut.size in
+    let whole : take c.loop-i.i all ≡ all = take_all c.loop-i.i all (omega (arith, each, c.loop-i-test.false, length-map c.args.lanes.now whole_lane)) in
+    c.loop-i.invariant.fields ∙ ap (λ (ps : List Prefix). put c.args.writer.now (counted 4 id_fields c.args.met.now ++ flat_map prefix_fields ps)) whole

@@ -1,0 +1,95 @@
+use Rattle.std.proofs.Common.{◌≡◌, ◌+◌, ◌<◌, ◌≤◌, ◌++◌, ℕ, List, [], ◌∷◌, length, map, subst, sym, ap, ap₂, ◌∙◌, arith}
+use Rattle.std.specs.List.{All, flat_map}
+use Rattle.std.proofs.lemmas.Result.{on_ok_weaker}
+use Rattle.std.proofs.lemmas.List.{length-map}
+use Rattle.ats_impact.specs.Limits.{AreWithin}
+use Rattle.ats_impact.specs.Score.{total_terms}
+use Rattle.ats_tree.specs.Elided.{elided_digests}
+use Rattle.ats_dict.specs.Entry.{DictEntry}
+use Rattle.ats_dict.specs.Dictionary.{IsDictionary, dict_leaves}
+use Rattle.ats_dict.specs.declared.spot.Spot.{Spot}
+use Rattle.ats_commit.specs.Trees.{dictionary_of}
+use Rattle.ats_commit.proofs.HeaderLemmas.{header_in_range}
+use Rattle.ats_index.specs.Parts.{header_parts}
+use Rattle.ats_bound.specs.Chosen.{IsChosen}
+use Rattle.ats_bound.specs.Schedule.{WholeLane, AreBracketsOf, IsFirstSettled, shown, whole_lanes}
+use Rattle.ats_tnra.specs.Parts.{IsCut}
+use Rattle.ats_records.specs.Written.{Written}
+use Rattle.ats_proof.specs.Parts.{counted}
+use Rattle.ats_proof.specs.Value.{digest_fields, entry_fields, id_fields, prefix_fields, slot_fields}
+use Rattle.ats_prover.specs.Terms.{AreNeeded, AreSpots, shown_entry, slot_of}
+use Rattle.ats_prover.specs.Lanes.{lanes_of}
+use Rattle.ats_prover.specs.Honest.{prefixes}
+use Rattle.ats_prover.specs.Writing.{put}
+use Rattle.ats_prover.proofs.Spots.{spot_each}
+use Rattle.ats_prover.proofs.Ranges.{positions_below}
+use Rattle.ats_prover.proofs.Whole.{HasParts, docs_of, front_put, scheduled_is_cut, written}
+use Rattle.ats_prover.proofs.proving.write_proof.Goals as goal
+
+pub write_terms-requires-clause-within : goal.write_terms-requires-clause-within
+write_terms-requires-clause-within g c =
+    let entries = dictionary_of g.H.HashKind.hash c.args.index.now in
+    let found : AreSpots entries c.args.query.now c.in_ok-spots.spots.items =
+        subst (λ (es : List DictEntry). AreSpots es c.args.query.now c.in_ok-spots.spots.items) c.dictionary-2.ensures c.in_ok-spots.ensures.spots in
+    let needed : AreNeeded c.in_ok-spots.spots.items c.in_ok-positions.positions.items =
+        subst (λ (ss : List Spot). AreNeeded ss c.in_ok-positions.positions.items) c.deref.ensures.value c.in_ok-positions.ensures.needed in
+    let below = positions_below entries c.args.query.now c.in_ok-spots.spots.items c.in_ok-positions.positions.items found needed in
+    let size : length c.dictionary-3.result.now ≡ length entries = ap (λ (es : List DictEntry). length es) c.dictionary-3.ensures in
+    λ k d inside. omega (arith, subst (λ (ps : List ℕ). All (λ p. p < length entries + 2) ps) (sym c.deref-2.ensures.value) below k d inside, size)
+
+pub write_walk-requires-clause-cut : goal.write_walk-requires-clause-cut
+write_walk-requires-clause-cut g c =
+    let lanes = lanes_of c.args.index.now c.args.query.now in
+    let same : whole_lanes c.deref-5.result.now ≡ lanes = ap whole_lanes c.deref-5.ensures.value ∙ c.in_ok-lanes.ensures.lanes in
+    let last : whole_lanes c.deref-6.result.now ≡ lanes = ap whole_lanes c.deref-6.ensures.value ∙ c.in_ok-lanes.ensures.lanes in
+    let first = subst (λ (ls : List WholeLane). IsFirstSettled ls c.args.top c.in_ok-end.end.cut) same c.in_ok-end.ensures.cut in
+    subst (λ (ls : List WholeLane). IsCut ls c.in_ok-end.end.cut) (sym last) (scheduled_is_cut lanes first.turns c.in_ok-end.end.cut c.in_ok-lanes.ensures.whole first.scheduled)
+
+pub returns : goal.returns
+returns g c =
+    let H = g.H.HashKind.hash in
+    let texts = c.args.index.now in
+    let query = c.args.query.now in
+    let entries = dictionary_of H texts in
+    let lanes = lanes_of texts query in
+    let spots = c.in_ok-spots.spots.items in
+    let positions = c.in_ok-positions.positions.items in
+    let cut = c.in_ok-end.end.cut in
+    let brackets = c.in_ok-end.end.brackets in
+    let picks = c.in_ok-end.end.picks in
+    let found : AreSpots entries query spots = subst (λ (es : List DictEntry). AreSpots es query spots) c.dictionary-2.ensures c.in_ok-spots.ensures.spots in
+    let dictionary : IsDictionary entries = subst IsDictionary c.dictionary.ensures c.len.ensures.kept in
+    let whole : whole_lanes c.deref-5.result.now ≡ lanes = ap whole_lanes c.deref-5.ensures.value ∙ c.in_ok-lanes.ensures.lanes in
+    let last : whole_lanes c.deref-6.result.now ≡ lanes = ap whole_lanes c.deref-6.ensures.value ∙ c.in_ok-lanes.ensures.lanes in
+    let total : total_terms texts ≤ 2 ^ 24 = omega (arith, c.total.ensures.value, c.total.ensures.few, ap total_terms c.collection-2.ensures) in
+    let range = header_in_range H g.H.HashKind.sized texts (subst AreWithin c.collection.ensures c.documents.ensures.within) total in
+    let parts : HasParts H texts query c.args.top spots positions cut brackets picks = record {
+      sized = g.H.HashKind.sized;
+      dictionary = dictionary;
+      front = range;
+      is_query = c.len-2.ensures.query;
+      found = found;
+      needed = subst (λ (ss : List Spot). AreNeeded ss positions) c.deref.ensures.value c.in_ok-positions.ensures.needed;
+      positions_few = omega (arith, c.in_ok-positions.ensures.few, c.in_ok-spots.ensures.few, ap (λ (ss : List Spot). length ss) c.deref.ensures.value);
+      whole = c.in_ok-lanes.ensures.whole;
+      lists = c.in_ok-lanes.ensures.lists;
+      first = subst (λ (ls : List WholeLane). IsFirstSettled ls c.args.top cut) whole c.in_ok-end.ensures.cut;
+      bounds = subst (λ (ls : List WholeLane). AreBracketsOf (shown ls cut) brackets) whole c.in_ok-end.ensures.brackets;
+      chosen = c.in_ok-end.ensures.picks;
+      rows = omega (arith, c.in_ok-end.ensures.settled.most, c.get.ensures.value, c.get.ensures.few);
+    } in
+    let number : c.len-2.result ≡ length (map (slot_of positions) spots) =
+        c.len-2.ensures.value ∙ sym (length-map spots (slot_of positions) ∙ spot_each entries query spots found) in
+    let front = c.in_ok-front.ensures.ok
+        ∙ front_put c.args.algorithm c.header.result.now (header_parts H texts) c.len-2.result (length (map (slot_of positions) spots)) c.args.writer.now c.requires.algorithm c.header.ensures number
+        (omega (arith, range.numbers.few)) (omega (arith, range.numbers.terms)) (omega (arith, number, c.len-2.ensures.value, c.len-2.ensures.query.few)) in
+    let Terms : List DictEntry → List ℕ → List Spot → Written = λ (es : List DictEntry) (ps : List ℕ) (ss : List Spot).
+        put c.front.new.self (counted 2 entry_fields (map (shown_entry es) ps) ++ counted 2 digest_fields (elided_digests H (dict_leaves es) ps) ++ flat_map slot_fields (map (slot_of ps) ss)) in
+    let terms : c.write_terms.new.writer ≡ Terms entries positions spots = c.in_ok-write_terms.ensures.fields
+        ∙ ap (λ (es : List DictEntry). Terms es c.deref-2.result.now c.deref-3.result.now) c.dictionary-3.ensures
+        ∙ ap₂ (λ (ps : List ℕ) (ss : List Spot). Terms entries ps ss) c.deref-2.ensures.value c.deref-3.ensures.value in
+    let Walk : List WholeLane → Written = λ (ls : List WholeLane).
+        put c.write_terms.new.writer (counted 4 id_fields (docs_of brackets) ++ flat_map prefix_fields (prefixes H (docs_of brackets) ls cut) ++ counted 2 id_fields picks) in
+    on_ok_weaker c.write_walk.result (λ is.
+      written H texts query c.args.top spots positions cut brackets picks c.args.writer.now c.front.new.self c.write_terms.new.writer c.write_walk.new.writer parts front terms
+      (is ∙ ap Walk last)) c.write_walk.ensures.fields

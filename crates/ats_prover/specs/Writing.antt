@@ -1,0 +1,21 @@
+-- Fields that are asked of a writer.
+use Rattle.std.specs.Prelude.{◌≡◌, ℕ, List, length}
+use Rattle.std.specs.List.{concat}
+use Rattle.ats_records.specs.Written.{Written, after}
+use Rattle.ats_grammar.specs.Table.{End}
+use Rattle.ats_grammar.specs.Front.{Come}
+use Rattle.ats_grammar.specs.Grammar as grammar
+use Rattle.ats_proof.specs.Value.{Proof, fields_of, present_in}
+use Rattle.ats_prover.specs.Honest.{IsHonest}
+
+-- the bytes of these fields were asked for, one field behind another
+abbrev pub put : Written → List (List ℕ) → Written
+put written fields = after written (concat fields)
+
+-- all fields of the honest proof were asked for, and they come in the grammar's order
+pub record IsWritten (H : List ℕ → List ℕ) (texts : List (List ℕ)) (query : List (List ℕ × ℕ)) (r : ℕ) (before now : Written) : Type 0 where
+  pub proof : Proof
+  pub honest : IsHonest H texts query r proof
+  pub come : Come (fields_of proof) grammar.proof End
+  pub prefix_each : length proof.lists ≡ present_in proof.slots
+  pub asked : now ≡ put before (fields_of proof)

@@ -1,0 +1,119 @@
+//! The proof of a query's best documents.
+
+ghost use Rattle.std.specs.Prelude.{◌≡◌, ◌≤◌, ◌+◌, ◌^◌, ◌++◌, ℕ, List, length, map, IfOk, IfErr, OnOk};
+ghost use Rattle.std.specs.List.{All, flat_map};
+ghost use Rattle.ats_lists.specs.Lists.{IsList};
+ghost use Rattle.ats_bound.specs.declared.bracket.Bracket.{Bracket as Bounds};
+ghost use Rattle.ats_bound.specs.Schedule.{AreBracketsOf, AreWholeLanes, shown, whole_lanes};
+ghost use Rattle.ats_tnra.specs.Parts.{IsCut};
+ghost use Rattle.ats_proof.specs.Parts.{counted};
+ghost use Rattle.ats_proof.specs.Value.{id_fields, prefix_fields};
+ghost use Rattle.ats_records.specs.declared.record.Algorithm.TheVariants.{Tnra};
+ghost use Rattle.ats_prover.specs.Honest.{IsProved, IsFault, prefixes};
+ghost use Rattle.ats_prover.specs.Writing.{IsWritten, put};
+
+use crate::answer::{documents, write_answer};
+use crate::dictionary::{positions, spots, write_terms};
+use crate::fault::{OutOfMemory, ProveFault};
+use crate::lanes::lanes;
+use crate::prefixes::write_lists;
+use ats_base::Bytes;
+use ats_bound::{Lane, Walk};
+use ats_hash::Hash32;
+use ats_impact::Top;
+use ats_index::Index;
+use ats_records::{Algorithm, ProofWriter, records_are_joined};
+use ats_terms::Query;
+use ats_tnra::walk;
+use ats_tree::Leaves;
+use std::alloc::Global;
+
+// What a proof shows of where the walk ended: the met documents, the fronts of the lists, and the answer.
+fn write_walk<H: Hash32>(
+    alloc: Global,
+    writer: &mut ProofWriter,
+    lanes: &[Lane<'_>],
+    walk: &Walk,
+) -> Result<(), OutOfMemory>
+    requires lanes { AreWholeLanes (whole_lanes lanes.now) }
+    requires lists { All (λ lane. IsList 65536 lane.entries) (whole_lanes lanes.now) }
+    requires cut { IsCut (whole_lanes lanes.now) walk.now.cut }
+    requires brackets { AreBracketsOf (shown (whole_lanes lanes.now) walk.now.cut) walk.now.brackets }
+    requires rows { length walk.now.picks ≤ 1000 }
+    requires room { writer.old.asked ≤ 2 ^ 57 }
+    ensures fields { OnOk result (writer.new ≡ put writer.old (counted 4 id_fields (map (λ (b : Bounds). b.doc) walk.now.brackets)
+        ++ flat_map prefix_fields (prefixes H.hash (map (λ (b : Bounds). b.doc) walk.now.brackets) (whole_lanes lanes.now) walk.now.cut)
+        ++ counted 2 id_fields walk.now.picks)) }
+{
+    let met = documents(alloc, walk.brackets.as_slice())?;
+    write_lists::<H>(alloc, writer, &met, lanes, walk.cut.as_slice())?;
+    write_answer(writer, walk.picks.as_slice())
+}
+
+// Everything that the honest proof says.
+fn write_proof<H: Hash32>(
+    alloc: Global,
+    writer: &mut ProofWriter,
+    index: &Index<H>,
+    query: &Query,
+    top: Top,
+    algorithm: Algorithm,
+) -> Result<(), OutOfMemory>
+    requires algorithm { algorithm ≡ Tnra }
+    requires room { writer.old.asked ≡ 0 }
+    ensures { OnOk result (IsWritten H.hash index.now query.now top writer.old writer.new) }
+{
+    // A collection's header is in range, its dictionary is sorted, and an answer has few rows.
+    prove!(index.collection().documents() >= 1);
+    prove!(index.collection().total() <= 1 << 24);
+    prove!(index.dictionary().len() >= 2);
+    prove!(top.get() <= 1000);
+    let spots = spots(alloc, index.dictionary(), query)?;
+    let positions = positions(alloc, &spots)?;
+    writer.front(algorithm, index.header(), query.len() as u16)?;
+    write_terms::<H>(alloc, writer, index.dictionary(), &positions, &spots)?;
+    let lanes = lanes(alloc, index, query, &spots)?;
+    let end = walk(alloc, &lanes, top)?;
+    write_walk::<H>(alloc, writer, &lanes, &end)
+}
+
+const MAX_PROOF: u64 = 1 << 26;
+
+/// The proof of the best documents of a query, of at most 2^26 bytes.
+pub fn prove<H: Hash32>(
+    alloc: Global,
+    index: &Index<H>,
+    query: &Query,
+    top: Top,
+    algorithm: Algorithm,
+) -> Result<Bytes, ProveFault>
+    requires { algorithm ≡ Tnra }
+    ensures ok { IfOk result (IsProved H.hash index.now query.now top) }
+    ensures err { IfErr result (IsFault H.hash index.now query.now top (2 ^ 26)) }
+{
+    prove_within(alloc, index, query, top, algorithm, MAX_PROOF)
+}
+
+/// The proof of the best documents of a query, of at most `limit` bytes.
+pub fn prove_within<H: Hash32>(
+    alloc: Global,
+    index: &Index<H>,
+    query: &Query,
+    top: Top,
+    algorithm: Algorithm,
+    limit: u64,
+) -> Result<Bytes, ProveFault>
+    requires algorithm { algorithm ≡ Tnra }
+    requires limit { limit ≤ 2 ^ 26 }
+    ensures ok { IfOk result (IsProved H.hash index.now query.now top) }
+    ensures within { IfOk result (λ bytes. length bytes ≤ limit) }
+    ensures err { IfErr result (IsFault H.hash index.now query.now top limit) }
+{
+    records_are_joined();
+    let mut writer = ProofWriter::new(alloc, limit);
+    write_proof(alloc, &mut writer, index, query, top, algorithm)?;
+    match writer.finish() {
+        Ok(bytes) => Ok(bytes),
+        Err(length) => Err(ProveFault::ProofTooLong { length }),
+    }
+}
