@@ -1,0 +1,214 @@
+-- How many digests some shown leaves need at most.
+use Rattle.std.proofs.Common.{◌≡◌, ◌⊎◌, ◌+◌, ◌*◌, ◌^◌, ◌<◌, ◌≤◌, ℕ, zero, suc, Bool, true, false, ◌&&◌, List, [], ◌∷◌, ◌++◌, length, map, take, drop, get_or, Option, Some, None, nat_eq, refl, sym, ap, subst, ◌∙◌, arith, inl, inr, length-append}
+use Rattle.std.specs.List.{range_with_len}
+use Rattle.std.specs.Option.{is_none}
+use Rattle.std.proofs.Math.Nat.{two-pow-succ}
+use Rattle.std.proofs.Math.Pow.{pow_mono}
+use Rattle.std.proofs.lemmas.Bool.{cond-true, cond-false, cases_Bool, cases_lt, and_parts, eqb-true}
+use Rattle.std.proofs.lemmas.List.{length-take, length-drop, length-map}
+use Rattle.ats_tree.specs.Tree.{Tree, empty, leaf, node, tree_within, tree_of}
+use Rattle.ats_tree.specs.Shown.{Shown, shown_at, places}
+use Rattle.ats_tree.specs.Rebuild.{is_bare, need, tree_of_places}
+use Rattle.ats_tree.specs.Elided.{shown_with, elided_of, elided_digests, left_of, right_of}
+use Rattle.ats_tree.proofs.Trees.{within-cut, within-suc, of-within}
+use Rattle.ats_tree.proofs.Places.{length-places}
+
+-- as many as the tree needs, whatever the leaves are
+elided_need : (H : List ℕ → List ℕ) (t : Tree (Option (List ℕ))) (u : Tree (List ℕ)) → length (elided_of H t u) ≡ need t
+elided_need H empty u = refl
+elided_need H (leaf None) u = refl
+elided_need H (leaf (Some x)) u = refl
+elided_need H (node l r) u = elim (cases_Bool (is_bare l && is_bare r)) [
+  | inl bare ↦ ap length (cond-true _ _ _ bare) ∙ sym (cond-true _ _ _ bare)
+  | inr shows ↦
+      ap length (cond-false _ _ _ shows) ∙ length-append (elided_of H l (left_of u)) (elided_of H r (right_of u))
+      ∙ rw (elided_need H l (left_of u), elided_need H r (right_of u)) (sym (cond-false _ _ _ shows))
+]
+
+-- ---- places with and without a leaf
+
+abbrev pub filled : List (Option (List ℕ)) → ℕ
+filled [] = 0
+filled (None ∷ os) = filled os
+filled (Some x ∷ os) = 1 + filled os
+
+abbrev pub holes : List (Option (List ℕ)) → ℕ
+holes [] = 0
+holes (None ∷ os) = 1 + holes os
+holes (Some x ∷ os) = holes os
+
+filled-cut : (k : ℕ) (os : List (Option (List ℕ))) → filled os ≡ filled (take k os) + filled (drop k os)
+filled-cut zero os = omega arith
+filled-cut (suc k) [] = omega arith
+filled-cut (suc k) (None ∷ os) = filled-cut k os
+filled-cut (suc k) (Some x ∷ os) = omega (arith, filled-cut k os)
+
+holes-cut : (k : ℕ) (os : List (Option (List ℕ))) → holes os ≡ holes (take k os) + holes (drop k os)
+holes-cut zero os = omega arith
+holes-cut (suc k) [] = omega arith
+holes-cut (suc k) (None ∷ os) = omega (arith, holes-cut k os)
+holes-cut (suc k) (Some x ∷ os) = holes-cut k os
+
+pub holes-few : (os : List (Option (List ℕ))) → holes os ≤ length os
+holes-few [] = omega arith
+holes-few (None ∷ os) = omega (arith, holes-few os)
+holes-few (Some x ∷ os) = omega (arith, holes-few os)
+
+filled-cons : (o : Option (List ℕ)) (os : List (Option (List ℕ))) → filled (o ∷ os) ≡ filled (o ∷ []) + filled os
+filled-cons None os = omega arith
+filled-cons (Some x) os = omega arith
+
+-- ---- no more digests than places without a leaf
+
+bare_has_hole : (h : ℕ) (os : List (Option (List ℕ))) → length os ≤ 2 ^ h → 1 ≤ length os → is_bare (tree_within h os) ≡ true → 1 ≤ holes os
+unfolding tree_within
+bare_has_hole zero [] short some bare = absurd (omega (arith, some))
+bare_has_hole zero (None ∷ os) short some bare = omega arith
+bare_has_hole zero (Some x ∷ os) short some bare = absurd (cc)
+bare_has_hole (suc h) os short some bare = elim (cases_lt (2 ^ h) (length os)) [
+  | inl long ↦
+      let parts = and_parts _ _ (subst (λ t. is_bare t ≡ true) (within-cut h os long) bare) in
+      let first = bare_has_hole h (take (2 ^ h) os) (omega (arith, length-take (2 ^ h) os)) (omega (arith, long, some, length-take (2 ^ h) os, pow_some h)) parts.0 in
+      omega (arith, first, holes-cut (2 ^ h) os)
+  | inr few ↦ bare_has_hole h os few some (subst (λ t. is_bare t ≡ true) (within-suc h os few) bare)
+]
+  where
+    pow_some : (k : ℕ) → 1 ≤ 2 ^ k
+    pow_some zero = omega arith
+    pow_some (suc k) = omega (arith, pow_some k, two-pow-succ k)
+
+need_holes : (h : ℕ) (os : List (Option (List ℕ))) → length os ≤ 2 ^ h → need (tree_within h os) ≤ holes os
+unfolding tree_within
+need_holes zero [] short = omega arith
+need_holes zero (None ∷ os) short = omega arith
+need_holes zero (Some x ∷ os) short = omega arith
+need_holes (suc h) os short = elim (cases_lt (2 ^ h) (length os)) [
+  | inl long ↦
+      let l = tree_within h (take (2 ^ h) os) in
+      let r = tree_within h (drop (2 ^ h) os) in
+      let first = need_holes h (take (2 ^ h) os) (omega (arith, length-take (2 ^ h) os)) in
+      let second = need_holes h (drop (2 ^ h) os) (omega (arith, short, two-pow-succ h, length-drop (2 ^ h) os)) in
+      subst (λ t. need t ≤ holes os) (sym (within-cut h os long)) (elim (cases_Bool (is_bare l && is_bare r)) [
+        | inl bare ↦
+            let one : need (node l r) ≡ 1 = cond-true _ _ _ bare in
+            let some = bare_has_hole (suc h) os short (omega (arith, long)) (subst (λ t. is_bare t ≡ true) (sym (within-cut h os long)) bare) in
+            omega (arith, one, some)
+        | inr shows ↦
+            let both : need (node l r) ≡ need l + need r = cond-false _ _ _ shows in
+            omega (arith, both, first, second, holes-cut (2 ^ h) os)
+      ])
+  | inr few ↦ subst (λ t. need t ≤ holes os) (sym (within-suc h os few)) (need_holes h os few)
+]
+
+-- ---- no more than one digest for each level and each shown leaf, and one
+
+abbrev pub IsFew : ℕ → List (Option (List ℕ)) → Tree (Option (List ℕ)) → Type 0
+IsFew h os t = ((is_bare t ≡ true) × (need t ≤ 1)) ⊎ ((is_bare t ≡ false) × (1 ≤ filled os) × (need t ≤ h * filled os))
+
+one_more : (h a b x y : ℕ) → x ≤ 1 → 1 ≤ b → y ≤ h * b → x + y ≤ suc h * (a + b)
+one_more h a b x y one some few = omega (arith, one, some, few)
+
+few_more : (h a b x y : ℕ) → x ≤ h * a → y ≤ h * b → x + y ≤ suc h * (a + b)
+few_more h a b x y first second = omega (arith, first, second)
+
+higher : (h : ℕ) (os : List (Option (List ℕ))) (t : Tree (Option (List ℕ))) → IsFew h os t → IsFew (suc h) os t
+higher h os t (inl bare) = inl bare
+higher h os t (inr shows) = inr (shows.0, shows.1, omega (arith, shows.2))
+
+both_show : (h : ℕ) (os left right : List (Option (List ℕ))) (l r : Tree (Option (List ℕ))) → filled os ≡ filled left + filled right
+    → is_bare l && is_bare r ≡ false → 1 ≤ filled os → need l + need r ≤ suc h * (filled left + filled right) → IsFew (suc h) os (node l r)
+both_show h os left right l r cut shows some few =
+    let all : need (node l r) ≡ need l + need r = cond-false _ _ _ shows in
+    inr (shows, some, subst (λ m. need (node l r) ≤ suc h * m) (sym cut) (omega (arith, all, few)))
+
+both : (h : ℕ) (os left right : List (Option (List ℕ))) (l r : Tree (Option (List ℕ))) → filled os ≡ filled left + filled right
+    → IsFew h left l → IsFew h right r → IsFew (suc h) os (node l r)
+both h os left right l r cut (inl a) (inl b) =
+    let bare : is_bare l && is_bare r ≡ true = rw (a.0, b.0) refl in
+    let one : need (node l r) ≡ 1 = cond-true _ _ _ bare in
+    inl (bare, omega (arith, one))
+both h os left right l r cut (inl a) (inr b) =
+    both_show h os left right l r cut (rw (a.0, b.0) refl) (omega (arith, cut, b.1)) (one_more h (filled left) (filled right) (need l) (need r) a.1 b.1 b.2)
+both h os left right l r cut (inr a) (inl b) =
+    both_show h os left right l r cut (rw a.0 refl) (omega (arith, cut, a.1)) (omega (arith, one_more h (filled right) (filled left) (need r) (need l) b.1 a.1 a.2))
+both h os left right l r cut (inr a) (inr b) =
+    both_show h os left right l r cut (rw a.0 refl) (omega (arith, cut, a.1)) (few_more h (filled left) (filled right) (need l) (need r) a.2 b.2)
+
+need_filled : (h : ℕ) (os : List (Option (List ℕ))) → length os ≤ 2 ^ h → IsFew h os (tree_within h os)
+unfolding tree_within
+need_filled zero [] short = inl (refl, omega arith)
+need_filled zero (None ∷ os) short = inl (refl, omega arith)
+need_filled zero (Some x ∷ os) short = inr (refl, omega arith, omega arith)
+need_filled (suc h) os short = elim (cases_lt (2 ^ h) (length os)) [
+  | inl long ↦
+      let left = take (2 ^ h) os in
+      let right = drop (2 ^ h) os in
+      let first = need_filled h left (omega (arith, length-take (2 ^ h) os)) in
+      let second = need_filled h right (omega (arith, short, two-pow-succ h, length-drop (2 ^ h) os)) in
+      subst (IsFew (suc h) os) (sym (within-cut h os long)) (both h os left right (tree_within h left) (tree_within h right) (filled-cut (2 ^ h) os) first second)
+  | inr few ↦ subst (IsFew (suc h) os) (sym (within-suc h os few)) (higher h os (tree_within h os) (need_filled h os few))
+]
+
+-- ---- shown leaves fill no more places than they are
+
+filled_none : (from n : ℕ) → filled (places from n []) ≡ 0
+filled_none from zero = refl
+filled_none from (suc n) = filled_none (from + 1) n
+
+filled_one : (s : Shown) (rest : List Shown) (from n : ℕ)
+    → (s.0 < from → filled (places from n (s ∷ rest)) ≤ filled (places from n rest)) × (filled (places from n (s ∷ rest)) ≤ 1 + filled (places from n rest))
+filled_one s rest from zero = ((λ less. omega arith), omega arith)
+filled_one s rest from (suc n) =
+    let later = filled_one s rest (from + 1) n in
+    let whole = filled-cons (shown_at (s ∷ rest) from) (places (from + 1) n (s ∷ rest)) in
+    let other = filled-cons (shown_at rest from) (places (from + 1) n rest) in
+    elim (cases_Bool (nat_eq s.0 from)) [
+      | inl here ↦
+          let is : s.0 ≡ from = eqb-true s.0 from here in
+          let at : shown_at (s ∷ rest) from ≡ Some s.1 = cond-true _ _ _ here in
+          let one : filled (shown_at (s ∷ rest) from ∷ []) ≡ 1 = ap (λ o. filled (o ∷ [])) at in
+          ((λ less. absurd (omega (arith, less, is))), omega (arith, whole, other, one, later.0 (omega (arith, is))))
+      | inr not ↦
+          let at : shown_at (s ∷ rest) from ≡ shown_at rest from = cond-false _ _ _ not in
+          let same : filled (shown_at (s ∷ rest) from ∷ []) ≡ filled (shown_at rest from ∷ []) = ap (λ o. filled (o ∷ [])) at in
+          ((λ less. omega (arith, whole, other, same, later.0 (omega (arith, less)))), omega (arith, whole, other, same, later.1))
+    ]
+
+filled_few : (shown : List Shown) (from n : ℕ) → filled (places from n shown) ≤ length shown
+filled_few [] from n = omega (arith, filled_none from n)
+filled_few (s ∷ rest) from n = omega (arith, (filled_one s rest from n).1, filled_few rest from n)
+
+-- ---- the bounds of a proof
+
+abbrev shown_of : List (List ℕ) → ℕ → Shown
+shown_of leaves p = (p, get_or leaves p [])
+
+-- at most 64 leaves of a dictionary need few digests
+pub dictionary_few : (H : List ℕ → List ℕ) (leaves : List (List ℕ)) (positions : List ℕ) → length leaves ≤ 2 ^ 25 → length positions ≤ 64
+    → length (elided_digests H leaves positions) ≤ 1601
+dictionary_few H leaves positions short few =
+    let shown = shown_with leaves positions in
+    let os = places 0 (length leaves) shown in
+    let size = length-places 0 (length leaves) shown in
+    let low : length os ≤ 2 ^ 25 = omega (arith, short, size) in
+    let count : filled os ≤ 64 = omega (arith, filled_few shown 0 (length leaves), length-map positions (shown_of leaves), few) in
+    let all = elided_need H (tree_of os) (tree_of leaves) ∙ ap need (of-within 25 os low) in
+    elim (need_filled 25 os low) [
+      | inl bare ↦ omega (arith, all, bare.1)
+      | inr shows ↦ omega (arith, all, shows.2, count)
+    ]
+
+-- the first leaves of a list need fewer digests than the list has leaves
+pub prefix_few : (H : List ℕ → List ℕ) (leaves : List (List ℕ)) (k : ℕ) → length leaves ≤ 65536 → 1 ≤ length leaves → 1 ≤ k
+    → length (elided_digests H leaves (range_with_len 0 k)) ≤ 65535
+prefix_few H leaves zero few any some = absurd (omega (arith, some))
+prefix_few H [] (suc k) few any some = absurd (omega (arith, any))
+prefix_few H (x ∷ xs) (suc k) few any some =
+    let leaves = x ∷ xs in
+    let shown = shown_with leaves (range_with_len 0 (suc k)) in
+    let os = places 0 (length leaves) shown in
+    let size = length-places 0 (length leaves) shown in
+    let low : length os ≤ 2 ^ 16 = omega (arith, few, size) in
+    let all = elided_need H (tree_of os) (tree_of leaves) ∙ ap need (of-within 16 os low) in
+    let left : holes os ≤ length xs = omega (arith, holes-few (places 1 (length xs) shown), length-places 1 (length xs) shown) in
+    omega (arith, all, need_holes 16 os low, left, few)

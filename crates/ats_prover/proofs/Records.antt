@@ -1,0 +1,73 @@
+-- The records of a writer are the fields of a proof, joined.
+use Rattle.std.proofs.Common.{◌≡◌, ◌+◌, ◌*◌, ◌/◌, ◌%◌, ◌^◌, ◌<◌, ℕ, zero, suc, Bool, true, false, cond, List, [], ◌∷◌, ◌++◌, length, refl, sym, ap, ap₂, subst, ◌∙◌, arith, append_assoc, append-nil}
+use Rattle.std.specs.Int.{to_be_bytes, w16, w32}
+use Rattle.std.specs.List.{concat}
+use Rattle.std.proofs.Math.Nat.{mod-lt, div-lt_iff_lt-mul, pow-succ'}
+use Rattle.ats_lists.specs.declared.entry.Entry.{Entry}
+use Rattle.ats_dict.specs.Entry.{DictEntry, dict_leaf_bytes}
+use Rattle.ats_dict.specs.Header.{header_bytes}
+use Rattle.ats_dict.specs.declared.header.Header.{Header}
+use Rattle.ats_grammar.specs.Table.{number}
+use Rattle.ats_records.specs.declared.record.Algorithm.TheVariants.{Tnra}
+use Rattle.ats_records.specs.declared.record.Slot.{Slot}
+use Rattle.ats_records.specs.Records.{front_record, dict_leaf_record, slot_record, entry_record, kind_byte}
+use Rattle.std.specs.Prelude.{None}
+use Rattle.ats_proof.specs.Parts.{spelled}
+use Rattle.ats_proof.specs.Value.{ShownEntry, front_fields, header_fields, entry_fields, slot_fields, posting_fields}
+use Rattle.ats_proof.proofs.Encoding.{be_2, be_4}
+use Rattle.ats_proof.proofs.Numbers.{AreBytes, number-spelled}
+
+power_some : (k : ℕ) → 0 < 256 ^ k
+power_some zero = omega arith
+power_some (suc k) = let h = power_some k in omega (arith, h)
+
+small_spelled : (k n : ℕ) → n < 256 ^ k → AreBytes (spelled k n)
+small_spelled zero n few i = omega arith
+small_spelled (suc k) n few zero =
+    let whole : n < 256 * 256 ^ k = subst (λ (m : ℕ). n < m) (pow-succ' 256 k) few in
+    (div-lt_iff_lt-mul (power_some k)).1 (omega (arith, whole))
+small_spelled (suc k) n few (suc i) = small_spelled k (n % 256 ^ k) (mod-lt n (power_some k)) i
+
+pub spelled_2 : (n : ℕ) → n < 2 ^ 16 → to_be_bytes w16 n ≡ spelled 2 n
+spelled_2 n few = ap (to_be_bytes w16) (sym (number-spelled 1 n)) ∙ be_2 (spelled 2 n) (omega arith) (small_spelled 2 n (omega (arith, few)))
+
+pub spelled_4 : (n : ℕ) → n < 2 ^ 32 → to_be_bytes w32 n ≡ spelled 4 n
+spelled_4 n few = ap (to_be_bytes w32) (sym (number-spelled 3 n)) ∙ be_4 (spelled 4 n) (omega arith) (small_spelled 4 n (omega (arith, few)))
+
+spelled_1 : (n : ℕ) → spelled 1 n ≡ n ∷ []
+spelled_1 n = let e : n / 1 ≡ n = omega arith in ap (λ (m : ℕ). m ∷ []) e
+
+pub entry_is : (p : ℕ) (e : DictEntry) → p < 2 ^ 32 → e.f < 2 ^ 32
+    → dict_leaf_record p e.term e.f e.root ≡ concat (entry_fields (record { position = p; entry = e }))
+unfolding dict_leaf_bytes
+entry_is p e few small =
+    let back : to_be_bytes w32 e.f ++ e.root ≡ spelled 4 e.f ++ (e.root ++ []) =
+        ap₂ (λ (xs ys : List ℕ). xs ++ ys) (spelled_4 e.f small) (sym (append-nil e.root)) in
+    let seam : (e.term ++ to_be_bytes w32 e.f) ++ e.root ≡ e.term ++ (to_be_bytes w32 e.f ++ e.root) = append_assoc e.term (to_be_bytes w32 e.f) e.root in
+    let leaf : length e.term ∷ ((e.term ++ to_be_bytes w32 e.f) ++ e.root) ≡ spelled 1 (length e.term) ++ (e.term ++ (spelled 4 e.f ++ (e.root ++ []))) =
+        ap₂ (λ (n : List ℕ) (xs : List ℕ). n ++ xs) (sym (spelled_1 (length e.term))) (seam ∙ ap (λ (xs : List ℕ). e.term ++ xs) back) in
+    ap₂ (λ (xs ys : List ℕ). xs ++ ys) (spelled_4 p few) leaf
+
+kind_is : (present : Bool) → kind_byte present ≡ cond present 1 0 / 1
+kind_is true = refl
+kind_is false = refl
+
+pub slot_is : (slot : Slot) → slot.index < 2 ^ 16 → slot_record slot ≡ concat (slot_fields slot)
+slot_is slot few = ap₂ (λ (n : ℕ) (xs : List ℕ). n ∷ xs) (kind_is slot.present) (spelled_2 slot.index few)
+
+pub posting_is : (index impact : ℕ) → index < 2 ^ 32 → impact < 2 ^ 16
+    → entry_record index impact ≡ concat (posting_fields (record { doc = index; impact = impact }))
+posting_is index impact few small = ap₂ (λ (xs ys : List ℕ). xs ++ ys) (spelled_4 index few) (spelled_2 impact small)
+
+pub front_is : (h : Header) (n : ℕ) → h.documents < 2 ^ 32 → h.dict_leaves < 2 ^ 32 → n < 2 ^ 16
+    → front_record Tnra h n ≡ concat (front_fields None ++ header_fields h ++ spelled 2 n ∷ [])
+unfolding header_bytes
+front_is h n documents leaves few =
+    let three : List ℕ = (h.dict_root ++ h.docs_root) ++ h.texts_root in
+    let tail : three ++ to_be_bytes w16 n ≡ h.dict_root ++ (h.docs_root ++ (h.texts_root ++ spelled 2 n)) =
+        append_assoc (h.dict_root ++ h.docs_root) h.texts_root (to_be_bytes w16 n)
+        ∙ append_assoc h.dict_root h.docs_root (h.texts_root ++ to_be_bytes w16 n)
+        ∙ ap (λ (xs : List ℕ). h.dict_root ++ (h.docs_root ++ (h.texts_root ++ xs))) (spelled_2 n few) in
+    let Front : List ℕ → List ℕ → List ℕ → List ℕ = λ (d e xs : List ℕ). 65 ∷ 84 ∷ 83 ∷ 80 ∷ 1 ∷ 2 ∷ 1 ∷ (d ++ (e ++ xs)) in
+    ap (Front (to_be_bytes w32 h.documents) (to_be_bytes w32 h.dict_leaves)) tail
+    ∙ ap₂ (λ (d e : List ℕ). Front d e (h.dict_root ++ (h.docs_root ++ (h.texts_root ++ spelled 2 n)))) (spelled_4 h.documents documents) (spelled_4 h.dict_leaves leaves)

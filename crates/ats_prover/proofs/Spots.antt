@@ -1,0 +1,62 @@
+-- Where the terms of a query stand, term by term.
+use Rattle.std.proofs.Common.{◌≡◌, ◌+◌, ◌<◌, ◌≤◌, ◌^◌, ◌*◌, ◌++◌, ◌||◌, ℕ, zero, suc, List, [], ◌∷◌, length, take, get_or, refl, sym, ap, subst, ◌∙◌, arith, length-append, inl, inr}
+use Rattle.std.specs.List.{All, flat_map}
+use Rattle.ats_dict.specs.declared.spot.Spot.{Spot}
+use Rattle.ats_dict.specs.declared.spot.Spot.TheVariants.{At, Between}
+use Rattle.ats_dict.specs.Entry.{DictEntry}
+use Rattle.std.proofs.lemmas.Bool.{cases_lt}
+use Rattle.std.proofs.lemmas.List.{length-replicate}
+use Rattle.ats_dict.specs.Dictionary.{IsDictionary, entry_at, low, zero_root}
+use Rattle.ats_dict.proofs.Sentinels.{entry_at-suc, entry_at-last}
+use Rattle.ats_dict.specs.Found.{IsSpot}
+use Rattle.ats_prover.specs.Terms.{AreSpots, lower, needs}
+
+-- one term more
+pub spots_more : (entries : List DictEntry) (query : List (List ℕ × ℕ)) (spots : List Spot) (spot : Spot) (i : ℕ) (d : List ℕ × ℕ) → i < length query
+    → AreSpots entries (take i query) spots → IsSpot entries (get_or query i d).0 spot → AreSpots entries (take (suc i) query) (spots ++ spot ∷ [])
+spots_more entries [] spots spot i d inside are is = absurd (omega (arith, inside))
+spots_more entries (pair ∷ query) [] spot zero d inside are is = (is, tt)
+spots_more entries (pair ∷ query) (s ∷ spots) spot zero d inside are is = absurd are
+spots_more entries (pair ∷ query) [] spot (suc i) d inside are is = absurd are
+spots_more entries (pair ∷ query) (s ∷ spots) spot (suc i) d inside are is =
+    (are.0, spots_more entries query spots spot i d (omega (arith, inside)) are.1 is)
+
+-- one spot for each term
+pub spot_each : (entries : List DictEntry) (query : List (List ℕ × ℕ)) (spots : List Spot) → AreSpots entries query spots → length spots ≡ length query
+spot_each entries [] [] are = refl
+spot_each entries [] (spot ∷ spots) are = absurd are
+spot_each entries (pair ∷ query) [] are = absurd are
+spot_each entries (pair ∷ query) (spot ∷ spots) are = ap suc (spot_each entries query spots are.1)
+
+-- the spot of a term
+pub spot_at : (entries : List DictEntry) (query : List (List ℕ × ℕ)) (spots : List Spot) (i : ℕ) (d : List ℕ × ℕ) (e : Spot) → AreSpots entries query spots → i < length query
+    → IsSpot entries (get_or query i d).0 (get_or spots i e)
+spot_at entries [] spots i d e are inside = absurd (omega (arith, inside))
+spot_at entries (pair ∷ query) [] i d e are inside = absurd are
+spot_at entries (pair ∷ query) (spot ∷ spots) zero d e are inside = are.0
+spot_at entries (pair ∷ query) (spot ∷ spots) (suc i) d e are inside = spot_at entries query spots i d e are.1 (omega (arith, inside))
+
+pub lower_within : (entries : List DictEntry) (term : List ℕ) (spot : Spot) → IsSpot entries term spot → lower spot ≤ length entries
+lower_within entries term (At p) is = is.within
+lower_within entries term (Between p) is = is.within
+
+-- ---- leaves
+
+-- what a leaf of a dictionary keeps, a sentinel too
+pub record IsLeaf (entry : DictEntry) : Type 0 where
+  pub short : length entry.term ≤ 64
+  pub number : entry.f < 2 ^ 32
+  pub root : length entry.root ≡ 32
+
+zero_root_size : length zero_root ≡ 32
+unfolding zero_root
+zero_root_size = length-replicate {A = ℕ} 32 0
+
+pub leaf_at : (entries : List DictEntry) (p : ℕ) → IsDictionary entries → p < length entries + 2 → IsLeaf (entry_at entries p)
+leaf_at entries zero is inside = record { short = omega arith; number = omega arith; root = zero_root_size }
+leaf_at entries (suc p) is inside = elim (cases_lt p (length entries)) [
+  | inl within ↦
+      let entry = is.each p low within in
+      subst IsLeaf (sym (entry_at-suc entries p low within)) (record { short = entry.term.few; number = entry.number; root = entry.root })
+  | inr past ↦ subst IsLeaf (sym (entry_at-last entries (suc p) (omega (arith, past, inside)))) (record { short = omega arith; number = omega arith; root = zero_root_size })
+]

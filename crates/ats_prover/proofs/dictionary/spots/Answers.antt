@@ -1,0 +1,1 @@
+use Rattle.ats_prover.proofs.dictionary.spots.Goals as goal

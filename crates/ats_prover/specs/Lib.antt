@@ -1,0 +1,4 @@
+pub mod Terms
+pub mod Lanes
+pub mod Honest
+pub mod Writing

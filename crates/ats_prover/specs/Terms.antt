@@ -1,0 +1,50 @@
+-- Where the terms of a query stand in a dictionary, and which of its leaves show that.
+use Rattle.std.specs.Prelude.{◌≡◌, ◌+◌, ◌==◌, ℕ, Bool, true, false, List, [], ◌∷◌, map, nat_lt}
+use Rattle.std.specs.List.{count_by, flat_map, list_any}
+use Rattle.std.specs.List.Sorted.{IsStrictlyIncreasing}
+use Rattle.ats_dict.specs.declared.spot.Spot.{Spot}
+use Rattle.ats_dict.specs.declared.spot.Spot.TheVariants.{At, Between}
+use Rattle.ats_dict.specs.Entry.{DictEntry}
+use Rattle.ats_dict.specs.Dictionary.{entry_at}
+use Rattle.ats_dict.specs.Found.{IsSpot}
+use Rattle.ats_records.specs.declared.record.Slot.{Slot}
+use Rattle.ats_proof.specs.Value.{ShownEntry}
+
+-- each term of the query has its spot
+abbrev pub AreSpots : List DictEntry → List (List ℕ × ℕ) → List Spot → Type 0
+AreSpots entries [] [] = Unit {0}
+AreSpots entries [] (spot ∷ spots) = ⊥
+AreSpots entries (pair ∷ query) [] = ⊥
+AreSpots entries (pair ∷ query) (spot ∷ spots) = IsSpot entries pair.0 spot × AreSpots entries query spots
+
+-- the positions that show a term: its leaf, or both neighbours where it is absent
+abbrev pub needs : Spot → List ℕ
+needs (At p) = p ∷ []
+needs (Between p) = p ∷ (p + 1) ∷ []
+
+-- the position of its leaf, or of the lower neighbour
+abbrev pub lower : Spot → ℕ
+lower (At p) = p
+lower (Between p) = p
+
+-- whether a number is one of the list's
+abbrev pub has : ℕ → List ℕ → Bool
+has n numbers = list_any (λ m. m == n) numbers
+
+-- the positions that some term needs, each once, rising
+pub record AreNeeded (spots : List Spot) (positions : List ℕ) : Type 0 where
+  pub rise : IsStrictlyIncreasing positions
+  pub needed : (p : ℕ) → has p positions ≡ has p (flat_map needs spots)
+
+-- how many numbers of a list are below this one: its place among numbers that rise
+abbrev pub place : List ℕ → ℕ → ℕ
+place numbers n = count_by (λ m. nat_lt m n) numbers
+
+-- the leaf at a position
+abbrev pub shown_entry : List DictEntry → ℕ → ShownEntry
+shown_entry entries p = record { position = p; entry = entry_at entries p }
+
+-- the place of the term's leaf among the shown ones, or of its lower neighbour
+abbrev pub slot_of : List ℕ → Spot → Slot
+slot_of positions (At p) = record { present = true; index = place positions p }
+slot_of positions (Between p) = record { present = false; index = place positions p }

@@ -1,0 +1,182 @@
+//! What a proof shows of the dictionary.
+
+ghost use Rattle.std.specs.Prelude.{◌≡◌, ◌+◌, ◌≤◌, ◌<◌, ◌*◌, ◌^◌, ◌++◌, ℕ, length, map, IfOk, OnOk};
+ghost use Rattle.std.specs.List.{All, flat_map};
+ghost use Rattle.std.specs.List.Sorted.{IsStrictlyIncreasing};
+ghost use Rattle.ats_tree.specs.Elided.{elided_digests};
+ghost use Rattle.ats_dict.specs.Dictionary.{IsDictionary, dict_leaves};
+ghost use Rattle.ats_proof.specs.Parts.{counted};
+ghost use Rattle.ats_proof.specs.Value.{digest_fields, entry_fields, slot_fields};
+ghost use Rattle.ats_prover.specs.Terms.{AreNeeded, AreSpots, lower, needs, place, shown_entry, slot_of};
+ghost use Rattle.ats_prover.specs.Writing.{put};
+
+use crate::fault::OutOfMemory;
+use ats_dict::{Dictionary, Spot};
+use ats_hash::{Hash32, Steps};
+use ats_records::{ProofWriter, Slot};
+use ats_terms::Query;
+use ats_tree::{Digests, Leaves, elided};
+use std::alloc::Global;
+
+/// Where each term of the query stands in the dictionary.
+pub(crate) fn spots(
+    alloc: Global,
+    dictionary: &Dictionary,
+    query: &Query,
+) -> Result<Vec<Spot>, OutOfMemory>
+    ensures spots { IfOk result (λ spots. AreSpots dictionary.now query.now spots.items) }
+    ensures few { IfOk result (λ spots. length spots.items ≤ 32) }
+    ensures low { IfOk result (λ spots. All (λ spot. lower spot ≤ 2 ^ 24) spots.items) }
+{
+    // Positions have 32 bits, and so has the one behind a lower neighbour.
+    prove!(dictionary.len() >= 2);
+    let mut spots = Vec::new(alloc);
+    for i in 0..query.len() {
+        spots.push(dictionary.find(query.term(i)))?;
+    }
+    Ok(spots)
+}
+
+// The positions that the terms need, term by term.
+fn all_needed(alloc: Global, spots: &[Spot]) -> Result<Vec<u32>, OutOfMemory>
+    requires low { All (λ spot. lower spot ≤ 2 ^ 24) spots.now }
+    ensures { IfOk result (λ positions. positions.items ≡ flat_map needs spots.now) }
+{
+    let mut positions = Vec::new(alloc);
+    for spot in spots {
+        match spot {
+            Spot::At(p) => positions.push(*p)?,
+            Spot::Between(p) => {
+                positions.push(*p)?;
+                positions.push(*p + 1)?;
+            }
+        }
+    }
+    Ok(positions)
+}
+
+/// The positions of the leaves that show where the terms stand.
+pub(crate) fn positions(alloc: Global, spots: &[Spot]) -> Result<Vec<u32>, OutOfMemory>
+    requires low { All (λ spot. lower spot ≤ 2 ^ 24) spots.now }
+    ensures needed { IfOk result (λ positions. AreNeeded spots.now positions.items) }
+    ensures few { IfOk result (λ positions. length positions.items ≤ 2 * length spots.now) }
+{
+    let mut positions = all_needed(alloc, spots)?;
+    positions.sort_unstable();
+    positions.dedup();
+    Ok(positions)
+}
+
+/// How many of some rising numbers are below this one.
+pub(crate) fn place(numbers: &[u32], number: u32) -> usize
+    requires { IsStrictlyIncreasing numbers.now }
+    ensures place { result ≡ place numbers.now number }
+    ensures within { result ≤ length numbers.now }
+{
+    numbers.partition_point(|n| *n < number)
+}
+
+/// Digests behind their number.
+pub(crate) fn write_digests(writer: &mut ProofWriter, digests: &Digests) -> Result<(), OutOfMemory>
+    requires few { length digests.now ≤ 65535 }
+    requires room { writer.old.asked ≤ 2 ^ 60 }
+    ensures fields { OnOk result (writer.new ≡ put writer.old (counted 2 digest_fields digests.now)) }
+    ensures size { OnOk result (writer.new.asked ≤ writer.old.asked + 2 ^ 22) }
+{
+    writer.count16(digests.len() as u16)?;
+    for digest in digests.as_slice() {
+        writer.digest(digest)?;
+    }
+    Ok(())
+}
+
+// The leaves at these positions, behind their number.
+fn write_leaves(
+    writer: &mut ProofWriter,
+    dictionary: &Dictionary,
+    positions: &[u32],
+) -> Result<(), OutOfMemory>
+    requires dictionary { IsDictionary dictionary.now }
+    requires within { All (λ p. p < length dictionary.now + 2) positions.now }
+    requires few { length positions.now ≤ 64 }
+    requires room { writer.old.asked ≤ 2 ^ 60 }
+    ensures fields { OnOk result (writer.new ≡ put writer.old (counted 2 entry_fields (map (shown_entry dictionary.now) positions.now))) }
+    ensures size { OnOk result (writer.new.asked ≤ writer.old.asked + 2 ^ 13) }
+{
+    writer.count16(positions.len() as u16)?;
+    for p in positions {
+        writer.dict_leaf(*p, &dictionary.leaf(*p))?;
+    }
+    Ok(())
+}
+
+// Where the shown leaves show a term.
+fn slot(positions: &[u32], spot: &Spot) -> Slot
+    requires rise { IsStrictlyIncreasing positions.now }
+    requires few { length positions.now ≤ 64 }
+    ensures { result ≡ slot_of positions.now spot.now }
+{
+    match spot {
+        Spot::At(p) => Slot {
+            present: true,
+            index: place(positions, *p) as u16,
+        },
+        Spot::Between(p) => Slot {
+            present: false,
+            index: place(positions, *p) as u16,
+        },
+    }
+}
+
+// The leaves at these positions, and the digests that the tree needs besides them.
+fn write_section<H: Hash32>(
+    alloc: Global,
+    writer: &mut ProofWriter,
+    dictionary: &Dictionary,
+    positions: &[u32],
+) -> Result<(), OutOfMemory>
+    requires rise { IsStrictlyIncreasing positions.now }
+    requires within { All (λ p. p < length dictionary.now + 2) positions.now }
+    requires few { length positions.now ≤ 64 }
+    requires room { writer.old.asked ≤ 2 ^ 59 }
+    ensures fields { OnOk result (writer.new ≡ put writer.old (counted 2 entry_fields (map (shown_entry dictionary.now) positions.now)
+        ++ counted 2 digest_fields (elided_digests H.hash (dict_leaves dictionary.now) positions.now))) }
+    ensures size { OnOk result (writer.new.asked ≤ writer.old.asked + 2 ^ 23) }
+{
+    // A dictionary's leaves have terms of at most 64 bytes, and positions of 32 bits.
+    prove!(dictionary.len() >= 2);
+    let mut digests = Digests::new(alloc);
+    elided::<H, _>(
+        dictionary,
+        positions,
+        &mut digests,
+        &mut Steps::new(alloc),
+    )?;
+    write_leaves(writer, dictionary, positions)?;
+    write_digests(writer, &digests)
+}
+
+/// The leaves at these positions, the digests that the tree needs besides them, and a slot for each term.
+pub(crate) fn write_terms<H: Hash32>(
+    alloc: Global,
+    writer: &mut ProofWriter,
+    dictionary: &Dictionary,
+    positions: &[u32],
+    spots: &[Spot],
+) -> Result<(), OutOfMemory>
+    requires rise { IsStrictlyIncreasing positions.now }
+    requires within { All (λ p. p < length dictionary.now + 2) positions.now }
+    requires few { length positions.now ≤ 64 }
+    requires terms { length spots.now ≤ 32 }
+    requires room { writer.old.asked ≤ 2 ^ 58 }
+    ensures fields { OnOk result (writer.new ≡ put writer.old (counted 2 entry_fields (map (shown_entry dictionary.now) positions.now)
+        ++ counted 2 digest_fields (elided_digests H.hash (dict_leaves dictionary.now) positions.now)
+        ++ flat_map slot_fields (map (slot_of positions.now) spots.now))) }
+    ensures size { OnOk result (writer.new.asked ≤ writer.old.asked + 2 ^ 24) }
+{
+    write_section::<H>(alloc, writer, dictionary, positions)?;
+    for spot in spots {
+        writer.slot(slot(positions, spot))?;
+    }
+    Ok(())
+}

@@ -1,0 +1,56 @@
+//! Why there is no proof.
+
+use std::alloc::{AllocError, AllocFailed};
+
+/// Why no proof was answered.
+#[derive(Clone, Copy, Debug, PartialEq, Eq)]
+pub enum ProveFault {
+    /// The proof has this many bytes, which are more than the limit.
+    ProofTooLong { length: u64 },
+    OutOfMemory,
+}
+
+/// Memory was wanted and not there.
+#[derive(Clone, Copy)]
+pub(crate) struct OutOfMemory;
+
+impl From<OutOfMemory> for ProveFault {
+    ghost use Rattle.std.specs.Prelude.{◌≡◌};
+    ghost use Rattle.ats_prover.specs.declared.fault.ProveFault.TheVariants.{OutOfMemory};
+
+    ghost from_gives = { λ _ e. e ≡ OutOfMemory };
+
+    fn from(_: OutOfMemory) -> Self {
+        ProveFault::OutOfMemory
+    }
+}
+
+impl From<AllocError> for OutOfMemory {
+    fn from(_: AllocError) -> Self {
+        OutOfMemory
+    }
+}
+
+impl<T: Drop> From<AllocFailed<T>> for OutOfMemory {
+    fn from(_: AllocFailed<T>) -> Self {
+        OutOfMemory
+    }
+}
+
+impl From<ats_tree::OutOfMemory> for OutOfMemory {
+    fn from(_: ats_tree::OutOfMemory) -> Self {
+        OutOfMemory
+    }
+}
+
+impl From<ats_records::OutOfMemory> for OutOfMemory {
+    fn from(_: ats_records::OutOfMemory) -> Self {
+        OutOfMemory
+    }
+}
+
+impl From<ats_bound::OutOfMemory> for OutOfMemory {
+    fn from(_: ats_bound::OutOfMemory) -> Self {
+        OutOfMemory
+    }
+}

@@ -1,0 +1,23 @@
+//! The proof that a server gives with its answer to a query.
+//!
+//! A proof shows where the query's terms stand in the dictionary, the fronts of their lists up to where
+//! the walk ends, and the chosen answer, with the digests that bind all of it to the root.
+//! The room stands on `ats_index` for the collection, on `ats_tnra` for the walk, and on `ats_records` and
+//! `ats_proof` for the bytes. The contracts promise that the bytes spell the honest proof, which shows
+//! exactly the leaves that its terms need and exactly the entries of the first settled cut, and that a
+//! proof is refused exactly where it is longer than the limit.
+//! The order in which the parts are made may change without asking; the bytes may not.
+#![tactic(auto)]
+
+mod answer;
+mod dictionary;
+mod fault;
+mod lanes;
+mod prefixes;
+mod proving;
+#[cfg(test)]
+mod tests;
+
+pub use ats_records::Algorithm;
+pub use fault::ProveFault;
+pub use proving::{prove, prove_within};

@@ -1,0 +1,109 @@
+//! The fronts of the lists that a proof shows.
+
+ghost use Rattle.std.specs.Prelude.{◌≡◌, ◌+◌, ◌≤◌, ◌<◌, ◌*◌, ◌^◌, ◌++◌, ℕ, length, map, take, IfOk, OnOk};
+ghost use Rattle.std.specs.List.{All, flat_map, range_with_len};
+ghost use Rattle.std.specs.List.Sorted.{IsStrictlyIncreasing};
+ghost use Rattle.ats_tree.specs.Elided.{elided_digests};
+ghost use Rattle.ats_lists.specs.Leaf.{leaf_bytes};
+ghost use Rattle.ats_bound.specs.Schedule.{whole_lanes};
+ghost use Rattle.ats_tnra.specs.Parts.{IsCut};
+ghost use Rattle.ats_bound.specs.Schedule.{AreWholeLanes};
+ghost use Rattle.ats_proof.specs.Parts.{counted};
+ghost use Rattle.ats_proof.specs.Value.{id_fields, posting_fields, prefix_fields};
+ghost use Rattle.ats_prover.specs.Honest.{placed, prefix_of, prefixes};
+ghost use Rattle.ats_prover.specs.Writing.{put};
+
+use crate::answer::write_met;
+use crate::dictionary::{place, write_digests};
+use crate::fault::OutOfMemory;
+use ats_bound::Lane;
+use ats_hash::{Hash32, Steps};
+use ats_lists::{Entry, ListLeaves};
+use ats_records::ProofWriter;
+use ats_tree::{Digests, elided};
+use std::alloc::Global;
+
+// Entries behind their number, each with its document's place among the met ids.
+fn write_entries(
+    writer: &mut ProofWriter,
+    met: &[u32],
+    entries: &[Entry],
+) -> Result<(), OutOfMemory>
+    requires rise { IsStrictlyIncreasing met.now }
+    requires documents { length met.now ≤ 65536 }
+    requires few { length entries.now ≤ 65536 }
+    requires room { writer.old.asked ≤ 2 ^ 60 }
+    ensures fields { OnOk result (writer.new ≡ put writer.old (counted 4 posting_fields (map (placed met.now) entries.now))) }
+    ensures size { OnOk result (writer.new.asked ≤ writer.old.asked + 2 ^ 19) }
+{
+    writer.count32(entries.len() as u32)?;
+    for entry in entries {
+        writer.entry(place(met, entry.doc) as u32, entry.impact)?;
+    }
+    Ok(())
+}
+
+// The first numbers.
+fn first(alloc: Global, count: u32) -> Result<Vec<u32>, OutOfMemory>
+    ensures { IfOk result (λ numbers. numbers.items ≡ range_with_len 0 count) }
+{
+    let mut numbers = Vec::with_capacity(alloc, count as usize)?;
+    for i in 0..count {
+        numbers.push(i)?;
+    }
+    Ok(numbers)
+}
+
+// The first entries of a list, and the digests that its tree needs besides them.
+fn write_prefix<H: Hash32>(
+    alloc: Global,
+    writer: &mut ProofWriter,
+    met: &[u32],
+    entries: &[Entry],
+    count: u32,
+) -> Result<(), OutOfMemory>
+    requires rise { IsStrictlyIncreasing met.now }
+    requires documents { length met.now ≤ 65536 }
+    requires few { length entries.now ≤ 65536 }
+    requires some { 1 ≤ count }
+    requires within { count ≤ length entries.now }
+    requires room { writer.old.asked ≤ 2 ^ 59 }
+    ensures fields { OnOk result (writer.new ≡ put writer.old (prefix_fields (prefix_of H.hash met.now entries.now count))) }
+    ensures size { OnOk result (writer.new.asked ≤ writer.old.asked + 2 ^ 23) }
+{
+    let positions = first(alloc, count)?;
+    let leaves = ListLeaves { entries };
+    let mut digests = Digests::new(alloc);
+    elided::<H, _>(
+        &leaves,
+        &positions,
+        &mut digests,
+        &mut Steps::new(alloc),
+    )?;
+    write_entries(writer, met, &entries[..count as usize])?;
+    write_digests(writer, &digests)
+}
+
+/// The met documents, and of each list the first entries, as many as the cut says.
+pub(crate) fn write_lists<H: Hash32>(
+    alloc: Global,
+    writer: &mut ProofWriter,
+    met: &[u32],
+    lanes: &[Lane<'_>],
+    cut: &[u32],
+) -> Result<(), OutOfMemory>
+    requires rise { IsStrictlyIncreasing met.now }
+    requires documents { length met.now ≤ 65536 }
+    requires lanes { AreWholeLanes (whole_lanes lanes.now) }
+    requires cut { IsCut (whole_lanes lanes.now) cut.now }
+    requires room { writer.old.asked ≤ 2 ^ 58 }
+    ensures fields { OnOk result (writer.new ≡ put writer.old (counted 4 id_fields met.now
+        ++ flat_map prefix_fields (prefixes H.hash met.now (whole_lanes lanes.now) cut.now))) }
+    ensures size { OnOk result (writer.new.asked ≤ writer.old.asked + 2 ^ 29) }
+{
+    write_met(writer, met)?;
+    for (i, lane) in lanes.iter().enumerate() {
+        write_prefix::<H>(alloc, writer, met, lane.entries, cut[i])?;
+    }
+    Ok(())
+}
