@@ -1,16 +1,16 @@
 -- What follows from how a command ended and what it printed.
 use Rattle.std.proofs.Common.{◌≡◌, ◌≢◌, ◌⊎◌, ◌≤◌, ◌∙◌, ℕ, List, length, Option, Some, None, Result, Ok, Err, sym, subst, inl, inr, arith, take_all}
 use Rattle.ats_base.specs.Outside.{Rose, IsMissing, Puts}
-use Rattle.ats_top.specs.Words.{Command, Rank, Build, Root, command_of, read_name}
+use Rattle.ats_top.specs.Words.{Command, Rank, Build, Root, Prove, command_of, read_name}
 use Rattle.ats_top.specs.Stops.{status_of, text_of, text_of_stop, line_of_refusal}
 use Rattle.ats_top.specs.Read.{Files, IsTold}
-use Rattle.ats_top.specs.Refusals.{Asks, IsRefused}
-use Rattle.ats_top.specs.Done.{IsDone, Changes, IsServed}
+use Rattle.ats_top.specs.Refusals.{Asks, IsRefused, IsFinal}
+use Rattle.ats_top.specs.Done.{IsDone, PutsPart, Changes, HasInput, IsServed}
 use Rattle.ats_top.specs.Run.{Said, Ends, Ended, IsStatus, TookAll, Ran}
 use Rattle.ats_top.specs.declared.stops.Refusal.{Refusal}
 use Rattle.ats_top.specs.declared.stops.Stop.{Stop}
 use Rattle.ats_top.specs.declared.stops.Stop.TheVariants.{Usage, Shelf, Input, Memory}
-use Rattle.ats_top.proofs.Refused.{served_kept, missing_kept, served_there}
+use Rattle.ats_top.proofs.Refused.{served_kept, done_kept, missing_kept, input_there, served_input}
 
 -- the words of a command are one
 same_command : (said : List (List ℕ)) (command other : Command) → command_of said ≡ Some command → command_of said ≡ Some other → command ≡ other
@@ -23,11 +23,20 @@ never : (result status other : ℕ) → (result ≡ status) ⊎ (result ≡ 7) �
 never result status other (inl is) same first second = first (sym is ∙ same)
 never result status other (inr is) same first second = second (sym is ∙ same)
 
--- what is done was served
-done_served : (H : List ℕ → List ℕ) (before now : Files) (command : Command) (text : List ℕ) → IsDone H before now command text → IsServed H before command
-done_served H before now (Rank words) text (ranked, same) = (ranked.asks, (ranked.texts, ranked.collection))
-done_served H before now (Build words) text built = (built.texts, built.collection)
-done_served H before now (Root words) text (rooted, same) = (rooted.texts, rooted.index)
+-- what is done was asked within the limits, of a file of the form that the command reads
+done_input : (H : List ℕ → List ℕ) (before now : Files) (command : Command) (text : List ℕ) → IsDone H before now command text → HasInput H before command
+done_input H before now (Rank words) text (ranked, same) = (ranked.asks, (ranked.texts, ranked.collection))
+done_input H before now (Build words) text built = (built.texts, built.collection)
+done_input H before now (Root words) text (rooted, same) = (rooted.texts, rooted.index)
+done_input H before now (Prove words) text done = (done.asks, (done.proof.texts, done.proof.index))
+
+-- all bytes are a prefix of them
+whole_part : (before now : Files) (name bytes : List ℕ) → Puts before now name bytes → PutsPart before now name bytes
+whole_part before now name bytes stored = record {
+  n = length bytes;
+  within = omega arith;
+  stored = subst (λ b. Puts before now name b) (sym (take_all (length bytes) bytes (omega arith))) stored;
+}
 
 -- what is done changes no more than the command may
 done_changes : (H : List ℕ → List ℕ) (before now : Files) (command : Command) (text : List ℕ) → IsDone H before now command text
@@ -36,13 +45,17 @@ done_changes H before now (Rank words) text (ranked, same) = inl same
 done_changes H before now (Build words) text built = inr (record {
   texts = built.texts;
   bytes = built.bytes;
-  n = length built.bytes;
   collection = built.collection;
   spelling = built.spelling;
-  within = omega arith;
-  stored = subst (λ b. Puts before now words.index b) (sym (take_all (length built.bytes) built.bytes (omega arith))) built.stored;
+  part = whole_part before now words.index built.bytes built.stored;
 })
 done_changes H before now (Root words) text (rooted, same) = inl same
+done_changes H before now (Prove words) text done = inr (record {
+  asks = done.asks;
+  bytes = done.bytes;
+  proof = done.proof;
+  part = whole_part before now words.proof done.bytes done.stored;
+})
 
 -- a run
 module _ (H : List ℕ → List ℕ) (said : List (List ℕ)) (files_before files_now : Files) (before now : ℕ) (taken_before taken_now : Option (List ℕ)) (faults_before faults_now result : ℕ) where
@@ -118,14 +131,15 @@ module _ (H : List ℕ → List ℕ) (said : List (List ℕ)) (files_before file
   memory (Err Memory) this is = ((this.ends.0, this.ends.1, tt), took (Err Memory) this 6 is (omega arith))
 
   -- a refused input is served by no run
-  refused : (end : Result (List ℕ) Stop) → This end → IsTold files_before → Said said (λ command. (refusal : Refusal) × IsRefused H files_before command refusal)
+  refused : (end : Result (List ℕ) Stop) → This end → IsTold files_before
+      → Said said (λ command. (refusal : Refusal) × IsRefused H files_before command refusal × IsFinal H files_before command refusal)
       → (result ≡ 4) ⊎ ((result ≡ 6) ⊎ (((result ≡ 3) × Rose before now) ⊎ Sinks))
-  refused (Ok text) this told (command, is, (refusal, cause)) =
+  refused (Ok text) this told (command, is, (refusal, cause, final)) =
       let same = same_command said this.ends.0 command this.ends.1 is in
-      let served = subst (λ c. IsServed H files_before c) same (done_served H files_before files_now this.ends.0 text this.ends.2) in
-      absurd (served_kept H files_before command told served refusal cause)
-  refused (Err Usage) this told (command, is, (refusal, cause)) = absurd (no_command said command this.ends.0 is)
-  refused (Err Shelf) this told (command, is, (refusal, cause)) =
+      let done = subst (λ c. IsDone H files_before files_now c text) same this.ends.2 in
+      absurd (done_kept H files_before files_now command text told done refusal cause final)
+  refused (Err Usage) this told (command, is, (refusal, cause, final)) = absurd (no_command said command this.ends.0 is)
+  refused (Err Shelf) this told (command, is, (refusal, cause, final)) =
       let same = same_command said this.ends.0 command this.ends.1 is in
       let asks : Asks command = subst Asks same this.ends.2.0 in
       elim this.ends.2.1 [
@@ -142,8 +156,8 @@ module _ (H : List ℕ → List ℕ) (said : List (List ℕ)) (files_before file
       → (result ≡ 3) ⊎ ((result ≡ 6) ⊎ Sinks)
   missing (Ok text) this (command, is, (asks, gone)) =
       let same = same_command said this.ends.0 command this.ends.1 is in
-      let served = subst (λ c. IsServed H files_before c) same (done_served H files_before files_now this.ends.0 text this.ends.2) in
-      absurd (served_there H files_before command served gone)
+      let input = subst (λ c. HasInput H files_before c) same (done_input H files_before files_now this.ends.0 text this.ends.2) in
+      absurd (input_there H files_before command input gone)
   missing (Err Usage) this (command, is, asked) = absurd (no_command said command this.ends.0 is)
   missing (Err Shelf) this asked = elim this.answer [ inl three ↦ inl three | inr sinks ↦ inr (inr sinks) ]
   missing (Err (Input refusal)) this (command, is, (asks, gone)) =
@@ -160,7 +174,7 @@ module _ (H : List ℕ → List ℕ) (said : List (List ℕ)) (files_before file
       let same = same_command said this.ends.0 command this.ends.1 is in
       elim this.ends.2.1 [
         | inl rose ↦ absurd (still rose)
-        | inr gone ↦ absurd (served_there H files_before command served (subst (λ c. IsMissing files_before (read_name c)) same gone))
+        | inr gone ↦ absurd (input_there H files_before command (served_input H files_before command served) (subst (λ c. IsMissing files_before (read_name c)) same gone))
       ]
   complete (Err (Input refusal)) this told (command, is, served) still quiet =
       let same = same_command said this.ends.0 command this.ends.1 is in

@@ -13,12 +13,13 @@ use Rattle.ats_index.specs.Spelling.{IsSpelling}
 use Rattle.ats_top.specs.Input.{AreJsonTexts}
 use Rattle.ats_top.specs.declared.input.JsonFault.{JsonFault}
 use Rattle.ats_top.specs.declared.input.JsonFault.TheVariants as json
-use Rattle.ats_top.specs.Words.{RankWords, Command, Rank, Build, Root, read_name}
+use Rattle.ats_top.specs.Words.{ProveWords, Command, Rank, Build, Root, Prove, read_name}
 use Rattle.ats_top.specs.Read.{Files, IsTold, IsFile, HasCollection, HasIndex}
-use Rattle.ats_top.specs.Refusals.{IsRowCount, AsksRanking, Asks, IsJsonRefused, AreTextsRefused, IsCollectionRefused, IsIndexRefused, IsRankingRefused, IsRefused}
-use Rattle.ats_top.specs.Done.{IsServed}
+use Rattle.ats_top.specs.Refusals.{IsRowCount, AsksRanking, Asks, IsJsonRefused, AreTextsRefused, IsCollectionRefused, IsIndexRefused, IsProvingRefused, IsRankingRefused, IsRefused, IsFinal}
+use Rattle.ats_top.specs.Proved.{IsProofTooLong}
+use Rattle.ats_top.specs.Done.{IsDone, HasInput, IsServed}
 use Rattle.ats_top.specs.declared.stops.Refusal.{Refusal}
-use Rattle.ats_top.specs.declared.stops.Refusal.TheVariants.{ROut, QueryTooLong, NoTerm, TooManyWords, TooManyTerms, FileTooLong, NotJson, NotArray, BadItem, NoDocuments, TooManyDocuments, TextTooLong, AllTooLong, BadIndex}
+use Rattle.ats_top.specs.declared.stops.Refusal.TheVariants.{ROut, QueryTooLong, NoTerm, TooManyWords, TooManyTerms, FileTooLong, NotJson, NotArray, BadItem, NoDocuments, TooManyDocuments, TextTooLong, AllTooLong, BadIndex, ProofTooLong}
 use Rattle.ats_top.proofs.JsonLemmas.{same_texts, IsJsonRefusal, no_json_fault}
 
 same_some : {X : Type 0} (o : Option X) (x y : X) → o ≡ Some x → o ≡ Some y → x ≡ y
@@ -112,23 +113,57 @@ index_kept H files name texts told has (BadIndex at) (bytes, file, fault) =
     fault.1 texts (subst (λ b. IsSpelling H b texts) same has.spelling)
 index_kept H files name texts told has _ refused = refused
 
--- the words and the collection of a ranking are not refused, if a collection that is not refused is one
-ranking_kept : (files : Files) (words : RankWords) → AsksRanking words → ((refusal : Refusal) → IsCollectionRefused files words.collection refusal → ⊥)
-    → (refusal : Refusal) → IsRankingRefused files words refusal → ⊥
-ranking_kept files words asks kept (ROut r) refused = refused.1 (subst IsRowCount (sym refused.0) asks.rows)
-ranking_kept files words asks kept (QueryTooLong bytes) refused = no_query_fault words.query (query.TooLong bytes) asks.query refused.1 tt
-ranking_kept files words asks kept NoTerm refused = no_query_fault words.query query.NoTerm asks.query refused.1 tt
-ranking_kept files words asks kept (TooManyWords count) refused = no_query_fault words.query (query.TooManyWords count) asks.query refused.1 tt
-ranking_kept files words asks kept (TooManyTerms distinct) refused = no_query_fault words.query (query.TooManyTerms distinct) asks.query refused.1 tt
-ranking_kept files words asks kept other refused = kept other refused.1
+-- rows and a query within the limits are not refused, nor what is tried after them, if that is not
+ranking_kept : (r : ℕ) (text : List ℕ) (later : Refusal → Type 0) → AsksRanking r text → ((refusal : Refusal) → later refusal → ⊥)
+    → (refusal : Refusal) → IsRankingRefused r text later refusal → ⊥
+ranking_kept r text later asks kept (ROut out) refused = refused.1 (subst IsRowCount (sym refused.0) asks.rows)
+ranking_kept r text later asks kept (QueryTooLong bytes) refused = no_query_fault text (query.TooLong bytes) asks.query refused.1 tt
+ranking_kept r text later asks kept NoTerm refused = no_query_fault text query.NoTerm asks.query refused.1 tt
+ranking_kept r text later asks kept (TooManyWords count) refused = no_query_fault text (query.TooManyWords count) asks.query refused.1 tt
+ranking_kept r text later asks kept (TooManyTerms distinct) refused = no_query_fault text (query.TooManyTerms distinct) asks.query refused.1 tt
+ranking_kept r text later asks kept other refused = kept other refused.1
+
+-- nothing is refused of `prove` but its rows and its query, if the index is not refused, nor the proof's length
+proving_kept : (H : List ℕ → List ℕ) (files : Files) (words : ProveWords) → ((refusal : Refusal) → IsIndexRefused H files words.index refusal → ⊥)
+    → ((size : ℕ) → IsProofTooLong H files words size → ⊥) → (refusal : Refusal) → IsProvingRefused H files words refusal → ⊥
+proving_kept H files words kept fits (ProofTooLong size) refused = fits size refused
+proving_kept H files words kept fits other refused = kept other refused
 
 -- what is served is not refused, where the files are told
 pub served_kept : (H : List ℕ → List ℕ) (files : Files) (command : Command) → IsTold files → IsServed H files command
     → (refusal : Refusal) → IsRefused H files command refusal → ⊥
 served_kept H files (Rank words) told (asks, (texts, has)) refusal refused =
-    ranking_kept files words asks (collection_kept files told words.collection texts has) refusal refused
+    ranking_kept words.r words.query (IsCollectionRefused files words.collection) asks (collection_kept files told words.collection texts has) refusal refused
 served_kept H files (Build words) told (texts, has) refusal refused = collection_kept files told words.collection texts has refusal refused
 served_kept H files (Root words) told (texts, has) refusal refused = index_kept H files words.index texts told has refusal refused
+served_kept H files (Prove words) told ((asks, (texts, has)), fits) refusal refused =
+    ranking_kept words.r words.query (IsProvingRefused H files words) asks
+    (proving_kept H files words (index_kept H files words.index texts told has) fits) refusal refused
+
+-- a proof that was stored is short enough, so the refusal of its length is not final
+proof_kept : (H : List ℕ → List ℕ) (before now : Files) (words : ProveWords) (text : List ℕ) → IsTold before → IsDone H before now (Prove words) text
+    → (refusal : Refusal) → IsProvingRefused H before words refusal → IsFinal H before (Prove words) refusal → ⊥
+proof_kept H before now words text told done (ProofTooLong size) refused final = final done.bytes done.proof
+proof_kept H before now words text told done other refused final = index_kept H before words.index done.proof.texts told done.proof.index other refused
+
+-- where a command is done, no refusal of it is final
+pub done_kept : (H : List ℕ → List ℕ) (before now : Files) (command : Command) (text : List ℕ) → IsTold before → IsDone H before now command text
+    → (refusal : Refusal) → IsRefused H before command refusal → IsFinal H before command refusal → ⊥
+done_kept H before now (Rank words) text told (ranked, same) refusal refused final =
+    served_kept H before (Rank words) told (ranked.asks, (ranked.texts, ranked.collection)) refusal refused
+done_kept H before now (Build words) text told built refusal refused final =
+    served_kept H before (Build words) told (built.texts, built.collection) refusal refused
+done_kept H before now (Root words) text told (rooted, same) refusal refused final =
+    served_kept H before (Root words) told (rooted.texts, rooted.index) refusal refused
+done_kept H before now (Prove words) text told done (ROut out) refused final = refused.1 (subst IsRowCount (sym refused.0) done.asks.rows)
+done_kept H before now (Prove words) text told done (QueryTooLong bytes) refused final =
+    no_query_fault words.query (query.TooLong bytes) done.asks.query refused.1 tt
+done_kept H before now (Prove words) text told done NoTerm refused final = no_query_fault words.query query.NoTerm done.asks.query refused.1 tt
+done_kept H before now (Prove words) text told done (TooManyWords count) refused final =
+    no_query_fault words.query (query.TooManyWords count) done.asks.query refused.1 tt
+done_kept H before now (Prove words) text told done (TooManyTerms distinct) refused final =
+    no_query_fault words.query (query.TooManyTerms distinct) done.asks.query refused.1 tt
+done_kept H before now (Prove words) text told done other refused final = proof_kept H before now words text told done other refused.1 final
 
 module _ (files : Files) (name : List ℕ) (missing : IsMissing files name) where
   collection_missing : (refusal : Refusal) → IsCollectionRefused files name refusal → ⊥
@@ -151,12 +186,23 @@ module _ (files : Files) (name : List ℕ) (missing : IsMissing files name) wher
 pub missing_kept : (H : List ℕ → List ℕ) (files : Files) (command : Command) → Asks command → IsMissing files (read_name command)
     → (refusal : Refusal) → IsRefused H files command refusal → ⊥
 missing_kept H files (Rank words) asks missing refusal refused =
-    ranking_kept files words asks (collection_missing files words.collection missing) refusal refused
+    ranking_kept words.r words.query (IsCollectionRefused files words.collection) asks (collection_missing files words.collection missing) refusal refused
 missing_kept H files (Build words) asks missing refusal refused = collection_missing files words.collection missing refusal refused
 missing_kept H files (Root words) asks missing refusal refused = index_missing files words.index missing H refusal refused
+missing_kept H files (Prove words) asks missing refusal refused =
+    ranking_kept words.r words.query (IsProvingRefused H files words) asks
+    (proving_kept H files words (index_missing files words.index missing H)
+    (λ size long. missing_file files words.index long.index.bytes (2 ^ 29) missing long.index.file)) refusal refused
 
--- what is served is there
-pub served_there : (H : List ℕ → List ℕ) (files : Files) (command : Command) → IsServed H files command → IsMissing files (read_name command) → ⊥
-served_there H files (Rank words) (asks, (texts, has)) missing = missing_file files words.collection has.bytes (2 ^ 26) missing has.file
-served_there H files (Build words) (texts, has) missing = missing_file files words.collection has.bytes (2 ^ 26) missing has.file
-served_there H files (Root words) (texts, has) missing = missing_file files words.index has.bytes (2 ^ 29) missing has.file
+-- a file of the form that the command reads is there
+pub input_there : (H : List ℕ → List ℕ) (files : Files) (command : Command) → HasInput H files command → IsMissing files (read_name command) → ⊥
+input_there H files (Rank words) (asks, (texts, has)) missing = missing_file files words.collection has.bytes (2 ^ 26) missing has.file
+input_there H files (Build words) (texts, has) missing = missing_file files words.collection has.bytes (2 ^ 26) missing has.file
+input_there H files (Root words) (texts, has) missing = missing_file files words.index has.bytes (2 ^ 29) missing has.file
+input_there H files (Prove words) (asks, (texts, has)) missing = missing_file files words.index has.bytes (2 ^ 29) missing has.file
+
+pub served_input : (H : List ℕ → List ℕ) (files : Files) (command : Command) → IsServed H files command → HasInput H files command
+served_input H files (Rank words) served = served
+served_input H files (Build words) served = served
+served_input H files (Root words) served = served
+served_input H files (Prove words) served = served.0

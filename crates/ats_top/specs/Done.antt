@@ -6,14 +6,15 @@ use Rattle.ats_impact.specs.Rank.{IsRanking, IsTop}
 use Rattle.ats_impact.specs.declared.rank.Row.{Row}
 use Rattle.ats_commit.specs.Root.{root_of}
 use Rattle.ats_index.specs.Spelling.{IsSpelling}
-use Rattle.ats_top.specs.Words.{RankWords, BuildWords, RootWords, Command, Rank, Build, Root}
-use Rattle.ats_top.specs.Print.{lines, line_of_root}
+use Rattle.ats_top.specs.Words.{RankWords, BuildWords, RootWords, ProveWords, Command, Rank, Build, Root, Prove}
+use Rattle.ats_top.specs.Print.{lines, line_of_root, line_of_proof}
 use Rattle.ats_top.specs.Read.{Files, HasCollection, HasIndex}
+use Rattle.ats_top.specs.Proved.{IsProofFor, IsProofTooLong}
 use Rattle.ats_top.specs.Refusals.{AsksRanking}
 
 -- the text is the lines of the ranking of the named file's collection, and its documents are a top answer
 pub record IsRanked (files : Files) (words : RankWords) (text : List ℕ) : Type 0 where
-  pub asks : AsksRanking words
+  pub asks : AsksRanking words.r words.query
   pub texts : List (List ℕ)
   pub query : List (List ℕ × ℕ)
   pub rows : List Row
@@ -38,30 +39,59 @@ pub record IsRooted (H : List ℕ → List ℕ) (files : Files) (words : RootWor
   pub index : HasIndex H files words.index texts
   pub printed : text ≡ line_of_root (root_of H texts)
 
+-- PROOF was given the honest proof that the words ask for, and the text is the line of its length
+pub record IsProofStored (H : List ℕ → List ℕ) (before now : Files) (words : ProveWords) (text : List ℕ) : Type 0 where
+  pub asks : AsksRanking words.r words.query
+  pub bytes : List ℕ
+  pub proof : IsProofFor H before words bytes
+  pub stored : Puts before now words.proof bytes
+  pub printed : text ≡ line_of_proof (length bytes)
+
 -- the command of these words is done: this is its text, and what the shelf holds after it
 abbrev pub IsDone : (List ℕ → List ℕ) → Files → Files → Command → List ℕ → Type 0
 IsDone H before now (Rank words) text = IsRanked before words text × (now ≡ before)
 IsDone H before now (Build words) text = IsBuilt H before now words text
 IsDone H before now (Root words) text = IsRooted H before words text × (now ≡ before)
+IsDone H before now (Prove words) text = IsProofStored H before now words text
 
--- INDEX was given a prefix of the index bytes of the named file's collection, which may be all of them
-pub record IsStoredPart (H : List ℕ → List ℕ) (before now : Files) (words : BuildWords) : Type 0 where
+-- the name was given a prefix of the bytes, which may be all of them
+pub record PutsPart (before now : Files) (name bytes : List ℕ) : Type 0 where
+  pub n : ℕ
+  pub within : n ≤ length bytes
+  pub stored : Puts before now name (take n bytes)
+
+-- INDEX was given a prefix of the index bytes of the named file's collection
+pub record IsBuiltPart (H : List ℕ → List ℕ) (before now : Files) (words : BuildWords) : Type 0 where
   pub texts : List (List ℕ)
   pub bytes : List ℕ
-  pub n : ℕ
   pub collection : HasCollection before words.collection texts
   pub spelling : IsSpelling H bytes texts
-  pub within : n ≤ length bytes
-  pub stored : Puts before now words.index (take n bytes)
+  pub part : PutsPart before now words.index bytes
+
+-- PROOF was given a prefix of the honest proof that the words ask for
+pub record IsProofPart (H : List ℕ → List ℕ) (before now : Files) (words : ProveWords) : Type 0 where
+  pub asks : AsksRanking words.r words.query
+  pub bytes : List ℕ
+  pub proof : IsProofFor H before words bytes
+  pub part : PutsPart before now words.proof bytes
 
 -- how a command may change what the shelf holds
 abbrev pub Changes : (List ℕ → List ℕ) → Files → Files → Command → Type 0
 Changes H before now (Rank words) = ⊥
-Changes H before now (Build words) = IsStoredPart H before now words
+Changes H before now (Build words) = IsBuiltPart H before now words
 Changes H before now (Root words) = ⊥
+Changes H before now (Prove words) = IsProofPart H before now words
 
 -- what the words say is within the limits, and the named file is of the form that the command reads
+abbrev pub HasInput : (List ℕ → List ℕ) → Files → Command → Type 0
+HasInput H files (Rank words) = AsksRanking words.r words.query × ((texts : List (List ℕ)) × HasCollection files words.collection texts)
+HasInput H files (Build words) = (texts : List (List ℕ)) × HasCollection files words.collection texts
+HasInput H files (Root words) = (texts : List (List ℕ)) × HasIndex H files words.index texts
+HasInput H files (Prove words) = AsksRanking words.r words.query × ((texts : List (List ℕ)) × HasIndex H files words.index texts)
+
+-- and no honest proof that the words ask for is too long
 abbrev pub IsServed : (List ℕ → List ℕ) → Files → Command → Type 0
-IsServed H files (Rank words) = AsksRanking words × ((texts : List (List ℕ)) × HasCollection files words.collection texts)
-IsServed H files (Build words) = (texts : List (List ℕ)) × HasCollection files words.collection texts
-IsServed H files (Root words) = (texts : List (List ℕ)) × HasIndex H files words.index texts
+IsServed H files (Rank words) = HasInput H files (Rank words)
+IsServed H files (Build words) = HasInput H files (Build words)
+IsServed H files (Root words) = HasInput H files (Root words)
+IsServed H files (Prove words) = HasInput H files (Prove words) × ((size : ℕ) → IsProofTooLong H files words size → ⊥)

@@ -1,5 +1,5 @@
 -- The command that the program's own value of it means.
-use Rattle.ats_top.specs.Words.{Command, Rank, Build, Root}
+use Rattle.ats_top.specs.Words.{Command, Rank, Build, Root, Prove}
 use Rattle.ats_top.specs.declared.words.Command.{Command as Said}
 use Rattle.ats_top.specs.declared.words.Command.TheVariants as said
 
@@ -7,3 +7,5 @@ abbrev pub meaning : Said → Command
 meaning (said.Rank collection r query) = Rank (record { collection = collection.now; r = r; query = query.now })
 meaning (said.Build collection index) = Build (record { collection = collection.now; index = index.now })
 meaning (said.Root index) = Root (record { index = index.now })
+meaning (said.Prove index algorithm r query proof) =
+    Prove (record { index = index.now; algorithm = algorithm; r = r; query = query.now; proof = proof.now })

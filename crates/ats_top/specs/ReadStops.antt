@@ -2,7 +2,6 @@
 use Rattle.std.specs.Prelude.{◌≡◌, ◌⊎◌, ℕ, List}
 use Rattle.ats_base.specs.Outside.{Rose, IsMissing, IsLonger}
 use Rattle.ats_top.specs.Read.{Files}
-use Rattle.ats_top.specs.Words.{RankWords}
 use Rattle.ats_top.specs.Refusals.{AsksRanking, IsCollectionRefused, IsIndexRefused, IsRankingRefused}
 use Rattle.ats_top.specs.declared.stops.Refusal.{Refusal}
 use Rattle.ats_top.specs.declared.stops.Refusal.TheVariants.{FileTooLong}
@@ -26,9 +25,9 @@ CollectionStop files name before now stop = StopsBy files name before now (IsCol
 abbrev pub IndexStop : (List ℕ → List ℕ) → Files → List ℕ → ℕ → ℕ → Stop → Type 0
 IndexStop H files name before now stop = StopsBy files name before now (IsIndexRefused H files name) stop
 
--- the words are tried first
-abbrev pub RankingStop : Files → RankWords → ℕ → ℕ → Stop → Type 0
-RankingStop files words before now Usage = ⊥
-RankingStop files words before now Shelf = AsksRanking words × (Rose before now ⊎ IsMissing files words.collection)
-RankingStop files words before now (Input refusal) = IsRankingRefused files words refusal
-RankingStop files words before now Memory = Unit {0}
+-- the rows and the query are tried first, then the named file and what is made of it
+abbrev pub RankingStop : Files → List ℕ → (r : ℕ) (text : List ℕ) → ℕ → ℕ → (Refusal → Type 0) → Stop → Type 0
+RankingStop files name r text before now later Usage = ⊥
+RankingStop files name r text before now later Shelf = AsksRanking r text × (Rose before now ⊎ IsMissing files name)
+RankingStop files name r text before now later (Input refusal) = IsRankingRefused r text later refusal
+RankingStop files name r text before now later Memory = Unit {0}

@@ -12,10 +12,11 @@ use Rattle.ats_index.specs.declared.load.LoadFault.TheVariants as index
 use Rattle.ats_top.specs.Input.{AreJsonTexts, IsFirstJsonFault}
 use Rattle.ats_top.specs.declared.input.JsonFault.{JsonFault}
 use Rattle.ats_top.specs.declared.input.JsonFault.TheVariants as json
-use Rattle.ats_top.specs.Words.{RankWords, Command, Rank, Build, Root}
+use Rattle.ats_top.specs.Words.{ProveWords, Command, Rank, Build, Root, Prove}
 use Rattle.ats_top.specs.Read.{Files, IsFile}
+use Rattle.ats_top.specs.Proved.{IsProofFor, IsProofTooLong}
 use Rattle.ats_top.specs.declared.stops.Refusal.{Refusal}
-use Rattle.ats_top.specs.declared.stops.Refusal.TheVariants.{ROut, QueryTooLong, NoTerm, TooManyWords, TooManyTerms, FileTooLong, NotJson, NotArray, BadItem, NoDocuments, TooManyDocuments, TextTooLong, AllTooLong, BadIndex}
+use Rattle.ats_top.specs.declared.stops.Refusal.TheVariants.{ROut, QueryTooLong, NoTerm, TooManyWords, TooManyTerms, FileTooLong, NotJson, NotArray, BadItem, NoDocuments, TooManyDocuments, TextTooLong, AllTooLong, BadIndex, ProofTooLong}
 
 -- an answer may have 1 to 1,000 rows
 pub record IsRowCount (r : ℕ) : Type 0 where
@@ -23,15 +24,16 @@ pub record IsRowCount (r : ℕ) : Type 0 where
   pub few : r ≤ 1000
 
 -- the number of rows and the query are within the limits
-pub record AsksRanking (words : RankWords) : Type 0 where
-  pub rows : IsRowCount words.r
-  pub query : HasQuery words.query
+pub record AsksRanking (r : ℕ) (text : List ℕ) : Type 0 where
+  pub rows : IsRowCount r
+  pub query : HasQuery text
 
 -- what the words of a command say is within the limits
 abbrev pub Asks : Command → Type 0
-Asks (Rank words) = AsksRanking words
+Asks (Rank words) = AsksRanking words.r words.query
 Asks (Build words) = Unit {0}
 Asks (Root words) = Unit {0}
+Asks (Prove words) = AsksRanking words.r words.query
 
 -- the first refusal of the file's bytes is that of the JSON text
 abbrev pub IsJsonRefused : Files → List ℕ → JsonFault → Type 0
@@ -60,16 +62,27 @@ IsIndexRefused H files name (FileTooLong limit) = (limit ≡ 2 ^ 29) × IsLonger
 IsIndexRefused H files name (BadIndex at) = (bytes : List ℕ) × IsFile files name (2 ^ 29) bytes × IsLoadFault H bytes (index.BadIndex at)
 IsIndexRefused H files name _ = ⊥
 
--- rows, query, collection
-abbrev pub IsRankingRefused : Files → RankWords → Refusal → Type 0
-IsRankingRefused files words (ROut r) = (r ≡ words.r) × (IsRowCount r → ⊥)
-IsRankingRefused files words (QueryTooLong bytes) = IsRowCount words.r × IsFirstFault words.query (query.TooLong bytes)
-IsRankingRefused files words NoTerm = IsRowCount words.r × IsFirstFault words.query query.NoTerm
-IsRankingRefused files words (TooManyWords count) = IsRowCount words.r × IsFirstFault words.query (query.TooManyWords count)
-IsRankingRefused files words (TooManyTerms distinct) = IsRowCount words.r × IsFirstFault words.query (query.TooManyTerms distinct)
-IsRankingRefused files words refusal = AsksRanking words × IsCollectionRefused files words.collection refusal
+-- the named index, then the length of the honest proof
+abbrev pub IsProvingRefused : (List ℕ → List ℕ) → Files → ProveWords → Refusal → Type 0
+IsProvingRefused H files words (ProofTooLong bytes) = IsProofTooLong H files words bytes
+IsProvingRefused H files words refusal = IsIndexRefused H files words.index refusal
+
+-- rows, query, and then what is tried after them
+abbrev pub IsRankingRefused : ℕ → List ℕ → (Refusal → Type 0) → Refusal → Type 0
+IsRankingRefused r text later (ROut out) = (out ≡ r) × (IsRowCount out → ⊥)
+IsRankingRefused r text later (QueryTooLong bytes) = IsRowCount r × IsFirstFault text (query.TooLong bytes)
+IsRankingRefused r text later NoTerm = IsRowCount r × IsFirstFault text query.NoTerm
+IsRankingRefused r text later (TooManyWords count) = IsRowCount r × IsFirstFault text (query.TooManyWords count)
+IsRankingRefused r text later (TooManyTerms distinct) = IsRowCount r × IsFirstFault text (query.TooManyTerms distinct)
+IsRankingRefused r text later refusal = AsksRanking r text × later refusal
 
 abbrev pub IsRefused : (List ℕ → List ℕ) → Files → Command → Refusal → Type 0
-IsRefused H files (Rank words) refusal = IsRankingRefused files words refusal
+IsRefused H files (Rank words) refusal = IsRankingRefused words.r words.query (IsCollectionRefused files words.collection) refusal
 IsRefused H files (Build words) refusal = IsCollectionRefused files words.collection refusal
 IsRefused H files (Root words) refusal = IsIndexRefused H files words.index refusal
+IsRefused H files (Prove words) refusal = IsRankingRefused words.r words.query (IsProvingRefused H files words) refusal
+
+-- no run of the command gets past the refusal; where it is of a proof's length, no honest proof is short enough
+abbrev pub IsFinal : (List ℕ → List ℕ) → Files → Command → Refusal → Type 0
+IsFinal H files (Prove words) (ProofTooLong size) = (bytes : List ℕ) → IsProofFor H files words bytes → ⊥
+IsFinal H files command refusal = Unit {0}
