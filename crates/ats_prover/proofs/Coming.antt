@@ -56,13 +56,22 @@ AreGoodEntries low (e ∷ es) = (low ≤ e.position) × (e.position ≤ 0xffff_f
 
 come_entries : (es : List ShownEntry) (low : ℕ) (rest : Table) → AreGoodEntries low es → Come (flat_map entry_fields es) (grammar.dict_leaves (length es) low rest) rest
 come_entries [] low rest good = refl
-come_entries (e ∷ es) low rest good =
-    (is_number 3 e.position low 0xffff_ffff good.0 good.1,
-    (is_number 0 (length e.entry.term) 0 64 (omega arith) good.2.short,
-    (sym (number-spelled 0 (length e.entry.term)),
-    (is_number 3 e.entry.f 0 0xffff_ffff (omega arith) (omega (arith, good.2.number)),
-    (good.2.root,
-    subst (λ (m : ℕ). Come (flat_map entry_fields es) (grammar.dict_leaves (length es) (m + 1) rest) rest) (sym (number-spelled 3 e.position)) (come_entries es (e.position + 1) rest good.3))))))
+come_entries (e ∷ es) low rest good = (
+  is_number 3 e.position low 0xffff_ffff good.0 good.1,
+  (
+    is_number 0 (length e.entry.term) 0 64 (omega arith) good.2.short,
+    (
+      sym (number-spelled 0 (length e.entry.term)),
+      (
+        is_number 3 e.entry.f 0 0xffff_ffff (omega arith) (omega (arith, good.2.number)),
+        (
+          good.2.root,
+          subst (λ (m : ℕ). Come (flat_map entry_fields es) (grammar.dict_leaves (length es) (m + 1) rest) rest) (sym (number-spelled 3 e.position)) (come_entries es (e.position + 1) rest good.3),
+        ),
+      ),
+    ),
+  ),
+)
 
 abbrev pub AreGoodSlots : ℕ → List Slot → Type 0
 AreGoodSlots low [] = Unit {0}
@@ -77,11 +86,14 @@ come_slots [] low present good = let e : present ≡ present + 0 = omega arith i
 come_slots (s ∷ ss) low present good =
     let sum : present + kind_of_slot s + present_in ss ≡ present + present_in (s ∷ ss) = omega (arith, sum_by-cons kind_of_slot s ss) in
     let more = subst (λ n. Come (flat_map slot_fields ss) (grammar.slots false (length ss) s.index (present + kind_of_slot s)) (grammar.met false n)) sum
-        (come_slots ss s.index (present + kind_of_slot s) good.2) in
-    (is_number 0 (kind_of_slot s) 0 1 (omega arith) (small_kind s.present),
-    (is_number 1 s.index low 0xffff good.0 good.1,
-    subst (λ (k : ℕ). Come (flat_map slot_fields ss) (grammar.slots false (length ss) (number (spelled 2 s.index)) (present + k)) (grammar.met false (present + present_in (s ∷ ss)))) (sym (number-spelled 0 (kind_of_slot s)))
-    (subst (λ (i : ℕ). Come (flat_map slot_fields ss) (grammar.slots false (length ss) i (present + kind_of_slot s)) (grammar.met false (present + present_in (s ∷ ss)))) (sym (number-spelled 1 s.index)) more)))
+    (come_slots ss s.index (present + kind_of_slot s) good.2) in (
+      is_number 0 (kind_of_slot s) 0 1 (omega arith) (small_kind s.present),
+      (
+        is_number 1 s.index low 0xffff good.0 good.1,
+        subst (λ (k : ℕ). Come (flat_map slot_fields ss) (grammar.slots false (length ss) (number (spelled 2 s.index)) (present + k)) (grammar.met false (present + present_in (s ∷ ss)))) (sym (number-spelled 0 (kind_of_slot s)))
+            (subst (λ (i : ℕ). Come (flat_map slot_fields ss) (grammar.slots false (length ss) i (present + kind_of_slot s)) (grammar.met false (present + present_in (s ∷ ss)))) (sym (number-spelled 1 s.index)) more),
+      ),
+    )
 
 abbrev pub AreGoodIds : ℕ → List ℕ → Type 0
 AreGoodIds low [] = Unit {0}
@@ -89,8 +101,10 @@ AreGoodIds low (id ∷ ids) = (low ≤ id) × (id ≤ 0xffff_ffff) × AreGoodIds
 
 come_ids : (ids : List ℕ) (low : ℕ) (rest : Table) → AreGoodIds low ids → Come (flat_map id_fields ids) (grammar.met_ids (length ids) low rest) rest
 come_ids [] low rest good = refl
-come_ids (id ∷ ids) low rest good = (is_number 3 id low 0xffff_ffff good.0 good.1,
-    subst (λ (m : ℕ). Come (flat_map id_fields ids) (grammar.met_ids (length ids) (m + 1) rest) rest) (sym (number-spelled 3 id)) (come_ids ids (id + 1) rest good.2))
+come_ids (id ∷ ids) low rest good = (
+  is_number 3 id low 0xffff_ffff good.0 good.1,
+  subst (λ (m : ℕ). Come (flat_map id_fields ids) (grammar.met_ids (length ids) (m + 1) rest) rest) (sym (number-spelled 3 id)) (come_ids ids (id + 1) rest good.2),
+)
 
 come_rows : (rows : List ℕ) → All (λ n. n ≤ 0xffff_ffff) rows → Come (flat_map id_fields rows) (grammar.rows (length rows)) End
 come_rows [] all = refl
@@ -146,17 +160,34 @@ fields_with docs p = front_fields docs ++ header_fields p.header ++ spelled 2 (l
     ++ documents_fields docs ++ counted 2 id_fields p.answer
 
 come_front : (h : Header) → IsHeader h.documents h.dict_leaves h.dict_root h.docs_root h.texts_root → Come (front_fields None ++ header_fields h) grammar.proof (grammar.query_terms false)
-come_front h is =
-    (is_number 3 0x41545350 0x41545350 0x41545350 (omega arith) (omega arith),
-    (is_number 0 1 1 1 (omega arith) (omega arith),
-    (is_number 0 2 1 2 (omega arith) (omega arith),
-    (is_number 0 1 1 1 (omega arith) (omega arith),
-    (is_number 3 h.documents 1 65536 is.numbers.some is.numbers.few,
-    (is_number 3 h.dict_leaves 2 16777218 is.numbers.sentinels is.numbers.terms,
-    (is.dict,
-    (is.docs,
-    (is.texts,
-    refl)))))))))
+come_front h is = (
+  is_number 3 0x41545350 0x41545350 0x41545350 (omega arith) (omega arith),
+  (
+    is_number 0 1 1 1 (omega arith) (omega arith),
+    (
+      is_number 0 2 1 2 (omega arith) (omega arith),
+      (
+        is_number 0 1 1 1 (omega arith) (omega arith),
+        (
+          is_number 3 h.documents 1 65536 is.numbers.some is.numbers.few,
+          (
+            is_number 3 h.dict_leaves 2 16777218 is.numbers.sentinels is.numbers.terms,
+            (
+              is.dict,
+              (
+                is.docs,
+                (
+                  is.texts,
+                  refl,
+                ),
+              ),
+            ),
+          ),
+        ),
+      ),
+    ),
+  ),
+)
 
 pub come_proof : (p : Proof) → IsInRange p → Come (fields_of p) grammar.proof End
 come_proof p is =
@@ -171,25 +202,25 @@ come_proof p is =
     let g : List (List ℕ) = f ++ flat_map prefix_fields p.lists in
     let h : List (List ℕ) = g ++ [] in
     let come_b : Come b grammar.proof (grammar.dictionary false n) =
-        come_join a (spelled 2 n ∷ []) grammar.proof (grammar.query_terms false) (grammar.dictionary false n) (come_front p.header is.front)
-        (come_number 1 n 1 32 Count (λ m. grammar.dictionary false m) [] (grammar.dictionary false n) is.terms.0 is.terms.1 refl) in
+    come_join a (spelled 2 n ∷ []) grammar.proof (grammar.query_terms false) (grammar.dictionary false n) (come_front p.header is.front)
+    (come_number 1 n 1 32 Count (λ m. grammar.dictionary false m) [] (grammar.dictionary false n) is.terms.0 is.terms.1 refl) in
     let come_c : Come c grammar.proof (grammar.dict_digests false n) =
-        come_join b (counted 2 entry_fields p.dict) grammar.proof (grammar.dictionary false n) (grammar.dict_digests false n) come_b
-        (come_number 1 (length p.dict) 1 64 Count (λ m. grammar.dict_leaves m 0 (grammar.dict_digests false n)) (flat_map entry_fields p.dict) (grammar.dict_digests false n) is.leaves.0 is.leaves.1 (come_entries p.dict 0 (grammar.dict_digests false n) is.entries)) in
+    come_join b (counted 2 entry_fields p.dict) grammar.proof (grammar.dictionary false n) (grammar.dict_digests false n) come_b
+    (come_number 1 (length p.dict) 1 64 Count (λ m. grammar.dict_leaves m 0 (grammar.dict_digests false n)) (flat_map entry_fields p.dict) (grammar.dict_digests false n) is.leaves.0 is.leaves.1 (come_entries p.dict 0 (grammar.dict_digests false n) is.entries)) in
     let come_d : Come d grammar.proof (grammar.slots false n 0 0) =
-        come_join c (counted 2 digest_fields p.dict_digests) grammar.proof (grammar.dict_digests false n) (grammar.slots false n 0 0) come_c
-        (come_counted p.dict_digests (grammar.slots false n 0 0) is.others) in
+    come_join c (counted 2 digest_fields p.dict_digests) grammar.proof (grammar.dict_digests false n) (grammar.slots false n 0 0) come_c
+    (come_counted p.dict_digests (grammar.slots false n 0 0) is.others) in
     let sum : 0 + present_in p.slots ≡ present = omega (arith, is.prefix_each) in
     let come_e : Come e grammar.proof (grammar.met false present) =
-        come_join d (flat_map slot_fields p.slots) grammar.proof (grammar.slots false n 0 0) (grammar.met false present) come_d
-        (subst (λ (m : ℕ). Come (flat_map slot_fields p.slots) (grammar.slots false n 0 0) (grammar.met false m)) sum (come_slots p.slots 0 0 is.places)) in
+    come_join d (flat_map slot_fields p.slots) grammar.proof (grammar.slots false n 0 0) (grammar.met false present) come_d
+    (subst (λ (m : ℕ). Come (flat_map slot_fields p.slots) (grammar.slots false n 0 0) (grammar.met false m)) sum (come_slots p.slots 0 0 is.places)) in
     let come_f : Come f grammar.proof (grammar.prefixes present grammar.answer) =
-        come_join e (counted 4 id_fields p.met) grammar.proof (grammar.met false present) (grammar.prefixes present grammar.answer) come_e
-        (come_number 3 (length p.met) 0 65536 Count (λ m. grammar.met_ids m 0 (grammar.prefixes present grammar.answer)) (flat_map id_fields p.met) (grammar.prefixes present grammar.answer) (omega arith) is.ids.0 (come_ids p.met 0 (grammar.prefixes present grammar.answer) is.ids.1)) in
+    come_join e (counted 4 id_fields p.met) grammar.proof (grammar.met false present) (grammar.prefixes present grammar.answer) come_e
+    (come_number 3 (length p.met) 0 65536 Count (λ m. grammar.met_ids m 0 (grammar.prefixes present grammar.answer)) (flat_map id_fields p.met) (grammar.prefixes present grammar.answer) (omega arith) is.ids.0 (come_ids p.met 0 (grammar.prefixes present grammar.answer) is.ids.1)) in
     let come_g : Come g grammar.proof grammar.answer =
-        come_join f (flat_map prefix_fields p.lists) grammar.proof (grammar.prefixes present grammar.answer) grammar.answer come_f
-        (come_prefixes p.lists grammar.answer is.fronts) in
+    come_join f (flat_map prefix_fields p.lists) grammar.proof (grammar.prefixes present grammar.answer) grammar.answer come_f
+    (come_prefixes p.lists grammar.answer is.fronts) in
     let come_h : Come h grammar.proof grammar.answer = subst (λ (fs : List (List ℕ)). Come fs grammar.proof grammar.answer) (sym (append-nil g)) come_g in
     subst (λ (docs : Option Documents). Come (fields_with docs p) grammar.proof End) (sym is.alone)
     (come_join h (counted 2 id_fields p.answer) grammar.proof grammar.answer End come_h
-      (come_number 1 (length p.answer) 0 1000 Count grammar.rows (flat_map id_fields p.answer) End (omega arith) is.rows.0 (come_rows p.answer is.rows.1)))
+    (come_number 1 (length p.answer) 0 1000 Count grammar.rows (flat_map id_fields p.answer) End (omega arith) is.rows.0 (come_rows p.answer is.rows.1)))

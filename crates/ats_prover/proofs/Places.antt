@@ -26,16 +26,16 @@ count_at_point p [] i most point = omega (arith, most)
 count_at_point p (x ∷ xs) zero most point =
     let first : p x ≡ false = point.1 0 x (omega arith) (omega arith) in
     let none : count_by p xs ≡ 0 =
-        count_at_point p xs 0 (omega arith) ((λ k d low less. absurd (omega (arith, less))), (λ k d low less. point.1 (suc k) d (omega arith) (omega (arith, less)))) in
+    count_at_point p xs 0 (omega arith) ((λ k d low less. absurd (omega (arith, less))), (λ k d low less. point.1 (suc k) d (omega arith) (omega (arith, less)))) in
     let no : ◌≡◌ {A = ℕ} (cond (p x) 1 0) 0 = ap (λ b. cond b 1 0) first in
     omega (arith, count_by_cons p x xs, no, none)
 count_at_point p (x ∷ xs) (suc i) most point =
     let first : p x ≡ true = point.0 0 x (omega arith) (omega arith) in
     let rest : count_by p xs ≡ i =
-        count_at_point p xs i (omega (arith, most)) (
-          (λ k d low less. point.0 (suc k) d (omega arith) (omega (arith, less))),
-          (λ k d low less. point.1 (suc k) d (omega (arith, low)) (omega (arith, less)))
-        ) in
+    count_at_point p xs i (omega (arith, most)) (
+      (λ k d low less. point.0 (suc k) d (omega arith) (omega (arith, less))),
+      (λ k d low less. point.1 (suc k) d (omega (arith, low)) (omega (arith, less))),
+    ) in
     let yes : ◌≡◌ {A = ℕ} (cond (p x) 1 0) 1 = ap (λ b. cond b 1 0) first in
     omega (arith, count_by_cons p x xs, yes, rest)
 
@@ -45,7 +45,7 @@ place_at xs i rise inside =
     let pairs = AllPairs-from_increasing xs rise in
     count_at_point (λ m. nat_lt m (get_or xs i 0)) xs i (omega (arith, inside)) (
       (λ k d low less. lt-ltb (get_or xs k d) (get_or xs i 0) (subst (λ n. get_or xs k d < n) (get_or_default xs i d 0 inside) (pairs k i d less inside))),
-      (λ k d low less. le-ltb (get_or xs k d) (get_or xs i 0) (subst (λ n. n ≤ get_or xs k d) (get_or_default xs i d 0 inside) (never_falls xs rise i k d low less)))
+      (λ k d low less. le-ltb (get_or xs k d) (get_or xs i 0) (subst (λ n. n ≤ get_or xs k d) (get_or_default xs i d 0 inside) (never_falls xs rise i k d low less))),
     )
 
 -- a greater number has no lower place

@@ -53,7 +53,7 @@ standing_term H texts term p d is =
     let size = length-map (lists_of texts) (dict_entry H) in
     let inside : p < length (lists_of texts) = omega (arith, is.within, size) in
     let entry : entry_at (dictionary_of H texts) (suc p) ≡ dict_entry H (get_or (lists_of texts) p d) =
-        entry_at-suc (dictionary_of H texts) p low (omega (arith, inside, size)) ∙ get_or-map (dict_entry H) (lists_of texts) p d low inside in
+    entry_at-suc (dictionary_of H texts) p low (omega (arith, inside, size)) ∙ get_or-map (dict_entry H) (lists_of texts) p d low inside in
     (inside, ap (λ (e : DictEntry). e.term) (sym entry) ∙ is.same)
 
 -- each list is that of its term
@@ -62,7 +62,7 @@ unfolding lists_of
 list_at texts p d inside =
     let made : List ℕ → List ℕ × List Entry = λ term. (term, list texts term) in
     let is : get_or (map made (vocabulary texts)) p d ≡ made (get_or (vocabulary texts) p []) =
-        get_or-map made (vocabulary texts) p [] d (omega (arith, inside, length-map (vocabulary texts) made)) in
+    get_or-map made (vocabulary texts) p [] d (omega (arith, inside, length-map (vocabulary texts) made)) in
     rw is refl
 
 -- a term that lies between two leaves has no list
@@ -71,11 +71,11 @@ absent_term H texts term p is =
     let entries = dictionary_of H texts in
     let terms : List (List ℕ) = map (λ (e : DictEntry). e.term) entries in
     let none : list_any (bytes_eq term) terms ≡ false = list_any_none (bytes_eq term) terms (λ k d inside.
-      let within : k < length entries = omega (arith, inside, length-map entries (λ (e : DictEntry). e.term)) in
-      let at : get_or terms k d ≡ (get_or entries k low).term = get_or-map (λ (e : DictEntry). e.term) entries k low d within in
-      other term (get_or terms k d) (λ same. is.absent k low within (sym at ∙ sym same))) in
+    let within : k < length entries = omega (arith, inside, length-map entries (λ (e : DictEntry). e.term)) in
+    let at : get_or terms k d ≡ (get_or entries k low).term = get_or-map (λ (e : DictEntry). e.term) entries k low d within in
+    other term (get_or terms k d) (λ same. is.absent k low within (sym at ∙ sym same))) in
     let test : nat_lt 0 (frequency term texts) ≡ false =
-        ap (nat_lt 0) (sym (postings_frequency term texts)) ∙ sym (vocabulary_has texts term) ∙ ap (list_any (bytes_eq term)) (sym (dictionary_terms H texts)) ∙ none in
+    ap (nat_lt 0) (sym (postings_frequency term texts)) ∙ sym (vocabulary_has texts term) ∙ ap (list_any (bytes_eq term)) (sym (dictionary_terms H texts)) ∙ none in
     zero_of (frequency term texts) test
   where
     other : (xs ys : List ℕ) → (xs ≡ ys → ⊥) → bytes_eq xs ys ≡ false
@@ -83,6 +83,7 @@ absent_term H texts term p is =
       | inl is ↦ absurd (differ ((bytes_eq-Decides xs ys).0 is))
       | inr not ↦ not
     ]
+
     zero_of : (n : ℕ) → nat_lt 0 n ≡ false → n ≡ 0
     zero_of n not = omega (arith, ltb-false 0 n not)
 
@@ -112,7 +113,7 @@ pub lane_is : (texts : List (List ℕ)) (pair : List ℕ × ℕ) (lane : WholeLa
 lane_is texts pair lane documents weight entries number times coefficient_is =
     let f : length lane.entries ≡ frequency pair.0 texts = ap (λ (es : List Entry). length es) entries ∙ list_frequency texts pair.0 in
     let c : lane.coefficient ≡ coefficient texts pair =
-        coefficient_is ∙ ap₂ (λ w n. w * idf n (length lane.entries)) times number ∙ ap (λ m. pair.1 * idf (length texts) m) f in
+    coefficient_is ∙ ap₂ (λ w n. w * idf n (length lane.entries)) times number ∙ ap (λ m. pair.1 * idf (length texts) m) f in
     ap₂ (λ (n : ℕ) (es : List Entry). let l : WholeLane = record { coefficient = n; entries = es } in l) c entries
 
 pub is_whole : (lane : WholeLane) → IsList 65536 lane.entries → 1 ≤ lane.coefficient → lane.coefficient ≤ 34935 → IsWholeLane lane

@@ -20,13 +20,13 @@ unfolding after
 after_twice w a b =
     let sum : w.asked + length a + length b ≡ w.asked + length (a ++ b) = omega (arith, length-append a b) in
     let kept : (if nat_lt w.limit (w.asked + length a + length b) then None else joined (if nat_lt w.limit (w.asked + length a) then None else joined w.kept a) b)
-        ≡ (if nat_lt w.limit (w.asked + length (a ++ b)) then None else joined w.kept (a ++ b)) =
-        elim (cases_lt w.limit (w.asked + length a + length b)) [
-          | inl over ↦ (grind (arith, nat_tests))
-          | inr fits ↦
-              let twice = joined_twice w.kept a b in
-              (grind (arith, nat_tests))
-        ] in
+    ≡ (if nat_lt w.limit (w.asked + length (a ++ b)) then None else joined w.kept (a ++ b)) =
+    elim (cases_lt w.limit (w.asked + length a + length b)) [
+      | inl over ↦ (grind (arith, nat_tests))
+      | inr fits ↦
+          let twice = joined_twice w.kept a b in
+          (grind (arith, nat_tests))
+    ] in
     ap₂ (λ (n : ℕ) (k : Option (List ℕ)). let v : Written = record { limit = w.limit; asked = n; kept = k } in v) sum kept
 
 pub put_put : (w : Written) (a b : List (List ℕ)) → put (put w a) b ≡ put w (a ++ b)
@@ -38,7 +38,7 @@ pub put_more : {X : Type 0} (spell : X → List (List ℕ)) (w : Written) (front
     → after (put w (front ++ flat_map spell (take i xs))) bytes ≡ put w (front ++ flat_map spell (take (i + 1) xs))
 put_more spell w front xs i x d bytes inside is same =
     let more : (front ++ flat_map spell (take i xs)) ++ spell x ≡ front ++ flat_map spell (take (i + 1) xs) =
-        rw (add-one, take-suc xs i d inside, is) (flat_map_more spell front (take i xs) (get_or xs i d)) in
+    rw (add-one, take-suc xs i d inside, is) (flat_map_more spell front (take i xs) (get_or xs i d)) in
     ap (after (put w (front ++ flat_map spell (take i xs)))) same ∙ put_put w (front ++ flat_map spell (take i xs)) (spell x) ∙ ap (put w) more
 
 three_more : (a b c d : List (List ℕ)) → a ++ (b ++ c ++ d) ≡ a ++ b ++ c ++ d

@@ -126,9 +126,12 @@ pub good_entries : (entries : List DictEntry) (ps : List ℕ) (low : ℕ) → Is
     → AreGoodEntries low (map (shown_entry entries) ps)
 good_entries entries [] low is rises above below = tt
 good_entries entries (p ∷ ps) low is rises above below =
-    let first = below 0 0 (omega arith) in
-    (above 0 0 (omega arith), omega (arith, first, is.few), leaf_at entries p is first,
-    good_entries entries ps (p + 1) is (tail_rises p ps rises) (above_first p ps rises) (All-tail (λ q. q < length entries + 2) p ps below))
+    let first = below 0 0 (omega arith) in (
+      above 0 0 (omega arith),
+      omega (arith, first, is.few),
+      leaf_at entries p is first,
+      good_entries entries ps (p + 1) is (tail_rises p ps rises) (above_first p ps rises) (All-tail (λ q. q < length entries + 2) p ps below),
+    )
 
 pub good_ids : (ids : List ℕ) (low : ℕ) → IsStrictlyIncreasing ids → All (λ n. low ≤ n) ids → All (λ n. n < 65536) ids → AreGoodIds low ids
 good_ids [] low rises above below = tt
@@ -178,9 +181,11 @@ slots_from entries positions term spot [] [] dictionary few is rises are = tt
 slots_from entries positions term spot [] (s ∷ spots) dictionary few is rises are = absurd are
 slots_from entries positions term spot (pair ∷ query) [] dictionary few is rises are = absurd are
 slots_from entries positions term spot (pair ∷ query) (s ∷ spots) dictionary few is rises are =
-    let up = place_grows positions (lower spot) (lower s) (lowers_never_fall entries term pair.0 spot s dictionary is are.0 rises.0) in
-    (omega (arith, up, index_is positions spot, index_is positions s), omega (arith, index_is positions s, count_by-le-length (λ m. nat_lt m (lower s)) positions, few),
-    slots_from entries positions pair.0 s query spots dictionary few are.0 rises.1 are.1)
+    let up = place_grows positions (lower spot) (lower s) (lowers_never_fall entries term pair.0 spot s dictionary is are.0 rises.0) in (
+      omega (arith, up, index_is positions spot, index_is positions s),
+      omega (arith, index_is positions s, count_by-le-length (λ m. nat_lt m (lower s)) positions, few),
+      slots_from entries positions pair.0 s query spots dictionary few are.0 rises.1 are.1,
+    )
 
 pub good_slots : (entries : List DictEntry) (positions : List ℕ) (query : List (List ℕ × ℕ)) (spots : List Spot) → IsDictionary entries → length positions ≤ 64
     → Rises query → AreSpots entries query spots → AreGoodSlots 0 (map (slot_of positions) spots)

@@ -42,10 +42,10 @@ pub entry_is : (p : ℕ) (e : DictEntry) → p < 2 ^ 32 → e.f < 2 ^ 32
 unfolding dict_leaf_bytes
 entry_is p e few small =
     let back : to_be_bytes w32 e.f ++ e.root ≡ spelled 4 e.f ++ (e.root ++ []) =
-        ap₂ (λ (xs ys : List ℕ). xs ++ ys) (spelled_4 e.f small) (sym (append-nil e.root)) in
+    ap₂ (λ (xs ys : List ℕ). xs ++ ys) (spelled_4 e.f small) (sym (append-nil e.root)) in
     let seam : (e.term ++ to_be_bytes w32 e.f) ++ e.root ≡ e.term ++ (to_be_bytes w32 e.f ++ e.root) = append_assoc e.term (to_be_bytes w32 e.f) e.root in
     let leaf : length e.term ∷ ((e.term ++ to_be_bytes w32 e.f) ++ e.root) ≡ spelled 1 (length e.term) ++ (e.term ++ (spelled 4 e.f ++ (e.root ++ []))) =
-        ap₂ (λ (n : List ℕ) (xs : List ℕ). n ++ xs) (sym (spelled_1 (length e.term))) (seam ∙ ap (λ (xs : List ℕ). e.term ++ xs) back) in
+    ap₂ (λ (n : List ℕ) (xs : List ℕ). n ++ xs) (sym (spelled_1 (length e.term))) (seam ∙ ap (λ (xs : List ℕ). e.term ++ xs) back) in
     ap₂ (λ (xs ys : List ℕ). xs ++ ys) (spelled_4 p few) leaf
 
 kind_is : (present : Bool) → kind_byte present ≡ cond present 1 0 / 1
@@ -65,9 +65,9 @@ unfolding header_bytes
 front_is h n documents leaves few =
     let three : List ℕ = (h.dict_root ++ h.docs_root) ++ h.texts_root in
     let tail : three ++ to_be_bytes w16 n ≡ h.dict_root ++ (h.docs_root ++ (h.texts_root ++ spelled 2 n)) =
-        append_assoc (h.dict_root ++ h.docs_root) h.texts_root (to_be_bytes w16 n)
-        ∙ append_assoc h.dict_root h.docs_root (h.texts_root ++ to_be_bytes w16 n)
-        ∙ ap (λ (xs : List ℕ). h.dict_root ++ (h.docs_root ++ (h.texts_root ++ xs))) (spelled_2 n few) in
+    append_assoc (h.dict_root ++ h.docs_root) h.texts_root (to_be_bytes w16 n)
+    ∙ append_assoc h.dict_root h.docs_root (h.texts_root ++ to_be_bytes w16 n)
+    ∙ ap (λ (xs : List ℕ). h.dict_root ++ (h.docs_root ++ (h.texts_root ++ xs))) (spelled_2 n few) in
     let Front : List ℕ → List ℕ → List ℕ → List ℕ = λ (d e xs : List ℕ). 65 ∷ 84 ∷ 83 ∷ 80 ∷ 1 ∷ 2 ∷ 1 ∷ (d ++ (e ++ xs)) in
     ap (Front (to_be_bytes w32 h.documents) (to_be_bytes w32 h.dict_leaves)) tail
     ∙ ap₂ (λ (d e : List ℕ). Front d e (h.dict_root ++ (h.docs_root ++ (h.texts_root ++ spelled 2 n)))) (spelled_4 h.documents documents) (spelled_4 h.dict_leaves leaves)

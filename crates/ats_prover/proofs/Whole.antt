@@ -89,8 +89,13 @@ count_present H texts [] positions [] are = refl
 count_present H texts [] positions (s ∷ spots) are = absurd are
 count_present H texts (pair ∷ query) positions [] are = absurd are
 count_present H texts (pair ∷ query) positions (s ∷ spots) are =
-    omega (arith, sum_by-cons (λ p. cond (has_list texts p) 1 0) pair query, sum_by-cons kind_of_slot (slot_of positions s) (map (slot_of positions) spots),
-      kind_tells H texts pair positions s (are.0, tt), count_present H texts query positions spots are.1)
+    omega (
+      arith,
+      sum_by-cons (λ p. cond (has_list texts p) 1 0) pair query,
+      sum_by-cons kind_of_slot (slot_of positions s) (map (slot_of positions) spots),
+      kind_tells H texts pair positions s (are.0, tt),
+      count_present H texts query positions spots are.1,
+    )
 
 pub lanes_each : (H : List ℕ → List ℕ) (texts : List (List ℕ)) (query : List (List ℕ × ℕ)) (positions : List ℕ) (spots : List Spot) → AreSpots (dictionary_of H texts) query spots
     → length (lanes_of texts query) ≡ present_in (map (slot_of positions) spots)
@@ -110,11 +115,11 @@ good_prefix H sized met entries count few is some within =
       some = omega (arith, size, took, some);
       few = omega (arith, size, took, within, is.few);
       each = λ k d inside.
-        let here : k < length (take count entries) = omega (arith, inside, size) in
-        let e = get_or (take count entries) k none in
-        let at : get_or (map (placed met) (take count entries)) k d ≡ placed met e = get_or-map (placed met) (take count entries) k none d here in
-        let impact = (All-take (λ (x : Entry). (1 ≤ x.impact) × (x.impact ≤ 2200)) count entries is.impacts k none here).1 in
-        (omega (arith, ap (λ (x : Entry). x.doc) at, count_by-le-length (λ m. nat_lt m e.doc) met, few), omega (arith, ap (λ (x : Entry). x.impact) at, impact));
+          let here : k < length (take count entries) = omega (arith, inside, size) in
+          let e = get_or (take count entries) k none in
+          let at : get_or (map (placed met) (take count entries)) k d ≡ placed met e = get_or-map (placed met) (take count entries) k none d here in
+          let impact = (All-take (λ (x : Entry). (1 ≤ x.impact) × (x.impact ≤ 2200)) count entries is.impacts k none here).1 in
+          (omega (arith, ap (λ (x : Entry). x.doc) at, count_by-le-length (λ m. nat_lt m e.doc) met, few), omega (arith, ap (λ (x : Entry). x.impact) at, impact));
       others = record {
         few = prefix_few H leaves count (omega (arith, all, is.few)) (omega (arith, all, is.some)) some;
         each = elided_sized H sized (tree_of_places (length leaves) (shown_with leaves (range_with_len 0 count))) (tree_of leaves);
@@ -137,7 +142,7 @@ good_prefixes H sized met (lane ∷ lanes) (count ∷ cut) few lists is (suc k) 
 pub small_rows : (brackets : List Bracket) (r : ℕ) (picks : List ℕ) → length brackets ≤ 65536 → IsChosen brackets r picks → All (λ n. n ≤ 0xffff_ffff) picks
 small_rows brackets r picks few is = subst (All (λ n. n ≤ 0xffff_ffff)) (sym is.first) (All-take (λ n. n ≤ 0xffff_ffff) r is.all
     (All-permutation (λ n. n ≤ 0xffff_ffff) (range_with_len 0 (length brackets)) is.all is.same (λ k d inside.
-      omega (arith, range_low (length brackets) k d inside, few))))
+    omega (arith, range_low (length brackets) k d inside, few))))
   where
     range_low : (n k d : ℕ) → k < length (range_with_len 0 n) → get_or (range_with_len 0 n) k d < n
     range_low n k d inside = range_below n n (omega arith) k d inside
@@ -237,7 +242,7 @@ pub written : (H : List ℕ → List ℕ) (texts : List (List ℕ)) (query : Lis
     → HasParts H texts query r spots positions cut brackets picks
     → x ≡ put w (front_fields None ++ header_fields (header_parts H texts) ++ spelled 2 (length (map (slot_of positions) spots)) ∷ [])
     → y ≡ put x (counted 2 entry_fields (map (shown_entry (dictionary_of H texts)) positions) ++ counted 2 digest_fields (elided_digests H (dict_leaves (dictionary_of H texts)) positions)
-      ++ flat_map slot_fields (map (slot_of positions) spots))
+    ++ flat_map slot_fields (map (slot_of positions) spots))
     → z ≡ put y (counted 4 id_fields (docs_of brackets) ++ flat_map prefix_fields (prefixes H (docs_of brackets) (lanes_of texts query) cut) ++ counted 2 id_fields picks)
     → IsWritten H texts query r w z
 written H texts query r spots positions cut brackets picks w x y z parts front terms walk =

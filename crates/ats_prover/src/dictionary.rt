@@ -146,12 +146,7 @@ fn write_section<H: Hash32>(
     // A dictionary's leaves have terms of at most 64 bytes, and positions of 32 bits.
     prove!(dictionary.len() >= 2);
     let mut digests = Digests::new(alloc);
-    elided::<H, _>(
-        dictionary,
-        positions,
-        &mut digests,
-        &mut Steps::new(alloc),
-    )?;
+    elided::<H, _>(dictionary, positions, &mut digests, &mut Steps::new(alloc))?;
     write_leaves(writer, dictionary, positions)?;
     write_digests(writer, &digests)
 }

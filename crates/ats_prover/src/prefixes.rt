@@ -76,12 +76,7 @@ fn write_prefix<H: Hash32>(
     let positions = first(alloc, count)?;
     let leaves = ListLeaves { entries };
     let mut digests = Digests::new(alloc);
-    elided::<H, _>(
-        &leaves,
-        &positions,
-        &mut digests,
-        &mut Steps::new(alloc),
-    )?;
+    elided::<H, _>(&leaves, &positions, &mut digests, &mut Steps::new(alloc))?;
     write_entries(writer, met, &entries[..count as usize])?;
     write_digests(writer, &digests)
 }

@@ -99,7 +99,13 @@ fn a_weight_leads_the_walk(rt: HostRuntime) -> Result<(), Fail> {
 fn more_rows_than_matches(rt: HostRuntime) -> Result<(), Fail> {
     let proof = proof_of(rt.alloc(), &EXAMPLE, "red hen", 10)?;
     assert_eq!(rt; proof.len(), 373);
-    assert!(rt; has(proof.as_slice(), 359, &[0, 3, 0, 0, 0, 1, 0, 0, 0, 0, 0, 0, 0, 2]));
+    assert!(rt;
+        has(
+            proof.as_slice(),
+            359,
+            &[0, 3, 0, 0, 0, 1, 0, 0, 0, 0, 0, 0, 0, 2]
+        )
+    );
     Ok(())
 }
 

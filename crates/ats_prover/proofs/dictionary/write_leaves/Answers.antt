@@ -26,7 +26,7 @@ loop-p-preserved c =
     let few : e.f < 2 ^ 32 = omega (arith, leaf.number, ap (λ (x : DictEntry). x.f) is) in
     let bytes : List ℕ = dict_leaf_record p e.term e.f e.root in
     let same : bytes ≡ concat (entry_fields (shown_entry entries p)) =
-        entry_is p e (omega (arith, c.type_inv.positions i)) few ∙ ap (λ (x : DictEntry). concat (entry_fields (record { position = p; entry = x }))) (sym is) in record {
+    entry_is p e (omega (arith, c.type_inv.positions i)) few ∙ ap (λ (x : DictEntry). concat (entry_fields (record { position = p; entry = x }))) (sym is) in record {
       fields = c.in_ok-dict_leaf.ensures.ok ∙ ap (λ (w : Written). after w bytes) c.loop-p.invariant.fields
           ∙ put_more entry_fields c.args.writer.now (spelled 2 (length (map (shown_entry entries) positions)) ∷ []) (map (shown_entry entries) positions) i
           (shown_entry entries p) (shown_entry entries 0) bytes (omega (arith, inside, length-map positions (shown_entry entries)))

@@ -25,6 +25,6 @@ returns-clause-fields g c =
     let all : c.elided.new.out ≡ elided = c.in_ok-elided.ensures.ok ∙ ap (λ (ds : List (List ℕ)). ds ++ elided) c.new-digests.ensures in
     let leaves : List (List ℕ) = counted 2 entry_fields (map (shown_entry entries) c.args.positions.now) in
     on_ok_weaker c.write_digests.result (λ is.
-      is ∙ ap (λ (w : Written). put w (counted 2 digest_fields c.elided.new.out)) c.in_ok-write_leaves.ensures.fields
-      ∙ put_put c.args.writer.now leaves (counted 2 digest_fields c.elided.new.out)
-      ∙ ap (λ (ds : List (List ℕ)). put c.args.writer.now (leaves ++ counted 2 digest_fields ds)) all) c.write_digests.ensures.fields
+    is ∙ ap (λ (w : Written). put w (counted 2 digest_fields c.elided.new.out)) c.in_ok-write_leaves.ensures.fields
+    ∙ put_put c.args.writer.now leaves (counted 2 digest_fields c.elided.new.out)
+    ∙ ap (λ (ds : List (List ℕ)). put c.args.writer.now (leaves ++ counted 2 digest_fields ds)) all) c.write_digests.ensures.fields

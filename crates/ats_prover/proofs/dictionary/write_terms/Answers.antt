@@ -16,7 +16,7 @@ use Rattle.ats_prover.proofs.dictionary.write_terms.Goals as goal
 pub loop-spot-init : goal.loop-spot-init
 loop-spot-init g c =
     let section : List (List ℕ) = counted 2 entry_fields (map (shown_entry c.args.dictionary.now) c.args.positions.now)
-        ++ counted 2 digest_fields (elided_digests g.H.HashKind.hash (dict_leaves c.args.dictionary.now) c.args.positions.now) in record {
+    ++ counted 2 digest_fields (elided_digests g.H.HashKind.hash (dict_leaves c.args.dictionary.now) c.args.positions.now) in record {
       fields = c.in_ok-write_section.ensures.fields ∙ ap (put c.args.writer.now) (sym (append-nil section));
       size = omega (arith, c.in_ok-write_section.ensures.size);
     }
@@ -24,7 +24,7 @@ loop-spot-init g c =
 pub loop-spot-preserved : goal.loop-spot-preserved
 loop-spot-preserved g c =
     let section : List (List ℕ) = counted 2 entry_fields (map (shown_entry c.args.dictionary.now) c.args.positions.now)
-        ++ counted 2 digest_fields (elided_digests g.H.HashKind.hash (dict_leaves c.args.dictionary.now) c.args.positions.now) in
+    ++ counted 2 digest_fields (elided_digests g.H.HashKind.hash (dict_leaves c.args.dictionary.now) c.args.positions.now) in
     let i = c.loop-spot.spot-index in
     let positions = c.args.positions.now in
     let spots = c.args.spots.now in

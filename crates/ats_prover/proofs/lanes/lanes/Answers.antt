@@ -25,7 +25,7 @@ overflow_sub-p g c =
     let entries = dictionary_of g.H.HashKind.hash c.args.index.now in
     let term = (get_or c.args.query.now c.loop-i.i ([], 0)).0 in
     let is = subst (IsSpot entries term) c.in-At.is
-        (spot_at entries c.args.query.now c.args.spots.now c.loop-i.i ([], 0) _ c.requires (omega (arith, c.loop-i-test.true, c.len-i-end.ensures.value))) in
+    (spot_at entries c.args.query.now c.args.spots.now c.loop-i.i ([], 0) _ c.requires (omega (arith, c.loop-i-test.true, c.len-i-end.ensures.value))) in
     is.some
 
 pub list-requires : goal.list-requires
@@ -33,7 +33,7 @@ list-requires g c =
     let entries = dictionary_of g.H.HashKind.hash c.args.index.now in
     let term = (get_or c.args.query.now c.loop-i.i ([], 0)).0 in
     let is = subst (IsSpot entries term) c.in-At.is
-        (spot_at entries c.args.query.now c.args.spots.now c.loop-i.i ([], 0) _ c.requires (omega (arith, c.loop-i-test.true, c.len-i-end.ensures.value))) in
+    (spot_at entries c.args.query.now c.args.spots.now c.loop-i.i ([], 0) _ c.requires (omega (arith, c.loop-i-test.true, c.len-i-end.ensures.value))) in
     let p : c.in-At.p ≡ suc (c.in-At.p - 1) = omega (arith, is.some) in
     omega (arith, (standing_term g.H.HashKind.hash c.args.index.now term (c.in-At.p - 1) ([], []) (subst (StandsAt entries term) p is)).0, ap (λ (ls : List (List ℕ × List Entry)). length ls) c.lists-lists.ensures)
 
@@ -53,17 +53,23 @@ loop-i-preserved g c =
           let p : w.in-At.p ≡ suc (w.in-At.p - 1) = omega (arith, is.some) in
           let lane = whole_lane w.lane.result in
           let at = lane_at H texts query i (w.in-At.p - 1) c.documents-documents.result w.weight.result lane inside (subst (StandsAt entries term) p is)
-              (w.lane.ensures.entries ∙ w.list.ensures.value ([], []) ∙ ap (λ (ls : List (List ℕ × List Entry)). (get_or ls (w.in-At.p - 1) ([], [])).1) c.lists-lists.ensures)
-              (subst (λ (es : List Entry). 1 ≤ length es) (sym w.lane.ensures.entries) w.list.ensures.list.some)
-              (c.documents-documents.ensures.value ∙ ap (λ (ts : List (List ℕ)). length ts) c.collection.ensures) (w.weight.ensures.value ([], 0))
-              (w.lane.ensures.coefficient ∙ ap (λ (es : List Entry). w.weight.result * idf c.documents-documents.result (length es)) (sym w.lane.ensures.entries)) in
+          (w.lane.ensures.entries ∙ w.list.ensures.value ([], []) ∙ ap (λ (ls : List (List ℕ × List Entry)). (get_or ls (w.in-At.p - 1) ([], [])).1) c.lists-lists.ensures)
+          (subst (λ (es : List Entry). 1 ≤ length es) (sym w.lane.ensures.entries) w.list.ensures.list.some)
+          (c.documents-documents.ensures.value ∙ ap (λ (ts : List (List ℕ)). length ts) c.collection.ensures) (w.weight.ensures.value ([], 0))
+          (w.lane.ensures.coefficient ∙ ap (λ (es : List Entry). w.weight.result * idf c.documents-documents.result (length es)) (sym w.lane.ensures.entries)) in
           let more : whole_lanes c.match-spots-i.lanes.items ≡ whole_lanes c.loop-i.lanes.items ++ lane ∷ [] =
-              ap (λ v. map whole_lane v.items) w.lanes-is ∙ ap (map whole_lane) w.in_ok-push-in-At.ensures.items ∙ map-append whole_lane c.loop-i.lanes.items (w.lane.result ∷ []) in
+          ap (λ v. map whole_lane v.items) w.lanes-is ∙ ap (map whole_lane) w.in_ok-push-in-At.ensures.items ∙ map-append whole_lane c.loop-i.lanes.items (w.lane.result ∷ []) in
           let list : IsList 65536 lane.entries = subst (IsList 65536) (sym w.lane.ensures.entries) w.list.ensures.list in
           record {
             lanes = more ∙ ap (λ (ls : List WholeLane). ls ++ lane ∷ []) c.loop-i.invariant.lanes ∙ sym at.more;
-            few = omega (arith, ap (λ (ls : List WholeLane). length ls) more, length-append (whole_lanes c.loop-i.lanes.items) (lane ∷ []), length-map c.loop-i.lanes.items whole_lane,
-                length-map c.match-spots-i.lanes.items whole_lane, c.loop-i.invariant.few);
+            few = omega (
+              arith,
+              ap (λ (ls : List WholeLane). length ls) more,
+              length-append (whole_lanes c.loop-i.lanes.items) (lane ∷ []),
+              length-map c.loop-i.lanes.items whole_lane,
+              length-map c.match-spots-i.lanes.items whole_lane,
+              c.loop-i.invariant.few,
+            );
             each = subst (All IsWholeLane) (sym more) (All-push IsWholeLane (whole_lanes c.loop-i.lanes.items) lane c.loop-i.invariant.each (is_whole lane list w.lane.ensures.some w.lane.ensures.few));
             lists = subst (All (λ (l : WholeLane). IsList 65536 l.entries)) (sym more) (All-push (λ (l : WholeLane). IsList 65536 l.entries) (whole_lanes c.loop-i.lanes.items) lane c.loop-i.invariant.lists list);
           }

@@ -36,7 +36,7 @@ write_digests-requires-clause-few g c =
     let few = prefix_few H leaves c.args.count (omega (arith, size, c.requires.list.few)) (omega (arith, size, c.requires.list.some)) c.requires.some in
     let ps : c.deref.result.now ≡ range_with_len 0 c.args.count = c.deref.ensures.value ∙ c.in_ok-positions.ensures in
     let all : c.elided.new.out ≡ elided_digests H leaves (range_with_len 0 c.args.count) =
-        c.in_ok-elided.ensures.ok ∙ ap₂ (λ (ds : List (List ℕ)) (ps : List ℕ). ds ++ elided_digests H leaves ps) c.new-digests.ensures ps in
+    c.in_ok-elided.ensures.ok ∙ ap₂ (λ (ds : List (List ℕ)) (ps : List ℕ). ds ++ elided_digests H leaves ps) c.new-digests.ensures ps in
     omega (arith, few, ap (λ (ds : List (List ℕ)). length ds) all)
 
 pub returns-clause-fields : goal.returns-clause-fields
@@ -45,9 +45,9 @@ returns-clause-fields g c =
     let leaves : List (List ℕ) = map leaf_bytes c.args.entries.now in
     let ps : c.deref.result.now ≡ range_with_len 0 c.args.count = c.deref.ensures.value ∙ c.in_ok-positions.ensures in
     let all : c.elided.new.out ≡ elided_digests H leaves (range_with_len 0 c.args.count) =
-        c.in_ok-elided.ensures.ok ∙ ap₂ (λ (ds : List (List ℕ)) (ps : List ℕ). ds ++ elided_digests H leaves ps) c.new-digests.ensures ps in
+    c.in_ok-elided.ensures.ok ∙ ap₂ (λ (ds : List (List ℕ)) (ps : List ℕ). ds ++ elided_digests H leaves ps) c.new-digests.ensures ps in
     let entries : List (List ℕ) = counted 4 posting_fields (map (placed c.args.met.now) (take c.args.count c.args.entries.now)) in
     on_ok_weaker c.write_digests.result (λ is.
-      is ∙ ap (λ (w : Written). put w (counted 2 digest_fields c.elided.new.out)) c.in_ok-write_entries.ensures.fields
-      ∙ put_put c.args.writer.now entries (counted 2 digest_fields c.elided.new.out)
-      ∙ ap (λ (ds : List (List ℕ)). put c.args.writer.now (entries ++ counted 2 digest_fields ds)) all) c.write_digests.ensures.fields
+    is ∙ ap (λ (w : Written). put w (counted 2 digest_fields c.elided.new.out)) c.in_ok-write_entries.ensures.fields
+    ∙ put_put c.args.writer.now entries (counted 2 digest_fields c.elided.new.out)
+    ∙ ap (λ (ds : List (List ℕ)). put c.args.writer.now (entries ++ counted 2 digest_fields ds)) all) c.write_digests.ensures.fields

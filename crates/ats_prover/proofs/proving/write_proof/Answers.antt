@@ -1,4 +1,4 @@
-use Rattle.std.proofs.Common.{◌≡◌, ◌+◌, ◌<◌, ◌≤◌, ◌++◌, ℕ, List, [], ◌∷◌, length, map, subst, sym, ap, ap₂, ◌∙◌, arith}
+use Rattle.std.proofs.Common.{◌≡◌, ◌+◌, ◌<◌, ◌≤◌, ◌^◌, ◌++◌, ℕ, List, [], ◌∷◌, length, map, subst, sym, ap, ap₂, ◌∙◌, arith}
 use Rattle.std.specs.List.{All, flat_map}
 use Rattle.std.proofs.lemmas.Result.{on_ok_weaker}
 use Rattle.std.proofs.lemmas.List.{length-map}
@@ -30,9 +30,9 @@ pub write_terms-requires-clause-within : goal.write_terms-requires-clause-within
 write_terms-requires-clause-within g c =
     let entries = dictionary_of g.H.HashKind.hash c.args.index.now in
     let found : AreSpots entries c.args.query.now c.in_ok-spots.spots.items =
-        subst (λ (es : List DictEntry). AreSpots es c.args.query.now c.in_ok-spots.spots.items) c.dictionary-2.ensures c.in_ok-spots.ensures.spots in
+    subst (λ (es : List DictEntry). AreSpots es c.args.query.now c.in_ok-spots.spots.items) c.dictionary-2.ensures c.in_ok-spots.ensures.spots in
     let needed : AreNeeded c.in_ok-spots.spots.items c.in_ok-positions.positions.items =
-        subst (λ (ss : List Spot). AreNeeded ss c.in_ok-positions.positions.items) c.deref.ensures.value c.in_ok-positions.ensures.needed in
+    subst (λ (ss : List Spot). AreNeeded ss c.in_ok-positions.positions.items) c.deref.ensures.value c.in_ok-positions.ensures.needed in
     let below = positions_below entries c.args.query.now c.in_ok-spots.spots.items c.in_ok-positions.positions.items found needed in
     let size : length c.dictionary-3.result.now ≡ length entries = ap (λ (es : List DictEntry). length es) c.dictionary-3.ensures in
     λ k d inside. omega (arith, subst (λ (ps : List ℕ). All (λ p. p < length entries + 2) ps) (sym c.deref-2.ensures.value) below k d inside, size)
@@ -79,17 +79,17 @@ returns g c =
       rows = omega (arith, c.in_ok-end.ensures.settled.most, c.get.ensures.value, c.get.ensures.few);
     } in
     let number : c.len-2.result ≡ length (map (slot_of positions) spots) =
-        c.len-2.ensures.value ∙ sym (length-map spots (slot_of positions) ∙ spot_each entries query spots found) in
+    c.len-2.ensures.value ∙ sym (length-map spots (slot_of positions) ∙ spot_each entries query spots found) in
     let front = c.in_ok-front.ensures.ok
-        ∙ front_put c.args.algorithm c.header.result.now (header_parts H texts) c.len-2.result (length (map (slot_of positions) spots)) c.args.writer.now c.requires.algorithm c.header.ensures number
-        (omega (arith, range.numbers.few)) (omega (arith, range.numbers.terms)) (omega (arith, number, c.len-2.ensures.value, c.len-2.ensures.query.few)) in
+    ∙ front_put c.args.algorithm c.header.result.now (header_parts H texts) c.len-2.result (length (map (slot_of positions) spots)) c.args.writer.now c.requires.algorithm c.header.ensures number
+    (omega (arith, range.numbers.few)) (omega (arith, range.numbers.terms)) (omega (arith, number, c.len-2.ensures.value, c.len-2.ensures.query.few)) in
     let Terms : List DictEntry → List ℕ → List Spot → Written = λ (es : List DictEntry) (ps : List ℕ) (ss : List Spot).
-        put c.front.new.self (counted 2 entry_fields (map (shown_entry es) ps) ++ counted 2 digest_fields (elided_digests H (dict_leaves es) ps) ++ flat_map slot_fields (map (slot_of ps) ss)) in
+    put c.front.new.self (counted 2 entry_fields (map (shown_entry es) ps) ++ counted 2 digest_fields (elided_digests H (dict_leaves es) ps) ++ flat_map slot_fields (map (slot_of ps) ss)) in
     let terms : c.write_terms.new.writer ≡ Terms entries positions spots = c.in_ok-write_terms.ensures.fields
-        ∙ ap (λ (es : List DictEntry). Terms es c.deref-2.result.now c.deref-3.result.now) c.dictionary-3.ensures
-        ∙ ap₂ (λ (ps : List ℕ) (ss : List Spot). Terms entries ps ss) c.deref-2.ensures.value c.deref-3.ensures.value in
+    ∙ ap (λ (es : List DictEntry). Terms es c.deref-2.result.now c.deref-3.result.now) c.dictionary-3.ensures
+    ∙ ap₂ (λ (ps : List ℕ) (ss : List Spot). Terms entries ps ss) c.deref-2.ensures.value c.deref-3.ensures.value in
     let Walk : List WholeLane → Written = λ (ls : List WholeLane).
-        put c.write_terms.new.writer (counted 4 id_fields (docs_of brackets) ++ flat_map prefix_fields (prefixes H (docs_of brackets) ls cut) ++ counted 2 id_fields picks) in
+    put c.write_terms.new.writer (counted 4 id_fields (docs_of brackets) ++ flat_map prefix_fields (prefixes H (docs_of brackets) ls cut) ++ counted 2 id_fields picks) in
     on_ok_weaker c.write_walk.result (λ is.
-      written H texts query c.args.top spots positions cut brackets picks c.args.writer.now c.front.new.self c.write_terms.new.writer c.write_walk.new.writer parts front terms
-      (is ∙ ap Walk last)) c.write_walk.ensures.fields
+    written H texts query c.args.top spots positions cut brackets picks c.args.writer.now c.front.new.self c.write_terms.new.writer c.write_walk.new.writer parts front terms
+    (is ∙ ap Walk last)) c.write_walk.ensures.fields
