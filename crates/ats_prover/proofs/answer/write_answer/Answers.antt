@@ -1,9 +1,8 @@
-use Rattle.std.proofs.Common.{◌≡◌, ◌+◌, ◌∷◌, [], length, get_or, refl, sym, ap, ◌∙◌, arith}
+use Rattle.std.proofs.Common.{◌∷◌, [], length, get_or, refl, ap, ◌∙◌, arith}
 use Rattle.ats_records.specs.Written.{after}
 use Rattle.ats_records.specs.Records.{answer_record}
 use Rattle.ats_proof.specs.Parts.{spelled}
 use Rattle.ats_proof.specs.Value.{id_fields}
-use Rattle.ats_prover.specs.Writing.{put}
 use Rattle.ats_prover.proofs.Records.{spelled_4}
 use Rattle.ats_prover.proofs.Putting.{put_more}
 use Rattle.ats_prover.proofs.answer.write_answer.Goals as goal

@@ -1,13 +1,10 @@
-use Rattle.std.proofs.Common.{◌≡◌, ◌+◌, ◌∷◌, [], length, get_or, refl, sym, ap, ◌∙◌, arith}
+use Rattle.std.proofs.Common.{◌∷◌, [], length, get_or, refl, ap, ◌∙◌, arith}
 use Rattle.ats_records.specs.Written.{after}
 use Rattle.ats_records.specs.Records.{met_record}
 use Rattle.ats_proof.specs.Parts.{spelled}
 use Rattle.ats_proof.specs.Value.{id_fields}
-use Rattle.ats_prover.specs.Writing.{put}
 use Rattle.ats_prover.proofs.Records.{spelled_4}
 use Rattle.ats_prover.proofs.Putting.{put_more}
-use Rattle.ats_prover.proofs.Ranges
-use Rattle.ats_prover.proofs.Whole
 use Rattle.ats_prover.proofs.answer.write_met.Goals as goal
 
 pub loop-id-preserved : goal.loop-id-preserved

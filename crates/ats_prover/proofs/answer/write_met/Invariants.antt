@@ -1,4 +1,4 @@
-use Rattle.std.proofs.Common.{◌≡◌, ◌≤◌, ◌+◌, ◌*◌, ◌∷◌, [], ◌++◌, length, take}
+use Rattle.std.proofs.Common.{◌≡◌, ◌≤◌, ◌+◌, ◌*◌, ◌∷◌, length, take}
 use Rattle.std.specs.List.{flat_map}
 use Rattle.ats_proof.specs.Parts.{spelled}
 use Rattle.ats_proof.specs.Value.{id_fields}

@@ -1,4 +1,4 @@
-use Rattle.std.proofs.Common.{◌≡◌, nat_eq, length, ap, arith}
+use Rattle.std.proofs.Common.{nat_eq, length, ap, arith}
 use Rattle.std.proofs.lemmas.List.Filters.{dedup_is}
 use Rattle.ats_prover.proofs.Needed.{are_needed, needs_few}
 use Rattle.ats_prover.proofs.dictionary.positions.Goals as goal

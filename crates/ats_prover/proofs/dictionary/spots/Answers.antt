@@ -1,7 +1,5 @@
-use Rattle.std.proofs.Common.{◌≡◌, ◌<◌, [], ℕ, List, length, get_or, subst, sym, ap, ◌∙◌, arith, add-one, take_all}
-use Rattle.ats_dict.specs.declared.spot.Spot.{Spot}
+use Rattle.std.proofs.Common.{[], ℕ, List, subst, arith, add-one, take_all}
 use Rattle.ats_dict.specs.Found.{IsSpot}
-use Rattle.ats_prover.specs.Terms.{AreSpots}
 use Rattle.ats_prover.proofs.Spots.{spots_more, spot_each, lowers}
 use Rattle.ats_prover.proofs.dictionary.spots.Goals as goal
 

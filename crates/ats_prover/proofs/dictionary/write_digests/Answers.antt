@@ -1,4 +1,4 @@
-use Rattle.std.proofs.Common.{◌≡◌, ◌+◌, ◌∷◌, [], ℕ, List, length, get_or, refl, sym, ap, ap₂, ◌∙◌, arith, append-nil}
+use Rattle.std.proofs.Common.{◌∷◌, [], ℕ, List, length, get_or, refl, sym, ap, ap₂, ◌∙◌, arith, append-nil}
 use Rattle.ats_records.specs.Written.{Written, after}
 use Rattle.ats_proof.specs.Parts.{spelled}
 use Rattle.ats_proof.specs.Value.{digest_fields}

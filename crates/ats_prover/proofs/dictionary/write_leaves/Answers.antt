@@ -1,4 +1,4 @@
-use Rattle.std.proofs.Common.{◌≡◌, ◌+◌, ◌<◌, ◌^◌, ◌∷◌, [], ℕ, List, length, map, get_or, refl, sym, ap, ◌∙◌, arith}
+use Rattle.std.proofs.Common.{◌≡◌, ◌<◌, ◌^◌, ◌∷◌, [], ℕ, List, length, map, get_or, sym, ap, ◌∙◌, arith}
 use Rattle.std.specs.List.{concat}
 use Rattle.std.proofs.lemmas.List.{length-map, get_or-map}
 use Rattle.ats_records.specs.Written.{Written, after}
@@ -6,7 +6,7 @@ use Rattle.ats_records.specs.Records.{dict_leaf_record}
 use Rattle.ats_dict.specs.Entry.{DictEntry}
 use Rattle.ats_dict.specs.Dictionary.{entry_at}
 use Rattle.ats_proof.specs.Parts.{spelled}
-use Rattle.ats_proof.specs.Value.{ShownEntry, entry_fields}
+use Rattle.ats_proof.specs.Value.{entry_fields}
 use Rattle.ats_prover.specs.Terms.{shown_entry}
 use Rattle.ats_prover.proofs.Records.{entry_is}
 use Rattle.ats_prover.proofs.Spots.{leaf_at}

@@ -1,12 +1,11 @@
-use Rattle.std.proofs.Common.{◌≡◌, ◌+◌, ◌-◌, ◌*◌, ◌<◌, ◌≤◌, ◌++◌, ℕ, suc, List, [], ◌∷◌, length, map, get_or, take, refl, subst, sym, ap, ap₂, ◌∙◌, arith, take_all, length-append}
+use Rattle.std.proofs.Common.{◌≡◌, ◌-◌, ◌*◌, ◌<◌, ◌≤◌, ◌++◌, ℕ, suc, List, [], ◌∷◌, length, map, get_or, subst, sym, ap, ◌∙◌, arith, take_all, length-append}
 use Rattle.std.specs.List.{All}
-use Rattle.ats_lists.specs.Lists.{IsList, list, lists_of}
+use Rattle.ats_lists.specs.Lists.{IsList}
 use Rattle.ats_impact.specs.Numbers.{idf}
 use Rattle.ats_lists.specs.declared.entry.Entry.{Entry}
-use Rattle.ats_dict.specs.Found.{IsSpot, StandsAt, LiesBetween}
+use Rattle.ats_dict.specs.Found.{IsSpot, StandsAt}
 use Rattle.ats_commit.specs.Trees.{dictionary_of}
 use Rattle.ats_bound.specs.Schedule.{WholeLane, IsWholeLane, AreWholeLanes, whole_lane, whole_lanes}
-use Rattle.ats_prover.specs.Lanes.{lane_of, lanes_of}
 use Rattle.ats_prover.proofs.Spots.{spot_at, spot_each}
 use Rattle.ats_prover.proofs.Present.{absent_term, is_whole, lane_at, lane_none, standing_term}
 use Rattle.std.proofs.lemmas.List.{length-map, map-append}

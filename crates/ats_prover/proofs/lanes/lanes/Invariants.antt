@@ -1,4 +1,4 @@
-use Rattle.std.proofs.Common.{◌≡◌, ◌≤◌, ◌<◌, length, take}
+use Rattle.std.proofs.Common.{◌≡◌, ◌≤◌, length, take}
 use Rattle.std.specs.List.{All}
 use Rattle.ats_lists.specs.Lists.{IsList}
 use Rattle.ats_bound.specs.Schedule.{WholeLane, IsWholeLane, whole_lanes}
