@@ -32,7 +32,7 @@ use Rattle.ats_index.specs.Parts.{header_parts}
 use Rattle.ats_bound.specs.declared.bracket.Bracket.{Bracket}
 use Rattle.ats_bound.specs.Chosen.{IsChosen}
 use Rattle.ats_bound.specs.Schedule.{WholeLane, AreWholeLanes, AreBracketsOf, IsFirstSettled, IsScheduled, shown}
-use Rattle.ats_tnra.specs.Parts.{IsCut}
+use Rattle.ats_bound.specs.Schedule.{IsCut}
 use Rattle.ats_tnra.proofs.Shown.{first_is_cut, cut_after}
 use Rattle.ats_dict.specs.declared.header.Header.{Header}
 use Rattle.ats_records.specs.Records.{front_record}

@@ -7,7 +7,7 @@ ghost use Rattle.ats_tree.specs.Elided.{elided_digests};
 ghost use Rattle.ats_lists.specs.Leaf.{leaf_bytes};
 ghost use Rattle.ats_lists.specs.Lists.{IsList};
 ghost use Rattle.ats_bound.specs.Schedule.{whole_lanes};
-ghost use Rattle.ats_tnra.specs.Parts.{IsCut};
+ghost use Rattle.ats_bound.specs.Schedule.{IsCut};
 ghost use Rattle.ats_bound.specs.Schedule.{AreWholeLanes};
 ghost use Rattle.ats_proof.specs.Parts.{counted};
 ghost use Rattle.ats_proof.specs.Value.{id_fields, posting_fields, prefix_fields};

@@ -5,7 +5,7 @@ ghost use Rattle.std.specs.List.{All, flat_map};
 ghost use Rattle.ats_lists.specs.Lists.{IsList};
 ghost use Rattle.ats_bound.specs.declared.bracket.Bracket.{Bracket as Bounds};
 ghost use Rattle.ats_bound.specs.Schedule.{AreBracketsOf, AreWholeLanes, shown, whole_lanes};
-ghost use Rattle.ats_tnra.specs.Parts.{IsCut};
+ghost use Rattle.ats_bound.specs.Schedule.{IsCut};
 ghost use Rattle.ats_proof.specs.Parts.{counted};
 ghost use Rattle.ats_proof.specs.Value.{id_fields, prefix_fields};
 ghost use Rattle.ats_records.specs.declared.record.Algorithm.TheVariants.{Tnra};

@@ -13,7 +13,7 @@ use Rattle.ats_commit.proofs.HeaderLemmas.{header_in_range}
 use Rattle.ats_index.specs.Parts.{header_parts}
 use Rattle.ats_bound.specs.Chosen.{IsChosen}
 use Rattle.ats_bound.specs.Schedule.{WholeLane, AreBracketsOf, IsFirstSettled, shown, whole_lanes}
-use Rattle.ats_tnra.specs.Parts.{IsCut}
+use Rattle.ats_bound.specs.Schedule.{IsCut}
 use Rattle.ats_records.specs.Written.{Written}
 use Rattle.ats_proof.specs.Parts.{counted}
 use Rattle.ats_proof.specs.Value.{digest_fields, entry_fields, id_fields, prefix_fields, slot_fields}
