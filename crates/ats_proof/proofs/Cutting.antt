@@ -36,8 +36,8 @@ entry_of_parts bytes front back front_is back_is =
     let term : drop 1 front ≡ take (term_length_in bytes) (drop 5 bytes) = ap (drop 1) front_is ∙ drop-take 1 (term_length_in bytes) (drop 4 bytes) ∙ ap (take (term_length_in bytes)) (drop-drop 1 4 bytes) in
     let f : number_in 4 back ≡ number_in 4 later = ap (number_in 4) back_is ∙ ap number (take-take 4 36 later (omega arith)) in
     let root : take 32 (drop 4 back) ≡ take 32 (drop (5 + term_length_in bytes + 4) bytes) =
-        ap (λ (xs : List ℕ). take 32 (drop 4 xs)) back_is ∙ ap (take 32) (drop-take 4 32 later) ∙ take-take 32 32 (drop 4 later) (omega arith)
-        ∙ ap (take 32) (drop-drop 4 (5 + term_length_in bytes) bytes) in
+    ap (λ (xs : List ℕ). take 32 (drop 4 xs)) back_is ∙ ap (take 32) (drop-take 4 32 later) ∙ take-take 32 32 (drop 4 later) (omega arith)
+    ∙ ap (take 32) (drop-drop 4 (5 + term_length_in bytes) bytes) in
     ap₂ (λ (t : List ℕ) (n : ℕ). let e : DictEntry = record { term = t; f = n; root = take 32 (drop 4 back) } in e) term f
     ∙ ap (λ (r : List ℕ). let e : DictEntry = record { term = (entry_in bytes).entry.term; f = (entry_in bytes).entry.f; root = r } in e) root
 

@@ -34,7 +34,6 @@ terms_positions zero bytes = refl
 terms_positions (suc n) bytes = ap (λ (xs : List ℕ). number_in 4 bytes ∷ xs) (terms_positions n (drop (term_size bytes) bytes))
 
 module _ (present n : ℕ) (bytes : List ℕ) (some : 0 < n) (rise : sections_rise present n bytes) where
-
   all_rise : All section_rises (section_in present bytes ∷ parts_in (section_size present) (section_in present) (n - 1) (drop (section_size present bytes) bytes))
   all_rise = subst (λ xs. All section_rises xs) (parts_more (section_size present) (section_in present) n bytes some) rise
 

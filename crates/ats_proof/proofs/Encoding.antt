@@ -111,9 +111,9 @@ entry_bytes bytes room small =
     let later = drop (5 + l) bytes in
     let f : take 4 later ≡ to_be_bytes w32 (number_in 4 later) = sym (be_4 later (omega (arith, room, length-drop (5 + l) bytes)) (small-drop (5 + l) bytes small)) in
     let back : take 36 later ≡ to_be_bytes w32 (number_in 4 later) ++ take 32 (drop (5 + l + 4) bytes) =
-        take-add 4 32 later ∙ ap₂ (λ (xs ys : List ℕ). xs ++ take 32 ys) f (drop-drop 4 (5 + l) bytes) in
+    take-add 4 32 later ∙ ap₂ (λ (xs ys : List ℕ). xs ++ take 32 ys) f (drop-drop 4 (5 + l) bytes) in
     let whole : take (1 + l + 36) (drop 4 bytes) ≡ (length term ∷ term) ++ (to_be_bytes w32 (number_in 4 later) ++ take 32 (drop (5 + l + 4) bytes)) =
-        leaf_parts 36 bytes (omega (arith, room)) ∙ ap (λ (xs : List ℕ). (length term ∷ term) ++ xs) back in
+    leaf_parts 36 bytes (omega (arith, room)) ∙ ap (λ (xs : List ℕ). (length term ∷ term) ++ xs) back in
     ap (λ (xs : List ℕ). (number_in 4 bytes, xs)) (whole ∙ sym (append_assoc (length term ∷ term) (to_be_bytes w32 (number_in 4 later)) (take 32 (drop (5 + l + 4) bytes))))
 
 pub entries_bytes : (n : ℕ) (bytes : List ℕ) → total_size entry_size n bytes ≤ length bytes → AreBytes bytes → leaves_in 36 n bytes ≡ map shown_entry (parts_in entry_size entry_in n bytes)

@@ -111,7 +111,7 @@ one_entry low k fields bytes is =
     let same = sym (length-term 5 (term_length_in bytes) bytes (omega (arith, e.room))) in
     let size : 5 + term_length_in bytes + 4 + 32 ≡ entry_size bytes = omega arith in
     let whole = subst (λ (n : ℕ). HasFront (spelled 4 (number_in 4 bytes) ∷ spelled 1 (term_length_in bytes) ∷ (entry_in bytes).entry.term ∷ spelled 4 (entry_in bytes).entry.f ∷ (entry_in bytes).entry.root ∷ [])
-        n (k (number_in 4 bytes + 1)) fields bytes) size e in
+    n (k (number_in 4 bytes + 1)) fields bytes) size e in
     record {
       front = subst (λ (n : ℕ). HasFront (spelled 4 (number_in 4 bytes) ∷ spelled 1 n ∷ (entry_in bytes).entry.term ∷ spelled 4 (entry_in bytes).entry.f ∷ (entry_in bytes).entry.root ∷ [])
           (entry_size bytes) (k (number_in 4 bytes + 1)) fields bytes) same whole;

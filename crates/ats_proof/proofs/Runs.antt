@@ -30,7 +30,6 @@ length-parts size read zero bytes = refl
 length-parts size read (suc n) bytes = ap suc (length-parts size read n (drop (size bytes) bytes))
 
 module _ {S X : Type 0} (part : S → (S → Table) → Table) (size : List ℕ → ℕ) (read : List ℕ → X) (spell : X → List (List ℕ)) (next : S → X → S) (Good : S → X → Type 0) (one : (s : S) (k : S → Table) (fields : List (List ℕ)) (bytes : List ℕ) → Stands (part s k) fields bytes → HasPart (spell (read bytes)) (size bytes) (k (next s (read bytes))) (Good s (read bytes)) fields bytes) where
-
   pub has_run : (n : ℕ) (s : S) (last : S → Table) (fields : List (List ℕ)) (bytes : List ℕ) → Stands (runs part n s last) fields bytes
       → HasPart (flat_map spell (parts_in size read n bytes)) (total_size size n bytes) (last (final size read next n s bytes)) (AreGood size read next Good n s bytes) fields bytes
   has_run zero s last fields bytes is = record { front = nothing (last s) fields bytes is; is_good = tt }
@@ -47,7 +46,7 @@ module _ {S X : Type 0} (part : S → (S → Table) → Table) (size : List ℕ 
   -- a front, and a run after it
   pub then_run : {a : List (List ℕ)} {k : ℕ} (n : ℕ) (s : S) (last : S → Table) {fields : List (List ℕ)} {bytes : List ℕ} → HasFront a k (runs part n s last) fields bytes
       → HasPart (a ++ flat_map spell (parts_in size read n (drop k bytes))) (k + total_size size n (drop k bytes)) (last (final size read next n s (drop k bytes)))
-          (AreGood size read next Good n s (drop k bytes)) fields bytes
+      (AreGood size read next Good n s (drop k bytes)) fields bytes
   then_run {a} {k} n s last {fields} {bytes} is =
       let run = has_run n s last is.after (drop k bytes) is.stands in
       record {
@@ -60,8 +59,8 @@ module _ {S X : Type 0} (part : S → (S → Table) → Table) (size : List ℕ 
   pub has_counted : (width low high : ℕ) (kind : ShapeKind) (s : S) (last : ℕ → S → Table) (fields : List (List ℕ)) (bytes : List ℕ)
       → Stands (Number width low high kind (λ n. runs part n s (last n))) fields bytes
       → HasPart (counted width spell (counted_in width size read bytes)) (counted_size width size bytes)
-          (last (number_in width bytes) (final size read next (number_in width bytes) s (drop width bytes)))
-          (AreGood size read next Good (number_in width bytes) s (drop width bytes)) fields bytes
+      (last (number_in width bytes) (final size read next (number_in width bytes) s (drop width bytes)))
+      (AreGood size read next Good (number_in width bytes) s (drop width bytes)) fields bytes
   has_counted width low high kind s last fields bytes is =
       let n = number_in width bytes in
       let a = has_number width low high kind (λ m. runs part m s (last m)) fields bytes is in
@@ -75,8 +74,8 @@ module _ {S X : Type 0} (part : S → (S → Table) → Table) (size : List ℕ 
   pub then_counted : {a : List (List ℕ)} {k width low high : ℕ} {kind : ShapeKind} (s : S) (last : ℕ → S → Table) {fields : List (List ℕ)} {bytes : List ℕ}
       → HasFront a k (Number width low high kind (λ n. runs part n s (last n))) fields bytes
       → HasPart (a ++ counted width spell (counted_in width size read (drop k bytes))) (k + counted_size width size (drop k bytes))
-          (last (number_in width (drop k bytes)) (final size read next (number_in width (drop k bytes)) s (drop width (drop k bytes))))
-          (AreGood size read next Good (number_in width (drop k bytes)) s (drop width (drop k bytes))) fields bytes
+      (last (number_in width (drop k bytes)) (final size read next (number_in width (drop k bytes)) s (drop width (drop k bytes))))
+      (AreGood size read next Good (number_in width (drop k bytes)) s (drop width (drop k bytes))) fields bytes
   then_counted {a} {k} {width} {low} {high} {kind} s last {fields} {bytes} is =
       let run = has_counted width low high kind s last is.after (drop k bytes) is.stands in
       record {

@@ -8,7 +8,6 @@ use Rattle.ats_proof.specs.Runs.{sections_rise}
 use Rattle.std.proofs.lemmas.List.{drop-drop}
 
 module _ (view : ProofView) (tra : view.tra ≡ true) where
-
   pub is_true : is_tra view.bytes.now ≡ true
   is_true = sym view.placed.same ∙ tra
 

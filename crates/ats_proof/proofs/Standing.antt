@@ -67,7 +67,7 @@ has_number size low high kind rest (f ∷ fields) bytes is =
     let value : number_in size bytes ≡ number f = ap number first in
     let come : Come fields (rest (number_in size bytes)) End = subst (λ (n : ℕ). Come fields (rest n) End) (sym value) is.come.1 in
     let own : spelled size (number_in size bytes) ≡ take size bytes =
-        ap (spelled size) value ∙ spelled-number size f is_field.0 (small-front f (concat fields) (subst AreBytes is.join is.small)) ∙ sym first in
+    ap (spelled size) value ∙ spelled-number size f is_field.0 (small-front f (concat fields) (subst AreBytes is.join is.small)) ∙ sym first in
     let whole = join_front f fields size (rest (number_in size bytes)) bytes is.join is.small is_field.0 come in
     record {
       front = subst (λ (x : List ℕ). HasFront (x ∷ []) size (rest (number_in size bytes)) (f ∷ fields) bytes) (sym own) whole;

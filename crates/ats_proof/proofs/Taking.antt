@@ -10,7 +10,6 @@ use Rattle.ats_proof.specs.Reading.{digest_size, digest_in, posting_size}
 use Rattle.ats_proof.proofs.Runs.{AreGood}
 
 module _ {X : Type 0} (size : List ℕ → ℕ) (read : List ℕ → X) where
-
   pub parts_more : (n : ℕ) (bytes : List ℕ) → 0 < n → parts_in size read n bytes ≡ read bytes ∷ parts_in size read (n - 1) (drop (size bytes) bytes)
   parts_more zero bytes some = absurd (omega (arith, some))
   parts_more (suc n) bytes some = let e : n ≡ suc n - 1 = omega arith in ap (λ (k : ℕ). read bytes ∷ parts_in size read k (drop (size bytes) bytes)) e
@@ -31,7 +30,6 @@ module _ {X : Type 0} (size : List ℕ → ℕ) (read : List ℕ → X) where
       subst (λ (j : ℕ). slice_index xs (suc k) < slice_index xs j) e (rising number (suc n) (number (read bytes) + 1) (drop (size bytes) bytes) good.1 k (omega (arith, below)))
 
 module _ {X : Type 0} (k : ℕ) (read : List ℕ → X) where
-
   pub total_fixed : (n : ℕ) (bytes : List ℕ) → total_size (λ _. k) n bytes ≡ n * k
   total_fixed zero bytes = sym (zero-mul k)
   total_fixed (suc n) bytes = let h = total_fixed n (drop k bytes) in omega (arith, h)
@@ -51,7 +49,6 @@ pub digests-sized : (n : ℕ) (bytes : List ℕ) → n * 32 ≤ length bytes →
 digests-sized n bytes fits = All-from_recursion (λ d. length d ≡ 32) _ (sized n bytes fits)
 
 module _ (size : List ℕ → ℕ) (n : ℕ) (bytes : List ℕ) (some : 0 < n) (fits : total_size size n bytes ≤ length bytes) where
-
   pub first_fits : size bytes ≤ length bytes
   first_fits = let e = total_more size (λ b. b) n bytes some in omega (arith, e, fits)
 

@@ -38,7 +38,7 @@ good_runs_tell spell P Q one [] (y ∷ ys) a b good other len e = absurd (omega 
 good_runs_tell spell P Q one (x ∷ xs) [] a b good other len e = absurd (omega (arith, len))
 good_runs_tell spell P Q one (x ∷ xs) (y ∷ ys) a b good other len e =
     let joined : spell x ++ (flat_map spell xs ++ a) ≡ spell y ++ (flat_map spell ys ++ b) =
-        sym (append_assoc (spell x) (flat_map spell xs) a) ∙ e ∙ append_assoc (spell y) (flat_map spell ys) b in
+    sym (append_assoc (spell x) (flat_map spell xs) a) ∙ e ∙ append_assoc (spell y) (flat_map spell ys) b in
     let head = one x y (flat_map spell xs ++ a) (flat_map spell ys ++ b) (good 0 x (omega arith)) (other 0 y (omega arith)) joined in
     let tail = good_runs_tell spell P Q one xs ys a b (All-tail P x xs good) (All-tail Q y ys other) (omega (arith, len)) head.rest in
     record { value = ap₂ (λ z zs. z ∷ zs) head.value tail.value; rest = tail.rest }
@@ -88,7 +88,7 @@ prefix_tells x y a b e =
     let xd = counted 2 digest_fields x.digests in
     let yd = counted 2 digest_fields y.digests in
     let entries = counted_tells 3 posting_fields posting_tells x.entries y.entries (xd ++ a) (yd ++ b)
-        (sym (append_assoc (counted 4 posting_fields x.entries) xd a) ∙ e ∙ append_assoc (counted 4 posting_fields y.entries) yd b) in
+    (sym (append_assoc (counted 4 posting_fields x.entries) xd a) ∙ e ∙ append_assoc (counted 4 posting_fields y.entries) yd b) in
     let digests = counted_tells 1 digest_fields digest_tells x.digests y.digests a b entries.rest in
     record { value = ap₂ (λ (m : List Entry) (r : List (List ℕ)). let s : Prefix = record { entries = m; digests = r } in s) entries.value digests.value; rest = digests.rest }
 
@@ -113,7 +113,7 @@ entry_tells x y a b e =
     let f = number_first 3 xt.f yt.f (xt.root ∷ a) (yt.root ∷ b) term.rest in
     let root = first xt.root yt.root a b f.rest in
     let entry : xt ≡ yt = ap₂ (λ (t : List ℕ) (n : ℕ). let d : DictEntry = record { term = t; f = n; root = xt.root } in d) term.value f.value
-        ∙ ap (λ (r : List ℕ). let d : DictEntry = record { term = yt.term; f = yt.f; root = r } in d) root.value in
+    ∙ ap (λ (r : List ℕ). let d : DictEntry = record { term = yt.term; f = yt.f; root = r } in d) root.value in
     record { value = ap₂ (λ (n : ℕ) (d : DictEntry). let s : ShownEntry = record { position = n; entry = d } in s) position.value entry; rest = root.rest }
 
 -- ---- a document's section, whose slots are as many as the terms that are present
@@ -127,7 +127,7 @@ section_tells m n same x y a b one other e =
     let xs = flat_map slot_fields x.slots in
     let ys = flat_map slot_fields y.slots in
     let joined : xl ++ (xd ++ (xs ++ a)) ≡ yl ++ (yd ++ (ys ++ b)) =
-        sym (append_assoc (xl ++ xd) xs a ∙ append_assoc xl xd (xs ++ a)) ∙ e ∙ append_assoc (yl ++ yd) ys b ∙ append_assoc yl yd (ys ++ b) in
+    sym (append_assoc (xl ++ xd) xs a ∙ append_assoc xl xd (xs ++ a)) ∙ e ∙ append_assoc (yl ++ yd) ys b ∙ append_assoc yl yd (ys ++ b) in
     let leaves = counted_tells 1 term_fields term_tells x.leaves y.leaves (xd ++ (xs ++ a)) (yd ++ (ys ++ b)) joined in
     let digests = counted_tells 1 digest_fields digest_tells x.digests y.digests (xs ++ a) (ys ++ b) leaves.rest in
     let slots = runs_tell slot_fields slot_tells x.slots y.slots a b (one ∙ same ∙ sym other) digests.rest in
@@ -145,11 +145,11 @@ documents_tell l m n k met present x y a b one other e =
     let xs = flat_map section_fields x.sections in
     let ys = flat_map section_fields y.sections in
     let joined : xl ++ (xd ++ (xs ++ a)) ≡ yl ++ (yd ++ (ys ++ b)) =
-        sym (append_assoc (xl ++ xd) xs a ∙ append_assoc xl xd (xs ++ a)) ∙ e ∙ append_assoc (yl ++ yd) ys b ∙ append_assoc yl yd (ys ++ b) in
+    sym (append_assoc (xl ++ xd) xs a ∙ append_assoc xl xd (xs ++ a)) ∙ e ∙ append_assoc (yl ++ yd) ys b ∙ append_assoc yl yd (ys ++ b) in
     let leaves = runs_tell doc_fields doc_tells x.leaves y.leaves (xd ++ (xs ++ a)) (yd ++ (ys ++ b)) (one.leaf_each ∙ met ∙ sym other.leaf_each) joined in
     let digests = counted_tells 3 digest_fields digest_tells x.digests y.digests (xs ++ a) (ys ++ b) leaves.rest in
     let sections = good_runs_tell section_fields (λ s. length s.slots ≡ m) (λ s. length s.slots ≡ k) (λ s t c d p q f. section_tells m k present s t c d p q f) x.sections y.sections a b
-        one.slot_each other.slot_each (one.section_each ∙ met ∙ sym other.section_each) digests.rest in
+    one.slot_each other.slot_each (one.section_each ∙ met ∙ sym other.section_each) digests.rest in
     record { value = λ i. record { leaves = leaves.value i; digests = digests.value i; sections = sections.value i }; rest = sections.rest }
 
 shown_documents_tell : (p q : Proof) → length p.met ≡ length q.met → present_in p.slots ≡ present_in q.slots → (x y : Option Documents) (a b : List (List ℕ))
@@ -217,18 +217,18 @@ pub one_value : (bytes : List ℕ) (p q : Proof) → IsProof bytes p → IsProof
 one_value bytes p q one other =
     let e = one_spelling bytes (fields_of p) (fields_of q) one.spells other.spells in
     let front = front_tells p.docs q.docs (header_fields p.header ++ (spelled 2 (length p.slots) ∷ after_terms p)) (header_fields q.header ++ (spelled 2 (length q.slots) ∷ after_terms q))
-        (sym (fields_in_turn p) ∙ e ∙ fields_in_turn q) in
+    (sym (fields_in_turn p) ∙ e ∙ fields_in_turn q) in
     let header = header_tells p.header q.header (spelled 2 (length p.slots) ∷ after_terms p) (spelled 2 (length q.slots) ∷ after_terms q) front.rest in
     let terms = number_first 1 (length p.slots) (length q.slots) (after_terms p) (after_terms q) header.rest in
     let dict = counted_tells 1 entry_fields entry_tells p.dict q.dict (counted 2 digest_fields p.dict_digests ++ (flat_map slot_fields p.slots ++ after_slots p))
-        (counted 2 digest_fields q.dict_digests ++ (flat_map slot_fields q.slots ++ after_slots q)) terms.rest in
+    (counted 2 digest_fields q.dict_digests ++ (flat_map slot_fields q.slots ++ after_slots q)) terms.rest in
     let digests = counted_tells 1 digest_fields digest_tells p.dict_digests q.dict_digests (flat_map slot_fields p.slots ++ after_slots p) (flat_map slot_fields q.slots ++ after_slots q) dict.rest in
     let slots = runs_tell slot_fields slot_tells p.slots q.slots (after_slots p) (after_slots q) terms.value digests.rest in
     let present = ap present_in slots.value in
     let met = counted_tells 3 id_fields id_tells p.met q.met (flat_map prefix_fields p.lists ++ after_lists p) (flat_map prefix_fields q.lists ++ after_lists q) slots.rest in
     let lists = runs_tell prefix_fields prefix_tells p.lists q.lists (after_lists p) (after_lists q) (one.prefix_each ∙ present ∙ sym other.prefix_each) met.rest in
     let docs = shown_documents_tell p q (ap length met.value) present p.docs q.docs (counted 2 id_fields p.answer ++ []) (counted 2 id_fields q.answer ++ [])
-        one.documents other.documents front.value lists.rest in
+    one.documents other.documents front.value lists.rest in
     let answer = counted_tells 1 id_fields id_tells p.answer q.answer [] [] docs.rest in
     λ i. record {
       header = header.value i;

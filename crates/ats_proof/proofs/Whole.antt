@@ -72,7 +72,7 @@ same_algorithm (suc (suc (suc n))) bytes some few = absurd (omega (arith, few))
 abbrev FrontWith : List (List ℕ) → List ℕ → ℕ → ℕ → ℕ → ℕ → Type 0
 FrontWith fields bytes magic version algorithm again =
     HasFront (spelled 4 magic ∷ spelled 1 version ∷ spelled 1 algorithm ∷ spelled 1 again ∷ spelled 4 (number_in 4 (drop 7 bytes)) ∷ spelled 4 (number_in 4 (drop 11 bytes))
-        ∷ take 32 (drop 15 bytes) ∷ take 32 (drop 47 bytes) ∷ take 32 (drop 79 bytes) ∷ []) 111 (query_terms (is_tra bytes)) fields bytes
+    ∷ take 32 (drop 15 bytes) ∷ take 32 (drop 47 bytes) ∷ take 32 (drop 79 bytes) ∷ []) 111 (query_terms (is_tra bytes)) fields bytes
 
 then_front : (fields : List (List ℕ)) (bytes : List ℕ) → Stands proof fields bytes
     → HasFront (front_fields (documents_in (is_tra bytes) bytes) ++ header_fields (header_in bytes)) 111 (query_terms (is_tra bytes)) fields bytes
@@ -96,7 +96,6 @@ then_front fields bytes is =
 -- ---- the dictionary section, the slots and the met ids
 
 module _ {a fields : List (List ℕ)} {bytes : List ℕ} where
-
   then_dict : (tra : Bool) (n : ℕ) → HasFront a 113 (dictionary tra n) fields bytes
       → HasPart (a ++ counted 2 entry_fields (proof_in bytes).dict) (dict_digests_place bytes) (dict_digests tra n) (EntriesRise (drop 113 bytes)) fields bytes
   then_dict tra n is =
@@ -109,7 +108,7 @@ module _ {a fields : List (List ℕ)} {bytes : List ℕ} where
       let there = subst (λ (t : Table). HasFront a (slots_place bytes) t fields bytes) (slots_run tra (terms_in bytes) 0 0) is in
       let run = then_run slot_part slot_size slot_in slot_fields next_slot (λ _ _. U) one_slot (terms_in bytes) (0, 0) (λ s. met tra s.1) there in
       subst (λ (p : ℕ). HasFront (a ++ flat_map slot_fields (slots_in bytes)) (met_place bytes) (met tra p) fields bytes)
-          (present_after (terms_in bytes) (0, 0) (drop (slots_place bytes) bytes) ∙ zero-add (present_in (slots_in bytes))) run.front
+      (present_after (terms_in bytes) (0, 0) (drop (slots_place bytes) bytes) ∙ zero-add (present_in (slots_in bytes))) run.front
 
   then_met : (tra : Bool) (present : ℕ) → HasFront a (met_place bytes) (met tra present) fields bytes
       → HasPart (a ++ counted 4 id_fields (proof_in bytes).met) (lists_place bytes) (prefixes present (documents tra (met_in bytes) present)) (IdsRise (drop (met_place bytes) bytes)) fields bytes
@@ -132,8 +131,8 @@ module _ {a fields : List (List ℕ)} {bytes : List ℕ} where
       let leaves = then_run doc_part doc_size doc_in doc_fields (λ _ _. tt) (λ _ _. U) one_doc (met_in bytes) tt (λ _. doc_digests rest) there in
       let digests = then_digests rest leaves.front in
       let sections = then_run (section_part present) (section_size present) (section_in present) section_fields (λ _ _. tt) (λ _ x. section_rises x) (one_section present) (met_in bytes) tt (λ _. answer)
-          (subst (λ (t : Table). HasFront (a ++ flat_map doc_fields (parts_in doc_size doc_in (met_in bytes) (drop (docs_place bytes) bytes)) ++ counted 4 digest_fields (counted_in 4 digest_size digest_in (drop (doc_digests_place bytes) bytes)))
-              (sections_place bytes) t fields bytes) (sections_run (met_in bytes) present) digests) in
+      (subst (λ (t : Table). HasFront (a ++ flat_map doc_fields (parts_in doc_size doc_in (met_in bytes) (drop (docs_place bytes) bytes)) ++ counted 4 digest_fields (counted_in 4 digest_size digest_in (drop (doc_digests_place bytes) bytes)))
+      (sections_place bytes) t fields bytes) (sections_run (met_in bytes) present) digests) in
       let x = flat_map doc_fields (parts_in doc_size doc_in (met_in bytes) (drop (docs_place bytes) bytes)) in
       let y = counted 4 digest_fields (counted_in 4 digest_size digest_in (drop (doc_digests_place bytes) bytes)) in
       let z = flat_map section_fields (parts_in (section_size present) (section_in present) (met_in bytes) (drop (sections_place bytes) bytes)) in
@@ -173,7 +172,7 @@ is_read fields bytes is =
     let terms = then_number (then_front fields bytes is) in
     let tra = is_tra bytes in
     let begun = subst (λ (n : ℕ). HasFront (front_fields (documents_in tra bytes) ++ header_fields (header_in bytes) ++ spelled 2 n ∷ []) 113 (dictionary tra (terms_in bytes)) fields bytes)
-        (sym (length-parts slot_size slot_in (terms_in bytes) (drop (slots_place bytes) bytes))) terms.front in
+    (sym (length-parts slot_size slot_in (terms_in bytes) (drop (slots_place bytes) bytes))) terms.front in
     let dict = then_dict tra (terms_in bytes) begun in
     let dict_digests = then_digests (slots tra (terms_in bytes) 0 0) dict.front in
     let met = then_met tra (present_in (slots_in bytes)) (then_slots tra dict_digests) in
@@ -221,7 +220,7 @@ whole bytes small spelling =
     let stands : Stands proof spelling.fields bytes = record { come = front.come; join = front.parts ∙ append-nil (concat spelling.fields); small = small } in
     let read = is_read spelling.fields bytes stands in
     let same : spelling.fields ≡ fields_of (proof_in bytes) =
-        read.front.split ∙ ap (λ (xs : List (List ℕ)). fields_of (proof_in bytes) ++ xs) (nothing_after read.front.after read.front.stands.come) ∙ append-nil (fields_of (proof_in bytes)) in
+    read.front.split ∙ ap (λ (xs : List (List ℕ)). fields_of (proof_in bytes) ++ xs) (nothing_after read.front.after read.front.stands.come) ∙ append-nil (fields_of (proof_in bytes)) in
     record {
       is = record {
         spells = subst (Spells bytes) same spelling.spells;

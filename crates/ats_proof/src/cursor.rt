@@ -71,7 +71,9 @@ impl<'a> Revealed<'a> for ListCursor<'a> {
     }
 
     fn leaf_front(&self) -> &'a [u8] {
-        nth(self.ids, self.met, 4, number_4(self.entries)).split_at(4).0
+        nth(self.ids, self.met, 4, number_4(self.entries))
+            .split_at(4)
+            .0
     }
 
     fn leaf_back(&self) -> &'a [u8] {

@@ -59,12 +59,36 @@ fn has_prefixes(rt: &impl Abort, alloc: Global, view: &ProofView<'_>) -> Result<
     let mut lists = view.lists();
     let hen = lists.next(&mut steps).ok_or("hen has a prefix")?;
     assert_eq!(rt; hen.len(), 2);
-    assert_eq!(rt; hen.entry(0, &mut steps), Entry { doc: 2, impact: 1063 });
-    assert_eq!(rt; hen.entry(1, &mut steps), Entry { doc: 1, impact: 896 });
+    assert_eq!(rt;
+        hen.entry(0, &mut steps),
+        Entry {
+            doc: 2,
+            impact: 1063
+        }
+    );
+    assert_eq!(rt;
+        hen.entry(1, &mut steps),
+        Entry {
+            doc: 1,
+            impact: 896
+        }
+    );
     let red = lists.next(&mut steps).ok_or("red has a prefix")?;
     assert_eq!(rt; red.len(), 2);
-    assert_eq!(rt; red.entry(0, &mut steps), Entry { doc: 1, impact: 1273 });
-    assert_eq!(rt; red.entry(1, &mut steps), Entry { doc: 0, impact: 1063 });
+    assert_eq!(rt;
+        red.entry(0, &mut steps),
+        Entry {
+            doc: 1,
+            impact: 1273
+        }
+    );
+    assert_eq!(rt;
+        red.entry(1, &mut steps),
+        Entry {
+            doc: 0,
+            impact: 1063
+        }
+    );
     assert!(rt; lists.next(&mut steps).is_none());
     assert_eq!(rt; steps.count(), 7);
     Ok(())
@@ -132,11 +156,20 @@ fn slots_of_a_document(rt: HostRuntime) -> Result<(), Fail> {
     let mut steps = Steps::new(rt.alloc());
     let mut docs = view.docs().ok_or("documents are shown")?;
     let doc = docs.next(&mut steps).ok_or("document 0 is met")?;
-    assert_eq!(rt; slots_of(&doc, &mut steps), Some((slot(false, 0), slot(true, 1))));
+    assert_eq!(rt;
+        slots_of(&doc, &mut steps),
+        Some((slot(false, 0), slot(true, 1)))
+    );
     let doc = docs.next(&mut steps).ok_or("document 1 is met")?;
-    assert_eq!(rt; slots_of(&doc, &mut steps), Some((slot(true, 0), slot(true, 1))));
+    assert_eq!(rt;
+        slots_of(&doc, &mut steps),
+        Some((slot(true, 0), slot(true, 1)))
+    );
     let doc = docs.next(&mut steps).ok_or("document 2 is met")?;
-    assert_eq!(rt; slots_of(&doc, &mut steps), Some((slot(true, 0), slot(false, 0))));
+    assert_eq!(rt;
+        slots_of(&doc, &mut steps),
+        Some((slot(true, 0), slot(false, 0)))
+    );
     assert_eq!(rt; steps.count(), 9);
     Ok(())
 }

@@ -24,7 +24,8 @@ lists-preserved c =
     let rest = c.lists.rest.now in
     let few = few_in_list rest in
     let fits = first_fits prefix_size c.lists.left rest some c.lists.invariant.0.fits in
-    rw (c.split_at.ensures.back, c.list_sum-list.ensures.size)
-    (along_more prefix_size c.args.count c.args.bytes.now c.lists.left rest some c.lists.invariant.0,
-        counted_more prefix_size prefix_in items_of_prefix c.args.count c.args.bytes.now c.lists.left rest c.lists.items c.list_sum-list.result.items some fits c.list_sum-list.ensures.items
-        (omega (arith, few, c.list_sum-list.ensures.items)) c.lists.invariant.1)
+    rw (c.split_at.ensures.back, c.list_sum-list.ensures.size) (
+      along_more prefix_size c.args.count c.args.bytes.now c.lists.left rest some c.lists.invariant.0,
+      counted_more prefix_size prefix_in items_of_prefix c.args.count c.args.bytes.now c.lists.left rest c.lists.items c.list_sum-list.result.items some fits c.list_sum-list.ensures.items
+          (omega (arith, few, c.list_sum-list.ensures.items)) c.lists.invariant.1,
+    )

@@ -24,7 +24,8 @@ sections-preserved c =
     let rest = c.sections.rest.now in
     let few = few_in_section c.args.present rest in
     let fits = first_fits (section_size c.args.present) c.sections.left rest some c.sections.invariant.0.fits in
-    rw (c.split_at.ensures.back, c.section_sum-section.ensures.size)
-    (along_more (section_size c.args.present) c.args.count c.args.bytes.now c.sections.left rest some c.sections.invariant.0,
-        counted_more (section_size c.args.present) (section_in c.args.present) items_of_section c.args.count c.args.bytes.now c.sections.left rest c.sections.items c.section_sum-section.result.items some fits c.section_sum-section.ensures.items
-        (omega (arith, few, c.section_sum-section.ensures.items)) c.sections.invariant.1)
+    rw (c.split_at.ensures.back, c.section_sum-section.ensures.size) (
+      along_more (section_size c.args.present) c.args.count c.args.bytes.now c.sections.left rest some c.sections.invariant.0,
+      counted_more (section_size c.args.present) (section_in c.args.present) items_of_section c.args.count c.args.bytes.now c.sections.left rest c.sections.items c.section_sum-section.result.items some fits c.section_sum-section.ensures.items
+          (omega (arith, few, c.section_sum-section.ensures.items)) c.sections.invariant.1,
+    )

@@ -62,8 +62,8 @@ split_at-requires-3 c =
     let size : c.counted_leaves_size-size.result ≡ section_leaves_size bytes = c.counted_leaves_size-size.ensures in
     let after : c.split_at-2.result.1.now ≡ drop (section_leaves_size bytes) bytes = c.split_at-2.ensures.back ∙ ap (λ (n : ℕ). drop n bytes) size in
     let slots : c.counted_digests_2.result.1.now ≡ drop (section_slots_place bytes) bytes =
-        c.counted_digests_2.ensures.rest ∙ ap (λ xs. drop (counted_size 2 digest_size xs) xs) after
-        ∙ drop-drop (counted_size 2 digest_size (drop (section_leaves_size bytes) bytes)) (section_leaves_size bytes) bytes in
+    c.counted_digests_2.ensures.rest ∙ ap (λ xs. drop (counted_size 2 digest_size xs) xs) after
+    ∙ drop-drop (counted_size 2 digest_size (drop (section_leaves_size bytes) bytes)) (section_leaves_size bytes) bytes in
     let threes = total_fixed 3 (λ b. b) view.present (drop (section_slots_place bytes) bytes) in
     rw slots (omega (arith, fits, threes, length-drop (section_slots_place bytes) bytes))
 
@@ -89,8 +89,8 @@ returns-clause-rest c =
     let size : c.counted_leaves_size-size.result ≡ section_leaves_size bytes = c.counted_leaves_size-size.ensures in
     let after : c.split_at-2.result.1.now ≡ drop (section_leaves_size bytes) bytes = c.split_at-2.ensures.back ∙ ap (λ (n : ℕ). drop n bytes) size in
     let slots : c.counted_digests_2.result.1.now ≡ drop (section_slots_place bytes) bytes =
-        c.counted_digests_2.ensures.rest ∙ ap (λ xs. drop (counted_size 2 digest_size xs) xs) after
-        ∙ drop-drop (counted_size 2 digest_size (drop (section_leaves_size bytes) bytes)) (section_leaves_size bytes) bytes in
+    c.counted_digests_2.ensures.rest ∙ ap (λ xs. drop (counted_size 2 digest_size xs) xs) after
+    ∙ drop-drop (counted_size 2 digest_size (drop (section_leaves_size bytes) bytes)) (section_leaves_size bytes) bytes in
     let threes = total_fixed 3 (λ b. b) view.present (drop (section_slots_place bytes) bytes) in
     c.split_at-3.ensures.back ∙ ap (drop (view.present * 3)) slots ∙ drop-drop (view.present * 3) (section_slots_place bytes) bytes
     ∙ ap (λ (n : ℕ). drop (section_slots_place bytes + n) bytes) (sym threes)

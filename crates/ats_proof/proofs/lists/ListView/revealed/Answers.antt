@@ -31,5 +31,5 @@ returns-clause-shown c =
     let view = c.args.proof.now in
     let bytes = view.bytes.now in
     let ids : c.split_at.result.1.now ≡ drop 4 (drop (met_place bytes) bytes) =
-        c.split_at.ensures.back ∙ ap (λ (n : ℕ). drop (n + 4) bytes) view.placed.first.met_at ∙ sym (drop-drop 4 (met_place bytes) bytes) in
+    c.split_at.ensures.back ∙ ap (λ (n : ℕ). drop (n + 4) bytes) view.placed.first.met_at ∙ sym (drop-drop 4 (met_place bytes) bytes) in
     ap (λ met. shown_list 0 met (list_of list).entries) (ap₂ (λ n xs. parts_in id_size id_in n xs) view.placed.first.met ids)

@@ -20,14 +20,14 @@ counted_digests_2-requires c =
     let bytes = view.bytes.now in
     let fits = first_fits prefix_size view.left bytes c.requires view.fits in
     let place : c.split_at-2.result.1.now ≡ drop (counted_size 4 posting_size bytes) bytes =
-        c.split_at-2.ensures.back ∙ ap₂ (λ n xs. drop (n * 6) xs) c.number_4-count.ensures c.split_at.ensures.back ∙ after_postings bytes in
+    c.split_at-2.ensures.back ∙ ap₂ (λ n xs. drop (n * 6) xs) c.number_4-count.ensures c.split_at.ensures.back ∙ after_postings bytes in
     rw place (omega (arith, fits, length-drop (counted_size 4 posting_size bytes) bytes))
 
 pub returns-clause-list : goal.returns-clause-list
 returns-clause-list c =
     let bytes = c.args.self.now.bytes.now in
     let place : c.split_at-2.result.1.now ≡ drop (counted_size 4 posting_size bytes) bytes =
-        c.split_at-2.ensures.back ∙ ap₂ (λ n xs. drop (n * 6) xs) c.number_4-count.ensures c.split_at.ensures.back ∙ after_postings bytes in
+    c.split_at-2.ensures.back ∙ ap₂ (λ n xs. drop (n * 6) xs) c.number_4-count.ensures c.split_at.ensures.back ∙ after_postings bytes in
     ap₂ (λ xs ys. let p : Prefix = record { entries = xs; digests = ys } in p)
     (ap₂ (λ n xs. parts_in posting_size posting_in n xs) c.number_4-count.ensures c.split_at.ensures.back)
     (c.counted_digests_2.ensures.digests ∙ ap (counted_in 2 digest_size digest_in) place)
@@ -36,6 +36,6 @@ pub returns-clause-rest : goal.returns-clause-rest
 returns-clause-rest c =
     let bytes = c.args.self.now.bytes.now in
     let place : c.split_at-2.result.1.now ≡ drop (counted_size 4 posting_size bytes) bytes =
-        c.split_at-2.ensures.back ∙ ap₂ (λ n xs. drop (n * 6) xs) c.number_4-count.ensures c.split_at.ensures.back ∙ after_postings bytes in
+    c.split_at-2.ensures.back ∙ ap₂ (λ n xs. drop (n * 6) xs) c.number_4-count.ensures c.split_at.ensures.back ∙ after_postings bytes in
     c.counted_digests_2.ensures.rest ∙ ap (λ xs. drop (counted_size 2 digest_size xs) xs) place
     ∙ drop-drop (counted_size 2 digest_size (drop (counted_size 4 posting_size bytes) bytes)) (counted_size 4 posting_size bytes) bytes

@@ -54,7 +54,7 @@ overflow_add-met_at c =
     let terms : c.from-terms.result ≡ terms_in bytes = c.from-terms.ensures ∙ c.number_2.ensures ∙ ap (number_in 2) c.split_at.ensures.back in
     let threes = total_fixed 3 (λ b. b) (terms_in bytes) (drop (slots_place bytes) bytes) in
     let met_at : 113 + c.counted_leaves_size-dict_digests.result + c.counted_digests_size_2.result + c.from-terms.result * 3 ≡ met_place bytes =
-        ap₂ (λ (k n : ℕ). k + n * 3) slots terms ∙ ap (λ (n : ℕ). slots_place bytes + n) (sym threes) in
+    ap₂ (λ (k n : ℕ). k + n * 3) slots terms ∙ ap (λ (n : ℕ). slots_place bytes + n) (sym threes) in
     omega (arith, first, second, terms, threes, c.requires.docs, c.requires.few)
 
 pub split_at-requires-4 : goal.split_at-requires-4
@@ -68,7 +68,7 @@ split_at-requires-4 c =
     let terms : c.from-terms.result ≡ terms_in bytes = c.from-terms.ensures ∙ c.number_2.ensures ∙ ap (number_in 2) c.split_at.ensures.back in
     let threes = total_fixed 3 (λ b. b) (terms_in bytes) (drop (slots_place bytes) bytes) in
     let met_at : 113 + c.counted_leaves_size-dict_digests.result + c.counted_digests_size_2.result + c.from-terms.result * 3 ≡ met_place bytes =
-        ap₂ (λ (k n : ℕ). k + n * 3) slots terms ∙ ap (λ (n : ℕ). slots_place bytes + n) (sym threes) in
+    ap₂ (λ (k n : ℕ). k + n * 3) slots terms ∙ ap (λ (n : ℕ). slots_place bytes + n) (sym threes) in
     omega (arith, first, second, terms, threes, c.requires.docs)
 
 pub number_4-met-requires : goal.number_4-met-requires
@@ -82,7 +82,7 @@ number_4-met-requires c =
     let terms : c.from-terms.result ≡ terms_in bytes = c.from-terms.ensures ∙ c.number_2.ensures ∙ ap (number_in 2) c.split_at.ensures.back in
     let threes = total_fixed 3 (λ b. b) (terms_in bytes) (drop (slots_place bytes) bytes) in
     let met_at : 113 + c.counted_leaves_size-dict_digests.result + c.counted_digests_size_2.result + c.from-terms.result * 3 ≡ met_place bytes =
-        ap₂ (λ (k n : ℕ). k + n * 3) slots terms ∙ ap (λ (n : ℕ). slots_place bytes + n) (sym threes) in
+    ap₂ (λ (k n : ℕ). k + n * 3) slots terms ∙ ap (λ (n : ℕ). slots_place bytes + n) (sym threes) in
     let last : c.split_at-4.result.1.now ≡ drop (met_place bytes) bytes = c.split_at-4.ensures.back ∙ ap (λ (n : ℕ). drop n bytes) met_at in
     rw last (omega (arith, c.requires.docs, length-drop (met_place bytes) bytes))
 
@@ -97,12 +97,12 @@ returns c =
     let terms : c.from-terms.result ≡ terms_in bytes = c.from-terms.ensures ∙ c.number_2.ensures ∙ ap (number_in 2) c.split_at.ensures.back in
     let threes = total_fixed 3 (λ b. b) (terms_in bytes) (drop (slots_place bytes) bytes) in
     let met_at : 113 + c.counted_leaves_size-dict_digests.result + c.counted_digests_size_2.result + c.from-terms.result * 3 ≡ met_place bytes =
-        ap₂ (λ (k n : ℕ). k + n * 3) slots terms ∙ ap (λ (n : ℕ). slots_place bytes + n) (sym threes) in
+    ap₂ (λ (k n : ℕ). k + n * 3) slots terms ∙ ap (λ (n : ℕ). slots_place bytes + n) (sym threes) in
     let last : c.split_at-4.result.1.now ≡ drop (met_place bytes) bytes = c.split_at-4.ensures.back ∙ ap (λ (n : ℕ). drop n bytes) met_at in
     let met : c.number_4-met.result ≡ met_in bytes = c.number_4-met.ensures ∙ ap (number_in 4) last in
     let fours = total_fixed 4 (λ b. b) (met_in bytes) (drop 4 (drop (met_place bytes) bytes)) in
     let found : c.present_count.result ≡ present_in (parts_in slot_size slot_in (terms_in bytes) (drop (slots_place bytes) bytes)) =
-        c.present_count.ensures ∙ ap₂ (λ n xs. present_in (parts_in slot_size slot_in n xs)) terms (c.split_at-5.ensures.back ∙ ap (λ (n : ℕ). drop n bytes) slots) in
+    c.present_count.ensures ∙ ap₂ (λ n xs. present_in (parts_in slot_size slot_in n xs)) terms (c.split_at-5.ensures.back ∙ ap (λ (n : ℕ). drop n bytes) slots) in
     record {
       dict_digests = dict;
       terms = terms;

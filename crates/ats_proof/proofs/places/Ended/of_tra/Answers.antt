@@ -17,7 +17,7 @@ split_at-requires c =
     let met : c.args.met ≡ met_in bytes = c.requires.met in
     let leaves = total_fixed 36 (λ b. b) (met_in bytes) (drop (docs_place bytes) bytes) in
     let doc_digests : c.args.docs + c.args.met * 36 ≡ doc_digests_place bytes =
-        ap₂ (λ (k n : ℕ). k + n * 36) docs met ∙ ap (λ (n : ℕ). docs_place bytes + n) (sym leaves) in
+    ap₂ (λ (k n : ℕ). k + n * 36) docs met ∙ ap (λ (n : ℕ). docs_place bytes + n) (sym leaves) in
     omega (arith, docs, met, leaves, c.requires.room)
 
 pub counted_digests_size_4-requires : goal.counted_digests_size_4-requires
@@ -27,7 +27,7 @@ counted_digests_size_4-requires c =
     let met : c.args.met ≡ met_in bytes = c.requires.met in
     let leaves = total_fixed 36 (λ b. b) (met_in bytes) (drop (docs_place bytes) bytes) in
     let doc_digests : c.args.docs + c.args.met * 36 ≡ doc_digests_place bytes =
-        ap₂ (λ (k n : ℕ). k + n * 36) docs met ∙ ap (λ (n : ℕ). docs_place bytes + n) (sym leaves) in
+    ap₂ (λ (k n : ℕ). k + n * 36) docs met ∙ ap (λ (n : ℕ). docs_place bytes + n) (sym leaves) in
     let there : c.split_at.result.1.now ≡ drop (doc_digests_place bytes) bytes = c.split_at.ensures.back ∙ ap (λ (n : ℕ). drop n bytes) doc_digests in
     rw there (omega (arith, c.requires.room, length-drop (doc_digests_place bytes) bytes))
 
@@ -38,7 +38,7 @@ overflow_add-sections c =
     let met : c.args.met ≡ met_in bytes = c.requires.met in
     let leaves = total_fixed 36 (λ b. b) (met_in bytes) (drop (docs_place bytes) bytes) in
     let doc_digests : c.args.docs + c.args.met * 36 ≡ doc_digests_place bytes =
-        ap₂ (λ (k n : ℕ). k + n * 36) docs met ∙ ap (λ (n : ℕ). docs_place bytes + n) (sym leaves) in
+    ap₂ (λ (k n : ℕ). k + n * 36) docs met ∙ ap (λ (n : ℕ). docs_place bytes + n) (sym leaves) in
     let there : c.split_at.result.1.now ≡ drop (doc_digests_place bytes) bytes = c.split_at.ensures.back ∙ ap (λ (n : ℕ). drop n bytes) doc_digests in
     let size : c.counted_digests_size_4.result ≡ counted_size 4 digest_size (drop (doc_digests_place bytes) bytes) = c.counted_digests_size_4.ensures ∙ ap (counted_size 4 digest_size) there in
     let sections : c.args.docs + c.args.met * 36 + c.counted_digests_size_4.result ≡ sections_place bytes = ap₂ (λ (m n : ℕ). m + n) doc_digests size in
@@ -51,7 +51,7 @@ split_at-requires-2 c =
     let met : c.args.met ≡ met_in bytes = c.requires.met in
     let leaves = total_fixed 36 (λ b. b) (met_in bytes) (drop (docs_place bytes) bytes) in
     let doc_digests : c.args.docs + c.args.met * 36 ≡ doc_digests_place bytes =
-        ap₂ (λ (k n : ℕ). k + n * 36) docs met ∙ ap (λ (n : ℕ). docs_place bytes + n) (sym leaves) in
+    ap₂ (λ (k n : ℕ). k + n * 36) docs met ∙ ap (λ (n : ℕ). docs_place bytes + n) (sym leaves) in
     let there : c.split_at.result.1.now ≡ drop (doc_digests_place bytes) bytes = c.split_at.ensures.back ∙ ap (λ (n : ℕ). drop n bytes) doc_digests in
     let size : c.counted_digests_size_4.result ≡ counted_size 4 digest_size (drop (doc_digests_place bytes) bytes) = c.counted_digests_size_4.ensures ∙ ap (counted_size 4 digest_size) there in
     let sections : c.args.docs + c.args.met * 36 + c.counted_digests_size_4.result ≡ sections_place bytes = ap₂ (λ (m n : ℕ). m + n) doc_digests size in
@@ -64,7 +64,7 @@ sections_sum-sum-requires-clause-fits c =
     let met : c.args.met ≡ met_in bytes = c.requires.met in
     let leaves = total_fixed 36 (λ b. b) (met_in bytes) (drop (docs_place bytes) bytes) in
     let doc_digests : c.args.docs + c.args.met * 36 ≡ doc_digests_place bytes =
-        ap₂ (λ (k n : ℕ). k + n * 36) docs met ∙ ap (λ (n : ℕ). docs_place bytes + n) (sym leaves) in
+    ap₂ (λ (k n : ℕ). k + n * 36) docs met ∙ ap (λ (n : ℕ). docs_place bytes + n) (sym leaves) in
     let there : c.split_at.result.1.now ≡ drop (doc_digests_place bytes) bytes = c.split_at.ensures.back ∙ ap (λ (n : ℕ). drop n bytes) doc_digests in
     let size : c.counted_digests_size_4.result ≡ counted_size 4 digest_size (drop (doc_digests_place bytes) bytes) = c.counted_digests_size_4.ensures ∙ ap (counted_size 4 digest_size) there in
     let sections : c.args.docs + c.args.met * 36 + c.counted_digests_size_4.result ≡ sections_place bytes = ap₂ (λ (m n : ℕ). m + n) doc_digests size in
@@ -78,14 +78,14 @@ overflow_add-result c =
     let met : c.args.met ≡ met_in bytes = c.requires.met in
     let leaves = total_fixed 36 (λ b. b) (met_in bytes) (drop (docs_place bytes) bytes) in
     let doc_digests : c.args.docs + c.args.met * 36 ≡ doc_digests_place bytes =
-        ap₂ (λ (k n : ℕ). k + n * 36) docs met ∙ ap (λ (n : ℕ). docs_place bytes + n) (sym leaves) in
+    ap₂ (λ (k n : ℕ). k + n * 36) docs met ∙ ap (λ (n : ℕ). docs_place bytes + n) (sym leaves) in
     let there : c.split_at.result.1.now ≡ drop (doc_digests_place bytes) bytes = c.split_at.ensures.back ∙ ap (λ (n : ℕ). drop n bytes) doc_digests in
     let size : c.counted_digests_size_4.result ≡ counted_size 4 digest_size (drop (doc_digests_place bytes) bytes) = c.counted_digests_size_4.ensures ∙ ap (counted_size 4 digest_size) there in
     let sections : c.args.docs + c.args.met * 36 + c.counted_digests_size_4.result ≡ sections_place bytes = ap₂ (λ (m n : ℕ). m + n) doc_digests size in
     let last : c.split_at-2.result.1.now ≡ drop (sections_place bytes) bytes = c.split_at-2.ensures.back ∙ ap (λ (n : ℕ). drop n bytes) sections in
     let present = present_in (slots_in bytes) in
     let sum_size : c.sections_sum-sum.result.size ≡ total_size (section_size present) (met_in bytes) (drop (sections_place bytes) bytes) =
-        c.sections_sum-sum.ensures.size ∙ ap₃ (λ p n xs. total_size (section_size p) n xs) c.requires.present met last in
+    c.sections_sum-sum.ensures.size ∙ ap₃ (λ p n xs. total_size (section_size p) n xs) c.requires.present met last in
     omega (arith, docs, met, leaves, size, sum_size, c.requires.room, c.requires.few)
 
 pub returns-clause-ended : goal.returns-clause-ended
@@ -95,20 +95,20 @@ returns-clause-ended c =
     let met : c.args.met ≡ met_in bytes = c.requires.met in
     let leaves = total_fixed 36 (λ b. b) (met_in bytes) (drop (docs_place bytes) bytes) in
     let doc_digests : c.args.docs + c.args.met * 36 ≡ doc_digests_place bytes =
-        ap₂ (λ (k n : ℕ). k + n * 36) docs met ∙ ap (λ (n : ℕ). docs_place bytes + n) (sym leaves) in
+    ap₂ (λ (k n : ℕ). k + n * 36) docs met ∙ ap (λ (n : ℕ). docs_place bytes + n) (sym leaves) in
     let there : c.split_at.result.1.now ≡ drop (doc_digests_place bytes) bytes = c.split_at.ensures.back ∙ ap (λ (n : ℕ). drop n bytes) doc_digests in
     let size : c.counted_digests_size_4.result ≡ counted_size 4 digest_size (drop (doc_digests_place bytes) bytes) = c.counted_digests_size_4.ensures ∙ ap (counted_size 4 digest_size) there in
     let sections : c.args.docs + c.args.met * 36 + c.counted_digests_size_4.result ≡ sections_place bytes = ap₂ (λ (m n : ℕ). m + n) doc_digests size in
     let last : c.split_at-2.result.1.now ≡ drop (sections_place bytes) bytes = c.split_at-2.ensures.back ∙ ap (λ (n : ℕ). drop n bytes) sections in
     let present = present_in (slots_in bytes) in
     let sum_size : c.sections_sum-sum.result.size ≡ total_size (section_size present) (met_in bytes) (drop (sections_place bytes) bytes) =
-        c.sections_sum-sum.ensures.size ∙ ap₃ (λ p n xs. total_size (section_size p) n xs) c.requires.present met last in
+    c.sections_sum-sum.ensures.size ∙ ap₃ (λ p n xs. total_size (section_size p) n xs) c.requires.present met last in
     let a = length-parts doc_size doc_in (met_in bytes) (drop (docs_place bytes) bytes) in
     let behind = drop (doc_digests_place bytes) bytes in
     let b = length-parts digest_size digest_in (number_in 4 behind) (drop 4 behind) in
     let m : c.number_4.result ≡ number_in 4 behind = c.number_4.ensures ∙ ap (number_in 4) there in
     let items : c.sections_sum-sum.result.items ≡ sum_by items_of_section (parts_in (section_size present) (section_in present) (met_in bytes) (drop (sections_place bytes) bytes)) =
-        c.sections_sum-sum.ensures.items ∙ ap₃ (λ p n xs. sum_by items_of_section (parts_in (section_size p) (section_in p) n xs)) c.requires.present met last in
+    c.sections_sum-sum.ensures.items ∙ ap₃ (λ p n xs. sum_by items_of_section (parts_in (section_size p) (section_in p) n xs)) c.requires.present met last in
     record {
       doc_digests = λ _. doc_digests;
       sections = λ _. sections;

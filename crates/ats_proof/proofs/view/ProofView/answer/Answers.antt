@@ -25,5 +25,5 @@ returns-clause-row c =
     let count = length-parts id_size id_in (number_in 2 rows) (drop 2 rows) in
     let within : c.args.i < number_in 2 rows = omega (arith, c.requires.within, count) in
     let start : c.split_at.result.1.now ≡ drop 2 rows =
-        c.split_at.ensures.back ∙ ap (λ (n : ℕ). drop (n + 2) bytes) (answer_at c.args.self.now) ∙ sym (drop-drop 2 place bytes) in
+    c.split_at.ensures.back ∙ ap (λ (n : ℕ). drop (n + 2) bytes) (answer_at c.args.self.now) ∙ sym (drop-drop 2 place bytes) in
     rw (c.number_4.ensures, c.nth.ensures.part, start) (part_at 4 id_in (number_in 2 rows) c.args.i (drop 2 rows) within)

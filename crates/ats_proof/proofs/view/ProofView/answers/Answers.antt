@@ -10,5 +10,5 @@ returns c =
     let bytes = c.args.self.now.bytes.now in
     let rows = drop (answer_place (is_tra bytes) bytes) bytes in
     let number : c.from.result ≡ number_in 2 rows =
-        c.from.ensures ∙ c.number_2.ensures ∙ ap (number_in 2) (c.split_at.ensures.back ∙ ap (λ (n : ℕ). drop n bytes) (answer_at c.args.self.now)) in
+    c.from.ensures ∙ c.number_2.ensures ∙ ap (number_in 2) (c.split_at.ensures.back ∙ ap (λ (n : ℕ). drop n bytes) (answer_at c.args.self.now)) in
     number ∙ sym (length-parts id_size id_in (number_in 2 rows) (drop 2 rows))

@@ -25,7 +25,7 @@ returns-clause-id c =
     let ids = drop (met_place bytes) bytes in
     let within : c.args.i < met_in bytes = omega (arith, c.requires.within, length-parts id_size id_in (met_in bytes) (drop 4 ids)) in
     let start : c.split_at.result.1.now ≡ drop 4 ids =
-        c.split_at.ensures.back ∙ ap (λ (n : ℕ). drop (n + 4) bytes) view.placed.first.met_at ∙ sym (drop-drop 4 (met_place bytes) bytes) in
+    c.split_at.ensures.back ∙ ap (λ (n : ℕ). drop (n + 4) bytes) view.placed.first.met_at ∙ sym (drop-drop 4 (met_place bytes) bytes) in
     rw (c.split_at-2.ensures.front, c.nth.ensures.part, start) (part_at 4 id_in (met_in bytes) c.args.i (drop 4 ids) within)
 
 pub returns-clause-lent : goal.returns-clause-lent

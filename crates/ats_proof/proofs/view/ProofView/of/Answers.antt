@@ -53,7 +53,7 @@ overflow_add-docs c =
     let begun = c.of-begun.ensures in
     let there : c.split_at-2.result.1.now ≡ drop (lists_place bytes) bytes = c.split_at-2.ensures.back ∙ ap (λ (n : ℕ). drop n bytes) begun.lists in
     let size : c.lists_sum-lists.result.size ≡ total_size prefix_size (present_in (slots_in bytes)) (drop (lists_place bytes) bytes) =
-        c.lists_sum-lists.ensures.size ∙ ap₂ (λ n xs. total_size prefix_size n xs) begun.present there in
+    c.lists_sum-lists.ensures.size ∙ ap₂ (λ n xs. total_size prefix_size n xs) begun.present there in
     omega (arith, begun.lists, size, w.room.docs, w.room.few)
 
 pub of-ended-requires-clause-room : goal.of-ended-requires-clause-room
@@ -71,7 +71,7 @@ of-ended-requires-clause-docs c =
     let begun = c.of-begun.ensures in
     let there : c.split_at-2.result.1.now ≡ drop (lists_place bytes) bytes = c.split_at-2.ensures.back ∙ ap (λ (n : ℕ). drop n bytes) begun.lists in
     let size : c.lists_sum-lists.result.size ≡ total_size prefix_size (present_in (slots_in bytes)) (drop (lists_place bytes) bytes) =
-        c.lists_sum-lists.ensures.size ∙ ap₂ (λ n xs. total_size prefix_size n xs) begun.present there in
+    c.lists_sum-lists.ensures.size ∙ ap₂ (λ n xs. total_size prefix_size n xs) begun.present there in
     ap₂ (λ (m n : ℕ). m + n) begun.lists size
 
 pub split_at-requires-5 : goal.split_at-requires-5
@@ -82,7 +82,7 @@ split_at-requires-5 c =
     let begun = c.of-begun.ensures in
     let there : c.split_at-2.result.1.now ≡ drop (lists_place bytes) bytes = c.split_at-2.ensures.back ∙ ap (λ (n : ℕ). drop n bytes) begun.lists in
     let size : c.lists_sum-lists.result.size ≡ total_size prefix_size (present_in (slots_in bytes)) (drop (lists_place bytes) bytes) =
-        c.lists_sum-lists.ensures.size ∙ ap₂ (λ n xs. total_size prefix_size n xs) begun.present there in
+    c.lists_sum-lists.ensures.size ∙ ap₂ (λ n xs. total_size prefix_size n xs) begun.present there in
     let tra : nat_eq c.number_1-tra.result 1 ≡ is_tra bytes = ap (λ (n : ℕ). n == 1) (c.number_1-tra.ensures ∙ ap (number_in 1) c.split_at.ensures.back) in
     let ended = c.of-ended.ensures.ended in
     let answer : c.of-ended.result.answer ≡ answer_place (is_tra bytes) bytes = ended.answer ∙ ap (λ (t : Bool). answer_place t bytes) tra in
@@ -96,7 +96,7 @@ number_2-requires-3 c =
     let begun = c.of-begun.ensures in
     let there : c.split_at-2.result.1.now ≡ drop (lists_place bytes) bytes = c.split_at-2.ensures.back ∙ ap (λ (n : ℕ). drop n bytes) begun.lists in
     let size : c.lists_sum-lists.result.size ≡ total_size prefix_size (present_in (slots_in bytes)) (drop (lists_place bytes) bytes) =
-        c.lists_sum-lists.ensures.size ∙ ap₂ (λ n xs. total_size prefix_size n xs) begun.present there in
+    c.lists_sum-lists.ensures.size ∙ ap₂ (λ n xs. total_size prefix_size n xs) begun.present there in
     let tra : nat_eq c.number_1-tra.result 1 ≡ is_tra bytes = ap (λ (n : ℕ). n == 1) (c.number_1-tra.ensures ∙ ap (number_in 1) c.split_at.ensures.back) in
     let ended = c.of-ended.ensures.ended in
     let answer : c.of-ended.result.answer ≡ answer_place (is_tra bytes) bytes = ended.answer ∙ ap (λ (t : Bool). answer_place t bytes) tra in
@@ -125,7 +125,7 @@ invariant_of-result c =
     let begun = c.of-begun.ensures in
     let there : c.split_at-2.result.1.now ≡ drop (lists_place bytes) bytes = c.split_at-2.ensures.back ∙ ap (λ (n : ℕ). drop n bytes) begun.lists in
     let size : c.lists_sum-lists.result.size ≡ total_size prefix_size (present_in (slots_in bytes)) (drop (lists_place bytes) bytes) =
-        c.lists_sum-lists.ensures.size ∙ ap₂ (λ n xs. total_size prefix_size n xs) begun.present there in
+    c.lists_sum-lists.ensures.size ∙ ap₂ (λ n xs. total_size prefix_size n xs) begun.present there in
     let tra : nat_eq c.number_1-tra.result 1 ≡ is_tra bytes = ap (λ (n : ℕ). n == 1) (c.number_1-tra.ensures ∙ ap (number_in 1) c.split_at.ensures.back) in
     let ended = c.of-ended.ensures.ended in
     let answer : c.of-ended.result.answer ≡ answer_place (is_tra bytes) bytes = ended.answer ∙ ap (λ (t : Bool). answer_place t bytes) tra in
@@ -138,7 +138,7 @@ invariant_of-result c =
     let digests : c.number_2-2.result ≡ number_in 2 second = c.number_2-2.ensures ∙ ap (number_in 2) (c.split_at-4.ensures.back ∙ ap (λ (n : ℕ). drop n bytes) begun.dict_digests) in
     let rows : c.number_2-3.result ≡ number_in 2 fifth = c.number_2-3.ensures ∙ ap (number_in 2) last in
     let lists : c.lists_sum-lists.result.items ≡ sum_by items_of_prefix (proof_in bytes).lists =
-        c.lists_sum-lists.ensures.items ∙ ap₂ (λ n xs. sum_by items_of_prefix (parts_in prefix_size prefix_in n xs)) begun.present there in
+    c.lists_sum-lists.ensures.items ∙ ap₂ (λ n xs. sum_by items_of_prefix (parts_in prefix_size prefix_in n xs)) begun.present there in
     let docs : c.of-ended.result.items ≡ items_of_documents (proof_in bytes).docs = ended.items ∙ ap (λ (t : Bool). items_of_documents (documents_in t bytes)) tra in
     let l1 = length-parts entry_size entry_in (number_in 2 first) (drop 2 first) in
     let l2 = length-parts digest_size digest_in (number_in 2 second) (drop 2 second) in
@@ -157,8 +157,8 @@ invariant_of-result c =
       };
     }
 
-pub returns : goal.returns
-returns c =
+pub returns-clause-proof : goal.returns-clause-proof
+returns-clause-proof c =
     let bytes = c.args.bytes.now in
     let small : AreBytes bytes = λ i. let h = c.type_inv.bytes i in omega (arith, h) in
-    record { proof = (whole bytes small c.requires).is }
+    (whole bytes small c.requires).is

@@ -111,9 +111,9 @@ returns-clause-documents c =
     let docs : parts_in doc_size doc_in view.begun.met c.split_at-2.result.1.now ≡ parts_in doc_size doc_in (met_in bytes) (drop (docs_place bytes) bytes) = ap₂ (λ n xs. parts_in doc_size doc_in n xs) met leaves in
     let digests : c.split_at-3.result.1.now ≡ drop (doc_digests_place bytes) bytes = c.split_at-3.ensures.back ∙ digests_start view tra in
     let shown : parts_in digest_size digest_in c.counted_digests_4.result.0.left c.counted_digests_4.result.0.bytes.now ≡ counted_in 4 digest_size digest_in (drop (doc_digests_place bytes) bytes) =
-        c.counted_digests_4.ensures.digests ∙ ap (counted_in 4 digest_size digest_in) digests in
+    c.counted_digests_4.ensures.digests ∙ ap (counted_in 4 digest_size digest_in) digests in
     let last : parts_in (section_size view.begun.present) (section_in view.begun.present) view.begun.met c.split_at-4.result.1.now ≡ parts_in (section_size (present_in (slots_in bytes))) (section_in (present_in (slots_in bytes))) (met_in bytes) (drop (sections_place bytes) bytes) =
-        ap (λ p. parts_in (section_size p) (section_in p) view.begun.met c.split_at-4.result.1.now) present ∙ ap₂ (λ n xs. parts_in (section_size (present_in (slots_in bytes))) (section_in (present_in (slots_in bytes))) n xs) met sections in
+    ap (λ p. parts_in (section_size p) (section_in p) view.begun.met c.split_at-4.result.1.now) present ∙ ap₂ (λ n xs. parts_in (section_size (present_in (slots_in bytes))) (section_in (present_in (slots_in bytes))) n xs) met sections in
     ap (λ (t : Bool). documents_in t bytes) (is_true view tra)
     ∙ ap₂ (λ (a : List DocLeaf) (b : List (List ℕ)). let d : Documents = record { leaves = a; digests = b; sections = parts_in (section_size (present_in (slots_in bytes))) (section_in (present_in (slots_in bytes))) (met_in bytes) (drop (sections_place bytes) bytes) } in Some d) (sym docs) (sym shown)
     ∙ ap (λ (e : List TermsSection). let d : Documents = record { leaves = parts_in doc_size doc_in view.begun.met c.split_at-2.result.1.now; digests = parts_in digest_size digest_in c.counted_digests_4.result.0.left c.counted_digests_4.result.0.bytes.now; sections = e } in Some d) (sym last)

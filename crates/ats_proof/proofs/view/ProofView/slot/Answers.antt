@@ -16,4 +16,3 @@ slot_at-requires-clause-room c =
     let bytes = view.bytes.now in
     let threes = total_fixed 3 (λ b. b) (terms_in bytes) (drop (slots_place bytes) bytes) in
     rw c.split_at.ensures.back (omega (arith, view.placed.first.terms, view.placed.first.slots, threes, view.placed.room.docs, length-drop view.begun.slots bytes))
-
