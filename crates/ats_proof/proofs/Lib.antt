@@ -12,3 +12,4 @@ pub mod Answering
 pub mod Encoding
 pub mod Documents
 pub mod Showing
+pub mod Unique
