@@ -9,6 +9,7 @@
 //! passes leaves and entries are read, and what the marks note beside the bounds, may change without asking.
 #![tactic(auto)]
 
+mod opening;
 mod refusal;
 
 pub use refusal::Refusal;
