@@ -5,3 +5,5 @@ pub mod Groups
 pub mod Accepts
 pub mod Marked
 pub mod Rows
+pub mod Seen
+pub mod Walked

@@ -9,7 +9,10 @@
 //! passes leaves and entries are read, and what the marks note beside the bounds, may change without asking.
 #![tactic(auto)]
 
+mod leaf;
 mod opening;
 mod refusal;
+mod slots;
+mod walk;
 
 pub use refusal::Refusal;

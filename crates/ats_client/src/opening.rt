@@ -51,10 +51,7 @@ pub(crate) fn opened<H: Hash32>(
 }
 
 /// Tries that the dictionary section is part of the header's dictionary.
-pub(crate) fn dictionary<H: Hash32>(
-    proof: &ProofView<'_>,
-    steps: &mut Steps,
-) -> Result<(), Refusal>
+pub(crate) fn dictionary<H: Hash32>(proof: &ProofView<'_>, steps: &mut Steps) -> Result<(), Refusal>
     requires room { steps.old ≤ 2 ^ 63 }
     ensures kept { OnOk result (IsDictionary H.hash (proof_of proof.now)) }
     ensures fault { IfErr result (IsDictFault H.hash (proof_of proof.now)) }
