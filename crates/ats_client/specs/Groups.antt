@@ -1,5 +1,5 @@
 -- The rules of a proof, group by group: when a group is kept, and else its first failure.
-use Rattle.std.specs.Prelude.{◌≡◌, ◌≢◌, ◌<◌, ◌∷◌, ◌++◌, ℕ, List, [], length, map, slice_index_or, Option, Some, None, false}
+use Rattle.std.specs.Prelude.{◌≡◌, ◌≢◌, ◌⊎◌, ◌<◌, ◌∷◌, ◌++◌, ℕ, List, [], length, map, slice_index_or, Option, Some, None, false}
 use Rattle.std.specs.List.{All}
 use Rattle.ats_tree.specs.Rebuild.{rebuilt}
 use Rattle.ats_lists.specs.declared.entry.Entry.{Entry}
@@ -98,15 +98,23 @@ pub record IsListRight (H : List ℕ → List ℕ) (met : List ℕ) (term : Pres
 abbrev pub AreListsRight : (List ℕ → List ℕ) → List (List ℕ × ℕ) → Proof → Type 0
 AreListsRight H query proof = All (IsListRight H proof.met) (presented query proof)
 
--- the first failure of one present term: its entries come before its digests
+-- the first entry of a prefix that fails
+abbrev pub IsEntryFault : ℕ → Presented → Refusal → Type 0
+IsEntryFault met one (IndexOut term entry) = (term ≡ one.number) × IsOut met (indexes_of one.prefix.entries) entry
+IsEntryFault met one (Repeated term entry) = (term ≡ one.number) × IsAgain met (indexes_of one.prefix.entries) entry
+IsEntryFault met one _ = ⊥
+
+-- how its digest fails
+abbrev pub IsListRootFault : (List ℕ → List ℕ) → List ℕ → Presented → Refusal → Type 0
+IsListRootFault H met one (ListMisfit term) = (term ≡ one.number) × (list_digest H met one ≡ None)
+IsListRootFault H met one (ListRoot term) = (term ≡ one.number) × IsOther (list_digest H met one) one.entry.root
+IsListRootFault H met one _ = ⊥
+
+-- the first failure of one present term: its entries come before its digest
 abbrev pub IsListFault : (List ℕ → List ℕ) → List ℕ → Presented → Refusal → Type 0
-IsListFault H met one (IndexOut term entry) = (term ≡ one.number) × IsOut (length met) (indexes_of one.prefix.entries) entry
-IsListFault H met one (Repeated term entry) = (term ≡ one.number) × IsAgain (length met) (indexes_of one.prefix.entries) entry
-IsListFault H met one (ListMisfit term) =
-    (term ≡ one.number) × AreNames (length met) (indexes_of one.prefix.entries) × (list_digest H met one ≡ None)
-IsListFault H met one (ListRoot term) =
-    (term ≡ one.number) × AreNames (length met) (indexes_of one.prefix.entries) × IsOther (list_digest H met one) one.entry.root
-IsListFault H met one _ = ⊥
+IsListFault H met one refusal =
+    IsEntryFault (length met) one refusal
+    ⊎ (AreNames (length met) (indexes_of one.prefix.entries) × IsListRootFault H met one refusal)
 
 -- the first failure of the present terms, term by term
 pub record IsListsFault (H : List ℕ → List ℕ) (query : List (List ℕ × ℕ)) (proof : Proof) (refusal : Refusal) : Type 0 where

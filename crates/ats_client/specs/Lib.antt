@@ -7,3 +7,5 @@ pub mod Marked
 pub mod Rows
 pub mod Seen
 pub mod Walked
+pub mod Noting
+pub mod Lists

@@ -10,7 +10,9 @@
 #![tactic(auto)]
 
 mod leaf;
+mod marking;
 mod opening;
+mod present;
 mod refusal;
 mod slots;
 mod walk;
