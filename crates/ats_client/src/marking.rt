@@ -1,11 +1,11 @@
 //! The entries of a prefix, noted in the marks of their documents.
 
-ghost use Rattle.std.specs.Prelude.{◌≡◌, ◌≢◌, ◌<◌, ◌≤◌, ◌+◌, ◌*◌, ◌^◌, ◌↔◌, List, [], length, slice_set, IsTrue, OnOk, IfErr};
+ghost use Rattle.std.specs.Prelude.{◌≡◌, ◌≢◌, ◌<◌, ◌≤◌, ◌+◌, ◌*◌, ◌^◌, ◌↔◌, ◌++◌, List, [], length, map, slice_set, IsTrue, OnOk, IfErr};
 ghost use Rattle.ats_bound.specs.Work.{mark_at};
 ghost use Rattle.ats_bound.specs.Cut.{rest_impact};
 ghost use Rattle.ats_client.specs.Indexes.{AreNames};
 ghost use Rattle.ats_client.specs.Groups.{IsEntryFault, indexes_of};
-ghost use Rattle.ats_client.specs.Noting.{Note, with_note, AreNotes};
+ghost use Rattle.ats_client.specs.Noting.{Note, note, with_note, AreNotes};
 ghost use Rattle.ats_client.specs.Lists.{prefix_of, presented_of};
 
 use crate::present::Present;
@@ -59,4 +59,54 @@ fn noted(
     };
     work.put(index, mark, steps);
     true
+}
+
+/// A coefficient times an impact.
+pub(crate) fn weighed(coefficient: u32, impact: u16) -> u64
+    requires { coefficient ≤ 2 ^ 17 }
+    ensures value { result ≡ coefficient * impact }
+    ensures small { result ≤ 2 ^ 33 }
+{
+    u64::from(coefficient) * u64::from(impact)
+}
+
+/// Notes the entries of a prefix, until one fails.
+#[tactic(auto, unfolding(crate::specs::Lists::prefix_of))]
+pub(crate) fn entries(
+    one: &Present<'_>,
+    met: u32,
+    coefficient: u32,
+    cover: u64,
+    work: &mut Work,
+    steps: &mut Steps,
+) -> Result<(), Refusal>
+    requires number { one.now.number < 32 }
+    requires coefficient { coefficient ≤ 2 ^ 17 }
+    requires cover { cover ≤ 2 ^ 33 }
+    requires notes { (notes : List Note) × AreNotes met notes (one.now.number + 1) [] work.old.marks }
+    requires room { steps.old ≤ 2 ^ 62 + 2 ^ 50 }
+    ensures fault { IfErr result (IsEntryFault met (presented_of one.now)) }
+    ensures names { OnOk result (AreNames met (indexes_of (prefix_of one.now.list).entries)) }
+    ensures notes { OnOk result ((notes : List Note) → AreNotes met notes (one.now.number + 1) [] work.old.marks
+        → AreNotes met (notes ++ map (note coefficient cover) (prefix_of one.now.list).entries) (one.now.number + 1) (indexes_of (prefix_of one.now.list).entries) work.new.marks) }
+    ensures room { work.new.room ≡ work.old.room }
+    ensures cost { steps.new ≤ steps.old + 2 ^ 34 }
+{
+    for i in 0..one.list.len() {
+        let entry = one.list.entry(i, steps);
+        if entry.doc >= met {
+            return Err(Refusal::IndexOut {
+                term: one.number,
+                entry: i,
+            });
+        }
+        let gain = weighed(coefficient, entry.impact);
+        if !noted(work, entry.doc, one.number + 1, gain, cover, steps) {
+            return Err(Refusal::Repeated {
+                term: one.number,
+                entry: i,
+            });
+        }
+    }
+    Ok(())
 }
