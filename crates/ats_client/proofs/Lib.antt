@@ -1,3 +1,5 @@
 pub mod Walks
 pub mod Slotted
 pub mod Marks
+pub mod Listed
+pub mod Presents

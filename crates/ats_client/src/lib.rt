@@ -10,9 +10,11 @@
 #![tactic(auto)]
 
 mod leaf;
+mod listing;
 mod marking;
 mod opening;
 mod present;
+mod presenting;
 mod refusal;
 mod slots;
 mod walk;
