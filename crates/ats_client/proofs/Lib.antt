@@ -3,3 +3,4 @@ pub mod Slotted
 pub mod Marks
 pub mod Listed
 pub mod Presents
+pub mod Passing

@@ -1,5 +1,5 @@
 -- The present terms from a number on.
-use Rattle.std.proofs.Common.{◌≡◌, ◌<◌, ◌≤◌, ◌+◌, ◌∙◌, ℕ, suc, Bool, true, false, List, [], ◌∷◌, length, map, drop, get_or, slice_get, Option, Some, None, option_map, refl, sym, ap, ap₂, subst, arith, drop-cons, add-one, cond}
+use Rattle.std.proofs.Common.{◌≡◌, ◌<◌, ◌≤◌, ◌+◌, ◌∙◌, ℕ, suc, Bool, true, false, not, List, [], ◌∷◌, length, map, drop, get_or, slice_get, Option, Some, None, option_map, refl, sym, ap, ap₂, subst, arith, drop-cons, add-one, cond}
 use Rattle.std.specs.List.{sum_by}
 use Rattle.std.proofs.lemmas.List.{length-drop}
 use Rattle.std.proofs.lemmas.List.Sums.{sum_by-cons}
@@ -26,15 +26,16 @@ none_present dict i query slots left pair slot is is_slot absent =
     ∙ ap (λ b. cond b (record { number = i; weight = pair.1; entry = entry_at dict slot.index; prefix = first_prefix left } ∷ presented_from dict (i + 1) (drop (i + 1) query) (drop (i + 1) slots) (drop 1 left))
         (presented_from dict (i + 1) (drop (i + 1) query) (drop (i + 1) slots) left)) absent
 
-pub one_present : (dict : List ShownEntry) (i : ℕ) (query : List (List ℕ × ℕ)) (slots : List Slot) (left : List Prefix) (pair : List ℕ × ℕ) (slot : Slot) (one : Presented)
+pub one_present : (dict : List ShownEntry) (i : ℕ) (query : List (List ℕ × ℕ)) (slots : List Slot) (left after : List Prefix) (pair : List ℕ × ℕ) (slot : Slot) (one : Presented)
     → slice_get query i ≡ Some pair → slice_get slots i ≡ Some slot → slot.present ≡ true
     → one ≡ record { number = i; weight = pair.1; entry = entry_at dict slot.index; prefix = first_prefix left }
-    → presented_from dict i (drop i query) (drop i slots) left ≡ one ∷ presented_from dict (i + 1) (drop (i + 1) query) (drop (i + 1) slots) (drop 1 left)
-one_present dict i query slots left pair slot one is is_slot present same =
+    → after ≡ drop 1 left
+    → presented_from dict i (drop i query) (drop i slots) left ≡ one ∷ presented_from dict (i + 1) (drop (i + 1) query) (drop (i + 1) slots) after
+one_present dict i query slots left after pair slot one is is_slot present same passed =
     ap₂ (λ q s. presented_from dict i q s left) (at_front query i pair is) (at_front slots i slot is_slot)
     ∙ ap (λ b. cond b (record { number = i; weight = pair.1; entry = entry_at dict slot.index; prefix = first_prefix left } ∷ presented_from dict (i + 1) (drop (i + 1) query) (drop (i + 1) slots) (drop 1 left))
         (presented_from dict (i + 1) (drop (i + 1) query) (drop (i + 1) slots) left)) present
-    ∙ ap (λ p. p ∷ presented_from dict (i + 1) (drop (i + 1) query) (drop (i + 1) slots) (drop 1 left)) (sym same)
+    ∙ ap₂ (λ p more. p ∷ presented_from dict (i + 1) (drop (i + 1) query) (drop (i + 1) slots) more) (sym same) (sym passed)
 
 pub entry_there : (dict : List ShownEntry) (place : ℕ) (e : ShownEntry) → Some e ≡ slice_get dict place → e.entry ≡ entry_at dict place
 entry_there dict place e is =
@@ -82,3 +83,19 @@ pub has_prefix : (slots : List Slot) (i : ℕ) (left : List Prefix) (slot : Slot
 has_prefix slots i [] slot is present all none =
     let some = some_left slots i 0 slot is present all in omega (arith, some)
 has_prefix slots i (p ∷ left) slot is present all none = cc
+
+pub same_one : (i weight weight' : ℕ) (entry entry' : DictEntry) (prefix prefix' : Prefix) → weight ≡ weight' → entry ≡ entry' → prefix ≡ prefix'
+    → (let one : Presented = record { number = i; weight = weight; entry = entry; prefix = prefix } in one)
+    ≡ (let other : Presented = record { number = i; weight = weight'; entry = entry'; prefix = prefix' } in other)
+same_one i weight weight' entry entry' prefix prefix' same_weight same_entry same_prefix =
+    ap (λ w. let one : Presented = record { number = i; weight = w; entry = entry; prefix = prefix } in one) same_weight
+    ∙ ap (λ e. let one : Presented = record { number = i; weight = weight'; entry = e; prefix = prefix } in one) same_entry
+    ∙ ap (λ p. let one : Presented = record { number = i; weight = weight'; entry = entry'; prefix = p } in one) same_prefix
+
+pub not_false : (b : Bool) → not b ≡ false → b ≡ true
+not_false true is = refl
+not_false false is = absurd (cc)
+
+pub not_true : (b : Bool) → not b ≡ true → b ≡ false
+not_true true is = absurd (cc)
+not_true false is = refl

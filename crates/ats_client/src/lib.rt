@@ -11,6 +11,7 @@
 
 mod leaf;
 mod listing;
+mod lists;
 mod marking;
 mod opening;
 mod present;
