@@ -9,6 +9,8 @@
 //! passes leaves and entries are read, and what the marks note beside the bounds, may change without asking.
 #![tactic(auto)]
 
+mod met;
 mod refusal;
+mod rows;
 
 pub use refusal::Refusal;
