@@ -5,3 +5,4 @@ pub mod Groups
 pub mod Accepts
 pub mod Marked
 pub mod Rows
+pub mod Bounds

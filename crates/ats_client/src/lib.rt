@@ -9,8 +9,11 @@
 //! passes leaves and entries are read, and what the marks note beside the bounds, may change without asking.
 #![tactic(auto)]
 
+mod answer;
 mod met;
 mod refusal;
 mod rows;
+mod settled;
 
+pub use answer::row;
 pub use refusal::Refusal;
