@@ -4,3 +4,5 @@ pub mod Marks
 pub mod Listed
 pub mod Presents
 pub mod Passing
+pub mod Noting
+pub mod Bounding

@@ -9,3 +9,4 @@ pub mod Seen
 pub mod Walked
 pub mod Noting
 pub mod Lists
+pub mod Bounds

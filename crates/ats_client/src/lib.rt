@@ -9,15 +9,20 @@
 //! passes leaves and entries are read, and what the marks note beside the bounds, may change without asking.
 #![tactic(auto)]
 
+mod answer;
 mod leaf;
 mod listing;
 mod lists;
 mod marking;
+mod met;
 mod opening;
 mod present;
 mod presenting;
 mod refusal;
+mod rows;
+mod settled;
 mod slots;
 mod walk;
 
+pub use answer::row;
 pub use refusal::Refusal;
