@@ -3,6 +3,7 @@ pub mod Slotted
 pub mod Marks
 pub mod Listed
 pub mod Presents
+pub mod Lanes
 pub mod Passing
 pub mod Noting
 pub mod Bounding
