@@ -4,7 +4,8 @@ use Rattle.std.specs.List.{All, list_any, sum_by}
 use Rattle.std.specs.List.Sorted.{IsStrictlyIncreasing}
 use Rattle.std.proofs.lemmas.Bool.{cases_order}
 use Rattle.std.proofs.lemmas.Bool.Decides.{nat_tests}
-use Rattle.std.proofs.lemmas.List.{length-map, map-map}
+use Rattle.std.proofs.lemmas.List.{length-map}
+use Rattle.std.proofs.lemmas.Simd.{map-map}
 use Rattle.std.proofs.lemmas.List.Elements.{All-head, All-tail}
 use Rattle.std.proofs.lemmas.List.Folds.{list_any-append}
 use Rattle.std.proofs.lemmas.List.Kept.{AllPairs-from_increasing}
@@ -47,7 +48,7 @@ cover_step : (here later : Bool) (cover others n m : ℕ) → n ≡ cond here 1 
     → cond here cover 0 + others ≡ cond (here || later) cover 0
 cover_step true true cover others n m is once some all = let more = some refl in absurd (omega (arith, is, once, more))
 cover_step true false cover others n m is once some all = omega (arith, all)
-cover_step false later cover others n m is once some all = all
+cover_step false later cover others n m is once some all = omega (arith, all)
 
 any_index : (i : ℕ) (entries : List Entry) → list_any (λ (e : Entry). nat_eq e.doc i) entries ≡ list_any (λ x. nat_eq x i) (indexes_of entries)
 any_index i [] = refl

@@ -10,6 +10,7 @@
 #![tactic(auto)]
 
 mod answer;
+mod checking;
 mod leaf;
 mod listing;
 mod lists;
@@ -25,4 +26,5 @@ mod slots;
 mod walk;
 
 pub use answer::row;
+pub use checking::check;
 pub use refusal::Refusal;
