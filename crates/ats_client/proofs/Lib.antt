@@ -7,3 +7,4 @@ pub mod Lanes
 pub mod Passing
 pub mod Noting
 pub mod Bounding
+pub mod Exact

@@ -24,12 +24,8 @@ use ats_impact::Top;
 use ats_proof::ProofView;
 use ats_terms::Query;
 
-/// Tries whether a proof shows that its answer is right: the best `top` documents for the query in the
-/// collection that the root commits to. It answers what any document that no entry names can score, at
-/// most, or the first rule that the proof does not keep.
-///
-/// The marks are begun anew; what stood there before does not matter. After a refusal they are any.
-pub fn check<'a, H: Hash32>(
+// The check, group by group.
+fn checked<'a, H: Hash32>(
     root: &[u8; 32],
     query: &Query,
     top: Top,
@@ -37,7 +33,6 @@ pub fn check<'a, H: Hash32>(
     work: &mut Work,
     steps: &mut Steps,
 ) -> Result<u64, Refusal>
-    requires algorithm { algorithm_of (proof_of proof.now) ≡ Tnra }
     requires work { length (proof_of proof.now).met ≤ work.old.room }
     requires count { steps.old ≤ 2 ^ 62 }
     ensures accepts { OnOk result (Accepts H.hash root.now query.now top (proof_of proof.now)) }
@@ -57,4 +52,31 @@ pub fn check<'a, H: Hash32>(
         return Err(Refusal::NotSettled);
     }
     Ok(limit)
+}
+
+/// Tries whether a proof shows that its answer is right: the best `top` documents for the query in the
+/// collection that the root commits to. It answers what any document that no entry names can score, at
+/// most, or the first rule that the proof does not keep.
+///
+/// The marks are begun anew; what stood there before does not matter. After a refusal they are any.
+pub fn check<'a, H: Hash32>(
+    root: &[u8; 32],
+    query: &Query,
+    top: Top,
+    proof: &ProofView<'a>,
+    work: &mut Work,
+    steps: &mut Steps,
+) -> Result<u64, Refusal>
+    requires algorithm { algorithm_of (proof_of proof.now) ≡ Tnra }
+    requires work { length (proof_of proof.now).met ≤ work.old.room }
+    requires count { steps.old ≤ 2 ^ 62 }
+    ensures accepts { OnOk result (Accepts H.hash root.now query.now top (proof_of proof.now)) }
+    ensures exact { Accepts H.hash root.now query.now top (proof_of proof.now) → IsOk result }
+    ensures limit { IfOk result (λ limit. limit ≡ threshold (lanes_of query.now (proof_of proof.now))) }
+    ensures marks { OnOk result (AreMarks (lanes_of query.now (proof_of proof.now)) (proof_of proof.now).met work.new.marks) }
+    ensures left { IfOk result (λ limit. IsLeft query.now (proof_of proof.now) work.new.marks limit) }
+    ensures refused { IfErr result (λ refusal. IsFirstRefusal H.hash root.now query.now top (proof_of proof.now) refusal) }
+    ensures room { work.new.room ≡ work.old.room }
+{
+    checked::<H>(root, query, top, proof, work, steps)
 }

@@ -20,6 +20,7 @@ pub(crate) fn met(proof: &ProofView<'_>, work: &Work, steps: &mut Steps) -> Resu
     ensures unmet { IfErr result (λ refusal. (lanes : List ShownLane) → AreMarks lanes (proof_of proof.now).met work.now.marks → IsMetFault lanes (proof_of proof.now).met refusal) }
     ensures least { steps.old ≤ steps.new }
     ensures most { steps.new ≤ steps.old + length (proof_of proof.now).met }
+    ensures bound { steps.new ≤ steps.old + 2 ^ 32 }
 {
     for index in 0..proof.met() {
         if work.get(index, steps).list == 0 {

@@ -59,6 +59,7 @@ pub(crate) fn rows(proof: &ProofView<'_>, work: &mut Work, steps: &mut Steps) ->
     ensures room { work.new.room ≡ work.old.room }
     ensures least { steps.old ≤ steps.new }
     ensures most { steps.new ≤ steps.old + 3 * length (proof_of proof.now).answer }
+    ensures bound { steps.new ≤ steps.old + 2 ^ 34 }
 {
     for row in 0..proof.answers() {
         read_row(proof, row, work, steps)?;
