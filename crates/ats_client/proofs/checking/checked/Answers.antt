@@ -1,13 +1,29 @@
-use Rattle.std.proofs.Common.{◌≡◌, ◌≤◌, ◌+◌, ◌∙◌, ℕ, List, arith, inl, inr}
+use Rattle.std.proofs.Common.{◌≡◌, ◌≤◌, ◌+◌, ◌∙◌, ℕ, List, Result, sym, subst, arith, inl, inr}
+use Rattle.std.specs.Result.{IfErr}
+use Rattle.std.proofs.lemmas.Result.{err_from_is_err_and}
 use Rattle.ats_bound.specs.Cut.{ShownLane}
 use Rattle.ats_proof.specs.Value.{Proof}
 use Rattle.ats_proof.specs.Views.{proof_of}
 use Rattle.ats_client.specs.Presented.{lanes_of}
+use Rattle.ats_client.specs.declared.refusal.Refusal.{Refusal}
+use Rattle.ats_client.specs.Accepts.{IsFirstRefusal}
 use Rattle.ats_client.specs.Groups.{IsAnswerSettled}
 use Rattle.ats_client.proofs.checking.checked.Goals as goal
 
 pub returns-in_err-met-clause-refused : goal.returns-in_err-met-clause-refused
-returns-in_err-met-clause-refused g c = let e = c.from_residual-in_err-met.ensures in let f = c.in_err-met.is in let w = c.in_err-met.was in ?
+returns-in_err-met-clause-refused g c =
+    let proof : Proof = proof_of c.args.proof.now in
+    let lanes : List ShownLane = lanes_of c.args.query.now proof in
+    let fault : IsFirstRefusal g.H.HashKind.hash c.args.root.now c.args.query.now c.args.top proof c.in_err-met.field-0.0 =
+        inr (c.in_ok-opened.ensures.kept,
+        inr (c.in_ok-dictionary.ensures.kept,
+        inr (c.in_ok-slots.ensures.kept,
+        inr (c.in_ok-limit.ensures.right,
+        inl (c.in_err-met.ensures.unmet lanes c.in_ok-limit.ensures.marks))))) in
+    let told = err_from_is_err_and c.from_residual-in_err-met.result c.from_residual-in_err-met.ensures.1 in
+    let same : told.0 ≡ c.in_err-met.field-0.0 = told.2 in
+    subst (λ (r : Result ℕ Refusal). IfErr r (λ refusal. IsFirstRefusal g.H.HashKind.hash c.args.root.now c.args.query.now c.args.top proof refusal)) (sym told.1)
+    (subst (λ (refusal : Refusal). IsFirstRefusal g.H.HashKind.hash c.args.root.now c.args.query.now c.args.top proof refusal) (sym same) fault)
 
 pub rows-requires-clause-count : goal.rows-requires-clause-count
 rows-requires-clause-count g c =
