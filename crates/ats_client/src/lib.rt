@@ -10,6 +10,8 @@
 #![tactic(auto)]
 
 mod answer;
+#[cfg(test)]
+mod marks_tests;
 mod met;
 mod refusal;
 mod rows;
