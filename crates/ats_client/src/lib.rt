@@ -15,6 +15,8 @@ mod leaf;
 mod listing;
 mod lists;
 mod marking;
+#[cfg(test)]
+mod marks_tests;
 mod met;
 mod opening;
 mod present;
@@ -23,6 +25,8 @@ mod refusal;
 mod rows;
 mod settled;
 mod slots;
+#[cfg(test)]
+mod tests;
 mod walk;
 
 pub use answer::row;
