@@ -63,9 +63,9 @@ cover_entries c cover i [] once = refl
 cover_entries c cover i (e ∷ entries) once =
     sum_by-cons (λ (n : Note). cond (nat_eq n.index i) n.cover 0) (note c cover e) (map (note c cover) entries)
     ∙ cover_step (nat_eq e.doc i) (list_any (λ (e : Entry). nat_eq e.doc i) entries) cover (cover_of i (map (note c cover) entries))
-        (times i (indexes_of (e ∷ entries))) (times i (indexes_of entries)) (times-cons i e.doc (indexes_of entries)) once
-        (λ there. any_some i (indexes_of entries) (sym (any_index i entries) ∙ there))
-        (cover_entries c cover i entries (fewer_times i e.doc (indexes_of entries) once))
+    (times i (indexes_of (e ∷ entries))) (times i (indexes_of entries)) (times-cons i e.doc (indexes_of entries)) once
+    (λ there. any_some i (indexes_of entries) (sym (any_index i entries) ∙ there))
+    (cover_entries c cover i entries (fewer_times i e.doc (indexes_of entries) once))
 
 -- ---- met indexes and the documents that they name
 
@@ -98,7 +98,7 @@ impact_id met rises i low [] inside = refl
 impact_id met rises i low (e ∷ entries) inside =
     sum_by-cons (λ (e : Entry). cond (nat_eq e.doc (met_at met i)) e.impact 0) (named met e) (map (named met) entries)
     ∙ ap₂ (λ a b. a + b) (ap (λ b. cond b e.impact 0) (same_id met rises e.doc i (All-head (λ (e : Entry). e.doc < length met) e entries inside) low))
-        (impact_id met rises i low entries (All-tail (λ (e : Entry). e.doc < length met) e entries inside))
+    (impact_id met rises i low entries (All-tail (λ (e : Entry). e.doc < length met) e entries inside))
     ∙ sym (sum_by-cons (λ (e : Entry). cond (nat_eq e.doc i) e.impact 0) e entries)
 
 rest_id : (documents : ℕ) (met : List ℕ) (one : Presented) → rest (lane_of documents met one) ≡ rest (index_lane documents one)
@@ -122,8 +122,8 @@ has_all documents met rises i low (one ∷ terms) all =
     let lane : ShownLane = index_lane documents one in
     list_any-append (λ (n : Note). nat_eq n.index i) (lane_notes lane) (notes_of documents terms)
     ∙ ap₂ (λ a b. a || b)
-        (has_entries lane.coefficient (rest lane) i lane.shown ∙ sym (names_id met rises i low lane.shown (names_inside (length met) lane.shown here)))
-        (has_all documents met rises i low terms later)
+    (has_entries lane.coefficient (rest lane) i lane.shown ∙ sym (names_id met rises i low lane.shown (names_inside (length met) lane.shown here)))
+    (has_all documents met rises i low terms later)
 
 pub gain_all : (documents : ℕ) (met : List ℕ) → IsStrictlyIncreasing met → (i : ℕ) → i < length met → (terms : List Presented) → AreAllNamed met terms
     → gain_of i (notes_of documents terms) ≡ lower (map (lane_of documents met) terms) (met_at met i)
@@ -134,8 +134,8 @@ gain_all documents met rises i low (one ∷ terms) all =
     let lane : ShownLane = index_lane documents one in
     sum_by-append (λ (n : Note). cond (nat_eq n.index i) n.gain 0) (lane_notes lane) (notes_of documents terms)
     ∙ ap₂ (λ a b. a + b)
-        (gain_entries lane.coefficient (rest lane) i lane.shown ∙ ap (λ n. lane.coefficient * n) (sym (impact_id met rises i low lane.shown (names_inside (length met) lane.shown here))))
-        (gain_all documents met rises i low terms later)
+    (gain_entries lane.coefficient (rest lane) i lane.shown ∙ ap (λ n. lane.coefficient * n) (sym (impact_id met rises i low lane.shown (names_inside (length met) lane.shown here))))
+    (gain_all documents met rises i low terms later)
     ∙ sym (sum_by-cons (λ (lane : ShownLane). lane.coefficient * shown_impact (met_at met i) lane) (lane_of documents met one) (map (lane_of documents met) terms))
 
 pub cover_all : (documents : ℕ) (met : List ℕ) → IsStrictlyIncreasing met → (i : ℕ) → i < length met → (terms : List Presented) → AreAllNamed met terms
@@ -147,9 +147,9 @@ cover_all documents met rises i low (one ∷ terms) all =
     let lane : ShownLane = index_lane documents one in
     sum_by-append (λ (n : Note). cond (nat_eq n.index i) n.cover 0) (lane_notes lane) (notes_of documents terms)
     ∙ ap₂ (λ a b. a + b)
-        (cover_entries lane.coefficient (rest lane) i lane.shown (here.once i)
-        ∙ ap₂ (λ b n. cond b n 0) (sym (names_id met rises i low lane.shown (names_inside (length met) lane.shown here))) (sym (rest_id documents met one)))
-        (cover_all documents met rises i low terms later)
+    (cover_entries lane.coefficient (rest lane) i lane.shown (here.once i)
+    ∙ ap₂ (λ b n. cond b n 0) (sym (names_id met rises i low lane.shown (names_inside (length met) lane.shown here))) (sym (rest_id documents met one)))
+    (cover_all documents met rises i low terms later)
     ∙ sym (sum_by-cons (λ (lane : ShownLane). cond (names (met_at met i) lane) (rest lane) 0) (lane_of documents met one) (map (lane_of documents met) terms))
 
 pub rests_all : (documents : ℕ) (met : List ℕ) (terms : List Presented) → threshold (map (index_lane documents) terms) ≡ threshold (map (lane_of documents met) terms)

@@ -148,7 +148,7 @@ notes_more met notes l named marks n are inside new some small_gain small_cover 
         | inl is ↦
             let there : i < length marks = omega (arith, size, low) in
             let here = subst (λ k. IsNoted (notes ++ n ∷ []) l (named ++ n.index ∷ []) k after) is
-                (noted_here notes l named (mark_at marks n.index) n (are.each n.index inside) new some small_gain small_cover) in
+            (noted_here notes l named (mark_at marks n.index) n (are.each n.index inside) new some small_gain small_cover) in
             let at : n.index < length marks = omega (arith, size, inside) in
             let found : mark_at (set marks n.index after) i ≡ after = subst (λ k. mark_at (set marks n.index after) k ≡ after) is (get_or-set_same marks n.index after zero_mark at) in
             subst (λ m. IsNoted (notes ++ n ∷ []) l (named ++ n.index ∷ []) i m) (sym found) here
@@ -197,8 +197,8 @@ notes_next met notes l c cover entries i e marks after is inside some small_gain
     let n : Note = note c cover e in
     let more = notes_more met old l (take i (indexes_of entries)) marks n are inside new some small_gain small_cover in
     let all : old ++ n ∷ [] ≡ notes ++ map (note c cover) (take (i + 1) entries) =
-        append_assoc notes (map (note c cover) (take i entries)) (n ∷ [])
-        ∙ ap (λ l. notes ++ l) (sym (map-append (note c cover) (take i entries) (e ∷ [])) ∙ ap (map (note c cover)) (sym (taken_more entries i e is))) in
+    append_assoc notes (map (note c cover) (take i entries)) (n ∷ [])
+    ∙ ap (λ l. notes ++ l) (sym (map-append (note c cover) (take i entries) (e ∷ [])) ∙ ap (map (note c cover)) (sym (taken_more entries i e is))) in
     let indexes : take i (indexes_of entries) ++ e.doc ∷ [] ≡ take (i + 1) (indexes_of entries) = sym (taken_more (indexes_of entries) i e.doc (index_at entries i e is)) in
     subst (λ m. AreNotes met (notes ++ map (note c cover) (take (i + 1) entries)) l (take (i + 1) (indexes_of entries)) m) (sym put)
     (subst (λ x. AreNotes met x l (take (i + 1) (indexes_of entries)) (set marks e.doc (with_note (mark_at marks e.doc) l (c * e.impact) cover))) all

@@ -86,9 +86,9 @@ passes_present H query proof i left after limit cover one marks next p step righ
     let rests = p.rests in
     let number : i + 2 ≡ i + 1 + 1 = omega arith in
     let notes : notes_of n p.before ++ lane_notes (index_lane n one) ≡ notes_of n (p.before ++ one ∷ []) =
-        flat_map_more (λ (term : Presented). lane_notes (index_lane n term)) [] p.before one in
+    flat_map_more (λ (term : Presented). lane_notes (index_lane n term)) [] p.before one in
     let lanes : threshold (map (index_lane n) (p.before ++ one ∷ [])) ≡ threshold (map (index_lane n) p.before) + threshold (map (index_lane n) (one ∷ [])) =
-        ap threshold (map-append (index_lane n) p.before (one ∷ [])) ∙ sum_by-append rest (map (index_lane n) p.before) (map (index_lane n) (one ∷ [])) in
+    ap threshold (map-append (index_lane n) p.before (one ∷ [])) ∙ sum_by-append rest (map (index_lane n) p.before) (map (index_lane n) (one ∷ [])) in
     let last : threshold (map (index_lane n) (one ∷ [])) ≡ rest (index_lane n one) + 0 = sum_by-cons rest (index_lane n one) [] in
     record {
       before = p.before ++ one ∷ [];
@@ -128,7 +128,7 @@ done H query proof i left limit marks p all few =
     let n : ℕ = proof.header.documents in
     let nothing : drop i query ≡ [] = drop_of_length-le query all in
     let same : presented query proof ≡ p.before =
-        p.stands ∙ ap (λ (q : List (List ℕ × ℕ)). p.before ++ presented_from proof.dict i q (drop i proof.slots) left) nothing ∙ append-nil p.before in
+    p.stands ∙ ap (λ (q : List (List ℕ × ℕ)). p.before ++ presented_from proof.dict i q (drop i proof.slots) left) nothing ∙ append-nil p.before in
     let small = p.small in
     record {
       right = subst (λ l. All (IsListRight H proof.met) l) (sym same) p.right;

@@ -24,7 +24,7 @@ pub none_present : (dict : List ShownEntry) (i : ℕ) (query : List (List ℕ ×
 none_present dict i query slots left pair slot is is_slot absent =
     ap₂ (λ q s. presented_from dict i q s left) (at_front query i pair is) (at_front slots i slot is_slot)
     ∙ ap (λ b. cond b (record { number = i; weight = pair.1; entry = entry_at dict slot.index; prefix = first_prefix left } ∷ presented_from dict (i + 1) (drop (i + 1) query) (drop (i + 1) slots) (drop 1 left))
-        (presented_from dict (i + 1) (drop (i + 1) query) (drop (i + 1) slots) left)) absent
+    (presented_from dict (i + 1) (drop (i + 1) query) (drop (i + 1) slots) left)) absent
 
 pub one_present : (dict : List ShownEntry) (i : ℕ) (query : List (List ℕ × ℕ)) (slots : List Slot) (left after : List Prefix) (pair : List ℕ × ℕ) (slot : Slot) (one : Presented)
     → slice_get query i ≡ Some pair → slice_get slots i ≡ Some slot → slot.present ≡ true
@@ -34,7 +34,7 @@ pub one_present : (dict : List ShownEntry) (i : ℕ) (query : List (List ℕ × 
 one_present dict i query slots left after pair slot one is is_slot present same passed =
     ap₂ (λ q s. presented_from dict i q s left) (at_front query i pair is) (at_front slots i slot is_slot)
     ∙ ap (λ b. cond b (record { number = i; weight = pair.1; entry = entry_at dict slot.index; prefix = first_prefix left } ∷ presented_from dict (i + 1) (drop (i + 1) query) (drop (i + 1) slots) (drop 1 left))
-        (presented_from dict (i + 1) (drop (i + 1) query) (drop (i + 1) slots) left)) present
+    (presented_from dict (i + 1) (drop (i + 1) query) (drop (i + 1) slots) left)) present
     ∙ ap₂ (λ p more. p ∷ presented_from dict (i + 1) (drop (i + 1) query) (drop (i + 1) slots) more) (sym same) (sym passed)
 
 pub entry_there : (dict : List ShownEntry) (place : ℕ) (e : ShownEntry) → Some e ≡ slice_get dict place → e.entry ≡ entry_at dict place

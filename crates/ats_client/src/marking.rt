@@ -30,14 +30,7 @@ pub(crate) fn rest_impact(list: &ListView<'_>, total: u32, steps: &mut Steps) ->
 
 // Notes an entry of a list, counted from 1, in the mark of its document. It answers false, and notes
 // nothing, where the list has named the document before.
-fn noted(
-    work: &mut Work,
-    index: u32,
-    list: u32,
-    gain: u64,
-    cover: u64,
-    steps: &mut Steps,
-) -> bool
+fn noted(work: &mut Work, index: u32, list: u32, gain: u64, cover: u64, steps: &mut Steps) -> bool
     requires inside { index < length work.old.marks }
     requires lo { (mark_at work.old.marks index).lo + gain < 2 ^ 64 }
     requires held { (mark_at work.old.marks index).held + cover < 2 ^ 64 }

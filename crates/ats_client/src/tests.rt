@@ -49,8 +49,9 @@ fn first_row(alloc: Global, bytes: &[u8], query: &str) -> Result<Row, Fail> {
     let top = Top::new(1)?;
     let mut work = Work::with_room(alloc, proof.met())?;
     let mut steps = Steps::new(alloc);
-    let limit = check::<Sha>(&ROOT, &query, top, &proof, &mut work, &mut steps)
-        .map_err(|_| "it is accepted")?;
+    let limit = check::<Sha>(&ROOT, &query, top, &proof, &mut work, &mut steps).map_err(
+        |_| "it is accepted",
+    )?;
     let mut more = Steps::new(alloc);
     Ok(row(&proof, &work, limit, 0, &mut more))
 }
@@ -85,9 +86,18 @@ fn other_roots_and_queries_are_refused(rt: HostRuntime) -> Result<(), Fail> {
     let alloc = rt.alloc();
     let (other, _) = outcome_under(alloc, &[7; 32], &RED_HEN, "red hen", 1)?;
     assert_eq!(rt; other, Err(Refusal::OtherRoot));
-    assert_eq!(rt; outcome(alloc, &RED_HEN, "hen", 1)?, Err(Refusal::SlotCount { shown: 2 }));
-    assert_eq!(rt; outcome(alloc, &RED_HEN, "red fox", 1)?, Err(Refusal::SlotWrong { term: 0 }));
-    assert_eq!(rt; outcome(alloc, &ZEBRA_FAR, "zebra", 1)?, Err(Refusal::SlotWrong { term: 0 }));
+    assert_eq!(rt;
+        outcome(alloc, &RED_HEN, "hen", 1)?,
+        Err(Refusal::SlotCount { shown: 2 })
+    );
+    assert_eq!(rt;
+        outcome(alloc, &RED_HEN, "red fox", 1)?,
+        Err(Refusal::SlotWrong { term: 0 })
+    );
+    assert_eq!(rt;
+        outcome(alloc, &ZEBRA_FAR, "zebra", 1)?,
+        Err(Refusal::SlotWrong { term: 0 })
+    );
     Ok(())
 }
 
@@ -104,9 +114,15 @@ fn other_dictionaries_are_refused(rt: HostRuntime) -> Result<(), Fail> {
     let alloc = rt.alloc();
     let mut bytes = RED_HEN;
     bytes[210] = 0;
-    assert_eq!(rt; outcome(alloc, &bytes, "red hen", 1)?, Err(Refusal::DictRoot));
+    assert_eq!(rt;
+        outcome(alloc, &bytes, "red hen", 1)?,
+        Err(Refusal::DictRoot)
+    );
     let less = with_a_digest_less(alloc)?;
-    assert_eq!(rt; outcome(alloc, &less, "red hen", 1)?, Err(Refusal::DictMisfit));
+    assert_eq!(rt;
+        outcome(alloc, &less, "red hen", 1)?,
+        Err(Refusal::DictMisfit)
+    );
     Ok(())
 }
 
@@ -124,9 +140,15 @@ fn other_lists_are_refused(rt: HostRuntime) -> Result<(), Fail> {
     let alloc = rt.alloc();
     let mut bytes = RED_HEN;
     bytes[332] = 0x28;
-    assert_eq!(rt; outcome(alloc, &bytes, "red hen", 1)?, Err(Refusal::ListRoot { term: 0 }));
+    assert_eq!(rt;
+        outcome(alloc, &bytes, "red hen", 1)?,
+        Err(Refusal::ListRoot { term: 0 })
+    );
     let less = with_an_entry_less(alloc)?;
-    assert_eq!(rt; outcome(alloc, &less, "red hen", 1)?, Err(Refusal::ListMisfit { term: 0 }));
+    assert_eq!(rt;
+        outcome(alloc, &less, "red hen", 1)?,
+        Err(Refusal::ListMisfit { term: 0 })
+    );
     Ok(())
 }
 
@@ -165,13 +187,25 @@ fn with_a_row_more(alloc: Global) -> Result<Vec<u8>, AllocError> {
 fn other_answers_are_refused(rt: HostRuntime) -> Result<(), Fail> {
     let alloc = rt.alloc();
     let more = with_one_met_more(alloc)?;
-    assert_eq!(rt; outcome(alloc, &more, "red hen", 1)?, Err(Refusal::Unmet { index: 3 }));
+    assert_eq!(rt;
+        outcome(alloc, &more, "red hen", 1)?,
+        Err(Refusal::Unmet { index: 3 })
+    );
     let mut bytes = RED_HEN;
     bytes[364] = 3;
-    assert_eq!(rt; outcome(alloc, &bytes, "red hen", 1)?, Err(Refusal::AnswerOut { row: 0 }));
+    assert_eq!(rt;
+        outcome(alloc, &bytes, "red hen", 1)?,
+        Err(Refusal::AnswerOut { row: 0 })
+    );
     bytes[364] = 2;
-    assert_eq!(rt; outcome(alloc, &bytes, "red hen", 1)?, Err(Refusal::NotSettled));
+    assert_eq!(rt;
+        outcome(alloc, &bytes, "red hen", 1)?,
+        Err(Refusal::NotSettled)
+    );
     let twice = with_a_row_more(alloc)?;
-    assert_eq!(rt; outcome(alloc, &twice, "red hen", 2)?, Err(Refusal::AnswerRepeated { row: 1 }));
+    assert_eq!(rt;
+        outcome(alloc, &twice, "red hen", 2)?,
+        Err(Refusal::AnswerRepeated { row: 1 })
+    );
     Ok(())
 }

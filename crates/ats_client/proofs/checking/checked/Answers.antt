@@ -15,11 +15,19 @@ returns-in_err-met-clause-refused g c =
     let proof : Proof = proof_of c.args.proof.now in
     let lanes : List ShownLane = lanes_of c.args.query.now proof in
     let fault : IsFirstRefusal g.H.HashKind.hash c.args.root.now c.args.query.now c.args.top proof c.in_err-met.field-0.0 =
-        inr (c.in_ok-opened.ensures.kept,
-        inr (c.in_ok-dictionary.ensures.kept,
-        inr (c.in_ok-slots.ensures.kept,
-        inr (c.in_ok-limit.ensures.right,
-        inl (c.in_err-met.ensures.unmet lanes c.in_ok-limit.ensures.marks))))) in
+    inr (
+      c.in_ok-opened.ensures.kept,
+      inr (
+        c.in_ok-dictionary.ensures.kept,
+        inr (
+          c.in_ok-slots.ensures.kept,
+          inr (
+            c.in_ok-limit.ensures.right,
+            inl (c.in_err-met.ensures.unmet lanes c.in_ok-limit.ensures.marks),
+          ),
+        ),
+      ),
+    ) in
     let told = err_from_is_err_and c.from_residual-in_err-met.result c.from_residual-in_err-met.ensures.1 in
     let same : told.0 ≡ c.in_err-met.field-0.0 = told.2 in
     subst (λ (r : Result ℕ Refusal). IfErr r (λ refusal. IsFirstRefusal g.H.HashKind.hash c.args.root.now c.args.query.now c.args.top proof refusal)) (sym told.1)
@@ -44,13 +52,25 @@ returns-then-not-settled-clause-refused g c =
     let lanes : List ShownLane = lanes_of c.args.query.now proof in
     let marks = c.rows.ensures.marks lanes c.in_ok-limit.ensures.marks in
     let test = c.settled.ensures.settled lanes marks c.in_ok-limit.ensures.rest in
-    inr (c.in_ok-opened.ensures.kept,
-    inr (c.in_ok-dictionary.ensures.kept,
-    inr (c.in_ok-slots.ensures.kept,
-    inr (c.in_ok-limit.ensures.right,
-    inr (c.in_ok-met.ensures.all lanes c.in_ok-limit.ensures.marks,
-    inr (c.in_ok-rows.ensures.right,
-    λ (settled : IsAnswerSettled lanes proof.met proof.answer c.args.top). let yes = test.1 settled in absurd (cc (yes, c.if-not-settled.true))))))))
+    inr (
+      c.in_ok-opened.ensures.kept,
+      inr (
+        c.in_ok-dictionary.ensures.kept,
+        inr (
+          c.in_ok-slots.ensures.kept,
+          inr (
+            c.in_ok-limit.ensures.right,
+            inr (
+              c.in_ok-met.ensures.all lanes c.in_ok-limit.ensures.marks,
+              inr (
+                c.in_ok-rows.ensures.right,
+                λ (settled : IsAnswerSettled lanes proof.met proof.answer c.args.top). let yes = test.1 settled in absurd (cc (yes, c.if-not-settled.true)),
+              ),
+            ),
+          ),
+        ),
+      ),
+    )
 
 pub returns-clause-accepts : goal.returns-clause-accepts
 returns-clause-accepts g c =

@@ -47,9 +47,9 @@ loop-i-preserved g c =
       | in-Some+in_ok-limit w ↦
           let one : Presented = presented_of w.in-Some.one in
           let noted = subst (λ (k : ℕ). (notes : List Note) → AreNotes (length proof.met) notes (k + 1) [] c.loop-i.work.marks
-              → AreNotes (length proof.met) (notes ++ lane_notes (index_lane proof.header.documents one)) (k + 2) [] w.list.new.work.marks) w.in-Some.ensures.number w.in_ok-limit.ensures.notes in
+          → AreNotes (length proof.met) (notes ++ lane_notes (index_lane proof.header.documents one)) (k + 2) [] w.list.new.work.marks) w.in-Some.ensures.number w.in_ok-limit.ensures.notes in
           let passed = passes_present H query proof i left after c.loop-i.limit w.in_ok-limit.field-0 one c.loop-i.work.marks w.list.new.work.marks p
-              w.in-Some.ensures.some w.in_ok-limit.ensures.right noted w.in_ok-limit.ensures.rest w.in_ok-limit.ensures.small w.in-Some.ensures.enough in
+          w.in-Some.ensures.some w.in_ok-limit.ensures.right noted w.in_ok-limit.ensures.rest w.in_ok-limit.ensures.small w.in-Some.ensures.enough in
           record {
             passed = subst (λ (n : ℕ). IsPassed H query proof (i + 1) after n c.match-present.work.marks) (sym w.limit-is)
                 (subst (λ (m : Marked). IsPassed H query proof (i + 1) after (c.loop-i.limit + w.in_ok-limit.field-0) m.marks) (sym w.work-is) passed);

@@ -77,6 +77,6 @@ returns-clause-notes c =
     let entries : List Entry = (prefix_of c.args.one.now.list).entries in
     let whole : take c.loop-i.i entries ≡ entries = take_all c.loop-i.i entries (omega (arith, c.len-i-end.ensures)) in
     let indexes : take c.loop-i.i (indexes_of entries) ≡ indexes_of entries =
-        take_all c.loop-i.i (indexes_of entries) (omega (arith, c.len-i-end.ensures, length-map entries (λ (entry : Entry). entry.doc))) in
+    take_all c.loop-i.i (indexes_of entries) (omega (arith, c.len-i-end.ensures, length-map entries (λ (entry : Entry). entry.doc))) in
     λ (notes : List Note) (from : AreNotes c.args.met notes (c.args.one.now.number + 1) [] c.args.work.now.marks).
-        rw (whole, indexes) at (c.loop-i.invariant.notes notes from)
+    rw (whole, indexes) at (c.loop-i.invariant.notes notes from)
