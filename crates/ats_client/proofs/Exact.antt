@@ -1,5 +1,5 @@
 -- A proof that is accepted is not refused.
-use Rattle.std.proofs.Common.{◌≡◌, ◌≢◌, ◌<◌, ◌≤◌, ◌+◌, ◌++◌, ◌∙◌, ℕ, List, [], ◌∷◌, length, true, nat_eq, cond, Option, Some, None, Result, Ok, Err, refl, sym, ap, subst, arith, inl, inr}
+use Rattle.std.proofs.Common.{◌≡◌, ◌<◌, ◌+◌, ◌++◌, ◌∙◌, ℕ, List, [], ◌∷◌, length, true, nat_eq, cond, Option, Some, Result, Ok, Err, refl, ap, subst, arith, inl, inr}
 use Rattle.std.specs.List.{All}
 use Rattle.std.specs.Result.{is_ok, IfErr}
 use Rattle.std.proofs.lemmas.Bool.Decides.{nat_tests}
@@ -11,7 +11,7 @@ use Rattle.ats_bound.specs.Cut.{ShownLane}
 use Rattle.ats_proof.specs.Value.{Proof}
 use Rattle.ats_client.specs.declared.refusal.Refusal.{Refusal}
 use Rattle.ats_client.specs.declared.refusal.Refusal.TheVariants.{OtherRoot, SlotCount, DictMisfit, DictRoot, SlotWrong, IndexOut, Repeated, ListMisfit, ListRoot, Unmet, AnswerOut, AnswerRepeated, NotSettled}
-use Rattle.ats_client.specs.Presented.{Presented, presented, lanes_of}
+use Rattle.ats_client.specs.Presented.{Presented, lanes_of}
 use Rattle.ats_client.specs.Indexes.{AreNames, IsOut, IsAgain}
 use Rattle.ats_client.specs.Groups.{IsOther, IsOpened, IsOpeningFault, IsDictionary, IsDictFault, AreSlotsRight, IsSlotsFault, IsListRight, IsListFault, IsEntryFault, IsListRootFault, AreListsRight, IsListsFault, AreAllMet, IsMetFault, AreRowsRight, IsRowsFault, IsAnswerSettled, IsSettledFault, indexes_of}
 use Rattle.ats_client.specs.Accepts.{Accepts, IsFirstRefusal}

@@ -1,5 +1,5 @@
 -- What the notes of present terms say of their lanes, whose documents the met indexes name.
-use Rattle.std.proofs.Common.{◌≡◌, ◌≢◌, ◌⊎◌, ◌<◌, ◌≤◌, ◌+◌, ◌-◌, ◌*◌, ◌||◌, ◌++◌, ◌∙◌, ℕ, Bool, true, false, nat_eq, nat_lt, cond, List, [], ◌∷◌, length, map, get_or, refl, sym, ap, ap₂, subst, arith, inl, inr, mul-zero, mul-add}
+use Rattle.std.proofs.Common.{◌≡◌, ◌<◌, ◌≤◌, ◌+◌, ◌-◌, ◌*◌, ◌||◌, ◌∙◌, ℕ, Bool, true, false, nat_eq, cond, List, [], ◌∷◌, length, map, get_or, refl, sym, ap, ap₂, arith, inl, inr, mul-zero, mul-add}
 use Rattle.std.specs.List.{All, list_any, sum_by}
 use Rattle.std.specs.List.Sorted.{IsStrictlyIncreasing}
 use Rattle.std.proofs.lemmas.Bool.{cases_order}
@@ -13,7 +13,7 @@ use Rattle.std.proofs.lemmas.List.Sums.{sum_by-cons, sum_by-append}
 use Rattle.ats_impact.specs.Numbers.{idf}
 use Rattle.ats_impact.specs.Rank.{times}
 use Rattle.ats_lists.specs.declared.entry.Entry.{Entry}
-use Rattle.ats_bound.specs.Cut.{ShownLane, rest, rest_impact, threshold, names, shown_impact, lower, held}
+use Rattle.ats_bound.specs.Cut.{ShownLane, rest, threshold, names, shown_impact, lower, held}
 use Rattle.ats_bound.proofs.Places.{times-cons}
 use Rattle.ats_proof.specs.Runs.{named}
 use Rattle.ats_client.specs.Indexes.{AreNames}

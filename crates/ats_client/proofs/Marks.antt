@@ -1,9 +1,9 @@
 -- Marks after some notes, and after one note more.
-use Rattle.std.proofs.Common.{◌≡◌, ◌≢◌, ◌<◌, ◌≤◌, ◌+◌, ◌*◌, ◌^◌, ◌||◌, ◌++◌, ℕ, zero, suc, Bool, true, false, nat_eq, nat_lt, cond, List, [], ◌∷◌, length, map, take, drop, get_or, replicate, set, slice_get, Some, option_map, refl, sym, ap, ap₂, subst, ◌∙◌, append_assoc, arith, inl, inr, length-take, get_or-set_other, get_or-set_same}
-use Rattle.std.specs.List.{All, list_any, sum_by}
+use Rattle.std.proofs.Common.{◌≡◌, ◌≢◌, ◌<◌, ◌≤◌, ◌+◌, ◌*◌, ◌^◌, ◌||◌, ◌++◌, ℕ, suc, Bool, true, false, nat_eq, nat_lt, cond, List, [], ◌∷◌, length, map, take, drop, get_or, set, slice_get, Some, option_map, refl, sym, ap, subst, ◌∙◌, append_assoc, arith, inl, inr, length-take, get_or-set_other, get_or-set_same}
+use Rattle.std.specs.List.{list_any, sum_by}
 use Rattle.std.proofs.lemmas.Bool.{cases_eq}
 use Rattle.std.proofs.lemmas.Bool.Decides.{nat_tests}
-use Rattle.std.proofs.lemmas.List.{length-set, take_more, take_all, take-map, length-map, map-append}
+use Rattle.std.proofs.lemmas.List.{length-set, take_more, map-append}
 use Rattle.std.proofs.lemmas.List.Elements.{All-more}
 use Rattle.std.proofs.lemmas.List.Folds.{list_any-append}
 use Rattle.std.proofs.lemmas.List.Sums.{sum_by-cons, sum_by-append}
@@ -16,7 +16,7 @@ use Rattle.ats_bound.proofs.Places.{times-cons, distinct_more}
 use Rattle.ats_client.specs.Indexes.{AreNames, IsOut, IsAgain}
 use Rattle.ats_lists.specs.declared.entry.Entry.{Entry}
 use Rattle.ats_client.specs.Groups.{indexes_of}
-use Rattle.ats_client.specs.Noting.{Note, IsNoted, AreNotes, note, with_note, gain_of, cover_of, has_note}
+use Rattle.ats_client.specs.Noting.{Note, IsNoted, AreNotes, note, with_note, has_note}
 
 -- ---- indexes that name met documents
 

@@ -1,10 +1,10 @@
 -- Which slots show their terms, term by term.
-use Rattle.std.proofs.Common.{◌≡◌, ◌↔◌, ◌<◌, ◌+◌, ℕ, List, length, Some, slice_get, Bool, true, false, IsTrue, ap, below_more}
+use Rattle.std.proofs.Common.{◌≡◌, ◌↔◌, ◌<◌, ◌+◌, ℕ, List, Some, slice_get, Bool, false, IsTrue, below_more}
 use Rattle.std.proofs.lemmas.Option.{get_or_from_slice_get}
 use Rattle.ats_records.specs.declared.record.Slot.{Slot}
 use Rattle.ats_proof.specs.Value.{ShownEntry, Proof}
 use Rattle.ats_client.specs.Slots.{ShowsTerm}
-use Rattle.ats_client.specs.Groups.{dict_terms, term_at, slot_at, IsSlotRight, IsWrongSlot}
+use Rattle.ats_client.specs.Groups.{dict_terms, term_at, slot_at, IsSlotRight}
 
 pub slot_right : (query : List (List ℕ × ℕ)) (proof : Proof) (i : ℕ) (dict : List ShownEntry) (term : List ℕ) (slot : Slot) (shows : Bool)
     → dict ≡ proof.dict → term ≡ term_at query i → slice_get proof.slots i ≡ Some slot

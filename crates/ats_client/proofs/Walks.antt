@@ -1,5 +1,5 @@
 -- Leaves that are left of a section, and when a slot shows a term.
-use Rattle.std.proofs.Common.{◌≡◌, ℕ, zero, suc, ◌+◌, ◌↔◌, List, [], ◌∷◌, drop, map, Option, Some, None, option_map, is_none, slice_get, refl, sym, ap, subst, ◌∙◌, Bool, true, false, IsTrue}
+use Rattle.std.proofs.Common.{◌≡◌, ℕ, zero, suc, ◌+◌, ◌↔◌, List, [], ◌∷◌, drop, Option, Some, None, option_map, is_none, slice_get, refl, sym, ap, subst, ◌∙◌, Bool, true, false, IsTrue}
 use Rattle.std.specs.Str.{bytes_eq}
 use Rattle.std.proofs.lemmas.List.{drop-drop}
 use Rattle.std.proofs.lemmas.Option.{slice_get-map}

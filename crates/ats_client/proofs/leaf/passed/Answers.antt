@@ -1,4 +1,4 @@
-use Rattle.std.proofs.Common.{◌≡◌, ◌+◌, ◌-◌, drop, arith, rules}
+use Rattle.std.proofs.Common.{◌≡◌, ◌+◌, ◌-◌, arith, rules}
 use Rattle.ats_proof.specs.Seen.{entry_of}
 use Rattle.ats_client.specs.Seen.{entries_left}
 use Rattle.ats_client.proofs.Walks.{ends, one_more}

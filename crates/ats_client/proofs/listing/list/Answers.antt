@@ -1,4 +1,4 @@
-use Rattle.std.proofs.Common.{◌≡◌, ◌<◌, ◌+◌, ◌*◌, ◌∙◌, ℕ, ◌++◌, List, [], length, map, sym, ap, ap₂, subst}
+use Rattle.std.proofs.Common.{◌≡◌, ◌+◌, ◌*◌, ◌∙◌, ℕ, ◌++◌, List, [], length, map, ap, ap₂, subst}
 use Rattle.ats_impact.specs.Numbers.{idf}
 use Rattle.ats_dict.specs.declared.header.Header.{Header}
 use Rattle.ats_bound.specs.Cut.{rest}

@@ -1,5 +1,4 @@
-use Rattle.std.proofs.Common.{◌≡◌, ◌<◌, ◌≤◌, ◌+◌, ◌*◌, ◌++◌, ◌∙◌, ℕ, List, [], ◌∷◌, length, drop, replicate, sym, ap, subst, arith, rules}
-use Rattle.ats_bound.specs.declared.work.Mark.{Mark}
+use Rattle.std.proofs.Common.{◌≡◌, ◌+◌, ◌++◌, ◌∙◌, ℕ, List, [], length, drop, replicate, sym, ap, subst, arith}
 use Rattle.ats_bound.specs.Work.{Marked, zero_mark}
 use Rattle.ats_proof.specs.Value.{Prefix, present_in}
 use Rattle.ats_proof.specs.Reading.{prefix_size, prefix_in, slots_in, lists_place}

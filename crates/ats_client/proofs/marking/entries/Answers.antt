@@ -1,12 +1,12 @@
-use Rattle.std.proofs.Common.{◌≡◌, ◌≢◌, ◌<◌, ◌≤◌, ◌+◌, ◌*◌, ◌^◌, ◌++◌, ◌∙◌, ℕ, List, [], length, map, take, slice_get, Some, refl, sym, ap, subst, arith, take_all, inl, inr}
+use Rattle.std.proofs.Common.{◌≡◌, ◌≢◌, ◌≤◌, ◌+◌, ◌^◌, ◌∙◌, List, [], take, refl, ap, subst, arith, take_all, inl, inr}
 use Rattle.std.proofs.lemmas.List.{length-map}
 use Rattle.std.proofs.lemmas.Bool.{cases_eq}
 use Rattle.ats_lists.specs.declared.entry.Entry.{Entry}
 use Rattle.ats_bound.specs.Work.{Marked, mark_at}
 use Rattle.ats_client.specs.Groups.{indexes_of}
 use Rattle.ats_client.specs.Lists.{prefix_of}
-use Rattle.ats_client.specs.Noting.{Note, note, AreNotes}
-use Rattle.ats_client.proofs.Marks.{out_at, again_at, names_more, index_at, notes_next, named_before, not_named, room_for, HasRoomFor}
+use Rattle.ats_client.specs.Noting.{Note, AreNotes}
+use Rattle.ats_client.proofs.Marks.{out_at, again_at, names_more, index_at, notes_next, named_before, not_named, room_for}
 use Rattle.ats_client.proofs.marking.entries.Goals as goal
 
 pub returns-then-entry-met-clause-fault : goal.returns-then-entry-met-clause-fault

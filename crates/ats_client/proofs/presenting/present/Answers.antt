@@ -1,11 +1,9 @@
-use Rattle.std.proofs.Common.{◌≡◌, ◌<◌, ◌+◌, ◌∙◌, ◌∷◌, ℕ, List, [], length, drop, get_or, slice_get, Some, None, true, false, sym, ap}
+use Rattle.std.proofs.Common.{◌≡◌, ◌∙◌, List, [], length, get_or, slice_get, Some, None, sym, ap}
 use Rattle.std.proofs.lemmas.Option.{slice_get-get_or}
 use Rattle.ats_proof.specs.Value.{ShownEntry, Prefix}
 use Rattle.ats_proof.specs.Views.{proof_of}
-use Rattle.ats_client.specs.Presented.{presented_from}
 use Rattle.ats_client.specs.Seen.{shown_of}
-use Rattle.ats_client.specs.Lists.{prefix_of, prefixes_left, presented_of}
-use Rattle.ats_client.specs.Walked.{dict_of}
+use Rattle.ats_client.specs.Lists.{prefix_of, prefixes_left}
 use Rattle.ats_client.proofs.Presents.{none_present, one_present, entry_there, prefix_there, fewer_absent, prefixes_fewer, has_leaf, has_prefix, same_one, not_true, not_false}
 use Rattle.ats_client.proofs.presenting.present.Goals as goal
 

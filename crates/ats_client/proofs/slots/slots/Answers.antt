@@ -1,4 +1,4 @@
-use Rattle.std.proofs.Common.{◌≡◌, ◌∙◌, ◌↔◌, ◌<◌, ℕ, [], length, IsTrue, arith}
+use Rattle.std.proofs.Common.{◌∙◌, [], arith}
 use Rattle.ats_proof.specs.Views.{proof_of}
 use Rattle.ats_client.specs.Groups.{IsSlotRight}
 use Rattle.ats_client.specs.Walked.{dict_of}

@@ -1,4 +1,4 @@
-use Rattle.std.proofs.Common.{◌≡◌, ◌+◌, ◌∙◌, Some, slice_get}
+use Rattle.std.proofs.Common.{◌∙◌}
 use Rattle.ats_client.specs.Seen.{entries_left, shown_of}
 use Rattle.ats_client.specs.Walked.{dict_of}
 use Rattle.ats_client.proofs.Walks.{present_at, absent_at, no_next, next_left}
