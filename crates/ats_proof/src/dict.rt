@@ -1,8 +1,8 @@
 //! The dictionary section.
 
-ghost use Rattle.std.specs.Prelude.{◌≡◌, slice_get, option_map};
+ghost use Rattle.std.specs.Prelude.{◌≡◌, ◌<◌, ◌+◌, ◌^◌, length, slice_get, option_map, map, drop};
 
-use crate::bytes::{digest, number_4};
+use crate::bytes::{are_bytes, digest, number_4};
 use crate::digests::DigestRun;
 use crate::leaves::LeafRun;
 use ats_dict::DictLeaf;
@@ -19,12 +19,15 @@ pub struct DictView<'a> {
 }
 
 impl<'a> DictView<'a> {
-    ghost use Rattle.ats_proof.specs.Seen.{entries_of, entry_of};
+    ghost use Rattle.ats_proof.specs.Runs.{shown_entry};
+    ghost use Rattle.ats_proof.specs.Seen.{entries_of, entry_of, leaves_of};
 
     /// The first leaf left, `None` where none is left.
     pub fn leaf(&self) -> Option<DictLeaf<'a>>
-        ensures { option_map entry_of result ≡ option_map (λ e. e.entry) (slice_get (entries_of self.now) 0) }
+        ensures leaf { option_map entry_of result ≡ option_map (λ e. e.entry) (slice_get (entries_of self.now) 0) }
+        ensures shown { leaves_of self.now.leaves ≡ map shown_entry (entries_of self.now) }
     {
+        are_bytes(self.leaves.bytes);
         if self.leaves.left == 0 {
             return None;
         }
@@ -40,7 +43,7 @@ impl<'a> DictView<'a> {
 }
 
 impl<'a> Revealed<'a> for DictView<'a> {
-    ghost use Rattle.ats_proof.specs.Seen.{leaves_of, digests_of, term_front};
+    ghost use Rattle.ats_proof.specs.Seen.{entries_of, leaves_of, digests_of, term_front};
 
     ghost shown = { λ s. leaves_of s.leaves };
 
@@ -61,7 +64,14 @@ impl<'a> Revealed<'a> for DictView<'a> {
         self.leaves.first().back
     }
 
-    fn pass_leaf(&mut self, steps: &mut Steps) {
+    fn pass_leaf(&mut self, steps: &mut Steps)
+        requires left { 0 < length (leaves_of self.old.leaves) }
+        requires room { steps.old + 1 < 2 ^ 64 }
+        ensures passed { leaves_of self.new.leaves ≡ drop 1 (leaves_of self.old.leaves) }
+        ensures others { digests_of self.new.digests ≡ digests_of self.old.digests }
+        ensures entries { entries_of self.new ≡ drop 1 (entries_of self.old) }
+        ensures cost { steps.new ≡ steps.old + 1 }
+    {
         self.leaves.pass(steps);
     }
 

@@ -1,0 +1,160 @@
+-- What the notes of present terms say of their lanes, whose documents the met indexes name.
+use Rattle.std.proofs.Common.{◌≡◌, ◌<◌, ◌≤◌, ◌+◌, ◌-◌, ◌*◌, ◌||◌, ◌∙◌, ℕ, Bool, true, false, nat_eq, cond, List, [], ◌∷◌, length, map, get_or, refl, sym, ap, ap₂, arith, inl, inr, mul-zero, mul-add}
+use Rattle.std.specs.List.{All, list_any, sum_by}
+use Rattle.std.specs.List.Sorted.{IsStrictlyIncreasing}
+use Rattle.std.proofs.lemmas.Bool.{cases_order}
+use Rattle.std.proofs.lemmas.Bool.Decides.{nat_tests}
+use Rattle.std.proofs.lemmas.List.{length-map}
+use Rattle.std.proofs.lemmas.Simd.{map-map}
+use Rattle.std.proofs.lemmas.List.Elements.{All-head, All-tail}
+use Rattle.std.proofs.lemmas.List.Folds.{list_any-append}
+use Rattle.std.proofs.lemmas.List.Kept.{AllPairs-from_increasing}
+use Rattle.std.proofs.lemmas.List.Sums.{sum_by-cons, sum_by-append}
+use Rattle.ats_impact.specs.Numbers.{idf}
+use Rattle.ats_impact.specs.Rank.{times}
+use Rattle.ats_lists.specs.declared.entry.Entry.{Entry}
+use Rattle.ats_bound.specs.Cut.{ShownLane, rest, threshold, names, shown_impact, lower, held}
+use Rattle.ats_bound.proofs.Places.{times-cons}
+use Rattle.ats_proof.specs.Runs.{named}
+use Rattle.ats_client.specs.Indexes.{AreNames}
+use Rattle.ats_client.specs.Presented.{Presented, lane_of}
+use Rattle.ats_client.specs.Groups.{indexes_of, met_at}
+use Rattle.ats_client.specs.Noting.{Note, note, index_lane, lane_notes, notes_of, gain_of, cover_of, has_note}
+use Rattle.ats_client.proofs.Marks.{any_some}
+use Rattle.ats_client.proofs.Listed.{names_inside}
+
+-- ---- one lane, by met indexes
+
+has_entries : (c cover i : ℕ) (entries : List Entry) → has_note i (map (note c cover) entries) ≡ list_any (λ (e : Entry). nat_eq e.doc i) entries
+has_entries c cover i [] = refl
+has_entries c cover i (e ∷ entries) = ap (λ b. nat_eq e.doc i || b) (has_entries c cover i entries)
+
+gain_entry : (c amount : ℕ) (same : Bool) → cond same (c * amount) 0 ≡ c * cond same amount 0
+gain_entry c amount true = refl
+gain_entry c amount false = sym (mul-zero c)
+
+abbrev impact_in : ℕ → List Entry → ℕ
+impact_in i entries = sum_by (λ (e : Entry). cond (nat_eq e.doc i) e.impact 0) entries
+
+gain_entries : (c cover i : ℕ) (entries : List Entry) → gain_of i (map (note c cover) entries) ≡ c * impact_in i entries
+gain_entries c cover i [] = sym (mul-zero c)
+gain_entries c cover i (e ∷ entries) =
+    sum_by-cons (λ (n : Note). cond (nat_eq n.index i) n.gain 0) (note c cover e) (map (note c cover) entries)
+    ∙ ap₂ (λ a b. a + b) (gain_entry c e.impact (nat_eq e.doc i)) (gain_entries c cover i entries)
+    ∙ sym (mul-add c (cond (nat_eq e.doc i) e.impact 0) (impact_in i entries))
+    ∙ ap (λ n. c * n) (sym (sum_by-cons (λ (e : Entry). cond (nat_eq e.doc i) e.impact 0) e entries))
+
+cover_step : (here later : Bool) (cover others n m : ℕ) → n ≡ cond here 1 0 + m → n ≤ 1 → (later ≡ true → 1 ≤ m) → others ≡ cond later cover 0
+    → cond here cover 0 + others ≡ cond (here || later) cover 0
+cover_step true true cover others n m is once some all = let more = some refl in absurd (omega (arith, is, once, more))
+cover_step true false cover others n m is once some all = omega (arith, all)
+cover_step false later cover others n m is once some all = omega (arith, all)
+
+any_index : (i : ℕ) (entries : List Entry) → list_any (λ (e : Entry). nat_eq e.doc i) entries ≡ list_any (λ x. nat_eq x i) (indexes_of entries)
+any_index i [] = refl
+any_index i (e ∷ entries) = ap (λ b. nat_eq e.doc i || b) (any_index i entries)
+
+fewer_times : (i x : ℕ) (xs : List ℕ) → times i (x ∷ xs) ≤ 1 → times i xs ≤ 1
+fewer_times i x xs once = let step = times-cons i x xs in omega (arith, step, once)
+
+cover_entries : (c cover i : ℕ) (entries : List Entry) → times i (indexes_of entries) ≤ 1
+    → cover_of i (map (note c cover) entries) ≡ cond (list_any (λ (e : Entry). nat_eq e.doc i) entries) cover 0
+cover_entries c cover i [] once = refl
+cover_entries c cover i (e ∷ entries) once =
+    sum_by-cons (λ (n : Note). cond (nat_eq n.index i) n.cover 0) (note c cover e) (map (note c cover) entries)
+    ∙ cover_step (nat_eq e.doc i) (list_any (λ (e : Entry). nat_eq e.doc i) entries) cover (cover_of i (map (note c cover) entries))
+    (times i (indexes_of (e ∷ entries))) (times i (indexes_of entries)) (times-cons i e.doc (indexes_of entries)) once
+    (λ there. any_some i (indexes_of entries) (sym (any_index i entries) ∙ there))
+    (cover_entries c cover i entries (fewer_times i e.doc (indexes_of entries) once))
+
+-- ---- met indexes and the documents that they name
+
+-- met ids are distinct
+same_id : (met : List ℕ) → IsStrictlyIncreasing met → (a b : ℕ) → a < length met → b < length met → nat_eq (met_at met a) (met_at met b) ≡ nat_eq a b
+same_id met rises a b low_a low_b =
+    let pairs = AllPairs-from_increasing met rises in
+    elim (cases_order a b) [
+      | inl is ↦
+          let same : met_at met a ≡ met_at met b = ap (met_at met) is in
+          grind (arith, nat_tests)
+      | inr (inl less) ↦
+          let below : met_at met a < met_at met b = pairs a b 0 less low_b in
+          grind (arith, nat_tests)
+      | inr (inr more) ↦
+          let above : met_at met b < met_at met a = pairs b a 0 more low_a in
+          grind (arith, nat_tests)
+    ]
+
+names_id : (met : List ℕ) → IsStrictlyIncreasing met → (i : ℕ) → i < length met → (entries : List Entry) → All (λ (e : Entry). e.doc < length met) entries
+    → list_any (λ (e : Entry). nat_eq e.doc (met_at met i)) (map (named met) entries) ≡ list_any (λ (e : Entry). nat_eq e.doc i) entries
+names_id met rises i low [] inside = refl
+names_id met rises i low (e ∷ entries) inside =
+    ap₂ (λ a b. a || b) (same_id met rises e.doc i (All-head (λ (e : Entry). e.doc < length met) e entries inside) low)
+    (names_id met rises i low entries (All-tail (λ (e : Entry). e.doc < length met) e entries inside))
+
+impact_id : (met : List ℕ) → IsStrictlyIncreasing met → (i : ℕ) → i < length met → (entries : List Entry) → All (λ (e : Entry). e.doc < length met) entries
+    → impact_in (met_at met i) (map (named met) entries) ≡ impact_in i entries
+impact_id met rises i low [] inside = refl
+impact_id met rises i low (e ∷ entries) inside =
+    sum_by-cons (λ (e : Entry). cond (nat_eq e.doc (met_at met i)) e.impact 0) (named met e) (map (named met) entries)
+    ∙ ap₂ (λ a b. a + b) (ap (λ b. cond b e.impact 0) (same_id met rises e.doc i (All-head (λ (e : Entry). e.doc < length met) e entries inside) low))
+    (impact_id met rises i low entries (All-tail (λ (e : Entry). e.doc < length met) e entries inside))
+    ∙ sym (sum_by-cons (λ (e : Entry). cond (nat_eq e.doc i) e.impact 0) e entries)
+
+rest_id : (documents : ℕ) (met : List ℕ) (one : Presented) → rest (lane_of documents met one) ≡ rest (index_lane documents one)
+rest_id documents met one =
+    let entries : List Entry = one.prefix.entries in
+    let size : length (map (named met) entries) ≡ length entries = length-map entries (named met) in
+    let impacts : map (λ (e : Entry). e.impact) (map (named met) entries) ≡ map (λ (e : Entry). e.impact) entries = map-map (λ (e : Entry). e.impact) (named met) entries in
+    ap₂ (λ (n : ℕ) (is : List ℕ). (one.weight * idf documents one.entry.f) * cond (nat_eq n one.entry.f) 0 (get_or is (n - 1) 0)) size impacts
+
+-- ---- all lanes
+
+abbrev AreAllNamed : List ℕ → List Presented → Type 0
+AreAllNamed met terms = All (λ (one : Presented). AreNames (length met) (indexes_of one.prefix.entries)) terms
+
+pub has_all : (documents : ℕ) (met : List ℕ) → IsStrictlyIncreasing met → (i : ℕ) → i < length met → (terms : List Presented) → AreAllNamed met terms
+    → has_note i (notes_of documents terms) ≡ list_any (names (met_at met i)) (map (lane_of documents met) terms)
+has_all documents met rises i low [] all = refl
+has_all documents met rises i low (one ∷ terms) all =
+    let here = All-head (λ (one : Presented). AreNames (length met) (indexes_of one.prefix.entries)) one terms all in
+    let later = All-tail (λ (one : Presented). AreNames (length met) (indexes_of one.prefix.entries)) one terms all in
+    let lane : ShownLane = index_lane documents one in
+    list_any-append (λ (n : Note). nat_eq n.index i) (lane_notes lane) (notes_of documents terms)
+    ∙ ap₂ (λ a b. a || b)
+    (has_entries lane.coefficient (rest lane) i lane.shown ∙ sym (names_id met rises i low lane.shown (names_inside (length met) lane.shown here)))
+    (has_all documents met rises i low terms later)
+
+pub gain_all : (documents : ℕ) (met : List ℕ) → IsStrictlyIncreasing met → (i : ℕ) → i < length met → (terms : List Presented) → AreAllNamed met terms
+    → gain_of i (notes_of documents terms) ≡ lower (map (lane_of documents met) terms) (met_at met i)
+gain_all documents met rises i low [] all = refl
+gain_all documents met rises i low (one ∷ terms) all =
+    let here = All-head (λ (one : Presented). AreNames (length met) (indexes_of one.prefix.entries)) one terms all in
+    let later = All-tail (λ (one : Presented). AreNames (length met) (indexes_of one.prefix.entries)) one terms all in
+    let lane : ShownLane = index_lane documents one in
+    sum_by-append (λ (n : Note). cond (nat_eq n.index i) n.gain 0) (lane_notes lane) (notes_of documents terms)
+    ∙ ap₂ (λ a b. a + b)
+    (gain_entries lane.coefficient (rest lane) i lane.shown ∙ ap (λ n. lane.coefficient * n) (sym (impact_id met rises i low lane.shown (names_inside (length met) lane.shown here))))
+    (gain_all documents met rises i low terms later)
+    ∙ sym (sum_by-cons (λ (lane : ShownLane). lane.coefficient * shown_impact (met_at met i) lane) (lane_of documents met one) (map (lane_of documents met) terms))
+
+pub cover_all : (documents : ℕ) (met : List ℕ) → IsStrictlyIncreasing met → (i : ℕ) → i < length met → (terms : List Presented) → AreAllNamed met terms
+    → cover_of i (notes_of documents terms) ≡ held (map (lane_of documents met) terms) (met_at met i)
+cover_all documents met rises i low [] all = refl
+cover_all documents met rises i low (one ∷ terms) all =
+    let here = All-head (λ (one : Presented). AreNames (length met) (indexes_of one.prefix.entries)) one terms all in
+    let later = All-tail (λ (one : Presented). AreNames (length met) (indexes_of one.prefix.entries)) one terms all in
+    let lane : ShownLane = index_lane documents one in
+    sum_by-append (λ (n : Note). cond (nat_eq n.index i) n.cover 0) (lane_notes lane) (notes_of documents terms)
+    ∙ ap₂ (λ a b. a + b)
+    (cover_entries lane.coefficient (rest lane) i lane.shown (here.once i)
+    ∙ ap₂ (λ b n. cond b n 0) (sym (names_id met rises i low lane.shown (names_inside (length met) lane.shown here))) (sym (rest_id documents met one)))
+    (cover_all documents met rises i low terms later)
+    ∙ sym (sum_by-cons (λ (lane : ShownLane). cond (names (met_at met i) lane) (rest lane) 0) (lane_of documents met one) (map (lane_of documents met) terms))
+
+pub rests_all : (documents : ℕ) (met : List ℕ) (terms : List Presented) → threshold (map (index_lane documents) terms) ≡ threshold (map (lane_of documents met) terms)
+rests_all documents met [] = refl
+rests_all documents met (one ∷ terms) =
+    sum_by-cons rest (index_lane documents one) (map (index_lane documents) terms)
+    ∙ ap₂ (λ a b. a + b) (sym (rest_id documents met one)) (rests_all documents met terms)
+    ∙ sym (sum_by-cons rest (lane_of documents met one) (map (lane_of documents met) terms))

@@ -1,0 +1,10 @@
+pub mod Walks
+pub mod Slotted
+pub mod Marks
+pub mod Listed
+pub mod Presents
+pub mod Lanes
+pub mod Passing
+pub mod Noting
+pub mod Bounding
+pub mod Exact

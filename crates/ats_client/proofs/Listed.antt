@@ -1,0 +1,30 @@
+-- The notes of one prefix.
+use Rattle.std.proofs.Common.{◌≡◌, ◌<◌, ◌+◌, ◌*◌, ◌++◌, ℕ, List, [], map, get_or, ap₂, subst, arith}
+use Rattle.std.specs.List.{All}
+use Rattle.std.proofs.lemmas.List.{length-map, get_or-map}
+use Rattle.ats_impact.specs.Numbers.{idf}
+use Rattle.ats_lists.specs.declared.entry.Entry.{Entry}
+use Rattle.ats_bound.specs.declared.work.Mark.{Mark}
+use Rattle.ats_bound.specs.Cut.{rest}
+use Rattle.ats_client.specs.Presented.{Presented}
+use Rattle.ats_client.specs.Indexes.{AreNames}
+use Rattle.ats_client.specs.Groups.{indexes_of}
+use Rattle.ats_client.specs.Noting.{Note, note, AreNotes, index_lane, lane_notes}
+use Rattle.ats_client.proofs.Marks.{notes_turn}
+
+pub names_inside : (met : ℕ) (entries : List Entry) → AreNames met (indexes_of entries) → All (λ (e : Entry). e.doc < met) entries
+names_inside met entries names k d low =
+    let here : get_or (indexes_of entries) k d.doc ≡ (get_or entries k d).doc = get_or-map (λ (e : Entry). e.doc) entries k d d.doc low in
+    let size = length-map entries (λ (e : Entry). e.doc) in
+    subst (λ x. x < met) here (names.inside k d.doc (omega (arith, size, low)))
+
+pub list_noted : (met : ℕ) (notes : List Note) (number documents coefficient cover : ℕ) (one : Presented) (marks : List Mark)
+    → coefficient ≡ one.weight * idf documents one.entry.f → cover ≡ rest (index_lane documents one)
+    → AreNotes met (notes ++ map (note coefficient cover) one.prefix.entries) (number + 1) (indexes_of one.prefix.entries) marks
+    → AreNotes met (notes ++ lane_notes (index_lane documents one)) (number + 2) [] marks
+list_noted met notes number documents coefficient cover one marks is covers are =
+    let all : map (note coefficient cover) one.prefix.entries ≡ lane_notes (index_lane documents one) = ap₂ (λ c r. map (note c r) one.prefix.entries) is covers in
+    let here = subst (λ more. AreNotes met (notes ++ more) (number + 1) (indexes_of one.prefix.entries) marks) all are in
+    let next : number + 1 + 1 ≡ number + 2 = omega arith in
+    subst (λ l. AreNotes met (notes ++ lane_notes (index_lane documents one)) l [] marks) next
+    (notes_turn met (notes ++ lane_notes (index_lane documents one)) (number + 1) (indexes_of one.prefix.entries) marks here)

@@ -1,0 +1,18 @@
+-- Which slots show their terms, term by term.
+use Rattle.std.proofs.Common.{◌≡◌, ◌↔◌, ◌<◌, ◌+◌, ℕ, List, Some, slice_get, Bool, false, IsTrue, below_more}
+use Rattle.std.proofs.lemmas.Option.{get_or_from_slice_get}
+use Rattle.ats_records.specs.declared.record.Slot.{Slot}
+use Rattle.ats_proof.specs.Value.{ShownEntry, Proof}
+use Rattle.ats_client.specs.Slots.{ShowsTerm}
+use Rattle.ats_client.specs.Groups.{dict_terms, term_at, slot_at, IsSlotRight}
+
+pub slot_right : (query : List (List ℕ × ℕ)) (proof : Proof) (i : ℕ) (dict : List ShownEntry) (term : List ℕ) (slot : Slot) (shows : Bool)
+    → dict ≡ proof.dict → term ≡ term_at query i → slice_get proof.slots i ≡ Some slot
+    → IsTrue shows ↔ ShowsTerm (dict_terms dict) term slot → IsTrue shows ↔ IsSlotRight query proof i
+slot_right query proof i dict term slot shows same_dict same_term same_slot test =
+    let slot_is : slot_at proof.slots i ≡ slot = get_or_from_slice_get proof.slots i slot (record { present = false; index = 0 }) same_slot in
+    rw (slot_is, ← same_term, ← same_dict) test
+
+pub slots_more : (query : List (List ℕ × ℕ)) (proof : Proof) (i : ℕ) → ((j : ℕ) → j < i → IsSlotRight query proof j) → IsSlotRight query proof i
+    → (j : ℕ) → j < i + 1 → IsSlotRight query proof j
+slots_more query proof i before here = below_more _ _ before here

@@ -1,0 +1,31 @@
+use Rattle.std.proofs.Common.{◌≡◌, ◌+◌, ◌*◌, ◌∙◌, ℕ, ◌++◌, List, [], length, map, ap, ap₂, subst}
+use Rattle.ats_impact.specs.Numbers.{idf}
+use Rattle.ats_dict.specs.declared.header.Header.{Header}
+use Rattle.ats_bound.specs.Cut.{rest}
+use Rattle.ats_proof.specs.Views.{proof_of}
+use Rattle.ats_client.specs.Presented.{Presented}
+use Rattle.ats_client.specs.Indexes.{AreNames}
+use Rattle.ats_client.specs.Groups.{indexes_of}
+use Rattle.ats_client.specs.Lists.{prefix_of, presented_of}
+use Rattle.ats_client.specs.Noting.{Note, note, AreNotes, index_lane}
+use Rattle.ats_client.proofs.Listed.{names_inside, list_noted}
+use Rattle.ats_client.proofs.listing.list.Goals as goal
+
+pub rooted-requires-clause-named : goal.rooted-requires-clause-named
+rooted-requires-clause-named g c =
+    let names = subst (λ (met : ℕ). AreNames met (indexes_of (prefix_of c.args.one.now.list).entries)) c.met.ensures c.in_ok-entries.ensures.names in
+    names_inside (length (proof_of c.args.proof.now).met) (prefix_of c.args.one.now.list).entries names
+
+pub returns-clause-notes : goal.returns-clause-notes
+returns-clause-notes g c =
+    let one : Presented = presented_of c.args.one.now in
+    let documents = (proof_of c.args.proof.now).header.documents in
+    let coefficient : c.from.result * c.idf.result ≡ one.weight * idf documents one.entry.f =
+    ap₂ (λ a b. a * b) c.from.ensures (c.idf.ensures.value ∙ ap (λ (h : Header). idf h.documents one.entry.f) c.header.ensures) in
+    let cover : c.weighed-cover.result ≡ rest (index_lane documents one) = c.weighed-cover.ensures.value ∙ ap₂ (λ a b. a * b) coefficient c.rest_impact-impact.ensures.value in
+    let notes = subst (λ (met : ℕ). (notes : List Note) → AreNotes met notes (c.args.one.now.number + 1) [] c.args.work.now.marks
+    → AreNotes met (notes ++ map (note (c.from.result * c.idf.result) c.weighed-cover.result) one.prefix.entries) (c.args.one.now.number + 1) (indexes_of one.prefix.entries) c.entries.new.work.marks)
+    c.met.ensures c.in_ok-entries.ensures.notes in
+    λ (before : List Note) (from : AreNotes (length (proof_of c.args.proof.now).met) before (c.args.one.now.number + 1) [] c.args.work.now.marks).
+    list_noted (length (proof_of c.args.proof.now).met) before c.args.one.now.number documents (c.from.result * c.idf.result) c.weighed-cover.result one c.entries.new.work.marks
+    coefficient cover (notes before from)

@@ -1,0 +1,91 @@
+use Rattle.std.proofs.Common.{◌≡◌, ◌+◌, ◌++◌, ◌∙◌, ℕ, List, [], length, drop, replicate, sym, ap, subst, arith}
+use Rattle.ats_bound.specs.Work.{Marked, zero_mark}
+use Rattle.ats_proof.specs.Value.{Prefix, present_in}
+use Rattle.ats_proof.specs.Reading.{prefix_size, prefix_in, slots_in, lists_place}
+use Rattle.ats_proof.specs.Views.{proof_of}
+use Rattle.ats_proof.proofs.Runs.{length-parts}
+use Rattle.ats_client.specs.Lists.{prefixes_left, presented_of}
+use Rattle.ats_client.specs.Presented.{Presented}
+use Rattle.ats_client.specs.Noting.{Note, AreNotes, index_lane, lane_notes, notes_of}
+use Rattle.ats_client.proofs.Passing.{begins, passes_absent, passes_present, done, marks_done, free_done, rests_done, IsPassed}
+use Rattle.ats_client.proofs.lists.lists.Goals as goal
+use Rattle.ats_client.proofs.lists.lists.Goals.{in-Some+in_ok-limit, in_default}
+
+pub loop-i-init : goal.loop-i-init
+unfolding prefixes_left
+loop-i-init g c =
+    let proof = proof_of c.args.proof.now in
+    let bytes = c.args.proof.now.bytes.now in
+    let all : prefixes_left c.lists-left.result ≡ proof.lists = c.lists-left.ensures in
+    let size : length proof.lists ≡ present_in proof.slots = length-parts prefix_size prefix_in (present_in (slots_in bytes)) (drop (lists_place bytes) bytes) in
+    let enough : present_in proof.slots ≡ length (prefixes_left c.lists-left.result) = sym (ap (λ (l : List Prefix). length l) all ∙ size) in
+    let zeros : c.begin.new.self.marks ≡ replicate (length proof.met) zero_mark = ap (λ (w : Marked). w.marks) c.begin.ensures.marks ∙ ap (λ (n : ℕ). replicate n zero_mark) c.met.ensures in
+    record {
+      passed = begins g.H.HashKind.hash c.args.query.now proof (prefixes_left c.lists-left.result) c.begin.new.self.marks all enough zeros;
+      dict = c.new-walk.ensures;
+      room = ap (λ (w : Marked). w.room) c.begin.ensures.marks;
+      cost = omega (arith, c.begin.ensures.steps, c.met.type_inv);
+    }
+
+pub list-requires-clause-notes : goal.list-requires-clause-notes
+list-requires-clause-notes g c =
+    let proof = proof_of c.args.proof.now in
+    let p = c.loop-i.invariant.passed in
+    (notes_of proof.header.documents p.before, subst (λ (k : ℕ). AreNotes (length proof.met) (notes_of proof.header.documents p.before) (k + 1) [] c.loop-i.work.marks) (sym c.in-Some.ensures.number) p.notes)
+
+pub loop-i-preserved : goal.loop-i-preserved
+loop-i-preserved g c =
+    let H = g.H.HashKind.hash in
+    let query = c.args.query.now in
+    let proof = proof_of c.args.proof.now in
+    let i : ℕ = c.loop-i.i in
+    let left : List Prefix = prefixes_left c.loop-i.left in
+    let after : List Prefix = prefixes_left c.present.new.left in
+    let p = c.loop-i.invariant.passed in
+    elim c.match-present.branch [
+      | in-Some+in_ok-limit w ↦
+          let one : Presented = presented_of w.in-Some.one in
+          let noted = subst (λ (k : ℕ). (notes : List Note) → AreNotes (length proof.met) notes (k + 1) [] c.loop-i.work.marks
+          → AreNotes (length proof.met) (notes ++ lane_notes (index_lane proof.header.documents one)) (k + 2) [] w.list.new.work.marks) w.in-Some.ensures.number w.in_ok-limit.ensures.notes in
+          let passed = passes_present H query proof i left after c.loop-i.limit w.in_ok-limit.field-0 one c.loop-i.work.marks w.list.new.work.marks p
+          w.in-Some.ensures.some w.in_ok-limit.ensures.right noted w.in_ok-limit.ensures.rest w.in_ok-limit.ensures.small w.in-Some.ensures.enough in
+          record {
+            passed = subst (λ (n : ℕ). IsPassed H query proof (i + 1) after n c.match-present.work.marks) (sym w.limit-is)
+                (subst (λ (m : Marked). IsPassed H query proof (i + 1) after (c.loop-i.limit + w.in_ok-limit.field-0) m.marks) (sym w.work-is) passed);
+            dict = w.in-Some.ensures.dict ∙ c.loop-i.invariant.dict;
+            room = ap (λ (m : Marked). m.room) w.work-is ∙ w.in_ok-limit.ensures.room ∙ c.loop-i.invariant.room;
+            cost = omega (arith, w.steps-is, w.in_ok-limit.ensures.cost, w.in-Some.ensures.cost, c.loop-i.invariant.cost);
+          }
+      | in_default w ↦
+          let passed = passes_absent H query proof i left after c.loop-i.limit c.loop-i.work.marks p w.in_default.ensures.none w.in_default.ensures.enough in
+          record {
+            passed = subst (λ (n : ℕ). IsPassed H query proof (i + 1) after n c.match-present.work.marks) (sym w.limit-is)
+                (subst (λ (m : Marked). IsPassed H query proof (i + 1) after c.loop-i.limit m.marks) (sym w.work-is) passed);
+            dict = w.in_default.ensures.dict ∙ c.loop-i.invariant.dict;
+            room = ap (λ (m : Marked). m.room) w.work-is ∙ c.loop-i.invariant.room;
+            cost = omega (arith, w.steps-is, w.in_default.ensures.cost, c.loop-i.invariant.cost);
+          }
+    ]
+
+pub returns-clause-right : goal.returns-clause-right
+returns-clause-right g c =
+    (done g.H.HashKind.hash c.args.query.now (proof_of c.args.proof.now) c.loop-i.i (prefixes_left c.loop-i.left) c.loop-i.limit c.loop-i.work.marks c.loop-i.invariant.passed
+    (omega (arith, c.len-i-end.ensures.value)) (omega (arith, c.len-i-end.ensures.value, c.len-i-end.ensures.query.few))).right
+
+pub returns-clause-marks : goal.returns-clause-marks
+returns-clause-marks g c =
+    marks_done g.H.HashKind.hash c.args.query.now (proof_of c.args.proof.now) c.loop-i.limit c.loop-i.work.marks c.args.proof.now.placed.are_rising.ids
+    (done g.H.HashKind.hash c.args.query.now (proof_of c.args.proof.now) c.loop-i.i (prefixes_left c.loop-i.left) c.loop-i.limit c.loop-i.work.marks c.loop-i.invariant.passed
+    (omega (arith, c.len-i-end.ensures.value)) (omega (arith, c.len-i-end.ensures.value, c.len-i-end.ensures.query.few)))
+
+pub returns-clause-free : goal.returns-clause-free
+returns-clause-free g c =
+    free_done g.H.HashKind.hash c.args.query.now (proof_of c.args.proof.now) c.loop-i.limit c.loop-i.work.marks
+    (done g.H.HashKind.hash c.args.query.now (proof_of c.args.proof.now) c.loop-i.i (prefixes_left c.loop-i.left) c.loop-i.limit c.loop-i.work.marks c.loop-i.invariant.passed
+    (omega (arith, c.len-i-end.ensures.value)) (omega (arith, c.len-i-end.ensures.value, c.len-i-end.ensures.query.few)))
+
+pub returns-clause-rest : goal.returns-clause-rest
+returns-clause-rest g c =
+    rests_done g.H.HashKind.hash c.args.query.now (proof_of c.args.proof.now) c.loop-i.limit c.loop-i.work.marks
+    (done g.H.HashKind.hash c.args.query.now (proof_of c.args.proof.now) c.loop-i.i (prefixes_left c.loop-i.left) c.loop-i.limit c.loop-i.work.marks c.loop-i.invariant.passed
+    (omega (arith, c.len-i-end.ensures.value)) (omega (arith, c.len-i-end.ensures.value, c.len-i-end.ensures.query.few)))

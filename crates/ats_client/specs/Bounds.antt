@@ -1,0 +1,31 @@
+-- What the marks bound: the rows of an answer, and the documents outside it.
+use Rattle.std.specs.Prelude.{◌≡◌, ◌+◌, ◌-◌, ◌<◌, ◌≤◌, ◌^◌, ℕ, zero, suc, List, length, slice_index, false}
+use Rattle.ats_bound.specs.declared.work.Mark.{Mark}
+use Rattle.ats_bound.specs.Work.{mark_at}
+
+-- what a document scores at most: what it scores at least, and what the lists that do not name it can add
+abbrev pub upper : ℕ → Mark → ℕ
+upper limit mark = mark.lo + (limit - mark.held)
+
+-- no mark holds more than the limit, and sums do not wrap
+pub record AreBelow (limit : ℕ) (marks : List Mark) : Type 0 where
+  pub limit_small : limit < 2 ^ 48
+  pub small : (i : ℕ) → i < length marks → (mark_at marks i).lo < 2 ^ 48
+  pub held : (i : ℕ) → i < length marks → (mark_at marks i).held ≤ limit
+
+-- the mark of a row's document
+abbrev pub row_mark : List Mark → List ℕ → ℕ → Mark
+row_mark marks answer k = mark_at marks (slice_index answer k)
+
+-- what the row before this one scores at least; before the first stands the greatest number
+abbrev pub lower_before : List Mark → List ℕ → ℕ → ℕ
+lower_before marks answer zero = 2 ^ 64 - 1
+lower_before marks answer (suc k) = (row_mark marks answer k).lo
+
+-- none of the first n rows can score more than the row before it scores at least
+abbrev pub AreFalling : ℕ → List Mark → List ℕ → ℕ → Type 0
+AreFalling limit marks answer n = (k : ℕ) → k < n → upper limit (row_mark marks answer k) ≤ lower_before marks answer k
+
+-- no document that no row names can score more
+abbrev pub IsRestWithin : ℕ → List Mark → ℕ → Type 0
+IsRestWithin limit marks score = (i : ℕ) → i < length marks → (mark_at marks i).row ≡ false → upper limit (mark_at marks i) ≤ score

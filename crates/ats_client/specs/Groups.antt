@@ -1,0 +1,171 @@
+-- The rules of a proof, group by group: when a group is kept, and else its first failure.
+use Rattle.std.specs.Prelude.{◌≡◌, ◌≢◌, ◌⊎◌, ◌<◌, ◌∷◌, ◌++◌, ℕ, List, [], length, map, slice_index_or, Option, Some, None, false}
+use Rattle.std.specs.List.{All}
+use Rattle.ats_tree.specs.Rebuild.{rebuilt}
+use Rattle.ats_lists.specs.declared.entry.Entry.{Entry}
+use Rattle.ats_dict.specs.Header.{header_bytes}
+use Rattle.ats_dict.specs.declared.header.Header.{Header}
+use Rattle.ats_records.specs.declared.record.Slot.{Slot}
+use Rattle.ats_bound.specs.declared.bracket.Bracket.{Bracket}
+use Rattle.ats_bound.specs.Cut.{ShownLane, IsMet, threshold, bracket}
+use Rattle.ats_bound.specs.Settled.{IsSettled}
+use Rattle.ats_proof.specs.Value.{ShownEntry, Proof}
+use Rattle.ats_proof.specs.Runs.{shown_entry, shown_list}
+use Rattle.ats_client.specs.declared.refusal.Refusal.{Refusal}
+use Rattle.ats_client.specs.declared.refusal.Refusal.TheVariants.{OtherRoot, SlotCount, DictMisfit, DictRoot, SlotWrong, IndexOut, Repeated, ListMisfit, ListRoot, Unmet, AnswerOut, AnswerRepeated, NotSettled}
+use Rattle.ats_client.specs.Presented.{Presented, presented}
+use Rattle.ats_client.specs.Slots.{Shown, ShowsTerm}
+use Rattle.ats_client.specs.Indexes.{AreNames, IsOut, IsAgain}
+
+-- there is a digest, but another one than this
+pub record IsOther (digest : Option (List ℕ)) (root : List ℕ) : Type 0 where
+  pub other : List ℕ
+  pub rebuilt : digest ≡ Some other
+  pub differs : other ≢ root
+
+-- ---- the root, and the number of slots
+
+abbrev pub root_of : (List ℕ → List ℕ) → Header → List ℕ
+root_of H h = H (2 ∷ header_bytes h.documents h.dict_leaves h.dict_root h.docs_root h.texts_root)
+
+pub record IsOpened (H : List ℕ → List ℕ) (root : List ℕ) (query : List (List ℕ × ℕ)) (proof : Proof) : Type 0 where
+  pub commits : root_of H proof.header ≡ root
+  pub slots : length proof.slots ≡ length query
+
+abbrev pub IsOpeningFault : (List ℕ → List ℕ) → List ℕ → List (List ℕ × ℕ) → Proof → Refusal → Type 0
+IsOpeningFault H root query proof OtherRoot = root_of H proof.header ≢ root
+IsOpeningFault H root query proof (SlotCount shown) =
+    (root_of H proof.header ≡ root) × (shown ≡ length proof.slots) × (shown ≢ length query)
+IsOpeningFault H root query proof _ = ⊥
+
+-- ---- the dictionary
+
+-- what the dictionary section rebuilds to
+abbrev pub dict_digest : (List ℕ → List ℕ) → Proof → Option (List ℕ)
+dict_digest H proof = rebuilt H proof.header.dict_leaves (map shown_entry proof.dict) proof.dict_digests
+
+abbrev pub IsDictionary : (List ℕ → List ℕ) → Proof → Type 0
+IsDictionary H proof = dict_digest H proof ≡ Some proof.header.dict_root
+
+abbrev pub IsDictFault : (List ℕ → List ℕ) → Proof → Refusal → Type 0
+IsDictFault H proof DictMisfit = dict_digest H proof ≡ None
+IsDictFault H proof DictRoot = IsOther (dict_digest H proof) proof.header.dict_root
+IsDictFault H proof _ = ⊥
+
+-- ---- the slots
+
+abbrev pub term_at : List (List ℕ × ℕ) → ℕ → List ℕ
+term_at query i = (slice_index_or query i ([], 0)).0
+
+abbrev pub slot_at : List Slot → ℕ → Slot
+slot_at slots i = slice_index_or slots i (record { present = false; index = 0 })
+
+-- the shown leaves of the dictionary, by position and term
+abbrev pub dict_terms : List ShownEntry → List Shown
+dict_terms dict = map (λ (e : ShownEntry). record { position = e.position; term = e.entry.term }) dict
+
+abbrev pub IsSlotRight : List (List ℕ × ℕ) → Proof → ℕ → Type 0
+IsSlotRight query proof i = ShowsTerm (dict_terms proof.dict) (term_at query i) (slot_at proof.slots i)
+
+abbrev pub AreSlotsRight : List (List ℕ × ℕ) → Proof → Type 0
+AreSlotsRight query proof = (i : ℕ) → i < length query → IsSlotRight query proof i
+
+-- the slot of this term does not show it, and the slots of all terms before it show theirs
+pub record IsWrongSlot (query : List (List ℕ × ℕ)) (proof : Proof) (term : ℕ) : Type 0 where
+  pub inside : term < length query
+  pub wrong : ¬ IsSlotRight query proof term
+  pub before : (i : ℕ) → i < term → IsSlotRight query proof i
+
+abbrev pub IsSlotsFault : List (List ℕ × ℕ) → Proof → Refusal → Type 0
+IsSlotsFault query proof (SlotWrong term) = IsWrongSlot query proof term
+IsSlotsFault query proof _ = ⊥
+
+-- ---- the lists
+
+-- the met indexes of entries
+abbrev pub indexes_of : List Entry → List ℕ
+indexes_of entries = map (λ (entry : Entry). entry.doc) entries
+
+-- what the prefix of a present term rebuilds to, among as many leaves as its entry in the dictionary tells
+abbrev pub list_digest : (List ℕ → List ℕ) → List ℕ → Presented → Option (List ℕ)
+list_digest H met term = rebuilt H term.entry.f (shown_list 0 met term.prefix.entries) term.prefix.digests
+
+-- its entries name met documents, each once, and it is the front of the list in the dictionary
+pub record IsListRight (H : List ℕ → List ℕ) (met : List ℕ) (term : Presented) : Type 0 where
+  pub names : AreNames (length met) (indexes_of term.prefix.entries)
+  pub root : list_digest H met term ≡ Some term.entry.root
+
+abbrev pub AreListsRight : (List ℕ → List ℕ) → List (List ℕ × ℕ) → Proof → Type 0
+AreListsRight H query proof = All (IsListRight H proof.met) (presented query proof)
+
+-- the first entry of a prefix that fails
+abbrev pub IsEntryFault : ℕ → Presented → Refusal → Type 0
+IsEntryFault met one (IndexOut term entry) = (term ≡ one.number) × IsOut met (indexes_of one.prefix.entries) entry
+IsEntryFault met one (Repeated term entry) = (term ≡ one.number) × IsAgain met (indexes_of one.prefix.entries) entry
+IsEntryFault met one _ = ⊥
+
+-- how its digest fails
+abbrev pub IsListRootFault : (List ℕ → List ℕ) → List ℕ → Presented → Refusal → Type 0
+IsListRootFault H met one (ListMisfit term) = (term ≡ one.number) × (list_digest H met one ≡ None)
+IsListRootFault H met one (ListRoot term) = (term ≡ one.number) × IsOther (list_digest H met one) one.entry.root
+IsListRootFault H met one _ = ⊥
+
+-- the first failure of one present term: its entries come before its digest
+abbrev pub IsListFault : (List ℕ → List ℕ) → List ℕ → Presented → Refusal → Type 0
+IsListFault H met one refusal =
+    IsEntryFault (length met) one refusal
+    ⊎ (AreNames (length met) (indexes_of one.prefix.entries) × IsListRootFault H met one refusal)
+
+-- the first failure of the present terms, term by term
+pub record IsListsFault (H : List ℕ → List ℕ) (query : List (List ℕ × ℕ)) (proof : Proof) (refusal : Refusal) : Type 0 where
+  pub before : List Presented
+  pub one : Presented
+  pub after : List Presented
+  pub stands : presented query proof ≡ before ++ one ∷ after
+  pub right : All (IsListRight H proof.met) before
+  pub fault : IsListFault H proof.met one refusal
+
+-- ---- the met documents
+
+-- the number of a met document
+abbrev pub met_at : List ℕ → ℕ → ℕ
+met_at met index = slice_index_or met index 0
+
+-- some entry names each met document
+abbrev pub AreAllMet : List ShownLane → List ℕ → Type 0
+AreAllMet lanes met = (i : ℕ) → i < length met → IsMet lanes (met_at met i)
+
+-- no entry names this one, and some entry names each before it
+pub record IsUnmet (lanes : List ShownLane) (met : List ℕ) (index : ℕ) : Type 0 where
+  pub inside : index < length met
+  pub unmet : ¬ IsMet lanes (met_at met index)
+  pub before : (i : ℕ) → i < index → IsMet lanes (met_at met i)
+
+abbrev pub IsMetFault : List ShownLane → List ℕ → Refusal → Type 0
+IsMetFault lanes met (Unmet index) = IsUnmet lanes met index
+IsMetFault lanes met _ = ⊥
+
+-- ---- the rows
+
+-- the rows name met documents, each once
+abbrev pub AreRowsRight : List ℕ → List ℕ → Type 0
+AreRowsRight met answer = AreNames (length met) answer
+
+abbrev pub IsRowsFault : List ℕ → List ℕ → Refusal → Type 0
+IsRowsFault met answer (AnswerOut row) = IsOut (length met) answer row
+IsRowsFault met answer (AnswerRepeated row) = IsAgain (length met) answer row
+IsRowsFault met answer _ = ⊥
+
+-- ---- whether the answer is settled
+
+-- the brackets of the met documents, in their order
+abbrev pub brackets_of : List ShownLane → List ℕ → List Bracket
+brackets_of lanes met = map (bracket lanes) met
+
+-- the answer is settled by what is shown
+abbrev pub IsAnswerSettled : List ShownLane → List ℕ → List ℕ → ℕ → Type 0
+IsAnswerSettled lanes met answer r = IsSettled (brackets_of lanes met) answer (threshold lanes) r
+
+abbrev pub IsSettledFault : List ShownLane → List ℕ → List ℕ → ℕ → Refusal → Type 0
+IsSettledFault lanes met answer r NotSettled = ¬ IsAnswerSettled lanes met answer r
+IsSettledFault lanes met answer r _ = ⊥

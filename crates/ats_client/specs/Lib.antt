@@ -1,0 +1,12 @@
+pub mod Presented
+pub mod Slots
+pub mod Indexes
+pub mod Groups
+pub mod Accepts
+pub mod Marked
+pub mod Rows
+pub mod Seen
+pub mod Walked
+pub mod Noting
+pub mod Lists
+pub mod Bounds

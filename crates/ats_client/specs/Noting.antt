@@ -1,0 +1,62 @@
+-- What the entries of prefixes add to the marks of the documents that they name, by met index.
+use Rattle.std.specs.Prelude.{◌≡◌, ◌<◌, ◌≤◌, ◌*◌, ◌+◌, ◌^◌, ◌==◌, ℕ, Bool, false, List, length, map, nat_lt, if◌then◌else◌}
+use Rattle.std.specs.List.{list_any, sum_by, flat_map}
+use Rattle.ats_impact.specs.Numbers.{idf}
+use Rattle.ats_lists.specs.declared.entry.Entry.{Entry}
+use Rattle.ats_bound.specs.declared.work.Mark.{Mark}
+use Rattle.ats_bound.specs.Work.{mark_at}
+use Rattle.ats_bound.specs.Cut.{ShownLane, rest}
+use Rattle.ats_client.specs.Presented.{Presented}
+
+-- the lane of a present term, with met indexes for documents
+abbrev pub index_lane : ℕ → Presented → ShownLane
+index_lane documents term = record {
+  coefficient = term.weight * idf documents term.entry.f;
+  total = term.entry.f;
+  shown = term.prefix.entries;
+}
+
+-- what an entry adds to what its document scores at least, and to what the lanes that name it can add
+pub record Note : Type 0 where
+  pub index : ℕ
+  pub gain : ℕ
+  pub cover : ℕ
+
+abbrev pub note : ℕ → ℕ → Entry → Note
+note coefficient cover entry = record { index = entry.doc; gain = coefficient * entry.impact; cover = cover }
+
+-- the notes of a lane's entries, and of those of some present terms
+abbrev pub lane_notes : ShownLane → List Note
+lane_notes lane = map (note lane.coefficient (rest lane)) lane.shown
+
+abbrev pub notes_of : ℕ → List Presented → List Note
+notes_of documents terms = flat_map (λ term. lane_notes (index_lane documents term)) terms
+
+abbrev pub gain_of : ℕ → List Note → ℕ
+gain_of index notes = sum_by (λ (n : Note). if n.index == index then n.gain else 0) notes
+
+abbrev pub cover_of : ℕ → List Note → ℕ
+cover_of index notes = sum_by (λ (n : Note). if n.index == index then n.cover else 0) notes
+
+abbrev pub has_note : ℕ → List Note → Bool
+has_note index notes = list_any (λ (n : Note). n.index == index) notes
+
+-- a mark after one note more, of a list that is counted from 1
+abbrev pub with_note : Mark → ℕ → ℕ → ℕ → Mark
+with_note mark list gain cover = record { lo = mark.lo + gain; held = mark.held + cover; list = list; row = mark.row }
+
+-- the mark of a met index after some notes: the list at hand, counted from 1, has named these indexes so far
+pub record IsNoted (notes : List Note) (list : ℕ) (named : List ℕ) (index : ℕ) (mark : Mark) : Type 0 where
+  pub least : mark.lo ≡ gain_of index notes
+  pub cover : mark.held ≡ cover_of index notes
+  pub met : nat_lt 0 mark.list ≡ has_note index notes
+  pub here : (mark.list == list) ≡ list_any (λ i. i == index) named
+  pub early : mark.list ≤ list
+  pub small_lo : mark.lo ≤ 2 ^ 33 * mark.list
+  pub small_held : mark.held ≤ 2 ^ 33 * mark.list
+  pub free : mark.row ≡ false
+
+-- one mark for each met index
+pub record AreNotes (met : ℕ) (notes : List Note) (list : ℕ) (named : List ℕ) (marks : List Mark) : Type 0 where
+  pub size : length marks ≡ met
+  pub each : (i : ℕ) → i < met → IsNoted notes list named i (mark_at marks i)

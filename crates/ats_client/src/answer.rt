@@ -1,0 +1,31 @@
+//! The rows of an answer that was checked.
+
+ghost use Rattle.std.specs.Prelude.{◌≡◌, ◌+◌, ◌≤◌, ◌<◌, ◌^◌, ℕ, List, length};
+ghost use Rattle.ats_proof.specs.Views.{proof_of};
+ghost use Rattle.ats_client.specs.Rows.{IsLeft, row_of, row_bracket};
+
+use crate::settled::upper;
+use ats_bound::Work;
+use ats_hash::Steps;
+use ats_impact::Row;
+use ats_proof::ProofView;
+
+/// Row `i` of the answer, counted from 0: its document with what it scores at least and at most.
+///
+/// The marks and the threshold are those that an accepted check of this proof leaves.
+pub fn row(proof: &ProofView<'_>, work: &Work, threshold: u64, i: u32, steps: &mut Steps) -> Row
+    requires left { (query : List (List ℕ × ℕ)) × IsLeft query (proof_of proof.now) work.now.marks threshold }
+    requires within { i < length (proof_of proof.now).answer }
+    requires count { steps.old ≤ 2 ^ 63 }
+    ensures row { (query : List (List ℕ × ℕ)) → IsLeft query (proof_of proof.now) work.now.marks threshold → result ≡ row_of (row_bracket query (proof_of proof.now) i) }
+    ensures cost { steps.new ≡ steps.old + 3 }
+{
+    let index = proof.answer(i, steps);
+    let mark = work.get(index, steps);
+    let id = proof.met_id(index, steps);
+    Row {
+        doc: u32::from_be_bytes([id[0], id[1], id[2], id[3]]),
+        lower: mark.lo,
+        upper: upper(mark, threshold),
+    }
+}

@@ -1,0 +1,82 @@
+//! The check of a whole proof.
+
+ghost use Rattle.std.specs.Prelude.{◌≡◌, ◌≤◌, ◌+◌, ◌^◌, ℕ, List, length, IsOk, OnOk, IfOk, IfErr};
+ghost use Rattle.ats_records.specs.declared.record.Algorithm.{Algorithm};
+ghost use Rattle.ats_records.specs.declared.record.Algorithm.TheVariants.{Tnra};
+ghost use Rattle.ats_bound.specs.Cut.{threshold};
+ghost use Rattle.ats_proof.specs.Value.{algorithm_of};
+ghost use Rattle.ats_proof.specs.Views.{proof_of};
+ghost use Rattle.ats_client.specs.Presented.{lanes_of};
+ghost use Rattle.ats_client.specs.Accepts.{Accepts, IsFirstRefusal};
+ghost use Rattle.ats_client.specs.Marked.{AreMarks};
+ghost use Rattle.ats_client.specs.Rows.{IsLeft};
+
+use crate::lists::lists;
+use crate::met::met;
+use crate::opening::{dictionary, opened};
+use crate::refusal::Refusal;
+use crate::rows::rows;
+use crate::settled::settled;
+use crate::slots::slots;
+use ats_bound::Work;
+use ats_hash::{Hash32, Steps};
+use ats_impact::Top;
+use ats_proof::ProofView;
+use ats_terms::Query;
+
+// The check, group by group.
+fn checked<'a, H: Hash32>(
+    root: &[u8; 32],
+    query: &Query,
+    top: Top,
+    proof: &ProofView<'a>,
+    work: &mut Work,
+    steps: &mut Steps,
+) -> Result<u64, Refusal>
+    requires work { length (proof_of proof.now).met ≤ work.old.room }
+    requires count { steps.old ≤ 2 ^ 62 }
+    ensures accepts { OnOk result (Accepts H.hash root.now query.now top (proof_of proof.now)) }
+    ensures limit { IfOk result (λ limit. limit ≡ threshold (lanes_of query.now (proof_of proof.now))) }
+    ensures marks { OnOk result (AreMarks (lanes_of query.now (proof_of proof.now)) (proof_of proof.now).met work.new.marks) }
+    ensures left { IfOk result (λ limit. IsLeft query.now (proof_of proof.now) work.new.marks limit) }
+    ensures refused { IfErr result (λ refusal. IsFirstRefusal H.hash root.now query.now top (proof_of proof.now) refusal) }
+    ensures room { work.new.room ≡ work.old.room }
+{
+    opened::<H>(root, query, proof, steps)?;
+    dictionary::<H>(proof, steps)?;
+    slots(query, proof, steps)?;
+    let limit = lists::<H>(query, proof, work, steps)?;
+    met(proof, work, steps)?;
+    rows(proof, work, steps)?;
+    if !settled(proof, work, limit, top, steps) {
+        return Err(Refusal::NotSettled);
+    }
+    Ok(limit)
+}
+
+/// Tries whether a proof shows that its answer is right: the best `top` documents for the query in the
+/// collection that the root commits to. It answers what any document that no entry names can score, at
+/// most, or the first rule that the proof does not keep.
+///
+/// The marks are begun anew; what stood there before does not matter. After a refusal they are any.
+pub fn check<'a, H: Hash32>(
+    root: &[u8; 32],
+    query: &Query,
+    top: Top,
+    proof: &ProofView<'a>,
+    work: &mut Work,
+    steps: &mut Steps,
+) -> Result<u64, Refusal>
+    requires algorithm { algorithm_of (proof_of proof.now) ≡ Tnra }
+    requires work { length (proof_of proof.now).met ≤ work.old.room }
+    requires count { steps.old ≤ 2 ^ 62 }
+    ensures accepts { OnOk result (Accepts H.hash root.now query.now top (proof_of proof.now)) }
+    ensures exact { Accepts H.hash root.now query.now top (proof_of proof.now) → IsOk result }
+    ensures limit { IfOk result (λ limit. limit ≡ threshold (lanes_of query.now (proof_of proof.now))) }
+    ensures marks { OnOk result (AreMarks (lanes_of query.now (proof_of proof.now)) (proof_of proof.now).met work.new.marks) }
+    ensures left { IfOk result (λ limit. IsLeft query.now (proof_of proof.now) work.new.marks limit) }
+    ensures refused { IfErr result (λ refusal. IsFirstRefusal H.hash root.now query.now top (proof_of proof.now) refusal) }
+    ensures room { work.new.room ≡ work.old.room }
+{
+    checked::<H>(root, query, top, proof, work, steps)
+}

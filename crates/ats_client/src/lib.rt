@@ -1,0 +1,34 @@
+//! The check of a proof: whoever holds the root of a collection learns whether an answer is right.
+//!
+//! A proof shows parts of the dictionary and of the lists of a query's terms. [`check`] rebuilds each part
+//! up to the root, and from what the lists show it tries whether the answer is settled; [`row`] then tells
+//! each document of the answer with its bounds.
+//! The room stands on the proof that `ats_proof` sees in its bytes, on the trees of `ats_tree`, and on the
+//! cuts and settled answers of `ats_bound`. It promises that a proof is accepted exactly where all rules of
+//! `specs/Accepts.antt` hold, else refused by the first that fails, and that it takes no memory. In which
+//! passes leaves and entries are read, and what the marks note beside the bounds, may change without asking.
+#![tactic(auto)]
+
+mod answer;
+mod checking;
+mod leaf;
+mod listing;
+mod lists;
+mod marking;
+#[cfg(test)]
+mod marks_tests;
+mod met;
+mod opening;
+mod present;
+mod presenting;
+mod refusal;
+mod rows;
+mod settled;
+mod slots;
+#[cfg(test)]
+mod tests;
+mod walk;
+
+pub use answer::row;
+pub use checking::check;
+pub use refusal::Refusal;

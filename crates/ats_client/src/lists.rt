@@ -1,0 +1,50 @@
+//! The prefixes of all present terms.
+
+ghost use Rattle.std.specs.Prelude.{◌≡◌, ◌<◌, ◌≤◌, ◌+◌, ◌^◌, [], length, OnOk, IfOk, IfErr};
+ghost use Rattle.ats_bound.specs.Cut.{threshold};
+ghost use Rattle.ats_proof.specs.Views.{proof_of};
+ghost use Rattle.ats_client.specs.Presented.{lanes_of};
+ghost use Rattle.ats_client.specs.Groups.{AreSlotsRight, AreListsRight, IsListsFault};
+ghost use Rattle.ats_client.specs.Marked.{AreMarks, AreNoted};
+
+use crate::listing::list;
+use crate::presenting::present;
+use crate::refusal::Refusal;
+use crate::walk::DictWalk;
+use ats_bound::Work;
+use ats_hash::{Hash32, Steps};
+use ats_proof::ProofView;
+use ats_terms::Query;
+
+/// Tries the prefixes of all present terms, and makes the marks of the met documents. It answers what a
+/// document that is not met can score, at most.
+pub(crate) fn lists<'a, H: Hash32>(
+    query: &Query,
+    proof: &ProofView<'a>,
+    work: &mut Work,
+    steps: &mut Steps,
+) -> Result<u64, Refusal>
+    requires each { length (proof_of proof.now).slots ≡ length query.now }
+    requires right { AreSlotsRight query.now (proof_of proof.now) }
+    requires work { length (proof_of proof.now).met ≤ work.old.room }
+    requires room { steps.old ≤ 2 ^ 62 + 2 ^ 42 }
+    ensures fault { IfErr result (IsListsFault H.hash query.now (proof_of proof.now)) }
+    ensures right { OnOk result (AreListsRight H.hash query.now (proof_of proof.now)) }
+    ensures marks { OnOk result (AreMarks (lanes_of query.now (proof_of proof.now)) (proof_of proof.now).met work.new.marks) }
+    ensures free { OnOk result (AreNoted [] work.new.marks) }
+    ensures rest { IfOk result (λ limit. limit ≡ threshold (lanes_of query.now (proof_of proof.now))) }
+    ensures small { IfOk result (λ limit. limit < 2 ^ 48) }
+    ensures room { work.new.room ≡ work.old.room }
+    ensures cost { steps.new ≤ steps.old + 2 ^ 42 }
+{
+    work.begin(proof.met(), steps);
+    let mut walk = DictWalk::new(proof);
+    let mut left = proof.lists();
+    let mut limit = 0;
+    for i in 0..query.len() {
+        if let Some(one) = present(query, proof, i as u32, &mut walk, &mut left, steps) {
+            limit += list::<H>(&one, proof, work, steps)?;
+        }
+    }
+    Ok(limit)
+}

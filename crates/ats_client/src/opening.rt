@@ -1,0 +1,69 @@
+//! The root, the number of slots, and the dictionary section.
+
+ghost use Rattle.std.specs.Prelude.{◌≡◌, ◌≤◌, ◌+◌, ◌*◌, ◌^◌, OnOk, IfErr};
+ghost use Rattle.ats_tree.specs.Rebuild.{rebuilt};
+ghost use Rattle.ats_proof.specs.Views.{proof_of};
+ghost use Rattle.ats_client.specs.Groups.{IsOpened, IsOpeningFault, IsDictionary, IsDictFault};
+
+use crate::refusal::Refusal;
+use ats_commit::root_of_header;
+use ats_hash::{Hash32, Steps};
+use ats_proof::ProofView;
+use ats_terms::Query;
+use ats_tree::{Revealed, rebuild};
+
+/// What a section of a tree of `n` leaves rebuilds to, nothing where it is no part of one.
+pub(crate) fn rebuilt<'a, H: Hash32, R: Revealed<'a>>(
+    n: u32,
+    revealed: &mut R,
+    steps: &mut Steps,
+) -> Option<[u8; 32]>
+    requires room { steps.old ≤ 2 ^ 63 }
+    ensures digest { result ≡ rebuilt H.hash n (R.shown revealed.old) (R.digests revealed.old) }
+    ensures cost { steps.new ≤ steps.old + 3 * n }
+{
+    if n == 0 {
+        return None;
+    }
+    rebuild::<H, R>(n, revealed, steps).ok()
+}
+
+/// Tries that the header stands for the root, and that the proof is one of as many terms as the query has.
+pub(crate) fn opened<H: Hash32>(
+    root: &[u8; 32],
+    query: &Query,
+    proof: &ProofView<'_>,
+    steps: &mut Steps,
+) -> Result<(), Refusal>
+    requires room { steps.old ≤ 2 ^ 63 }
+    ensures kept { OnOk result (IsOpened H.hash root.now query.now (proof_of proof.now)) }
+    ensures fault { IfErr result (IsOpeningFault H.hash root.now query.now (proof_of proof.now)) }
+    ensures cost { steps.new ≤ steps.old + 1 }
+{
+    if root_of_header::<H>(&proof.header(), steps) != *root {
+        return Err(Refusal::OtherRoot);
+    }
+    let shown = proof.terms();
+    if shown as usize != query.len() {
+        return Err(Refusal::SlotCount { shown });
+    }
+    Ok(())
+}
+
+/// Tries that the dictionary section is part of the header's dictionary.
+pub(crate) fn dictionary<H: Hash32>(proof: &ProofView<'_>, steps: &mut Steps) -> Result<(), Refusal>
+    requires room { steps.old ≤ 2 ^ 63 }
+    ensures kept { OnOk result (IsDictionary H.hash (proof_of proof.now)) }
+    ensures fault { IfErr result (IsDictFault H.hash (proof_of proof.now)) }
+    ensures cost { steps.new ≤ steps.old + 2 ^ 34 }
+{
+    let header = proof.header();
+    let mut section = proof.dict();
+    let Some(digest) = rebuilt::<H, _>(header.dict_leaves, &mut section, steps) else {
+        return Err(Refusal::DictMisfit);
+    };
+    if digest != header.dict_root {
+        return Err(Refusal::DictRoot);
+    }
+    Ok(())
+}

@@ -1,0 +1,68 @@
+//! The present terms of a proof, one after another.
+
+ghost use Rattle.std.specs.Prelude.{◌≡◌, ◌<◌, ◌≤◌, ◌+◌, ◌^◌, ◌∷◌, length, drop, slice_get, option_map, IfSome, IfNone};
+ghost use Rattle.ats_proof.specs.Value.{present_in};
+ghost use Rattle.ats_proof.specs.Views.{proof_of};
+ghost use Rattle.ats_client.specs.Presented.{presented_from};
+ghost use Rattle.ats_client.specs.Groups.{IsSlotRight};
+ghost use Rattle.ats_client.specs.Lists.{prefix_of, prefixes_left, presented_of};
+ghost use Rattle.ats_client.specs.Walked.{dict_of};
+
+use crate::present::Present;
+use crate::walk::DictWalk;
+use ats_hash::Steps;
+use ats_proof::{ListView, ListsView, ProofView};
+use ats_terms::Query;
+
+// The first prefix left.
+#[tactic(auto, unfolding(crate::specs::Lists::prefixes_left, crate::specs::Lists::prefix_of))]
+fn next_list<'a>(left: &mut ListsView<'a>, steps: &mut Steps) -> Option<ListView<'a>>
+    requires room { steps.old ≤ 2 ^ 63 }
+    ensures first { option_map prefix_of result ≡ slice_get (prefixes_left left.old) 0 }
+    ensures passed { prefixes_left left.new ≡ drop 1 (prefixes_left left.old) }
+    ensures cost { steps.new ≤ steps.old + 1 }
+{
+    left.next(steps)
+}
+
+/// A term of the query with the next prefix, where its slot says that it is present.
+pub(crate) fn present<'a>(
+    query: &Query,
+    proof: &ProofView<'a>,
+    i: u32,
+    walk: &mut DictWalk<'a>,
+    left: &mut ListsView<'a>,
+    steps: &mut Steps,
+) -> Option<Present<'a>>
+    requires inside { i < length query.now }
+    requires each { length (proof_of proof.now).slots ≡ length query.now }
+    requires right { IsSlotRight query.now (proof_of proof.now) i }
+    requires dict { dict_of walk.old ≡ (proof_of proof.now).dict }
+    requires enough { present_in (drop i (proof_of proof.now).slots) ≡ length (prefixes_left left.old) }
+    requires room { steps.old ≤ 2 ^ 62 + 2 ^ 45 }
+    ensures some { IfSome result (λ one. presented_from (proof_of proof.now).dict i (drop i query.now) (drop i (proof_of proof.now).slots) (prefixes_left left.old)
+        ≡ presented_of one ∷ presented_from (proof_of proof.now).dict (i + 1) (drop (i + 1) query.now) (drop (i + 1) (proof_of proof.now).slots) (prefixes_left left.new)) }
+    ensures number { IfSome result (λ one. one.number ≡ i) }
+    ensures none { IfNone result (presented_from (proof_of proof.now).dict i (drop i query.now) (drop i (proof_of proof.now).slots) (prefixes_left left.old)
+        ≡ presented_from (proof_of proof.now).dict (i + 1) (drop (i + 1) query.now) (drop (i + 1) (proof_of proof.now).slots) (prefixes_left left.new)) }
+    ensures enough { present_in (drop (i + 1) (proof_of proof.now).slots) ≡ length (prefixes_left left.new) }
+    ensures dict { dict_of walk.new ≡ dict_of walk.old }
+    ensures cost { steps.new ≤ steps.old + 2 ^ 17 }
+{
+    let slot = proof.slot(i, steps);
+    if !slot.present {
+        return None;
+    }
+    let Some(leaf) = walk.leaf(slot.index, steps) else {
+        unreachable!()
+    };
+    let Some(list) = next_list(left, steps) else {
+        unreachable!()
+    };
+    Some(Present {
+        number: i,
+        weight: query.weight(i as usize),
+        entry: leaf.entry,
+        list,
+    })
+}

@@ -1,0 +1,29 @@
+//! The slots of the query's terms.
+
+ghost use Rattle.std.specs.Prelude.{◌≡◌, ◌≤◌, ◌+◌, ◌^◌, OnOk, IfErr, length};
+ghost use Rattle.ats_proof.specs.Views.{proof_of};
+ghost use Rattle.ats_client.specs.Groups.{AreSlotsRight, IsSlotsFault};
+
+use crate::refusal::Refusal;
+use crate::walk::DictWalk;
+use ats_hash::Steps;
+use ats_proof::ProofView;
+use ats_terms::Query;
+
+/// Tries that the slot of each term shows it in the dictionary section.
+pub(crate) fn slots(query: &Query, proof: &ProofView<'_>, steps: &mut Steps) -> Result<(), Refusal>
+    requires each { length (proof_of proof.now).slots ≡ length query.now }
+    requires room { steps.old ≤ 2 ^ 62 + 2 ^ 40 }
+    ensures kept { OnOk result (AreSlotsRight query.now (proof_of proof.now)) }
+    ensures fault { IfErr result (IsSlotsFault query.now (proof_of proof.now)) }
+    ensures cost { steps.new ≤ steps.old + 2 ^ 24 }
+{
+    let mut walk = DictWalk::new(proof);
+    for i in 0..query.len() {
+        let slot = proof.slot(i as u32, steps);
+        if !walk.shows(query.term(i), slot, steps) {
+            return Err(Refusal::SlotWrong { term: i as u32 });
+        }
+    }
+    Ok(())
+}
