@@ -12,12 +12,13 @@ use ats_grammar::{ShapeFault, scan};
 
 impl<'a> ProofView<'a> {
     ghost use Rattle.ats_proof.specs.Value.{Proof, IsProof};
-    ghost use Rattle.ats_proof.specs.Views.{proof_of};
+    ghost use Rattle.ats_proof.specs.Views.{proof_of, bytes_of};
 
     // The view of bytes that spell a proof.
     fn of(bytes: &'a [u8]) -> ProofView<'a>
         requires { IsSpelling bytes.now }
         ensures proof { IsProof bytes.now (proof_of result) }
+        ensures lent { bytes_of result ≡ bytes.now }
     {
         let tra = number_1(bytes.split_at(5).1) == 1;
         let begun = Begun::of(bytes);
@@ -47,6 +48,7 @@ impl<'a> ProofView<'a> {
     pub fn read(bytes: &'a [u8]) -> Result<ProofView<'a>, ShapeFault>
         ensures spelled { IfOk result (λ view. IsProof bytes.now (proof_of view)) }
         ensures accepted { (proof : Proof) → IsProof bytes.now proof → IsOkAnd result (λ view. proof_of view ≡ proof) }
+        ensures lent { IfOk result (λ view. bytes_of view ≡ bytes.now) }
         ensures refused { IfErr result (λ fault. IsBad bytes.now fault) }
         ensures exact { (fault : ShapeFault) → IsBad bytes.now fault → result ≡ Err fault }
     {

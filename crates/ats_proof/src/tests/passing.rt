@@ -1,10 +1,13 @@
 //! The cursors, leaf by leaf and digest by digest.
 
-ghost use Rattle.std.specs.Prelude.{◌≤◌, ◌<◌, ◌+◌, ◌^◌};
+ghost use Rattle.std.specs.Prelude.{◌≡◌, ◌≤◌, ◌<◌, ◌+◌, ◌^◌, length, slice_get, Some};
+ghost use Rattle.ats_proof.specs.SeenLists.{list_of};
+ghost use Rattle.ats_proof.specs.Views.{proof_of};
 
 use super::examples::{tnra, tra};
 use crate::*;
 use ats_hash::Steps;
+use ats_lists::Entry;
 use ats_tree::Revealed;
 use std::test::*;
 
@@ -115,6 +118,49 @@ fn terms_section_is_passed(rt: HostRuntime) -> Result<(), Fail> {
     let red = pass(&mut terms, &mut steps).ok_or("red is shown")?;
     assert_eq!(rt; red.position, 2);
     assert!(rt; terms.leaf().is_none());
+    assert_eq!(rt; steps.count(), 6);
+    Ok(())
+}
+
+// The leaves of a list's prefix of two entries, which both name met documents.
+fn reveal<'a>(
+    list: &ListView<'a>,
+    view: &ProofView<'a>,
+    first: Entry,
+    second: Entry,
+) -> ListCursor<'a>
+    requires two { length (list_of list.now).entries ≡ 2 }
+    requires first { slice_get (list_of list.now).entries 0 ≡ Some first }
+    requires second { slice_get (list_of list.now).entries 1 ≡ Some second }
+    requires first_met { first.doc < length (proof_of view.now).met }
+    requires second_met { second.doc < length (proof_of view.now).met }
+{
+    list.revealed(view)
+}
+
+#[test]
+fn a_prefix_is_passed(rt: HostRuntime) -> Result<(), Fail> {
+    let bytes = tnra(rt.alloc())?;
+    let view = ProofView::read(&bytes).map_err(|_| "it is a proof")?;
+    let mut steps = Steps::new(rt.alloc());
+    let mut lists = view.lists();
+    let list = lists.next(&mut steps).ok_or("hen has a prefix")?;
+    assert_eq!(rt; list.len(), 2);
+    let first = list.entry(0, &mut steps);
+    let second = list.entry(1, &mut steps);
+    assert!(rt; first.doc < view.met());
+    assert!(rt; second.doc < view.met());
+    let mut shown = reveal(&list, &view, first, second);
+    let leaf = pass(&mut shown, &mut steps).ok_or("document 2 is shown")?;
+    assert_eq!(rt; leaf.position, 0);
+    assert_eq!(rt; leaf.front, [0, 0, 0, 2].as_slice());
+    assert_eq!(rt; leaf.back, [4, 39].as_slice());
+    let leaf = pass(&mut shown, &mut steps).ok_or("document 1 is shown")?;
+    assert_eq!(rt; leaf.position, 1);
+    assert_eq!(rt; leaf.front, [0, 0, 0, 1].as_slice());
+    assert_eq!(rt; leaf.back, [3, 128].as_slice());
+    assert_eq!(rt; pass(&mut shown, &mut steps), None);
+    assert_eq!(rt; shown.pass_digest(&mut steps), None);
     assert_eq!(rt; steps.count(), 6);
     Ok(())
 }

@@ -157,8 +157,8 @@ invariant_of-result c =
       };
     }
 
-pub returns : goal.returns
-returns c =
+pub returns-clause-proof : goal.returns-clause-proof
+returns-clause-proof c =
     let bytes = c.args.bytes.now in
     let small : AreBytes bytes = λ i. let h = c.type_inv.bytes i in omega (arith, h) in
-    record { proof = (whole bytes small c.requires).is }
+    (whole bytes small c.requires).is
