@@ -6,7 +6,7 @@ use Rattle.ats_proof.specs.SeenLists.{list_of}
 use Rattle.ats_proof.specs.Views.{proof_of}
 use Rattle.ats_proof.proofs.tests.passing.reveal.Goals as goal
 
-IsNamed : ℕ → Option Entry → Type 0
+abbrev IsNamed : ℕ → Option Entry → Type 0
 IsNamed m None = Unit {0}
 IsNamed m (Some e) = e.doc < m
 
