@@ -1,5 +1,5 @@
 -- Where the answer of a view stands.
-use Rattle.std.proofs.Common.{◌≡◌, ◌∙◌, ℕ, Bool, drop, ap}
+use Rattle.std.proofs.Common.{◌≡◌, ◌∙◌, Bool, ap}
 use Rattle.ats_proof.specs.declared.view.ProofView.{ProofView}
 use Rattle.ats_proof.specs.Reading.{is_tra, answer_place}
 

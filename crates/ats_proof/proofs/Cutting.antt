@@ -1,12 +1,12 @@
 -- A leaf cut behind its term.
-use Rattle.std.proofs.Common.{◌≡◌, ◌∙◌, ℕ, ◌+◌, ◌-◌, ◌<◌, ◌≤◌, List, [], ◌∷◌, ◌++◌, length, map, take, drop, refl, sym, ap, ap₂, subst, arith}
+use Rattle.std.proofs.Common.{◌≡◌, ◌∙◌, ℕ, ◌+◌, ◌-◌, ◌<◌, List, ◌++◌, take, drop, sym, ap, ap₂, subst, arith}
 use Rattle.std.specs.List.Sorted.{IsStrictlyIncreasing}
 use Rattle.std.proofs.Math.Seq.{take-add}
 use Rattle.std.proofs.lemmas.List.{drop-drop, drop-take, take-take}
 use Rattle.ats_dict.specs.Entry.{DictEntry}
 use Rattle.ats_grammar.specs.Table.{number}
 use Rattle.ats_tree.specs.Shown.{positions_of}
-use Rattle.ats_proof.specs.Parts.{number_in, total_size}
+use Rattle.ats_proof.specs.Parts.{number_in}
 use Rattle.ats_proof.specs.Reading.{term_length_in, leaf_size, entry_in, term_in}
 use Rattle.ats_proof.specs.Runs.{leaf_in, leaves_in}
 use Rattle.ats_proof.proofs.Taking.{parts_more, increasing-tail}

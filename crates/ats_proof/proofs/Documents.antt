@@ -1,13 +1,10 @@
 -- Leaves of the documents section, and the positions of a terms section.
-use Rattle.std.proofs.Common.{◌≡◌, ◌∙◌, ℕ, zero, suc, ◌+◌, ◌-◌, ◌*◌, ◌<◌, ◌≤◌, List, [], ◌∷◌, ◌++◌, length, map, take, drop, refl, sym, ap, ap₂, subst, arith}
-use Rattle.std.specs.Int.{to_be_bytes, w32}
+use Rattle.std.proofs.Common.{◌≡◌, ℕ, zero, suc, ◌-◌, ◌<◌, ◌≤◌, List, ◌∷◌, ◌++◌, length, map, take, drop, refl, sym, ap, subst, arith}
 use Rattle.std.specs.List.{All}
 use Rattle.std.specs.List.Sorted.{IsStrictlyIncreasing}
 use Rattle.std.proofs.lemmas.List.Elements.{All-tail}
 use Rattle.ats_tree.specs.Shown.{positions_of, first_leaf}
-use Rattle.ats_doctree.specs.DocumentLeaf.{doc_leaf_bytes}
 use Rattle.ats_proof.specs.Parts.{number_in, parts_in, AreBytes}
-use Rattle.ats_proof.specs.Value.{TermsSection}
 use Rattle.ats_proof.specs.Reading.{id_size, id_in, doc_size, doc_in, term_size, term_in, section_size, section_in}
 use Rattle.ats_proof.specs.Runs.{shown_docs, leaves_in, section_rises, sections_rise}
 use Rattle.ats_proof.proofs.Taking.{parts_more, increasing-tail}

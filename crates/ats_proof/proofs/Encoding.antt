@@ -1,5 +1,5 @@
 -- Leaves as they are hashed.
-use Rattle.std.proofs.Common.{◌≡◌, ◌∙◌, ℕ, zero, suc, ◌+◌, ◌-◌, ◌*◌, ◌^◌, ◌<◌, ◌≤◌, List, [], ◌∷◌, ◌++◌, length, map, get_or, take, drop, slice_get, Some, refl, sym, ap, ap₂, subst, arith, append_assoc, inl, inr}
+use Rattle.std.proofs.Common.{◌≡◌, ◌∙◌, ℕ, zero, suc, ◌+◌, ◌-◌, ◌*◌, ◌<◌, ◌≤◌, List, [], ◌∷◌, ◌++◌, length, map, get_or, take, drop, refl, sym, ap, ap₂, subst, arith, append_assoc, inl, inr}
 use Rattle.std.specs.Int.{to_be_bytes, from_be_bytes, w16, w32}
 use Rattle.std.specs.List.{All}
 use Rattle.std.proofs.lemmas.List.Elements.{All-tail}
@@ -16,7 +16,7 @@ use Rattle.ats_dict.specs.Entry.{dict_leaf_bytes}
 use Rattle.ats_doctree.specs.Sentinels as terms
 use Rattle.ats_grammar.specs.Table.{number}
 use Rattle.ats_proof.specs.Parts.{number_in, parts_in, total_size}
-use Rattle.ats_proof.specs.Reading.{term_length_in, leaf_size, entry_size, entry_in, term_size, term_in, id_in, posting_in, posting_size}
+use Rattle.ats_proof.specs.Reading.{term_length_in, entry_size, entry_in, term_size, term_in, id_in, posting_in, posting_size}
 use Rattle.ats_proof.specs.Runs.{leaf_in, leaves_in, shown_entry, shown_term, shown_list, named, AreNamed}
 use Rattle.ats_proof.proofs.Numbers.{AreBytes}
 use Rattle.ats_proof.proofs.Taking.{part_at, parts_more}

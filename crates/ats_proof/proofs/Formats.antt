@@ -1,14 +1,12 @@
 -- Each kind of part, as it stands in bytes.
-use Rattle.std.proofs.Common.{◌≡◌, ◌∙◌, ℕ, zero, suc, ◌+◌, ◌==◌, ◌<◌, ◌≤◌, Bool, true, false, if◌then◌else◌, List, [], ◌∷◌, ◌++◌, length, take, drop, refl, sym, ap, ap₂, subst, arith, length-append}
-use Rattle.std.specs.List.{flat_map}
+use Rattle.std.proofs.Common.{◌≡◌, ℕ, zero, suc, ◌+◌, ◌==◌, ◌≤◌, if◌then◌else◌, List, [], ◌∷◌, length, take, drop, refl, sym, subst, arith}
 use Rattle.std.proofs.lemmas.List.{length-take-le, length-drop}
-use Rattle.ats_grammar.specs.declared.fault.ShapeKind.TheVariants.{Count, Order}
-use Rattle.ats_grammar.specs.Table.{Table, Bytes, Number}
+use Rattle.ats_grammar.specs.Table.{Table, Bytes}
 use Rattle.ats_grammar.specs.Grammar.{any_2, any_4, rising, term_length, index, kind}
-use Rattle.ats_proof.specs.Parts.{spelled, number_in, parts_in, total_size, counted_in, counted_size, counted}
+use Rattle.ats_proof.specs.Parts.{spelled, number_in}
 use Rattle.ats_proof.specs.Value.{entry_fields, digest_fields, slot_fields, id_fields, posting_fields, doc_fields, term_fields}
 use Rattle.ats_proof.specs.Reading.{digest_in, entry_in, entry_size, term_length_in, slot_in, id_in, posting_in, doc_in, term_in, term_size}
-use Rattle.ats_proof.proofs.Standing.{Stands, HasFront, IsRanged, nothing, then_bytes, then_number}
+use Rattle.ats_proof.proofs.Standing.{Stands, HasFront, nothing, then_bytes, then_number}
 use Rattle.ats_proof.proofs.Runs.{HasPart}
 
 abbrev pub U : Type 0

@@ -1,9 +1,8 @@
 -- Parts have no more items than bytes.
-use Rattle.std.proofs.Common.{◌≡◌, ◌∙◌, ℕ, zero, suc, ◌+◌, ◌*◌, ◌≤◌, List, length, drop, sym, arith}
-use Rattle.ats_proof.specs.Parts.{number_in, parts_in, total_size, counted_size, counted_in}
+use Rattle.std.proofs.Common.{ℕ, zero, suc, ◌≤◌, List, length, drop, arith}
+use Rattle.ats_proof.specs.Parts.{number_in, parts_in, total_size, counted_size}
 use Rattle.ats_proof.specs.Value.{items_of_prefix, items_of_section}
 use Rattle.ats_proof.specs.Reading.{prefix_size, prefix_in, section_size, section_in, posting_size, posting_in, digest_size, digest_in, term_size, term_in, slot_size, slot_in, section_leaves_size, section_slots_place}
-use Rattle.ats_proof.proofs.Runs.{length-parts}
 
 -- a run of parts that have bytes
 few_parts : {X : Type 0} (size : List ℕ → ℕ) (read : List ℕ → X) → ((bytes : List ℕ) → 1 ≤ size bytes) → (n : ℕ) (bytes : List ℕ) → length (parts_in size read n bytes) ≤ total_size size n bytes

@@ -1,16 +1,15 @@
 -- Prefixes and terms sections, as they stand in bytes.
-use Rattle.std.proofs.Common.{◌≡◌, ◌∙◌, ℕ, zero, suc, ◌+◌, ◌<◌, ◌≤◌, List, [], ◌∷◌, ◌++◌, length, take, drop, refl, sym, ap, subst, append_assoc}
-use Rattle.std.specs.List.{flat_map}
-use Rattle.ats_grammar.specs.declared.fault.ShapeKind.TheVariants.{Count, Order}
-use Rattle.ats_grammar.specs.Table.{Table, End, Bytes, Number}
-use Rattle.ats_grammar.specs.Grammar.{any_2, digests, entries, list_digests, prefix, leaf_count, term_leaves, term_digests, term_section, doc_slots}
+use Rattle.std.proofs.Common.{ℕ, ◌+◌, ◌≤◌, List, ◌++◌, drop, subst}
+use Rattle.ats_grammar.specs.declared.fault.ShapeKind.TheVariants.{Count}
+use Rattle.ats_grammar.specs.Table.{Table, Number}
+use Rattle.ats_grammar.specs.Grammar.{digests, list_digests, term_digests, doc_slots}
 use Rattle.ats_proof.specs.Parts.{number_in, counted_in, counted_size, counted}
 use Rattle.ats_proof.specs.Value.{digest_fields, slot_fields, posting_fields, prefix_fields, term_fields, section_fields}
 use Rattle.ats_proof.specs.Reading.{digest_in, digest_size, slot_in, slot_size, posting_in, posting_size, prefix_in, prefix_size, term_in, term_size, section_in, section_size, section_slots_place}
 use Rattle.ats_proof.specs.Runs.{section_rises}
 use Rattle.ats_proof.proofs.Taking.{rising}
-use Rattle.ats_proof.proofs.Standing.{Stands, HasFront, nothing}
-use Rattle.ats_proof.proofs.Runs.{HasPart, AreGood, runs, then_run, has_counted, then_counted}
+use Rattle.ats_proof.proofs.Standing.{Stands, HasFront}
+use Rattle.ats_proof.proofs.Runs.{HasPart, then_run, has_counted, then_counted}
 use Rattle.ats_proof.proofs.Formats.{U, digest_part, one_digest, posting_part, one_posting, term_part, one_term, doc_slot_part, one_doc_slot}
 use Rattle.ats_proof.proofs.Tables.{digests_run, entries_run, terms_run, doc_slots_run, prefix_part, section_part}
 

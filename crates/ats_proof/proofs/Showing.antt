@@ -1,9 +1,8 @@
 -- Where the documents of a view stand.
-use Rattle.std.proofs.Common.{◌≡◌, ◌∙◌, ℕ, Bool, true, ◌+◌, ◌≤◌, List, length, drop, sym, ap, subst, arith}
+use Rattle.std.proofs.Common.{◌≡◌, ◌∙◌, ℕ, Bool, true, ◌+◌, ◌≤◌, length, drop, sym, ap, subst, arith}
 use Rattle.ats_proof.specs.declared.view.ProofView.{ProofView}
-use Rattle.ats_proof.specs.Parts.{parts_in, counted_size}
-use Rattle.ats_proof.specs.Value.{present_in, Documents}
-use Rattle.ats_proof.specs.Reading.{id_size, id_in, slots_in, met_in, is_tra, met_place, docs_place, doc_digests_place, sections_place, answer_place, documents_in}
+use Rattle.ats_proof.specs.Value.{present_in}
+use Rattle.ats_proof.specs.Reading.{slots_in, met_in, is_tra, met_place, docs_place, doc_digests_place, sections_place, answer_place}
 use Rattle.ats_proof.specs.Runs.{sections_rise}
 use Rattle.std.proofs.lemmas.List.{drop-drop}
 

@@ -1,11 +1,11 @@
 -- Fields that stand in bytes: one field, and runs of like parts.
-use Rattle.std.proofs.Common.{◌≡◌, ◌∙◌, ℕ, zero, suc, ◌+◌, ◌<◌, ◌≤◌, List, [], ◌∷◌, ◌++◌, length, get_or, take, drop, refl, sym, ap, ap₂, subst, arith, append_assoc, append-nil, length-append}
-use Rattle.std.specs.List.{concat, flat_map}
+use Rattle.std.proofs.Common.{◌≡◌, ◌∙◌, ℕ, zero, suc, ◌+◌, ◌≤◌, List, [], ◌∷◌, ◌++◌, length, take, drop, refl, sym, ap, subst, arith, append_assoc, length-append}
+use Rattle.std.specs.List.{concat}
 use Rattle.std.proofs.lemmas.List.{take_at, drop_at, drop-drop, get_or-drop, length-drop}
 use Rattle.ats_grammar.specs.declared.fault.ShapeKind.{ShapeKind}
 use Rattle.ats_grammar.specs.Table.{Table, End, Number, Bytes, number}
-use Rattle.ats_grammar.specs.Front.{IsField, Come}
-use Rattle.ats_proof.specs.Parts.{spelled, number_in, parts_in, total_size}
+use Rattle.ats_grammar.specs.Front.{Come}
+use Rattle.ats_proof.specs.Parts.{spelled, number_in}
 use Rattle.ats_proof.proofs.Numbers.{AreBytes, spelled-number}
 
 -- the table's last fields are the bytes

@@ -1,5 +1,5 @@
 -- The grammar's runs, each as a run of its parts.
-use Rattle.std.proofs.Common.{◌≡◌, ◌∙◌, ℕ, zero, suc, ◌+◌, Bool, refl, ap}
+use Rattle.std.proofs.Common.{◌≡◌, ℕ, zero, suc, ◌+◌, Bool, refl, ap}
 use Rattle.ats_grammar.specs.Table.{Table, End, Bytes}
 use Rattle.ats_grammar.specs.Grammar.{any_2, any_4, rising, term_length, index, kind, digests, rows, doc_slots, term_leaves, term_section, term_sections, answer, doc_leaves, entries, prefix, prefixes, met_ids, slots, met, dict_leaves}
 use Rattle.ats_proof.proofs.Runs.{runs}

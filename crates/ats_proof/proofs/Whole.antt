@@ -1,25 +1,25 @@
 -- Bytes whose fields are a proof's spell what they say.
-use Rattle.std.proofs.Common.{◌≡◌, ◌∙◌, ℕ, zero, suc, ◌+◌, ◌==◌, ◌<◌, ◌≤◌, Bool, true, false, if◌then◌else◌, List, [], ◌∷◌, ◌++◌, length, map, take, drop, refl, sym, ap, subst, append_assoc, append-nil, add_assoc, zero-add, arith}
+use Rattle.std.proofs.Common.{◌≡◌, ◌∙◌, ℕ, zero, suc, ◌+◌, ◌==◌, ◌≤◌, Bool, true, false, List, [], ◌∷◌, ◌++◌, length, map, take, drop, refl, sym, ap, subst, append_assoc, append-nil, add_assoc, zero-add, arith}
 use Rattle.std.proofs.lemmas.List.Sums.{sum_by-cons}
-use Rattle.std.specs.List.{All, AllByRecursion, concat, flat_map, sum_by}
+use Rattle.std.specs.List.{All, AllByRecursion, concat, flat_map}
 use Rattle.std.specs.List.Sorted.{IsStrictlyIncreasing}
 use Rattle.std.proofs.lemmas.List.{drop-drop}
 use Rattle.std.proofs.lemmas.List.Elements.{All-from_recursion}
 use Rattle.ats_tree.specs.Shown.{positions_of}
 use Rattle.ats_grammar.specs.Front.{Come, Spells, IsSpelling}
-use Rattle.ats_grammar.specs.declared.fault.ShapeKind.TheVariants.{Count, Order, Algorithm}
-use Rattle.ats_grammar.specs.Table.{Table, End, Bytes, Number}
-use Rattle.ats_grammar.specs.Grammar.{proof, header, any_2, digests, query_terms, dictionary, dict_leaves, dict_digests, slots, met, met_ids, prefixes, documents, doc_leaves, doc_digests, term_sections, answer, rows}
+use Rattle.ats_grammar.specs.declared.fault.ShapeKind.TheVariants.{Count}
+use Rattle.ats_grammar.specs.Table.{Table, End, Number}
+use Rattle.ats_grammar.specs.Grammar.{proof, query_terms, dictionary, dict_digests, slots, met, prefixes, documents, doc_digests, term_sections, answer}
 use Rattle.ats_records.specs.declared.record.Slot.{Slot}
-use Rattle.ats_proof.specs.Parts.{spelled, number_in, parts_in, total_size, counted_in, counted_size, counted}
-use Rattle.ats_proof.specs.Value.{Proof, IsProof, AreDocumentsOf, digest_fields, slot_fields, id_fields, entry_fields, prefix_fields, doc_fields, section_fields, fields_of, front_fields, header_fields, documents_fields, number_of_algorithm, kind_of_slot, present_in}
+use Rattle.ats_proof.specs.Parts.{spelled, number_in, parts_in, counted_in, counted_size, counted}
+use Rattle.ats_proof.specs.Value.{IsProof, AreDocumentsOf, digest_fields, slot_fields, id_fields, entry_fields, prefix_fields, doc_fields, section_fields, fields_of, front_fields, header_fields, documents_fields, number_of_algorithm, kind_of_slot, present_in}
 use Rattle.ats_proof.specs.Reading.{digest_in, digest_size, slot_in, slot_size, id_in, id_size, entry_in, entry_size, prefix_in, prefix_size, doc_in, doc_size, section_in, section_size, section_slots_place, header_in, terms_in, dict_digests_place, slots_place, slots_in, met_place, met_in, lists_place, docs_place, doc_digests_place, sections_place, is_tra, answer_place, documents_in, proof_in}
 use Rattle.ats_proof.specs.Runs.{leaves_in, section_rises, sections_rise}
 use Rattle.ats_proof.specs.Told.{HasRoom, AreRising}
 use Rattle.ats_proof.proofs.Numbers.{AreBytes}
 use Rattle.ats_proof.proofs.Taking.{rising}
 use Rattle.ats_proof.proofs.Standing.{Stands, HasFront, nothing, then_number, then_bytes}
-use Rattle.ats_proof.proofs.Runs.{HasPart, AreGood, final, runs, length-parts, then_run, then_counted}
+use Rattle.ats_proof.proofs.Runs.{HasPart, AreGood, final, length-parts, then_run, then_counted}
 use Rattle.ats_proof.proofs.Formats.{U, id_part, one_id, row_part, one_row, slot_part, one_slot, doc_part, one_doc, entry_part, one_entry}
 use Rattle.ats_proof.proofs.Tables.{rows_run, ids_run, slots_run, docs_run, dict_run, prefix_part, prefixes_run, section_part, sections_run}
 use Rattle.ats_proof.proofs.Sections.{then_digests, one_prefix, one_section}

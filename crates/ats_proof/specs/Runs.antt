@@ -1,8 +1,7 @@
 -- What is left of the runs that a view keeps.
-use Rattle.std.specs.Prelude.{◌≡◌, ℕ, zero, suc, ◌+◌, ◌*◌, ◌<◌, ◌≤◌, List, [], ◌∷◌, ◌++◌, length, map, take, drop, slice_index_or}
+use Rattle.std.specs.Prelude.{ℕ, ◌+◌, ◌<◌, List, [], ◌∷◌, map, take, drop, slice_index_or}
 use Rattle.std.specs.List.{All}
 use Rattle.std.specs.List.Sorted.{IsStrictlyIncreasing}
-use Rattle.std.specs.Int.{to_be_bytes, w16, w32}
 use Rattle.ats_tree.specs.Shown.{Shown}
 use Rattle.ats_lists.specs.Leaf.{leaf_bytes}
 use Rattle.ats_lists.specs.declared.entry.Entry.{Entry}
@@ -10,8 +9,8 @@ use Rattle.ats_dict.specs.Entry.{dict_leaf_bytes}
 use Rattle.ats_doctree.specs.DocumentLeaf.{doc_leaf_bytes}
 use Rattle.ats_doctree.specs.Sentinels as terms
 use Rattle.ats_doctree.specs.declared.doc_leaf.DocLeaf.{DocLeaf}
-use Rattle.ats_proof.specs.Parts.{number_in, parts_in, total_size}
-use Rattle.ats_proof.specs.Value.{ShownEntry, ShownTerm, TermsSection, Prefix}
+use Rattle.ats_proof.specs.Parts.{number_in, parts_in}
+use Rattle.ats_proof.specs.Value.{ShownEntry, ShownTerm, TermsSection}
 use Rattle.ats_proof.specs.Reading.{term_length_in, leaf_size, posting_size, posting_in, section_size, section_in}
 
 -- ---- leaves as they are hashed, with their positions

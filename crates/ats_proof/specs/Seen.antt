@@ -1,5 +1,5 @@
 -- What the views say.
-use Rattle.std.specs.Prelude.{ℕ, List, map, take, drop, ◌+◌, ◌*◌}
+use Rattle.std.specs.Prelude.{ℕ, List, take, drop, ◌+◌}
 use Rattle.ats_tree.specs.Shown.{Shown}
 use Rattle.ats_dict.specs.Entry.{DictEntry}
 use Rattle.ats_dict.specs.declared.dictionary.DictLeaf.{DictLeaf}

@@ -1,6 +1,5 @@
 -- What the cursor over a prefix says.
-use Rattle.std.specs.Prelude.{ℕ, ◌*◌, ◌<◌, List, take, drop}
-use Rattle.std.specs.List.{All}
+use Rattle.std.specs.Prelude.{ℕ, ◌*◌, List, take, drop}
 use Rattle.ats_tree.specs.Shown.{Shown}
 use Rattle.ats_proof.specs.Parts.{number_in, parts_in}
 use Rattle.ats_proof.specs.Reading.{id_size, id_in, posting_size, posting_in}

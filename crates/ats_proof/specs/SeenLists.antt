@@ -1,5 +1,5 @@
 -- What the views of the prefixes say.
-use Rattle.std.specs.Prelude.{ℕ, List}
+use Rattle.std.specs.Prelude.{List}
 use Rattle.ats_proof.specs.Parts.{parts_in}
 use Rattle.ats_proof.specs.Value.{Prefix}
 use Rattle.ats_proof.specs.Reading.{posting_size, posting_in, prefix_size, prefix_in}

@@ -1,11 +1,10 @@
 -- What a view keeps of its bytes: where the parts begin.
-use Rattle.std.specs.Prelude.{◌≡◌, ◌≤◌, ◌+◌, ◌^◌, ℕ, Bool, true, false, List, length, drop}
-use Rattle.std.specs.List.{sum_by}
+use Rattle.std.specs.Prelude.{◌≡◌, ◌≤◌, ◌+◌, ◌^◌, ℕ, Bool, true, List, length, drop}
 use Rattle.std.specs.List.Sorted.{IsStrictlyIncreasing}
 use Rattle.ats_tree.specs.Shown.{positions_of}
 use Rattle.ats_proof.specs.declared.places.Begun.{Begun}
 use Rattle.ats_proof.specs.declared.places.Ended.{Ended}
-use Rattle.ats_proof.specs.Parts.{number_in, parts_in, total_size, counted_in, counted_size}
+use Rattle.ats_proof.specs.Parts.{number_in, counted_in, counted_size}
 use Rattle.ats_proof.specs.Value.{items_of, items_of_documents, present_in}
 use Rattle.ats_proof.specs.Reading.{id_size, id_in, is_tra, terms_in, slots_in, met_in, dict_digests_place, slots_place, met_place, lists_place, docs_place, doc_digests_place, sections_place, answer_place, documents_in, proof_in}
 use Rattle.ats_proof.specs.Runs.{leaves_in, sections_rise}

@@ -1,7 +1,5 @@
 -- What the view of a whole proof says.
-use Rattle.std.specs.Prelude.{◌≡◌, ℕ, Bool, true, false, List}
-use Rattle.ats_records.specs.declared.record.Algorithm.{Algorithm}
-use Rattle.ats_records.specs.declared.record.Algorithm.TheVariants.{Tra, Tnra}
+use Rattle.std.specs.Prelude.{ℕ, List}
 use Rattle.ats_proof.specs.declared.view.ProofView.{ProofView}
 use Rattle.ats_proof.specs.Value.{Proof}
 use Rattle.ats_proof.specs.Reading.{proof_in}

@@ -1,7 +1,6 @@
-use Rattle.std.proofs.Common.{◌≡◌, ◌∙◌, ◌+◌, ◌*◌, ◌≤◌, length, drop, sym, ap, ap₂, arith}
+use Rattle.std.proofs.Common.{◌∙◌, ◌+◌, ◌*◌, drop, sym, ap, ap₂, arith}
 use Rattle.std.proofs.lemmas.List.{length-drop, drop-drop}
-use Rattle.ats_proof.specs.Parts.{number_in, total_size, counted_size}
-use Rattle.ats_proof.specs.Reading.{digest_size}
+use Rattle.ats_proof.specs.Parts.{number_in}
 use Rattle.ats_proof.proofs.Taking.{total_fixed}
 use Rattle.ats_proof.proofs.digests.counted_digests_4.Goals as goal
 

@@ -1,4 +1,4 @@
-use Rattle.std.proofs.Common.{◌≡◌, ℕ, List, length, Bool, true, false, Some, None, nat_lt, if◌then◌else◌, sym, subst}
+use Rattle.std.proofs.Common.{◌≡◌, ℕ, List, length, Bool, true, false, Some, None, nat_lt, if◌then◌else◌, subst}
 use Rattle.ats_proof.specs.Value.{IsProof}
 use Rattle.ats_proof.proofs.Unique.{one_value}
 use Rattle.ats_proof.proofs.laws.what_is_written_is_read.Goals as goal

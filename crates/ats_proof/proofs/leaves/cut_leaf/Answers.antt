@@ -1,5 +1,5 @@
-use Rattle.std.proofs.Common.{◌≡◌, ◌∙◌, ◌+◌, drop, refl, sym, ap, ap₂}
-use Rattle.ats_proof.specs.Reading.{term_length_in, leaf_size}
+use Rattle.std.proofs.Common.{◌≡◌}
+use Rattle.ats_proof.specs.Reading.{term_length_in}
 use Rattle.ats_proof.proofs.Cutting.{rest_of_leaf}
 use Rattle.ats_proof.proofs.leaves.cut_leaf.Goals as goal
 

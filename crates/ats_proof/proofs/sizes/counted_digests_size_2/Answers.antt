@@ -1,4 +1,4 @@
-use Rattle.std.proofs.Common.{◌≡◌, drop, arith}
+use Rattle.std.proofs.Common.{drop, arith}
 use Rattle.ats_proof.specs.Parts.{number_in}
 use Rattle.ats_proof.proofs.Taking.{total_fixed}
 use Rattle.ats_proof.proofs.sizes.counted_digests_size_2.Goals as goal

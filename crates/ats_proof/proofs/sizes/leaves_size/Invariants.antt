@@ -1,5 +1,3 @@
-use Rattle.std.proofs.Common.{◌≡◌, ◌+◌, ◌≤◌, length}
-use Rattle.ats_proof.specs.Parts.{total_size}
 use Rattle.ats_proof.specs.Reading.{leaf_size}
 use Rattle.ats_proof.proofs.Taking.{IsAlong}
 use Rattle.ats_proof.proofs.sizes.leaves_size.Given as goal

@@ -1,4 +1,4 @@
-use Rattle.std.proofs.Common.{◌≡◌, ◌∙◌, ◌+◌, length, drop, ap, arith}
+use Rattle.std.proofs.Common.{◌≡◌, ◌∙◌, drop, ap, arith}
 use Rattle.ats_proof.specs.Parts.{number_in, counted_size}
 use Rattle.ats_proof.specs.Reading.{posting_size, posting_in, digest_size, digest_in}
 use Rattle.ats_proof.proofs.Runs.{length-parts}

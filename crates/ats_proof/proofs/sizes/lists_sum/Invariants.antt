@@ -1,4 +1,3 @@
-use Rattle.std.proofs.Common.{◌≡◌, ◌+◌, ◌≤◌, length, sum_by}
 use Rattle.ats_proof.specs.Value.{items_of_prefix}
 use Rattle.ats_proof.specs.Reading.{prefix_size, prefix_in}
 use Rattle.ats_proof.proofs.Taking.{IsAlong, AreCounted}

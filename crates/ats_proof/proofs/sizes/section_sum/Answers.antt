@@ -1,4 +1,4 @@
-use Rattle.std.proofs.Common.{◌≡◌, ◌∙◌, ◌+◌, ◌*◌, length, drop, sym, ap, arith}
+use Rattle.std.proofs.Common.{◌≡◌, ◌∙◌, drop, ap, arith}
 use Rattle.ats_proof.specs.Parts.{number_in, counted_size}
 use Rattle.ats_proof.specs.Reading.{term_size, term_in, digest_size, digest_in, slot_size, slot_in, section_leaves_size, section_slots_place}
 use Rattle.ats_proof.proofs.Runs.{length-parts}

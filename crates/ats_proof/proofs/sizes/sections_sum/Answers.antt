@@ -1,5 +1,4 @@
-use Rattle.std.proofs.Common.{◌≡◌, ◌∙◌, ◌<◌, ◌≤◌, ◌+◌, ◌-◌, ◌^◌, length, drop, sym, ap, arith}
-use Rattle.std.proofs.lemmas.List.{length-drop}
+use Rattle.std.proofs.Common.{◌<◌, arith}
 use Rattle.ats_proof.specs.Value.{items_of_section}
 use Rattle.ats_proof.specs.Reading.{section_size, section_in}
 use Rattle.ats_proof.proofs.Taking.{first_fits, along_more, counted_more}

@@ -1,4 +1,3 @@
-use Rattle.std.proofs.Common.{◌≡◌, ◌+◌, ◌≤◌, length, sum_by}
 use Rattle.ats_proof.specs.Value.{items_of_section}
 use Rattle.ats_proof.specs.Reading.{section_size, section_in}
 use Rattle.ats_proof.proofs.Taking.{IsAlong, AreCounted}

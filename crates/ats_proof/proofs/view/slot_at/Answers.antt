@@ -1,4 +1,3 @@
-use Rattle.std.proofs.Common.{◌≡◌, ◌*◌, drop}
 use Rattle.ats_proof.specs.Reading.{slot_in}
 use Rattle.ats_proof.proofs.Taking.{part_at}
 use Rattle.ats_proof.proofs.view.slot_at.Goals as goal

@@ -1,6 +1,5 @@
-use Rattle.std.proofs.Common.{◌≡◌, ◌∙◌, ℕ, List, ◌<◌, ◌≤◌, ◌+◌, ◌*◌, ◌++◌, length, take, drop, sym, ap, arith}
+use Rattle.std.proofs.Common.{◌≡◌, ◌∙◌, ℕ, List, ◌++◌, take, drop, sym, ap, arith}
 use Rattle.ats_tree.specs.Shown.{first_leaf}
-use Rattle.ats_proof.specs.Parts.{parts_in}
 use Rattle.ats_proof.specs.Reading.{posting_size, posting_in}
 use Rattle.ats_proof.specs.Runs.{shown_list}
 use Rattle.ats_proof.specs.SeenCursor.{met_of, id_front}

@@ -1,7 +1,6 @@
-use Rattle.std.proofs.Common.{◌≡◌, ◌∙◌, ◌<◌, ◌≤◌, ◌+◌, length, take, drop, Some, option_map, slice_get, refl, sym, ap, arith}
+use Rattle.std.proofs.Common.{◌≡◌, ◌<◌, ◌+◌, take, drop, Some, ap, arith}
 use Rattle.std.proofs.lemmas.List.{length-drop}
 use Rattle.ats_proof.specs.Reading.{entry_size, entry_in, term_length_in}
-use Rattle.ats_proof.specs.Seen.{entries_of}
 use Rattle.ats_proof.proofs.Taking.{parts_more}
 use Rattle.ats_proof.proofs.Encoding.{entries_bytes}
 use Rattle.ats_proof.proofs.Cutting.{entry_of_parts}

@@ -1,6 +1,6 @@
-use Rattle.std.proofs.Common.{◌≡◌, ◌≤◌, length, subst, arith}
+use Rattle.std.proofs.Common.{◌≤◌, length}
 use Rattle.ats_proof.specs.Parts.{total_size}
-use Rattle.ats_proof.specs.Reading.{term_size, leaf_size}
+use Rattle.ats_proof.specs.Reading.{term_size}
 use Rattle.ats_proof.proofs.Encoding.{terms_bytes}
 use Rattle.ats_proof.proofs.docs.DocView.terms.Goals as goal
 

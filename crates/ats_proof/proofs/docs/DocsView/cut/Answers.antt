@@ -1,6 +1,6 @@
-use Rattle.std.proofs.Common.{◌≡◌, ◌∙◌, ℕ, ◌<◌, ◌≤◌, ◌+◌, ◌*◌, length, drop, refl, sym, ap, arith}
+use Rattle.std.proofs.Common.{◌≡◌, ◌∙◌, ℕ, ◌+◌, ◌*◌, drop, refl, sym, ap, arith}
 use Rattle.std.proofs.lemmas.List.{length-drop, drop-drop}
-use Rattle.ats_proof.specs.Parts.{number_in, counted_size}
+use Rattle.ats_proof.specs.Parts.{counted_size}
 use Rattle.ats_proof.specs.Reading.{section_size, section_leaves_size, section_slots_place, digest_size, id_size, id_in, doc_size, doc_in}
 use Rattle.ats_proof.proofs.Taking.{first_fits, parts_more, total_fixed}
 use Rattle.ats_proof.proofs.Documents.{first_section_rises}

@@ -1,4 +1,4 @@
-use Rattle.std.proofs.Common.{◌≡◌, ◌<◌, ◌≤◌, ◌*◌, Some, length, drop, refl, ap, arith}
+use Rattle.std.proofs.Common.{◌<◌, Some, refl, ap, arith}
 use Rattle.std.proofs.lemmas.List.{length-drop}
 use Rattle.ats_proof.specs.Reading.{section_size, section_in, id_size, id_in, doc_size, doc_in}
 use Rattle.ats_proof.proofs.Taking.{rest_fits, parts_more}

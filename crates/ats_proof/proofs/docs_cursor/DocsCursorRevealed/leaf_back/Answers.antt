@@ -1,4 +1,4 @@
-use Rattle.std.proofs.Common.{◌<◌, ◌≤◌, length, arith}
+use Rattle.std.proofs.Common.{arith}
 use Rattle.ats_proof.proofs.Documents.{docs_left, docs_first}
 use Rattle.ats_proof.proofs.docs_cursor.DocsCursorRevealed.leaf_back.Goals as goal
 

@@ -1,4 +1,4 @@
-use Rattle.std.proofs.Common.{◌≡◌, ◌∙◌, ◌+◌, ◌≤◌, ◌++◌, length, drop, refl, sym, ap, ap₂, arith}
+use Rattle.std.proofs.Common.{◌∙◌, ◌+◌, ◌++◌, drop, sym, ap, ap₂, arith}
 use Rattle.std.proofs.lemmas.List.{length-take-le, length-drop}
 use Rattle.ats_tree.specs.Shown.{first_leaf}
 use Rattle.ats_proof.specs.Reading.{leaf_size, term_length_in}

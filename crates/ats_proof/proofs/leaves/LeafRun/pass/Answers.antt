@@ -1,4 +1,4 @@
-use Rattle.std.proofs.Common.{refl, sym}
+use Rattle.std.proofs.Common.{refl}
 use Rattle.ats_proof.specs.Reading.{leaf_size}
 use Rattle.ats_proof.specs.Runs.{leaf_in}
 use Rattle.ats_proof.proofs.Taking.{parts_more, rest_fits}

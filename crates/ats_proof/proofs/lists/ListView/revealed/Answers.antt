@@ -1,9 +1,9 @@
-use Rattle.std.proofs.Common.{◌≡◌, ◌∙◌, ℕ, List, ◌<◌, ◌≤◌, ◌+◌, ◌*◌, length, drop, sym, ap, ap₂, subst, arith}
+use Rattle.std.proofs.Common.{◌≡◌, ◌∙◌, ℕ, ◌<◌, ◌+◌, length, drop, sym, ap, ap₂, subst, arith}
 use Rattle.std.specs.List.{All}
 use Rattle.std.proofs.lemmas.List.{length-drop, drop-drop}
 use Rattle.ats_lists.specs.declared.entry.Entry.{Entry}
 use Rattle.ats_proof.specs.Parts.{parts_in}
-use Rattle.ats_proof.specs.Reading.{id_size, id_in, posting_size, posting_in, met_in, met_place}
+use Rattle.ats_proof.specs.Reading.{id_size, id_in, met_in, met_place}
 use Rattle.ats_proof.specs.Runs.{shown_list}
 use Rattle.ats_proof.specs.SeenLists.{list_of}
 use Rattle.ats_proof.proofs.Runs.{length-parts}

@@ -1,4 +1,4 @@
-use Rattle.std.proofs.Common.{◌<◌, ◌∙◌, Some, refl, sym, ap, arith}
+use Rattle.std.proofs.Common.{◌<◌, Some, refl, ap, arith}
 use Rattle.ats_proof.specs.Reading.{prefix_size, prefix_in}
 use Rattle.ats_proof.proofs.Taking.{parts_more, rest_fits}
 use Rattle.ats_proof.proofs.lists.ListsView.next.Goals as goal

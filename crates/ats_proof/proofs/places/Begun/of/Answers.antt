@@ -1,8 +1,8 @@
-use Rattle.std.proofs.Common.{◌≡◌, ◌∙◌, ℕ, ◌+◌, ◌*◌, ◌≤◌, length, drop, sym, ap, ap₂, arith}
+use Rattle.std.proofs.Common.{◌≡◌, ◌∙◌, ℕ, ◌+◌, ◌*◌, drop, sym, ap, ap₂, arith}
 use Rattle.std.proofs.lemmas.List.{length-drop}
 use Rattle.ats_proof.specs.Parts.{number_in, parts_in, counted_size}
 use Rattle.ats_proof.specs.Value.{present_in}
-use Rattle.ats_proof.specs.Reading.{entry_size, digest_size, slot_size, slot_in, terms_in, met_in, dict_digests_place, slots_place, met_place, lists_place}
+use Rattle.ats_proof.specs.Reading.{entry_size, digest_size, slot_size, slot_in, terms_in, met_in, dict_digests_place, slots_place, met_place}
 use Rattle.ats_proof.proofs.Taking.{total_fixed}
 use Rattle.ats_proof.proofs.places.Begun.of.Goals as goal
 

@@ -1,4 +1,4 @@
-use Rattle.std.proofs.Common.{◌≡◌, ◌<◌, ◌≤◌, ◌+◌, length, take, drop, Some, ap, arith}
+use Rattle.std.proofs.Common.{◌≡◌, ◌<◌, ◌+◌, take, drop, Some, ap, arith}
 use Rattle.ats_proof.specs.Reading.{term_size, term_in, term_length_in}
 use Rattle.ats_proof.proofs.Taking.{parts_more}
 use Rattle.ats_proof.proofs.Cutting.{term_of_parts}

@@ -1,8 +1,8 @@
-use Rattle.std.proofs.Common.{◌≡◌, ◌∙◌, ℕ, Bool, ◌==◌, nat_eq, ◌+◌, ◌*◌, ◌≤◌, length, drop, sum_by, sym, ap, ap₂, arith}
+use Rattle.std.proofs.Common.{◌≡◌, ◌∙◌, ℕ, Bool, ◌==◌, nat_eq, ◌+◌, drop, sum_by, ap, ap₂, arith}
 use Rattle.std.proofs.lemmas.List.{length-drop}
-use Rattle.ats_proof.specs.Parts.{number_in, parts_in, total_size, counted_in}
-use Rattle.ats_proof.specs.Value.{present_in, items_of_prefix, items_of_documents, items_of, Proof}
-use Rattle.ats_proof.specs.Reading.{entry_size, entry_in, digest_size, digest_in, id_size, id_in, slot_size, slot_in, prefix_size, prefix_in, is_tra, slots_in, terms_in, met_in, dict_digests_place, slots_place, met_place, lists_place, docs_place, answer_place, documents_in, proof_in}
+use Rattle.ats_proof.specs.Parts.{number_in, parts_in, total_size}
+use Rattle.ats_proof.specs.Value.{present_in, items_of_prefix, items_of_documents}
+use Rattle.ats_proof.specs.Reading.{entry_size, entry_in, digest_size, digest_in, id_size, id_in, slot_size, slot_in, prefix_size, prefix_in, is_tra, slots_in, terms_in, met_in, dict_digests_place, slots_place, met_place, lists_place, answer_place, documents_in, proof_in}
 use Rattle.ats_proof.proofs.Runs.{length-parts}
 use Rattle.ats_proof.proofs.Numbers.{AreBytes}
 use Rattle.ats_proof.proofs.Whole.{whole}

@@ -1,4 +1,3 @@
-use Rattle.std.proofs.Common.{Ok, Err}
 use Rattle.ats_grammar.proofs.Fronts.{no_fault}
 use Rattle.ats_proof.specs.Value.{fields_of}
 use Rattle.ats_proof.specs.Views.{proof_of}

@@ -1,4 +1,4 @@
-use Rattle.std.proofs.Common.{◌≡◌, ◌∙◌, ℕ, ◌<◌, ◌≤◌, ◌+◌, ◌*◌, length, drop, ap, arith}
+use Rattle.std.proofs.Common.{drop, arith}
 use Rattle.std.proofs.lemmas.List.{length-drop}
 use Rattle.ats_proof.specs.Reading.{slot_size, slot_in, terms_in, slots_place}
 use Rattle.ats_proof.proofs.Runs.{length-parts}
