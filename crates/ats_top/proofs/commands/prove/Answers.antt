@@ -11,13 +11,13 @@ returns-clause-stop g c =
     let failed = c.in-Err.ensures.cause.failed in
     let later = c.in_ok-loaded.ensures.later in
     let proof : IsProofFor g.H.HashKind.hash (g.S.Shelf.files c.args.shelf.now)
-          (record { index = c.args.index.now; algorithm = c.args.algorithm; r = c.args.r; query = c.args.query.now; proof = c.args.proof.now }) _ = record {
-        texts = _;
-        query = _;
-        index = c.in_ok-loaded.ensures.ok;
-        asked = c.in_ok-asked.ensures.ok;
-        walk = c.requires;
-        proved = rw c.in_ok-rows.ensures.ok at c.in_ok-bytes.ensures.ok;
-        short = c.in_ok-bytes.ensures.within;
-      } in
+    (record { index = c.args.index.now; algorithm = c.args.algorithm; r = c.args.r; query = c.args.query.now; proof = c.args.proof.now }) _ = record {
+      texts = _;
+      query = _;
+      index = c.in_ok-loaded.ensures.ok;
+      asked = c.in_ok-asked.ensures.ok;
+      walk = c.requires;
+      proved = rw c.in_ok-rows.ensures.ok at c.in_ok-bytes.ensures.ok;
+      short = c.in_ok-bytes.ensures.within;
+    } in
     (asks, inl (omega (arith, failed, later)), proof_part _ _ _ _ _ _ asks proof c.in_ok-loaded.ensures.files (rw c.as_slice.ensures at c.in-Err.ensures.err))
