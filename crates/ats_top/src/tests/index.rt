@@ -1,6 +1,6 @@
 //! `build` and `root` over the example of three texts, whose root an independent program computed.
 
-use super::{FOXES, words};
+use super::{FOXES, SHELF, USAGE, expect, shelf_of, words};
 use crate::{run, run_with};
 use ats_base::{MemShelf, MemSink};
 use ats_hash::Weak;
@@ -10,30 +10,7 @@ use std::test::Fail;
 
 const ROOT: &str = "297978110ffb580733eaf8938f9328114690e802ab3108a3bfabc34ba2db2490\n";
 
-const SHELF: &str = "fault: shelf\n";
-
 const BUILD: [&str; 3] = ["build", "X", "I"];
-
-fn shelf_of(alloc: Global, file: &str) -> Result<MemShelf, Fail> {
-    let mut shelf = MemShelf::new(alloc);
-    shelf.put("X", file.as_bytes())?;
-    Ok(shelf)
-}
-
-// Runs a command over the shelf, which must end and print so.
-fn expect(
-    rt: &(impl Abort + Alloc<A = Global>),
-    shelf: &mut MemShelf,
-    said: &[&str],
-    status: u8,
-    printed: &str,
-) -> Result<(), Fail> {
-    let mut sink = MemSink::new(rt.alloc());
-    let words = words(rt.alloc(), said)?;
-    assert_eq!(rt; run(rt.alloc(), &words, shelf, &mut sink), status);
-    assert_eq!(rt; sink.bytes(), printed.as_bytes());
-    Ok(())
-}
 
 // The index of the three texts.
 fn example(rt: &(impl Abort + Alloc<A = Global>)) -> Result<[u8; 152], Fail> {
@@ -111,16 +88,15 @@ fn refuses_changed_indexes(rt: HostRuntime) -> Result<(), Fail> {
 
 #[test]
 fn leaves_the_shelf_where_nothing_is_built(rt: HostRuntime) -> Result<(), Fail> {
-    let usage = "usage: rank build root prove verify ask serve audit sweep trial\n";
     let mut shelf = shelf_of(rt.alloc(), r#"["a",5]"#)?;
     expect(&rt, &mut shelf, &BUILD, 4, "input: item 1\n")?;
     expect(&rt, &mut shelf, &["build", "Y", "I"], 3, SHELF)?;
     expect(&rt, &mut shelf, &["root", "I"], 3, SHELF)?;
-    expect(&rt, &mut shelf, &["build", "X"], 2, usage)?;
-    expect(&rt, &mut shelf, &["build", "X", "I", "J"], 2, usage)?;
-    expect(&rt, &mut shelf, &["root"], 2, usage)?;
-    expect(&rt, &mut shelf, &["root", "I", "J"], 2, usage)?;
-    expect(&rt, &mut shelf, &[], 2, usage)?;
+    expect(&rt, &mut shelf, &["build", "X"], 2, USAGE)?;
+    expect(&rt, &mut shelf, &["build", "X", "I", "J"], 2, USAGE)?;
+    expect(&rt, &mut shelf, &["root"], 2, USAGE)?;
+    expect(&rt, &mut shelf, &["root", "I", "J"], 2, USAGE)?;
+    expect(&rt, &mut shelf, &[], 2, USAGE)?;
     assert!(rt; shelf.bytes_of("I").is_none());
     Ok(())
 }
