@@ -5,3 +5,6 @@ pub mod Lanes
 pub mod Scores
 pub mod Ranking
 pub mod Texts
+pub mod One
+pub mod OneCut
+pub mod OneAnswer

@@ -8,7 +8,9 @@ ghost use Rattle.ats_impact.specs.Score.{coefficient, score};
 ghost use Rattle.ats_lists.specs.Lists.{list};
 ghost use Rattle.ats_bound.specs.declared.bracket.Bracket.{Bracket};
 ghost use Rattle.ats_bound.specs.Cut.{ShownLane, IsMet, bracket, held, missing, threshold};
-ghost use Rattle.ats_bound.specs.Settled.{ArePicks, IsSettled};
+ghost use Rattle.ats_bound.specs.Settled.{ArePicks, HaveDistinctDocs, IsSettled};
+ghost use Rattle.ats_bound.specs.Chosen.{IsChosen};
+ghost use Rattle.ats_bound.specs.Schedule.{WholeLane, AreBracketsOf, IsFirstSettled};
 ghost use Rattle.ats_bound.specs.Ranked.{CutLane, AreScores, HoldsScore, AreOfMet, answer_of, cut_of, impact_in};
 
 /// A document that no shown entry names scores at most the threshold. One that a shown entry names is one
@@ -40,4 +42,13 @@ pub fn settled_answers_are_top()
     ensures { (n r : ℕ) (score : ℕ → ℕ) (lanes : List CutLane) (brackets : List Bracket) (picks : List ℕ)
         → AreScores n score lanes → AreOfMet lanes brackets → All (HoldsScore score) brackets → ArePicks brackets picks
         → IsSettled brackets picks (threshold (cut_of lanes)) r → IsTopBy n score r (answer_of brackets picks) }
+{}
+
+/// A walk ends at one cut with one answer: whole lists have one first settled cut, a cut has one list of
+/// brackets, and brackets of distinct documents have one chosen answer.
+pub fn walks_end_at_one_cut()
+    ensures cut { (lanes : List WholeLane) (r : ℕ) (a b : List ℕ) → IsFirstSettled lanes r a → IsFirstSettled lanes r b → a ≡ b }
+    ensures brackets { (lanes : List ShownLane) (a b : List Bracket) → AreBracketsOf lanes a → AreBracketsOf lanes b → a ≡ b }
+    ensures answer { (brackets : List Bracket) (r : ℕ) (a b : List ℕ) → HaveDistinctDocs brackets
+        → IsChosen brackets r a → IsChosen brackets r b → a ≡ b }
 {}

@@ -5,8 +5,8 @@
 //! these bounds alone show that it is right. The room stands on the entries of `ats_lists`, the number of
 //! rows of `ats_impact` and the steps of `ats_hash`. The contracts promise that [`settled`] answers exactly
 //! the rules of a settled answer, that what [`choose`] answers is settled wherever any answer is, that a
-//! settled answer is a top answer wherever the brackets hold the scores, and that a [`Work`] begins with
-//! marks that say nothing. How places are looked up, brackets sorted and marks kept may change unasked.
+//! settled answer is a top answer wherever the brackets hold the scores, that a walk ends at one cut with
+//! one answer, and that a [`Work`] begins with marks that say nothing. How places are looked up, brackets sorted and marks kept may change unasked.
 #![tactic(auto)]
 
 mod bracket;
@@ -28,7 +28,7 @@ pub use cut::Cut;
 pub use lane::Lane;
 pub use laws::{
     cuts_bound_scores, rests_are_held_or_missing, scores_are_sums_over_lists,
-    settled_answers_are_top,
+    settled_answers_are_top, walks_end_at_one_cut,
 };
 pub use memory::OutOfMemory;
 pub use picks::Picks;

@@ -1,31 +1,13 @@
--- The schedule has one cut after each number of turns.
-use Rattle.std.proofs.Common.{◌≡◌, ◌+◌, ℕ, zero, suc, List, set, get_or, refl, sym, ap, subst, ◌∙◌, arith, inl, inr}
+-- The walk takes turn after turn until an answer is settled.
+use Rattle.std.proofs.Common.{◌≡◌, ◌+◌, ℕ, suc, List, set, get_or, refl, sym, subst, arith, inl, inr}
 use Rattle.std.proofs.lemmas.Bool.{cases_order}
 use Rattle.ats_bound.specs.declared.bracket.Bracket.{Bracket}
 use Rattle.ats_bound.specs.declared.walk.Walk.{Walk}
 use Rattle.ats_bound.specs.Settled.{ArePicks, IsSettled}
-use Rattle.ats_bound.specs.Schedule.{WholeLane, IsNextLane, IsTurn, IsScheduled, CanSettle, IsFirstSettled, first_cut, shown}
+use Rattle.ats_bound.specs.Schedule.{WholeLane, IsNextLane, IsScheduled, CanSettle, IsFirstSettled, first_cut, shown}
 use Rattle.ats_tnra.specs.Stand.{IsStand, IsEnd, IsReached}
-use Rattle.ats_tnra.proofs.One.{one_bracketing}
-
-one_next : (lanes : List WholeLane) (cut : List ℕ) (i j : ℕ) → IsNextLane lanes cut i → IsNextLane lanes cut j → i ≡ j
-one_next lanes cut i j first second = elim (cases_order i j) [
-  | inl same ↦ same
-  | inr other ↦ elim other [
-    | inl less ↦ absurd (omega (arith, second.least i less first.more, first.greatest j second.inside second.more))
-    | inr greater ↦ absurd (omega (arith, first.least j greater second.more, second.greatest i first.inside first.more))
-  ]
-]
-
-one_turn : (lanes : List WholeLane) (cut a b : List ℕ) → IsTurn lanes cut a → IsTurn lanes cut b → a ≡ b
-one_turn lanes cut a b first second =
-    first.counts ∙ ap (λ i. set cut i (get_or cut i 0 + 1)) (one_next lanes cut first.place second.place first.next second.next) ∙ sym second.counts
-
-one_schedule : (lanes : List WholeLane) (n : ℕ) (a b : List ℕ) → IsScheduled lanes n a → IsScheduled lanes n b → a ≡ b
-one_schedule lanes zero a b first second = first ∙ sym second
-one_schedule lanes (suc n) a b first second =
-    let same : first.0 ≡ second.0 = one_schedule lanes n first.0 second.0 first.1 second.1 in
-    one_turn lanes second.0 a b (subst (λ (cut : List ℕ). IsTurn lanes cut a) same first.2) second.2
+use Rattle.ats_bound.proofs.One.{one_bracketing}
+use Rattle.ats_bound.proofs.OneCut.{one_schedule}
 
 -- the walk begins at the first cut
 pub reached_first : (lanes : List WholeLane) (r : ℕ) → IsReached lanes r (first_cut lanes)

@@ -16,7 +16,7 @@ use Rattle.ats_bound.specs.Schedule.{has_bracket}
 use Rattle.ats_tnra.specs.declared.parts.Part.{Part}
 use Rattle.ats_tnra.specs.Parts.{cover_of, gain_of, has_part, part_cmp}
 use Rattle.ats_tnra.specs.Sums.{AreSums}
-use Rattle.ats_tnra.proofs.One.{Rise, no_bracket, other_doc, same_doc}
+use Rattle.ats_bound.proofs.One.{Rise, no_bracket, other_doc, same_doc}
 
 has_more : (doc : ℕ) (parts : List Part) (p : Part) → has_part doc (parts ++ p ∷ []) ≡ (has_part doc parts || (nat_eq p.doc doc || false))
 has_more doc parts p = list_any-append (λ (p : Part). nat_eq p.doc doc) parts (p ∷ [])

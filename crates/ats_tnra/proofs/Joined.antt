@@ -14,7 +14,7 @@ use Rattle.ats_bound.specs.Schedule.{WholeLane, IsWholeLane, AreBracketsOf, show
 use Rattle.ats_tnra.specs.declared.parts.Part.{Part}
 use Rattle.ats_tnra.specs.Parts.{all_parts, cover_of, gain_of, has_part, part, parts_of}
 use Rattle.ats_tnra.specs.Sums.{AreSums}
-use Rattle.ats_tnra.proofs.One.{other_doc, same_doc}
+use Rattle.ats_bound.proofs.One.{other_doc, same_doc}
 
 -- no document stands twice
 abbrev pub IsOnce : List Entry → Type 0

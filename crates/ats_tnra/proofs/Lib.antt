@@ -1,6 +1,5 @@
 pub mod Shown
 pub mod Advance
-pub mod One
 pub mod Whole
 pub mod Joined
 pub mod Fold

@@ -8,7 +8,7 @@ use Rattle.ats_bound.specs.Settled.{IsSettled}
 use Rattle.ats_bound.specs.Schedule.{WholeLane, IsNextLane, IsWholeLane, shown, whole_lanes}
 use Rattle.ats_tnra.specs.Stand.{IsEnd, IsStand}
 use Rattle.ats_tnra.proofs.Advance.{cannot_settle, end_at, reached_after, reached_first}
-use Rattle.ats_tnra.proofs.One.{risen_are_distinct}
+use Rattle.ats_bound.proofs.One.{risen_are_distinct}
 use Rattle.ats_tnra.proofs.Shown.{cut_after, fewer_hidden, first_is_cut, hidden, open_more}
 use Rattle.ats_tnra.proofs.Whole.{whole_settled}
 use Rattle.ats_tnra.proofs.walking.first_stand.Goals as goal

@@ -1,5 +1,5 @@
 use Rattle.ats_bound.specs.Schedule.{shown, whole_lanes}
-use Rattle.ats_tnra.proofs.One.{are_brackets, risen_are_distinct}
+use Rattle.ats_bound.proofs.One.{are_brackets, risen_are_distinct}
 use Rattle.ats_tnra.proofs.walking.stand.Goals as goal
 
 pub choose-requires-clause-distinct : goal.choose-requires-clause-distinct
