@@ -1,3 +1,6 @@
 pub mod DictionaryLemmas
 pub mod HeaderLemmas
 pub mod TermLemmas
+pub mod OwnHeader
+pub mod OwnLeaves
+pub mod OwnStrings

@@ -1,2 +1,4 @@
 pub mod Trees
 pub mod Root
+pub mod Ours
+pub mod Own

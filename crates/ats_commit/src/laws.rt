@@ -1,21 +1,30 @@
 //! What holds of the trees, the header and the root of any texts, as contracts of functions that do
 //! nothing. Who believes these sentences need not read how the definitions are made.
 
-ghost use Rattle.std.specs.Prelude.{◌≡◌, ◌+◌, ◌<◌, ◌≤◌, ◌^◌, ◌∷◌, ◌++◌, List, ℕ, Some, length, map, slice_get};
+ghost use Rattle.std.specs.Prelude.{◌≡◌, ◌+◌, ◌<◌, ◌≤◌, ◌^◌, ◌∷◌, ◌++◌, List, [], ℕ, Some, None, IsSome, length, map, slice_get};
 ghost use Rattle.std.specs.Int.{to_be_bytes, w32};
 ghost use Rattle.std.specs.List.{All};
 ghost use Rattle.std.specs.Str.{IsUtf8};
 ghost use Rattle.ats_tree.specs.Tree.{mth};
+ghost use Rattle.ats_tree.specs.Paths.{Path};
+ghost use Rattle.ats_tree.specs.declared.hashed.Tree.TheVariants.{Header as HeaderTree, List as ListTree, Terms as TermsTree};
+ghost use Rattle.ats_terms.specs.Terms.{IsTerm};
 ghost use Rattle.ats_impact.specs.Limits.{AreWithin};
 ghost use Rattle.ats_impact.specs.Score.{frequency, total_terms};
 ghost use Rattle.ats_lists.specs.Leaf.{leaf_bytes};
 ghost use Rattle.ats_lists.specs.Lists.{list, vocabulary};
+ghost use Rattle.ats_lists.specs.declared.entry.Entry.{Entry};
 ghost use Rattle.ats_doctree.specs.DocumentLeaf.{doc_leaf_bytes};
 ghost use Rattle.ats_doctree.specs.Impacts.{doc_terms};
 ghost use Rattle.ats_doctree.specs.Sentinels.{terms_leaves};
-ghost use Rattle.ats_dict.specs.Dictionary.{dict_leaves};
+ghost use Rattle.ats_dict.specs.Header.{header_bytes, IsHeader};
+ghost use Rattle.ats_dict.specs.declared.header.Header.{Header};
+ghost use Rattle.ats_dict.specs.Entry.{DictEntry, dict_leaf_bytes};
+ghost use Rattle.ats_dict.specs.Dictionary.{IsBelow, dict_leaves};
 ghost use Rattle.ats_commit.specs.Trees.{dictionary_of, documents_of};
 ghost use Rattle.ats_commit.specs.Root.{header_of, root_of, HasHeaderInRange};
+ghost use Rattle.ats_commit.specs.Ours.{TreePlace, asked_term, own_leaves, ours};
+ghost use Rattle.ats_commit.specs.Own.{AreTexts, AreNeighbours, IsHeaderOf, IsEntryOf};
 
 use ats_hash::HashKind;
 
@@ -52,4 +61,43 @@ pub fn roots_bind_headers<H: HashKind>()
         ≡ 1 ∷ to_be_bytes w32 (length texts) ++ to_be_bytes w32 (length (vocabulary texts) + 2)
         ++ mth H.hash (dict_leaves (dictionary_of H.hash texts)) ++ mth H.hash (documents_of H.hash texts) ++ mth H.hash texts }
     ensures size { (texts : List (List ℕ)) → length (header_of H.hash texts) ≡ 105 }
+{}
+
+/// A header in range whose bytes are those of the texts' own has their numbers and roots.
+pub fn own_headers_are_read<H: HashKind>()
+    ensures { (texts : List (List ℕ)) (header : Header) → AreTexts texts
+        → IsHeader header.documents header.dict_leaves header.dict_root header.docs_root header.texts_root
+        → header_bytes header.documents header.dict_leaves header.dict_root header.docs_root header.texts_root ≡ header_of H.hash texts
+        → IsHeaderOf H.hash texts header }
+{}
+
+/// A leaf whose bytes are those of the texts' own says of their lists what its parts say: a term's leaf in
+/// the dictionary how many entries its list has and with which root, two neighbours that no text has a term
+/// between theirs, and a leaf of a list which posting stands there.
+pub fn own_leaves_tell_lists<H: HashKind>()
+    ensures entry { (texts : List (List ℕ)) (p : ℕ) (entry : DictEntry) → AreTexts texts → IsTerm entry.term
+        → entry.f < 2 ^ 32
+        → slice_get (dict_leaves (dictionary_of H.hash texts)) p ≡ Some (dict_leaf_bytes entry.term entry.f entry.root)
+        → IsEntryOf H.hash texts entry }
+    ensures absent { (texts : List (List ℕ)) (p : ℕ) (lower upper : DictEntry) (term : List ℕ) → AreTexts texts
+        → AreNeighbours (dict_leaves (dictionary_of H.hash texts)) p lower upper → IsBelow lower.term term → IsBelow term upper.term
+        → (list texts term ≡ []) × (frequency term texts ≡ 0) }
+    ensures posting { (texts : List (List ℕ)) (term : List ℕ) (i : ℕ) (entry : Entry) → AreTexts texts
+        → entry.doc < 2 ^ 32 → entry.impact < 2 ^ 16
+        → slice_get (map leaf_bytes (list texts term)) i ≡ Some (leaf_bytes entry) → slice_get (list texts term) i ≡ Some entry }
+{}
+
+/// The header's string stands at the place with no turns, and in no tree does a string stand past its
+/// leaves: `h` turns are the most where there are at most 2^h. None stands in the list of a term that no
+/// text has, nor in the tree of a document past the last.
+pub fn own_strings_stand_in_trees<H: HashKind>()
+    ensures header { (texts : List (List ℕ)) (query : List (List ℕ × ℕ))
+        → ours H.hash texts query (record { tree = HeaderTree; path = [] }) ≡ Some (2 ∷ header_of H.hash texts) }
+    ensures within { (texts : List (List ℕ)) (query : List (List ℕ × ℕ)) (place : TreePlace) (h : ℕ)
+        → length (own_leaves H.hash texts query place.tree) ≤ 2 ^ h → IsSome (ours H.hash texts query place) → length place.path ≤ h }
+    ensures lists { (texts : List (List ℕ)) (query : List (List ℕ × ℕ)) (number : ℕ) (path : Path)
+        → frequency (asked_term query number) texts ≡ 0
+        → ours H.hash texts query (record { tree = ListTree number; path = path }) ≡ None }
+    ensures documents { (texts : List (List ℕ)) (query : List (List ℕ × ℕ)) (doc : ℕ) (path : Path) → length texts ≤ doc
+        → ours H.hash texts query (record { tree = TermsTree doc; path = path }) ≡ None }
 {}
