@@ -13,3 +13,4 @@ pub mod Encoding
 pub mod Documents
 pub mod Showing
 pub mod Unique
+pub mod InRange

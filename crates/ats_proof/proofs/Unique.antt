@@ -187,13 +187,13 @@ header_tells x y a b e =
     }
 
 -- the fields of a proof from some part on
-abbrev after_lists : Proof → List (List ℕ)
+abbrev pub after_lists : Proof → List (List ℕ)
 after_lists p = documents_fields p.docs ++ (counted 2 id_fields p.answer ++ [])
 
-abbrev after_slots : Proof → List (List ℕ)
+abbrev pub after_slots : Proof → List (List ℕ)
 after_slots p = counted 4 id_fields p.met ++ (flat_map prefix_fields p.lists ++ after_lists p)
 
-abbrev after_terms : Proof → List (List ℕ)
+abbrev pub after_terms : Proof → List (List ℕ)
 after_terms p = counted 2 entry_fields p.dict ++ (counted 2 digest_fields p.dict_digests ++ (flat_map slot_fields p.slots ++ after_slots p))
 
 in_turn : (a b c d f g h j k l : List (List ℕ)) → a ++ b ++ c ++ d ++ f ++ g ++ h ++ j ++ k ++ l
@@ -209,7 +209,7 @@ in_turn a b c d f g h j k l =
     ∙ append_assoc (a ++ b) c (d ++ (f ++ (g ++ (h ++ (j ++ (k ++ (l ++ [])))))))
     ∙ append_assoc a b (c ++ (d ++ (f ++ (g ++ (h ++ (j ++ (k ++ (l ++ []))))))))
 
-fields_in_turn : (p : Proof) → fields_of p ≡ front_fields p.docs ++ (header_fields p.header ++ (spelled 2 (length p.slots) ∷ after_terms p))
+pub fields_in_turn : (p : Proof) → fields_of p ≡ front_fields p.docs ++ (header_fields p.header ++ (spelled 2 (length p.slots) ∷ after_terms p))
 fields_in_turn p = in_turn (front_fields p.docs) (header_fields p.header) (spelled 2 (length p.slots) ∷ []) (counted 2 entry_fields p.dict) (counted 2 digest_fields p.dict_digests)
     (flat_map slot_fields p.slots) (counted 4 id_fields p.met) (flat_map prefix_fields p.lists) (documents_fields p.docs) (counted 2 id_fields p.answer)
 

@@ -9,3 +9,4 @@ pub mod Views
 pub mod SeenCursor
 pub mod SeenTerms
 pub mod SeenDocs
+pub mod Ranges

@@ -5,6 +5,7 @@ ghost use Rattle.ats_grammar.specs.declared.fault.ShapeKind.TheVariants.{Trailin
 ghost use Rattle.ats_grammar.specs.Front.{Spells, IsBad};
 ghost use Rattle.ats_records.specs.Written.{writing};
 ghost use Rattle.ats_proof.specs.Parts.{AreBytes};
+ghost use Rattle.ats_proof.specs.Ranges.{IsInRange};
 ghost use Rattle.ats_proof.specs.Reading.{proof_in};
 ghost use Rattle.ats_proof.specs.Value.{Proof, IsProof};
 
@@ -35,4 +36,9 @@ pub fn what_is_written_is_read()
     ensures kept { (limit : ℕ) (bytes : List ℕ) → length bytes ≤ limit → (writing limit bytes).kept ≡ Some bytes }
     ensures read { (limit : ℕ) (bytes kept : List ℕ) (proof other : Proof) → IsProof bytes proof → (writing limit bytes).kept ≡ Some kept
         → IsProof kept proof × (IsProof kept other → other ≡ proof) }
+{}
+
+/// The parts of a proof keep their ranges, whatever bytes spell it.
+pub fn proofs_are_in_range()
+    ensures { (bytes : List ℕ) (proof : Proof) → IsProof bytes proof → IsInRange proof }
 {}

@@ -17,7 +17,7 @@ pub use dict::DictView;
 pub use docs::{DocView, DocsView};
 pub use docs_cursor::DocsCursor;
 pub use laws::{
-    bytes_say_one_proof, further_bytes_are_trailing, proofs_have_one_spelling,
+    bytes_say_one_proof, further_bytes_are_trailing, proofs_are_in_range, proofs_have_one_spelling,
     spellings_say_proofs, what_is_written_is_read,
 };
 pub use lists::{ListView, ListsView};

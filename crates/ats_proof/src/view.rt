@@ -3,7 +3,8 @@
 ghost use Rattle.std.specs.Prelude.{◌≡◌, ◌<◌, ◌≤◌, ◌+◌, ◌*◌, ◌^◌, ℕ, List, length, map, take, drop, slice_get, Some};
 ghost use Rattle.ats_grammar.specs.Table.{number};
 ghost use Rattle.ats_proof.specs.Parts.{parts_in};
-ghost use Rattle.ats_proof.specs.Reading.{slot_size, slot_in, met_place};
+ghost use Rattle.ats_proof.specs.Reading.{slot_size, slot_in, met_place, proof_in};
+ghost use Rattle.ats_proof.specs.Ranges.{IsInRange};
 ghost use Rattle.ats_proof.specs.Told.{IsPlaced};
 
 use crate::bytes::{are_bytes, digest, nth, number_1, number_2, number_4};
@@ -26,6 +27,7 @@ pub struct ProofView<'a> {
     pub(crate) ended: Ended,
     pub(crate) items: u64,
     pub ghost placed: { IsPlaced bytes.now tra begun ended docs items },
+    pub ghost in_range: { IsInRange (proof_in bytes.now) },
 }
 
 impl<'a> ProofView<'a> {

@@ -6,6 +6,7 @@ use Rattle.ats_proof.specs.Reading.{entry_size, entry_in, digest_size, digest_in
 use Rattle.ats_proof.proofs.Runs.{length-parts}
 use Rattle.ats_proof.proofs.Numbers.{AreBytes}
 use Rattle.ats_proof.proofs.Whole.{whole}
+use Rattle.ats_proof.proofs.InRange.{in_range}
 use Rattle.ats_proof.proofs.view.ProofView.of.Goals as goal
 
 pub split_at-requires : goal.split_at-requires
@@ -155,6 +156,7 @@ invariant_of-result c =
         docs_at = ap₂ (λ (m n : ℕ). m + n) begun.lists size;
         counted = omega (arith, dict, digests, rows, lists, docs, l1, l2, l3, l4, l5, begun.terms, begun.met, c.from-dict.ensures, c.from-digests.ensures, c.from-rows.ensures, c.from.ensures, c.from-2.ensures);
       };
+      in_range = in_range bytes (proof_in bytes) w.is;
     }
 
 pub returns-clause-proof : goal.returns-clause-proof

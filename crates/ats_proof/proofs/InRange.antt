@@ -1,0 +1,355 @@
+-- The fields that spell a proof keep its parts in their ranges.
+use Rattle.std.proofs.Common.{◌≡◌, ◌∙◌, ℕ, zero, suc, ◌+◌, ◌^◌, ◌==◌, ◌<◌, ◌≤◌, Bool, true, List, [], ◌∷◌, ◌++◌, length, map, slice_index, slice_index_or, Option, Some, None, refl, sym, ap, subst, append_assoc, add_assoc, zero-add, arith}
+use Rattle.std.specs.List.{All, AllByRecursion, AllAdjacentBelow, flat_map}
+use Rattle.std.specs.List.Sorted.{IsStrictlyIncreasing}
+use Rattle.std.proofs.lemmas.List.Elements.{All-from_recursion, recursion_from_All}
+use Rattle.std.proofs.lemmas.List.Sorted.{IsNonDecreasingBy-from_all_adjacent}
+use Rattle.std.proofs.lemmas.List.Sums.{sum_by-cons}
+use Rattle.ats_dict.specs.Header.{IsHeader}
+use Rattle.ats_dict.specs.declared.header.Header.{Header}
+use Rattle.ats_lists.specs.declared.entry.Entry.{Entry}
+use Rattle.ats_doctree.specs.declared.doc_leaf.DocLeaf.{DocLeaf}
+use Rattle.ats_records.specs.declared.record.Slot.{Slot}
+use Rattle.ats_grammar.specs.declared.fault.ShapeKind.{ShapeKind}
+use Rattle.ats_grammar.specs.declared.fault.ShapeKind.TheVariants.{Algorithm, Count, Order}
+use Rattle.ats_grammar.specs.Table.{Table, End, Number, Bytes}
+use Rattle.ats_grammar.specs.Grammar.{any_2, any_4, index, term_length, digests, proof, header, query_terms, dictionary, dict_digests, slots, met, prefixes, prefix, list_digests, documents, doc_digests, term_sections, term_section, term_digests, doc_slots, answer, rows}
+use Rattle.ats_grammar.specs.Front.{Come}
+use Rattle.ats_proof.specs.Parts.{spelled, counted}
+use Rattle.ats_proof.specs.Value.{ShownEntry, ShownTerm, Prefix, TermsSection, Documents, Proof, IsProof, AreDocumentsOf, digest_fields, slot_fields, kind_of_slot, id_fields, posting_fields, entry_fields, doc_fields, term_fields, prefix_fields, section_fields, documents_fields, front_fields, header_fields, number_of_algorithm, present_in}
+use Rattle.ats_proof.specs.Ranges.{AreDigests, IsShownInRange, IsEntryInRange, IsPrefixInRange, IsDictInRange, AreSlotsInRange, AreIdsInRange, IsInRange}
+use Rattle.ats_proof.proofs.Numbers.{number-spelled}
+use Rattle.ats_proof.proofs.Standing.{IsRanged}
+use Rattle.ats_proof.proofs.Runs.{runs}
+use Rattle.ats_proof.proofs.Formats.{U, digest_part, id_part, posting_part, slot_part, doc_slot_part, doc_part, entry_part, term_part}
+use Rattle.ats_proof.proofs.Tables.{digests_run, ids_run, entries_run, slots_run, doc_slots_run, docs_run, dict_run, terms_run, prefix_part, prefixes_run}
+use Rattle.ats_proof.proofs.Whole.{next_slot}
+use Rattle.ats_proof.proofs.Unique.{after_lists, after_slots, after_terms, fields_in_turn}
+
+-- something is so, and the fields that are left are the table's
+pub record Holds (good : Type 0) (table : Table) (after : List (List ℕ)) : Type 0 where
+  pub is_good : good
+  pub come : Come after table End
+
+number_holds : (k low high n : ℕ) (kind : ShapeKind) (rest : ℕ → Table) (after : List (List ℕ)) → Come (spelled (suc k) n ∷ after) (Number (suc k) low high kind rest) End → Holds (IsRanged low high n) (rest n) after
+number_holds k low high n kind rest after come =
+    let same = number-spelled k n in
+    record {
+      is_good = record { least = subst (λ (m : ℕ). low ≤ m) same come.0.1; most = subst (λ (m : ℕ). m ≤ high) same come.0.2 };
+      come = subst (λ (m : ℕ). Come after (rest m) End) same come.1;
+    }
+
+-- ---- runs
+
+-- the state after the parts, and that each part is good at its state
+abbrev state_after : {S X : Type 0} → (S → X → S) → S → List X → S
+state_after next s [] = s
+state_after next s (x ∷ xs) = state_after next (next s x) xs
+
+abbrev AreGoodFrom : {S X : Type 0} → (S → X → S) → (S → X → Type 0) → S → List X → Type 0
+AreGoodFrom next Good s [] = Unit {0}
+AreGoodFrom next Good s (x ∷ xs) = Good s x × AreGoodFrom next Good (next s x) xs
+
+pub record AreCounted {X : Type 0} (low high : ℕ) (xs : List X) (good : Type 0) : Type 0 where
+  pub count : IsRanged low high (length xs)
+  pub are_good : good
+
+module _ {S X : Type 0} (part : S → (S → Table) → Table) (spell : X → List (List ℕ)) (next : S → X → S) (Good : S → X → Type 0) (one : (s : S) (k : S → Table) (x : X) (after : List (List ℕ)) → Come (spell x ++ after) (part s k) End → Holds (Good s x) (k (next s x)) after) where
+  run_holds : (xs : List X) (s : S) (last : S → Table) (after : List (List ℕ)) → Come (flat_map spell xs ++ after) (runs part (length xs) s last) End
+      → Holds (AreGoodFrom next Good s xs) (last (state_after next s xs)) after
+  run_holds [] s last after come = record { is_good = tt; come = come }
+  run_holds (x ∷ xs) s last after come =
+      let k : S → Table = λ t. runs part (length xs) t last in
+      let joined = subst (λ (fields : List (List ℕ)). Come fields (part s k) End) (append_assoc (spell x) (flat_map spell xs) after) come in
+      let first = one s k x (flat_map spell xs ++ after) joined in
+      let more = run_holds xs (next s x) last after first.come in
+      record { is_good = (first.is_good, more.is_good); come = more.come }
+
+  counted_holds : (width low high : ℕ) (kind : ShapeKind) (xs : List X) (s : S) (last : ℕ → S → Table) (after : List (List ℕ))
+      → Come (counted (suc width) spell xs ++ after) (Number (suc width) low high kind (λ n. runs part n s (last n))) End
+      → Holds (AreCounted low high xs (AreGoodFrom next Good s xs)) (last (length xs) (state_after next s xs)) after
+  counted_holds width low high kind xs s last after come =
+      let number = number_holds width low high (length xs) kind (λ n. runs part n s (last n)) (flat_map spell xs ++ after) come in
+      let run = run_holds xs s (last (length xs)) after number.come in
+      record { is_good = record { count = number.is_good; are_good = run.is_good }; come = run.come }
+
+module _ {S X : Type 0} (next : S → X → S) (Good : S → X → Type 0) (P : X → Type 0) (kept : (s : S) (x : X) → Good s x → P x) where
+  each_by_recursion : (xs : List X) (s : S) → AreGoodFrom next Good s xs → AllByRecursion P xs
+  each_by_recursion [] s good = tt
+  each_by_recursion (x ∷ xs) s good = (kept s x good.0, each_by_recursion xs (next s x) good.1)
+
+  each : (xs : List X) (s : S) → AreGoodFrom next Good s xs → All P xs
+  each xs s good = All-from_recursion P xs (each_by_recursion xs s good)
+
+-- numbers rise, where each is above the one before it
+rises : {X : Type 0} (number : X → ℕ) (Good : ℕ → X → Type 0) → ((low : ℕ) (x : X) → Good low x → low ≤ number x)
+    → (xs : List X) (low : ℕ) → AreGoodFrom (λ _ x. number x + 1) Good low xs → IsStrictlyIncreasing (map number xs)
+rises number Good above [] low good k below = absurd (omega (arith, below))
+rises number Good above (x ∷ []) low good k below = absurd (omega (arith, below))
+rises number Good above (x ∷ y ∷ xs) low good zero below = let h = above (number x + 1) y good.1.0 in omega (arith, h)
+rises number Good above (x ∷ y ∷ xs) low good (suc k) below =
+    let e : suc (k + 1) ≡ suc k + 1 = omega arith in
+    let all = map number (x ∷ y ∷ xs) in
+    subst (λ (j : ℕ). slice_index all (suc k) < slice_index all j) e (rises number Good above (y ∷ xs) (number x + 1) good.1 k (omega (arith, below)))
+
+-- ---- the header
+
+abbrev is_shown : Option Documents → Bool
+is_shown docs = number_of_algorithm docs == 1
+
+pub record IsBegun (h : Header) (n : ℕ) : Type 0 where
+  pub header : IsHeader h.documents h.dict_leaves h.dict_root h.docs_root h.texts_root
+  pub terms : IsRanged 1 32 n
+
+header_holds : (docs : Option Documents) (h : Header) (n : ℕ) (after : List (List ℕ)) → Come (front_fields docs ++ (header_fields h ++ (spelled 2 n ∷ after))) proof End
+    → Holds (IsBegun h n) (dictionary (is_shown docs) n) after
+header_holds docs h n after come =
+    let tra = is_shown docs in
+    let roots = h.dict_root ∷ h.docs_root ∷ h.texts_root ∷ spelled 2 n ∷ after in
+    let numbers = spelled 4 h.documents ∷ spelled 4 h.dict_leaves ∷ roots in
+    let algorithm = number_holds 0 1 2 (number_of_algorithm docs) Algorithm (λ a. header (a == 1)) (spelled 1 1 ∷ numbers) come.1.1 in
+    let documents = number_holds 3 1 65536 h.documents Count (λ _. Number 4 2 16777218 Count (λ _. Bytes 32 (Bytes 32 (Bytes 32 (query_terms tra))))) (spelled 4 h.dict_leaves ∷ roots) algorithm.come.1 in
+    let leaves = number_holds 3 2 16777218 h.dict_leaves Count (λ _. Bytes 32 (Bytes 32 (Bytes 32 (query_terms tra)))) roots documents.come in
+    let terms = number_holds 1 1 32 n Count (λ m. dictionary tra m) after leaves.come.1.1.1 in
+    record {
+      is_good = record {
+        header = record {
+          numbers = record { some = documents.is_good.least; few = documents.is_good.most; sentinels = leaves.is_good.least; terms = leaves.is_good.most };
+          dict = leaves.come.0;
+          docs = leaves.come.1.0;
+          texts = leaves.come.1.1.0;
+        };
+        terms = terms.is_good;
+      };
+      come = terms.come;
+    }
+
+-- ---- the dictionary
+
+one_digest : (s : U) (k : U → Table) (x : List ℕ) (after : List (List ℕ)) → Come (digest_fields x ++ after) (digest_part s k) End → Holds (length x ≡ 32) (k tt) after
+one_digest s k x after come = record { is_good = come.0; come = come.1 }
+
+digests_hold : (width low high : ℕ) (xs : List (List ℕ)) (rest : Table) (after : List (List ℕ)) → Come (counted (suc width) digest_fields xs ++ after) (Number (suc width) low high Count (λ n. digests n rest)) End
+    → Holds (AreDigests xs) rest after
+digests_hold width low high xs rest after come =
+    let there = subst (λ (f : ℕ → Table). Come (counted (suc width) digest_fields xs ++ after) (Number (suc width) low high Count f) End) (λ i. λ n. digests_run n rest i) come in
+    let run = counted_holds digest_part digest_fields (λ _ _. tt) (λ _ x. length x ≡ 32) one_digest width low high Count xs tt (λ _ _. rest) after there in
+    record { is_good = each {S = U} (λ _ _. tt) (λ _ x. length x ≡ 32) (λ x. length x ≡ 32) (λ _ _ good. good) xs tt run.is_good.are_good; come = run.come }
+
+pub record IsEntryAbove (low : ℕ) (e : ShownEntry) : Type 0 where
+  pub above : low ≤ e.position
+  pub shown : IsShownInRange e
+
+one_entry : (low : ℕ) (k : ℕ → Table) (e : ShownEntry) (after : List (List ℕ)) → Come (entry_fields e ++ after) (entry_part low k) End → Holds (IsEntryAbove low e) (k (e.position + 1)) after
+one_entry low k e after come =
+    let t = e.entry in
+    let last : Table = any_4 (λ _. Bytes 32 (k (e.position + 1))) in
+    let position = number_holds 3 low 0xffff_ffff e.position Order (λ p. term_length (λ size. Bytes size (any_4 (λ _. Bytes 32 (k (p + 1)))))) (spelled 1 (length t.term) ∷ t.term ∷ spelled 4 t.f ∷ t.root ∷ after) come in
+    let size = number_holds 0 0 64 (length t.term) Count (λ size. Bytes size last) (t.term ∷ spelled 4 t.f ∷ t.root ∷ after) position.come in
+    let f = number_holds 3 0 0xffff_ffff t.f Count (λ _. Bytes 32 (k (e.position + 1))) (t.root ∷ after) size.come.1 in
+    let most = f.is_good.most in
+    record {
+      is_good = record { above = position.is_good.least; shown = record { few = size.is_good.most; number = omega (arith, most); sized = f.come.0 } };
+      come = f.come.1;
+    }
+
+dict_holds : (tra : Bool) (terms : ℕ) (dict : List ShownEntry) (ds after : List (List ℕ)) → Come (counted 2 entry_fields dict ++ (counted 2 digest_fields ds ++ after)) (dictionary tra terms) End
+    → Holds (IsDictInRange dict ds) (slots tra terms 0 0) after
+dict_holds tra terms dict ds after come =
+    let more = counted 2 digest_fields ds ++ after in
+    let there = subst (λ (f : ℕ → Table). Come (counted 2 entry_fields dict ++ more) (Number 2 1 64 Count f) End) (λ i. λ m. dict_run m 0 (dict_digests tra terms) i) come in
+    let run = counted_holds entry_part entry_fields (λ _ e. e.position + 1) IsEntryAbove one_entry 1 1 64 Count dict 0 (λ _ _. dict_digests tra terms) more there in
+    let sized = digests_hold 1 0 0xffff ds (slots tra terms 0 0) after run.come in
+    record {
+      is_good = record {
+        some = run.is_good.count.least;
+        few = run.is_good.count.most;
+        rises = rises (λ (e : ShownEntry). e.position) IsEntryAbove (λ low e good. good.above) dict 0 run.is_good.are_good;
+        each = each (λ (_ : ℕ) (e : ShownEntry). e.position + 1) IsEntryAbove IsShownInRange (λ low e good. good.shown) dict 0 run.is_good.are_good;
+        sized = sized.is_good;
+      };
+      come = sized.come;
+    }
+
+-- ---- the slots
+
+abbrev IsSlotAbove : ℕ × ℕ → Slot → Type 0
+IsSlotAbove s slot = s.0 ≤ slot.index
+
+one_slot : (s : ℕ × ℕ) (k : ℕ × ℕ → Table) (x : Slot) (after : List (List ℕ)) → Come (slot_fields x ++ after) (slot_part s k) End → Holds (IsSlotAbove s x) (k (next_slot s x)) after
+one_slot s k x after come =
+    let kind = number_holds 0 0 1 (kind_of_slot x) Count (λ n. index s.0 (λ i. k (i, s.1 + n))) (spelled 2 x.index ∷ after) come in
+    let place = number_holds 1 s.0 0xffff x.index Order (λ i. k (i, s.1 + kind_of_slot x)) after kind.come in
+    record { is_good = place.is_good.least; come = place.come }
+
+-- no index is below the one before it
+indexes_adjacent : (xs : List Slot) (s : ℕ × ℕ) → AreGoodFrom next_slot IsSlotAbove s xs → AllAdjacentBelow (λ (i j : ℕ). i ≤ j) (map (λ (slot : Slot). slot.index) xs) (length (map (λ (slot : Slot). slot.index) xs))
+indexes_adjacent [] s good k d below = absurd (omega (arith, below))
+indexes_adjacent (x ∷ []) s good k d below = absurd (omega (arith, below))
+indexes_adjacent (x ∷ y ∷ xs) s good zero d below = good.1.0
+indexes_adjacent (x ∷ y ∷ xs) s good (suc k) d below =
+    let e : suc (k + 1) ≡ suc k + 1 = omega arith in
+    let all = map (λ (slot : Slot). slot.index) (x ∷ y ∷ xs) in
+    subst (λ (j : ℕ). slice_index_or all (suc k) d ≤ slice_index_or all j d) e (indexes_adjacent (y ∷ xs) (next_slot s x) good.1 k d (omega (arith, below)))
+
+-- how many terms the slots find present
+present_after : (xs : List Slot) (s : ℕ × ℕ) → (state_after next_slot s xs).1 ≡ s.1 + present_in xs
+present_after [] s = omega arith
+present_after (x ∷ xs) s = present_after xs (next_slot s x) ∙ add_assoc s.1 (kind_of_slot x) (present_in xs) ∙ ap (λ (k : ℕ). s.1 + k) (sym (sum_by-cons kind_of_slot x xs))
+
+slots_hold : (tra : Bool) (xs : List Slot) (after : List (List ℕ)) → IsRanged 1 32 (length xs) → Come (flat_map slot_fields xs ++ after) (slots tra (length xs) 0 0) End
+    → Holds (AreSlotsInRange xs) (met tra (present_in xs)) after
+slots_hold tra xs after count come =
+    let there = subst (λ (t : Table). Come (flat_map slot_fields xs ++ after) t End) (slots_run tra (length xs) 0 0) come in
+    let run = run_holds slot_part slot_fields next_slot IsSlotAbove one_slot xs (0, 0) (λ s. met tra s.1) after there in
+    record {
+      is_good = record {
+        some = count.least;
+        few = count.most;
+        rise = IsNonDecreasingBy-from_all_adjacent (λ (i : ℕ). i) (map (λ (slot : Slot). slot.index) xs) (indexes_adjacent xs (0, 0) run.is_good);
+      };
+      come = subst (λ (p : ℕ). Come after (met tra p) End) (present_after xs (0, 0) ∙ zero-add (present_in xs)) run.come;
+    }
+
+-- ---- the met ids
+
+pub record IsIdAbove (low id : ℕ) : Type 0 where
+  pub above : low ≤ id
+  pub small : id < 2 ^ 32
+
+one_id : (low : ℕ) (k : ℕ → Table) (x : ℕ) (after : List (List ℕ)) → Come (id_fields x ++ after) (id_part low k) End → Holds (IsIdAbove low x) (k (x + 1)) after
+one_id low k x after come =
+    let id = number_holds 3 low 0xffff_ffff x Order (λ n. k (n + 1)) after come in
+    let most = id.is_good.most in
+    record { is_good = record { above = id.is_good.least; small = omega (arith, most) }; come = id.come }
+
+map-same : (xs : List ℕ) → map (λ (x : ℕ). x) xs ≡ xs
+map-same [] = refl
+map-same (x ∷ xs) = ap (λ (ys : List ℕ). x ∷ ys) (map-same xs)
+
+met_holds : (tra : Bool) (present : ℕ) (xs : List ℕ) (after : List (List ℕ)) → Come (counted 4 id_fields xs ++ after) (met tra present) End
+    → Holds (AreIdsInRange xs) (prefixes present (documents tra (length xs) present)) after
+met_holds tra present xs after come =
+    let there = subst (λ (f : ℕ → Table). Come (counted 4 id_fields xs ++ after) (Number 4 0 65536 Count f) End) (λ i. λ m. ids_run m 0 (prefixes present (documents tra m present)) i) come in
+    let run = counted_holds id_part id_fields (λ _ id. id + 1) IsIdAbove one_id 3 0 65536 Count xs 0 (λ m _. prefixes present (documents tra m present)) after there in
+    record {
+      is_good = record {
+        few = run.is_good.count.most;
+        small = each (λ (_ id : ℕ). id + 1) IsIdAbove (λ id. id < 2 ^ 32) (λ low id good. good.small) xs 0 run.is_good.are_good;
+        rise = subst IsStrictlyIncreasing (map-same xs) (rises (λ (id : ℕ). id) IsIdAbove (λ low id good. good.above) xs 0 run.is_good.are_good);
+      };
+      come = run.come;
+    }
+
+-- ---- the fronts of lists
+
+one_posting : (s : U) (k : U → Table) (x : Entry) (after : List (List ℕ)) → Come (posting_fields x ++ after) (posting_part s k) End → Holds (IsEntryInRange x) (k tt) after
+one_posting s k x after come =
+    let doc = number_holds 3 0 0xffff_ffff x.doc Count (λ _. any_2 (λ _. k tt)) (spelled 2 x.impact ∷ after) come in
+    let impact = number_holds 1 0 0xffff x.impact Count (λ _. k tt) after doc.come in
+    let most = doc.is_good.most in
+    let least = impact.is_good.most in
+    record { is_good = record { index = omega (arith, most); small = omega (arith, least) }; come = impact.come }
+
+one_prefix : (s : U) (k : U → Table) (x : Prefix) (after : List (List ℕ)) → Come (prefix_fields x ++ after) (prefix_part s k) End → Holds (IsPrefixInRange x) (k tt) after
+one_prefix s k x after come =
+    let entries = counted 4 posting_fields x.entries in
+    let ds = counted 2 digest_fields x.digests in
+    let joined = subst (λ (fields : List (List ℕ)). Come fields (prefix (k tt)) End) (append_assoc entries ds after) come in
+    let there = subst (λ (f : ℕ → Table). Come (entries ++ (ds ++ after)) (Number 4 1 65536 Count f) End) (λ i. λ n. entries_run n (list_digests (k tt)) i) joined in
+    let run = counted_holds posting_part posting_fields (λ _ _. tt) (λ _ e. IsEntryInRange e) one_posting 3 1 65536 Count x.entries tt (λ _ _. list_digests (k tt)) (ds ++ after) there in
+    let sized = digests_hold 1 0 0xffff x.digests (k tt) after run.come in
+    record {
+      is_good = record {
+        some = run.is_good.count.least;
+        few = run.is_good.count.most;
+        each = each {S = U} (λ _ _. tt) (λ _ e. IsEntryInRange e) IsEntryInRange (λ _ _ good. good) x.entries tt run.is_good.are_good;
+        sized = sized.is_good;
+      };
+      come = sized.come;
+    }
+
+lists_hold : (present : ℕ) (rest : Table) (xs : List Prefix) (after : List (List ℕ)) → length xs ≡ present → Come (flat_map prefix_fields xs ++ after) (prefixes present rest) End
+    → Holds (All IsPrefixInRange xs) rest after
+lists_hold present rest xs after same come =
+    let there = subst (λ (t : Table). Come (flat_map prefix_fields xs ++ after) t End) (ap (λ (n : ℕ). prefixes n rest) (sym same) ∙ prefixes_run (length xs) rest) come in
+    let run = run_holds prefix_part prefix_fields (λ _ _. tt) (λ _ x. IsPrefixInRange x) one_prefix xs tt (λ _. rest) after there in
+    record { is_good = each {S = U} (λ _ _. tt) (λ _ x. IsPrefixInRange x) IsPrefixInRange (λ _ _ good. good) xs tt run.is_good; come = run.come }
+
+-- ---- the documents, which are passed over
+
+pass_doc : (s : U) (k : U → Table) (x : DocLeaf) (after : List (List ℕ)) → Come (doc_fields x ++ after) (doc_part s k) End → Holds U (k tt) after
+pass_doc s k x after come = record { is_good = tt; come = come.1.1 }
+
+pass_term : (low : ℕ) (k : ℕ → Table) (x : ShownTerm) (after : List (List ℕ)) → Come (term_fields x ++ after) (term_part low k) End → Holds U (k (x.position + 1)) after
+pass_term low k x after come =
+    let term = x.term.0 in
+    let last : List (List ℕ) = term ∷ spelled 2 x.term.1 ∷ after in
+    let position = number_holds 3 low 0xffff_ffff x.position Order (λ p. term_length (λ size. Bytes size (any_2 (λ _. k (p + 1))))) (spelled 1 (length term) ∷ last) come in
+    let size = number_holds 0 0 64 (length term) Count (λ size. Bytes size (any_2 (λ _. k (x.position + 1)))) last position.come in
+    record { is_good = tt; come = size.come.1.1 }
+
+pass_doc_slot : (low : ℕ) (k : ℕ → Table) (x : Slot) (after : List (List ℕ)) → Come (slot_fields x ++ after) (doc_slot_part low k) End → Holds U (k x.index) after
+pass_doc_slot low k x after come =
+    let place = number_holds 1 low 0xffff x.index Order k after come.1 in
+    record { is_good = tt; come = place.come }
+
+pass_section : (present : ℕ) (rest : Table) (x : TermsSection) (after : List (List ℕ)) → length x.slots ≡ present → Come (section_fields x ++ after) (term_section present rest) End → Come after rest End
+pass_section present rest x after same come =
+    let leaves = counted 2 term_fields x.leaves in
+    let ds = counted 2 digest_fields x.digests in
+    let own = flat_map slot_fields x.slots in
+    let joined = subst (λ (fields : List (List ℕ)). Come fields (term_section present rest) End) (append_assoc (leaves ++ ds) own after ∙ append_assoc leaves ds (own ++ after)) come in
+    let there = subst (λ (f : ℕ → Table). Come (leaves ++ (ds ++ (own ++ after))) (Number 2 1 64 Count f) End) (λ i. λ n. terms_run n 0 (term_digests present rest) i) joined in
+    let shown = counted_holds term_part term_fields (λ _ t. t.position + 1) (λ _ _. U) pass_term 1 1 64 Count x.leaves 0 (λ _ _. term_digests present rest) (ds ++ (own ++ after)) there in
+    let sized = digests_hold 1 0 0xffff x.digests (doc_slots present 0 rest) (own ++ after) shown.come in
+    let run = subst (λ (t : Table). Come (own ++ after) t End) (ap (λ (n : ℕ). doc_slots n 0 rest) (sym same) ∙ doc_slots_run (length x.slots) 0 rest) sized.come in
+    (run_holds doc_slot_part slot_fields (λ _ t. t.index) (λ _ _. U) pass_doc_slot x.slots 0 (λ _. rest) after run).come
+
+pass_sections : (present : ℕ) (xs : List TermsSection) (after : List (List ℕ)) → AllByRecursion (λ x. length x.slots ≡ present) xs
+    → Come (flat_map section_fields xs ++ after) (term_sections (length xs) present) End → Come after answer End
+pass_sections present [] after same come = come
+pass_sections present (x ∷ xs) after same come =
+    let rest = term_sections (length xs) present in
+    let joined = subst (λ (fields : List (List ℕ)). Come fields (term_section present rest) End) (append_assoc (section_fields x) (flat_map section_fields xs) after) come in
+    pass_sections present xs after same.1 (pass_section present rest x (flat_map section_fields xs ++ after) same.0 joined)
+
+pass_documents : (p : Proof) (docs : Option Documents) (after : List (List ℕ)) → AreDocumentsOf p docs
+    → Come (documents_fields docs ++ after) (documents (is_shown docs) (length p.met) (present_in p.slots)) End → Come after answer End
+pass_documents p None after are come = come
+pass_documents p (Some d) after are come =
+    let present = present_in p.slots in
+    let leaves = flat_map doc_fields d.leaves in
+    let ds = counted 4 digest_fields d.digests in
+    let sections = flat_map section_fields d.sections in
+    let rest = term_sections (length p.met) present in
+    let joined = subst (λ (fields : List (List ℕ)). Come fields (documents true (length p.met) present) End) (append_assoc (leaves ++ ds) sections after ∙ append_assoc leaves ds (sections ++ after)) come in
+    let there = subst (λ (t : Table). Come (leaves ++ (ds ++ (sections ++ after))) t End)
+    (docs_run (length p.met) (doc_digests rest) ∙ ap (λ (n : ℕ). runs doc_part n tt (λ _. doc_digests rest)) (sym are.leaf_each)) joined in
+    let shown = run_holds doc_part doc_fields (λ _ _. tt) (λ _ _. U) pass_doc d.leaves tt (λ _. doc_digests rest) (ds ++ (sections ++ after)) there in
+    let sized = digests_hold 3 0 65536 d.digests rest (sections ++ after) shown.come in
+    let each_section = subst (λ (n : ℕ). Come (sections ++ after) (term_sections n present) End) (sym are.section_each) sized.come in
+    pass_sections present d.sections after (recursion_from_All (λ x. length x.slots ≡ present) d.sections are.slot_each) each_section
+
+-- ---- the whole
+
+pub in_range : (bytes : List ℕ) (p : Proof) → IsProof bytes p → IsInRange p
+in_range bytes p is =
+    let tra = is_shown p.docs in
+    let present = present_in p.slots in
+    let come = subst (λ (fields : List (List ℕ)). Come fields proof End) (fields_in_turn p) is.spells.whole.come in
+    let header = header_holds p.docs p.header (length p.slots) (after_terms p) come in
+    let dict = dict_holds tra (length p.slots) p.dict p.dict_digests (flat_map slot_fields p.slots ++ after_slots p) header.come in
+    let own = slots_hold tra p.slots (after_slots p) header.is_good.terms dict.come in
+    let ids = met_holds tra present p.met (flat_map prefix_fields p.lists ++ after_lists p) own.come in
+    let lists = lists_hold present (documents tra (length p.met) present) p.lists (after_lists p) is.prefix_each ids.come in
+    let left = pass_documents p p.docs (counted 2 id_fields p.answer ++ []) is.documents lists.come in
+    let count = number_holds 1 0 1000 (length p.answer) Count rows (flat_map id_fields p.answer ++ []) left in
+    record {
+      front = header.is_good.header;
+      terms = dict.is_good;
+      spots = own.is_good;
+      ids = ids.is_good;
+      fronts = lists.is_good;
+      rows = count.is_good.most;
+    }
