@@ -3,3 +3,4 @@ pub mod Whole
 pub mod Writing
 pub mod Reading
 pub mod Loading
+pub mod OneCollection

@@ -1,7 +1,6 @@
 -- The leaves of the documents tree, from those of the documents.
 use Rattle.std.proofs.Common.{◌≡◌, ℕ, List, [], ◌∷◌, map, refl, ap}
 use Rattle.ats_doctree.specs.Impacts.{text_terms}
-use Rattle.ats_doctree.specs.declared.doc_leaf.DocLeaf.{DocLeaf}
 use Rattle.ats_commit.specs.Trees.{documents_of, leaf_of, terms_root}
 use Rattle.ats_doctree.specs.Sentinels.{terms_leaves}
 use Rattle.ats_index.specs.Parts.{all_leaves, leaf_of_terms}

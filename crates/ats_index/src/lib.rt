@@ -4,14 +4,16 @@
 //! The room stands on `ats_lists`, `ats_dict` and `ats_doctree`, whose parts it makes from one count of each
 //! document's terms, and on `ats_commit`, which says what they are together. The contracts promise that an
 //! index is seen as its collection alone, that each part is that collection's under the hash function, that
-//! its bytes are one spelling, and that bytes are loaded exactly where they are the spelling of some
-//! collection. How the parts are made and kept may change without asking; the bytes may not.
+//! its bytes are one spelling, that bytes are the spelling of one collection at most, and that bytes are
+//! loaded exactly where they are the spelling of some collection. How the parts are made and kept may change
+//! without asking; the bytes may not.
 #![tactic(auto)]
 
 mod build;
 mod dictionary;
 mod documents;
 mod index;
+mod laws;
 mod load;
 mod memory;
 mod read;
@@ -20,5 +22,6 @@ mod tests;
 mod write;
 
 pub use index::Index;
+pub use laws::index_bytes_say_one_collection;
 pub use load::LoadFault;
 pub use memory::OutOfMemory;

@@ -1,5 +1,4 @@
 use Rattle.std.proofs.Common.{◌≡◌, ℕ, List, map, refl}
-use Rattle.ats_tree.specs.Tree.{mth}
 use Rattle.ats_commit.specs.Trees.{documents_of, leaf_of}
 use Rattle.ats_index.proofs.Whole.{leaves_are_documents}
 use Rattle.ats_index.proofs.build.header_of.Goals as goal

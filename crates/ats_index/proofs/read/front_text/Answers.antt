@@ -1,5 +1,4 @@
-use Rattle.std.proofs.Common.{◌≡◌, ◌-◌, ◌++◌, ◌<◌, ◌^◌, ℕ, List, length, take, drop, sym, subst, ◌∙◌, arith, length-drop}
-use Rattle.std.specs.Str.{IsUtf8}
+use Rattle.std.proofs.Common.{◌≡◌, ◌-◌, ℕ, List, length, take, drop, ◌∙◌, arith, length-drop}
 use Rattle.ats_index.proofs.Reading.{to_end, text_number, text_room, text_first, text_rest}
 use Rattle.ats_index.proofs.read.front_text.Goals as goal
 

@@ -1,10 +1,10 @@
-use Rattle.std.proofs.Common.{◌≡◌, ◌+◌, ◌<◌, ◌≤◌, ◌^◌, ℕ, List, [], ◌∷◌, ◌++◌, length, get_or, take, drop, sym, ap, ap₂, ◌∙◌, arith, add-one}
-use Rattle.std.specs.List.{All, flat_map}
+use Rattle.std.proofs.Common.{◌+◌, ◌<◌, ◌^◌, ℕ, List, [], ◌∷◌, ◌++◌, length, get_or, drop, sym, ap₂, ◌∙◌, arith, add-one}
+use Rattle.std.specs.List.{flat_map}
 use Rattle.std.specs.Str.{IsUtf8}
 use Rattle.std.proofs.Math.Seq.{take-suc}
 use Rattle.std.proofs.lemmas.List.Elements.{All-push}
 use Rattle.ats_impact.specs.Limits.{AreWithin}
-use Rattle.ats_index.specs.Spelling.{text_bytes, texts_bytes}
+use Rattle.ats_index.specs.Spelling.{text_bytes}
 use Rattle.ats_index.proofs.Reading.{next_text}
 use Rattle.ats_index.proofs.read.read_texts.Goals as goal
 

@@ -1,0 +1,62 @@
+-- Index bytes say one collection.
+use Rattle.std.proofs.Common.{◌≡◌, ◌<◌, ◌≤◌, ◌^◌, ◌∙◌, ℕ, List, [], ◌∷◌, ◌++◌, length, take, drop, refl, sym, ap, ap₂, arith, append_assoc}
+use Rattle.std.specs.List.{flat_map}
+use Rattle.std.proofs.lemmas.List.Elements.{All-tail}
+use Rattle.ats_impact.specs.Limits.{AllShort, AreWithin}
+use Rattle.ats_lists.specs.Lists.{lists_of}
+use Rattle.ats_commit.specs.Root.{root_of}
+use Rattle.ats_index.specs.Spelling.{IsSpelling, front_bytes, text_bytes, lists_bytes}
+use Rattle.ats_index.proofs.Reading.{front_number, front_rest, text_number, text_first, text_rest}
+use Rattle.ats_index.proofs.Loading.{texts_first}
+
+-- bytes that begin with a text tell it, and what stands behind it
+text_tells : (bytes text other a b : List ℕ) → length text < 2 ^ 32 → length other < 2 ^ 32
+    → bytes ≡ text_bytes text ++ a → bytes ≡ text_bytes other ++ b → (text ≡ other) × (a ≡ b)
+text_tells bytes text other a b short short' is is' =
+    let size : length text ≡ length other = sym (text_number bytes text a short is) ∙ text_number bytes other b short' is' in (
+      sym (text_first bytes text a short is) ∙ ap (λ n. take n (drop 4 bytes)) size ∙ text_first bytes other b short' is',
+      sym (text_rest bytes text a short is) ∙ ap (λ n. drop n (drop 4 bytes)) size ∙ text_rest bytes other b short' is',
+    )
+
+-- bytes that begin with a number of short texts tell them
+texts_tell : (texts others : List (List ℕ)) (a b : List ℕ) → length texts ≡ length others → AllShort texts → AllShort others
+    → flat_map text_bytes texts ++ a ≡ flat_map text_bytes others ++ b → texts ≡ others
+texts_tell [] [] a b count short short' same = refl
+texts_tell [] (other ∷ others) a b count short short' same = absurd (omega (arith, count))
+texts_tell (text ∷ texts) [] a b count short short' same = absurd (omega (arith, count))
+texts_tell (text ∷ texts) (other ∷ others) a b count short short' same =
+    let Short : List ℕ → Type 0 = λ some. length some ≤ 2 ^ 20 in
+    let behind : List ℕ = flat_map text_bytes texts ++ a in
+    let behind' : List ℕ = flat_map text_bytes others ++ b in
+    let joined : text_bytes text ++ behind ≡ text_bytes other ++ behind' =
+    sym (append_assoc (text_bytes text) (flat_map text_bytes texts) a) ∙ same ∙ append_assoc (text_bytes other) (flat_map text_bytes others) b in
+    let head = text_tells (text_bytes text ++ behind) text other behind behind' (omega (arith, short 0 [] (omega arith))) (omega (arith, short' 0 [] (omega arith))) refl joined in
+    ap₂ (λ one more. one ∷ more) head.0 (texts_tell texts others a b (omega (arith, count)) (All-tail Short text texts short) (All-tail Short other others short') head.1)
+
+-- what stands behind the texts
+abbrev behind_texts : (List ℕ → List ℕ) → List (List ℕ) → List ℕ
+behind_texts H texts = lists_bytes (lists_of texts) ++ root_of H texts
+
+-- the front, the texts, and what stands behind them
+front_first : (H : List ℕ → List ℕ) (bytes : List ℕ) (texts : List (List ℕ)) → IsSpelling H bytes texts
+    → bytes ≡ front_bytes (length texts) ++ (flat_map text_bytes texts ++ behind_texts H texts)
+front_first H bytes texts spelling =
+    spelling.same ∙ texts_first H texts ∙ append_assoc (front_bytes (length texts)) (flat_map text_bytes texts) (behind_texts H texts)
+
+-- a collection's number of texts stands in 4 bytes
+count_small : (texts : List (List ℕ)) → AreWithin texts → length texts < 2 ^ 32
+count_small texts within = omega (arith, within.few)
+
+-- no two collections have the same index bytes
+pub one_collection : (H : List ℕ → List ℕ) (bytes : List ℕ) (texts others : List (List ℕ)) → IsSpelling H bytes texts → IsSpelling H bytes others → texts ≡ others
+one_collection H bytes texts others first second =
+    let rest : List ℕ = flat_map text_bytes texts ++ behind_texts H texts in
+    let rest' : List ℕ = flat_map text_bytes others ++ behind_texts H others in
+    let few = count_small texts first.within in
+    let few' = count_small others second.within in
+    let is = front_first H bytes texts first in
+    let is' = front_first H bytes others second in
+    let count : length texts ≡ length others =
+    sym (front_number bytes (length texts) rest few is) ∙ front_number bytes (length others) rest' few' is' in
+    let same : rest ≡ rest' = sym (front_rest bytes (length texts) rest few is) ∙ front_rest bytes (length others) rest' few' is' in
+    texts_tell texts others (behind_texts H texts) (behind_texts H others) count first.within.short second.within.short same
