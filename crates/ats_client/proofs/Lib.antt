@@ -8,3 +8,9 @@ pub mod Passing
 pub mod Noting
 pub mod Bounding
 pub mod Exact
+pub mod HeadlineTerms
+pub mod HeadlineRows
+pub mod OwnLanes
+pub mod Headline
+pub mod DescentTrees
+pub mod Descent

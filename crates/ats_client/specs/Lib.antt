@@ -10,3 +10,5 @@ pub mod Walked
 pub mod Noting
 pub mod Lists
 pub mod Bounds
+pub mod Strings
+pub mod Headline

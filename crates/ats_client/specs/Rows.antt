@@ -1,5 +1,5 @@
 -- What an accepted check leaves, and the rows of the answer that it tells.
-use Rattle.std.specs.Prelude.{◌≡◌, ◌<◌, ◌^◌, ℕ, List, length, slice_index}
+use Rattle.std.specs.Prelude.{◌≡◌, ◌<◌, ◌^◌, ℕ, List, length, map, slice_index}
 use Rattle.std.specs.List.{All}
 use Rattle.ats_impact.specs.declared.rank.Row.{Row}
 use Rattle.ats_bound.specs.declared.bracket.Bracket.{Bracket}
@@ -24,3 +24,7 @@ row_bracket query proof i = bracket (lanes_of query proof) (met_at proof.met (sl
 -- a document with what it scores at least and at most
 abbrev pub row_of : Bracket → Row
 row_of b = record { doc = b.doc; lower = b.lo; upper = b.hi }
+
+-- the rows of the answer: each document with what it scores at least and at most
+abbrev pub rows_of : List (List ℕ × ℕ) → Proof → List Row
+rows_of query proof = map (λ index. row_of (bracket (lanes_of query proof) (met_at proof.met index))) proof.answer

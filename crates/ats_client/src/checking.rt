@@ -3,6 +3,7 @@
 ghost use Rattle.std.specs.Prelude.{◌≡◌, ◌≤◌, ◌+◌, ◌^◌, ℕ, List, length, IsOk, OnOk, IfOk, IfErr};
 ghost use Rattle.ats_records.specs.declared.record.Algorithm.{Algorithm};
 ghost use Rattle.ats_records.specs.declared.record.Algorithm.TheVariants.{Tnra};
+ghost use Rattle.ats_terms.specs.Query.{IsQuery};
 ghost use Rattle.ats_bound.specs.Cut.{threshold};
 ghost use Rattle.ats_proof.specs.Value.{algorithm_of};
 ghost use Rattle.ats_proof.specs.Views.{proof_of};
@@ -10,6 +11,7 @@ ghost use Rattle.ats_client.specs.Presented.{lanes_of};
 ghost use Rattle.ats_client.specs.Accepts.{Accepts, IsFirstRefusal};
 ghost use Rattle.ats_client.specs.Marked.{AreMarks};
 ghost use Rattle.ats_client.specs.Rows.{IsLeft};
+ghost use Rattle.ats_client.specs.Headline.{IsTopOrCollides};
 
 use crate::lists::lists;
 use crate::met::met;
@@ -36,6 +38,7 @@ fn checked<'a, H: Hash32>(
     requires work { length (proof_of proof.now).met ≤ work.old.room }
     requires count { steps.old ≤ 2 ^ 62 }
     ensures accepts { OnOk result (Accepts H.hash root.now query.now top (proof_of proof.now)) }
+    ensures asked { OnOk result (IsQuery query.now) }
     ensures limit { IfOk result (λ limit. limit ≡ threshold (lanes_of query.now (proof_of proof.now))) }
     ensures marks { OnOk result (AreMarks (lanes_of query.now (proof_of proof.now)) (proof_of proof.now).met work.new.marks) }
     ensures left { IfOk result (λ limit. IsLeft query.now (proof_of proof.now) work.new.marks limit) }
@@ -71,6 +74,7 @@ pub fn check<'a, H: Hash32>(
     requires work { length (proof_of proof.now).met ≤ work.old.room }
     requires count { steps.old ≤ 2 ^ 62 }
     ensures accepts { OnOk result (Accepts H.hash root.now query.now top (proof_of proof.now)) }
+    ensures headline { OnOk result (IsTopOrCollides H.hash root.now query.now top (proof_of proof.now)) }
     ensures exact { Accepts H.hash root.now query.now top (proof_of proof.now) → IsOk result }
     ensures limit { IfOk result (λ limit. limit ≡ threshold (lanes_of query.now (proof_of proof.now))) }
     ensures marks { OnOk result (AreMarks (lanes_of query.now (proof_of proof.now)) (proof_of proof.now).met work.new.marks) }

@@ -5,12 +5,15 @@
 //! each document of the answer with its bounds.
 //! The room stands on the proof that `ats_proof` sees in its bytes, on the trees of `ats_tree`, and on the
 //! cuts and settled answers of `ats_bound`. It promises that a proof is accepted exactly where all rules of
-//! `specs/Accepts.antt` hold, else refused by the first that fails, and that it takes no memory. In which
-//! passes leaves and entries are read, and what the marks note beside the bounds, may change without asking.
+//! `specs/Accepts.antt` hold, else refused by the first that fails, that it takes no memory, and that an
+//! accepted answer is a top answer for each collection with the root, or two different strings with equal
+//! digests are in hand (`specs/Headline.antt`). In which passes leaves and entries are read, and what the
+//! marks note beside the bounds, may change without asking.
 #![tactic(auto)]
 
 mod answer;
 mod checking;
+mod laws;
 mod leaf;
 mod listing;
 mod lists;
@@ -31,4 +34,5 @@ mod walk;
 
 pub use answer::row;
 pub use checking::check;
+pub use laws::{accepted_answers_are_top, own_leaves_make_rows_right, shown_leaves_are_bound};
 pub use refusal::Refusal;

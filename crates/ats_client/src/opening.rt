@@ -2,6 +2,7 @@
 
 ghost use Rattle.std.specs.Prelude.{◌≡◌, ◌≤◌, ◌+◌, ◌*◌, ◌^◌, OnOk, IfErr};
 ghost use Rattle.ats_tree.specs.Rebuild.{rebuilt};
+ghost use Rattle.ats_terms.specs.Query.{IsQuery};
 ghost use Rattle.ats_proof.specs.Views.{proof_of};
 ghost use Rattle.ats_client.specs.Groups.{IsOpened, IsOpeningFault, IsDictionary, IsDictFault};
 
@@ -37,6 +38,7 @@ pub(crate) fn opened<H: Hash32>(
 ) -> Result<(), Refusal>
     requires room { steps.old ≤ 2 ^ 63 }
     ensures kept { OnOk result (IsOpened H.hash root.now query.now (proof_of proof.now)) }
+    ensures asked { OnOk result (IsQuery query.now) }
     ensures fault { IfErr result (IsOpeningFault H.hash root.now query.now (proof_of proof.now)) }
     ensures cost { steps.new ≤ steps.old + 1 }
 {

@@ -1,0 +1,204 @@
+-- The descent: from the root to the header, the dictionary and the lists, what a proof shows is the collection's own but
+-- for a collision.
+use Rattle.std.proofs.Common.{◌≡◌, ◌+◌, ◌<◌, ◌^◌, ℕ, false, List, [], ◌∷◌, ◌++◌, length, map, get_or, slice_get, Option, Some, None, option_map, refl, sym, ◌∙◌, ap, subst, arith}
+use Rattle.std.specs.List.{All, flat_map}
+use Rattle.std.specs.List.Sorted.{IsStrictlyIncreasing}
+use Rattle.std.proofs.lemmas.List.{length-map}
+use Rattle.std.proofs.lemmas.Option.{get_or_from_slice_get, slice_get_within, slice_get-map}
+use Rattle.std.proofs.lemmas.Simd.{map-map}
+use Rattle.ats_terms.specs.Terms.{IsTerm}
+use Rattle.ats_terms.specs.Query.{IsQuery}
+use Rattle.ats_tree.specs.Clashes.{Hashed, first_clash}
+use Rattle.ats_tree.specs.Rebuild.{tree_of_places}
+use Rattle.ats_tree.specs.Shown.{Shown}
+use Rattle.ats_tree.specs.Strings.{strings}
+use Rattle.ats_tree.specs.Tree.{mth}
+use Rattle.ats_tree.specs.Part.{RisesFrom}
+use Rattle.ats_tree.specs.declared.hashed.Tree.TheVariants.{Dictionary, List as ListOf}
+use Rattle.ats_tree.proofs.Bound.{bound_to}
+use Rattle.ats_tree.proofs.Clashes.{difference-collides}
+use Rattle.ats_tree.proofs.Positions.{rises-increasing}
+use Rattle.ats_lists.specs.Leaf.{leaf_bytes}
+use Rattle.ats_lists.specs.Lists.{list}
+use Rattle.ats_lists.specs.declared.entry.Entry.{Entry}
+use Rattle.ats_dict.specs.Dictionary.{dict_leaves}
+use Rattle.ats_dict.specs.Entry.{DictEntry, dict_leaf_bytes}
+use Rattle.ats_dict.specs.Header.{header_bytes, IsHeader}
+use Rattle.ats_dict.specs.declared.header.Header.{Header}
+use Rattle.ats_commit.specs.Trees.{dictionary_of}
+use Rattle.ats_commit.specs.Root.{header_of, root_of}
+use Rattle.ats_commit.specs.Own.{AreTexts, IsHeaderOf, IsEntryOf}
+use Rattle.ats_commit.specs.Ours.{TreePlace, asked_term, ours}
+use Rattle.ats_commit.proofs.OwnHeader.{own_header}
+use Rattle.ats_commit.proofs.OwnLeaves.{leaf_tells_entry}
+use Rattle.ats_records.specs.declared.record.Slot.{Slot}
+use Rattle.ats_proof.specs.Value.{ShownEntry, Proof, present_in}
+use Rattle.ats_proof.specs.Ranges.{AreDigests, IsShownInRange, IsInRange}
+use Rattle.ats_proof.specs.Runs.{shown_entry, shown_list}
+use Rattle.ats_client.specs.Accepts.{Accepts}
+use Rattle.ats_client.specs.Groups as groups
+use Rattle.ats_client.specs.Presented.{Presented, presented, entry_at}
+use Rattle.ats_client.specs.Slots as slots
+use Rattle.ats_client.specs.Strings.{header_string, in_tree, strings_in, list_strings, strings_of, extract, AreLeavesOf, IsOwnList, IsOwn, IsBound}
+use Rattle.ats_client.proofs.DescentTrees.{Binds, binds-both, binds-moved, binds-weaker, binds-one, binds-all}
+use Rattle.ats_client.proofs.HeadlineTerms.{HoldsPresent, each_presented}
+use Rattle.ats_client.proofs.Presents.{entry_there}
+
+-- ---- elements of lists
+
+-- what holds of all elements holds of the one at a place
+at_place : {X : Type 0} (P : X → Type 0) (xs : List X) (i : ℕ) (x : X) → All P xs → slice_get xs i ≡ Some x → P x
+at_place P xs i x all is = subst P (get_or_from_slice_get xs i x x is) (all i x (slice_get_within xs i x is))
+
+-- what is read of a changed list is the change of what is read
+was_mapped : {X Y : Type 0} (f : X → Y) (o : Option X) (y : Y) → option_map f o ≡ Some y → (x : X) × (o ≡ Some x) × (f x ≡ y)
+was_mapped f None y is = absurd (cc)
+was_mapped f (Some x) y is = (x, refl, cc)
+
+-- the front of a list has rising positions
+rises-list : (at : ℕ) (met : List ℕ) (entries : List Entry) → RisesFrom at (shown_list at met entries)
+rises-list at met [] = tt
+rises-list at met (e ∷ entries) = (omega arith, rises-list (at + 1) met entries)
+
+-- ---- the header
+
+-- two preimages of roots that are equal
+tail_same : (xs ys : List ℕ) → 2 ∷ xs ≡ 2 ∷ ys → ys ≡ xs
+tail_same xs ys same = cc
+
+pub header-binds : (H : List ℕ → List ℕ) → ((m : List ℕ) → length (H m) ≡ 32) → (texts : List (List ℕ)) (query : List (List ℕ × ℕ)) (header : Header) → AreTexts texts
+    → IsHeader header.documents header.dict_leaves header.dict_root header.docs_root header.texts_root
+    → groups.root_of H header ≡ root_of H texts → Binds H (ours H texts query) (header_string header ∷ []) (IsHeaderOf H texts header)
+header-binds H sized texts query header are is root =
+    let bytes : List ℕ = header_bytes header.documents header.dict_leaves header.dict_root header.docs_root header.texts_root
+    in binds-one H (ours H texts query) (header_string header) (2 ∷ header_of H texts) (IsHeaderOf H texts header) refl root
+    (λ same. own_header H sized texts header are is (tail_same (header_of H texts) bytes same))
+
+-- ---- the dictionary
+
+pub dictionary-binds : (H : List ℕ → List ℕ) → ((m : List ℕ) → length (H m) ≡ 32) → (texts : List (List ℕ)) (query : List (List ℕ × ℕ)) (proof : Proof)
+    → IsInRange proof → groups.IsDictionary H proof → IsHeaderOf H texts proof.header
+    → Binds H (ours H texts query) (strings_in H Dictionary proof.header.dict_leaves (map shown_entry proof.dict) proof.dict_digests)
+    (AreLeavesOf (dict_leaves (dictionary_of H texts)) (map shown_entry proof.dict))
+dictionary-binds H sized texts query proof range right header =
+    let shown : List Shown = map shown_entry proof.dict
+    in let leaves : List (List ℕ) = dict_leaves (dictionary_of H texts)
+    in let rises : RisesFrom 0 shown = rises-increasing shown (subst IsStrictlyIncreasing (sym (map-map (λ (s : Shown). s.0) shown_entry proof.dict)) range.terms.rises)
+    in binds-moved H (in_tree Dictionary) (ours H texts query) (strings H (tree_of_places proof.header.dict_leaves shown) proof.dict_digests)
+    (AreLeavesOf leaves shown)
+    (bound_to H sized proof.header.dict_leaves shown proof.dict_digests proof.header.dict_root rises range.terms.sized right leaves
+    (sym header.leaves) (sym header.dictionary))
+
+-- ---- one list
+
+-- a present term is the query's with its number, and its entry is that of a shown leaf
+pub record IsAsked (query : List (List ℕ × ℕ)) (dict : List ShownEntry) (one : Presented) : Type 0 where
+  pub place : ℕ
+  pub shown : ShownEntry
+  pub there : slice_get dict place ≡ Some shown
+  pub entry : shown.entry ≡ one.entry
+  pub same : one.entry.term ≡ asked_term query one.number
+  pub term : IsTerm one.entry.term
+  pub sized : AreDigests one.prefix.digests
+
+-- the entry of a present term says what the collection's list of the term has
+entry-own : (H : List ℕ → List ℕ) (texts : List (List ℕ)) (query : List (List ℕ × ℕ)) (dict : List ShownEntry) (one : Presented) → AreTexts texts
+    → All IsShownInRange dict → AreLeavesOf (dict_leaves (dictionary_of H texts)) (map shown_entry dict) → IsAsked query dict one
+    → IsEntryOf H texts one.entry
+entry-own H texts query dict one are ranges own asked =
+    let leaves : List (List ℕ) = dict_leaves (dictionary_of H texts)
+    in let range : IsShownInRange asked.shown = at_place IsShownInRange dict asked.place asked.shown ranges asked.there
+    in let small : one.entry.f < 2 ^ 32 = subst (λ (e : DictEntry). e.f < 2 ^ 32) asked.entry range.number
+    in let there : slice_get (map shown_entry dict) asked.place ≡ Some (shown_entry asked.shown) =
+    slice_get-map shown_entry dict asked.place ∙ ap (option_map shown_entry) asked.there
+    in let leaf : slice_get leaves asked.shown.position ≡ Some (shown_entry asked.shown).1 =
+    at_place (λ (s : Shown). slice_get leaves s.0 ≡ Some s.1) (map shown_entry dict) asked.place (shown_entry asked.shown) own there
+    in leaf_tells_entry H texts are asked.shown.position one.entry asked.term small
+    (subst (λ (e : DictEntry). slice_get leaves asked.shown.position ≡ Some (dict_leaf_bytes e.term e.f e.root)) asked.entry leaf)
+
+pub list-binds : (H : List ℕ → List ℕ) → ((m : List ℕ) → length (H m) ≡ 32) → (texts : List (List ℕ)) (query : List (List ℕ × ℕ)) (met : List ℕ) (one : Presented)
+    → one.entry.term ≡ asked_term query one.number → AreDigests one.prefix.digests → groups.IsListRight H met one → IsEntryOf H texts one.entry
+    → Binds H (ours H texts query) (list_strings H met one) (IsOwnList texts query met one)
+list-binds H sized texts query met one same digests right own =
+    let leaves : List (List ℕ) = map leaf_bytes (list texts (asked_term query one.number))
+    in let shown : List Shown = shown_list 0 met one.prefix.entries
+    in let size : length leaves ≡ one.entry.f =
+    length-map (list texts (asked_term query one.number)) leaf_bytes
+    ∙ subst (λ term. length (list texts term) ≡ one.entry.f) same (sym own.number)
+    in let root : mth H leaves ≡ one.entry.root = subst (λ term. mth H (map leaf_bytes (list texts term)) ≡ one.entry.root) same (sym own.list_root)
+    in binds-moved H (in_tree (ListOf one.number)) (ours H texts query) (strings H (tree_of_places one.entry.f shown) one.prefix.digests)
+    (IsOwnList texts query met one)
+    (bound_to H sized one.entry.f shown one.prefix.digests one.entry.root (rises-list 0 met one.prefix.entries) digests right.root leaves size root)
+
+-- ---- all lists
+
+-- a present pair, its slot and its prefix make a present term that is asked
+pair-asked : (query : List (List ℕ × ℕ)) (proof : Proof) → IsQuery query → groups.AreSlotsRight query proof
+    → HoldsPresent (IsAsked query proof.dict) proof.dict 0 query proof.slots
+pair-asked query proof is right j pair slot prefix at spot present range =
+    let low : j < length query = slice_get_within query j pair at
+    in let number : 0 + j ≡ j = omega arith
+    in let pair_is : get_or query j ([], 0) ≡ pair = get_or_from_slice_get query j pair ([], 0) at
+    in let slot_is : groups.slot_at proof.slots j ≡ slot = get_or_from_slice_get proof.slots j slot (record { present = false; index = 0 }) spot
+    in let shows = subst (λ (s : Slot). slots.ShowsTerm (groups.dict_terms proof.dict) (groups.term_at query j) s) slot_is (right j low)
+    in let found : slots.IsAt (groups.dict_terms proof.dict) (groups.term_at query j) slot.index = rw present at shows
+    in let shown_term : ShownEntry → slots.Shown = λ (e : ShownEntry). record { position = e.position; term = e.entry.term }
+    in let was = was_mapped shown_term (slice_get proof.dict slot.index) found.leaf (sym (slice_get-map shown_term proof.dict slot.index) ∙ found.there)
+    in let shown : ShownEntry = was.0
+    in let entry : shown.entry ≡ entry_at proof.dict slot.index = entry_there proof.dict slot.index shown (sym was.1)
+    in let same : (entry_at proof.dict slot.index).term ≡ asked_term query j =
+    ap (λ (e : DictEntry). e.term) (sym entry) ∙ ap (λ (s : slots.Shown). s.term) was.2 ∙ found.same
+    in let term : IsTerm pair.0 = at_place (λ (p : List ℕ × ℕ). IsTerm p.0) query j pair is.terms at
+    in record {
+      place = slot.index;
+      shown = shown;
+      there = was.1;
+      entry = entry;
+      same = same ∙ ap (asked_term query) (sym number);
+      term = subst IsTerm (sym (same ∙ ap (λ (p : List ℕ × ℕ). p.0) pair_is)) term;
+      sized = range.sized;
+    }
+
+pub asked-terms : (query : List (List ℕ × ℕ)) (proof : Proof) → IsQuery query → groups.AreSlotsRight query proof → IsInRange proof
+    → present_in proof.slots ≡ length proof.lists → All (IsAsked query proof.dict) (presented query proof)
+asked-terms query proof is right range size =
+    each_presented (IsAsked query proof.dict) proof.dict 0 query proof.slots proof.lists size range.fronts (pair-asked query proof is right)
+
+pub lists-bind : (H : List ℕ → List ℕ) → ((m : List ℕ) → length (H m) ≡ 32) → (texts : List (List ℕ)) (query : List (List ℕ × ℕ)) (proof : Proof) → AreTexts texts
+    → IsInRange proof → All (IsAsked query proof.dict) (presented query proof) → groups.AreListsRight H query proof
+    → AreLeavesOf (dict_leaves (dictionary_of H texts)) (map shown_entry proof.dict)
+    → Binds H (ours H texts query) (flat_map (list_strings H proof.met) (presented query proof)) (All (IsOwnList texts query proof.met) (presented query proof))
+lists-bind H sized texts query proof are range asked right own =
+    binds-all H (ours H texts query) (list_strings H proof.met) (IsOwnList texts query proof.met) (presented query proof)
+    (λ k d low.
+    let one : Presented = get_or (presented query proof) k d
+    in let is : IsAsked query proof.dict one = asked k d low
+    in list-binds H sized texts query proof.met one is.same is.sized (right k d low)
+    (entry-own H texts query proof.dict one are range.terms.each own is))
+
+-- ---- the whole proof
+
+pub whole-binds : (H : List ℕ → List ℕ) → ((m : List ℕ) → length (H m) ≡ 32) → (texts : List (List ℕ)) (query : List (List ℕ × ℕ)) (r : ℕ) (proof : Proof) → AreTexts texts
+    → IsQuery query → IsInRange proof → present_in proof.slots ≡ length proof.lists → Accepts H (root_of H texts) query r proof → IsBound H texts query proof
+whole-binds H sized texts query r proof are is range size accepts =
+    let own : TreePlace → Option (List ℕ) = ours H texts query
+    in let top : List (Hashed TreePlace) = header_string proof.header ∷ []
+    in let terms : List (Hashed TreePlace) = strings_in H Dictionary proof.header.dict_leaves (map shown_entry proof.dict) proof.dict_digests
+    in let fronts : List (Hashed TreePlace) = flat_map (list_strings H proof.met) (presented query proof)
+    in let Numbers : Type 0 = IsHeaderOf H texts proof.header
+    in let Terms : Type 0 = AreLeavesOf (dict_leaves (dictionary_of H texts)) (map shown_entry proof.dict)
+    in let Fronts : Type 0 = All (IsOwnList texts query proof.met) (presented query proof)
+    in let asked = asked-terms query proof is accepts.slots range size
+    in binds-weaker H own (strings_of H query proof) (Numbers × (Terms × Fronts)) (IsOwn H texts query proof)
+    (λ all. record { numbers = all.0; terms = all.1.0; fronts = all.1.1 })
+    (binds-both H own top (terms ++ fronts) Numbers (Terms × Fronts)
+    (header-binds H sized texts query proof.header are range.front accepts.opened.commits)
+    (λ numbers. binds-both H own terms fronts Terms Fronts
+    (dictionary-binds H sized texts query proof range accepts.dictionary numbers)
+    (λ own_terms. lists-bind H sized texts query proof are range asked accepts.lists own_terms)))
+
+-- the first difference is then the first collision
+pub whole-extracts : (H : List ℕ → List ℕ) (texts : List (List ℕ)) (query : List (List ℕ × ℕ)) (proof : Proof) → IsBound H texts query proof
+    → extract H texts query proof ≡ first_clash (ours H texts query) (strings_of H query proof)
+whole-extracts H texts query proof bound =
+    difference-collides H (IsOwn H texts query proof) (ours H texts query) (strings_of H query proof) bound

@@ -1,0 +1,165 @@
+-- The rows of a settled answer are right, where the lanes that are shown are cuts of lists that sum to scores.
+use Rattle.std.proofs.Common.{◌≡◌, ◌<◌, ◌≤◌, ◌+◌, ◌∙◌, ℕ, suc, true, false, nat_eq, List, [], ◌∷◌, length, get_or, map, refl, sym, ap, ap₂, subst, inl, inr, arith}
+use Rattle.std.specs.List.{All, list_any}
+use Rattle.std.specs.List.Sorted.{IsStrictlyIncreasing}
+use Rattle.std.proofs.lemmas.Bool.{cases_Bool, cases_order, cases_lt}
+use Rattle.std.proofs.lemmas.Bool.Decides.{nat_tests}
+use Rattle.std.proofs.lemmas.List.{length-map, get_or-map, get_or_default, map-id}
+use Rattle.std.proofs.lemmas.Simd.{map-map}
+use Rattle.std.proofs.lemmas.List.Elements.{All-head, All-tail, All-map, All-weaker}
+use Rattle.std.proofs.lemmas.List.Kept.{AllPairs-from_increasing}
+use Rattle.ats_impact.specs.Rank.{times, IsTopBy}
+use Rattle.ats_impact.specs.Score.{score}
+use Rattle.ats_impact.specs.declared.rank.Row.{Row}
+use Rattle.ats_lists.specs.declared.entry.Entry.{Entry}
+use Rattle.ats_bound.specs.declared.bracket.Bracket.{Bracket}
+use Rattle.ats_bound.specs.Cut.{ShownLane, IsMet, names, bracket, threshold}
+use Rattle.ats_bound.specs.Settled.{AreDistinct, IsSettled, ArePicks}
+use Rattle.ats_bound.specs.Ranked.{CutLane, AreScores, HoldsScore, AreOfMet, answer_of, cut_of, docs_of}
+use Rattle.ats_bound.proofs.Places.{times_same, times_other, stands, position_of}
+use Rattle.ats_bound.proofs.Scores.{bracket_holds}
+use Rattle.ats_bound.proofs.Ranking.{settled_is_top}
+use Rattle.ats_proof.specs.Runs.{named}
+use Rattle.ats_client.specs.Presented.{Presented, lane_of}
+use Rattle.ats_client.specs.Indexes.{AreNames}
+use Rattle.ats_client.specs.Groups.{indexes_of, met_at, AreAllMet, AreRowsRight, IsAnswerSettled, brackets_of}
+use Rattle.ats_client.specs.Rows.{row_of}
+use Rattle.ats_client.specs.Headline.{HoldsRow, AreRight}
+use Rattle.ats_client.proofs.Listed.{names_inside}
+
+-- ---- met ids
+
+tail_rises : (x : ℕ) (xs : List ℕ) → IsStrictlyIncreasing (x ∷ xs) → IsStrictlyIncreasing xs
+tail_rises x xs rises k inside =
+    let next : suc k + 1 ≡ suc (k + 1) = omega arith in rw next at (rises (suc k) (omega (arith, inside)))
+
+once_behind : (x n : ℕ) (xs : List ℕ) → IsStrictlyIncreasing (x ∷ xs) → x ≡ n → times n xs ≡ 0
+once_behind x n xs rises is = elim (cases_lt 0 (times n xs)) [
+  | inl some ↦
+      let found = position_of n xs (omega (arith, some)) in
+      let above : x < get_or xs found.0 0 = AllPairs-from_increasing (x ∷ xs) rises 0 (suc found.0) 0 (omega arith) (omega (arith, found.1)) in
+      absurd (omega (arith, above, found.2, is))
+  | inr none ↦ omega (arith, none)
+]
+
+-- numbers that rise are distinct
+rising_distinct : (xs : List ℕ) → IsStrictlyIncreasing xs → AreDistinct xs
+rising_distinct [] rises n = omega arith
+rising_distinct (x ∷ xs) rises n =
+    elim (cases_order x n) [
+      | inl is ↦ omega (arith, times_same n x xs is, once_behind x n xs rises is)
+      | inr other ↦ omega (arith, times_other n x xs other, rising_distinct xs (tail_rises x xs rises) n)
+    ]
+
+-- a document that named entries name is a met id
+entries_met : (met : List ℕ) (doc : ℕ) (entries : List Entry) → All (λ (e : Entry). e.doc < length met) entries
+    → list_any (λ (e : Entry). nat_eq e.doc doc) (map (named met) entries) ≡ true → 1 ≤ times doc met
+entries_met met doc [] inside seen = absurd (cc)
+entries_met met doc (e ∷ entries) inside seen =
+    elim (cases_order (met_at met e.doc) doc) [
+      | inl is ↦ subst (λ d. 1 ≤ times d met) is (stands met e.doc (All-head (λ (e : Entry). e.doc < length met) e entries inside))
+      | inr other ↦
+          let no : nat_eq (met_at met e.doc) doc ≡ false = grind (arith, nat_tests) in
+          let later : list_any (λ (e : Entry). nat_eq e.doc doc) (map (named met) entries) ≡ true = rw no at seen in
+          entries_met met doc entries (All-tail (λ (e : Entry). e.doc < length met) e entries inside) later
+    ]
+
+abbrev pub NamesMet : List ℕ → Presented → Type 0
+NamesMet met one = AreNames (length met) (indexes_of one.prefix.entries)
+
+-- a document that some lane names is a met id
+lanes_met : (documents : ℕ) (met : List ℕ) (doc : ℕ) (terms : List Presented) → All (NamesMet met) terms
+    → list_any (names doc) (map (lane_of documents met) terms) ≡ true → 1 ≤ times doc met
+lanes_met documents met doc [] all seen = absurd (cc)
+lanes_met documents met doc (one ∷ terms) all seen =
+    elim (cases_Bool (names doc (lane_of documents met one))) [
+      | inl here ↦ entries_met met doc one.prefix.entries (names_inside (length met) one.prefix.entries (All-head (NamesMet met) one terms all)) here
+      | inr out ↦
+          let later : list_any (names doc) (map (lane_of documents met) terms) ≡ true = rw out at seen in
+          lanes_met documents met doc terms (All-tail (NamesMet met) one terms all) later
+    ]
+
+met_docs : (lanes : List ShownLane) (met : List ℕ) → docs_of (brackets_of lanes met) ≡ met
+met_docs lanes met = map-map (λ (b : Bracket). b.doc) (bracket lanes) met ∙ map-id met
+
+-- the brackets of the met documents are those of the documents that entries name
+of_met : (documents : ℕ) (met : List ℕ) (terms : List Presented) (own : List CutLane) → map (lane_of documents met) terms ≡ cut_of own
+    → IsStrictlyIncreasing met → All (NamesMet met) terms → AreAllMet (map (lane_of documents met) terms) met
+    → AreOfMet own (brackets_of (map (lane_of documents met) terms) met)
+of_met documents met terms own same rises named_met all =
+    let lanes : List ShownLane = map (lane_of documents met) terms in
+    let docs : docs_of (brackets_of lanes met) ≡ met = met_docs lanes met in
+    record {
+      distinct = subst AreDistinct (sym docs) (rising_distinct met rises);
+      met = λ doc. (
+        λ is. subst (λ ds. 1 ≤ times doc ds) (sym docs) (lanes_met documents met doc terms named_met (subst (λ ls. IsMet ls doc) (sym same) is)),
+        λ some.
+            let found = position_of doc met (subst (λ ds. 1 ≤ times doc ds) docs some) in
+            subst (λ ls. IsMet ls doc) same (subst (λ d. IsMet lanes d) found.2 (all found.0 found.1)),
+      );
+    }
+
+-- ---- brackets and rows
+
+module _ (n r : ℕ) (score_of : ℕ → ℕ) (lanes : List ShownLane) (own : List CutLane) (met answer : List ℕ) (same : lanes ≡ cut_of own)
+    (scores : AreScores n score_of own) (all : AreAllMet lanes met) (rows : AreRowsRight met answer) where
+  bracket_scores : (i : ℕ) → i < length met → HoldsScore score_of (bracket lanes (met_at met i))
+  bracket_scores i low =
+      subst (λ ls. HoldsScore score_of (bracket ls (met_at met i))) (sym same)
+      (bracket_holds n score_of own (met_at met i) scores (subst (λ ls. IsMet ls (met_at met i)) same (all i low)))
+
+  -- each bracket holds its score
+  all_hold : All (HoldsScore score_of) (brackets_of lanes met)
+  all_hold = All-map (HoldsScore score_of) (bracket lanes) met (λ i d low.
+      let is : get_or met i d ≡ met_at met i = get_or_default met i d 0 low in
+      subst (λ (m : ℕ). HoldsScore score_of (bracket lanes m)) (sym is) (bracket_scores i low))
+
+  picks : ArePicks (brackets_of lanes met) answer
+  picks k d low = omega (arith, rows.inside k d low, length-map met (bracket lanes))
+
+  row_docs : (indexes : List ℕ) → All (λ i. i < length met) indexes → map (met_at met) indexes ≡ answer_of (brackets_of lanes met) indexes
+  row_docs [] inside = refl
+  row_docs (i ∷ indexes) inside =
+      let none : Bracket = record { doc = 0; lo = 0; hi = 0 } in
+      let low : i < length met = All-head (λ i. i < length met) i indexes inside in
+      let is : get_or (brackets_of lanes met) i none ≡ bracket lanes (met_at met i) = get_or-map (bracket lanes) met i 0 none low in
+      ap₂ (λ (d : ℕ) (ds : List ℕ). d ∷ ds) (ap (λ (b : Bracket). b.doc) (sym is)) (row_docs indexes (All-tail (λ i. i < length met) i indexes inside))
+
+  abbrev rows_made : List Row
+  rows_made = map (λ index. row_of (bracket lanes (met_at met index))) answer
+
+  rows_docs : map (λ (row : Row). row.doc) rows_made ≡ answer_of (brackets_of lanes met) answer
+  rows_docs = map-map (λ (row : Row). row.doc) (λ index. row_of (bracket lanes (met_at met index))) answer ∙ row_docs answer rows.inside
+
+  -- a settled answer is a top answer
+  pub rows_top : AreOfMet own (brackets_of lanes met) → IsAnswerSettled lanes met answer r → IsTopBy n score_of r (map (λ (row : Row). row.doc) rows_made)
+  rows_top of settled =
+      let rests : IsSettled (brackets_of lanes met) answer (threshold (cut_of own)) r =
+      subst (λ ls. IsSettled (brackets_of lanes met) answer (threshold ls) r) same settled in
+      subst (λ ds. IsTopBy n score_of r ds) (sym rows_docs)
+      (settled_is_top n r score_of own (brackets_of lanes met) answer scores of all_hold picks rests)
+
+  -- each row holds the score of its document
+  pub rows_hold : All (λ (row : Row). (row.lower ≤ score_of row.doc) × (score_of row.doc ≤ row.upper)) rows_made
+  rows_hold = All-map (λ (row : Row). (row.lower ≤ score_of row.doc) × (score_of row.doc ≤ row.upper))
+      (λ index. row_of (bracket lanes (met_at met index))) answer (λ k d low.
+      let holds : HoldsScore score_of (bracket lanes (met_at met (get_or answer k d))) = bracket_scores (get_or answer k d) (rows.inside k d low) in
+      (holds.lower, holds.upper))
+
+-- what a settled answer tells is right for the texts
+pub settled_rows_right : (texts : List (List ℕ)) (query : List (List ℕ × ℕ)) (r documents : ℕ) (met answer : List ℕ) (terms : List Presented) (own : List CutLane)
+    → map (lane_of documents met) terms ≡ cut_of own → AreScores (length texts) (λ doc. score texts query (get_or texts doc [])) own
+    → IsStrictlyIncreasing met → All (NamesMet met) terms → AreAllMet (map (lane_of documents met) terms) met → AreRowsRight met answer
+    → IsAnswerSettled (map (lane_of documents met) terms) met answer r
+    → AreRight texts query r (map (λ index. row_of (bracket (map (lane_of documents met) terms) (met_at met index))) answer)
+settled_rows_right texts query r documents met answer terms own same scores rises named_met all rows settled =
+    let lanes : List ShownLane = map (lane_of documents met) terms in
+    let score_of : ℕ → ℕ = λ doc. score texts query (get_or texts doc []) in
+    let made : List Row = map (λ index. row_of (bracket lanes (met_at met index))) answer in
+    let of : AreOfMet own (brackets_of lanes met) = of_met documents met terms own same rises named_met all in
+    record {
+      top = rows_top (length texts) r score_of lanes own met answer same scores all rows of settled;
+      bounds = All-weaker (λ (row : Row). (row.lower ≤ score_of row.doc) × (score_of row.doc ≤ row.upper)) (HoldsRow texts query)
+          (λ row holds. record { least = holds.0; most = holds.1 }) made
+          (rows_hold (length texts) r score_of lanes own met answer same scores all rows);
+    }
