@@ -1,5 +1,5 @@
 -- The fields of a proof come in the grammar's order, each in its range.
-use Rattle.std.proofs.Common.{◌≡◌, ◌+◌, ◌<◌, ◌≤◌, ℕ, zero, suc, Bool, true, false, cond, List, [], ◌∷◌, ◌++◌, length, refl, sym, ap, subst, ◌∙◌, arith, Option, None, append-nil}
+use Rattle.std.proofs.Common.{◌≡◌, ◌+◌, ◌≤◌, ℕ, suc, Bool, true, false, cond, List, [], ◌∷◌, ◌++◌, length, refl, sym, ap, subst, arith, Option, None, append-nil}
 use Rattle.std.specs.List.{All, flat_map}
 use Rattle.std.proofs.lemmas.List.Elements.{All-head, All-tail}
 use Rattle.std.proofs.lemmas.List.Sums.{sum_by-cons}
@@ -9,7 +9,7 @@ use Rattle.ats_dict.specs.declared.header.Header.{Header}
 use Rattle.ats_records.specs.declared.record.Slot.{Slot}
 use Rattle.ats_grammar.specs.declared.fault.ShapeKind.{ShapeKind}
 use Rattle.ats_grammar.specs.declared.fault.ShapeKind.TheVariants.{Count}
-use Rattle.ats_grammar.specs.Table.{Table, Number, Bytes, End, number, head, follow}
+use Rattle.ats_grammar.specs.Table.{Table, Number, End, number, follow}
 use Rattle.ats_grammar.specs.Front.{Come}
 use Rattle.ats_grammar.specs.Grammar as grammar
 use Rattle.ats_proof.specs.Parts.{spelled, counted}

@@ -1,14 +1,13 @@
 -- How many digests some shown leaves need at most.
-use Rattle.std.proofs.Common.{◌≡◌, ◌⊎◌, ◌+◌, ◌*◌, ◌^◌, ◌<◌, ◌≤◌, ℕ, zero, suc, Bool, true, false, ◌&&◌, List, [], ◌∷◌, ◌++◌, length, map, take, drop, get_or, Option, Some, None, nat_eq, refl, sym, ap, subst, ◌∙◌, arith, inl, inr, length-append}
+use Rattle.std.proofs.Common.{◌≡◌, ◌⊎◌, ◌+◌, ◌*◌, ◌^◌, ◌<◌, ◌≤◌, ℕ, zero, suc, true, false, ◌&&◌, List, [], ◌∷◌, length, take, drop, get_or, Option, Some, None, nat_eq, refl, sym, ap, subst, ◌∙◌, arith, inl, inr, length-append}
 use Rattle.std.specs.List.{range_with_len}
-use Rattle.std.specs.Option.{is_none}
 use Rattle.std.proofs.Math.Nat.{two-pow-succ}
-use Rattle.std.proofs.Math.Pow.{pow_mono}
 use Rattle.std.proofs.lemmas.Bool.{cond-true, cond-false, cases_Bool, cases_lt, and_parts, eqb-true}
 use Rattle.std.proofs.lemmas.List.{length-take, length-drop, length-map}
+use Rattle.std.proofs.lemmas.List.FromFn.{length-range_with_len}
 use Rattle.ats_tree.specs.Tree.{Tree, empty, leaf, node, tree_within, tree_of}
 use Rattle.ats_tree.specs.Shown.{Shown, shown_at, places}
-use Rattle.ats_tree.specs.Rebuild.{is_bare, need, tree_of_places}
+use Rattle.ats_tree.specs.Rebuild.{is_bare, need}
 use Rattle.ats_tree.specs.Elided.{shown_with, elided_of, elided_digests, left_of, right_of}
 use Rattle.ats_tree.proofs.Trees.{within-cut, within-suc, of-within}
 use Rattle.ats_tree.proofs.Places.{length-places}
@@ -212,3 +211,20 @@ prefix_few H (x ∷ xs) (suc k) few any some =
     let all = elided_need H (tree_of os) (tree_of leaves) ∙ ap need (of-within 16 os low) in
     let left : holes os ≤ length xs = omega (arith, holes-few (places 1 (length xs) shown), length-places 1 (length xs) shown) in
     omega (arith, all, need_holes 16 os low, left, few)
+
+-- the first leaves of a list need at most 16 digests each, and no more digests than there are other leaves
+pub prefix_need : (H : List ℕ → List ℕ) (leaves : List (List ℕ)) (k : ℕ) → length leaves ≤ 65536 → 1 ≤ k
+    → (length (elided_digests H leaves (range_with_len 0 k)) ≤ 16 * k) × (length (elided_digests H leaves (range_with_len 0 k)) ≤ holes (places 0 (length leaves) (shown_with leaves (range_with_len 0 k))))
+prefix_need H leaves k few some =
+    let shown = shown_with leaves (range_with_len 0 k) in
+    let os = places 0 (length leaves) shown in
+    let size = length-places 0 (length leaves) shown in
+    let low : length os ≤ 2 ^ 16 = omega (arith, few, size) in
+    let count : filled os ≤ k = omega (arith, filled_few shown 0 (length leaves), length-map (range_with_len 0 k) (shown_of leaves), length-range_with_len 0 k) in
+    let all = elided_need H (tree_of os) (tree_of leaves) ∙ ap need (of-within 16 os low) in (
+      elim (need_filled 16 os low) [
+        | inl bare ↦ omega (arith, all, bare.1, some)
+        | inr shows ↦ omega (arith, all, shows.2, count)
+      ],
+      omega (arith, all, need_holes 16 os low),
+    )

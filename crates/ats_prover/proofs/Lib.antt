@@ -10,3 +10,10 @@ pub mod Coming
 pub mod MetDocuments
 pub mod Ranges
 pub mod Whole
+pub mod ShownPlaces
+pub mod AcceptedTerms
+pub mod AcceptedLists
+pub mod AcceptedRows
+pub mod OneProof
+pub mod Sizes
+pub mod Short

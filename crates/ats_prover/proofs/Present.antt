@@ -1,7 +1,7 @@
 -- The lists of the terms that are present.
-use Rattle.std.proofs.Common.{◌≡◌, ◌≢◌, ◌*◌, ◌/◌, ◌^◌, ◌+◌, ◌<◌, ◌≤◌, ◌++◌, ℕ, zero, suc, Bool, true, false, cond, nat_lt, List, [], ◌∷◌, length, map, take, get_or, refl, sym, ap, ap₂, subst, ◌∙◌, arith, inl, inr, append-nil}
-use Rattle.std.specs.Prelude.{filter, count_by, nat_le}
-use Rattle.std.specs.List.{All, list_any}
+use Rattle.std.proofs.Common.{◌≡◌, ◌*◌, ◌/◌, ◌^◌, ◌+◌, ◌<◌, ◌≤◌, ◌++◌, ℕ, suc, Bool, true, false, cond, nat_lt, List, [], ◌∷◌, length, map, take, get_or, refl, sym, ap, ap₂, ◌∙◌, arith, inl, inr, append-nil}
+use Rattle.std.specs.Prelude.{filter, nat_le}
+use Rattle.std.specs.List.{list_any}
 use Rattle.std.specs.Str.{bytes_eq}
 use Rattle.std.proofs.lemmas.Bool.{cases_Bool, cases_lt, lt-ltb, le-ltb, ltb-false}
 use Rattle.std.proofs.lemmas.List.{length-map, get_or-map, map-append}
@@ -14,18 +14,17 @@ use Rattle.std.proofs.lemmas.Slice.Eq.{bytes_eq-Decides}
 use Rattle.ats_impact.specs.Numbers.{idf, ratio, doublings, eighths, AreDoublings}
 use Rattle.ats_impact.specs.Score.{coefficient, frequency}
 use Rattle.ats_lists.specs.Lists.{IsList, list, lists_of, vocabulary}
-use Rattle.ats_lists.specs.Postings.{postings}
 use Rattle.ats_lists.specs.declared.entry.Entry.{Entry}
 use Rattle.ats_lists.proofs.VocabularyLemmas.{vocabulary_has, postings_frequency}
 use Rattle.ats_lists.proofs.WholeLemmas.{list_frequency}
 use Rattle.ats_dict.specs.Entry.{DictEntry}
-use Rattle.ats_dict.specs.Dictionary.{low, entry_at, term_at}
+use Rattle.ats_dict.specs.Dictionary.{low, entry_at}
 use Rattle.ats_dict.specs.Found.{StandsAt, LiesBetween}
 use Rattle.ats_dict.proofs.Sentinels.{entry_at-suc}
 use Rattle.ats_commit.specs.Trees.{dict_entry, dictionary_of}
 use Rattle.ats_commit.proofs.DictionaryLemmas.{dictionary_terms}
 use Rattle.ats_bound.specs.Schedule.{WholeLane, IsWholeLane}
-use Rattle.ats_prover.specs.Lanes.{present, lane_of, lanes_of}
+use Rattle.ats_prover.specs.Lanes.{lane_of, lanes_of}
 
 abbrev has_list : List (List ℕ) → List ℕ × ℕ → Bool
 has_list texts pair = nat_lt 0 (frequency pair.0 texts)

@@ -1,5 +1,5 @@
 -- Fields that are asked of a writer, one behind another.
-use Rattle.std.proofs.Common.{◌≡◌, ◌+◌, ◌<◌, ℕ, List, [], ◌∷◌, ◌++◌, length, take, get_or, Option, Some, None, nat_lt, refl, sym, ap, ap₂, ◌∙◌, arith, inl, inr, add-one, append_assoc, append-nil, length-append}
+use Rattle.std.proofs.Common.{◌≡◌, ◌+◌, ◌<◌, ℕ, List, [], ◌++◌, length, take, get_or, Option, Some, None, nat_lt, refl, sym, ap, ap₂, ◌∙◌, arith, inl, inr, add-one, append_assoc, append-nil, length-append}
 use Rattle.std.specs.Prelude.{if◌then◌else◌}
 use Rattle.std.specs.List.{concat, flat_map}
 use Rattle.std.proofs.Math.Seq.{take-suc}

@@ -1,37 +1,28 @@
 -- The numbers of an honest proof are in their ranges.
-use Rattle.std.proofs.Common.{◌≡◌, ◌⊎◌, ◌+◌, ◌*◌, ◌^◌, ◌<◌, ◌≤◌, ◌++◌, ◌&&◌, ◌||◌, ℕ, zero, suc, Bool, true, false, cond, nat_lt, nat_eq, List, [], ◌∷◌, length, map, take, get_or, Option, Some, None, refl, sym, ap, subst, ◌∙◌, arith, inl, inr, nat_cmp, Less}
-use Rattle.std.specs.Prelude.{filter}
-use Rattle.std.specs.List.{All, AllPairs, count_by, flat_map, list_any, range_with_len}
+use Rattle.std.proofs.Common.{◌≡◌, ◌⊎◌, ◌+◌, ◌<◌, ◌≤◌, ◌++◌, ◌&&◌, ◌||◌, ℕ, zero, suc, Bool, true, false, nat_lt, nat_eq, List, [], ◌∷◌, length, map, get_or, Option, Some, None, refl, sym, ap, subst, ◌∙◌, arith, inl, inr}
+use Rattle.std.specs.List.{All, flat_map}
 use Rattle.std.specs.List.Sorted.{IsStrictlyIncreasing}
-use Rattle.std.specs.Option.{is_none}
-use Rattle.std.specs.declared.cmp.Ordering.{Ordering}
-use Rattle.std.proofs.lemmas.Bool.{cases_Bool, cases_lt, cases_order, cond-true, cond-false, eqb-true, eq-eqb, lt-ltb}
+use Rattle.std.proofs.lemmas.Bool.{cases_Bool, cases_lt, cond-true, cond-false}
 use Rattle.std.proofs.lemmas.Cmp.{nat_list_cmp_total, tied_itself}
-use Rattle.std.proofs.lemmas.List.{length-map, get_or-map, get_or_default}
+use Rattle.std.proofs.lemmas.List.{get_or_default}
 use Rattle.std.proofs.lemmas.List.Elements.{All-append, All-tail}
 use Rattle.std.proofs.lemmas.List.Folds.{list_any-append}
-use Rattle.std.proofs.lemmas.List.Sums.{sum_by-cons, length-filter, count_by-le-length}
+use Rattle.std.proofs.lemmas.List.Sums.{count_by-le-length}
 use Rattle.std.proofs.lemmas.List.Kept.{AllPairs-from_increasing}
 use Rattle.ats_terms.specs.Query.{Rises, RisesFrom}
-use Rattle.ats_impact.specs.Score.{frequency}
 use Rattle.ats_tree.specs.Tree.{Tree, empty, leaf, node, digest_of}
 use Rattle.ats_tree.specs.Rebuild.{is_bare}
 use Rattle.ats_tree.specs.Elided.{elided_of, left_of, right_of}
 use Rattle.ats_dict.specs.declared.spot.Spot.{Spot}
 use Rattle.ats_dict.specs.declared.spot.Spot.TheVariants.{At, Between}
 use Rattle.ats_dict.specs.Entry.{DictEntry}
-use Rattle.ats_dict.specs.Dictionary.{IsBelow, IsDictionary, byte_cmp, entry_at, term_at}
+use Rattle.ats_dict.specs.Dictionary.{IsBelow, IsDictionary, term_at}
 use Rattle.ats_dict.specs.Found.{IsSpot}
 use Rattle.ats_dict.proofs.Sentinels.{terms_rise}
-use Rattle.ats_commit.specs.Trees.{dictionary_of}
-use Rattle.ats_records.specs.declared.record.Slot.{Slot}
-use Rattle.ats_proof.specs.Value.{ShownEntry, kind_of_slot, present_in}
 use Rattle.ats_prover.specs.Terms.{AreSpots, AreNeeded, has, lower, needs, place, shown_entry, slot_of}
-use Rattle.ats_prover.specs.Lanes.{lanes_of, lane_of, present}
-use Rattle.ats_prover.proofs.Spots.{IsLeaf, leaf_at, lower_within}
+use Rattle.ats_prover.proofs.Spots.{leaf_at, lower_within}
 use Rattle.ats_prover.proofs.Places.{place_grows}
 use Rattle.ats_prover.proofs.Needed.{has_contained, contained_has}
-use Rattle.ats_prover.proofs.Present.{absent_term, standing_term, list_at}
 use Rattle.ats_prover.proofs.Coming.{AreGoodEntries, AreGoodSlots, AreGoodIds}
 
 -- ---- digests have 32 bytes
@@ -140,7 +131,8 @@ good_ids (n ∷ ids) low rises above below =
 
 -- ---- slots never fall
 
-not_below_itself : (xs : List ℕ) → IsBelow xs xs → ⊥
+-- no term is below itself
+pub not_below_itself : (xs : List ℕ) → IsBelow xs xs → ⊥
 not_below_itself xs is = let tied = tied_itself nat_list_cmp_total xs in absurd (cc)
 
 -- what lies between the leaves around a term

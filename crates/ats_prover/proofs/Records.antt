@@ -1,19 +1,17 @@
 -- The records of a writer are the fields of a proof, joined.
-use Rattle.std.proofs.Common.{◌≡◌, ◌+◌, ◌*◌, ◌/◌, ◌%◌, ◌^◌, ◌<◌, ℕ, zero, suc, Bool, true, false, cond, List, [], ◌∷◌, ◌++◌, length, refl, sym, ap, ap₂, subst, ◌∙◌, arith, append_assoc, append-nil}
+use Rattle.std.proofs.Common.{◌≡◌, ◌*◌, ◌/◌, ◌%◌, ◌^◌, ◌<◌, ℕ, zero, suc, Bool, true, false, cond, List, [], ◌∷◌, ◌++◌, length, refl, sym, ap, ap₂, subst, ◌∙◌, arith, append_assoc, append-nil}
 use Rattle.std.specs.Int.{to_be_bytes, w16, w32}
 use Rattle.std.specs.List.{concat}
 use Rattle.std.proofs.Math.Nat.{mod-lt, div-lt_iff_lt-mul, pow-succ'}
-use Rattle.ats_lists.specs.declared.entry.Entry.{Entry}
 use Rattle.ats_dict.specs.Entry.{DictEntry, dict_leaf_bytes}
 use Rattle.ats_dict.specs.Header.{header_bytes}
 use Rattle.ats_dict.specs.declared.header.Header.{Header}
-use Rattle.ats_grammar.specs.Table.{number}
 use Rattle.ats_records.specs.declared.record.Algorithm.TheVariants.{Tnra}
 use Rattle.ats_records.specs.declared.record.Slot.{Slot}
 use Rattle.ats_records.specs.Records.{front_record, dict_leaf_record, slot_record, entry_record, kind_byte}
 use Rattle.std.specs.Prelude.{None}
 use Rattle.ats_proof.specs.Parts.{spelled}
-use Rattle.ats_proof.specs.Value.{ShownEntry, front_fields, header_fields, entry_fields, slot_fields, posting_fields}
+use Rattle.ats_proof.specs.Value.{front_fields, header_fields, entry_fields, slot_fields, posting_fields}
 use Rattle.ats_proof.proofs.Encoding.{be_2, be_4}
 use Rattle.ats_proof.proofs.Numbers.{AreBytes, number-spelled}
 

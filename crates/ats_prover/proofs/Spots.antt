@@ -1,6 +1,6 @@
 -- Where the terms of a query stand, term by term.
-use Rattle.std.proofs.Common.{◌≡◌, ◌+◌, ◌<◌, ◌≤◌, ◌^◌, ◌*◌, ◌++◌, ◌||◌, ℕ, zero, suc, List, [], ◌∷◌, length, take, get_or, refl, sym, ap, subst, ◌∙◌, arith, length-append, inl, inr}
-use Rattle.std.specs.List.{All, flat_map}
+use Rattle.std.proofs.Common.{◌≡◌, ◌+◌, ◌<◌, ◌≤◌, ◌^◌, ◌++◌, ℕ, zero, suc, List, [], ◌∷◌, length, take, get_or, refl, sym, ap, subst, arith, inl, inr}
+use Rattle.std.specs.List.{All}
 use Rattle.ats_dict.specs.declared.spot.Spot.{Spot}
 use Rattle.ats_dict.specs.declared.spot.Spot.TheVariants.{At, Between}
 use Rattle.ats_dict.specs.Entry.{DictEntry}
@@ -9,7 +9,7 @@ use Rattle.std.proofs.lemmas.List.{length-replicate}
 use Rattle.ats_dict.specs.Dictionary.{IsDictionary, entry_at, low, zero_root}
 use Rattle.ats_dict.proofs.Sentinels.{entry_at-suc, entry_at-last}
 use Rattle.ats_dict.specs.Found.{IsSpot}
-use Rattle.ats_prover.specs.Terms.{AreSpots, lower, needs}
+use Rattle.ats_prover.specs.Terms.{AreSpots, lower}
 
 -- one term more
 pub spots_more : (entries : List DictEntry) (query : List (List ℕ × ℕ)) (spots : List Spot) (spot : Spot) (i : ℕ) (d : List ℕ × ℕ) → i < length query

@@ -1,8 +1,6 @@
 -- The honest proof, put together.
-use Rattle.std.proofs.Common.{◌≡◌, ◌+◌, ◌*◌, ◌^◌, ◌<◌, ◌≤◌, ◌++◌, ℕ, zero, suc, Bool, true, false, cond, nat_lt, List, [], ◌∷◌, length, map, take, set, get_or, Option, Some, None, refl, sym, ap, ap₂, subst, ◌∙◌, arith, append-nil}
-use Rattle.std.specs.Prelude.{filter}
+use Rattle.std.proofs.Common.{◌≡◌, ◌^◌, ◌<◌, ◌≤◌, ◌++◌, ℕ, zero, suc, Bool, true, cond, nat_lt, List, [], ◌∷◌, length, map, take, get_or, None, refl, sym, ap, ap₂, subst, ◌∙◌, arith, append-nil}
 use Rattle.std.specs.List.{All, concat, count_by, flat_map, list_any, range_with_len}
-use Rattle.std.specs.List.Sorted.{IsStrictlyIncreasing}
 use Rattle.std.specs.Str.{bytes_eq}
 use Rattle.std.proofs.lemmas.List.{length-map, get_or-map, length-take-le}
 use Rattle.std.proofs.lemmas.List.Elements.{All-head, All-tail, All-take}
@@ -40,13 +38,13 @@ use Rattle.ats_records.specs.Written.{Written, after, writing}
 use Rattle.ats_records.specs.declared.record.Algorithm.{Algorithm}
 use Rattle.ats_records.specs.declared.record.Algorithm.TheVariants.{Tnra}
 use Rattle.ats_proof.specs.Parts.{counted, spelled}
-use Rattle.ats_proof.specs.Value.{Proof, Prefix, AreDocumentsOf, fields_of, front_fields, header_fields, entry_fields, digest_fields, slot_fields, id_fields, prefix_fields, kind_of_slot, present_in}
+use Rattle.ats_proof.specs.Value.{Proof, AreDocumentsOf, fields_of, front_fields, header_fields, entry_fields, digest_fields, slot_fields, id_fields, prefix_fields, kind_of_slot, present_in}
 use Rattle.ats_prover.specs.Writing.{IsWritten, put}
 use Rattle.ats_prover.proofs.Putting.{put_all}
 use Rattle.ats_prover.proofs.Records.{front_is}
-use Rattle.ats_prover.specs.Terms.{AreSpots, AreNeeded, place, shown_entry, slot_of}
+use Rattle.ats_prover.specs.Terms.{AreSpots, AreNeeded, shown_entry, slot_of}
 use Rattle.ats_prover.specs.Lanes.{lane_of, lanes_of, present}
-use Rattle.ats_prover.specs.Honest.{IsHonest, IsProved, IsTooLong, placed, prefix_of, prefixes}
+use Rattle.ats_prover.specs.Honest.{IsHonest, IsProved, IsTooLong, length_of, placed, prefix_of, prefixes}
 use Rattle.ats_prover.proofs.Elided.{dictionary_few, prefix_few}
 use Rattle.ats_prover.proofs.Spots.{spot_each}
 use Rattle.ats_prover.proofs.Present.{absent_term}
@@ -244,8 +242,9 @@ pub written : (H : List ℕ → List ℕ) (texts : List (List ℕ)) (query : Lis
     → y ≡ put x (counted 2 entry_fields (map (shown_entry (dictionary_of H texts)) positions) ++ counted 2 digest_fields (elided_digests H (dict_leaves (dictionary_of H texts)) positions)
     ++ flat_map slot_fields (map (slot_of positions) spots))
     → z ≡ put y (counted 4 id_fields (docs_of brackets) ++ flat_map prefix_fields (prefixes H (docs_of brackets) (lanes_of texts query) cut) ++ counted 2 id_fields picks)
+    → length_of (proof_of H texts query spots positions cut brackets picks) ≤ 2 ^ 26
     → IsWritten H texts query r w z
-written H texts query r spots positions cut brackets picks w x y z parts front terms walk =
+written H texts query r spots positions cut brackets picks w x y z parts front terms walk short =
     let proof = proof_of H texts query spots positions cut brackets picks in
     let a : List (List ℕ) = front_fields None ++ header_fields (header_parts H texts) ++ spelled 2 (length (map (slot_of positions) spots)) ∷ [] in
     let b : List (List ℕ) = counted 2 entry_fields (map (shown_entry (dictionary_of H texts)) positions) in
@@ -259,6 +258,7 @@ written H texts query r spots positions cut brackets picks w x y z parts front t
       come = come_proof proof (is_in_range H texts query r spots positions cut brackets picks parts);
       prefix_each = lists_each H texts query r spots positions cut brackets picks parts;
       asked = walk ∙ ap (λ (v : Written). put v (e ++ f ++ g)) (terms ∙ ap (λ (v : Written). put v (b ++ c ++ d)) front) ∙ put_all w a b c d e f g;
+      short = short;
     }
 
 -- the first record is the first fields

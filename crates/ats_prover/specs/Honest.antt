@@ -1,5 +1,5 @@
 -- The proof that an honest server gives of a query's best documents, by the walk with no random access.
-use Rattle.std.specs.Prelude.{◌≡◌, ◌<◌, ℕ, List, [], ◌∷◌, length, map, take, Option, None}
+use Rattle.std.specs.Prelude.{◌≡◌, ◌<◌, ◌≤◌, ℕ, List, [], ◌∷◌, length, map, take, None, Result, Ok, Err}
 use Rattle.std.specs.List.{concat, range_with_len}
 use Rattle.ats_tree.specs.Elided.{elided_digests}
 use Rattle.ats_lists.specs.Leaf.{leaf_bytes}
@@ -76,3 +76,10 @@ pub record IsTooLong (H : List ℕ → List ℕ) (texts : List (List ℕ)) (quer
 abbrev pub IsFault : (List ℕ → List ℕ) → List (List ℕ) → List (List ℕ × ℕ) → ℕ → ℕ → ProveFault → Type 0
 IsFault H texts query r limit (ProofTooLong bytes) = IsTooLong H texts query r limit bytes
 IsFault H texts query r limit OutOfMemory = Unit {0}
+
+-- What is answered where the honest proof has so many bytes: so many, if they are at most the limit, and if
+-- they are more, that they are too many. Memory may be wanted either way.
+abbrev pub IsAnswerWithin : (limit size : ℕ) → Result (List ℕ) ProveFault → Type 0
+IsAnswerWithin limit size (Ok bytes) = (length bytes ≡ size) × (size ≤ limit)
+IsAnswerWithin limit size (Err (ProofTooLong bytes)) = (bytes ≡ size) × (limit < size)
+IsAnswerWithin limit size (Err OutOfMemory) = Unit {0}

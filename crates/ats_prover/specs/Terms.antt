@@ -1,5 +1,5 @@
 -- Where the terms of a query stand in a dictionary, and which of its leaves show that.
-use Rattle.std.specs.Prelude.{◌≡◌, ◌+◌, ◌==◌, ℕ, Bool, true, false, List, [], ◌∷◌, map, nat_lt}
+use Rattle.std.specs.Prelude.{◌≡◌, ◌+◌, ◌==◌, ℕ, Bool, true, false, List, [], ◌∷◌, nat_lt}
 use Rattle.std.specs.List.{count_by, flat_map, list_any}
 use Rattle.std.specs.List.Sorted.{IsStrictlyIncreasing}
 use Rattle.ats_dict.specs.declared.spot.Spot.{Spot}

@@ -1,12 +1,12 @@
 -- Fields that are asked of a writer.
-use Rattle.std.specs.Prelude.{◌≡◌, ℕ, List, length}
+use Rattle.std.specs.Prelude.{◌≡◌, ◌≤◌, ◌^◌, ℕ, List, length}
 use Rattle.std.specs.List.{concat}
 use Rattle.ats_records.specs.Written.{Written, after}
 use Rattle.ats_grammar.specs.Table.{End}
 use Rattle.ats_grammar.specs.Front.{Come}
 use Rattle.ats_grammar.specs.Grammar as grammar
 use Rattle.ats_proof.specs.Value.{Proof, fields_of, present_in}
-use Rattle.ats_prover.specs.Honest.{IsHonest}
+use Rattle.ats_prover.specs.Honest.{IsHonest, length_of}
 
 -- the bytes of these fields were asked for, one field behind another
 abbrev pub put : Written → List (List ℕ) → Written
@@ -19,3 +19,5 @@ pub record IsWritten (H : List ℕ → List ℕ) (texts : List (List ℕ)) (quer
   pub come : Come (fields_of proof) grammar.proof End
   pub prefix_each : length proof.lists ≡ present_in proof.slots
   pub asked : now ≡ put before (fields_of proof)
+  -- no honest proof has more bytes
+  pub short : length_of proof ≤ 2 ^ 26

@@ -9,7 +9,11 @@ ghost use Rattle.ats_bound.specs.Schedule.{IsCut};
 ghost use Rattle.ats_proof.specs.Parts.{counted};
 ghost use Rattle.ats_proof.specs.Value.{id_fields, prefix_fields};
 ghost use Rattle.ats_records.specs.declared.record.Algorithm.TheVariants.{Tnra};
-ghost use Rattle.ats_prover.specs.Honest.{IsProved, IsFault, prefixes};
+ghost use Rattle.ats_proof.specs.Value.{Proof, IsProof};
+ghost use Rattle.ats_commit.specs.Root.{root_of};
+ghost use Rattle.ats_client.specs.Accepts.{Accepts};
+ghost use Rattle.ats_prover.specs.declared.fault.ProveFault.TheVariants.{OutOfMemory as MemoryWanted};
+ghost use Rattle.ats_prover.specs.Honest.{IsHonest, IsProved, IsFault, IsAnswerWithin, length_of, prefixes};
 ghost use Rattle.ats_prover.specs.Writing.{IsWritten, put};
 
 use crate::answer::{documents, write_answer};
@@ -90,6 +94,9 @@ pub fn prove<H: Hash32>(
     requires { algorithm ≡ Tnra }
     ensures ok { IfOk result (IsProved H.hash index.now query.now top) }
     ensures err { IfErr result (IsFault H.hash index.now query.now top (2 ^ 26)) }
+    ensures size { (proof : Proof) → IsHonest H.hash index.now query.now top proof → IsAnswerWithin (2 ^ 26) (length_of proof) result }
+    ensures accepted { IfOk result (λ bytes. (proof : Proof) → IsProof bytes proof → Accepts H.hash (root_of H.hash index.now) query.now top proof) }
+    ensures fits { IfErr result (λ fault. fault ≡ MemoryWanted) }
 {
     prove_within(alloc, index, query, top, algorithm, MAX_PROOF)
 }
@@ -108,6 +115,9 @@ pub fn prove_within<H: Hash32>(
     ensures ok { IfOk result (IsProved H.hash index.now query.now top) }
     ensures within { IfOk result (λ bytes. length bytes ≤ limit) }
     ensures err { IfErr result (IsFault H.hash index.now query.now top limit) }
+    ensures size { (proof : Proof) → IsHonest H.hash index.now query.now top proof → IsAnswerWithin limit (length_of proof) result }
+    ensures accepted { IfOk result (λ bytes. (proof : Proof) → IsProof bytes proof → Accepts H.hash (root_of H.hash index.now) query.now top proof) }
+    ensures fits { limit ≡ 2 ^ 26 → IfErr result (λ fault. fault ≡ MemoryWanted) }
 {
     records_are_joined();
     let mut writer = ProofWriter::new(alloc, limit);

@@ -1,9 +1,8 @@
-use Rattle.std.proofs.Common.{◌≡◌, ◌+◌, ◌*◌, ◌^◌, ◌<◌, ◌≤◌, ◌++◌, ℕ, List, [], length, map, get_or, take, refl, subst, sym, ap, ap₂, ◌∙◌, arith, append-nil, take_all}
+use Rattle.std.proofs.Common.{◌≡◌, ◌<◌, ◌≤◌, ◌++◌, List, [], length, get_or, take, subst, sym, ap, ◌∙◌, arith, append-nil, take_all}
 use Rattle.std.specs.List.{flat_map}
 use Rattle.std.proofs.lemmas.List.{length-map, get_or-map}
 use Rattle.ats_lists.specs.Lists.{IsList}
 use Rattle.ats_bound.specs.Schedule.{WholeLane, whole_lane, whole_lanes}
-use Rattle.ats_records.specs.Written.{Written}
 use Rattle.ats_proof.specs.Parts.{counted}
 use Rattle.ats_proof.specs.Value.{Prefix, id_fields, prefix_fields}
 use Rattle.ats_prover.specs.Honest.{prefixes}

@@ -1,4 +1,4 @@
-use Rattle.std.proofs.Common.{◌≡◌, ◌+◌, ◌<◌, ◌≤◌, ◌^◌, ◌++◌, ℕ, List, [], ◌∷◌, length, map, subst, sym, ap, ap₂, ◌∙◌, arith}
+use Rattle.std.proofs.Common.{◌≡◌, ◌+◌, ◌<◌, ◌≤◌, ◌^◌, ◌++◌, ℕ, List, length, map, subst, sym, ap, ap₂, ◌∙◌, arith}
 use Rattle.std.specs.List.{All, flat_map}
 use Rattle.std.proofs.lemmas.Result.{on_ok_weaker}
 use Rattle.std.proofs.lemmas.List.{length-map}
@@ -11,7 +11,6 @@ use Rattle.ats_dict.specs.declared.spot.Spot.{Spot}
 use Rattle.ats_commit.specs.Trees.{dictionary_of}
 use Rattle.ats_commit.proofs.HeaderLemmas.{header_in_range}
 use Rattle.ats_index.specs.Parts.{header_parts}
-use Rattle.ats_bound.specs.Chosen.{IsChosen}
 use Rattle.ats_bound.specs.Schedule.{WholeLane, AreBracketsOf, IsFirstSettled, shown, whole_lanes}
 use Rattle.ats_bound.specs.Schedule.{IsCut}
 use Rattle.ats_records.specs.Written.{Written}
@@ -23,6 +22,7 @@ use Rattle.ats_prover.specs.Honest.{prefixes}
 use Rattle.ats_prover.specs.Writing.{put}
 use Rattle.ats_prover.proofs.Spots.{spot_each}
 use Rattle.ats_prover.proofs.Ranges.{positions_below}
+use Rattle.ats_prover.proofs.Short.{is_short}
 use Rattle.ats_prover.proofs.Whole.{HasParts, docs_of, front_put, scheduled_is_cut, written}
 use Rattle.ats_prover.proofs.proving.write_proof.Goals as goal
 
@@ -92,4 +92,4 @@ returns g c =
     put c.write_terms.new.writer (counted 4 id_fields (docs_of brackets) ++ flat_map prefix_fields (prefixes H (docs_of brackets) ls cut) ++ counted 2 id_fields picks) in
     on_ok_weaker c.write_walk.result (λ is.
     written H texts query c.args.top spots positions cut brackets picks c.args.writer.now c.front.new.self c.write_terms.new.writer c.write_walk.new.writer parts front terms
-    (is ∙ ap Walk last)) c.write_walk.ensures.fields
+    (is ∙ ap Walk last) (is_short H texts query c.args.top spots positions cut brackets picks parts)) c.write_walk.ensures.fields

@@ -1,0 +1,27 @@
+-- What was asked of a writer for one honest proof is the size of any.
+use Rattle.std.proofs.Common.{◌≡◌, ◌<◌, ◌≤◌, ℕ, List, [], ap, ◌∙◌, arith}
+use Rattle.ats_records.specs.Written.{Written, writing}
+use Rattle.ats_proof.specs.Value.{Proof}
+use Rattle.ats_prover.specs.Honest.{IsHonest, length_of}
+use Rattle.ats_prover.specs.Writing.{IsWritten}
+use Rattle.ats_prover.proofs.OneProof.{one_proof}
+use Rattle.ats_prover.proofs.Whole.{AreJoined, all_asked}
+
+-- so many bytes were asked for, under this limit
+pub record IsAsked (limit size : ℕ) (w : Written) : Type 0 where
+  pub all : w.asked ≡ size
+  pub under : w.limit ≡ limit
+
+pub is_asked : AreJoined → (H : List ℕ → List ℕ) (texts : List (List ℕ)) (query : List (List ℕ × ℕ)) (r limit : ℕ) (w : Written) → IsWritten H texts query r (writing limit []) w
+    → (proof : Proof) → IsHonest H texts query r proof → IsAsked limit (length_of proof) w
+is_asked joined H texts query r limit w is proof honest =
+    let asked = all_asked joined H texts query r limit w is in record {
+      all = ap (λ (v : Written). v.asked) asked ∙ ap length_of (one_proof H texts query r is.proof proof is.honest honest);
+      under = ap (λ (v : Written). v.limit) asked;
+    }
+
+pub asked_within : (limit size bytes : ℕ) (w : Written) → IsAsked limit size w → bytes ≡ w.asked → w.asked ≤ w.limit → (bytes ≡ size) × (size ≤ limit)
+asked_within limit size bytes w is same within = (omega (arith, is.all, same), omega (arith, is.all, is.under, within))
+
+pub asked_beyond : (limit size bytes : ℕ) (w : Written) → IsAsked limit size w → bytes ≡ w.asked → w.limit < w.asked → (bytes ≡ size) × (limit < size)
+asked_beyond limit size bytes w is same beyond = (omega (arith, is.all, same), omega (arith, is.all, is.under, beyond))
