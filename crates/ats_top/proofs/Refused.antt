@@ -1,5 +1,6 @@
 -- What is within the limits is not refused, and a file that is not there is neither served nor refused.
-use Rattle.std.proofs.Common.{◌≡◌, ◌∙◌, ◌<◌, ◌≤◌, ◌^◌, ℕ, List, [], length, Option, Some, None, MatchOption, sym, ap, subst, arith}
+use Rattle.std.proofs.Common.{◌≡◌, ◌∙◌, ◌<◌, ◌≤◌, ◌^◌, ℕ, List, [], length, Option, Some, None, MatchOption, sym, ap, subst, arith, append-nil}
+use Rattle.std.specs.List.{concat}
 use Rattle.ats_base.specs.Outside.{IsMissing, IsLonger}
 use Rattle.ats_terms.specs.Query.{HasQuery}
 use Rattle.ats_terms.specs.Faults.{IsFirstFault}
@@ -10,13 +11,17 @@ use Rattle.ats_impact.specs.CollectionFaults.{IsFirstCollectionFault}
 use Rattle.ats_impact.specs.declared.collection.CollectionFault.{CollectionFault}
 use Rattle.ats_impact.specs.declared.collection.CollectionFault.TheVariants as collection
 use Rattle.ats_index.specs.Spelling.{IsSpelling}
+use Rattle.ats_index.proofs.OneCollection.{one_collection}
+use Rattle.ats_proof.specs.Value.{Proof, IsProof, fields_of}
+use Rattle.ats_prover.specs.Honest.{IsHonest, length_of}
+use Rattle.ats_prover.proofs.OneProof.{one_proof}
 use Rattle.ats_top.specs.Input.{AreJsonTexts}
 use Rattle.ats_top.specs.declared.input.JsonFault.{JsonFault}
 use Rattle.ats_top.specs.declared.input.JsonFault.TheVariants as json
-use Rattle.ats_top.specs.Words.{ProveWords, Command, Rank, Build, Root, Prove, read_name}
+use Rattle.ats_top.specs.Words.{ProveWords, Command, Rank, Build, Root, Prove, Verify, read_name}
 use Rattle.ats_top.specs.Read.{Files, IsTold, IsFile, HasCollection, HasIndex}
-use Rattle.ats_top.specs.Refusals.{IsRowCount, AsksRanking, Asks, IsJsonRefused, AreTextsRefused, IsCollectionRefused, IsIndexRefused, IsProvingRefused, IsRankingRefused, IsRefused, IsFinal}
-use Rattle.ats_top.specs.Proved.{IsProofTooLong}
+use Rattle.ats_top.specs.Refusals.{IsRowCount, AsksRanking, Asks, IsJsonRefused, AreTextsRefused, IsCollectionRefused, IsIndexRefused, IsProvingRefused, IsRankingRefused, IsRefused}
+use Rattle.ats_top.specs.Proved.{IsProofFor, IsProofTooLong}
 use Rattle.ats_top.specs.Done.{IsDone, HasInput, IsServed}
 use Rattle.ats_top.specs.declared.stops.Refusal.{Refusal}
 use Rattle.ats_top.specs.declared.stops.Refusal.TheVariants.{ROut, QueryTooLong, NoTerm, TooManyWords, TooManyTerms, FileTooLong, NotJson, NotArray, BadItem, NoDocuments, TooManyDocuments, TextTooLong, AllTooLong, BadIndex, ProofTooLong}
@@ -56,12 +61,12 @@ longer None bytes limit is short long = long
 longer (Some file) bytes limit is short long = let same : file ≡ bytes = cc in omega (arith, ap length same)
 
 -- a told file that is no longer than the limit
-not_longer : (files : Files) (name bytes : List ℕ) (limit : ℕ) → IsTold files → IsFile files name limit bytes → IsLonger files name limit → ⊥
+pub not_longer : (files : Files) (name bytes : List ℕ) (limit : ℕ) → IsTold files → IsFile files name limit bytes → IsLonger files name limit → ⊥
 not_longer None name bytes limit told file long = absurd (cc)
 not_longer (Some map) name bytes limit told file long = longer (map name) bytes limit file.held file.short long
 
 -- a told file has one content
-one_file : (files : Files) (name first second : List ℕ) (limit other : ℕ) → IsTold files → IsFile files name limit first → IsFile files name other second → first ≡ second
+pub one_file : (files : Files) (name first second : List ℕ) (limit other : ℕ) → IsTold files → IsFile files name limit first → IsFile files name other second → first ≡ second
 one_file None name first second limit other told one two = absurd (cc)
 one_file (Some map) name first second limit other told one two = same_some (map name) first second one.held two.held
 
@@ -69,7 +74,7 @@ no_length : (o : Option (List ℕ)) (limit : ℕ) → o ≡ None → MatchOption
 no_length None limit none long = long
 no_length (Some file) limit none long = absurd (cc)
 
-missing_longer : (files : Files) (name : List ℕ) (limit : ℕ) → IsMissing files name → IsLonger files name limit → ⊥
+pub missing_longer : (files : Files) (name : List ℕ) (limit : ℕ) → IsMissing files name → IsLonger files name limit → ⊥
 missing_longer None name limit missing long = missing
 missing_longer (Some map) name limit missing long = no_length (map name) limit missing long
 
@@ -114,7 +119,7 @@ index_kept H files name texts told has (BadIndex at) (bytes, file, fault) =
 index_kept H files name texts told has _ refused = refused
 
 -- rows and a query within the limits are not refused, nor what is tried after them, if that is not
-ranking_kept : (r : ℕ) (text : List ℕ) (later : Refusal → Type 0) → AsksRanking r text → ((refusal : Refusal) → later refusal → ⊥)
+pub ranking_kept : (r : ℕ) (text : List ℕ) (later : Refusal → Type 0) → AsksRanking r text → ((refusal : Refusal) → later refusal → ⊥)
     → (refusal : Refusal) → IsRankingRefused r text later refusal → ⊥
 ranking_kept r text later asks kept (ROut out) refused = refused.1 (subst IsRowCount (sym refused.0) asks.rows)
 ranking_kept r text later asks kept (QueryTooLong bytes) refused = no_query_fault text (query.TooLong bytes) asks.query refused.1 tt
@@ -139,31 +144,43 @@ served_kept H files (Root words) told (texts, has) refusal refused = index_kept 
 served_kept H files (Prove words) told ((asks, (texts, has)), fits) refusal refused =
     ranking_kept words.r words.query (IsProvingRefused H files words) asks
     (proving_kept H files words (index_kept H files words.index texts told has) fits) refusal refused
+served_kept H files (Verify words) told (asks, has) refusal refused = ranking_kept words.r words.query (λ other. ⊥) asks (λ other never. never) refusal refused
 
--- a proof that was stored is short enough, so the refusal of its length is not final
+-- bytes that spell a proof are as many as its fields have
+spelled_size : (bytes : List ℕ) (proof : Proof) → IsProof bytes proof → length bytes ≡ length_of proof
+spelled_size bytes proof is = ap length is.spells.whole.parts ∙ ap length (append-nil (concat (fields_of proof)))
+
+-- the honest proof is one, so where one was stored none is too long
+too_long_kept : (H : List ℕ → List ℕ) (files : Files) (words : ProveWords) (bytes : List ℕ) (size : ℕ) → IsTold files → IsProofFor H files words bytes
+    → IsProofTooLong H files words size → ⊥
+too_long_kept H files words bytes size told stored long =
+    let same = one_file files words.index stored.index.bytes long.index.bytes (2 ^ 29) (2 ^ 29) told stored.index.file long.index.file in
+    let texts : stored.texts ≡ long.texts = one_collection H long.index.bytes stored.texts long.texts
+    (subst (λ (b : List ℕ). IsSpelling H b stored.texts) same stored.index.spelling) long.index.spelling in
+    let query : stored.query ≡ long.query = stored.asked.same ∙ sym long.asked.same in
+    let honest : IsHonest H long.texts long.query words.r stored.proved.proof = subst (λ (t : List (List ℕ)). IsHonest H t long.query words.r stored.proved.proof) texts
+    (subst (λ (q : List (List ℕ × ℕ)). IsHonest H stored.texts q words.r stored.proved.proof) query stored.proved.honest) in
+    let one : stored.proved.proof ≡ long.long.proof = one_proof H long.texts long.query words.r stored.proved.proof long.long.proof honest long.long.honest in
+    omega (arith, stored.short, spelled_size bytes stored.proved.proof stored.proved.spells, ap length_of one, long.long.bytes_are, long.long.beyond)
+
 proof_kept : (H : List ℕ → List ℕ) (before now : Files) (words : ProveWords) (text : List ℕ) → IsTold before → IsDone H before now (Prove words) text
-    → (refusal : Refusal) → IsProvingRefused H before words refusal → IsFinal H before (Prove words) refusal → ⊥
-proof_kept H before now words text told done (ProofTooLong size) refused final = final done.bytes done.proof
-proof_kept H before now words text told done other refused final = index_kept H before words.index done.proof.texts told done.proof.index other refused
+    → (refusal : Refusal) → IsProvingRefused H before words refusal → ⊥
+proof_kept H before now words text told done (ProofTooLong size) refused = too_long_kept H before words done.bytes size told done.proof refused
+proof_kept H before now words text told done other refused = index_kept H before words.index done.proof.texts told done.proof.index other refused
 
--- where a command is done, no refusal of it is final
+-- what is done is not refused, where the files are told
 pub done_kept : (H : List ℕ → List ℕ) (before now : Files) (command : Command) (text : List ℕ) → IsTold before → IsDone H before now command text
-    → (refusal : Refusal) → IsRefused H before command refusal → IsFinal H before command refusal → ⊥
-done_kept H before now (Rank words) text told (ranked, same) refusal refused final =
+    → (refusal : Refusal) → IsRefused H before command refusal → ⊥
+done_kept H before now (Rank words) text told (ranked, same) refusal refused =
     served_kept H before (Rank words) told (ranked.asks, (ranked.texts, ranked.collection)) refusal refused
-done_kept H before now (Build words) text told built refusal refused final =
+done_kept H before now (Build words) text told built refusal refused =
     served_kept H before (Build words) told (built.texts, built.collection) refusal refused
-done_kept H before now (Root words) text told (rooted, same) refusal refused final =
+done_kept H before now (Root words) text told (rooted, same) refusal refused =
     served_kept H before (Root words) told (rooted.texts, rooted.index) refusal refused
-done_kept H before now (Prove words) text told done (ROut out) refused final = refused.1 (subst IsRowCount (sym refused.0) done.asks.rows)
-done_kept H before now (Prove words) text told done (QueryTooLong bytes) refused final =
-    no_query_fault words.query (query.TooLong bytes) done.asks.query refused.1 tt
-done_kept H before now (Prove words) text told done NoTerm refused final = no_query_fault words.query query.NoTerm done.asks.query refused.1 tt
-done_kept H before now (Prove words) text told done (TooManyWords count) refused final =
-    no_query_fault words.query (query.TooManyWords count) done.asks.query refused.1 tt
-done_kept H before now (Prove words) text told done (TooManyTerms distinct) refused final =
-    no_query_fault words.query (query.TooManyTerms distinct) done.asks.query refused.1 tt
-done_kept H before now (Prove words) text told done other refused final = proof_kept H before now words text told done other refused.1 final
+done_kept H before now (Prove words) text told done refusal refused =
+    ranking_kept words.r words.query (IsProvingRefused H before words) done.asks (proof_kept H before now words text told done) refusal refused
+done_kept H before now (Verify words) text told (verified, same) refusal refused =
+    ranking_kept words.r words.query (λ other. ⊥) verified.asks (λ other never. never) refusal refused
 
 module _ (files : Files) (name : List ℕ) (missing : IsMissing files name) where
   collection_missing : (refusal : Refusal) → IsCollectionRefused files name refusal → ⊥
@@ -193,6 +210,7 @@ missing_kept H files (Prove words) asks missing refusal refused =
     ranking_kept words.r words.query (IsProvingRefused H files words) asks
     (proving_kept H files words (index_missing files words.index missing H)
     (λ size long. missing_file files words.index long.index.bytes (2 ^ 29) missing long.index.file)) refusal refused
+missing_kept H files (Verify words) asks missing refusal refused = ranking_kept words.r words.query (λ other. ⊥) asks (λ other never. never) refusal refused
 
 -- a file of the form that the command reads is there
 pub input_there : (H : List ℕ → List ℕ) (files : Files) (command : Command) → HasInput H files command → IsMissing files (read_name command) → ⊥
@@ -200,9 +218,11 @@ input_there H files (Rank words) (asks, (texts, has)) missing = missing_file fil
 input_there H files (Build words) (texts, has) missing = missing_file files words.collection has.bytes (2 ^ 26) missing has.file
 input_there H files (Root words) (texts, has) missing = missing_file files words.index has.bytes (2 ^ 29) missing has.file
 input_there H files (Prove words) (asks, (texts, has)) missing = missing_file files words.index has.bytes (2 ^ 29) missing has.file
+input_there H files (Verify words) (asks, (query, proof, is)) missing = missing_file files words.proof is.held.bytes (2 ^ 26) missing is.held.file
 
 pub served_input : (H : List ℕ → List ℕ) (files : Files) (command : Command) → IsServed H files command → HasInput H files command
 served_input H files (Rank words) served = served
 served_input H files (Build words) served = served
 served_input H files (Root words) served = served
 served_input H files (Prove words) served = served.0
+served_input H files (Verify words) served = served

@@ -1,5 +1,5 @@
 -- What a store that failed leaves of a proof.
-use Rattle.std.proofs.Common.{◌≡◌, ◌⊎◌, ◌≤◌, ◌∙◌, ℕ, List, length, take, sym, subst, inl, inr}
+use Rattle.std.proofs.Common.{◌≡◌, ◌⊎◌, ◌≤◌, ◌∙◌, ℕ, List, length, take, subst, inl, inr}
 use Rattle.ats_base.specs.Outside.{Puts}
 use Rattle.ats_top.specs.Words.{ProveWords}
 use Rattle.ats_top.specs.Read.{Files}

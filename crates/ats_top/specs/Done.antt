@@ -6,10 +6,14 @@ use Rattle.ats_impact.specs.Rank.{IsRanking, IsTop}
 use Rattle.ats_impact.specs.declared.rank.Row.{Row}
 use Rattle.ats_commit.specs.Root.{root_of}
 use Rattle.ats_index.specs.Spelling.{IsSpelling}
-use Rattle.ats_top.specs.Words.{RankWords, BuildWords, RootWords, ProveWords, Command, Rank, Build, Root, Prove}
+use Rattle.ats_proof.specs.Value.{Proof}
+use Rattle.ats_client.specs.Headline.{IsTopOrCollides}
+use Rattle.ats_client.specs.Rows.{rows_of}
+use Rattle.ats_top.specs.Words.{RankWords, BuildWords, RootWords, ProveWords, VerifyWords, Command, Rank, Build, Root, Prove, Verify}
 use Rattle.ats_top.specs.Print.{lines, line_of_root, line_of_proof}
 use Rattle.ats_top.specs.Read.{Files, HasCollection, HasIndex}
 use Rattle.ats_top.specs.Proved.{IsProofFor, IsProofTooLong}
+use Rattle.ats_top.specs.Verified.{IsAccepted}
 use Rattle.ats_top.specs.Refusals.{AsksRanking}
 
 -- the text is the lines of the ranking of the named file's collection, and its documents are a top answer
@@ -47,12 +51,23 @@ pub record IsProofStored (H : List ℕ → List ℕ) (before now : Files) (words
   pub stored : Puts before now words.proof bytes
   pub printed : text ≡ line_of_proof (length bytes)
 
+-- the named file is an accepted proof, the text is the lines of the rows of its answer, and for every collection with the
+-- root these rows are right, or the proof and the collection hold two different strings with equal digests
+pub record IsVerified (H : List ℕ → List ℕ) (files : Files) (words : VerifyWords) (text : List ℕ) : Type 0 where
+  pub asks : AsksRanking words.r words.query
+  pub query : List (List ℕ × ℕ)
+  pub proof : Proof
+  pub accepted : IsAccepted H files words query proof
+  pub headline : IsTopOrCollides H words.root query words.r proof
+  pub printed : text ≡ lines (rows_of query proof)
+
 -- the command of these words is done: this is its text, and what the shelf holds after it
 abbrev pub IsDone : (List ℕ → List ℕ) → Files → Files → Command → List ℕ → Type 0
 IsDone H before now (Rank words) text = IsRanked before words text × (now ≡ before)
 IsDone H before now (Build words) text = IsBuilt H before now words text
 IsDone H before now (Root words) text = IsRooted H before words text × (now ≡ before)
 IsDone H before now (Prove words) text = IsProofStored H before now words text
+IsDone H before now (Verify words) text = IsVerified H before words text × (now ≡ before)
 
 -- the name was given a prefix of the bytes, which may be all of them
 pub record PutsPart (before now : Files) (name bytes : List ℕ) : Type 0 where
@@ -81,13 +96,15 @@ Changes H before now (Rank words) = ⊥
 Changes H before now (Build words) = IsBuiltPart H before now words
 Changes H before now (Root words) = ⊥
 Changes H before now (Prove words) = IsProofPart H before now words
+Changes H before now (Verify words) = ⊥
 
--- what the words say is within the limits, and the named file is of the form that the command reads
+-- what the words say is within the limits, and the named file is of the form that the command reads; a proof is one that is accepted
 abbrev pub HasInput : (List ℕ → List ℕ) → Files → Command → Type 0
 HasInput H files (Rank words) = AsksRanking words.r words.query × ((texts : List (List ℕ)) × HasCollection files words.collection texts)
 HasInput H files (Build words) = (texts : List (List ℕ)) × HasCollection files words.collection texts
 HasInput H files (Root words) = (texts : List (List ℕ)) × HasIndex H files words.index texts
 HasInput H files (Prove words) = AsksRanking words.r words.query × ((texts : List (List ℕ)) × HasIndex H files words.index texts)
+HasInput H files (Verify words) = AsksRanking words.r words.query × ((query : List (List ℕ × ℕ)) × (proof : Proof) × IsAccepted H files words query proof)
 
 -- and no honest proof that the words ask for is too long
 abbrev pub IsServed : (List ℕ → List ℕ) → Files → Command → Type 0
@@ -95,3 +112,4 @@ IsServed H files (Rank words) = HasInput H files (Rank words)
 IsServed H files (Build words) = HasInput H files (Build words)
 IsServed H files (Root words) = HasInput H files (Root words)
 IsServed H files (Prove words) = HasInput H files (Prove words) × ((size : ℕ) → IsProofTooLong H files words size → ⊥)
+IsServed H files (Verify words) = HasInput H files (Verify words)

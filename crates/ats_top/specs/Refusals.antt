@@ -12,9 +12,9 @@ use Rattle.ats_index.specs.declared.load.LoadFault.TheVariants as index
 use Rattle.ats_top.specs.Input.{AreJsonTexts, IsFirstJsonFault}
 use Rattle.ats_top.specs.declared.input.JsonFault.{JsonFault}
 use Rattle.ats_top.specs.declared.input.JsonFault.TheVariants as json
-use Rattle.ats_top.specs.Words.{ProveWords, Command, Rank, Build, Root, Prove}
+use Rattle.ats_top.specs.Words.{ProveWords, Command, Rank, Build, Root, Prove, Verify}
 use Rattle.ats_top.specs.Read.{Files, IsFile}
-use Rattle.ats_top.specs.Proved.{IsProofFor, IsProofTooLong}
+use Rattle.ats_top.specs.Proved.{IsProofTooLong}
 use Rattle.ats_top.specs.declared.stops.Refusal.{Refusal}
 use Rattle.ats_top.specs.declared.stops.Refusal.TheVariants.{ROut, QueryTooLong, NoTerm, TooManyWords, TooManyTerms, FileTooLong, NotJson, NotArray, BadItem, NoDocuments, TooManyDocuments, TextTooLong, AllTooLong, BadIndex, ProofTooLong}
 
@@ -34,6 +34,7 @@ Asks (Rank words) = AsksRanking words.r words.query
 Asks (Build words) = Unit {0}
 Asks (Root words) = Unit {0}
 Asks (Prove words) = AsksRanking words.r words.query
+Asks (Verify words) = AsksRanking words.r words.query
 
 -- the first refusal of the file's bytes is that of the JSON text
 abbrev pub IsJsonRefused : Files → List ℕ → JsonFault → Type 0
@@ -81,8 +82,4 @@ IsRefused H files (Rank words) refusal = IsRankingRefused words.r words.query (I
 IsRefused H files (Build words) refusal = IsCollectionRefused files words.collection refusal
 IsRefused H files (Root words) refusal = IsIndexRefused H files words.index refusal
 IsRefused H files (Prove words) refusal = IsRankingRefused words.r words.query (IsProvingRefused H files words) refusal
-
--- no run of the command gets past the refusal; where it is of a proof's length, no honest proof is short enough
-abbrev pub IsFinal : (List ℕ → List ℕ) → Files → Command → Refusal → Type 0
-IsFinal H files (Prove words) (ProofTooLong size) = (bytes : List ℕ) → IsProofFor H files words bytes → ⊥
-IsFinal H files command refusal = Unit {0}
+IsRefused H files (Verify words) refusal = IsRankingRefused words.r words.query (λ other. ⊥) refusal

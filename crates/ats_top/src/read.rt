@@ -2,14 +2,16 @@
 ghost use Rattle.std.specs.Prelude.{◌≡◌, ◌≤◌, ◌^◌, IfOk, IfErr};
 ghost use Rattle.ats_base.specs.Outside.{IsMissing};
 ghost use Rattle.ats_top.specs.Read.{IsFile, HasCollection, HasIndex};
-ghost use Rattle.ats_top.specs.ReadStops.{FileStop, CollectionStop, IndexStop};
+ghost use Rattle.ats_top.specs.ReadStops.{FileStop, CollectionStop, IndexStop, ProofStop};
 
 use crate::input::read_collection;
+use crate::rejection::Rejection;
 use crate::stops::{Refusal, Stop};
 use ats_base::{Bytes, GatherFault, Shelf, gather};
 use ats_hash::Hash32;
 use ats_impact::Collection;
 use ats_index::Index;
+use ats_proof::{ShapeFault, ShapeKind};
 use std::alloc::Global;
 
 // The most bytes that the file of a collection may have.
@@ -17,6 +19,15 @@ const COLLECTION_LIMIT: u64 = 1 << 26;
 
 // The most bytes that the file of an index may have.
 const INDEX_LIMIT: u64 = 1 << 29;
+
+/// The most bytes that a proof may have.
+pub(crate) const PROOF_LIMIT: u64 = 1 << 26;
+
+// The fault of a file that has more.
+const TOO_LONG: ShapeFault = ShapeFault {
+    at: PROOF_LIMIT,
+    kind: ShapeKind::Long,
+};
 
 fn file<S: Shelf>(alloc: Global, name: &str, limit: u64, shelf: &mut S) -> Result<Bytes, Stop>
     requires { limit ≤ 2 ^ 29 }
@@ -65,4 +76,20 @@ pub(crate) fn index<H: Hash32, S: Shelf>(
 {
     let bytes = file(alloc, name, INDEX_LIMIT, shelf)?;
     Ok(Index::<H>::load(alloc, bytes.as_slice())?)
+}
+
+/// The bytes of the proof that the named file may be.
+pub(crate) fn proof<S: Shelf>(alloc: Global, name: &str, shelf: &mut S) -> Result<Bytes, Stop>
+    ensures ok { IfOk result (IsFile (S.files shelf.old) name.now (2 ^ 26)) }
+    ensures stop { IfErr result (ProofStop (S.files shelf.old) name.now (S.faults shelf.old) (S.faults shelf.new)) }
+    ensures files { S.files shelf.new ≡ S.files shelf.old }
+    ensures later { S.faults shelf.old ≤ S.faults shelf.new }
+    ensures uncounted { IsMissing (S.files shelf.old) name.now → S.faults shelf.new ≡ S.faults shelf.old }
+{
+    match gather(alloc, shelf, name, PROOF_LIMIT) {
+        Ok(bytes) => Ok(bytes),
+        Err(GatherFault::ReadFault) => Err(Stop::Shelf),
+        Err(GatherFault::TooLong) => Err(Stop::Rejected(Rejection::Shape(TOO_LONG))),
+        Err(GatherFault::OutOfMemory) => Err(Stop::Memory),
+    }
 }

@@ -1,5 +1,5 @@
 use Rattle.std.proofs.Common.{Ok, Err, string_bytes}
-use Rattle.ats_top.specs.declared.stops.Stop.TheVariants.{Usage, Shelf, Input, Memory}
+use Rattle.ats_top.specs.declared.stops.Stop.TheVariants.{Usage, Shelf, Input, Rejected, Memory}
 use Rattle.ats_top.proofs.commands.perform.Goals as goal
 
 pub returns-in-Ok-clause-ended : goal.returns-in-Ok-clause-ended
@@ -44,4 +44,20 @@ returns-in-Err-clause-ended g c =
       end = Err Memory;
       ends = (cause.0, cause.1, cause.2.1);
       prints = c.print-in-Err.ensures.prints;
+    }
+
+pub returns-in-Ok-line-2-clause-ended : goal.returns-in-Ok-line-2-clause-ended
+returns-in-Ok-line-2-clause-ended g c = record {
+  end = Err (Rejected c.in-Err-Rejected.rejection);
+  ends = rw c.in-Err-Rejected.field-0-is at c.in-Err-Rejected.ensures.stop;
+  prints = rw (c.as_str-in-Ok-line-2.ensures.value, c.in-Ok-line-2.ensures) at c.print-in-Ok-line-2.ensures.prints;
+}
+
+pub returns-in-Err-line-clause-ended : goal.returns-in-Err-line-clause-ended
+returns-in-Err-line-clause-ended g c =
+    let cause = rw c.in-Err-Rejected.field-0-is at c.in-Err-Rejected.ensures.stop in
+    record {
+      end = Err Memory;
+      ends = (cause.0, cause.1, cause.2.1);
+      prints = c.print-in-Err-line.ensures.prints;
     }

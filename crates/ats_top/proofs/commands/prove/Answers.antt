@@ -1,4 +1,4 @@
-use Rattle.std.proofs.Common.{◌⊎◌, inl, arith, rules}
+use Rattle.std.proofs.Common.{inl, arith}
 use Rattle.ats_top.specs.Refusals.{AsksRanking}
 use Rattle.ats_top.specs.Proved.{IsProofFor}
 use Rattle.ats_top.proofs.Stored.{proof_part}

@@ -1,0 +1,43 @@
+-- The line of each refusal of a proof.
+use Rattle.std.specs.Prelude.{◌++◌, ℕ, List, codes, decimal}
+use Rattle.ats_grammar.specs.declared.fault.ShapeKind.{ShapeKind}
+use Rattle.ats_grammar.specs.declared.fault.ShapeKind.TheVariants.{Long, Cut, Magic, Version, Algorithm, Count, Order, Trailing}
+use Rattle.ats_client.specs.declared.refusal.Refusal.{Refusal}
+use Rattle.ats_client.specs.declared.refusal.Refusal.TheVariants.{OtherRoot, SlotCount, DictMisfit, DictRoot, SlotWrong, IndexOut, Repeated, ListMisfit, ListRoot, Unmet, DocsMisfit, DocsRoot, TermsMisfit, TermsRoot, TermSlot, AnswerOut, AnswerRepeated, NotSettled}
+use Rattle.ats_top.specs.declared.rejection.Rejection.{Rejection}
+use Rattle.ats_top.specs.declared.rejection.Rejection.TheVariants.{Shape, Tra, Check}
+
+abbrev pub kind_word : ShapeKind → List ℕ
+kind_word Long = codes "long"
+kind_word Cut = codes "cut"
+kind_word Magic = codes "magic"
+kind_word Version = codes "version"
+kind_word Algorithm = codes "algorithm"
+kind_word Count = codes "count"
+kind_word Order = codes "order"
+kind_word Trailing = codes "trailing"
+
+abbrev pub refusal_words : Refusal → List ℕ
+refusal_words OtherRoot = codes "other-root"
+refusal_words (SlotCount shown) = codes "slot-count " ++ decimal shown
+refusal_words DictMisfit = codes "dict-misfit"
+refusal_words DictRoot = codes "dict-root"
+refusal_words (SlotWrong term) = codes "slot-wrong " ++ decimal term
+refusal_words (IndexOut term entry) = codes "index-out " ++ (decimal term ++ (codes " " ++ decimal entry))
+refusal_words (Repeated term entry) = codes "repeated " ++ (decimal term ++ (codes " " ++ decimal entry))
+refusal_words (ListMisfit term) = codes "list-misfit " ++ decimal term
+refusal_words (ListRoot term) = codes "list-root " ++ decimal term
+refusal_words (Unmet index) = codes "unmet " ++ decimal index
+refusal_words DocsMisfit = codes "docs-misfit"
+refusal_words DocsRoot = codes "docs-root"
+refusal_words (TermsMisfit doc) = codes "terms-misfit " ++ decimal doc
+refusal_words (TermsRoot doc) = codes "terms-root " ++ decimal doc
+refusal_words (TermSlot doc term) = codes "term-slot " ++ (decimal doc ++ (codes " " ++ decimal term))
+refusal_words (AnswerOut row) = codes "answer-out " ++ decimal row
+refusal_words (AnswerRepeated row) = codes "answer-repeated " ++ decimal row
+refusal_words NotSettled = codes "not-settled"
+
+abbrev pub line_of_rejection : Rejection → List ℕ
+line_of_rejection (Shape fault) = codes "refused: shape " ++ (kind_word fault.kind ++ (codes " " ++ (decimal fault.at ++ codes "\n")))
+line_of_rejection Tra = codes "refused: tra\n"
+line_of_rejection (Check refusal) = codes "refused: " ++ (refusal_words refusal ++ codes "\n")
