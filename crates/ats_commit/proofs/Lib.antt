@@ -4,3 +4,5 @@ pub mod TermLemmas
 pub mod OwnHeader
 pub mod OwnLeaves
 pub mod OwnStrings
+pub mod Enclosed
+pub mod OwnDocuments

@@ -23,7 +23,7 @@ few_words text utf8 =
     )
 
 -- a text has no more terms than bytes
-few_terms : (text : List ℕ) → IsUtf8 text → length (terms text) ≤ length text
+pub few_terms : (text : List ℕ) → IsUtf8 text → length (terms text) ≤ length text
 few_terms text utf8 =
     omega (
       arith,

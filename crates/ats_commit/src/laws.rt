@@ -1,7 +1,7 @@
 //! What holds of the trees, the header and the root of any texts, as contracts of functions that do
 //! nothing. Who believes these sentences need not read how the definitions are made.
 
-ghost use Rattle.std.specs.Prelude.{◌≡◌, ◌+◌, ◌<◌, ◌≤◌, ◌^◌, ◌∷◌, ◌++◌, List, [], ℕ, Some, None, IsSome, length, map, slice_get};
+ghost use Rattle.std.specs.Prelude.{◌≡◌, ◌+◌, ◌<◌, ◌≤◌, ◌^◌, ◌∷◌, ◌++◌, List, [], ℕ, Some, None, IsSome, length, map, slice_get, slice_index_or};
 ghost use Rattle.std.specs.Int.{to_be_bytes, w32};
 ghost use Rattle.std.specs.List.{All};
 ghost use Rattle.std.specs.Str.{IsUtf8};
@@ -10,13 +10,14 @@ ghost use Rattle.ats_tree.specs.Paths.{Path};
 ghost use Rattle.ats_tree.specs.declared.hashed.Tree.TheVariants.{Header as HeaderTree, List as ListTree, Terms as TermsTree};
 ghost use Rattle.ats_terms.specs.Terms.{IsTerm};
 ghost use Rattle.ats_impact.specs.Limits.{AreWithin};
-ghost use Rattle.ats_impact.specs.Score.{frequency, total_terms};
+ghost use Rattle.ats_impact.specs.Score.{count, frequency, total_terms};
 ghost use Rattle.ats_lists.specs.Leaf.{leaf_bytes};
 ghost use Rattle.ats_lists.specs.Lists.{list, vocabulary};
 ghost use Rattle.ats_lists.specs.declared.entry.Entry.{Entry};
 ghost use Rattle.ats_doctree.specs.DocumentLeaf.{doc_leaf_bytes};
 ghost use Rattle.ats_doctree.specs.Impacts.{doc_terms};
-ghost use Rattle.ats_doctree.specs.Sentinels.{terms_leaves};
+ghost use Rattle.ats_doctree.specs.Sentinels.{terms_leaves, leaf_bytes as term_bytes};
+ghost use Rattle.ats_doctree.specs.declared.doc_leaf.DocLeaf.{DocLeaf};
 ghost use Rattle.ats_dict.specs.Header.{header_bytes, IsHeader};
 ghost use Rattle.ats_dict.specs.declared.header.Header.{Header};
 ghost use Rattle.ats_dict.specs.Entry.{DictEntry, dict_leaf_bytes};
@@ -24,7 +25,7 @@ ghost use Rattle.ats_dict.specs.Dictionary.{IsBelow, dict_leaves};
 ghost use Rattle.ats_commit.specs.Trees.{dictionary_of, documents_of};
 ghost use Rattle.ats_commit.specs.Root.{header_of, root_of, HasHeaderInRange};
 ghost use Rattle.ats_commit.specs.Ours.{TreePlace, asked_term, own_leaves, ours};
-ghost use Rattle.ats_commit.specs.Own.{AreTexts, AreNeighbours, IsHeaderOf, IsEntryOf};
+ghost use Rattle.ats_commit.specs.Own.{AreTexts, AreNeighbours, AreTermNeighbours, IsHeaderOf, IsEntryOf, IsDocumentOf, IsImpactOf};
 
 use ats_hash::HashKind;
 
@@ -85,6 +86,21 @@ pub fn own_leaves_tell_lists<H: HashKind>()
     ensures posting { (texts : List (List ℕ)) (term : List ℕ) (i : ℕ) (entry : Entry) → AreTexts texts
         → entry.doc < 2 ^ 32 → entry.impact < 2 ^ 16
         → slice_get (map leaf_bytes (list texts term)) i ≡ Some (leaf_bytes entry) → slice_get (list texts term) i ≡ Some entry }
+{}
+
+/// A leaf whose bytes are those of the texts' own says of a document what its parts say: its leaf in the
+/// documents tree how many leaves the document's terms tree has and with which root, a term's leaf of that
+/// tree that the document has the term, with its impact, and two neighbours that the document has no term
+/// between theirs.
+pub fn own_leaves_tell_documents<H: HashKind>()
+    ensures document { (texts : List (List ℕ)) (doc : ℕ) (leaf : DocLeaf) → AreTexts texts → leaf.leaves < 2 ^ 32
+        → slice_get (documents_of H.hash texts) doc ≡ Some (doc_leaf_bytes leaf.leaves leaf.root)
+        → IsDocumentOf H.hash texts doc leaf }
+    ensures term { (texts : List (List ℕ)) (doc p : ℕ) (item : List ℕ × ℕ) → IsTerm item.0 → item.1 < 2 ^ 16
+        → slice_get (terms_leaves (doc_terms texts doc)) p ≡ Some (term_bytes item) → IsImpactOf texts doc item }
+    ensures absent { (texts : List (List ℕ)) (doc p : ℕ) (lower upper : List ℕ × ℕ) (term : List ℕ)
+        → AreTermNeighbours (terms_leaves (doc_terms texts doc)) p lower upper → IsBelow lower.0 term → IsBelow term upper.0
+        → count term (slice_index_or texts doc []) ≡ 0 }
 {}
 
 /// The header's string stands at the place with no turns, and in no tree does a string stand past its

@@ -13,7 +13,8 @@ pub use commitment::root_of_header;
 pub use documents::DocLeaves;
 pub use laws::{
     dictionary_has_all_terms, documents_have_all_texts, headers_are_in_range, own_headers_are_read,
-    own_leaves_tell_lists, own_strings_stand_in_trees, roots_bind_headers,
+    own_leaves_tell_documents, own_leaves_tell_lists, own_strings_stand_in_trees,
+    roots_bind_headers,
 };
 pub use texts::TextLeaves;
 

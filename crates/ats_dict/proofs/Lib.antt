@@ -2,3 +2,4 @@ pub mod HeaderLemmas
 pub mod Sentinels
 pub mod Packing
 pub mod Finding
+pub mod LeafLemmas

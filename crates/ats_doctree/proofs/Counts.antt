@@ -31,11 +31,11 @@ from_rises : (total len documents : ℕ) (term : List ℕ) (counts : List (List 
 from_rises total len documents term [] rises = tt
 from_rises total len documents term (pair ∷ counts) (less, rises) = (less, from_rises total len documents pair.0 counts rises)
 
-impacts_rise : (total len documents : ℕ) (counts : List (List ℕ × ℕ)) → Rises counts → Rises (with_impacts total len documents counts)
+pub impacts_rise : (total len documents : ℕ) (counts : List (List ℕ × ℕ)) → Rises counts → Rises (with_impacts total len documents counts)
 impacts_rise total len documents [] rises = tt
 impacts_rise total len documents (pair ∷ counts) rises = from_rises total len documents pair.0 counts rises
 
-impact_in_range : (f total len documents : ℕ) → 1 ≤ total → IsImpact (impact f total len documents)
+pub impact_in_range : (f total len documents : ℕ) → 1 ≤ total → IsImpact (impact f total len documents)
 impact_in_range f total len documents some = record { some = omega arith; few = omega (arith, impact_small f total len documents some) }
 
 -- what the impacts of kept counts are

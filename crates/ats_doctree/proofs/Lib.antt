@@ -1,3 +1,5 @@
 pub mod Counts
+pub mod Documents
 pub mod Positions
 pub mod Finding
+pub mod LeafLemmas
