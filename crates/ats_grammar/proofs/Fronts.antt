@@ -106,7 +106,7 @@ both_longest bytes fields others u v left rest front other most most_other =
 pub whole_is_longest : (bytes : List ℕ) (fields : List (List ℕ)) → IsFront bytes fields End [] → IsLongest bytes fields
 whole_is_longest bytes fields front = longest bytes fields End [] front (λ field after e is. is)
 
-fault_same : (f g : ShapeFault) → f.at ≡ g.at → f.kind ≡ g.kind → f ≡ g
+pub fault_same : (f g : ShapeFault) → f.at ≡ g.at → f.kind ≡ g.kind → f ≡ g
 fault_same f g at kind = ap₂ (λ (n : ℕ) (k : ShapeKind). let r : ShapeFault = record { at = n; kind = k } in r) at kind
 
 pub one_fault : (bytes : List ℕ) (f g : ShapeFault) → IsBad bytes f → IsBad bytes g → f ≡ g

@@ -21,3 +21,9 @@ pub fn faults_stay()
     ensures { (bytes more : List ℕ) (fault : ShapeFault) → IsFirst bytes fault → fault.kind ≢ Cut → length bytes + length more ≤ 2 ^ 26
         → IsFirst (bytes ++ more) fault }
 {}
+
+/// Bytes have one fault at most, and none where they spell a proof.
+pub fn bytes_have_one_fault()
+    ensures one { (bytes : List ℕ) (a b : ShapeFault) → IsBad bytes a → IsBad bytes b → a ≡ b }
+    ensures none { (bytes : List ℕ) (fields : List (List ℕ)) (fault : ShapeFault) → Spells bytes fields → IsBad bytes fault → ⊥ }
+{}

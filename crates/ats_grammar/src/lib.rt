@@ -10,7 +10,9 @@
 #![tactic(auto)]
 
 pub use fault::{ShapeFault, ShapeKind};
-pub use laws::{faults_stay, further_bytes_are_trailing, spellings_tell_their_fields};
+pub use laws::{
+    bytes_have_one_fault, faults_stay, further_bytes_are_trailing, spellings_tell_their_fields,
+};
 pub use scanning::scan;
 
 mod advancing;
