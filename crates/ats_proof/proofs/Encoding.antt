@@ -7,7 +7,7 @@ use Rattle.std.specs.List.Sorted.{IsStrictlyIncreasing}
 use Rattle.std.proofs.Math.Seq.{take-add}
 use Rattle.std.proofs.lemmas.Nat.{be_bytes_2, be_bytes_4}
 use Rattle.std.proofs.lemmas.Option.{get_or_from_slice_get}
-use Rattle.std.proofs.lemmas.List.{get_or-drop, get_or-take, get_or_past, length-take-le, length-drop, length-take, drop-drop}
+use Rattle.std.proofs.lemmas.List.{get_or-take, get_or_past, length-take-le, length-drop, length-take, drop-drop}
 use Rattle.std.proofs.lemmas.Bool.{cases_lt}
 use Rattle.ats_tree.specs.Shown.{positions_of}
 use Rattle.ats_lists.specs.declared.entry.Entry.{Entry}
@@ -19,6 +19,7 @@ use Rattle.ats_proof.specs.Parts.{number_in, parts_in, total_size}
 use Rattle.ats_proof.specs.Reading.{term_length_in, entry_size, entry_in, term_size, term_in, id_in, posting_in, posting_size}
 use Rattle.ats_proof.specs.Runs.{leaf_in, leaves_in, shown_entry, shown_term, shown_list, named, AreNamed}
 use Rattle.ats_proof.proofs.Numbers.{AreBytes}
+use Rattle.ats_proof.proofs.Standing.{small-drop}
 use Rattle.ats_proof.proofs.Taking.{part_at, parts_more}
 use Rattle.ats_proof.proofs.Cutting.{behind_term}
 use Rattle.ats_proof.proofs.Runs.{length-parts}
@@ -42,9 +43,6 @@ small-take k bytes small i = elim (cases_lt i k) [
   | inl within ↦ rw (get_or-take k bytes i 0 within) (small i)
   | inr past ↦ rw (get_or_past (take k bytes) i 0 (omega (arith, past, length-take k bytes))) (omega arith)
 ]
-
-pub small-drop : (k : ℕ) (bytes : List ℕ) → AreBytes bytes → AreBytes (drop k bytes)
-small-drop k bytes small i = rw (get_or-drop k bytes i 0) (small (k + i))
 
 pub be_2 : (bytes : List ℕ) → 2 ≤ length bytes → AreBytes bytes → to_be_bytes w16 (number_in 2 bytes) ≡ take 2 bytes
 be_2 bytes room small =

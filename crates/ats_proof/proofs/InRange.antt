@@ -1,10 +1,10 @@
 -- The fields that spell a proof keep its parts in their ranges.
-use Rattle.std.proofs.Common.{◌≡◌, ◌∙◌, ℕ, zero, suc, ◌+◌, ◌^◌, ◌==◌, ◌<◌, ◌≤◌, Bool, true, List, [], ◌∷◌, ◌++◌, length, map, slice_index, slice_index_or, Option, Some, None, refl, sym, ap, subst, append_assoc, add_assoc, zero-add, arith}
+use Rattle.std.proofs.Common.{◌≡◌, ◌∙◌, ℕ, zero, suc, ◌+◌, ◌^◌, ◌==◌, ◌<◌, ◌≤◌, Bool, true, List, [], ◌∷◌, ◌++◌, length, map, slice_index_or, Option, Some, None, sym, ap, subst, append_assoc, map-id, zero-add, arith}
 use Rattle.std.specs.List.{All, AllByRecursion, AllAdjacentBelow, flat_map}
-use Rattle.std.specs.List.Sorted.{IsStrictlyIncreasing}
+use Rattle.std.specs.Option.{ForSome}
+use Rattle.std.specs.List.Sorted.{IsStrictlyIncreasing, IsNonDecreasing}
 use Rattle.std.proofs.lemmas.List.Elements.{All-from_recursion, recursion_from_All}
 use Rattle.std.proofs.lemmas.List.Sorted.{IsNonDecreasingBy-from_all_adjacent}
-use Rattle.std.proofs.lemmas.List.Sums.{sum_by-cons}
 use Rattle.ats_dict.specs.Header.{IsHeader}
 use Rattle.ats_dict.specs.declared.header.Header.{Header}
 use Rattle.ats_lists.specs.declared.entry.Entry.{Entry}
@@ -17,13 +17,13 @@ use Rattle.ats_grammar.specs.Grammar.{any_2, any_4, index, term_length, digests,
 use Rattle.ats_grammar.specs.Front.{Come}
 use Rattle.ats_proof.specs.Parts.{spelled, counted}
 use Rattle.ats_proof.specs.Value.{ShownEntry, ShownTerm, Prefix, TermsSection, Documents, Proof, IsProof, AreDocumentsOf, digest_fields, slot_fields, kind_of_slot, id_fields, posting_fields, entry_fields, doc_fields, term_fields, prefix_fields, section_fields, documents_fields, front_fields, header_fields, number_of_algorithm, present_in}
-use Rattle.ats_proof.specs.Ranges.{AreDigests, IsShownInRange, IsEntryInRange, IsPrefixInRange, IsDictInRange, AreSlotsInRange, AreIdsInRange, IsInRange}
+use Rattle.ats_proof.specs.Ranges.{AreDigests, IsShownInRange, IsEntryInRange, IsPrefixInRange, IsDictInRange, AreSlotsInRange, AreIdsInRange, IsTermInRange, IsSectionInRange, IsDocLeafInRange, AreDocumentsInRange, IsInRange}
 use Rattle.ats_proof.proofs.Numbers.{number-spelled}
 use Rattle.ats_proof.proofs.Standing.{IsRanged}
-use Rattle.ats_proof.proofs.Runs.{runs}
+use Rattle.ats_proof.proofs.Runs.{runs, state_after}
 use Rattle.ats_proof.proofs.Formats.{U, digest_part, id_part, posting_part, slot_part, doc_slot_part, doc_part, entry_part, term_part}
 use Rattle.ats_proof.proofs.Tables.{digests_run, ids_run, entries_run, slots_run, doc_slots_run, docs_run, dict_run, terms_run, prefix_part, prefixes_run}
-use Rattle.ats_proof.proofs.Whole.{next_slot}
+use Rattle.ats_proof.proofs.Whole.{next_slot, present_after}
 use Rattle.ats_proof.proofs.Unique.{after_lists, after_slots, after_terms, fields_in_turn}
 
 -- something is so, and the fields that are left are the table's
@@ -41,11 +41,7 @@ number_holds k low high n kind rest after come =
 
 -- ---- runs
 
--- the state after the parts, and that each part is good at its state
-abbrev state_after : {S X : Type 0} → (S → X → S) → S → List X → S
-state_after next s [] = s
-state_after next s (x ∷ xs) = state_after next (next s x) xs
-
+-- each part is good at its state
 abbrev AreGoodFrom : {S X : Type 0} → (S → X → S) → (S → X → Type 0) → S → List X → Type 0
 AreGoodFrom next Good s [] = Unit {0}
 AreGoodFrom next Good s (x ∷ xs) = Good s x × AreGoodFrom next Good (next s x) xs
@@ -81,16 +77,33 @@ module _ {S X : Type 0} (next : S → X → S) (Good : S → X → Type 0) (P : 
   each : (xs : List X) (s : S) → AreGoodFrom next Good s xs → All P xs
   each xs s good = All-from_recursion P xs (each_by_recursion xs s good)
 
--- numbers rise, where each is above the one before it
-rises : {X : Type 0} (number : X → ℕ) (Good : ℕ → X → Type 0) → ((low : ℕ) (x : X) → Good low x → low ≤ number x)
-    → (xs : List X) (low : ℕ) → AreGoodFrom (λ _ x. number x + 1) Good low xs → IsStrictlyIncreasing (map number xs)
-rises number Good above [] low good k below = absurd (omega (arith, below))
-rises number Good above (x ∷ []) low good k below = absurd (omega (arith, below))
-rises number Good above (x ∷ y ∷ xs) low good zero below = let h = above (number x + 1) y good.1.0 in omega (arith, h)
-rises number Good above (x ∷ y ∷ xs) low good (suc k) below =
-    let e : suc (k + 1) ≡ suc k + 1 = omega arith in
-    let all = map number (x ∷ y ∷ xs) in
-    subst (λ (j : ℕ). slice_index all (suc k) < slice_index all j) e (rises number Good above (y ∷ xs) (number x + 1) good.1 k (omega (arith, below)))
+-- each number stands to the next as their parts' states ask
+module _ {S X : Type 0} (next : S → X → S) (Good : S → X → Type 0) (number : X → ℕ) (R : ℕ → ℕ → Type 0) (told : (s : S) (x y : X) → Good (next s x) y → R (number x) (number y)) where
+  adjacent : (xs : List X) (s : S) → AreGoodFrom next Good s xs → AllAdjacentBelow R (map number xs) (length (map number xs))
+  adjacent [] s good k d below = absurd (omega (arith, below))
+  adjacent (x ∷ []) s good k d below = absurd (omega (arith, below))
+  adjacent (x ∷ y ∷ xs) s good zero d below = told s x y good.1.0
+  adjacent (x ∷ y ∷ xs) s good (suc k) d below =
+      let e : suc (k + 1) ≡ suc k + 1 = omega arith in
+      let all = map number (x ∷ y ∷ xs) in
+      subst (λ (j : ℕ). R (slice_index_or all (suc k) d) (slice_index_or all j d)) e (adjacent (y ∷ xs) (next s x) good.1 k d (omega (arith, below)))
+
+-- a number is at least so much, and something is so
+pub record IsAbove (low number : ℕ) (good : Type 0) : Type 0 where
+  pub above : low ≤ number
+  pub is_good : good
+
+-- parts of which each has a number above that of the part before it
+module _ {X : Type 0} (number : X → ℕ) (P : X → Type 0) where
+  abbrev AreAbove : ℕ → List X → Type 0
+  AreAbove low xs = AreGoodFrom (λ _ x. number x + 1) (λ least x. IsAbove least (number x) (P x)) low xs
+
+  rises : (xs : List X) (low : ℕ) → AreAbove low xs → IsStrictlyIncreasing (map number xs)
+  rises xs low good k below =
+      adjacent (λ _ x. number x + 1) (λ least x. IsAbove least (number x) (P x)) number (λ (i j : ℕ). i < j) (λ _ x y is. let h = is.above in omega (arith, h)) xs low good k 0 below
+
+  each_above : (xs : List X) (low : ℕ) → AreAbove low xs → All P xs
+  each_above xs low good = each (λ _ x. number x + 1) (λ least x. IsAbove least (number x) (P x)) P (λ _ _ is. is.is_good) xs low good
 
 -- ---- the header
 
@@ -130,17 +143,17 @@ one_digest : (s : U) (k : U → Table) (x : List ℕ) (after : List (List ℕ)) 
 one_digest s k x after come = record { is_good = come.0; come = come.1 }
 
 digests_hold : (width low high : ℕ) (xs : List (List ℕ)) (rest : Table) (after : List (List ℕ)) → Come (counted (suc width) digest_fields xs ++ after) (Number (suc width) low high Count (λ n. digests n rest)) End
-    → Holds (AreDigests xs) rest after
+    → Holds (AreCounted low high xs (AreDigests xs)) rest after
 digests_hold width low high xs rest after come =
     let there = subst (λ (f : ℕ → Table). Come (counted (suc width) digest_fields xs ++ after) (Number (suc width) low high Count f) End) (λ i. λ n. digests_run n rest i) come in
     let run = counted_holds digest_part digest_fields (λ _ _. tt) (λ _ x. length x ≡ 32) one_digest width low high Count xs tt (λ _ _. rest) after there in
-    record { is_good = each {S = U} (λ _ _. tt) (λ _ x. length x ≡ 32) (λ x. length x ≡ 32) (λ _ _ good. good) xs tt run.is_good.are_good; come = run.come }
+    record {
+      is_good = record { count = run.is_good.count; are_good = each {S = U} (λ _ _. tt) (λ _ x. length x ≡ 32) (λ x. length x ≡ 32) (λ _ _ good. good) xs tt run.is_good.are_good };
+      come = run.come;
+    }
 
-pub record IsEntryAbove (low : ℕ) (e : ShownEntry) : Type 0 where
-  pub above : low ≤ e.position
-  pub shown : IsShownInRange e
-
-one_entry : (low : ℕ) (k : ℕ → Table) (e : ShownEntry) (after : List (List ℕ)) → Come (entry_fields e ++ after) (entry_part low k) End → Holds (IsEntryAbove low e) (k (e.position + 1)) after
+one_entry : (low : ℕ) (k : ℕ → Table) (e : ShownEntry) (after : List (List ℕ)) → Come (entry_fields e ++ after) (entry_part low k) End
+    → Holds (IsAbove low e.position (IsShownInRange e)) (k (e.position + 1)) after
 one_entry low k e after come =
     let t = e.entry in
     let last : Table = any_4 (λ _. Bytes 32 (k (e.position + 1))) in
@@ -149,7 +162,7 @@ one_entry low k e after come =
     let f = number_holds 3 0 0xffff_ffff t.f Count (λ _. Bytes 32 (k (e.position + 1))) (t.root ∷ after) size.come.1 in
     let most = f.is_good.most in
     record {
-      is_good = record { above = position.is_good.least; shown = record { few = size.is_good.most; number = omega (arith, most); sized = f.come.0 } };
+      is_good = record { above = position.is_good.least; is_good = record { few = size.is_good.most; number = omega (arith, most); sized = f.come.0 } };
       come = f.come.1;
     }
 
@@ -158,20 +171,26 @@ dict_holds : (tra : Bool) (terms : ℕ) (dict : List ShownEntry) (ds after : Lis
 dict_holds tra terms dict ds after come =
     let more = counted 2 digest_fields ds ++ after in
     let there = subst (λ (f : ℕ → Table). Come (counted 2 entry_fields dict ++ more) (Number 2 1 64 Count f) End) (λ i. λ m. dict_run m 0 (dict_digests tra terms) i) come in
-    let run = counted_holds entry_part entry_fields (λ _ e. e.position + 1) IsEntryAbove one_entry 1 1 64 Count dict 0 (λ _ _. dict_digests tra terms) more there in
+    let run = counted_holds entry_part entry_fields (λ _ e. e.position + 1) (λ low e. IsAbove low e.position (IsShownInRange e)) one_entry 1 1 64 Count dict 0 (λ _ _. dict_digests tra terms) more there in
     let sized = digests_hold 1 0 0xffff ds (slots tra terms 0 0) after run.come in
     record {
       is_good = record {
         some = run.is_good.count.least;
         few = run.is_good.count.most;
-        rises = rises (λ (e : ShownEntry). e.position) IsEntryAbove (λ low e good. good.above) dict 0 run.is_good.are_good;
-        each = each (λ (_ : ℕ) (e : ShownEntry). e.position + 1) IsEntryAbove IsShownInRange (λ low e good. good.shown) dict 0 run.is_good.are_good;
-        sized = sized.is_good;
+        rises = rises (λ (e : ShownEntry). e.position) IsShownInRange dict 0 run.is_good.are_good;
+        each = each_above (λ (e : ShownEntry). e.position) IsShownInRange dict 0 run.is_good.are_good;
+        sized = sized.is_good.are_good;
       };
       come = sized.come;
     }
 
 -- ---- the slots
+
+-- no index is below the one before it
+indexes_rise : {S : Type 0} (next : S → Slot → S) (Good : S → Slot → Type 0) → ((s : S) (x y : Slot) → Good (next s x) y → x.index ≤ y.index)
+    → (xs : List Slot) (s : S) → AreGoodFrom next Good s xs → IsNonDecreasing (map (λ (slot : Slot). slot.index) xs)
+indexes_rise next Good above xs s good =
+    IsNonDecreasingBy-from_all_adjacent (λ (i : ℕ). i) (map (λ (slot : Slot). slot.index) xs) (adjacent next Good (λ (slot : Slot). slot.index) (λ (i j : ℕ). i ≤ j) above xs s good)
 
 abbrev IsSlotAbove : ℕ × ℕ → Slot → Type 0
 IsSlotAbove s slot = s.0 ≤ slot.index
@@ -182,21 +201,6 @@ one_slot s k x after come =
     let place = number_holds 1 s.0 0xffff x.index Order (λ i. k (i, s.1 + kind_of_slot x)) after kind.come in
     record { is_good = place.is_good.least; come = place.come }
 
--- no index is below the one before it
-indexes_adjacent : (xs : List Slot) (s : ℕ × ℕ) → AreGoodFrom next_slot IsSlotAbove s xs → AllAdjacentBelow (λ (i j : ℕ). i ≤ j) (map (λ (slot : Slot). slot.index) xs) (length (map (λ (slot : Slot). slot.index) xs))
-indexes_adjacent [] s good k d below = absurd (omega (arith, below))
-indexes_adjacent (x ∷ []) s good k d below = absurd (omega (arith, below))
-indexes_adjacent (x ∷ y ∷ xs) s good zero d below = good.1.0
-indexes_adjacent (x ∷ y ∷ xs) s good (suc k) d below =
-    let e : suc (k + 1) ≡ suc k + 1 = omega arith in
-    let all = map (λ (slot : Slot). slot.index) (x ∷ y ∷ xs) in
-    subst (λ (j : ℕ). slice_index_or all (suc k) d ≤ slice_index_or all j d) e (indexes_adjacent (y ∷ xs) (next_slot s x) good.1 k d (omega (arith, below)))
-
--- how many terms the slots find present
-present_after : (xs : List Slot) (s : ℕ × ℕ) → (state_after next_slot s xs).1 ≡ s.1 + present_in xs
-present_after [] s = omega arith
-present_after (x ∷ xs) s = present_after xs (next_slot s x) ∙ add_assoc s.1 (kind_of_slot x) (present_in xs) ∙ ap (λ (k : ℕ). s.1 + k) (sym (sum_by-cons kind_of_slot x xs))
-
 slots_hold : (tra : Bool) (xs : List Slot) (after : List (List ℕ)) → IsRanged 1 32 (length xs) → Come (flat_map slot_fields xs ++ after) (slots tra (length xs) 0 0) End
     → Holds (AreSlotsInRange xs) (met tra (present_in xs)) after
 slots_hold tra xs after count come =
@@ -206,37 +210,29 @@ slots_hold tra xs after count come =
       is_good = record {
         some = count.least;
         few = count.most;
-        rise = IsNonDecreasingBy-from_all_adjacent (λ (i : ℕ). i) (map (λ (slot : Slot). slot.index) xs) (indexes_adjacent xs (0, 0) run.is_good);
+        rise = indexes_rise next_slot IsSlotAbove (λ _ _ _ above. above) xs (0, 0) run.is_good;
       };
       come = subst (λ (p : ℕ). Come after (met tra p) End) (present_after xs (0, 0) ∙ zero-add (present_in xs)) run.come;
     }
 
 -- ---- the met ids
 
-pub record IsIdAbove (low id : ℕ) : Type 0 where
-  pub above : low ≤ id
-  pub small : id < 2 ^ 32
-
-one_id : (low : ℕ) (k : ℕ → Table) (x : ℕ) (after : List (List ℕ)) → Come (id_fields x ++ after) (id_part low k) End → Holds (IsIdAbove low x) (k (x + 1)) after
+one_id : (low : ℕ) (k : ℕ → Table) (x : ℕ) (after : List (List ℕ)) → Come (id_fields x ++ after) (id_part low k) End → Holds (IsAbove low x (x < 2 ^ 32)) (k (x + 1)) after
 one_id low k x after come =
     let id = number_holds 3 low 0xffff_ffff x Order (λ n. k (n + 1)) after come in
     let most = id.is_good.most in
-    record { is_good = record { above = id.is_good.least; small = omega (arith, most) }; come = id.come }
-
-map-same : (xs : List ℕ) → map (λ (x : ℕ). x) xs ≡ xs
-map-same [] = refl
-map-same (x ∷ xs) = ap (λ (ys : List ℕ). x ∷ ys) (map-same xs)
+    record { is_good = record { above = id.is_good.least; is_good = omega (arith, most) }; come = id.come }
 
 met_holds : (tra : Bool) (present : ℕ) (xs : List ℕ) (after : List (List ℕ)) → Come (counted 4 id_fields xs ++ after) (met tra present) End
     → Holds (AreIdsInRange xs) (prefixes present (documents tra (length xs) present)) after
 met_holds tra present xs after come =
     let there = subst (λ (f : ℕ → Table). Come (counted 4 id_fields xs ++ after) (Number 4 0 65536 Count f) End) (λ i. λ m. ids_run m 0 (prefixes present (documents tra m present)) i) come in
-    let run = counted_holds id_part id_fields (λ _ id. id + 1) IsIdAbove one_id 3 0 65536 Count xs 0 (λ m _. prefixes present (documents tra m present)) after there in
+    let run = counted_holds id_part id_fields (λ _ id. id + 1) (λ low id. IsAbove low id (id < 2 ^ 32)) one_id 3 0 65536 Count xs 0 (λ m _. prefixes present (documents tra m present)) after there in
     record {
       is_good = record {
         few = run.is_good.count.most;
-        small = each (λ (_ id : ℕ). id + 1) IsIdAbove (λ id. id < 2 ^ 32) (λ low id good. good.small) xs 0 run.is_good.are_good;
-        rise = subst IsStrictlyIncreasing (map-same xs) (rises (λ (id : ℕ). id) IsIdAbove (λ low id good. good.above) xs 0 run.is_good.are_good);
+        small = each_above (λ (id : ℕ). id) (λ id. id < 2 ^ 32) xs 0 run.is_good.are_good;
+        rise = subst IsStrictlyIncreasing (map-id xs) (rises (λ (id : ℕ). id) (λ id. id < 2 ^ 32) xs 0 run.is_good.are_good);
       };
       come = run.come;
     }
@@ -264,7 +260,7 @@ one_prefix s k x after come =
         some = run.is_good.count.least;
         few = run.is_good.count.most;
         each = each {S = U} (λ _ _. tt) (λ _ e. IsEntryInRange e) IsEntryInRange (λ _ _ good. good) x.entries tt run.is_good.are_good;
-        sized = sized.is_good;
+        sized = sized.is_good.are_good;
       };
       come = sized.come;
     }
@@ -276,48 +272,71 @@ lists_hold present rest xs after same come =
     let run = run_holds prefix_part prefix_fields (λ _ _. tt) (λ _ x. IsPrefixInRange x) one_prefix xs tt (λ _. rest) after there in
     record { is_good = each {S = U} (λ _ _. tt) (λ _ x. IsPrefixInRange x) IsPrefixInRange (λ _ _ good. good) xs tt run.is_good; come = run.come }
 
--- ---- the documents, which are passed over
+-- ---- the documents
 
-pass_doc : (s : U) (k : U → Table) (x : DocLeaf) (after : List (List ℕ)) → Come (doc_fields x ++ after) (doc_part s k) End → Holds U (k tt) after
-pass_doc s k x after come = record { is_good = tt; come = come.1.1 }
+one_doc : (s : U) (k : U → Table) (x : DocLeaf) (after : List (List ℕ)) → Come (doc_fields x ++ after) (doc_part s k) End → Holds (IsDocLeafInRange x) (k tt) after
+one_doc s k x after come =
+    let leaves = number_holds 3 0 0xffff_ffff x.leaves Count (λ _. Bytes 32 (k tt)) (x.root ∷ after) come in
+    let most = leaves.is_good.most in
+    record { is_good = record { number = omega (arith, most); sized = leaves.come.0 }; come = leaves.come.1 }
 
-pass_term : (low : ℕ) (k : ℕ → Table) (x : ShownTerm) (after : List (List ℕ)) → Come (term_fields x ++ after) (term_part low k) End → Holds U (k (x.position + 1)) after
-pass_term low k x after come =
+one_term : (low : ℕ) (k : ℕ → Table) (x : ShownTerm) (after : List (List ℕ)) → Come (term_fields x ++ after) (term_part low k) End
+    → Holds (IsAbove low x.position (IsTermInRange x)) (k (x.position + 1)) after
+one_term low k x after come =
     let term = x.term.0 in
-    let last : List (List ℕ) = term ∷ spelled 2 x.term.1 ∷ after in
+    let last = term ∷ spelled 2 x.term.1 ∷ after in
     let position = number_holds 3 low 0xffff_ffff x.position Order (λ p. term_length (λ size. Bytes size (any_2 (λ _. k (p + 1))))) (spelled 1 (length term) ∷ last) come in
     let size = number_holds 0 0 64 (length term) Count (λ size. Bytes size (any_2 (λ _. k (x.position + 1)))) last position.come in
-    record { is_good = tt; come = size.come.1.1 }
+    let impact = number_holds 1 0 0xffff x.term.1 Count (λ _. k (x.position + 1)) after size.come.1 in
+    let most = impact.is_good.most in
+    record {
+      is_good = record { above = position.is_good.least; is_good = record { few = size.is_good.most; small = omega (arith, most) } };
+      come = impact.come;
+    }
 
-pass_doc_slot : (low : ℕ) (k : ℕ → Table) (x : Slot) (after : List (List ℕ)) → Come (slot_fields x ++ after) (doc_slot_part low k) End → Holds U (k x.index) after
-pass_doc_slot low k x after come =
+one_doc_slot : (low : ℕ) (k : ℕ → Table) (x : Slot) (after : List (List ℕ)) → Come (slot_fields x ++ after) (doc_slot_part low k) End → Holds (low ≤ x.index) (k x.index) after
+one_doc_slot low k x after come =
     let place = number_holds 1 low 0xffff x.index Order k after come.1 in
-    record { is_good = tt; come = place.come }
+    record { is_good = place.is_good.least; come = place.come }
 
-pass_section : (present : ℕ) (rest : Table) (x : TermsSection) (after : List (List ℕ)) → length x.slots ≡ present → Come (section_fields x ++ after) (term_section present rest) End → Come after rest End
-pass_section present rest x after same come =
+one_section : (present : ℕ) (rest : Table) (x : TermsSection) (after : List (List ℕ)) → length x.slots ≡ present → Come (section_fields x ++ after) (term_section present rest) End
+    → Holds (IsSectionInRange x) rest after
+one_section present rest x after same come =
     let leaves = counted 2 term_fields x.leaves in
     let ds = counted 2 digest_fields x.digests in
     let own = flat_map slot_fields x.slots in
     let joined = subst (λ (fields : List (List ℕ)). Come fields (term_section present rest) End) (append_assoc (leaves ++ ds) own after ∙ append_assoc leaves ds (own ++ after)) come in
     let there = subst (λ (f : ℕ → Table). Come (leaves ++ (ds ++ (own ++ after))) (Number 2 1 64 Count f) End) (λ i. λ n. terms_run n 0 (term_digests present rest) i) joined in
-    let shown = counted_holds term_part term_fields (λ _ t. t.position + 1) (λ _ _. U) pass_term 1 1 64 Count x.leaves 0 (λ _ _. term_digests present rest) (ds ++ (own ++ after)) there in
+    let shown = counted_holds term_part term_fields (λ _ t. t.position + 1) (λ low t. IsAbove low t.position (IsTermInRange t)) one_term 1 1 64 Count x.leaves 0 (λ _ _. term_digests present rest) (ds ++ (own ++ after)) there in
     let sized = digests_hold 1 0 0xffff x.digests (doc_slots present 0 rest) (own ++ after) shown.come in
     let run = subst (λ (t : Table). Come (own ++ after) t End) (ap (λ (n : ℕ). doc_slots n 0 rest) (sym same) ∙ doc_slots_run (length x.slots) 0 rest) sized.come in
-    (run_holds doc_slot_part slot_fields (λ _ t. t.index) (λ _ _. U) pass_doc_slot x.slots 0 (λ _. rest) after run).come
+    let spots = run_holds doc_slot_part slot_fields (λ _ t. t.index) (λ low t. low ≤ t.index) one_doc_slot x.slots 0 (λ _. rest) after run in
+    record {
+      is_good = record {
+        some = shown.is_good.count.least;
+        few = shown.is_good.count.most;
+        rises = rises (λ (t : ShownTerm). t.position) IsTermInRange x.leaves 0 shown.is_good.are_good;
+        each = each_above (λ (t : ShownTerm). t.position) IsTermInRange x.leaves 0 shown.is_good.are_good;
+        sized = sized.is_good.are_good;
+        spots = indexes_rise (λ _ t. t.index) (λ low t. low ≤ t.index) (λ _ _ _ above. above) x.slots 0 spots.is_good;
+      };
+      come = spots.come;
+    }
 
-pass_sections : (present : ℕ) (xs : List TermsSection) (after : List (List ℕ)) → AllByRecursion (λ x. length x.slots ≡ present) xs
-    → Come (flat_map section_fields xs ++ after) (term_sections (length xs) present) End → Come after answer End
-pass_sections present [] after same come = come
-pass_sections present (x ∷ xs) after same come =
+sections_hold : (present : ℕ) (xs : List TermsSection) (after : List (List ℕ)) → AllByRecursion (λ x. length x.slots ≡ present) xs
+    → Come (flat_map section_fields xs ++ after) (term_sections (length xs) present) End → Holds (AllByRecursion IsSectionInRange xs) answer after
+sections_hold present [] after same come = record { is_good = tt; come = come }
+sections_hold present (x ∷ xs) after same come =
     let rest = term_sections (length xs) present in
     let joined = subst (λ (fields : List (List ℕ)). Come fields (term_section present rest) End) (append_assoc (section_fields x) (flat_map section_fields xs) after) come in
-    pass_sections present xs after same.1 (pass_section present rest x (flat_map section_fields xs ++ after) same.0 joined)
+    let first = one_section present rest x (flat_map section_fields xs ++ after) same.0 joined in
+    let more = sections_hold present xs after same.1 first.come in
+    record { is_good = (first.is_good, more.is_good); come = more.come }
 
-pass_documents : (p : Proof) (docs : Option Documents) (after : List (List ℕ)) → AreDocumentsOf p docs
-    → Come (documents_fields docs ++ after) (documents (is_shown docs) (length p.met) (present_in p.slots)) End → Come after answer End
-pass_documents p None after are come = come
-pass_documents p (Some d) after are come =
+documents_hold : (p : Proof) (docs : Option Documents) (after : List (List ℕ)) → AreDocumentsOf p docs
+    → Come (documents_fields docs ++ after) (documents (is_shown docs) (length p.met) (present_in p.slots)) End → Holds (ForSome docs AreDocumentsInRange) answer after
+documents_hold p None after are come = record { is_good = λ d e. absurd cc; come = come }
+documents_hold p (Some d) after are come =
     let present = present_in p.slots in
     let leaves = flat_map doc_fields d.leaves in
     let ds = counted 4 digest_fields d.digests in
@@ -326,10 +345,17 @@ pass_documents p (Some d) after are come =
     let joined = subst (λ (fields : List (List ℕ)). Come fields (documents true (length p.met) present) End) (append_assoc (leaves ++ ds) sections after ∙ append_assoc leaves ds (sections ++ after)) come in
     let there = subst (λ (t : Table). Come (leaves ++ (ds ++ (sections ++ after))) t End)
     (docs_run (length p.met) (doc_digests rest) ∙ ap (λ (n : ℕ). runs doc_part n tt (λ _. doc_digests rest)) (sym are.leaf_each)) joined in
-    let shown = run_holds doc_part doc_fields (λ _ _. tt) (λ _ _. U) pass_doc d.leaves tt (λ _. doc_digests rest) (ds ++ (sections ++ after)) there in
+    let shown = run_holds doc_part doc_fields (λ _ _. tt) (λ _ x. IsDocLeafInRange x) one_doc d.leaves tt (λ _. doc_digests rest) (ds ++ (sections ++ after)) there in
     let sized = digests_hold 3 0 65536 d.digests rest (sections ++ after) shown.come in
     let each_section = subst (λ (n : ℕ). Come (sections ++ after) (term_sections n present) End) (sym are.section_each) sized.come in
-    pass_sections present d.sections after (recursion_from_All (λ x. length x.slots ≡ present) d.sections are.slot_each) each_section
+    let run = sections_hold present d.sections after (recursion_from_All (λ x. length x.slots ≡ present) d.sections are.slot_each) each_section in
+    let ranges : AreDocumentsInRange d = record {
+      each = each {S = U} (λ _ _. tt) (λ _ x. IsDocLeafInRange x) IsDocLeafInRange (λ _ _ good. good) d.leaves tt shown.is_good;
+      few = sized.is_good.count.most;
+      sized = sized.is_good.are_good;
+      sections = All-from_recursion IsSectionInRange d.sections run.is_good;
+    } in
+    record { is_good = λ other e. let same : d ≡ other = cc in subst AreDocumentsInRange same ranges; come = run.come }
 
 -- ---- the whole
 
@@ -343,13 +369,14 @@ in_range bytes p is =
     let own = slots_hold tra p.slots (after_slots p) header.is_good.terms dict.come in
     let ids = met_holds tra present p.met (flat_map prefix_fields p.lists ++ after_lists p) own.come in
     let lists = lists_hold present (documents tra (length p.met) present) p.lists (after_lists p) is.prefix_each ids.come in
-    let left = pass_documents p p.docs (counted 2 id_fields p.answer ++ []) is.documents lists.come in
-    let count = number_holds 1 0 1000 (length p.answer) Count rows (flat_map id_fields p.answer ++ []) left in
+    let docs = documents_hold p p.docs (counted 2 id_fields p.answer ++ []) is.documents lists.come in
+    let count = number_holds 1 0 1000 (length p.answer) Count rows (flat_map id_fields p.answer ++ []) docs.come in
     record {
       front = header.is_good.header;
       terms = dict.is_good;
       spots = own.is_good;
       ids = ids.is_good;
       fronts = lists.is_good;
+      shown = docs.is_good;
       rows = count.is_good.most;
     }

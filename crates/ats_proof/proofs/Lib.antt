@@ -9,6 +9,7 @@ pub mod Cutting
 pub mod Items
 pub mod Whole
 pub mod Answering
+pub mod Beginning
 pub mod Encoding
 pub mod Documents
 pub mod Showing

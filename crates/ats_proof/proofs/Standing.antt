@@ -34,7 +34,7 @@ pub record HasNumber (size low high : ℕ) (rest : ℕ → Table) (fields : List
   pub front : HasFront (spelled size (number_in size bytes) ∷ []) size (rest (number_in size bytes)) fields bytes
   pub range : IsRanged low high (number_in size bytes)
 
-small-drop : (k : ℕ) (bytes : List ℕ) → AreBytes bytes → AreBytes (drop k bytes)
+pub small-drop : (k : ℕ) (bytes : List ℕ) → AreBytes bytes → AreBytes (drop k bytes)
 small-drop k bytes small i = rw (get_or-drop k bytes i 0) (small (k + i))
 
 -- a byte of the first of two joined lists

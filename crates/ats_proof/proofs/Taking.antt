@@ -1,5 +1,5 @@
 -- Taking parts from the front of a run, and reading one of a run of one size.
-use Rattle.std.proofs.Common.{◌≡◌, ◌∙◌, ℕ, zero, suc, ◌+◌, ◌-◌, ◌*◌, ◌<◌, ◌≤◌, List, ◌∷◌, length, map, drop, slice_get, slice_index, Some, zero-mul, sym, ap, subst, arith}
+use Rattle.std.proofs.Common.{◌≡◌, ◌∙◌, ℕ, zero, suc, ◌+◌, ◌-◌, ◌*◌, ◌<◌, ◌≤◌, List, ◌∷◌, length, drop, slice_get, slice_index, Some, zero-mul, sym, ap, subst, arith}
 use Rattle.std.specs.List.{All, AllByRecursion, sum_by}
 use Rattle.std.proofs.lemmas.List.Sums.{sum_by-cons}
 use Rattle.std.specs.List.Sorted.{IsStrictlyIncreasing}
@@ -7,27 +7,21 @@ use Rattle.std.proofs.lemmas.List.{drop-drop, length-take-le, length-drop}
 use Rattle.std.proofs.lemmas.List.Elements.{All-from_recursion}
 use Rattle.ats_proof.specs.Parts.{number_in, parts_in, total_size, counted_size}
 use Rattle.ats_proof.specs.Reading.{digest_size, digest_in, posting_size}
-use Rattle.ats_proof.proofs.Runs.{AreGood}
 
 module _ {X : Type 0} (size : List ℕ → ℕ) (read : List ℕ → X) where
   pub parts_more : (n : ℕ) (bytes : List ℕ) → 0 < n → parts_in size read n bytes ≡ read bytes ∷ parts_in size read (n - 1) (drop (size bytes) bytes)
   parts_more zero bytes some = absurd (omega (arith, some))
   parts_more (suc n) bytes some = let e : n ≡ suc n - 1 = omega arith in ap (λ (k : ℕ). read bytes ∷ parts_in size read k (drop (size bytes) bytes)) e
 
+  -- the parts left after the first
+  pub parts_passed : (n m : ℕ) (bytes rest : List ℕ) → m + 1 ≡ n → rest ≡ drop (size bytes) bytes → parts_in size read m rest ≡ drop 1 (parts_in size read n bytes)
+  parts_passed n m bytes rest count is =
+      let e : suc m ≡ n = omega (arith, count) in
+      subst (λ (k : ℕ). parts_in size read m rest ≡ drop 1 (parts_in size read k bytes)) e (ap (parts_in size read m) is)
+
   pub total_more : (n : ℕ) (bytes : List ℕ) → 0 < n → total_size size n bytes ≡ size bytes + total_size size (n - 1) (drop (size bytes) bytes)
   total_more zero bytes some = absurd (omega (arith, some))
   total_more (suc n) bytes some = let e : n ≡ suc n - 1 = omega arith in ap (λ (k : ℕ). size bytes + total_size size k (drop (size bytes) bytes)) e
-
-  -- numbers that the parts tell rise, where each is above the one before it
-  pub rising : (number : X → ℕ) (n low : ℕ) (bytes : List ℕ) → AreGood size read (λ _ x. number x + 1) (λ least x. least ≤ number x) n low bytes
-      → IsStrictlyIncreasing (map number (parts_in size read n bytes))
-  rising number zero low bytes good k below = absurd (omega (arith, below))
-  rising number (suc zero) low bytes good k below = absurd (omega (arith, below))
-  rising number (suc (suc n)) low bytes good zero below = let h = good.1.0 in omega (arith, h)
-  rising number (suc (suc n)) low bytes good (suc k) below =
-      let e : suc (k + 1) ≡ suc k + 1 = omega arith in
-      let xs = map number (parts_in size read (suc (suc n)) bytes) in
-      subst (λ (j : ℕ). slice_index xs (suc k) < slice_index xs j) e (rising number (suc n) (number (read bytes) + 1) (drop (size bytes) bytes) good.1 k (omega (arith, below)))
 
 module _ {X : Type 0} (k : ℕ) (read : List ℕ → X) where
   pub total_fixed : (n : ℕ) (bytes : List ℕ) → total_size (λ _. k) n bytes ≡ n * k

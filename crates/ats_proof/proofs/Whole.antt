@@ -1,11 +1,8 @@
 -- Bytes whose fields are a proof's spell what they say.
-use Rattle.std.proofs.Common.{◌≡◌, ◌∙◌, ℕ, zero, suc, ◌+◌, ◌==◌, ◌≤◌, Bool, true, false, List, [], ◌∷◌, ◌++◌, length, map, take, drop, refl, sym, ap, subst, append_assoc, append-nil, add_assoc, zero-add, arith}
+use Rattle.std.proofs.Common.{◌≡◌, ◌∙◌, ℕ, zero, suc, ◌+◌, ◌==◌, ◌≤◌, Bool, true, false, List, [], ◌∷◌, ◌++◌, length, take, drop, refl, sym, ap, subst, append_assoc, append-nil, add_assoc, zero-add, arith}
 use Rattle.std.proofs.lemmas.List.Sums.{sum_by-cons}
-use Rattle.std.specs.List.{All, AllByRecursion, concat, flat_map}
-use Rattle.std.specs.List.Sorted.{IsStrictlyIncreasing}
-use Rattle.std.proofs.lemmas.List.{drop-drop}
+use Rattle.std.specs.List.{AllByRecursion, concat, flat_map}
 use Rattle.std.proofs.lemmas.List.Elements.{All-from_recursion}
-use Rattle.ats_tree.specs.Shown.{positions_of}
 use Rattle.ats_grammar.specs.Front.{Come, Spells, IsSpelling}
 use Rattle.ats_grammar.specs.declared.fault.ShapeKind.TheVariants.{Count}
 use Rattle.ats_grammar.specs.Table.{Table, End, Number}
@@ -14,13 +11,11 @@ use Rattle.ats_records.specs.declared.record.Slot.{Slot}
 use Rattle.ats_proof.specs.Parts.{spelled, number_in, parts_in, counted_in, counted_size, counted}
 use Rattle.ats_proof.specs.Value.{IsProof, AreDocumentsOf, digest_fields, slot_fields, id_fields, entry_fields, prefix_fields, doc_fields, section_fields, fields_of, front_fields, header_fields, documents_fields, number_of_algorithm, kind_of_slot, present_in}
 use Rattle.ats_proof.specs.Reading.{digest_in, digest_size, slot_in, slot_size, id_in, id_size, entry_in, entry_size, prefix_in, prefix_size, doc_in, doc_size, section_in, section_size, section_slots_place, header_in, terms_in, dict_digests_place, slots_place, slots_in, met_place, met_in, lists_place, docs_place, doc_digests_place, sections_place, is_tra, answer_place, documents_in, proof_in}
-use Rattle.ats_proof.specs.Runs.{leaves_in, section_rises, sections_rise}
-use Rattle.ats_proof.specs.Told.{HasRoom, AreRising}
+use Rattle.ats_proof.specs.Told.{HasRoom}
 use Rattle.ats_proof.proofs.Numbers.{AreBytes}
-use Rattle.ats_proof.proofs.Taking.{rising}
 use Rattle.ats_proof.proofs.Standing.{Stands, HasFront, nothing, then_number, then_bytes}
-use Rattle.ats_proof.proofs.Runs.{HasPart, AreGood, final, length-parts, then_run, then_counted}
-use Rattle.ats_proof.proofs.Formats.{U, id_part, one_id, row_part, one_row, slot_part, one_slot, doc_part, one_doc, entry_part, one_entry}
+use Rattle.ats_proof.proofs.Runs.{state_after, length-parts, then_run, then_counted}
+use Rattle.ats_proof.proofs.Formats.{id_part, one_id, row_part, one_row, slot_part, one_slot, doc_part, one_doc, entry_part, one_entry}
 use Rattle.ats_proof.proofs.Tables.{rows_run, ids_run, slots_run, docs_run, dict_run, prefix_part, prefixes_run, section_part, sections_run}
 use Rattle.ats_proof.proofs.Sections.{then_digests, one_prefix, one_section}
 
@@ -28,38 +23,14 @@ abbrev pub next_slot : ℕ × ℕ → Slot → ℕ × ℕ
 next_slot s slot = (slot.index, s.1 + kind_of_slot slot)
 
 -- how many terms the slots find present
-present_after : (n : ℕ) (s : ℕ × ℕ) (bytes : List ℕ) → (final slot_size slot_in next_slot n s bytes).1 ≡ s.1 + present_in (parts_in slot_size slot_in n bytes)
-present_after zero s bytes = omega arith
-present_after (suc n) s bytes = present_after n (next_slot s (slot_in bytes)) (drop 3 bytes) ∙ add_assoc s.1 (kind_of_slot (slot_in bytes)) (present_in (parts_in slot_size slot_in n (drop 3 bytes)))
-    ∙ ap (λ (k : ℕ). s.1 + k) (sym (sum_by-cons kind_of_slot (slot_in bytes) (parts_in slot_size slot_in n (drop 3 bytes))))
+pub present_after : (xs : List Slot) (s : ℕ × ℕ) → (state_after next_slot s xs).1 ≡ s.1 + present_in xs
+present_after [] s = omega arith
+present_after (x ∷ xs) s = present_after xs (next_slot s x) ∙ add_assoc s.1 (kind_of_slot x) (present_in xs) ∙ ap (λ (k : ℕ). s.1 + k) (sym (sum_by-cons kind_of_slot x xs))
 
--- positions of the dictionary's leaves rise, and so do met ids
-abbrev pub EntriesRise : List ℕ → Type 0
-EntriesRise bytes = AreGood entry_size entry_in (λ _ e. e.position + 1) (λ low e. low ≤ e.position) (number_in 2 bytes) 0 (drop 2 bytes)
-
-abbrev pub IdsRise : List ℕ → Type 0
-IdsRise bytes = AreGood id_size id_in (λ _ id. id + 1) (λ low id. low ≤ id) (number_in 4 bytes) 0 (drop 4 bytes)
-
-abbrev pub SectionsRise : List ℕ → Type 0
-SectionsRise bytes = sections_rise (present_in (slots_in bytes)) (met_in bytes) (drop (sections_place bytes) bytes)
-
-good_by_recursion : {X : Type 0} (P : X → Type 0) (size : List ℕ → ℕ) (read : List ℕ → X) (n : ℕ) (bytes : List ℕ) → AreGood {S = U} size read (λ _ _. tt) (λ _ x. P x) n tt bytes → AllByRecursion P (parts_in size read n bytes)
-good_by_recursion P size read zero bytes good = tt
-good_by_recursion P size read (suc n) bytes good = (good.0, good_by_recursion P size read n (drop (size bytes) bytes) good.1)
-
-good_all : {X : Type 0} (P : X → Type 0) (size : List ℕ → ℕ) (read : List ℕ → X) (n : ℕ) (bytes : List ℕ) → AreGood {S = U} size read (λ _ _. tt) (λ _ x. P x) n tt bytes → All P (parts_in size read n bytes)
-good_all P size read n bytes good = All-from_recursion P _ (good_by_recursion P size read n bytes good)
-
-slots_each : (present n : ℕ) (bytes : List ℕ) → AreGood {S = U} (section_size present) (section_in present) (λ _ _. tt) (λ _ s. length s.slots ≡ present) n tt bytes
-slots_each present zero bytes = tt
-slots_each present (suc n) bytes = (length-parts slot_size slot_in present (drop (section_slots_place bytes) bytes), slots_each present n (drop (section_size present bytes) bytes))
-
-abbrev IsOff : Bool → Type 0
-IsOff false = Unit {0}
-IsOff true = ⊥
-
-false-true : false ≡ true → ⊥
-false-true e = subst IsOff e tt
+slots_by_recursion : (present n : ℕ) (bytes : List ℕ) → AllByRecursion (λ s. length s.slots ≡ present) (parts_in (section_size present) (section_in present) n bytes)
+slots_by_recursion present zero bytes = tt
+slots_by_recursion present (suc n) bytes =
+    (length-parts slot_size slot_in present (drop (section_slots_place bytes) bytes), slots_by_recursion present n (drop (section_size present bytes) bytes))
 
 -- ---- the front and the header
 
@@ -97,75 +68,62 @@ then_front fields bytes is =
 
 module _ {a fields : List (List ℕ)} {bytes : List ℕ} where
   then_dict : (tra : Bool) (n : ℕ) → HasFront a 113 (dictionary tra n) fields bytes
-      → HasPart (a ++ counted 2 entry_fields (proof_in bytes).dict) (dict_digests_place bytes) (dict_digests tra n) (EntriesRise (drop 113 bytes)) fields bytes
+      → HasFront (a ++ counted 2 entry_fields (proof_in bytes).dict) (dict_digests_place bytes) (dict_digests tra n) fields bytes
   then_dict tra n is =
       let there = subst (λ (f : ℕ → Table). HasFront a 113 (Number 2 1 64 Count f) fields bytes) (λ i. λ m. dict_run m 0 (dict_digests tra n) i) is in
-      then_counted entry_part entry_size entry_in entry_fields (λ _ e. e.position + 1) (λ low e. low ≤ e.position) one_entry 0 (λ _ _. dict_digests tra n) there
+      then_counted entry_part entry_size entry_in entry_fields (λ _ e. e.position + 1) one_entry 0 (λ _ _. dict_digests tra n) there
 
   then_slots : (tra : Bool) → HasFront a (slots_place bytes) (slots tra (terms_in bytes) 0 0) fields bytes
       → HasFront (a ++ flat_map slot_fields (slots_in bytes)) (met_place bytes) (met tra (present_in (slots_in bytes))) fields bytes
   then_slots tra is =
       let there = subst (λ (t : Table). HasFront a (slots_place bytes) t fields bytes) (slots_run tra (terms_in bytes) 0 0) is in
-      let run = then_run slot_part slot_size slot_in slot_fields next_slot (λ _ _. U) one_slot (terms_in bytes) (0, 0) (λ s. met tra s.1) there in
+      let run = then_run slot_part slot_size slot_in slot_fields next_slot one_slot (terms_in bytes) (0, 0) (λ s. met tra s.1) there in
       subst (λ (p : ℕ). HasFront (a ++ flat_map slot_fields (slots_in bytes)) (met_place bytes) (met tra p) fields bytes)
-      (present_after (terms_in bytes) (0, 0) (drop (slots_place bytes) bytes) ∙ zero-add (present_in (slots_in bytes))) run.front
+      (present_after (slots_in bytes) (0, 0) ∙ zero-add (present_in (slots_in bytes))) run
 
   then_met : (tra : Bool) (present : ℕ) → HasFront a (met_place bytes) (met tra present) fields bytes
-      → HasPart (a ++ counted 4 id_fields (proof_in bytes).met) (lists_place bytes) (prefixes present (documents tra (met_in bytes) present)) (IdsRise (drop (met_place bytes) bytes)) fields bytes
+      → HasFront (a ++ counted 4 id_fields (proof_in bytes).met) (lists_place bytes) (prefixes present (documents tra (met_in bytes) present)) fields bytes
   then_met tra present is =
       let there = subst (λ (f : ℕ → Table). HasFront a (met_place bytes) (Number 4 0 65536 Count f) fields bytes) (λ i. λ m. ids_run m 0 (prefixes present (documents tra m present)) i) is in
-      then_counted id_part id_size id_in id_fields (λ _ id. id + 1) (λ low id. low ≤ id) one_id 0 (λ m _. prefixes present (documents tra m present)) there
+      then_counted id_part id_size id_in id_fields (λ _ id. id + 1) one_id 0 (λ m _. prefixes present (documents tra m present)) there
 
   then_lists : {rest : Table} → HasFront a (lists_place bytes) (prefixes (present_in (slots_in bytes)) rest) fields bytes
       → HasFront (a ++ flat_map prefix_fields (proof_in bytes).lists) (docs_place bytes) rest fields bytes
   then_lists {rest} is =
       let there = subst (λ (t : Table). HasFront a (lists_place bytes) t fields bytes) (prefixes_run (present_in (slots_in bytes)) rest) is in
-      (then_run prefix_part prefix_size prefix_in prefix_fields (λ _ _. tt) (λ _ _. U) one_prefix (present_in (slots_in bytes)) tt (λ _. rest) there).front
+      then_run prefix_part prefix_size prefix_in prefix_fields (λ _ _. tt) one_prefix (present_in (slots_in bytes)) tt (λ _. rest) there
 
   then_docs : HasFront a (docs_place bytes) (documents true (met_in bytes) (present_in (slots_in bytes))) fields bytes
-      → HasPart (a ++ documents_fields (documents_in true bytes)) (answer_place true bytes) answer (SectionsRise bytes) fields bytes
+      → HasFront (a ++ documents_fields (documents_in true bytes)) (answer_place true bytes) answer fields bytes
   then_docs is =
       let present = present_in (slots_in bytes) in
       let rest = term_sections (met_in bytes) present in
       let there = subst (λ (t : Table). HasFront a (docs_place bytes) t fields bytes) (docs_run (met_in bytes) (doc_digests rest)) is in
-      let leaves = then_run doc_part doc_size doc_in doc_fields (λ _ _. tt) (λ _ _. U) one_doc (met_in bytes) tt (λ _. doc_digests rest) there in
-      let digests = then_digests rest leaves.front in
-      let sections = then_run (section_part present) (section_size present) (section_in present) section_fields (λ _ _. tt) (λ _ x. section_rises x) (one_section present) (met_in bytes) tt (λ _. answer)
+      let leaves = then_run doc_part doc_size doc_in doc_fields (λ _ _. tt) one_doc (met_in bytes) tt (λ _. doc_digests rest) there in
+      let digests = then_digests rest leaves in
+      let sections = then_run (section_part present) (section_size present) (section_in present) section_fields (λ _ _. tt) (one_section present) (met_in bytes) tt (λ _. answer)
       (subst (λ (t : Table). HasFront (a ++ flat_map doc_fields (parts_in doc_size doc_in (met_in bytes) (drop (docs_place bytes) bytes)) ++ counted 4 digest_fields (counted_in 4 digest_size digest_in (drop (doc_digests_place bytes) bytes)))
       (sections_place bytes) t fields bytes) (sections_run (met_in bytes) present) digests) in
       let x = flat_map doc_fields (parts_in doc_size doc_in (met_in bytes) (drop (docs_place bytes) bytes)) in
       let y = counted 4 digest_fields (counted_in 4 digest_size digest_in (drop (doc_digests_place bytes) bytes)) in
       let z = flat_map section_fields (parts_in (section_size present) (section_in present) (met_in bytes) (drop (sections_place bytes) bytes)) in
-      let whole = subst (λ (xs : List (List ℕ)). HasFront xs (answer_place true bytes) answer fields bytes) (append_assoc (a ++ x) y z ∙ append_assoc a x (y ++ z) ∙ ap (λ (xs : List (List ℕ)). a ++ xs) (sym (append_assoc x y z))) sections.front in
-      record { front = whole; is_good = good_all section_rises (section_size present) (section_in present) (met_in bytes) (drop (sections_place bytes) bytes) sections.is_good }
+      subst (λ (xs : List (List ℕ)). HasFront xs (answer_place true bytes) answer fields bytes) (append_assoc (a ++ x) y z ∙ append_assoc a x (y ++ z) ∙ ap (λ (xs : List (List ℕ)). a ++ xs) (sym (append_assoc x y z))) sections
 
   then_documents : (tra : Bool) → HasFront a (docs_place bytes) (documents tra (met_in bytes) (present_in (slots_in bytes))) fields bytes
-      → HasPart (a ++ documents_fields (documents_in tra bytes)) (answer_place tra bytes) answer (tra ≡ true → SectionsRise bytes) fields bytes
-  then_documents true is = let docs = then_docs is in record { front = docs.front; is_good = λ _. docs.is_good }
-  then_documents false is = record {
-    front = subst (λ (xs : List (List ℕ)). HasFront xs (docs_place bytes) answer fields bytes) (sym (append-nil a)) is;
-    is_good = λ e. absurd (false-true e);
-  }
+      → HasFront (a ++ documents_fields (documents_in tra bytes)) (answer_place tra bytes) answer fields bytes
+  then_documents true is = then_docs is
+  then_documents false is = subst (λ (xs : List (List ℕ)). HasFront xs (docs_place bytes) answer fields bytes) (sym (append-nil a)) is
 
   then_answer : {k : ℕ} → HasFront a k answer fields bytes → HasFront (a ++ counted 2 id_fields (counted_in 2 id_size id_in (drop k bytes))) (k + counted_size 2 id_size (drop k bytes)) End fields bytes
   then_answer {k} is =
       let there = subst (λ (f : ℕ → Table). HasFront a k (Number 2 0 1000 Count f) fields bytes) (λ i. λ m. rows_run m i) is in
-      (then_counted row_part id_size id_in id_fields (λ _ _. tt) (λ _ _. U) one_row tt (λ _ _. End) there).front
+      then_counted row_part id_size id_in id_fields (λ _ _. tt) one_row tt (λ _ _. End) there
 
 -- ---- the whole
 
 pub record IsRead (fields : List (List ℕ)) (bytes : List ℕ) : Type 0 where
   pub front : HasFront (fields_of (proof_in bytes)) (answer_place (is_tra bytes) bytes + counted_size 2 id_size (drop (answer_place (is_tra bytes) bytes) bytes)) End fields bytes
   pub docs_room : docs_place bytes ≤ length bytes
-  pub are_rising : AreRising bytes
-
-entries_positions : (n : ℕ) (bytes : List ℕ) → map (λ e. e.position) (parts_in entry_size entry_in n bytes) ≡ positions_of (leaves_in 36 n bytes)
-entries_positions zero bytes = refl
-entries_positions (suc n) bytes = ap (λ (xs : List ℕ). number_in 4 bytes ∷ xs) (entries_positions n (drop (entry_size bytes) bytes))
-
-ids_themselves : (n : ℕ) (bytes : List ℕ) → map (λ (id : ℕ). id) (parts_in id_size id_in n bytes) ≡ parts_in id_size id_in n bytes
-ids_themselves zero bytes = refl
-ids_themselves (suc n) bytes = ap (λ (xs : List ℕ). number_in 4 bytes ∷ xs) (ids_themselves n (drop 4 bytes))
 
 pub is_read : (fields : List (List ℕ)) (bytes : List ℕ) → Stands proof fields bytes → IsRead fields bytes
 is_read fields bytes is =
@@ -173,23 +131,9 @@ is_read fields bytes is =
     let tra = is_tra bytes in
     let begun = subst (λ (n : ℕ). HasFront (front_fields (documents_in tra bytes) ++ header_fields (header_in bytes) ++ spelled 2 n ∷ []) 113 (dictionary tra (terms_in bytes)) fields bytes)
     (sym (length-parts slot_size slot_in (terms_in bytes) (drop (slots_place bytes) bytes))) terms.front in
-    let dict = then_dict tra (terms_in bytes) begun in
-    let dict_digests = then_digests (slots tra (terms_in bytes) 0 0) dict.front in
-    let met = then_met tra (present_in (slots_in bytes)) (then_slots tra dict_digests) in
-    let lists = then_lists met.front in
-    let documents = then_documents tra lists in
-    let first = drop 113 bytes in
-    let ids = drop (met_place bytes) bytes in
-    record {
-      front = then_answer documents.front;
-      docs_room = lists.room;
-      are_rising = record {
-        entries = subst IsStrictlyIncreasing (entries_positions (number_in 2 first) (drop 2 first) ∙ ap (λ (xs : List ℕ). positions_of (leaves_in 36 (number_in 2 first) xs)) (drop-drop 2 113 bytes))
-            (rising entry_size entry_in (λ e. e.position) (number_in 2 first) 0 (drop 2 first) dict.is_good);
-        ids = subst IsStrictlyIncreasing (ids_themselves (number_in 4 ids) (drop 4 ids)) (rising id_size id_in (λ id. id) (number_in 4 ids) 0 (drop 4 ids) met.is_good);
-        sections = documents.is_good;
-      };
-    }
+    let dict = then_digests (slots tra (terms_in bytes) 0 0) (then_dict tra (terms_in bytes) begun) in
+    let lists = then_lists (then_met tra (present_in (slots_in bytes)) (then_slots tra dict)) in
+    record { front = then_answer (then_documents tra lists); docs_room = lists.room }
 
 -- ---- bytes that spell a proof spell what is read from them
 
@@ -200,9 +144,8 @@ nothing_after (f ∷ after) come = absurd come.0
 pub record IsWhole (bytes : List ℕ) : Type 0 where
   pub is : IsProof bytes (proof_in bytes)
   pub room : HasRoom bytes
-  pub are_rising : AreRising bytes
 
-documents_whole : (tra : Bool) (bytes : List ℕ) → AreDocumentsOf (proof_in bytes) (documents_in tra bytes)
+pub documents_whole : (tra : Bool) (bytes : List ℕ) → AreDocumentsOf (proof_in bytes) (documents_in tra bytes)
 documents_whole false bytes = tt
 documents_whole true bytes =
     let n = met_in bytes in
@@ -211,7 +154,7 @@ documents_whole true bytes =
     record {
       leaf_each = length-parts doc_size doc_in n (drop (docs_place bytes) bytes) ∙ sym ids;
       section_each = length-parts (section_size present) (section_in present) n (drop (sections_place bytes) bytes) ∙ sym ids;
-      slot_each = good_all (λ s. length s.slots ≡ present) (section_size present) (section_in present) n (drop (sections_place bytes) bytes) (slots_each present n (drop (sections_place bytes) bytes));
+      slot_each = All-from_recursion (λ s. length s.slots ≡ present) _ (slots_by_recursion present n (drop (sections_place bytes) bytes));
     }
 
 pub whole : (bytes : List ℕ) → AreBytes bytes → IsSpelling bytes → IsWhole bytes
@@ -228,5 +171,4 @@ whole bytes small spelling =
         documents = documents_whole (is_tra bytes) bytes;
       };
       room = record { few = spelling.spells.few; docs = read.docs_room; answer = read.front.room };
-      are_rising = read.are_rising;
     }

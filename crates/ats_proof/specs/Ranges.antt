@@ -1,11 +1,14 @@
 -- What the parts of a proof keep, whatever bytes spell it.
 use Rattle.std.specs.Prelude.{◌≡◌, ◌<◌, ◌≤◌, ◌^◌, ℕ, List, length, map}
 use Rattle.std.specs.List.{All}
+use Rattle.std.specs.Option.{ForSome}
 use Rattle.std.specs.List.Sorted.{IsStrictlyIncreasing, IsNonDecreasing}
 use Rattle.ats_lists.specs.declared.entry.Entry.{Entry}
 use Rattle.ats_dict.specs.Header.{IsHeader}
+use Rattle.ats_doctree.specs.declared.doc_leaf.DocLeaf.{DocLeaf}
 use Rattle.ats_records.specs.declared.record.Slot.{Slot}
-use Rattle.ats_proof.specs.Value.{ShownEntry, Prefix, Proof}
+use Rattle.ats_proof.specs.Value.{ShownEntry, Prefix, ShownTerm, TermsSection, Documents, Proof}
+use Rattle.ats_proof.specs.Runs.{section_rises}
 
 -- each digest has 32 bytes
 abbrev pub AreDigests : List (List ℕ) → Type 0
@@ -49,11 +52,38 @@ pub record AreIdsInRange (met : List ℕ) : Type 0 where
   pub small : All (λ id. id < 2 ^ 32) met
   pub rise : IsStrictlyIncreasing met
 
--- what all parts that any proof has keep
+-- a term of at most 64 bytes and an impact of 2
+pub record IsTermInRange (shown : ShownTerm) : Type 0 where
+  pub few : length shown.term.0 ≤ 64
+  pub small : shown.term.1 < 2 ^ 16
+
+-- 1 to 64 leaves whose positions rise, digests, and slots whose indexes never fall
+pub record IsSectionInRange (section : TermsSection) : Type 0 where
+  pub some : 1 ≤ length section.leaves
+  pub few : length section.leaves ≤ 64
+  pub rises : section_rises section
+  pub each : All IsTermInRange section.leaves
+  pub sized : AreDigests section.digests
+  pub spots : IsNonDecreasing (map (λ (slot : Slot). slot.index) section.slots)
+
+-- a number of leaves of 4 bytes and a root of 32
+pub record IsDocLeafInRange (leaf : DocLeaf) : Type 0 where
+  pub number : leaf.leaves < 2 ^ 32
+  pub sized : length leaf.root ≡ 32
+
+-- leaves, at most 65,536 digests, and terms sections
+pub record AreDocumentsInRange (docs : Documents) : Type 0 where
+  pub each : All IsDocLeafInRange docs.leaves
+  pub few : length docs.digests ≤ 65536
+  pub sized : AreDigests docs.digests
+  pub sections : All IsSectionInRange docs.sections
+
+-- what all parts of a proof keep
 pub record IsInRange (proof : Proof) : Type 0 where
   pub front : IsHeader proof.header.documents proof.header.dict_leaves proof.header.dict_root proof.header.docs_root proof.header.texts_root
   pub terms : IsDictInRange proof.dict proof.dict_digests
   pub spots : AreSlotsInRange proof.slots
   pub ids : AreIdsInRange proof.met
   pub fronts : All IsPrefixInRange proof.lists
+  pub shown : ForSome proof.docs AreDocumentsInRange
   pub rows : length proof.answer ≤ 1000

@@ -1,25 +1,16 @@
 -- What a view keeps of its bytes: where the parts begin.
 use Rattle.std.specs.Prelude.{◌≡◌, ◌≤◌, ◌+◌, ◌^◌, ℕ, Bool, true, List, length, drop}
-use Rattle.std.specs.List.Sorted.{IsStrictlyIncreasing}
-use Rattle.ats_tree.specs.Shown.{positions_of}
 use Rattle.ats_proof.specs.declared.places.Begun.{Begun}
 use Rattle.ats_proof.specs.declared.places.Ended.{Ended}
-use Rattle.ats_proof.specs.Parts.{number_in, counted_in, counted_size}
+use Rattle.ats_proof.specs.Parts.{counted_size}
 use Rattle.ats_proof.specs.Value.{items_of, items_of_documents, present_in}
-use Rattle.ats_proof.specs.Reading.{id_size, id_in, is_tra, terms_in, slots_in, met_in, dict_digests_place, slots_place, met_place, lists_place, docs_place, doc_digests_place, sections_place, answer_place, documents_in, proof_in}
-use Rattle.ats_proof.specs.Runs.{leaves_in, sections_rise}
+use Rattle.ats_proof.specs.Reading.{id_size, is_tra, terms_in, slots_in, met_in, dict_digests_place, slots_place, met_place, lists_place, docs_place, doc_digests_place, sections_place, answer_place, documents_in, proof_in}
 
 -- the bytes have room for their parts
 pub record HasRoom (bytes : List ℕ) : Type 0 where
   pub few : length bytes ≤ 2 ^ 26
   pub docs : docs_place bytes ≤ length bytes
   pub answer : answer_place (is_tra bytes) bytes + counted_size 2 id_size (drop (answer_place (is_tra bytes) bytes) bytes) ≤ length bytes
-
--- positions rise, and met ids
-pub record AreRising (bytes : List ℕ) : Type 0 where
-  pub entries : IsStrictlyIncreasing (positions_of (leaves_in 36 (number_in 2 (drop 113 bytes)) (drop 115 bytes)))
-  pub ids : IsStrictlyIncreasing (counted_in 4 id_size id_in (drop (met_place bytes) bytes))
-  pub sections : is_tra bytes ≡ true → sections_rise (present_in (slots_in bytes)) (met_in bytes) (drop (sections_place bytes) bytes)
 
 -- up to the prefixes
 pub record IsBegun (bytes : List ℕ) (begun : Begun) : Type 0 where
@@ -41,7 +32,6 @@ pub record IsEnded (bytes : List ℕ) (tra : Bool) (ended : Ended) : Type 0 wher
 -- the whole
 pub record IsPlaced (bytes : List ℕ) (tra : Bool) (begun : Begun) (ended : Ended) (docs : ℕ) (items : ℕ) : Type 0 where
   pub room : HasRoom bytes
-  pub are_rising : AreRising bytes
   pub same : tra ≡ is_tra bytes
   pub first : IsBegun bytes begun
   pub rest : IsEnded bytes tra ended

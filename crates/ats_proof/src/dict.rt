@@ -22,12 +22,19 @@ impl<'a> DictView<'a> {
     ghost use Rattle.ats_proof.specs.Runs.{shown_entry};
     ghost use Rattle.ats_proof.specs.Seen.{entries_of, entry_of, leaves_of};
 
+    // Each leaf left is as it is hashed.
+    pub(crate) fn are_shown(&self)
+        ensures { leaves_of self.now.leaves ≡ map shown_entry (entries_of self.now) }
+    {
+        are_bytes(self.leaves.bytes);
+    }
+
     /// The first leaf left, `None` where none is left.
     pub fn leaf(&self) -> Option<DictLeaf<'a>>
         ensures leaf { option_map entry_of result ≡ option_map (λ e. e.entry) (slice_get (entries_of self.now) 0) }
         ensures shown { leaves_of self.now.leaves ≡ map shown_entry (entries_of self.now) }
     {
-        are_bytes(self.leaves.bytes);
+        self.are_shown();
         if self.leaves.left == 0 {
             return None;
         }

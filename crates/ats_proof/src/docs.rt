@@ -5,7 +5,7 @@ ghost use Rattle.ats_proof.specs.Parts.{parts_in, total_size};
 ghost use Rattle.ats_proof.specs.Reading.{section_size, section_in};
 ghost use Rattle.ats_proof.specs.Runs.{sections_rise};
 
-use crate::bytes::{are_bytes, digest, number_2, number_4};
+use crate::bytes::{digest, number_2, number_4};
 use crate::digests::counted_digests_2;
 use crate::docs_cursor::DocsCursor;
 use crate::leaves::LeafRun;
@@ -140,7 +140,7 @@ impl<'a> DocView<'a> {
         ensures shown { leaves_of result.leaves ≡ map shown_term (section_of self.now).leaves }
         ensures digests { digests_of result.digests ≡ (section_of self.now).digests }
     {
-        are_bytes(self.terms.leaves.bytes);
+        self.terms.are_shown();
         self.terms
     }
 

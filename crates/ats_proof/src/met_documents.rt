@@ -8,8 +8,10 @@ use crate::docs_cursor::DocsCursor;
 use crate::view::ProofView;
 
 impl<'a> ProofView<'a> {
+    ghost use Rattle.std.specs.Prelude.{length};
     ghost use Rattle.ats_proof.specs.Runs.{shown_docs};
     ghost use Rattle.ats_proof.specs.SeenDocs.{documents_of, whole_leaves_of, ids_of};
+    ghost use Rattle.ats_proof.specs.Value.{AreDocuments, present_in};
     ghost use Rattle.ats_proof.specs.Views.{proof_of};
 
     // The documents of a proof that shows them.
@@ -45,6 +47,7 @@ impl<'a> ProofView<'a> {
         ensures documents { IfSome result (λ docs. (proof_of self.now).docs ≡ Some (documents_of docs)) }
         ensures met { IfSome result (λ docs. ids_of docs ≡ (proof_of self.now).met) }
         ensures whole { IfSome result (λ docs. whole_leaves_of docs ≡ shown_docs (proof_of self.now).met (documents_of docs).leaves) }
+        ensures each { IfSome result (λ docs. AreDocuments (length (proof_of self.now).met) (present_in (proof_of self.now).slots) (documents_of docs)) }
     {
         if self.tra {
             return Some(self.shown_documents());

@@ -1,6 +1,8 @@
 //! Where the parts of a proof begin in its bytes.
 
-ghost use Rattle.std.specs.Prelude.{◌≡◌, ◌≤◌, ◌<◌, ◌+◌, ◌*◌, ◌^◌, length, drop};
+ghost use Rattle.std.specs.Prelude.{◌≡◌, ◌≤◌, ◌<◌, ◌+◌, ◌*◌, ◌^◌, true, length, drop};
+ghost use Rattle.ats_proof.specs.Reading.{dict_digests_place, slots_place, doc_digests_place, sections_place, answer_place};
+ghost use Rattle.ats_proof.specs.Told.{HasRoom};
 
 use crate::bytes::{number_2, number_4};
 use crate::sizes::{
@@ -31,8 +33,35 @@ pub(crate) struct Ended {
     pub(crate) items: u64,
 }
 
+// Where the digests of the dictionary begin.
+fn dict_digests_at(bytes: &[u8]) -> usize
+    requires { HasRoom bytes.now }
+    ensures { result ≡ dict_digests_place bytes.now }
+{
+    113 + counted_leaves_size(36, bytes.split_at(113).1)
+}
+
+// Where the slots begin, behind those digests.
+fn slots_at(bytes: &[u8], dict_digests: usize) -> usize
+    requires room { HasRoom bytes.now }
+    requires at { dict_digests ≡ dict_digests_place bytes.now }
+    ensures { result ≡ slots_place bytes.now }
+{
+    dict_digests + counted_digests_size_2(bytes.split_at(dict_digests).1)
+}
+
+// Where the terms sections begin, behind the digests of the documents.
+fn sections_at(bytes: &[u8], doc_digests: usize) -> usize
+    requires few { length bytes.now ≤ 2 ^ 26 }
+    requires room { answer_place true bytes.now ≤ length bytes.now }
+    requires at { doc_digests ≡ doc_digests_place bytes.now }
+    ensures { result ≡ sections_place bytes.now }
+{
+    doc_digests + counted_digests_size_4(bytes.split_at(doc_digests).1)
+}
+
 impl Begun {
-    ghost use Rattle.ats_proof.specs.Told.{HasRoom, IsBegun};
+    ghost use Rattle.ats_proof.specs.Told.{IsBegun};
 
     /// The parts up to the prefixes.
     pub(crate) fn of(bytes: &[u8]) -> Begun
@@ -40,8 +69,8 @@ impl Begun {
         ensures { IsBegun bytes.now result }
     {
         let terms = u32::from(number_2(bytes.split_at(111).1));
-        let dict_digests = 113 + counted_leaves_size(36, bytes.split_at(113).1);
-        let slots = dict_digests + counted_digests_size_2(bytes.split_at(dict_digests).1);
+        let dict_digests = dict_digests_at(bytes);
+        let slots = slots_at(bytes, dict_digests);
         let met_at = slots + terms as usize * 3;
         let met = number_4(bytes.split_at(met_at).1);
         Begun {
@@ -57,10 +86,10 @@ impl Begun {
 }
 
 impl Ended {
-    ghost use Rattle.ats_proof.specs.Reading.{is_tra, docs_place, doc_digests_place, sections_place, answer_place, documents_in, met_in, slots_in};
-    ghost use Rattle.ats_proof.specs.Told.{HasRoom, IsEnded};
+    ghost use Rattle.ats_proof.specs.Reading.{is_tra, docs_place, documents_in, met_in, slots_in};
+    ghost use Rattle.ats_proof.specs.Told.{IsEnded};
     ghost use Rattle.ats_proof.specs.Value.{items_of_documents, present_in};
-    ghost use Rattle.std.specs.Prelude.{true, false};
+    ghost use Rattle.std.specs.Prelude.{false};
 
     // The parts behind the prefixes where documents are shown.
     fn of_tra(bytes: &[u8], docs: usize, met: u32, present: u32) -> Ended
@@ -74,7 +103,7 @@ impl Ended {
     {
         let doc_digests = docs + met as usize * 36;
         let digests = bytes.split_at(doc_digests).1;
-        let sections = doc_digests + counted_digests_size_4(digests);
+        let sections = sections_at(bytes, doc_digests);
         let sum = sections_sum(present, met, bytes.split_at(sections).1);
         Ended {
             doc_digests,

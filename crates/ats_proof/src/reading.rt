@@ -3,6 +3,9 @@
 ghost use Rattle.std.specs.Prelude.{◌≡◌, Err, IsOkAnd, IfOk, IfErr};
 ghost use Rattle.ats_grammar.specs.declared.fault.ShapeFault.{ShapeFault};
 ghost use Rattle.ats_grammar.specs.Front.{IsBad, IsSpelling};
+ghost use Rattle.ats_proof.specs.Reading.{proof_in};
+ghost use Rattle.ats_proof.specs.Told.{HasRoom};
+ghost use Rattle.ats_proof.specs.Value.{IsProof};
 
 use crate::bytes::{number_1, number_2};
 use crate::places::{Begun, Ended};
@@ -10,8 +13,15 @@ use crate::sizes::lists_sum;
 use crate::view::ProofView;
 use ats_grammar::{ShapeFault, scan};
 
+// What bytes are that spell a proof.
+fn are_a_proof(bytes: &[u8])
+    requires { IsSpelling bytes.now }
+    ensures proof { IsProof bytes.now (proof_in bytes.now) }
+    ensures room { HasRoom bytes.now }
+{}
+
 impl<'a> ProofView<'a> {
-    ghost use Rattle.ats_proof.specs.Value.{Proof, IsProof};
+    ghost use Rattle.ats_proof.specs.Value.{Proof};
     ghost use Rattle.ats_proof.specs.Views.{proof_of, bytes_of};
 
     // The view of bytes that spell a proof.
@@ -20,6 +30,7 @@ impl<'a> ProofView<'a> {
         ensures proof { IsProof bytes.now (proof_of result) }
         ensures lent { bytes_of result ≡ bytes.now }
     {
+        are_a_proof(bytes);
         let tra = number_1(bytes.split_at(5).1) == 1;
         let begun = Begun::of(bytes);
         let lists = lists_sum(begun.present, bytes.split_at(begun.lists).1);

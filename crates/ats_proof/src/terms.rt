@@ -1,8 +1,8 @@
 //! What a proof shows of the terms of a document.
 
-ghost use Rattle.std.specs.Prelude.{◌≡◌, slice_get, option_map};
+ghost use Rattle.std.specs.Prelude.{◌≡◌, ◌<◌, ◌+◌, ◌^◌, length, slice_get, option_map, map, drop};
 
-use crate::bytes::number_2;
+use crate::bytes::{are_bytes, number_2};
 use crate::digests::DigestRun;
 use crate::leaves::LeafRun;
 use ats_hash::Steps;
@@ -19,12 +19,23 @@ pub struct TermsView<'a> {
 }
 
 impl<'a> TermsView<'a> {
+    ghost use Rattle.ats_proof.specs.Runs.{shown_term};
+    ghost use Rattle.ats_proof.specs.Seen.{leaves_of};
     ghost use Rattle.ats_proof.specs.SeenTerms.{terms_of, term_of};
+
+    // Each leaf left is as it is hashed.
+    pub(crate) fn are_shown(&self)
+        ensures { leaves_of self.now.leaves ≡ map shown_term (terms_of self.now) }
+    {
+        are_bytes(self.leaves.bytes);
+    }
 
     /// The first leaf left, `None` where none is left.
     pub fn leaf(&self) -> Option<TermLeaf<'a>>
-        ensures { option_map term_of result ≡ option_map (λ t. t.term) (slice_get (terms_of self.now) 0) }
+        ensures leaf { option_map term_of result ≡ option_map (λ t. t.term) (slice_get (terms_of self.now) 0) }
+        ensures shown { leaves_of self.now.leaves ≡ map shown_term (terms_of self.now) }
     {
+        self.are_shown();
         if self.leaves.left == 0 {
             return None;
         }
@@ -39,6 +50,7 @@ impl<'a> TermsView<'a> {
 
 impl<'a> Revealed<'a> for TermsView<'a> {
     ghost use Rattle.ats_proof.specs.Seen.{leaves_of, digests_of, term_front};
+    ghost use Rattle.ats_proof.specs.SeenTerms.{terms_of};
 
     ghost shown = { λ s. leaves_of s.leaves };
 
@@ -59,7 +71,14 @@ impl<'a> Revealed<'a> for TermsView<'a> {
         self.leaves.first().back
     }
 
-    fn pass_leaf(&mut self, steps: &mut Steps) {
+    fn pass_leaf(&mut self, steps: &mut Steps)
+        requires left { 0 < length (leaves_of self.old.leaves) }
+        requires room { steps.old + 1 < 2 ^ 64 }
+        ensures passed { leaves_of self.new.leaves ≡ drop 1 (leaves_of self.old.leaves) }
+        ensures others { digests_of self.new.digests ≡ digests_of self.old.digests }
+        ensures terms { terms_of self.new ≡ drop 1 (terms_of self.old) }
+        ensures cost { steps.new ≡ steps.old + 1 }
+    {
         self.leaves.pass(steps);
     }
 

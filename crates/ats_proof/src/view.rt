@@ -7,7 +7,7 @@ ghost use Rattle.ats_proof.specs.Reading.{slot_size, slot_in, met_place, proof_i
 ghost use Rattle.ats_proof.specs.Ranges.{IsInRange};
 ghost use Rattle.ats_proof.specs.Told.{IsPlaced};
 
-use crate::bytes::{are_bytes, digest, nth, number_1, number_2, number_4};
+use crate::bytes::{digest, nth, number_1, number_2, number_4};
 use crate::dict::DictView;
 use crate::digests::counted_digests_2;
 use crate::leaves::LeafRun;
@@ -132,7 +132,6 @@ impl<'a> ProofView<'a> {
         ensures shown { leaves_of result.leaves ≡ map shown_entry (proof_of self.now).dict }
         ensures digests { digests_of result.digests ≡ (proof_of self.now).dict_digests }
     {
-        are_bytes(self.bytes);
         let left = u32::from(number_2(self.bytes.split_at(113).1));
         let (digests, _) = counted_digests_2(self.bytes.split_at(self.begun.dict_digests).1);
         let leaves = LeafRun {
@@ -140,7 +139,9 @@ impl<'a> ProofView<'a> {
             behind: 36,
             bytes: self.bytes.split_at(115).1,
         };
-        DictView { leaves, digests }
+        let dict = DictView { leaves, digests };
+        dict.are_shown();
+        dict
     }
 
     /// The prefixes.

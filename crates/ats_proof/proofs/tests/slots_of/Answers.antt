@@ -1,4 +1,4 @@
-use Rattle.std.proofs.Common.{◌<◌, arith}
+use Rattle.std.proofs.Common.{arith}
 use Rattle.ats_proof.specs.Reading.{slot_size, slot_in}
 use Rattle.ats_proof.proofs.Runs.{length-parts}
 use Rattle.ats_proof.proofs.tests.slots_of.Goals as goal

@@ -2,7 +2,6 @@ use Rattle.std.proofs.Common.{◌≡◌, ◌<◌, ◌+◌, take, drop, Some, ap,
 use Rattle.std.proofs.lemmas.List.{length-drop}
 use Rattle.ats_proof.specs.Reading.{entry_size, entry_in, term_length_in}
 use Rattle.ats_proof.proofs.Taking.{parts_more}
-use Rattle.ats_proof.proofs.Encoding.{entries_bytes}
 use Rattle.ats_proof.proofs.Cutting.{entry_of_parts}
 use Rattle.ats_proof.proofs.dict.DictView.leaf.Goals as goal
 
@@ -19,9 +18,3 @@ returns-clause-leaf c =
     let back : c.first-leaf.result.back.now ≡ take 36 (drop (5 + term_length_in run.bytes.now) run.bytes.now) = rw c.args.self.now.behind at c.first-leaf.ensures.back in
     let same = entry_of_parts run.bytes.now c.first-leaf.result.front.now c.first-leaf.result.back.now c.first-leaf.ensures.front back in
     rw (c.split_at.ensures.back, c.number_4.ensures, c.digest.ensures, c.split_at-2.ensures.back, parts_more entry_size entry_in run.left run.bytes.now some) (ap Some same)
-
-pub returns-clause-shown : goal.returns-clause-shown
-returns-clause-shown c =
-    let view = c.args.self.now in
-    let run = view.leaves in
-    rw view.behind (entries_bytes run.left run.bytes.now (rw view.behind at run.fits) c.are_bytes.ensures)

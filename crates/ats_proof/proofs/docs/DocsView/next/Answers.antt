@@ -1,7 +1,7 @@
-use Rattle.std.proofs.Common.{◌<◌, Some, refl, ap, arith}
+use Rattle.std.proofs.Common.{◌-◌, ◌<◌, Some, ap, arith}
 use Rattle.std.proofs.lemmas.List.{length-drop}
 use Rattle.ats_proof.specs.Reading.{section_size, section_in, id_size, id_in, doc_size, doc_in}
-use Rattle.ats_proof.proofs.Taking.{rest_fits, parts_more}
+use Rattle.ats_proof.proofs.Taking.{rest_fits, parts_more, parts_passed}
 use Rattle.ats_proof.proofs.Documents.{rest_sections_rise}
 use Rattle.ats_proof.proofs.docs.DocsView.next.Goals as goal
 
@@ -25,17 +25,14 @@ returns-clause-section c =
 pub returns-clause-passed_ids : goal.returns-clause-passed_ids
 returns-clause-passed_ids c =
     let view = c.args.self.now in
-    let some : 0 < view.left = omega (arith, c.if-self-eq0.false) in
-    rw (c.split_at.ensures.back, parts_more id_size id_in view.left view.ids.now some) refl
+    parts_passed id_size id_in view.left (view.left - 1) view.ids.now c.split_at.result.1.now (omega (arith, c.if-self-eq0.false)) c.split_at.ensures.back
 
 pub returns-clause-passed_leaves : goal.returns-clause-passed_leaves
 returns-clause-passed_leaves c =
     let view = c.args.self.now in
-    let some : 0 < view.left = omega (arith, c.if-self-eq0.false) in
-    rw (c.split_at-2.ensures.back, parts_more doc_size doc_in view.left view.leaves.now some) refl
+    parts_passed doc_size doc_in view.left (view.left - 1) view.leaves.now c.split_at-2.result.1.now (omega (arith, c.if-self-eq0.false)) c.split_at-2.ensures.back
 
 pub returns-clause-passed_sections : goal.returns-clause-passed_sections
 returns-clause-passed_sections c =
     let view = c.args.self.now in
-    let some : 0 < view.left = omega (arith, c.if-self-eq0.false) in
-    rw (c.cut.ensures.rest, parts_more (section_size view.present) (section_in view.present) view.left view.sections.now some) refl
+    parts_passed (section_size view.present) (section_in view.present) view.left (view.left - 1) view.sections.now c.cut.result.1.now (omega (arith, c.if-self-eq0.false)) c.cut.ensures.rest

@@ -1,6 +1,6 @@
-use Rattle.std.proofs.Common.{◌<◌, Some, refl, ap, arith}
+use Rattle.std.proofs.Common.{◌-◌, ◌<◌, Some, ap, arith}
 use Rattle.ats_proof.specs.Reading.{prefix_size, prefix_in}
-use Rattle.ats_proof.proofs.Taking.{parts_more, rest_fits}
+use Rattle.ats_proof.proofs.Taking.{parts_more, rest_fits, parts_passed}
 use Rattle.ats_proof.proofs.lists.ListsView.next.Goals as goal
 
 pub invariant_of-self : goal.invariant_of-self
@@ -17,5 +17,4 @@ returns-clause-first c =
 pub returns-clause-passed : goal.returns-clause-passed
 returns-clause-passed c =
     let view = c.args.self.now in
-    let some : 0 < view.left = omega (arith, c.if-self-eq0.false) in
-    rw (c.cut.ensures.rest, parts_more prefix_size prefix_in view.left view.bytes.now some) refl
+    parts_passed prefix_size prefix_in view.left (view.left - 1) view.bytes.now c.cut.result.1.now (omega (arith, c.if-self-eq0.false)) c.cut.ensures.rest

@@ -7,8 +7,8 @@ use Rattle.ats_proof.proofs.terms.TermsView.leaf.Goals as goal
 pub number_2-requires : goal.number_2-requires
 number_2-requires c = omega (arith, c.first-leaf.ensures.size, c.args.self.now.behind)
 
-pub returns : goal.returns
-returns c =
+pub returns-clause-leaf : goal.returns-clause-leaf
+returns-clause-leaf c =
     let run = c.args.self.now.leaves in
     let some : 0 < run.left = omega (arith, c.if-self-eq0.false) in
     let back : c.first-leaf.result.back.now ≡ take 2 (drop (5 + term_length_in run.bytes.now) run.bytes.now) = rw c.args.self.now.behind at c.first-leaf.ensures.back in

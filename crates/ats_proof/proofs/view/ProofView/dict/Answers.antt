@@ -1,10 +1,10 @@
-use Rattle.std.proofs.Common.{◌≡◌, ◌∙◌, drop, sym, ap, ap₂, arith}
+use Rattle.std.proofs.Common.{◌≡◌, ◌∙◌, map, drop, refl, sym, ap, ap₂, subst, arith}
+use Rattle.std.specs.List.Sorted.{IsStrictlyIncreasing}
 use Rattle.std.proofs.lemmas.List.{length-drop, drop-drop}
 use Rattle.ats_proof.specs.Parts.{number_in, parts_in}
 use Rattle.ats_proof.specs.Reading.{entry_size, entry_in}
-use Rattle.ats_proof.specs.Runs.{leaves_in}
-use Rattle.ats_proof.proofs.Numbers.{AreBytes}
-use Rattle.ats_proof.proofs.Encoding.{entries_bytes, small-drop}
+use Rattle.ats_proof.specs.Runs.{shown_entry}
+use Rattle.ats_proof.proofs.Documents.{leaf_positions}
 use Rattle.ats_proof.proofs.view.ProofView.dict.Goals as goal
 
 pub invariant_of-leaves : goal.invariant_of-leaves
@@ -15,7 +15,8 @@ invariant_of-leaves c =
     let two = drop-drop 2 113 bytes in
     record {
       fits = rw (left, c.split_at-3.ensures.back, ← two) (omega (arith, view.placed.room.docs, length-drop 2 (drop 113 bytes), length-drop 113 bytes));
-      rises = rw (left, c.split_at-3.ensures.back) view.placed.are_rising.entries;
+      rises = rw (left, c.split_at-3.ensures.back, ← two)
+          (subst IsStrictlyIncreasing (leaf_positions 36 entry_in (λ e. e.position) (λ _. refl) (number_in 2 (drop 113 bytes)) (drop 2 (drop 113 bytes))) view.in_range.terms.rises);
     }
 
 pub returns-clause-entries : goal.returns-clause-entries
@@ -26,11 +27,6 @@ returns-clause-entries c =
 
 pub returns-clause-shown : goal.returns-clause-shown
 returns-clause-shown c =
-    let view = c.args.self.now in
-    let bytes = view.bytes.now in
+    let bytes = c.args.self.now.bytes.now in
     let left : c.from-left.result ≡ number_in 2 (drop 113 bytes) = c.from-left.ensures ∙ c.number_2.ensures ∙ ap (number_in 2) c.split_at.ensures.back in
-    let two = drop-drop 2 113 bytes in
-    let leaves = drop 2 (drop 113 bytes) in
-    let small : AreBytes bytes = c.are_bytes.ensures in
-    ap₂ (λ n xs. leaves_in 36 n xs) left (c.split_at-3.ensures.back ∙ sym two)
-    ∙ entries_bytes (number_in 2 (drop 113 bytes)) leaves (omega (arith, view.placed.room.docs, length-drop 2 (drop 113 bytes), length-drop 113 bytes)) (small-drop 2 (drop 113 bytes) (small-drop 113 bytes small))
+    c.are_shown.ensures ∙ ap₂ (λ n xs. map shown_entry (parts_in entry_size entry_in n xs)) left (c.split_at-3.ensures.back ∙ sym (drop-drop 2 113 bytes))

@@ -1,31 +1,22 @@
-use Rattle.std.proofs.Common.{◌≡◌, ◌∙◌, ℕ, ◌<◌, ◌+◌, ◌*◌, take, drop, sym, ap, arith}
-use Rattle.std.proofs.lemmas.List.{length-drop, drop-drop}
-use Rattle.ats_proof.specs.Reading.{id_size, id_in, met_in, met_place}
-use Rattle.ats_proof.proofs.Runs.{length-parts}
-use Rattle.ats_proof.proofs.Taking.{part_at, total_fixed}
+use Rattle.std.proofs.Common.{◌∙◌, ℕ, ◌<◌, ◌+◌, ◌*◌, take, drop, slice_get, sym, ap, arith}
+use Rattle.std.proofs.lemmas.List.{drop-drop}
+use Rattle.ats_proof.specs.Reading.{id_in}
+use Rattle.ats_proof.proofs.Taking.{part_at}
+use Rattle.ats_proof.proofs.Showing.{ids_room, ids_shown, ids_count}
 use Rattle.ats_proof.proofs.view.ProofView.met_id.Goals as goal
 
 pub nth-requires-clause-within : goal.nth-requires-clause-within
-nth-requires-clause-within c =
-    let bytes = c.args.self.now.bytes.now in
-    omega (arith, c.requires.within, c.args.self.now.placed.first.met, length-parts id_size id_in (met_in bytes) (drop 4 (drop (met_place bytes) bytes)))
+nth-requires-clause-within c = omega (arith, c.requires.within, ids_count c.args.self.now)
 
 pub nth-requires-clause-room : goal.nth-requires-clause-room
-nth-requires-clause-room c =
-    let view = c.args.self.now in
-    let bytes = view.bytes.now in
-    let fours = total_fixed 4 (λ b. b) (met_in bytes) (drop 4 (drop (met_place bytes) bytes)) in
-    rw c.split_at.ensures.back (omega (arith, view.placed.first.met, view.placed.first.met_at, fours, view.placed.room.docs, length-drop (view.begun.met_at + 4) bytes))
+nth-requires-clause-room c = rw c.split_at.ensures.back (ids_room c.args.self.now)
 
 pub returns-clause-id : goal.returns-clause-id
 returns-clause-id c =
     let view = c.args.self.now in
-    let bytes = view.bytes.now in
-    let ids = drop (met_place bytes) bytes in
-    let within : c.args.i < met_in bytes = omega (arith, c.requires.within, length-parts id_size id_in (met_in bytes) (drop 4 ids)) in
-    let start : c.split_at.result.1.now ≡ drop 4 ids =
-    c.split_at.ensures.back ∙ ap (λ (n : ℕ). drop (n + 4) bytes) view.placed.first.met_at ∙ sym (drop-drop 4 (met_place bytes) bytes) in
-    rw (c.split_at-2.ensures.front, c.nth.ensures.part, start) (part_at 4 id_in (met_in bytes) c.args.i (drop 4 ids) within)
+    let ids = drop (view.begun.met_at + 4) view.bytes.now in
+    let within : c.args.i < view.begun.met = omega (arith, c.requires.within, ids_count view) in
+    rw (c.split_at-2.ensures.front, c.nth.ensures.part, c.split_at.ensures.back) (ap (λ met. slice_get met c.args.i) (sym (ids_shown view)) ∙ part_at 4 id_in view.begun.met c.args.i ids within)
 
 pub returns-clause-lent : goal.returns-clause-lent
 returns-clause-lent c =

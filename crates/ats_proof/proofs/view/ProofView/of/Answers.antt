@@ -4,71 +4,49 @@ use Rattle.ats_proof.specs.Parts.{number_in, parts_in, total_size}
 use Rattle.ats_proof.specs.Value.{present_in, items_of_prefix, items_of_documents}
 use Rattle.ats_proof.specs.Reading.{entry_size, entry_in, digest_size, digest_in, id_size, id_in, slot_size, slot_in, prefix_size, prefix_in, is_tra, slots_in, terms_in, met_in, dict_digests_place, slots_place, met_place, lists_place, answer_place, documents_in, proof_in}
 use Rattle.ats_proof.proofs.Runs.{length-parts}
-use Rattle.ats_proof.proofs.Numbers.{AreBytes}
-use Rattle.ats_proof.proofs.Whole.{whole}
 use Rattle.ats_proof.proofs.InRange.{in_range}
 use Rattle.ats_proof.proofs.view.ProofView.of.Goals as goal
 
 pub split_at-requires : goal.split_at-requires
 split_at-requires c =
-    let bytes = c.args.bytes.now in
-    let small : AreBytes bytes = λ i. let h = c.type_inv.bytes i in omega (arith, h) in
-    let w = whole bytes small c.requires in
-    omega (arith, w.room.docs)
+    omega (arith, c.are_a_proof.ensures.room.docs)
 
 pub number_1-tra-requires : goal.number_1-tra-requires
 number_1-tra-requires c =
     let bytes = c.args.bytes.now in
-    let small : AreBytes bytes = λ i. let h = c.type_inv.bytes i in omega (arith, h) in
-    let w = whole bytes small c.requires in
-    rw c.split_at.ensures.back (omega (arith, w.room.docs, length-drop 5 bytes))
+    rw c.split_at.ensures.back (omega (arith, c.are_a_proof.ensures.room.docs, length-drop 5 bytes))
 
 pub of-begun-requires : goal.of-begun-requires
 of-begun-requires c =
-    let bytes = c.args.bytes.now in
-    let small : AreBytes bytes = λ i. let h = c.type_inv.bytes i in omega (arith, h) in
-    let w = whole bytes small c.requires in
-    w.room
+    c.are_a_proof.ensures.room
 
 pub split_at-requires-2 : goal.split_at-requires-2
 split_at-requires-2 c =
-    let bytes = c.args.bytes.now in
-    let small : AreBytes bytes = λ i. let h = c.type_inv.bytes i in omega (arith, h) in
-    let w = whole bytes small c.requires in
-    omega (arith, c.of-begun.ensures.lists, w.room.docs)
+    omega (arith, c.of-begun.ensures.lists, c.are_a_proof.ensures.room.docs)
 
 pub lists_sum-lists-requires-clause-fits : goal.lists_sum-lists-requires-clause-fits
 lists_sum-lists-requires-clause-fits c =
     let bytes = c.args.bytes.now in
-    let small : AreBytes bytes = λ i. let h = c.type_inv.bytes i in omega (arith, h) in
-    let w = whole bytes small c.requires in
     let begun = c.of-begun.ensures in
     let there : c.split_at-2.result.1.now ≡ drop (lists_place bytes) bytes = c.split_at-2.ensures.back ∙ ap (λ (n : ℕ). drop n bytes) begun.lists in
-    rw (there, begun.present) (omega (arith, w.room.docs, length-drop (lists_place bytes) bytes))
+    rw (there, begun.present) (omega (arith, c.are_a_proof.ensures.room.docs, length-drop (lists_place bytes) bytes))
 
 pub overflow_add-docs : goal.overflow_add-docs
 overflow_add-docs c =
     let bytes = c.args.bytes.now in
-    let small : AreBytes bytes = λ i. let h = c.type_inv.bytes i in omega (arith, h) in
-    let w = whole bytes small c.requires in
     let begun = c.of-begun.ensures in
     let there : c.split_at-2.result.1.now ≡ drop (lists_place bytes) bytes = c.split_at-2.ensures.back ∙ ap (λ (n : ℕ). drop n bytes) begun.lists in
     let size : c.lists_sum-lists.result.size ≡ total_size prefix_size (present_in (slots_in bytes)) (drop (lists_place bytes) bytes) =
     c.lists_sum-lists.ensures.size ∙ ap₂ (λ n xs. total_size prefix_size n xs) begun.present there in
-    omega (arith, begun.lists, size, w.room.docs, w.room.few)
+    omega (arith, begun.lists, size, c.are_a_proof.ensures.room.docs, c.are_a_proof.ensures.room.few)
 
 pub of-ended-requires-clause-room : goal.of-ended-requires-clause-room
 of-ended-requires-clause-room c =
-    let bytes = c.args.bytes.now in
-    let small : AreBytes bytes = λ i. let h = c.type_inv.bytes i in omega (arith, h) in
-    let w = whole bytes small c.requires in
-    w.room
+    c.are_a_proof.ensures.room
 
 pub of-ended-requires-clause-docs : goal.of-ended-requires-clause-docs
 of-ended-requires-clause-docs c =
     let bytes = c.args.bytes.now in
-    let small : AreBytes bytes = λ i. let h = c.type_inv.bytes i in omega (arith, h) in
-    let w = whole bytes small c.requires in
     let begun = c.of-begun.ensures in
     let there : c.split_at-2.result.1.now ≡ drop (lists_place bytes) bytes = c.split_at-2.ensures.back ∙ ap (λ (n : ℕ). drop n bytes) begun.lists in
     let size : c.lists_sum-lists.result.size ≡ total_size prefix_size (present_in (slots_in bytes)) (drop (lists_place bytes) bytes) =
@@ -78,8 +56,6 @@ of-ended-requires-clause-docs c =
 pub split_at-requires-5 : goal.split_at-requires-5
 split_at-requires-5 c =
     let bytes = c.args.bytes.now in
-    let small : AreBytes bytes = λ i. let h = c.type_inv.bytes i in omega (arith, h) in
-    let w = whole bytes small c.requires in
     let begun = c.of-begun.ensures in
     let there : c.split_at-2.result.1.now ≡ drop (lists_place bytes) bytes = c.split_at-2.ensures.back ∙ ap (λ (n : ℕ). drop n bytes) begun.lists in
     let size : c.lists_sum-lists.result.size ≡ total_size prefix_size (present_in (slots_in bytes)) (drop (lists_place bytes) bytes) =
@@ -87,13 +63,11 @@ split_at-requires-5 c =
     let tra : nat_eq c.number_1-tra.result 1 ≡ is_tra bytes = ap (λ (n : ℕ). n == 1) (c.number_1-tra.ensures ∙ ap (number_in 1) c.split_at.ensures.back) in
     let ended = c.of-ended.ensures.ended in
     let answer : c.of-ended.result.answer ≡ answer_place (is_tra bytes) bytes = ended.answer ∙ ap (λ (t : Bool). answer_place t bytes) tra in
-    omega (arith, answer, w.room.answer)
+    omega (arith, answer, c.are_a_proof.ensures.room.answer)
 
 pub number_2-requires-3 : goal.number_2-requires-3
 number_2-requires-3 c =
     let bytes = c.args.bytes.now in
-    let small : AreBytes bytes = λ i. let h = c.type_inv.bytes i in omega (arith, h) in
-    let w = whole bytes small c.requires in
     let begun = c.of-begun.ensures in
     let there : c.split_at-2.result.1.now ≡ drop (lists_place bytes) bytes = c.split_at-2.ensures.back ∙ ap (λ (n : ℕ). drop n bytes) begun.lists in
     let size : c.lists_sum-lists.result.size ≡ total_size prefix_size (present_in (slots_in bytes)) (drop (lists_place bytes) bytes) =
@@ -102,27 +76,19 @@ number_2-requires-3 c =
     let ended = c.of-ended.ensures.ended in
     let answer : c.of-ended.result.answer ≡ answer_place (is_tra bytes) bytes = ended.answer ∙ ap (λ (t : Bool). answer_place t bytes) tra in
     let last : c.split_at-5.result.1.now ≡ drop (answer_place (is_tra bytes) bytes) bytes = c.split_at-5.ensures.back ∙ ap (λ (n : ℕ). drop n bytes) answer in
-    rw last (omega (arith, w.room.answer, length-drop (answer_place (is_tra bytes) bytes) bytes))
+    rw last (omega (arith, c.are_a_proof.ensures.room.answer, length-drop (answer_place (is_tra bytes) bytes) bytes))
 
 pub overflow_add-result-5 : goal.overflow_add-result-5
 overflow_add-result-5 c =
-    let bytes = c.args.bytes.now in
-    let small : AreBytes bytes = λ i. let h = c.type_inv.bytes i in omega (arith, h) in
-    let w = whole bytes small c.requires in
     omega (arith, c.lists_sum-lists.ensures.few, c.of-ended.ensures.few)
 
 pub overflow_add-result-6 : goal.overflow_add-result-6
 overflow_add-result-6 c =
-    let bytes = c.args.bytes.now in
-    let small : AreBytes bytes = λ i. let h = c.type_inv.bytes i in omega (arith, h) in
-    let w = whole bytes small c.requires in
     omega (arith, c.lists_sum-lists.ensures.few, c.of-ended.ensures.few)
 
 pub invariant_of-result : goal.invariant_of-result
 invariant_of-result c =
     let bytes = c.args.bytes.now in
-    let small : AreBytes bytes = λ i. let h = c.type_inv.bytes i in omega (arith, h) in
-    let w = whole bytes small c.requires in
     let begun = c.of-begun.ensures in
     let there : c.split_at-2.result.1.now ≡ drop (lists_place bytes) bytes = c.split_at-2.ensures.back ∙ ap (λ (n : ℕ). drop n bytes) begun.lists in
     let size : c.lists_sum-lists.result.size ≡ total_size prefix_size (present_in (slots_in bytes)) (drop (lists_place bytes) bytes) =
@@ -148,19 +114,12 @@ invariant_of-result c =
     let l5 = length-parts id_size id_in (number_in 2 fifth) (drop 2 fifth) in
     record {
       placed = record {
-        room = w.room;
-        are_rising = w.are_rising;
+        room = c.are_a_proof.ensures.room;
         same = tra;
         first = begun;
         rest = ended;
         docs_at = ap₂ (λ (m n : ℕ). m + n) begun.lists size;
         counted = omega (arith, dict, digests, rows, lists, docs, l1, l2, l3, l4, l5, begun.terms, begun.met, c.from-dict.ensures, c.from-digests.ensures, c.from-rows.ensures, c.from.ensures, c.from-2.ensures);
       };
-      in_range = in_range bytes (proof_in bytes) w.is;
+      in_range = in_range bytes (proof_in bytes) c.are_a_proof.ensures.proof;
     }
-
-pub returns-clause-proof : goal.returns-clause-proof
-returns-clause-proof c =
-    let bytes = c.args.bytes.now in
-    let small : AreBytes bytes = λ i. let h = c.type_inv.bytes i in omega (arith, h) in
-    (whole bytes small c.requires).is
