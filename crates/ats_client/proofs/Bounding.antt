@@ -16,7 +16,7 @@ use Rattle.ats_bound.proofs.Scores.{held_or_missing}
 use Rattle.ats_client.specs.Bounds.{upper, AreBelow, row_mark, lower_before, AreFalling, IsRestWithin}
 use Rattle.ats_client.specs.Groups.{met_at, brackets_of, AreRowsRight, IsAnswerSettled}
 use Rattle.ats_client.specs.Marked.{AreMarks, AreNoted}
-use Rattle.ats_client.proofs.Noting.{any_is_times, nowhere_if}
+use Rattle.ats_client.proofs.Named.{any_is_times, any_none}
 
 -- ---- as many distinct numbers below n as there are
 
@@ -106,7 +106,7 @@ module _ (lanes : List ShownLane) (met : List ℕ) (marks : List Mark) (limit : 
 
     -- a document is outside the answer where its mark notes no row
     outside_if : (i : ℕ) → i < length met → (mark_at marks i).row ≡ false → times i answer ≡ 0
-    outside_if i inside free = nowhere_if i answer (sym (noted i (omega (arith, inside, are.size))) ∙ free)
+    outside_if i inside free = any_none i answer (sym (noted i (omega (arith, inside, are.size))) ∙ free)
 
     free_if : (i : ℕ) → i < length met → times i answer ≡ 0 → (mark_at marks i).row ≡ false
     free_if i inside none = noted i (omega (arith, inside, are.size)) ∙ (any_is_times i answer ∙ ap (λ x. nat_lt 0 x) none)

@@ -1,6 +1,6 @@
 -- The descent: from the root to the header, the dictionary and the lists, what a proof shows is the collection's own but
 -- for a collision.
-use Rattle.std.proofs.Common.{◌≡◌, ◌+◌, ◌<◌, ◌^◌, ℕ, false, List, [], ◌∷◌, ◌++◌, length, map, get_or, slice_get, Option, Some, None, option_map, refl, sym, ◌∙◌, ap, subst, arith}
+use Rattle.std.proofs.Common.{◌≡◌, ◌+◌, ◌<◌, ◌≤◌, ◌^◌, ℕ, List, [], ◌∷◌, ◌++◌, length, map, get_or, slice_get, Option, Some, None, option_map, refl, sym, ◌∙◌, ap, subst, arith}
 use Rattle.std.specs.List.{All, flat_map}
 use Rattle.std.specs.List.Sorted.{IsStrictlyIncreasing}
 use Rattle.std.proofs.lemmas.List.{length-map}
@@ -31,7 +31,6 @@ use Rattle.ats_commit.specs.Own.{AreTexts, IsHeaderOf, IsEntryOf}
 use Rattle.ats_commit.specs.Ours.{TreePlace, asked_term, ours}
 use Rattle.ats_commit.proofs.OwnHeader.{own_header}
 use Rattle.ats_commit.proofs.OwnLeaves.{leaf_tells_entry}
-use Rattle.ats_records.specs.declared.record.Slot.{Slot}
 use Rattle.ats_proof.specs.Value.{ShownEntry, Proof, present_in}
 use Rattle.ats_proof.specs.Ranges.{AreDigests, IsShownInRange, IsInRange}
 use Rattle.ats_proof.specs.Runs.{shown_entry, shown_list}
@@ -42,18 +41,41 @@ use Rattle.ats_client.specs.Slots as slots
 use Rattle.ats_client.specs.Strings.{header_string, in_tree, strings_in, list_strings, strings_of, extract, AreLeavesOf, IsOwnList, IsOwn, IsBound}
 use Rattle.ats_client.proofs.DescentTrees.{Binds, binds-both, binds-moved, binds-weaker, binds-one, binds-all}
 use Rattle.ats_client.proofs.HeadlineTerms.{HoldsPresent, each_presented}
-use Rattle.ats_client.proofs.Presents.{entry_there}
+use Rattle.ats_client.proofs.Presents.{at_place, entry_there}
+use Rattle.ats_client.proofs.Slotted.{slot_shows}
 
 -- ---- elements of lists
-
--- what holds of all elements holds of the one at a place
-at_place : {X : Type 0} (P : X → Type 0) (xs : List X) (i : ℕ) (x : X) → All P xs → slice_get xs i ≡ Some x → P x
-at_place P xs i x all is = subst P (get_or_from_slice_get xs i x x is) (all i x (slice_get_within xs i x is))
 
 -- what is read of a changed list is the change of what is read
 was_mapped : {X Y : Type 0} (f : X → Y) (o : Option X) (y : Y) → option_map f o ≡ Some y → (x : X) × (o ≡ Some x) × (f x ≡ y)
 was_mapped f None y is = absurd (cc)
 was_mapped f (Some x) y is = (x, refl, cc)
+
+-- the leaf that a place of the dictionary section shows
+abbrev pub term_shown : ShownEntry → slots.Shown
+term_shown e = record { position = e.position; term = e.entry.term }
+
+pub leaf_shown : (dict : List ShownEntry) (place : ℕ) (leaf : slots.Shown) → slice_get (groups.dict_terms dict) place ≡ Some leaf
+    → (shown : ShownEntry) × (slice_get dict place ≡ Some shown) × (term_shown shown ≡ leaf)
+leaf_shown dict place leaf there =
+    was_mapped term_shown (slice_get dict place) leaf (sym (slice_get-map term_shown dict place) ∙ there)
+
+-- a leaf that is the collection's own stands at its position
+pub leaf_own : (H : List ℕ → List ℕ) (texts : List (List ℕ)) (dict : List ShownEntry) (place : ℕ) (shown : ShownEntry)
+    → AreLeavesOf (dict_leaves (dictionary_of H texts)) (map shown_entry dict) → slice_get dict place ≡ Some shown
+    → slice_get (dict_leaves (dictionary_of H texts)) shown.position ≡ Some (dict_leaf_bytes shown.entry.term shown.entry.f shown.entry.root)
+leaf_own H texts dict place shown own is =
+    at_place (λ (s : Shown). slice_get (dict_leaves (dictionary_of H texts)) s.0 ≡ Some s.1) (map shown_entry dict) place (shown_entry shown) own
+    (slice_get-map shown_entry dict place ∙ ap (option_map shown_entry) is)
+
+-- a pair of a query is a term with a weight
+pub pair_is : (query : List (List ℕ × ℕ)) → IsQuery query → (i : ℕ) (pair : List ℕ × ℕ) → slice_get query i ≡ Some pair
+    → IsTerm pair.0 × (1 ≤ pair.1) × (asked_term query i ≡ pair.0)
+pair_is query asked i pair at = (
+  at_place (λ (p : List ℕ × ℕ). IsTerm p.0) query i pair asked.terms at,
+  at_place (λ (p : List ℕ × ℕ). 1 ≤ p.1) query i pair asked.weighed at,
+  ap (λ (p : List ℕ × ℕ). p.0) (get_or_from_slice_get query i pair ([], 0) at),
+)
 
 -- the front of a list has rising positions
 rises-list : (at : ℕ) (met : List ℕ) (entries : List Entry) → RisesFrom at (shown_list at met entries)
@@ -102,17 +124,14 @@ pub record IsAsked (query : List (List ℕ × ℕ)) (dict : List ShownEntry) (on
   pub sized : AreDigests one.prefix.digests
 
 -- the entry of a present term says what the collection's list of the term has
-entry-own : (H : List ℕ → List ℕ) (texts : List (List ℕ)) (query : List (List ℕ × ℕ)) (dict : List ShownEntry) (one : Presented) → AreTexts texts
+pub entry-own : (H : List ℕ → List ℕ) (texts : List (List ℕ)) (query : List (List ℕ × ℕ)) (dict : List ShownEntry) (one : Presented) → AreTexts texts
     → All IsShownInRange dict → AreLeavesOf (dict_leaves (dictionary_of H texts)) (map shown_entry dict) → IsAsked query dict one
     → IsEntryOf H texts one.entry
 entry-own H texts query dict one are ranges own asked =
     let leaves : List (List ℕ) = dict_leaves (dictionary_of H texts)
     in let range : IsShownInRange asked.shown = at_place IsShownInRange dict asked.place asked.shown ranges asked.there
     in let small : one.entry.f < 2 ^ 32 = subst (λ (e : DictEntry). e.f < 2 ^ 32) asked.entry range.number
-    in let there : slice_get (map shown_entry dict) asked.place ≡ Some (shown_entry asked.shown) =
-    slice_get-map shown_entry dict asked.place ∙ ap (option_map shown_entry) asked.there
-    in let leaf : slice_get leaves asked.shown.position ≡ Some (shown_entry asked.shown).1 =
-    at_place (λ (s : Shown). slice_get leaves s.0 ≡ Some s.1) (map shown_entry dict) asked.place (shown_entry asked.shown) own there
+    in let leaf = leaf_own H texts dict asked.place asked.shown own asked.there
     in leaf_tells_entry H texts are asked.shown.position one.entry asked.term small
     (subst (λ (e : DictEntry). slice_get leaves asked.shown.position ≡ Some (dict_leaf_bytes e.term e.f e.root)) asked.entry leaf)
 
@@ -138,24 +157,21 @@ pair-asked : (query : List (List ℕ × ℕ)) (proof : Proof) → IsQuery query 
 pair-asked query proof is right j pair slot prefix at spot present range =
     let low : j < length query = slice_get_within query j pair at
     in let number : 0 + j ≡ j = omega arith
-    in let pair_is : get_or query j ([], 0) ≡ pair = get_or_from_slice_get query j pair ([], 0) at
-    in let slot_is : groups.slot_at proof.slots j ≡ slot = get_or_from_slice_get proof.slots j slot (record { present = false; index = 0 }) spot
-    in let shows = subst (λ (s : Slot). slots.ShowsTerm (groups.dict_terms proof.dict) (groups.term_at query j) s) slot_is (right j low)
+    in let pair_term = pair_is query is j pair at
+    in let shows = slot_shows query proof j slot spot (right j low)
     in let found : slots.IsAt (groups.dict_terms proof.dict) (groups.term_at query j) slot.index = rw present at shows
-    in let shown_term : ShownEntry → slots.Shown = λ (e : ShownEntry). record { position = e.position; term = e.entry.term }
-    in let was = was_mapped shown_term (slice_get proof.dict slot.index) found.leaf (sym (slice_get-map shown_term proof.dict slot.index) ∙ found.there)
+    in let was = leaf_shown proof.dict slot.index found.leaf found.there
     in let shown : ShownEntry = was.0
     in let entry : shown.entry ≡ entry_at proof.dict slot.index = entry_there proof.dict slot.index shown (sym was.1)
     in let same : (entry_at proof.dict slot.index).term ≡ asked_term query j =
     ap (λ (e : DictEntry). e.term) (sym entry) ∙ ap (λ (s : slots.Shown). s.term) was.2 ∙ found.same
-    in let term : IsTerm pair.0 = at_place (λ (p : List ℕ × ℕ). IsTerm p.0) query j pair is.terms at
     in record {
       place = slot.index;
       shown = shown;
       there = was.1;
       entry = entry;
       same = same ∙ ap (asked_term query) (sym number);
-      term = subst IsTerm (sym (same ∙ ap (λ (p : List ℕ × ℕ). p.0) pair_is)) term;
+      term = subst IsTerm (sym (same ∙ pair_term.2)) pair_term.0;
       sized = range.sized;
     }
 

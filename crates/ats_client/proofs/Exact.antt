@@ -19,17 +19,17 @@ use Rattle.ats_client.specs.Accepts.{Accepts, IsFirstRefusal}
 not_other : (digest : Option (List ℕ)) (root : List ℕ) → IsOther digest root → digest ≡ Some root → ⊥
 not_other digest root other is = let rebuilt = other.rebuilt in other.differs (cc)
 
-all_middle : {X : Type 0} (P : X → Type 0) (before : List X) (x : X) (after : List X) → All P (before ++ x ∷ after) → P x
+pub all_middle : {X : Type 0} (P : X → Type 0) (before : List X) (x : X) (after : List X) → All P (before ++ x ∷ after) → P x
 all_middle P [] x after all = All-head P x after all
 all_middle P (y ∷ ys) x after all = all_middle P ys x after (All-tail P y (ys ++ x ∷ after) all)
 
-not_out : (met : ℕ) (indexes : List ℕ) (place : ℕ) → IsOut met indexes place → AreNames met indexes → ⊥
+pub not_out : (met : ℕ) (indexes : List ℕ) (place : ℕ) → IsOut met indexes place → AreNames met indexes → ⊥
 not_out met indexes place fault names =
     let inside : fault.index < met = all_middle (λ index. index < met) fault.before fault.index fault.after (subst (λ l. All (λ index. index < met) l) fault.stands names.inside) in
     let out = fault.out in
     omega arith
 
-not_again : (met : ℕ) (indexes : List ℕ) (place : ℕ) → IsAgain met indexes place → AreNames met indexes → ⊥
+pub not_again : (met : ℕ) (indexes : List ℕ) (place : ℕ) → IsAgain met indexes place → AreNames met indexes → ⊥
 not_again met indexes place fault names =
     let x : ℕ = fault.index in
     let once = names.once x in
@@ -40,21 +40,21 @@ not_again met indexes place fault names =
     let one : ◌≡◌ {A = ℕ} (cond (nat_eq x x) 1 0) 1 = ap (λ b. cond b 1 0) same in
     omega (arith, all, step, one, once, again)
 
-not_opened : (H : List ℕ → List ℕ) (root : List ℕ) (query : List (List ℕ × ℕ)) (proof : Proof) (refusal : Refusal) → IsOpeningFault H root query proof refusal → IsOpened H root query proof → ⊥
+pub not_opened : (H : List ℕ → List ℕ) (root : List ℕ) (query : List (List ℕ × ℕ)) (proof : Proof) (refusal : Refusal) → IsOpeningFault H root query proof refusal → IsOpened H root query proof → ⊥
 not_opened H root query proof OtherRoot fault opened = fault opened.commits
 not_opened H root query proof (SlotCount shown) fault opened = fault.2 (fault.1 ∙ opened.slots)
 not_opened H root query proof _ fault opened = fault
 
-not_dictionary : (H : List ℕ → List ℕ) (proof : Proof) (refusal : Refusal) → IsDictFault H proof refusal → IsDictionary H proof → ⊥
+pub not_dictionary : (H : List ℕ → List ℕ) (proof : Proof) (refusal : Refusal) → IsDictFault H proof refusal → IsDictionary H proof → ⊥
 not_dictionary H proof DictMisfit fault is = cc
 not_dictionary H proof DictRoot fault is = not_other _ _ fault is
 not_dictionary H proof _ fault is = fault
 
-not_slots : (query : List (List ℕ × ℕ)) (proof : Proof) (refusal : Refusal) → IsSlotsFault query proof refusal → AreSlotsRight query proof → ⊥
+pub not_slots : (query : List (List ℕ × ℕ)) (proof : Proof) (refusal : Refusal) → IsSlotsFault query proof refusal → AreSlotsRight query proof → ⊥
 not_slots query proof (SlotWrong term) fault right = fault.wrong (right term fault.inside)
 not_slots query proof _ fault right = fault
 
-not_entries : (met : ℕ) (one : Presented) (refusal : Refusal) → IsEntryFault met one refusal → AreNames met (indexes_of one.prefix.entries) → ⊥
+pub not_entries : (met : ℕ) (one : Presented) (refusal : Refusal) → IsEntryFault met one refusal → AreNames met (indexes_of one.prefix.entries) → ⊥
 not_entries met one (IndexOut term entry) fault names = not_out met (indexes_of one.prefix.entries) entry fault.1 names
 not_entries met one (Repeated term entry) fault names = not_again met (indexes_of one.prefix.entries) entry fault.1 names
 not_entries met one _ fault names = fault
@@ -64,20 +64,20 @@ not_rooted H met one (ListMisfit term) fault right = let none = fault.1 in let s
 not_rooted H met one (ListRoot term) fault right = not_other _ _ fault.1 right.root
 not_rooted H met one _ fault right = fault
 
-not_list : (H : List ℕ → List ℕ) (met : List ℕ) (one : Presented) (refusal : Refusal) → IsListFault H met one refusal → IsListRight H met one → ⊥
+pub not_list : (H : List ℕ → List ℕ) (met : List ℕ) (one : Presented) (refusal : Refusal) → IsListFault H met one refusal → IsListRight H met one → ⊥
 not_list H met one refusal (inl fault) right = not_entries (length met) one refusal fault right.names
 not_list H met one refusal (inr fault) right = not_rooted H met one refusal fault.1 right
 
-not_lists : (H : List ℕ → List ℕ) (query : List (List ℕ × ℕ)) (proof : Proof) (refusal : Refusal) → IsListsFault H query proof refusal → AreListsRight H query proof → ⊥
+pub not_lists : (H : List ℕ → List ℕ) (query : List (List ℕ × ℕ)) (proof : Proof) (refusal : Refusal) → IsListsFault H query proof refusal → AreListsRight H query proof → ⊥
 not_lists H query proof refusal fault right =
     not_list H proof.met fault.one refusal fault.fault
     (all_middle (IsListRight H proof.met) fault.before fault.one fault.after (subst (λ l. All (IsListRight H proof.met) l) fault.stands right))
 
-not_met : (lanes : List ShownLane) (met : List ℕ) (refusal : Refusal) → IsMetFault lanes met refusal → AreAllMet lanes met → ⊥
+pub not_met : (lanes : List ShownLane) (met : List ℕ) (refusal : Refusal) → IsMetFault lanes met refusal → AreAllMet lanes met → ⊥
 not_met lanes met (Unmet index) fault all = fault.unmet (all index fault.inside)
 not_met lanes met _ fault all = fault
 
-not_rows : (met answer : List ℕ) (refusal : Refusal) → IsRowsFault met answer refusal → AreRowsRight met answer → ⊥
+pub not_rows : (met answer : List ℕ) (refusal : Refusal) → IsRowsFault met answer refusal → AreRowsRight met answer → ⊥
 not_rows met answer (AnswerOut row) fault right = not_out (length met) answer row fault right
 not_rows met answer (AnswerRepeated row) fault right = not_again (length met) answer row fault right
 not_rows met answer _ fault right = fault
@@ -86,7 +86,7 @@ not_settled : (lanes : List ShownLane) (met answer : List ℕ) (r : ℕ) (refusa
 not_settled lanes met answer r NotSettled fault settled = fault settled
 not_settled lanes met answer r _ fault settled = fault
 
-not_both : (H : List ℕ → List ℕ) (root : List ℕ) (query : List (List ℕ × ℕ)) (r : ℕ) (proof : Proof) (refusal : Refusal) → Accepts H root query r proof → IsFirstRefusal H root query r proof refusal → ⊥
+pub not_both : (H : List ℕ → List ℕ) (root : List ℕ) (query : List (List ℕ × ℕ)) (r : ℕ) (proof : Proof) (refusal : Refusal) → Accepts H root query r proof → IsFirstRefusal H root query r proof refusal → ⊥
 not_both H root query r proof refusal a (inl fault) = not_opened H root query proof refusal fault a.opened
 not_both H root query r proof refusal a (inr (_, inl fault)) = not_dictionary H proof refusal fault a.dictionary
 not_both H root query r proof refusal a (inr (_, inr (_, inl fault))) = not_slots query proof refusal fault a.slots

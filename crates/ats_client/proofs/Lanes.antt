@@ -20,7 +20,7 @@ use Rattle.ats_client.specs.Indexes.{AreNames}
 use Rattle.ats_client.specs.Presented.{Presented, lane_of}
 use Rattle.ats_client.specs.Groups.{indexes_of, met_at}
 use Rattle.ats_client.specs.Noting.{Note, note, index_lane, lane_notes, notes_of, gain_of, cover_of, has_note}
-use Rattle.ats_client.proofs.Marks.{any_some}
+use Rattle.ats_client.proofs.Named.{any_some}
 use Rattle.ats_client.proofs.Listed.{names_inside}
 
 -- ---- one lane, by met indexes

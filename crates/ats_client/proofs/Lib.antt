@@ -1,5 +1,6 @@
 pub mod Walks
 pub mod Slotted
+pub mod Named
 pub mod Marks
 pub mod Listed
 pub mod Presents
@@ -8,6 +9,8 @@ pub mod Passing
 pub mod Noting
 pub mod Bounding
 pub mod Exact
+pub mod OneListFault
+pub mod OneRefusal
 pub mod HeadlineTerms
 pub mod HeadlineRows
 pub mod OwnLanes

@@ -1,62 +1,19 @@
 -- Marks after some notes, and after one note more.
-use Rattle.std.proofs.Common.{◌≡◌, ◌≢◌, ◌<◌, ◌≤◌, ◌+◌, ◌*◌, ◌^◌, ◌||◌, ◌++◌, ℕ, suc, Bool, true, false, nat_eq, nat_lt, cond, List, [], ◌∷◌, length, map, take, drop, get_or, set, slice_get, Some, option_map, refl, sym, ap, subst, ◌∙◌, append_assoc, arith, inl, inr, length-take, get_or-set_other, get_or-set_same}
+use Rattle.std.proofs.Common.{◌≡◌, ◌≢◌, ◌<◌, ◌≤◌, ◌+◌, ◌*◌, ◌^◌, ◌||◌, ◌++◌, ℕ, Bool, true, false, nat_eq, nat_lt, cond, List, [], ◌∷◌, length, map, take, set, slice_get, Some, option_map, refl, sym, ap, subst, ◌∙◌, append_assoc, arith, inl, inr, get_or-set_other, get_or-set_same}
 use Rattle.std.specs.List.{list_any, sum_by}
-use Rattle.std.proofs.lemmas.Bool.{cases_eq}
+use Rattle.std.proofs.lemmas.Bool.{cases_eq, or_right}
 use Rattle.std.proofs.lemmas.Bool.Decides.{nat_tests}
 use Rattle.std.proofs.lemmas.List.{length-set, take_more, map-append}
-use Rattle.std.proofs.lemmas.List.Elements.{All-more}
 use Rattle.std.proofs.lemmas.List.Folds.{list_any-append}
 use Rattle.std.proofs.lemmas.List.Sums.{sum_by-cons, sum_by-append}
 use Rattle.std.proofs.lemmas.Option.{get_or_from_slice_get, slice_get_within, slice_get-map}
-use Rattle.std.proofs.Math.Seq.{split_at}
 use Rattle.ats_impact.specs.Rank.{times}
 use Rattle.ats_bound.specs.declared.work.Mark.{Mark}
 use Rattle.ats_bound.specs.Work.{mark_at, zero_mark}
-use Rattle.ats_bound.proofs.Places.{times-cons, distinct_more}
-use Rattle.ats_client.specs.Indexes.{AreNames, IsOut, IsAgain}
 use Rattle.ats_lists.specs.declared.entry.Entry.{Entry}
 use Rattle.ats_client.specs.Groups.{indexes_of}
 use Rattle.ats_client.specs.Noting.{Note, IsNoted, AreNotes, note, with_note, has_note}
-
--- ---- indexes that name met documents
-
-stands_at : (xs : List ℕ) (i x : ℕ) → slice_get xs i ≡ Some x → xs ≡ take i xs ++ x ∷ drop (suc i) xs
-stands_at xs i x is = subst (λ y. xs ≡ take i xs ++ y ∷ drop (suc i) xs) (get_or_from_slice_get xs i x 0 is) (split_at xs i 0 (slice_get_within xs i x is))
-
-pub out_at : (met : ℕ) (xs : List ℕ) (i x : ℕ) → slice_get xs i ≡ Some x → AreNames met (take i xs) → met ≤ x → IsOut met xs i
-out_at met xs i x is names out =
-    let inside : i < length xs = slice_get_within xs i x is in
-    record { before = take i xs; index = x; after = drop (suc i) xs; stands = stands_at xs i x is; place_of = omega (arith, length-take i xs, inside); names = names; out = out }
-
-pub again_at : (met : ℕ) (xs : List ℕ) (i x : ℕ) → slice_get xs i ≡ Some x → AreNames met (take i xs) → x < met → 1 ≤ times x (take i xs) → IsAgain met xs i
-again_at met xs i x is names within again =
-    let inside : i < length xs = slice_get_within xs i x is in
-    record { before = take i xs; index = x; after = drop (suc i) xs; stands = stands_at xs i x is; place_of = omega (arith, length-take i xs, inside); names = names; inside = within; again = again }
-
-pub names_more : (met : ℕ) (xs : List ℕ) (i x : ℕ) → slice_get xs i ≡ Some x → AreNames met (take i xs) → x < met → times x (take i xs) ≡ 0 → AreNames met (take (i + 1) xs)
-names_more met xs i x is names within none =
-    let inside : i < length xs = slice_get_within xs i x is in
-    let here : get_or xs i 0 ≡ x = get_or_from_slice_get xs i x 0 is in
-    record {
-      inside = All-more (λ index. index < met) xs i 0 inside names.inside (subst (λ y. y < met) (sym here) within);
-      once = distinct_more xs i inside names.once (ap (λ y. times y (take i xs)) here ∙ none);
-    }
-
-none_cons : (here later : Bool) (n m : ℕ) → (here || later) ≡ false → n ≡ cond here 1 0 + m → (later ≡ false → m ≡ 0) → n ≡ 0
-none_cons true later n m h is next = absurd (cc)
-none_cons false later n m h is next = omega (arith, is, next h)
-
-pub any_none : (x : ℕ) (xs : List ℕ) → list_any (λ i. nat_eq i x) xs ≡ false → times x xs ≡ 0
-any_none x [] h = refl
-any_none x (y ∷ xs) h = none_cons (nat_eq y x) (list_any (λ i. nat_eq i x) xs) (times x (y ∷ xs)) (times x xs) h (times-cons x y xs) (any_none x xs)
-
-some_cons : (here later : Bool) (n m : ℕ) → (here || later) ≡ true → n ≡ cond here 1 0 + m → (later ≡ true → 1 ≤ m) → 1 ≤ n
-some_cons true later n m h is next = omega (arith, is)
-some_cons false later n m h is next = omega (arith, is, next h)
-
-pub any_some : (x : ℕ) (xs : List ℕ) → list_any (λ i. nat_eq i x) xs ≡ true → 1 ≤ times x xs
-any_some x [] h = absurd (cc)
-any_some x (y ∷ xs) h = some_cons (nat_eq y x) (list_any (λ i. nat_eq i x) xs) (times x (y ∷ xs)) (times x xs) h (times-cons x y xs) (any_some x xs)
+use Rattle.ats_client.proofs.Named.{any_none, any_some}
 
 -- ---- one more at the end
 
@@ -66,16 +23,12 @@ sum_snoc f xs x =
     let one = sum_by-cons f x [] in
     omega (arith, joined, one)
 
-or_false : (b : Bool) → (b || false) ≡ b
-or_false true = refl
-or_false false = refl
-
-or_true : (b : Bool) → (b || true) ≡ true
-or_true true = refl
-or_true false = refl
+pub or_none : (x y : Bool) → y ≡ false → (x || y) ≡ x
+or_none true y none = refl
+or_none false y none = none
 
 any_snoc : {X : Type 0} (p : X → Bool) (xs : List X) (x : X) → list_any p (xs ++ x ∷ []) ≡ (list_any p xs || p x)
-any_snoc p xs x = list_any-append p xs (x ∷ []) ∙ ap (λ b. list_any p xs || b) (or_false (p x))
+any_snoc p xs x = list_any-append p xs (x ∷ []) ∙ ap (λ b. list_any p xs || b) (or_none (p x) false refl)
 
 -- ---- marks
 
@@ -106,8 +59,8 @@ noted_here notes l named mark n is new some small_gain small_cover =
     record {
       least = omega (arith, gain, gained, least);
       cover = omega (arith, cover, covered, held);
-      met = some_list l some ∙ sym (any_snoc (λ (m : Note). nat_eq m.index n.index) notes n ∙ ap (λ b. has_note n.index notes || b) yes ∙ or_true (has_note n.index notes));
-      here = same_number l ∙ sym (any_snoc (λ i. nat_eq i n.index) named n.index ∙ ap (λ b. list_any (λ i. nat_eq i n.index) named || b) yes ∙ or_true (list_any (λ i. nat_eq i n.index) named));
+      met = some_list l some ∙ sym (any_snoc (λ (m : Note). nat_eq m.index n.index) notes n ∙ or_right (has_note n.index notes) (nat_eq n.index n.index) yes);
+      here = same_number l ∙ sym (any_snoc (λ i. nat_eq i n.index) named n.index ∙ or_right (list_any (λ i. nat_eq i n.index) named) (nat_eq n.index n.index) yes);
       early = omega arith;
       small_lo = omega arith;
       small_held = omega arith;
@@ -128,8 +81,8 @@ noted_there notes l named index mark n is other =
     record {
       least = omega (arith, gain, gained, least);
       cover = omega (arith, cover, covered, held);
-      met = is.met ∙ sym (any_snoc (λ (m : Note). nat_eq m.index index) notes n ∙ ap (λ b. has_note index notes || b) no ∙ or_false (has_note index notes));
-      here = is.here ∙ sym (any_snoc (λ i. nat_eq i index) named n.index ∙ ap (λ b. list_any (λ i. nat_eq i index) named || b) no ∙ or_false (list_any (λ i. nat_eq i index) named));
+      met = is.met ∙ sym (any_snoc (λ (m : Note). nat_eq m.index index) notes n ∙ or_none (has_note index notes) (nat_eq n.index index) no);
+      here = is.here ∙ sym (any_snoc (λ i. nat_eq i index) named n.index ∙ or_none (list_any (λ i. nat_eq i index) named) (nat_eq n.index index) no);
       early = is.early;
       small_lo = is.small_lo;
       small_held = is.small_held;

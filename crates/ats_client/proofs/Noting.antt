@@ -1,20 +1,17 @@
 -- What marks say of the documents that entries name, and what a row adds to them.
-use Rattle.std.proofs.Common.{◌≡◌, ◌≢◌, ◌<◌, ◌≤◌, ◌+◌, ◌||◌, ◌∷◌, ◌++◌, ℕ, Bool, true, false, nat_eq, nat_lt, List, [], length, take, drop, set, get_or, Some, slice_get, refl, sym, ap, ◌∙◌, inl, inr, arith}
+use Rattle.std.proofs.Common.{◌≡◌, ◌≢◌, ◌<◌, ◌≤◌, ◌+◌, ◌||◌, ℕ, Bool, true, false, nat_eq, nat_lt, List, length, take, set, get_or, Some, slice_get, sym, ap, ◌∙◌, inl, inr, arith}
 use Rattle.std.specs.List.{list_any}
-use Rattle.std.proofs.lemmas.Bool.{cases_order}
+use Rattle.std.proofs.lemmas.Bool.{cases_order, or_right}
 use Rattle.std.proofs.lemmas.Bool.Decides.{nat_tests}
-use Rattle.std.proofs.lemmas.List.{length-set, length-take-le, get_or-set_same, get_or-set_other, take-append-drop, drop_more}
-use Rattle.std.proofs.lemmas.List.Elements.{All-more}
+use Rattle.std.proofs.lemmas.List.{length-set, get_or-set_same, get_or-set_other}
 use Rattle.std.proofs.lemmas.List.Folds.{list_any_more}
 use Rattle.std.proofs.lemmas.Option.{get_or_from_slice_get}
-use Rattle.ats_impact.specs.Rank.{times}
 use Rattle.ats_bound.specs.declared.work.Mark.{Mark}
 use Rattle.ats_bound.specs.Work.{zero_mark, mark_at}
 use Rattle.ats_bound.specs.Cut.{ShownLane, IsMet}
-use Rattle.ats_bound.proofs.Places.{times_same, times_other, distinct_more}
-use Rattle.ats_client.specs.Indexes.{AreNames, IsOut, IsAgain}
 use Rattle.ats_client.specs.Groups.{met_at, IsUnmet}
 use Rattle.ats_client.specs.Marked.{IsMark, AreMarks, AreNoted}
+use Rattle.ats_client.proofs.Marks.{or_none}
 
 -- a mark with a list is that of a document that some entry names
 pub is_met : (lanes : List ShownLane) (met : List ℕ) (marks : List Mark) (i : ℕ) → AreMarks lanes met marks → i < length met
@@ -37,87 +34,6 @@ unmet_at lanes met marks i are inside none before = record {
 
 -- ---- the rows
 
--- whether a number stands in a list, and how often
-pub any_is_times : (i : ℕ) (rows : List ℕ) → list_any (λ index. nat_eq index i) rows ≡ nat_lt 0 (times i rows)
-any_is_times i [] = refl
-any_is_times i (m ∷ rows) =
-    let later = any_is_times i rows in
-    elim (cases_order m i) [
-      | inl is ↦
-          let yes : nat_eq m i ≡ true = grind (arith, nat_tests) in
-          let some : nat_lt 0 (times i (m ∷ rows)) ≡ true = grind (arith, nat_tests, times_same i m rows is) in
-          ap (λ b. b || list_any (λ index. nat_eq index i) rows) yes ∙ sym some
-      | inr other ↦
-          let no : nat_eq m i ≡ false = elim other [ inl less ↦ grind (arith, nat_tests, less) | inr more ↦ grind (arith, nat_tests, more) ] in
-          ap (λ b. b || list_any (λ index. nat_eq index i) rows) no ∙ (later ∙ ap (λ n. nat_lt 0 n) (sym (times_other i m rows other)))
-    ]
-
-pub stands_if : (i : ℕ) (rows : List ℕ) → list_any (λ index. nat_eq index i) rows ≡ true → 1 ≤ times i rows
-stands_if i rows seen =
-    let some : nat_lt 0 (times i rows) ≡ true = sym (any_is_times i rows) ∙ seen in
-    grind (arith, nat_tests)
-
-pub nowhere_if : (i : ℕ) (rows : List ℕ) → list_any (λ index. nat_eq index i) rows ≡ false → times i rows ≡ 0
-nowhere_if i rows unseen =
-    let none : nat_lt 0 (times i rows) ≡ false = sym (any_is_times i rows) ∙ unseen in
-    grind (arith, nat_tests)
-
-split_row : (rows : List ℕ) (k : ℕ) → k < length rows → rows ≡ take k rows ++ get_or rows k 0 ∷ drop (k + 1) rows
-split_row rows k inside = sym (take-append-drop k rows) ∙ ap (λ rest. take k rows ++ rest) (drop_more rows k 0 inside)
-
-module _ (met : ℕ) (rows : List ℕ) (k index : ℕ) (is : slice_get rows k ≡ Some index) (inside : k < length rows) (names : AreNames met (take k rows)) where
-  here : get_or rows k 0 ≡ index
-  here = get_or_from_slice_get rows k index 0 is
-
-  stands : rows ≡ take k rows ++ index ∷ drop (k + 1) rows
-  stands = split_row rows k inside ∙ ap (λ x. take k rows ++ x ∷ drop (k + 1) rows) here
-
-  place : length (take k rows) ≡ k
-  place = length-take-le k rows (omega (arith, inside))
-
-  -- a row that names no met document is the first that fails
-  pub row_out : met ≤ index → IsOut met rows k
-  row_out out = record {
-    before = take k rows;
-    index = index;
-    after = drop (k + 1) rows;
-    stands = stands;
-    place_of = place;
-    names = names;
-    out = out;
-  }
-
-  -- so is one whose document is noted
-  pub row_again : index < met → list_any (λ x. nat_eq x index) (take k rows) ≡ true → IsAgain met rows k
-  row_again low noted = record {
-    before = take k rows;
-    index = index;
-    after = drop (k + 1) rows;
-    stands = stands;
-    place_of = place;
-    names = names;
-    inside = low;
-    again = stands_if index (take k rows) noted;
-  }
-
-  -- one that names a document that is not noted keeps the rule
-  pub names_more : index < met → list_any (λ x. nat_eq x index) (take k rows) ≡ false → AreNames met (take (k + 1) rows)
-  names_more low fresh =
-      let none : times (get_or rows k 0) (take k rows) ≡ 0 = rw here (nowhere_if index (take k rows) fresh) in
-      let below : get_or rows k 0 < met = rw here low in
-      record {
-        inside = All-more (λ x. x < met) rows k 0 inside names.inside below;
-        once = distinct_more rows k inside names.once none;
-      }
-
-or_true : (b : Bool) → (b || true) ≡ true
-or_true true = refl
-or_true false = refl
-
-or_false : (b : Bool) → (b || false) ≡ b
-or_false true = refl
-or_false false = refl
-
 -- a row that is noted in the mark of its document
 pub noted_more : (rows : List ℕ) (k index : ℕ) (marks : List Mark) (mark : Mark) → slice_get rows k ≡ Some index → k < length rows
     → AreNoted (take k rows) marks → index < length marks → mark.row ≡ true → AreNoted (take (k + 1) rows) (set marks index mark)
@@ -129,14 +45,14 @@ noted_more rows k index marks mark is inside noted low marked i in_marks =
       | inl same ↦
           let seen : nat_eq index i ≡ true = grind (arith, nat_tests) in
           let there : mark_at (set marks index mark) i ≡ mark = ap (mark_at (set marks index mark)) same ∙ get_or-set_same marks index mark zero_mark low in
-          ap (λ (m : Mark). m.row) there ∙ (marked ∙ sym (more ∙ (ap (λ b. list_any (λ x. nat_eq x i) (take k rows) || b) seen ∙ or_true (list_any (λ x. nat_eq x i) (take k rows)))))
+          ap (λ (m : Mark). m.row) there ∙ (marked ∙ sym (more ∙ or_right (list_any (λ x. nat_eq x i) (take k rows)) (nat_eq index i) seen))
       | inr other ↦
           let apart : i ≢ index = λ same. elim other [ inl less ↦ omega (arith, less, same) | inr greater ↦ omega (arith, greater, same) ] in
           let unseen : nat_eq index i ≡ false = elim other [ inl less ↦ grind (arith, nat_tests, less) | inr greater ↦ grind (arith, nat_tests, greater) ] in
           let there : mark_at (set marks index mark) i ≡ mark_at marks i = get_or-set_other marks index i mark zero_mark apart in
           let before : i < length marks = omega (arith, in_marks, length-set marks index mark) in
           ap (λ (m : Mark). m.row) there
-          ∙ (noted i before ∙ sym (more ∙ (ap (λ b. list_any (λ x. nat_eq x i) (take k rows) || b) unseen ∙ or_false (list_any (λ x. nat_eq x i) (take k rows)))))
+          ∙ (noted i before ∙ sym (more ∙ or_none (list_any (λ x. nat_eq x i) (take k rows)) (nat_eq index i) unseen))
     ]
 
 -- a note of a row changes nothing of what a mark says of its document

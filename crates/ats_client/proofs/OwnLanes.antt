@@ -3,12 +3,11 @@ use Rattle.std.proofs.Common.{◌≡◌, ◌<◌, ◌≤◌, ◌+◌, ◌*◌, �
 use Rattle.std.specs.List.{All, sum_by}
 use Rattle.std.proofs.Math.Nat.{mul-le-mul_left}
 use Rattle.std.proofs.lemmas.Bool.{cases_Bool}
-use Rattle.std.proofs.lemmas.List.{length-map, get_or-map}
+use Rattle.std.proofs.lemmas.List.{length-map}
 use Rattle.std.proofs.lemmas.List.Elements.{All-head, All-tail, All-map}
 use Rattle.std.proofs.lemmas.List.Sorted.{length_permutation}
 use Rattle.std.proofs.lemmas.List.Sums.{sum_by-cons}
-use Rattle.std.proofs.lemmas.Option.{get_or_from_slice_get, slice_get_within}
-use Rattle.ats_terms.specs.Terms.{IsTerm}
+use Rattle.std.proofs.lemmas.Option.{slice_get_within}
 use Rattle.ats_terms.specs.Query.{IsQuery}
 use Rattle.ats_impact.specs.Numbers.{idf, ratio}
 use Rattle.ats_impact.specs.Score.{coefficient, frequency, score}
@@ -18,13 +17,13 @@ use Rattle.ats_lists.specs.Postings.{postings}
 use Rattle.ats_lists.specs.declared.entry.Entry.{Entry}
 use Rattle.ats_lists.proofs.PostingLemmas.{list_is_sorted}
 use Rattle.ats_lists.proofs.WholeLemmas.{list_keeps, list_frequency}
-use Rattle.ats_dict.specs.Entry.{DictEntry, dict_leaf_bytes}
-use Rattle.ats_dict.specs.Dictionary.{dict_leaves, IsBelow, low}
+use Rattle.ats_dict.specs.Entry.{dict_leaf_bytes}
+use Rattle.ats_dict.specs.Dictionary.{dict_leaves, IsBelow}
 use Rattle.ats_records.specs.declared.record.Slot.{Slot}
 use Rattle.ats_commit.specs.Trees.{dictionary_of}
 use Rattle.ats_commit.specs.Ours.{asked_term}
 use Rattle.ats_commit.specs.Own.{AreTexts, IsEntryOf, AreNeighbours}
-use Rattle.ats_commit.proofs.OwnLeaves.{leaf_tells_entry, neighbours_tell, leaf_tells_posting}
+use Rattle.ats_commit.proofs.OwnLeaves.{neighbours_tell, leaf_tells_posting}
 use Rattle.ats_bound.specs.Cut as cut
 use Rattle.ats_bound.specs.Cut.{ShownLane}
 use Rattle.ats_bound.specs.Ranked.{CutLane, IsCutLane, cut_of, impact_in, whole_score}
@@ -32,11 +31,13 @@ use Rattle.ats_bound.proofs.Texts.{score_listed}
 use Rattle.ats_proof.specs.Value.{ShownEntry, Prefix, Proof, present_in}
 use Rattle.ats_proof.specs.Runs.{named, shown_entry, shown_list}
 use Rattle.ats_proof.specs.Ranges.{IsShownInRange, IsEntryInRange, IsPrefixInRange, IsInRange}
-use Rattle.ats_client.specs.Presented.{Presented, presented, lane_of, entry_at}
-use Rattle.ats_client.specs.Slots.{Shown, IsAt, IsBetween, ShowsTerm}
-use Rattle.ats_client.specs.Groups.{IsListRight, AreSlotsRight, dict_terms, met_at, slot_at, term_at}
+use Rattle.ats_client.specs.Presented.{Presented, presented, lane_of}
+use Rattle.ats_client.specs.Slots.{Shown, IsBetween, ShowsTerm}
+use Rattle.ats_client.specs.Groups.{IsListRight, AreSlotsRight, dict_terms, met_at}
 use Rattle.ats_client.specs.Strings.{AreLeavesOf, IsOwnList}
-use Rattle.ats_client.proofs.Presents.{at_front}
+use Rattle.ats_client.proofs.Presents.{at_front, at_place}
+use Rattle.ats_client.proofs.Slotted.{slot_shows}
+use Rattle.ats_client.proofs.Descent.{IsAsked, asked-terms, entry-own, leaf_own, leaf_shown, pair_is}
 use Rattle.ats_client.proofs.Listed.{names_inside}
 use Rattle.ats_client.proofs.HeadlineTerms.{each_presented, sum_presented}
 
@@ -75,105 +76,60 @@ product_some a b some more =
     let least : a * 1 ≤ a * b = mul-le-mul_left {m = 1} {n = b} a more in
     omega (arith, least, some)
 
+-- ---- what holds of a present term
+
+-- a present term weighs something, and its prefix is in range
+abbrev Weighs : Presented → Type 0
+Weighs one = (1 ≤ one.weight) × IsPrefixInRange one.prefix
+
+-- it weighs something, its entry tells the length of its list, and its prefix is in range
+abbrev pub HasOwnList : List (List ℕ) → List (List ℕ × ℕ) → Presented → Type 0
+HasOwnList texts query one = (1 ≤ one.weight) × (one.entry.f ≡ length (list texts (asked_term query one.number))) × IsPrefixInRange one.prefix
+
 -- ---- the slots
 
 module _ (H : List ℕ → List ℕ) (texts : List (List ℕ)) (query : List (List ℕ × ℕ)) (proof : Proof) (are : AreTexts texts) (asked : IsQuery query) (range : IsInRange proof)
     (terms_own : AreLeavesOf (dict_leaves (dictionary_of H texts)) (map shown_entry proof.dict)) (right : AreSlotsRight query proof) where
-  abbrev none : ShownEntry
-  none = record { position = 0; entry = low }
-
-  abbrev shown_at : ℕ → ShownEntry
-  shown_at place = get_or proof.dict place none
-
-  abbrev term_shown : ShownEntry → Shown
-  term_shown e = record { position = e.position; term = e.entry.term }
-
-  shown_own : (place : ℕ) → place < length proof.dict
-      → slice_get (dict_leaves (dictionary_of H texts)) (shown_at place).position
-      ≡ Some (dict_leaf_bytes (shown_at place).entry.term (shown_at place).entry.f (shown_at place).entry.root)
-  shown_own place inside =
-      let size : length (map shown_entry proof.dict) ≡ length proof.dict = length-map proof.dict shown_entry in
-      let here = terms_own place (0, []) (omega (arith, inside, size)) in
-      subst (λ (s : ℕ × List ℕ). slice_get (dict_leaves (dictionary_of H texts)) s.0 ≡ Some s.1)
-      (get_or-map shown_entry proof.dict place none (0, []) inside) here
-
-  leaf_is : (place : ℕ) (leaf : Shown) → slice_get (dict_terms proof.dict) place ≡ Some leaf
-      → (place < length proof.dict) × (leaf ≡ term_shown (shown_at place))
-  leaf_is place leaf there =
-      let size : length (dict_terms proof.dict) ≡ length proof.dict = length-map proof.dict term_shown in
-      let inside : place < length proof.dict = omega (arith, slice_get_within (dict_terms proof.dict) place leaf there, size) in
-      (inside, sym (get_or_from_slice_get (dict_terms proof.dict) place leaf leaf there) ∙ get_or-map term_shown proof.dict place none leaf inside)
-
-  pair_is : (i : ℕ) (pair : List ℕ × ℕ) → slice_get query i ≡ Some pair → (IsTerm pair.0) × (1 ≤ pair.1) × (asked_term query i ≡ pair.0)
-  pair_is i pair at =
-      let inside : i < length query = slice_get_within query i pair at in
-      let here : get_or query i pair ≡ pair = get_or_from_slice_get query i pair pair at in (
-        subst (λ (p : List ℕ × ℕ). IsTerm p.0) here (asked.terms i pair inside),
-        subst (λ (p : List ℕ × ℕ). 1 ≤ p.1) here (asked.weighed i pair inside),
-        ap (λ (p : List ℕ × ℕ). p.0) (get_or_from_slice_get query i pair ([], 0) at),
-      )
-
-  shows : (i : ℕ) (pair : List ℕ × ℕ) (slot : Slot) → slice_get query i ≡ Some pair → slice_get proof.slots i ≡ Some slot
-      → ShowsTerm (dict_terms proof.dict) pair.0 slot
-  shows i pair slot at spot =
-      let inside : i < length query = slice_get_within query i pair at in
-      let slot_is : slot_at proof.slots i ≡ slot = get_or_from_slice_get proof.slots i slot (record { present = false; index = 0 }) spot in
-      let term_is : asked_term query i ≡ pair.0 = (pair_is i pair at).2 in
-      subst (λ (t : List ℕ). ShowsTerm (dict_terms proof.dict) t slot) term_is
-      (subst (λ (s : Slot). ShowsTerm (dict_terms proof.dict) (term_at query i) s) slot_is (right i inside))
-
-  -- a present term's entry tells the length of its list
-  pub entry_counts : (i : ℕ) (pair : List ℕ × ℕ) (slot : Slot) → slice_get query i ≡ Some pair → slice_get proof.slots i ≡ Some slot
-      → slot.present ≡ true → (entry_at proof.dict slot.index).f ≡ length (list texts pair.0)
-  entry_counts i pair slot at spot present =
-      let here : IsAt (dict_terms proof.dict) pair.0 slot.index = rw present at (shows i pair slot at spot) in
-      let leaf = leaf_is slot.index here.leaf here.there in
-      let shown : ShownEntry = shown_at slot.index in
-      let term_is : shown.entry.term ≡ pair.0 = sym (ap (λ (s : Shown). s.term) leaf.1) ∙ here.same in
-      let in_range : IsShownInRange shown = range.terms.each slot.index none leaf.0 in
-      let entry : IsEntryOf H texts shown.entry = leaf_tells_entry H texts are shown.position shown.entry
-      (subst IsTerm (sym term_is) (pair_is i pair at).0) in_range.number (shown_own slot.index leaf.0) in
-      let entry_is : entry_at proof.dict slot.index ≡ shown.entry = get_or-map (λ (s : ShownEntry). s.entry) proof.dict slot.index none low leaf.0 in
-      ap (λ (e : DictEntry). e.f) entry_is ∙ entry.number ∙ ap (λ t. length (list texts t)) term_is
-
   -- an absent term has no list
   pub absent_none : (i : ℕ) (pair : List ℕ × ℕ) (slot : Slot) → slice_get query i ≡ Some pair → slice_get proof.slots i ≡ Some slot
       → slot.present ≡ false → list texts pair.0 ≡ []
   absent_none i pair slot at spot absent =
-      let here : IsBetween (dict_terms proof.dict) pair.0 slot.index = rw absent at (shows i pair slot at spot) in
-      let below = leaf_is slot.index here.lower here.there in
-      let above = leaf_is (slot.index + 1) here.upper here.next in
-      let lower : ShownEntry = shown_at slot.index in
-      let upper : ShownEntry = shown_at (slot.index + 1) in
-      let lower_range : IsShownInRange lower = range.terms.each slot.index none below.0 in
-      let upper_range : IsShownInRange upper = range.terms.each (slot.index + 1) none above.0 in
+      let shows = subst (λ (t : List ℕ). ShowsTerm (dict_terms proof.dict) t slot) (pair_is query asked i pair at).2
+      (slot_shows query proof i slot spot (right i (slice_get_within query i pair at))) in
+      let here : IsBetween (dict_terms proof.dict) pair.0 slot.index = rw absent at shows in
+      let below = leaf_shown proof.dict slot.index here.lower here.there in
+      let above = leaf_shown proof.dict (slot.index + 1) here.upper here.next in
+      let lower : ShownEntry = below.0 in
+      let upper : ShownEntry = above.0 in
+      let lower_range : IsShownInRange lower = at_place IsShownInRange proof.dict slot.index lower range.terms.each below.1 in
+      let upper_range : IsShownInRange upper = at_place IsShownInRange proof.dict (slot.index + 1) upper range.terms.each above.1 in
       let next : upper.position ≡ lower.position + 1 =
-      sym (ap (λ (s : Shown). s.position) above.1) ∙ here.neighbours ∙ ap (λ (s : Shown). s.position + 1) below.1 in
+      ap (λ (s : Shown). s.position) above.2 ∙ here.neighbours ∙ ap (λ (s : Shown). s.position + 1) (sym below.2) in
       let upper_own = subst (λ p. slice_get (dict_leaves (dictionary_of H texts)) p ≡ Some (dict_leaf_bytes upper.entry.term upper.entry.f upper.entry.root)) next
-      (shown_own (slot.index + 1) above.0) in
+      (leaf_own H texts proof.dict (slot.index + 1) upper terms_own above.1) in
       let neighbours : AreNeighbours (dict_leaves (dictionary_of H texts)) lower.position lower.entry upper.entry = record {
         first_small = lower_range.number;
         second_small = upper_range.number;
-        first = shown_own slot.index below.0;
+        first = leaf_own H texts proof.dict slot.index lower terms_own below.1;
         second = upper_own;
       } in
       (neighbours_tell H texts are lower.position lower.entry upper.entry pair.0 neighbours
-      (subst (λ t. IsBelow t pair.0) (ap (λ (s : Shown). s.term) below.1) here.above)
-      (subst (λ t. IsBelow pair.0 t) (ap (λ (s : Shown). s.term) above.1) here.below)).0
+      (subst (λ t. IsBelow t pair.0) (ap (λ (s : Shown). s.term) (sym below.2)) here.above)
+      (subst (λ t. IsBelow pair.0 t) (ap (λ (s : Shown). s.term) (sym above.2)) here.below)).0
 
   -- ---- the present terms
 
-  -- a present term weighs something, its entry tells the length of its list, and its prefix is in range
-  abbrev pub HasOwnList : Presented → Type 0
-  HasOwnList one = (1 ≤ one.weight) × (one.entry.f ≡ length (list texts (asked_term query one.number))) × IsPrefixInRange one.prefix
-
-  pub each_own : present_in proof.slots ≡ length proof.lists → All HasOwnList (presented query proof)
+  pub each_own : present_in proof.slots ≡ length proof.lists → All (HasOwnList texts query) (presented query proof)
   each_own size =
-      each_presented HasOwnList proof.dict 0 query proof.slots proof.lists size range.fronts (λ j pair slot prefix at spot present in_range.
-      let is = pair_is j pair at in
-      let number : 0 + j ≡ j = omega arith in
-      let term_is : asked_term query (0 + j) ≡ pair.0 = ap (asked_term query) number ∙ is.2 in
-      (is.1, entry_counts j pair slot at spot present ∙ ap (λ t. length (list texts t)) (sym term_is), in_range))
+      let terms : List Presented = presented query proof in
+      let each_asked : All (IsAsked query proof.dict) terms = asked-terms query proof asked right range size in
+      let each_weighs : All Weighs terms = each_presented Weighs proof.dict 0 query proof.slots proof.lists size range.fronts
+      (λ j pair slot prefix at spot present in_range. ((pair_is query asked j pair at).1, in_range)) in
+      λ k d inside.
+      let is : IsAsked query proof.dict (get_or terms k d) = each_asked k d inside in
+      let entry : IsEntryOf H texts (get_or terms k d).entry = entry-own H texts query proof.dict (get_or terms k d) are range.terms.each terms_own is in
+      let weighs : Weighs (get_or terms k d) = each_weighs k d inside in
+      (weighs.0, entry.number ∙ ap (λ t. length (list texts t)) is.same, weighs.1)
 
 -- ---- the lanes
 
@@ -190,20 +146,17 @@ own_lanes texts query proof = map (own_lane texts query) (presented query proof)
 
 module _ (H : List ℕ → List ℕ) (texts : List (List ℕ)) (query : List (List ℕ × ℕ)) (documents : ℕ) (met : List ℕ) (are : AreTexts texts)
     (number : documents ≡ length texts) (small : All (λ id. id < 2 ^ 32) met) where
-  abbrev IsOne : Presented → Type 0
-  IsOne one = (1 ≤ one.weight) × (one.entry.f ≡ length (list texts (asked_term query one.number))) × IsPrefixInRange one.prefix
-
   abbrev pub AllOf : List Presented → Type 0
-  AllOf terms = All IsOne terms × All (IsOwnList texts query met) terms × All (IsListRight H met) terms
+  AllOf terms = All (HasOwnList texts query) terms × All (IsOwnList texts query met) terms × All (IsListRight H met) terms
 
-  front_is : (one : Presented) → IsOne one → IsOwnList texts query met one → IsListRight H met one
+  front_is : (one : Presented) → HasOwnList texts query one → IsOwnList texts query met one → IsListRight H met one
       → map (named met) one.prefix.entries ≡ take (length one.prefix.entries) (list texts (asked_term query one.number))
   front_is one is own right =
       let entries : List Entry = one.prefix.entries in
       let term : List ℕ = asked_term query one.number in
       front_from texts are term met 0 entries small (names_inside (length met) entries right.names) is.2.each own
 
-  lane_is : (one : Presented) → IsOne one → IsOwnList texts query met one → IsListRight H met one
+  lane_is : (one : Presented) → HasOwnList texts query one → IsOwnList texts query met one → IsListRight H met one
       → lane_of documents met one ≡ cut.lane_of (own_lane texts query one).coefficient (own_lane texts query one).entries (own_lane texts query one).shown
   lane_is one is own right =
       let term : List ℕ = asked_term query one.number in
@@ -213,7 +166,7 @@ module _ (H : List ℕ → List ℕ) (texts : List (List ℕ)) (query : List (Li
       ap₂ (λ n often. made (one.weight * idf n often) f (map (named met) one.prefix.entries)) number often
       ∙ ap₂ (made (one.weight * idf (length texts) (frequency term texts))) is.1 (front_is one is own right)
 
-  cut_is : (one : Presented) → IsOne one → IsOwnList texts query met one → IsListRight H met one → IsCutLane (length texts) (own_lane texts query one)
+  cut_is : (one : Presented) → HasOwnList texts query one → IsOwnList texts query met one → IsListRight H met one → IsCutLane (length texts) (own_lane texts query one)
   cut_is one is own right =
       let term : List ℕ = asked_term query one.number in
       let entries : List Entry = one.prefix.entries in
@@ -233,11 +186,11 @@ module _ (H : List ℕ → List ℕ) (texts : List (List ℕ)) (query : List (Li
   pub lanes_cut : (terms : List Presented) → AllOf terms → map (lane_of documents met) terms ≡ cut_of (map (own_lane texts query) terms)
   lanes_cut [] all = refl
   lanes_cut (one ∷ terms) all =
-      let is = All-head IsOne one terms all.0 in
+      let is = All-head (HasOwnList texts query) one terms all.0 in
       let own = All-head (IsOwnList texts query met) one terms all.1 in
       let right = All-head (IsListRight H met) one terms all.2 in
       ap₂ (λ (l : ShownLane) (ls : List ShownLane). l ∷ ls) (lane_is one is own right)
-      (lanes_cut terms (All-tail IsOne one terms all.0, All-tail (IsOwnList texts query met) one terms all.1, All-tail (IsListRight H met) one terms all.2))
+      (lanes_cut terms (All-tail (HasOwnList texts query) one terms all.0, All-tail (IsOwnList texts query met) one terms all.1, All-tail (IsListRight H met) one terms all.2))
 
   pub each_cut : (terms : List Presented) → AllOf terms → All (IsCutLane (length texts)) (map (own_lane texts query) terms)
   each_cut terms all =
@@ -271,7 +224,7 @@ pub score_own : (H : List ℕ → List ℕ) (texts : List (List ℕ)) (query : L
 score_own H texts query proof are asked range terms_own right size doc low =
     let adds = λ (j : ℕ) (pair : List ℕ × ℕ) (slot : Slot) (prefix : Prefix) (at : slice_get query j ≡ Some pair) (spot : slice_get proof.slots j ≡ Some slot) (present : slot.present ≡ true).
     let number : 0 + j ≡ j = omega arith in
-    let term_is : asked_term query (0 + j) ≡ pair.0 = ap (asked_term query) number ∙ (pair_is H texts query proof are asked range terms_own right j pair at).2 in
+    let term_is : asked_term query (0 + j) ≡ pair.0 = ap (asked_term query) number ∙ (pair_is query asked j pair at).2 in
     ap (λ t. (pair.1 * idf (length texts) (frequency t texts)) * impact_in doc (list texts t)) term_is in
     let nothing = λ (j : ℕ) (pair : List ℕ × ℕ) (slot : Slot) (at : slice_get query j ≡ Some pair) (spot : slice_get proof.slots j ≡ Some slot) (absent : slot.present ≡ false).
     let none_listed : list texts pair.0 ≡ [] = absent_none H texts query proof are asked range terms_own right j pair slot at spot absent in

@@ -1,5 +1,6 @@
 -- The present terms from a number on.
-use Rattle.std.proofs.Common.{◌≡◌, ◌<◌, ◌+◌, ◌∙◌, ℕ, suc, Bool, true, false, not, List, [], ◌∷◌, length, map, drop, slice_get, Some, None, option_map, refl, sym, ap, ap₂, subst, arith, drop-cons, add-one, cond}
+use Rattle.std.proofs.Common.{◌≡◌, ◌<◌, ◌+◌, ◌∙◌, ℕ, suc, true, false, List, [], ◌∷◌, length, map, drop, slice_get, Some, None, option_map, sym, ap, ap₂, subst, arith, drop-cons, add-one, cond}
+use Rattle.std.specs.List.{All}
 use Rattle.std.proofs.lemmas.List.{length-drop}
 use Rattle.std.proofs.lemmas.List.Sums.{sum_by-cons}
 use Rattle.std.proofs.lemmas.Option.{get_or_from_slice_get, slice_get_within, slice_get-map}
@@ -8,8 +9,13 @@ use Rattle.ats_dict.specs.Dictionary.{low}
 use Rattle.ats_records.specs.declared.record.Slot.{Slot}
 use Rattle.ats_proof.specs.Value.{ShownEntry, Prefix, Proof, present_in, kind_of_slot}
 use Rattle.ats_client.specs.Presented.{Presented, presented_from, entry_at, first_prefix}
-use Rattle.ats_client.specs.Slots.{IsAt, ShowsTerm}
-use Rattle.ats_client.specs.Groups.{dict_terms, term_at, slot_at, IsSlotRight}
+use Rattle.ats_client.specs.Slots.{IsAt}
+use Rattle.ats_client.specs.Groups.{dict_terms, term_at, IsSlotRight}
+use Rattle.ats_client.proofs.Slotted.{slot_shows}
+
+-- what holds of all elements holds of the one at a place
+pub at_place : {X : Type 0} (P : X → Type 0) (xs : List X) (i : ℕ) (x : X) → All P xs → slice_get xs i ≡ Some x → P x
+at_place P xs i x all is = subst P (get_or_from_slice_get xs i x x is) (all i x (slice_get_within xs i x is))
 
 -- the items from a place on, where one stands there
 pub at_front : {X : Type 0} (xs : List X) (i : ℕ) (x : X) → slice_get xs i ≡ Some x → drop i xs ≡ x ∷ drop (i + 1) xs
@@ -70,8 +76,7 @@ leaf_gone dict place is = slice_get-map _ dict place ∙ ap (option_map _) (sym 
 pub has_leaf : (query : List (List ℕ × ℕ)) (proof : Proof) (i : ℕ) (slot : Slot) → IsSlotRight query proof i → slice_get proof.slots i ≡ Some slot → slot.present ≡ true
     → None ≡ slice_get proof.dict slot.index → ⊥
 has_leaf query proof i slot right is present none =
-    let slot_is : slot_at proof.slots i ≡ slot = get_or_from_slice_get proof.slots i slot (record { present = false; index = 0 }) is in
-    let shows = subst (λ (s : Slot). ShowsTerm (dict_terms proof.dict) (term_at query i) s) slot_is right in
+    let shows = slot_shows query proof i slot is right in
     let at : IsAt (dict_terms proof.dict) (term_at query i) slot.index = rw present at shows in
     let there = at.there in
     let gone = leaf_gone proof.dict slot.index none in
@@ -90,11 +95,3 @@ same_one i weight weight' entry entry' prefix prefix' same_weight same_entry sam
     ap (λ w. let one : Presented = record { number = i; weight = w; entry = entry; prefix = prefix } in one) same_weight
     ∙ ap (λ e. let one : Presented = record { number = i; weight = weight'; entry = e; prefix = prefix } in one) same_entry
     ∙ ap (λ p. let one : Presented = record { number = i; weight = weight'; entry = entry'; prefix = p } in one) same_prefix
-
-pub not_false : (b : Bool) → not b ≡ false → b ≡ true
-not_false true is = refl
-not_false false is = absurd (cc)
-
-pub not_true : (b : Bool) → not b ≡ true → b ≡ false
-not_true true is = absurd (cc)
-not_true false is = refl

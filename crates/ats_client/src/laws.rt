@@ -1,4 +1,4 @@
-//! What an accepted proof says of a collection, as contracts of functions that do nothing.
+//! What an accepted proof says of a collection, and that a refusal is one, as contracts of functions that do nothing.
 
 ghost use Rattle.std.specs.Prelude.{◌≡◌, ℕ, List};
 ghost use Rattle.ats_tree.specs.Clashes.{first_clash};
@@ -8,7 +8,8 @@ ghost use Rattle.ats_commit.specs.Ours.{ours};
 ghost use Rattle.ats_commit.specs.Own.{AreTexts};
 ghost use Rattle.ats_proof.specs.Value.{Proof, IsProof};
 ghost use Rattle.ats_client.specs.Rows.{rows_of};
-ghost use Rattle.ats_client.specs.Accepts.{Accepts};
+ghost use Rattle.ats_client.specs.declared.refusal.Refusal.{Refusal};
+ghost use Rattle.ats_client.specs.Accepts.{Accepts, IsFirstRefusal};
 ghost use Rattle.ats_client.specs.Strings.{strings_of, extract, IsOwn, IsBound};
 ghost use Rattle.ats_client.specs.Headline.{AreRight, IsTopOrCollides};
 
@@ -36,4 +37,12 @@ pub fn own_leaves_make_rows_right<H: HashKind>()
 pub fn accepted_answers_are_top<H: HashKind>()
     ensures { (root : List ℕ) (query : List (List ℕ × ℕ)) (r : ℕ) (bytes : List ℕ) (proof : Proof) → IsQuery query → IsProof bytes proof
         → Accepts H.hash root query r proof → IsTopOrCollides H.hash root query r proof }
+{}
+
+/// A proof has one first refusal at most, and none where all rules hold.
+pub fn proofs_have_one_refusal<H: HashKind>()
+    ensures one { (root : List ℕ) (query : List (List ℕ × ℕ)) (r : ℕ) (proof : Proof) (a b : Refusal)
+        → IsFirstRefusal H.hash root query r proof a → IsFirstRefusal H.hash root query r proof b → a ≡ b }
+    ensures none { (root : List ℕ) (query : List (List ℕ × ℕ)) (r : ℕ) (proof : Proof) (refusal : Refusal)
+        → Accepts H.hash root query r proof → IsFirstRefusal H.hash root query r proof refusal → ⊥ }
 {}

@@ -34,5 +34,8 @@ mod walk;
 
 pub use answer::row;
 pub use checking::check;
-pub use laws::{accepted_answers_are_top, own_leaves_make_rows_right, shown_leaves_are_bound};
+pub use laws::{
+    accepted_answers_are_top, own_leaves_make_rows_right, proofs_have_one_refusal,
+    shown_leaves_are_bound,
+};
 pub use refusal::Refusal;

@@ -12,6 +12,7 @@ use Rattle.ats_client.specs.Groups.{met_at}
 use Rattle.ats_client.specs.Presented.{lanes_of}
 use Rattle.ats_client.specs.Rows.{IsLeft, row_of}
 use Rattle.ats_client.proofs.Bounding.{held_within, upper_is}
+use Rattle.ats_client.proofs.Presents.{at_place}
 use Rattle.ats_client.proofs.answer.row.Goals as goal
 
 number_of_four : (bytes : List ℕ) → length bytes ≡ 4
@@ -35,8 +36,7 @@ upper-requires-clause-held c =
     let query : List (List ℕ × ℕ) = c.requires.left.0 in
     let left : IsLeft query proof c.args.work.now.marks c.args.threshold = c.requires.left.1 in
     let index : ℕ = c.answer-index.result in
-    let here : get_or proof.answer c.args.i 0 ≡ index = get_or_from_slice_get proof.answer c.args.i index 0 c.answer-index.ensures.row in
-    let inside : index < length proof.met = omega (arith, here, left.inside c.args.i 0 c.requires.within) in
+    let inside : index < length proof.met = at_place (λ (x : ℕ). x < length proof.met) proof.answer c.args.i index left.inside c.answer-index.ensures.row in
     rw c.get-mark.ensures.mark (held_within (lanes_of query proof) proof.met c.args.work.now.marks c.args.threshold left.each left.rests index inside)
 
 pub upper-requires-clause-small : goal.upper-requires-clause-small
@@ -45,8 +45,7 @@ upper-requires-clause-small c =
     let query : List (List ℕ × ℕ) = c.requires.left.0 in
     let left : IsLeft query proof c.args.work.now.marks c.args.threshold = c.requires.left.1 in
     let index : ℕ = c.answer-index.result in
-    let here : get_or proof.answer c.args.i 0 ≡ index = get_or_from_slice_get proof.answer c.args.i index 0 c.answer-index.ensures.row in
-    let inside : index < length proof.met = omega (arith, here, left.inside c.args.i 0 c.requires.within) in
+    let inside : index < length proof.met = at_place (λ (x : ℕ). x < length proof.met) proof.answer c.args.i index left.inside c.answer-index.ensures.row in
     omega (arith, ap (λ (m : Mark). m.lo) c.get-mark.ensures.mark, (left.each.each index inside).small, left.small)
 
 pub returns-clause-row : goal.returns-clause-row
@@ -56,7 +55,7 @@ returns-clause-row c query left =
     let marks : List Mark = c.args.work.now.marks in
     let index : ℕ = c.answer-index.result in
     let here : get_or proof.answer c.args.i 0 ≡ index = get_or_from_slice_get proof.answer c.args.i index 0 c.answer-index.ensures.row in
-    let inside : index < length proof.met = omega (arith, here, left.inside c.args.i 0 c.requires.within) in
+    let inside : index < length proof.met = at_place (λ (x : ℕ). x < length proof.met) proof.answer c.args.i index left.inside c.answer-index.ensures.row in
     let id : get_or proof.met index 0 ≡ number c.met_id-id.result.now = get_or_from_slice_get proof.met index (number c.met_id-id.result.now) 0 c.met_id-id.ensures.id in
     let doc : c.from_be_bytes.result ≡ get_or proof.met index 0 = omega (arith, number_of_four c.met_id-id.result.now c.met_id-id.ensures.size, c.from_be_bytes.ensures, id) in
     let lower : c.get-mark.result.lo ≡ (bracket lanes (met_at proof.met index)).lo = ap (λ (m : Mark). m.lo) c.get-mark.ensures.mark ∙ (left.each.each index inside).least in

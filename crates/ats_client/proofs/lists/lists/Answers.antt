@@ -74,7 +74,7 @@ returns-clause-right g c =
 
 pub returns-clause-marks : goal.returns-clause-marks
 returns-clause-marks g c =
-    marks_done g.H.HashKind.hash c.args.query.now (proof_of c.args.proof.now) c.loop-i.limit c.loop-i.work.marks c.args.proof.now.placed.are_rising.ids
+    marks_done g.H.HashKind.hash c.args.query.now (proof_of c.args.proof.now) c.loop-i.limit c.loop-i.work.marks c.args.proof.now.in_range.ids.rise
     (done g.H.HashKind.hash c.args.query.now (proof_of c.args.proof.now) c.loop-i.i (prefixes_left c.loop-i.left) c.loop-i.limit c.loop-i.work.marks c.loop-i.invariant.passed
     (omega (arith, c.len-i-end.ensures.value)) (omega (arith, c.len-i-end.ensures.value, c.len-i-end.ensures.query.few)))
 

@@ -6,7 +6,8 @@ use Rattle.ats_bound.specs.Work.{Marked, mark_at}
 use Rattle.ats_client.specs.Groups.{indexes_of}
 use Rattle.ats_client.specs.Lists.{prefix_of}
 use Rattle.ats_client.specs.Noting.{Note, AreNotes}
-use Rattle.ats_client.proofs.Marks.{out_at, again_at, names_more, index_at, notes_next, named_before, not_named, room_for}
+use Rattle.ats_client.proofs.Named.{out_at, again_at, names_more}
+use Rattle.ats_client.proofs.Marks.{index_at, notes_next, named_before, not_named, room_for}
 use Rattle.ats_client.proofs.marking.entries.Goals as goal
 
 pub returns-then-entry-met-clause-fault : goal.returns-then-entry-met-clause-fault

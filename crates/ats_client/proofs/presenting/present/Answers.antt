@@ -1,10 +1,11 @@
 use Rattle.std.proofs.Common.{◌≡◌, ◌∙◌, List, [], length, get_or, slice_get, Some, None, sym, ap}
+use Rattle.std.proofs.lemmas.Bool.{not-true, not-false}
 use Rattle.std.proofs.lemmas.Option.{slice_get-get_or}
 use Rattle.ats_proof.specs.Value.{ShownEntry, Prefix}
 use Rattle.ats_proof.specs.Views.{proof_of}
 use Rattle.ats_client.specs.Seen.{shown_of}
 use Rattle.ats_client.specs.Lists.{prefix_of, prefixes_left}
-use Rattle.ats_client.proofs.Presents.{none_present, one_present, entry_there, prefix_there, fewer_absent, prefixes_fewer, has_leaf, has_prefix, same_one, not_true, not_false}
+use Rattle.ats_client.proofs.Presents.{none_present, one_present, entry_there, prefix_there, fewer_absent, prefixes_fewer, has_leaf, has_prefix, same_one}
 use Rattle.ats_client.proofs.presenting.present.Goals as goal
 
 pub returns-then-not-slot-clause-none : goal.returns-then-not-slot-clause-none
@@ -12,23 +13,23 @@ returns-then-not-slot-clause-none c =
     let query = c.args.query.now in
     let proof = proof_of c.args.proof.now in
     none_present proof.dict c.args.i query proof.slots (prefixes_left c.args.left.now) (get_or query c.args.i ([], 0)) c.slot-slot.result
-    (slice_get-get_or query c.args.i ([], 0) c.requires.inside) c.slot-slot.ensures.slot (not_true c.slot-slot.result.present c.if-not-slot.true)
+    (slice_get-get_or query c.args.i ([], 0) c.requires.inside) c.slot-slot.ensures.slot (not-true c.slot-slot.result.present c.if-not-slot.true)
 
 pub returns-then-not-slot-clause-enough : goal.returns-then-not-slot-clause-enough
 returns-then-not-slot-clause-enough c =
     fewer_absent (proof_of c.args.proof.now).slots c.args.i (length (prefixes_left c.args.left.now)) c.slot-slot.result c.slot-slot.ensures.slot
-    (not_true c.slot-slot.result.present c.if-not-slot.true) c.requires.enough
+    (not-true c.slot-slot.result.present c.if-not-slot.true) c.requires.enough
 
 pub unreachable-requires : goal.unreachable-requires
 unreachable-requires c =
     let proof = proof_of c.args.proof.now in
     let none : None ≡ slice_get proof.dict c.slot-slot.result.index = c.in_default.ensures.leaf ∙ ap (λ (dict : List ShownEntry). slice_get dict c.slot-slot.result.index) c.requires.dict in
-    has_leaf c.args.query.now proof c.args.i c.slot-slot.result c.requires.right c.slot-slot.ensures.slot (not_false c.slot-slot.result.present c.if-not-slot.false) none
+    has_leaf c.args.query.now proof c.args.i c.slot-slot.result c.requires.right c.slot-slot.ensures.slot (not-false c.slot-slot.result.present c.if-not-slot.false) none
 
 pub unreachable-requires-in_default-next_list : goal.unreachable-requires-in_default-next_list
 unreachable-requires-in_default-next_list c =
     has_prefix (proof_of c.args.proof.now).slots c.args.i (prefixes_left c.args.left.now) c.slot-slot.result c.slot-slot.ensures.slot
-    (not_false c.slot-slot.result.present c.if-not-slot.false) c.requires.enough c.in_default-next_list.ensures.first
+    (not-false c.slot-slot.result.present c.if-not-slot.false) c.requires.enough c.in_default-next_list.ensures.first
 
 pub returns-clause-some : goal.returns-clause-some
 returns-clause-some c =
@@ -42,10 +43,10 @@ returns-clause-some c =
     let prefix = prefix_there left (prefix_of c.in-Some-next_list.list) c.in-Some-next_list.ensures.first in
     let same = same_one i _ _ _ _ _ _ (c.weight.ensures.value ([], 0)) entry prefix in
     one_present proof.dict i query proof.slots left (prefixes_left c.next_list.new.left) (get_or query i ([], 0)) slot _
-    (slice_get-get_or query i ([], 0) c.requires.inside) c.slot-slot.ensures.slot (not_false slot.present c.if-not-slot.false) same c.next_list.ensures.passed
+    (slice_get-get_or query i ([], 0) c.requires.inside) c.slot-slot.ensures.slot (not-false slot.present c.if-not-slot.false) same c.next_list.ensures.passed
 
 pub returns-clause-enough : goal.returns-clause-enough
 returns-clause-enough c =
     prefixes_fewer (proof_of c.args.proof.now).slots c.args.i (prefixes_left c.args.left.now) c.slot-slot.result c.slot-slot.ensures.slot
-    (not_false c.slot-slot.result.present c.if-not-slot.false) c.requires.enough
+    (not-false c.slot-slot.result.present c.if-not-slot.false) c.requires.enough
     ∙ ap (λ (more : List Prefix). length more) (sym c.next_list.ensures.passed)

@@ -5,13 +5,14 @@ use Rattle.ats_bound.specs.Work.{Marked, mark_at}
 use Rattle.ats_proof.specs.Views.{proof_of}
 use Rattle.ats_proof.specs.Value.{Proof}
 use Rattle.ats_client.specs.Marked.{AreMarks, AreNoted}
-use Rattle.ats_client.proofs.Noting.{row_out, row_again, names_more, noted_more, marks_kept}
+use Rattle.ats_client.proofs.Named.{any_none, any_some, out_at, again_at, names_more}
+use Rattle.ats_client.proofs.Noting.{noted_more, marks_kept}
 use Rattle.ats_client.proofs.rows.read_row.Goals as goal
 
 pub returns-then-index-met-clause-fault : goal.returns-then-index-met-clause-fault
 returns-then-index-met-clause-fault c =
     let proof : Proof = proof_of c.args.proof.now in
-    row_out (length proof.met) proof.answer c.args.row c.answer-index.result c.answer-index.ensures.row c.requires.within c.requires.before (omega (arith, c.met.ensures, c.if-index-met.true))
+    out_at (length proof.met) proof.answer c.args.row c.answer-index.result c.answer-index.ensures.row c.requires.before (omega (arith, c.met.ensures, c.if-index-met.true))
 
 pub returns-then-mark-clause-fault : goal.returns-then-mark-clause-fault
 returns-then-mark-clause-fault c =
@@ -20,7 +21,7 @@ returns-then-mark-clause-fault c =
     let low : index < length proof.met = omega (arith, c.met.ensures, c.if-index-met.false) in
     let seen : list_any (λ x. nat_eq x index) (take c.args.row proof.answer) ≡ true =
     sym (c.requires.noted index (omega (arith, low, c.requires.size))) ∙ (sym (ap (λ (m : Mark). m.row) c.get-mark.ensures.mark) ∙ c.if-mark.true) in
-    row_again (length proof.met) proof.answer c.args.row index c.answer-index.ensures.row c.requires.within c.requires.before low seen
+    again_at (length proof.met) proof.answer c.args.row index c.answer-index.ensures.row c.requires.before low (any_some index (take c.args.row proof.answer) seen)
 
 pub returns-clause-names : goal.returns-clause-names
 returns-clause-names c =
@@ -29,7 +30,7 @@ returns-clause-names c =
     let low : index < length proof.met = omega (arith, c.met.ensures, c.if-index-met.false) in
     let unseen : list_any (λ x. nat_eq x index) (take c.args.row proof.answer) ≡ false =
     sym (c.requires.noted index (omega (arith, low, c.requires.size))) ∙ (sym (ap (λ (m : Mark). m.row) c.get-mark.ensures.mark) ∙ c.if-mark.false) in
-    names_more (length proof.met) proof.answer c.args.row index c.answer-index.ensures.row c.requires.within c.requires.before low unseen
+    names_more (length proof.met) proof.answer c.args.row index c.answer-index.ensures.row c.requires.before low (any_none index (take c.args.row proof.answer) unseen)
 
 pub returns-clause-noted : goal.returns-clause-noted
 returns-clause-noted c =

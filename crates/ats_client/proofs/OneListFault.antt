@@ -1,0 +1,117 @@
+-- Indexes break their rule first at one place at most, and the present terms have one first failure at most.
+use Rattle.std.proofs.Common.{◌≡◌, ◌∙◌, ◌⊎◌, ℕ, List, [], ◌∷◌, ◌++◌, length, refl, sym, ap, ap₂, subst, arith, inl, inr}
+use Rattle.std.specs.List.{All}
+use Rattle.ats_proof.specs.Value.{Proof}
+use Rattle.ats_client.specs.declared.refusal.Refusal.{Refusal}
+use Rattle.ats_client.specs.declared.refusal.Refusal.TheVariants.{IndexOut, Repeated, ListMisfit, ListRoot}
+use Rattle.ats_client.specs.Presented.{Presented}
+use Rattle.ats_client.specs.Indexes.{AreNames, IsOut, IsAgain}
+use Rattle.ats_client.specs.Groups.{IsListRight, IsListFault, IsEntryFault, IsListRootFault, IsListsFault, indexes_of}
+use Rattle.ats_client.proofs.Exact.{all_middle, not_out, not_again, not_entries, not_list}
+
+-- a failure of a rule, or else one of what comes after it, is one where both are
+pub one_of : {K A B L M : Type 0} {a b : Refusal} → (A → K → ⊥) → (B → K → ⊥) → (A → B → a ≡ b) → (L → M → a ≡ b) → A ⊎ (K × L) → B ⊎ (K × M) → a ≡ b
+one_of breaks ends here later (inl first) (inl second) = here first second
+one_of breaks ends here later (inl first) (inr second) = absurd (breaks first second.0)
+one_of breaks ends here later (inr first) (inl second) = absurd (ends second first.0)
+one_of breaks ends here later (inr first) (inr second) = later first.1 second.1
+
+-- two fronts of a list that keep a rule, each before an element with which it is broken, whatever follows, are the same
+one_front : {X : Type 0} (Keeps : List X → Type 0) (before other : List X) (x y : X) (after rest : List X) → before ++ x ∷ after ≡ other ++ y ∷ rest
+    → Keeps before → Keeps other → ((more : List X) → Keeps (before ++ x ∷ more) → ⊥) → ((more : List X) → Keeps (other ++ y ∷ more) → ⊥)
+    → (before ≡ other) × (x ≡ y)
+one_front Keeps [] [] x y after rest same kept held breaks ends = (refl, cc)
+one_front Keeps [] (z ∷ other) x y after rest same kept held breaks ends =
+    let first : z ≡ x = cc in
+    absurd (breaks other (subst (λ w. Keeps (w ∷ other)) first held))
+one_front Keeps (z ∷ before) [] x y after rest same kept held breaks ends =
+    let first : z ≡ y = cc in
+    absurd (ends before (subst (λ w. Keeps (w ∷ before)) first kept))
+one_front Keeps (z ∷ before) (w ∷ other) x y after rest same kept held breaks ends =
+    let first : z ≡ w = cc in
+    let later : before ++ x ∷ after ≡ other ++ y ∷ rest = cc in
+    let one = one_front (λ xs. Keeps (z ∷ xs)) before other x y after rest later kept (subst (λ v. Keeps (v ∷ other)) (sym first) held) breaks
+    (λ more keeps. ends more (subst (λ v. Keeps (v ∷ (other ++ y ∷ more))) first keeps)) in
+    (ap₂ (λ v xs. v ∷ xs) first one.0, one.1)
+
+-- ---- indexes
+
+out_breaks : (met : ℕ) (indexes : List ℕ) (place : ℕ) (fault : IsOut met indexes place) (more : List ℕ) → AreNames met (fault.before ++ fault.index ∷ more) → ⊥
+out_breaks met indexes place fault more =
+    not_out met (fault.before ++ fault.index ∷ more) place (record {
+      before = fault.before;
+      index = fault.index;
+      after = more;
+      stands = refl;
+      place_of = fault.place_of;
+      names = fault.names;
+      out = fault.out;
+    })
+
+again_breaks : (met : ℕ) (indexes : List ℕ) (place : ℕ) (fault : IsAgain met indexes place) (more : List ℕ) → AreNames met (fault.before ++ fault.index ∷ more) → ⊥
+again_breaks met indexes place fault more =
+    not_again met (fault.before ++ fault.index ∷ more) place (record {
+      before = fault.before;
+      index = fault.index;
+      after = more;
+      stands = refl;
+      place_of = fault.place_of;
+      names = fault.names;
+      inside = fault.inside;
+      again = fault.again;
+    })
+
+pub one_out : (met : ℕ) (indexes : List ℕ) (m n : ℕ) → IsOut met indexes m → IsOut met indexes n → m ≡ n
+one_out met indexes m n a b =
+    let one = one_front (AreNames met) a.before b.before a.index b.index a.after b.after (sym a.stands ∙ b.stands) a.names b.names
+    (out_breaks met indexes m a) (out_breaks met indexes n b) in
+    sym a.place_of ∙ ap length one.0 ∙ b.place_of
+
+pub one_again : (met : ℕ) (indexes : List ℕ) (m n : ℕ) → IsAgain met indexes m → IsAgain met indexes n → m ≡ n
+one_again met indexes m n a b =
+    let one = one_front (AreNames met) a.before b.before a.index b.index a.after b.after (sym a.stands ∙ b.stands) a.names b.names
+    (again_breaks met indexes m a) (again_breaks met indexes n b) in
+    sym a.place_of ∙ ap length one.0 ∙ b.place_of
+
+-- the first that fails is not below the number of met documents, or stands before it, and not both
+pub out_or_again : (met : ℕ) (indexes : List ℕ) (m n : ℕ) → IsOut met indexes m → IsAgain met indexes n → ⊥
+out_or_again met indexes m n a b =
+    let one = one_front (AreNames met) a.before b.before a.index b.index a.after b.after (sym a.stands ∙ b.stands) a.names b.names
+    (out_breaks met indexes m a) (again_breaks met indexes n b) in
+    omega (arith, a.out, b.inside, one.1)
+
+-- ---- the present terms
+
+one_entry : (met : ℕ) (one : Presented) (a b : Refusal) → IsEntryFault met one a → IsEntryFault met one b → a ≡ b
+one_entry met one (IndexOut term entry) (IndexOut other place) is also =
+    ap₂ IndexOut (is.0 ∙ sym also.0) (one_out met (indexes_of one.prefix.entries) entry place is.1 also.1)
+one_entry met one (IndexOut term entry) (Repeated other place) is also = absurd (out_or_again met (indexes_of one.prefix.entries) entry place is.1 also.1)
+one_entry met one (IndexOut term entry) _ is also = absurd also
+one_entry met one (Repeated term entry) (IndexOut other place) is also = absurd (out_or_again met (indexes_of one.prefix.entries) place entry also.1 is.1)
+one_entry met one (Repeated term entry) (Repeated other place) is also =
+    ap₂ Repeated (is.0 ∙ sym also.0) (one_again met (indexes_of one.prefix.entries) entry place is.1 also.1)
+one_entry met one (Repeated term entry) _ is also = absurd also
+one_entry met one _ b is also = absurd is
+
+one_root : (H : List ℕ → List ℕ) (met : List ℕ) (one : Presented) (a b : Refusal) → IsListRootFault H met one a → IsListRootFault H met one b → a ≡ b
+one_root H met one (ListMisfit term) (ListMisfit other) is also = ap ListMisfit (is.0 ∙ sym also.0)
+one_root H met one (ListMisfit term) (ListRoot other) is also = let none = is.1 in let some = also.1.rebuilt in absurd (cc)
+one_root H met one (ListMisfit term) _ is also = absurd also
+one_root H met one (ListRoot term) (ListMisfit other) is also = let none = also.1 in let some = is.1.rebuilt in absurd (cc)
+one_root H met one (ListRoot term) (ListRoot other) is also = ap ListRoot (is.0 ∙ sym also.0)
+one_root H met one (ListRoot term) _ is also = absurd also
+one_root H met one _ b is also = absurd is
+
+one_list : (H : List ℕ → List ℕ) (met : List ℕ) (one : Presented) (a b : Refusal) → IsListFault H met one a → IsListFault H met one b → a ≡ b
+one_list H met one a b = one_of (not_entries (length met) one a) (not_entries (length met) one b) (one_entry (length met) one a b) (one_root H met one a b)
+
+list_breaks : (H : List ℕ → List ℕ) (query : List (List ℕ × ℕ)) (proof : Proof) (refusal : Refusal) (fault : IsListsFault H query proof refusal)
+    (more : List Presented) → All (IsListRight H proof.met) (fault.before ++ fault.one ∷ more) → ⊥
+list_breaks H query proof refusal fault more right =
+    not_list H proof.met fault.one refusal fault.fault (all_middle (IsListRight H proof.met) fault.before fault.one more right)
+
+pub one_lists : (H : List ℕ → List ℕ) (query : List (List ℕ × ℕ)) (proof : Proof) (a b : Refusal) → IsListsFault H query proof a → IsListsFault H query proof b → a ≡ b
+one_lists H query proof a b is also =
+    let same = one_front (All (IsListRight H proof.met)) is.before also.before is.one also.one is.after also.after (sym is.stands ∙ also.stands) is.right also.right
+    (list_breaks H query proof a is) (list_breaks H query proof b also) in
+    one_list H proof.met is.one a b is.fault (subst (λ (one : Presented). IsListFault H proof.met one b) (sym same.1) also.fault)
