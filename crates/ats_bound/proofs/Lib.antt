@@ -1,10 +1,12 @@
 pub mod Places
 pub mod Chain
 pub mod Order
+pub mod Members
 pub mod Lanes
 pub mod Scores
 pub mod Ranking
 pub mod Texts
 pub mod One
+pub mod Lookups
 pub mod OneCut
 pub mod OneAnswer

@@ -1,15 +1,15 @@
 -- A cut has one list of brackets by document ascending.
-use Rattle.std.proofs.Common.{◌≡◌, ◌≢◌, ◌<◌, ◌||◌, ℕ, zero, suc, true, false, nat_eq, List, [], ◌∷◌, length, map, get_or, refl, sym, ap, ap₂, ◌∙◌, arith, inl, inr}
+use Rattle.std.proofs.Common.{◌≡◌, ◌≢◌, ◌<◌, ◌≤◌, ◌||◌, ℕ, zero, suc, true, false, nat_eq, List, [], ◌∷◌, length, map, get_or, refl, sym, ap, ap₂, ◌∙◌, arith, inl, inr}
 use Rattle.std.specs.List.{All}
 use Rattle.std.proofs.lemmas.Bool.{cases_order}
 use Rattle.std.proofs.lemmas.Bool.Decides.{nat_tests}
 use Rattle.std.proofs.lemmas.List.Elements.{All-head, All-tail}
 use Rattle.ats_impact.specs.Rank.{times}
 use Rattle.ats_bound.specs.declared.bracket.Bracket.{Bracket}
-use Rattle.ats_bound.specs.Cut.{ShownLane, bracket}
+use Rattle.ats_bound.specs.Cut.{ShownLane}
 use Rattle.ats_bound.specs.Settled.{HaveDistinctDocs, bracket_at}
 use Rattle.ats_bound.specs.Chosen.{AreBrackets}
-use Rattle.ats_bound.specs.Schedule.{AreBracketsOf, has_bracket}
+use Rattle.ats_bound.specs.Schedule.{AreBracketsBy, Bounding, has_bracket}
 use Rattle.ats_bound.proofs.Places.{times-cons}
 
 -- documents rise strictly
@@ -77,26 +77,26 @@ tails a b xs ys first second is same doc = elim (cases_order a.doc doc) [
       sym (ap (λ x. x || has_bracket doc xs) no_first) ∙ same doc ∙ ap (λ x. x || has_bracket doc ys) no_second
 ]
 
-one_list : (lanes : List ShownLane) (xs ys : List Bracket) → Rise xs → Rise ys → ((doc : ℕ) → has_bracket doc xs ≡ has_bracket doc ys)
-    → All (λ (b : Bracket). b ≡ bracket lanes b.doc) xs → All (λ (b : Bracket). b ≡ bracket lanes b.doc) ys → xs ≡ ys
-one_list lanes [] [] first second same left right = refl
-one_list lanes [] (b ∷ ys) first second same left right =
+one_list : (bounds : Bounding) (lanes : List ShownLane) (xs ys : List Bracket) → Rise xs → Rise ys → ((doc : ℕ) → has_bracket doc xs ≡ has_bracket doc ys)
+    → All (λ (b : Bracket). b ≡ bounds lanes b.doc) xs → All (λ (b : Bracket). b ≡ bounds lanes b.doc) ys → xs ≡ ys
+one_list bounds lanes [] [] first second same left right = refl
+one_list bounds lanes [] (b ∷ ys) first second same left right =
     let clash : false ≡ true = same b.doc ∙ first_has b ys in
     absurd (cc)
-one_list lanes (a ∷ xs) [] first second same left right =
+one_list bounds lanes (a ∷ xs) [] first second same left right =
     let clash : true ≡ false = sym (first_has a xs) ∙ same a.doc in
     absurd (cc)
-one_list lanes (a ∷ xs) (b ∷ ys) first second same left right =
+one_list bounds lanes (a ∷ xs) (b ∷ ys) first second same left right =
     let is : a.doc ≡ b.doc = heads a b xs ys first second same in
-    let here : a ≡ bracket lanes a.doc = All-head (λ (b : Bracket). b ≡ bracket lanes b.doc) a xs left in
-    let there : b ≡ bracket lanes b.doc = All-head (λ (b : Bracket). b ≡ bracket lanes b.doc) b ys right in
-    let rest : xs ≡ ys = one_list lanes xs ys (tail_rises a xs first) (tail_rises b ys second) (tails a b xs ys first second is same)
-    (All-tail (λ (b : Bracket). b ≡ bracket lanes b.doc) a xs left) (All-tail (λ (b : Bracket). b ≡ bracket lanes b.doc) b ys right) in
-    ap₂ (λ head rest. head ∷ rest) (here ∙ ap (bracket lanes) is ∙ sym there) rest
+    let here : a ≡ bounds lanes a.doc = All-head (λ (b : Bracket). b ≡ bounds lanes b.doc) a xs left in
+    let there : b ≡ bounds lanes b.doc = All-head (λ (b : Bracket). b ≡ bounds lanes b.doc) b ys right in
+    let rest : xs ≡ ys = one_list bounds lanes xs ys (tail_rises a xs first) (tail_rises b ys second) (tails a b xs ys first second is same)
+    (All-tail (λ (b : Bracket). b ≡ bounds lanes b.doc) a xs left) (All-tail (λ (b : Bracket). b ≡ bounds lanes b.doc) b ys right) in
+    ap₂ (λ head rest. head ∷ rest) (here ∙ ap (bounds lanes) is ∙ sym there) rest
 
 -- two lists of the brackets of a cut are one
-pub one_bracketing : (lanes : List ShownLane) (xs ys : List Bracket) → AreBracketsOf lanes xs → AreBracketsOf lanes ys → xs ≡ ys
-one_bracketing lanes xs ys first second = one_list lanes xs ys first.rise second.rise (λ doc. first.met doc ∙ sym (second.met doc)) first.each second.each
+pub one_bracketing : (bounds : Bounding) (lanes : List ShownLane) (xs ys : List Bracket) → AreBracketsBy bounds lanes xs → AreBracketsBy bounds lanes ys → xs ≡ ys
+one_bracketing bounds lanes xs ys first second = one_list bounds lanes xs ys first.rise second.rise (λ doc. first.met doc ∙ sym (second.met doc)) first.each second.each
 
 none_below : (doc : ℕ) (brackets : List Bracket) → ((i : ℕ) → i < length brackets → doc < (bracket_at brackets i).doc) → times doc (map (λ (b : Bracket). b.doc) brackets) ≡ 0
 none_below doc [] low = refl
@@ -121,8 +121,9 @@ risen_are_distinct (b ∷ brackets) rise doc =
           omega (arith, rw no at step, risen_are_distinct brackets (tail_rises b brackets rise) doc)
     ]
 
--- no lower bound is above its upper bound
-pub are_brackets : (lanes : List ShownLane) (brackets : List Bracket) → AreBracketsOf lanes brackets → AreBrackets brackets
-are_brackets lanes brackets of i d inside =
-    let is : get_or brackets i d ≡ bracket lanes (get_or brackets i d).doc = of.each i d inside in
-    omega (arith, ap (λ (b : Bracket). b.lo) is, ap (λ (b : Bracket). b.hi) is)
+-- no lower bound is above its upper bound, where none is as they are formed
+pub are_brackets : (bounds : Bounding) (lanes : List ShownLane) (brackets : List Bracket) → ((doc : ℕ) → (bounds lanes doc).lo ≤ (bounds lanes doc).hi)
+    → AreBracketsBy bounds lanes brackets → AreBrackets brackets
+are_brackets bounds lanes brackets proper of i d inside =
+    let is : get_or brackets i d ≡ bounds lanes (get_or brackets i d).doc = of.each i d inside in
+    omega (arith, ap (λ (b : Bracket). b.lo) is, ap (λ (b : Bracket). b.hi) is, proper (get_or brackets i d).doc)

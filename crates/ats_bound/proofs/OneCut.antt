@@ -1,7 +1,7 @@
 -- The schedule has one cut after each number of turns, and so one first settled cut.
 use Rattle.std.proofs.Common.{◌≡◌, ◌+◌, ℕ, zero, suc, List, set, get_or, sym, ap, subst, ◌∙◌, arith, inl, inr}
 use Rattle.std.proofs.lemmas.Bool.{cases_order}
-use Rattle.ats_bound.specs.Schedule.{WholeLane, IsNextLane, IsTurn, IsScheduled, IsFirstSettled}
+use Rattle.ats_bound.specs.Schedule.{WholeLane, IsNextLane, IsTurn, IsScheduled, Bounding, IsFirstSettledBy}
 
 -- one list comes next
 pub one_next : (lanes : List WholeLane) (cut : List ℕ) (i j : ℕ) → IsNextLane lanes cut i → IsNextLane lanes cut j → i ≡ j
@@ -26,8 +26,8 @@ one_schedule lanes (suc n) a b first second =
     one_turn lanes second.0 a b (subst (λ (cut : List ℕ). IsTurn lanes cut a) same first.2) second.2
 
 -- of two first settled cuts neither comes before the other
-pub one_first_settled : (lanes : List WholeLane) (r : ℕ) (a b : List ℕ) → IsFirstSettled lanes r a → IsFirstSettled lanes r b → a ≡ b
-one_first_settled lanes r a b first second = elim (cases_order first.turns second.turns) [
+pub one_first_settled : (bounds : Bounding) (lanes : List WholeLane) (r : ℕ) (a b : List ℕ) → IsFirstSettledBy bounds lanes r a → IsFirstSettledBy bounds lanes r b → a ≡ b
+one_first_settled bounds lanes r a b first second = elim (cases_order first.turns second.turns) [
   | inl same ↦ one_schedule lanes second.turns a b (subst (λ (n : ℕ). IsScheduled lanes n a) same first.scheduled) second.scheduled
   | inr other ↦ elim other [
     | inl less ↦ absurd (second.first first.turns a less first.scheduled first.settled)

@@ -131,3 +131,6 @@ held_or_missing (lane ∷ lanes) doc =
       one,
       held_or_missing lanes doc,
     )
+
+pub missing_within : (lanes : List ShownLane) (doc : ℕ) → missing lanes doc ≤ threshold lanes
+missing_within lanes doc = omega (arith, held_or_missing lanes doc)

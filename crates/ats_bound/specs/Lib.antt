@@ -5,3 +5,4 @@ pub mod Placed
 pub mod Work
 pub mod Ranked
 pub mod Schedule
+pub mod Lookup

@@ -79,23 +79,35 @@ IsScheduled lanes (suc n) cut = (before : List ℕ) × IsScheduled lanes n befor
 abbrev pub has_bracket : ℕ → List Bracket → Bool
 has_bracket doc brackets = list_any (λ (b : Bracket). b.doc == doc) brackets
 
--- the brackets of the met documents, by document ascending
-pub record AreBracketsOf (lanes : List ShownLane) (brackets : List Bracket) : Type 0 where
+-- how the bracket of a document is formed from what a cut shows
+abbrev pub Bounding : Type 0
+Bounding = List ShownLane → ℕ → Bracket
+
+-- the brackets of the met documents so formed, by document ascending
+pub record AreBracketsBy (bounds : Bounding) (lanes : List ShownLane) (brackets : List Bracket) : Type 0 where
   pub rise : (i j : ℕ) → i < j → j < length brackets → (bracket_at brackets i).doc < (bracket_at brackets j).doc
   pub met : (doc : ℕ) → has_bracket doc brackets ≡ list_any (names doc) lanes
-  pub each : All (λ (b : Bracket). b ≡ bracket lanes b.doc) brackets
+  pub each : All (λ (b : Bracket). b ≡ bounds lanes b.doc) brackets
 
 -- some answer of at most r rows is settled at the cut
-pub record CanSettle (lanes : List WholeLane) (r : ℕ) (cut : List ℕ) : Type 0 where
+pub record CanSettleBy (bounds : Bounding) (lanes : List WholeLane) (r : ℕ) (cut : List ℕ) : Type 0 where
   pub brackets : List Bracket
-  pub bounds : AreBracketsOf (shown lanes cut) brackets
+  pub bounded : AreBracketsBy bounds (shown lanes cut) brackets
   pub answer : List ℕ
   pub inside : ArePicks brackets answer
   pub settled : IsSettled brackets answer (threshold (shown lanes cut)) r
 
 -- the first cut of the schedule at which some answer is settled
-pub record IsFirstSettled (lanes : List WholeLane) (r : ℕ) (cut : List ℕ) : Type 0 where
+pub record IsFirstSettledBy (bounds : Bounding) (lanes : List WholeLane) (r : ℕ) (cut : List ℕ) : Type 0 where
   pub turns : ℕ
   pub scheduled : IsScheduled lanes turns cut
-  pub settled : CanSettle lanes r cut
-  pub first : (n : ℕ) (earlier : List ℕ) → n < turns → IsScheduled lanes n earlier → CanSettle lanes r earlier → ⊥
+  pub settled : CanSettleBy bounds lanes r cut
+  pub first : (n : ℕ) (earlier : List ℕ) → n < turns → IsScheduled lanes n earlier → CanSettleBy bounds lanes r earlier → ⊥
+
+-- ---- from the shown entries alone, with no random access
+
+abbrev pub AreBracketsOf : List ShownLane → List Bracket → Type 0
+AreBracketsOf lanes brackets = AreBracketsBy bracket lanes brackets
+
+abbrev pub IsFirstSettled : List WholeLane → ℕ → List ℕ → Type 0
+IsFirstSettled lanes r cut = IsFirstSettledBy bracket lanes r cut

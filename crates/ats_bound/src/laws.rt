@@ -1,7 +1,7 @@
 //! What a cut of whole lists says of scores, as contracts of functions that do nothing. No hash
 //! stands in these sentences, and scores are any sums over lists.
 
-ghost use Rattle.std.specs.Prelude.{◌≡◌, ◌+◌, ◌<◌, ◌≤◌, ◌*◌, ℕ, List, [], length, sum_by, slice_index_or};
+ghost use Rattle.std.specs.Prelude.{◌≡◌, ◌+◌, ◌<◌, ◌≤◌, ◌*◌, ℕ, List, [], length, map, sum_by, slice_index_or};
 ghost use Rattle.std.specs.List.{All};
 ghost use Rattle.ats_impact.specs.Rank.{IsTopBy};
 ghost use Rattle.ats_impact.specs.Score.{coefficient, score};
@@ -10,7 +10,8 @@ ghost use Rattle.ats_bound.specs.declared.bracket.Bracket.{Bracket};
 ghost use Rattle.ats_bound.specs.Cut.{ShownLane, IsMet, bracket, held, missing, threshold};
 ghost use Rattle.ats_bound.specs.Settled.{ArePicks, HaveDistinctDocs, IsSettled};
 ghost use Rattle.ats_bound.specs.Chosen.{IsChosen};
-ghost use Rattle.ats_bound.specs.Schedule.{WholeLane, AreBracketsOf, IsFirstSettled};
+ghost use Rattle.ats_bound.specs.Schedule.{WholeLane, Bounding, AreBracketsBy, IsFirstSettledBy};
+ghost use Rattle.ats_bound.specs.Lookup.{Table, AreImpactsOf, looked_up};
 ghost use Rattle.ats_bound.specs.Ranked.{CutLane, AreScores, HoldsScore, AreOfMet, answer_of, cut_of, impact_in};
 
 /// A document that no shown entry names scores at most the threshold. One that a shown entry names is one
@@ -22,6 +23,9 @@ pub fn cuts_bound_scores()
         → IsMet (cut_of lanes) doc → (doc < n) × (0 < score doc) }
     ensures bracket { (n : ℕ) (score : ℕ → ℕ) (lanes : List CutLane) (doc : ℕ) → AreScores n score lanes
         → IsMet (cut_of lanes) doc → HoldsScore score (bracket (cut_of lanes) doc) }
+    ensures looked_up { (n : ℕ) (score : ℕ → ℕ) (lanes : List CutLane) (table : Table) (doc : ℕ) → AreScores n score lanes
+        → AreImpactsOf table (map (λ (lane : CutLane). lane.entries) lanes) → IsMet (cut_of lanes) doc
+        → HoldsScore score (looked_up table (cut_of lanes) doc) }
 {}
 
 /// What the lists that name a document can add, and what the others can, come to the threshold.
@@ -44,11 +48,13 @@ pub fn settled_answers_are_top()
         → IsSettled brackets picks (threshold (cut_of lanes)) r → IsTopBy n score r (answer_of brackets picks) }
 {}
 
-/// A walk ends at one cut with one answer: whole lists have one first settled cut, a cut has one list of
-/// brackets, and brackets of distinct documents have one chosen answer.
+/// A walk ends at one cut with one answer, however brackets are formed: whole lists have one first settled
+/// cut, a cut has one list of brackets, and brackets of distinct documents have one chosen answer.
 pub fn walks_end_at_one_cut()
-    ensures cut { (lanes : List WholeLane) (r : ℕ) (a b : List ℕ) → IsFirstSettled lanes r a → IsFirstSettled lanes r b → a ≡ b }
-    ensures brackets { (lanes : List ShownLane) (a b : List Bracket) → AreBracketsOf lanes a → AreBracketsOf lanes b → a ≡ b }
+    ensures cut { (bounds : Bounding) (lanes : List WholeLane) (r : ℕ) (a b : List ℕ)
+        → IsFirstSettledBy bounds lanes r a → IsFirstSettledBy bounds lanes r b → a ≡ b }
+    ensures brackets { (bounds : Bounding) (lanes : List ShownLane) (a b : List Bracket)
+        → AreBracketsBy bounds lanes a → AreBracketsBy bounds lanes b → a ≡ b }
     ensures answer { (brackets : List Bracket) (r : ℕ) (a b : List ℕ) → HaveDistinctDocs brackets
         → IsChosen brackets r a → IsChosen brackets r b → a ≡ b }
 {}

@@ -1,5 +1,5 @@
 -- What a check sees of the lists of an honest proof: the honest cut, which it accepts.
-use Rattle.std.proofs.Common.{◌≡◌, ◌≢◌, ◌+◌, ◌*◌, ◌<◌, ◌≤◌, ◌||◌, ℕ, zero, suc, Bool, true, false, cond, nat_eq, nat_lt, List, [], ◌∷◌, length, map, take, get_or, Some, refl, sym, ap, ap₂, subst, ◌∙◌, arith, inl, inr}
+use Rattle.std.proofs.Common.{◌≡◌, ◌≢◌, ◌+◌, ◌*◌, ◌<◌, ◌≤◌, ◌||◌, ℕ, suc, Bool, true, false, cond, nat_eq, nat_lt, List, [], ◌∷◌, length, map, take, get_or, Some, refl, sym, ap, ap₂, subst, ◌∙◌, arith, inl, inr}
 use Rattle.std.specs.List.{All, list_any, range_with_len}
 use Rattle.std.specs.List.Sorted.{IsStrictlyIncreasing}
 use Rattle.std.proofs.lemmas.Bool.{cases_Bool, cases_order, eq-eqb, ltb-true}
@@ -26,9 +26,8 @@ use Rattle.ats_dict.specs.declared.spot.Spot.TheVariants.{At, Between}
 use Rattle.ats_commit.specs.Trees.{dictionary_of}
 use Rattle.ats_bound.specs.Cut.{ShownLane, lane_of as shown_lane, names}
 use Rattle.ats_bound.specs.Settled.{AreDistinct}
-use Rattle.ats_bound.specs.Schedule.{WholeLane, IsCut, IsScheduled, first_cut, shown}
+use Rattle.ats_bound.specs.Schedule.{WholeLane, IsCut, shown}
 use Rattle.ats_bound.proofs.Places.{position_of, times_other, times_same}
-use Rattle.ats_tnra.proofs.Shown.{cut_after}
 use Rattle.ats_proof.specs.Value.{Prefix}
 use Rattle.ats_proof.specs.Runs.{named, shown_list}
 use Rattle.ats_client.specs.Groups.{IsListRight, indexes_of, list_digest}
@@ -72,18 +71,6 @@ lanes_have_lists texts (pair ∷ query) = elim (cases_Bool (has_list texts pair)
       (All-cons (HasList (length texts)) (lane_of texts pair) (lanes_of texts query) (list_keeps texts pair.0 some) (lanes_have_lists texts query))
   | inr none ↦ subst (All (HasList (length texts))) (sym (with_none texts pair query none)) (lanes_have_lists texts query)
 ]
-
--- the cuts of the schedule of such lanes
-pub scheduled_cut : (m n : ℕ) (lanes : List WholeLane) (cut : List ℕ) → All (HasList m) lanes → IsScheduled lanes n cut → IsCut lanes cut
-scheduled_cut m zero lanes cut lists is = subst (IsCut lanes) (sym is) (record {
-  size = length-map lanes (λ (lane : WholeLane). 1);
-  each = λ i d inside.
-      let one : get_or (first_cut lanes) i 0 ≡ 1 = get_or-map (λ (lane : WholeLane). 1) lanes i d 0 inside in
-      (omega (arith, one), omega (arith, one, (lists i d inside).some));
-})
-scheduled_cut m (suc n) lanes cut lists is =
-    let turn = is.2 in
-    subst (IsCut lanes) (sym turn.counts) (cut_after lanes is.0 turn.place (scheduled_cut m n lanes is.0 lists is.1) turn.next.inside turn.next.more)
 
 tail_cut : (lane : WholeLane) (lanes : List WholeLane) (count : ℕ) (cut : List ℕ) → IsCut (lane ∷ lanes) (count ∷ cut) → IsCut lanes cut
 tail_cut lane lanes count cut is = record {

@@ -14,6 +14,7 @@ use Rattle.ats_bound.specs.Settled.{ArePicks, IsSettled}
 use Rattle.ats_bound.specs.Schedule.{WholeLane, AreBracketsOf, IsCut, has_bracket, shown}
 use Rattle.ats_bound.proofs.Chain.{chosen_are_picks, chosen_is_settled}
 use Rattle.ats_bound.proofs.One.{are_brackets, one_bracketing}
+use Rattle.ats_walk.proofs.Shown.{scheduled_is_cut}
 use Rattle.ats_proof.specs.Value.{IsProof, Prefix, Proof, ShownEntry}
 use Rattle.ats_proof.proofs.Unique.{one_value}
 use Rattle.ats_client.specs.Groups.{AreAllMet, AreListsRight, AreRowsRight, IsAnswerSettled, brackets_of}
@@ -28,7 +29,7 @@ use Rattle.ats_prover.proofs.Places.{place_at}
 use Rattle.ats_prover.proofs.MetDocuments.{met_rises}
 use Rattle.ats_prover.proofs.Whole.{docs_of}
 use Rattle.ats_prover.proofs.AcceptedTerms.{honest_dictionary, honest_opened, honest_slots, needed_shown}
-use Rattle.ats_prover.proofs.AcceptedLists.{AreIn, AreFronts, front_lanes, fronts_right, lanes_have_lists, scheduled_cut, show_terms}
+use Rattle.ats_prover.proofs.AcceptedLists.{AreIn, AreFronts, front_lanes, fronts_right, lanes_have_lists, show_terms}
 
 -- ---- the documents of brackets
 
@@ -71,7 +72,7 @@ module _ (H : List ℕ → List ℕ) (texts : List (List ℕ)) (query : List (Li
   cut_lanes = shown lanes honest.cut
 
   is_cut : IsCut lanes honest.cut
-  is_cut = scheduled_cut (length texts) honest.first.turns lanes honest.cut (lanes_have_lists texts query) honest.first.scheduled
+  is_cut = scheduled_is_cut lanes honest.first.turns honest.cut (λ i d inside. (lanes_have_lists texts query i d inside).some) honest.first.scheduled
 
   are_in : AreIn proof.met cut_lanes
   are_in = subst (λ (met : List ℕ). AreIn met cut_lanes) (sym honest.met) (named_in cut_lanes honest.brackets honest.bounds)
@@ -116,8 +117,8 @@ module _ (H : List ℕ → List ℕ) (texts : List (List ℕ)) (query : List (Li
   settled : IsSettled honest.brackets proof.answer (threshold cut_lanes) r
   settled =
       let can = honest.first.settled in
-      let same : can.brackets ≡ honest.brackets = one_bracketing cut_lanes can.brackets honest.brackets can.bounds honest.bounds in
-      chosen_is_settled honest.brackets (threshold cut_lanes) r can.answer proof.answer (are_brackets cut_lanes honest.brackets honest.bounds)
+      let same : can.brackets ≡ honest.brackets = one_bracketing bracket cut_lanes can.brackets honest.brackets can.bounded honest.bounds in
+      chosen_is_settled honest.brackets (threshold cut_lanes) r can.answer proof.answer (are_brackets bracket cut_lanes honest.brackets (λ doc. omega arith) honest.bounds)
       (subst (λ (bs : List Bracket). ArePicks bs can.answer) same can.inside)
       (subst (λ (bs : List Bracket). IsSettled bs can.answer (threshold cut_lanes) r) same can.settled) honest.answer
 

@@ -2,6 +2,7 @@
 use Rattle.std.proofs.Common.{◌≡◌, ◌+◌, ◌<◌, ◌||◌, ℕ, zero, suc, Bool, true, false, cond, nat_eq, nat_lt, List, [], ◌∷◌, length, map, get_or, Some, slice_get, refl, sym, ap, ap₂, subst, ◌∙◌, arith}
 use Rattle.std.specs.List.{All, flat_map}
 use Rattle.std.specs.List.Sorted.{IsStrictlyIncreasing}
+use Rattle.std.proofs.lemmas.Bool.{or_left, or_right}
 use Rattle.std.proofs.lemmas.List.{length-map, get_or-map}
 use Rattle.std.proofs.lemmas.List.Elements.{All-tail}
 use Rattle.std.proofs.lemmas.List.Folds.{list_any-append}
@@ -37,7 +38,7 @@ use Rattle.ats_prover.specs.Terms.{AreNeeded, has, needs, place, shown_entry, sl
 use Rattle.ats_prover.specs.Lanes.{lane_of}
 use Rattle.ats_prover.specs.Honest.{IsHonest}
 use Rattle.ats_prover.proofs.Spots.{spot_at, spot_each}
-use Rattle.ats_prover.proofs.Needed.{has_contained}
+use Rattle.ats_bound.proofs.Members.{has_contained}
 use Rattle.ats_prover.proofs.Ranges.{positions_below}
 use Rattle.ats_prover.proofs.Present.{list_at, standing_term}
 use Rattle.ats_prover.proofs.Whole.{lanes_each}
@@ -90,15 +91,11 @@ needed_shown spots positions are p is = are.needed p ∙ is
 has_both : (p : ℕ) (spot : Spot) (spots : List Spot) → has p (flat_map needs (spot ∷ spots)) ≡ has p (needs spot) || has p (flat_map needs spots)
 has_both p spot spots = list_any-append (λ m. nat_eq m p) (needs spot) (flat_map needs spots)
 
-or_true : (b : Bool) → (b || true) ≡ true
-or_true true = refl
-or_true false = refl
-
 pub shown_first : (spot : Spot) (spots : List Spot) (positions : List ℕ) → AreShown (spot ∷ spots) positions → IsShown spot positions
-shown_first spot spots positions are p is = are p (has_both p spot spots ∙ ap (λ b. b || has p (flat_map needs spots)) is)
+shown_first spot spots positions are p is = are p (has_both p spot spots ∙ or_left (has p (needs spot)) (has p (flat_map needs spots)) is)
 
 pub shown_rest : (spot : Spot) (spots : List Spot) (positions : List ℕ) → AreShown (spot ∷ spots) positions → AreShown spots positions
-shown_rest spot spots positions are p is = are p (has_both p spot spots ∙ ap (λ b. has p (needs spot) || b) is ∙ or_true (has p (needs spot)))
+shown_rest spot spots positions are p is = are p (has_both p spot spots ∙ or_right (has p (needs spot)) (has p (flat_map needs spots)) is)
 
 pub shown_each : (spots : List Spot) (positions : List ℕ) (i : ℕ) (d : Spot) → i < length spots → AreShown spots positions → IsShown (get_or spots i d) positions
 shown_each [] positions i d inside are = absurd (omega (arith, inside))

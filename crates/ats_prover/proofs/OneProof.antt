@@ -22,6 +22,7 @@ use Rattle.ats_commit.specs.Trees.{dictionary_of}
 use Rattle.ats_commit.proofs.DictionaryLemmas.{dictionary_terms}
 use Rattle.ats_bound.specs.declared.bracket.Bracket.{Bracket}
 use Rattle.ats_bound.specs.Chosen.{IsChosen}
+use Rattle.ats_bound.specs.Cut.{bracket}
 use Rattle.ats_bound.specs.Schedule.{AreBracketsOf, shown}
 use Rattle.ats_bound.proofs.One.{one_bracketing, risen_are_distinct}
 use Rattle.ats_bound.proofs.OneCut.{one_first_settled}
@@ -125,9 +126,9 @@ one_proof H texts query r a b x y =
     let spots : x.spots ≡ y.spots = one_spots entries (terms_rise H texts) query x.spots y.spots x.found y.found in
     let positions : x.positions ≡ y.positions =
     one_needed y.spots x.positions y.positions (subst (λ (ss : List Spot). AreNeeded ss x.positions) spots x.needed) y.needed in
-    let cut : x.cut ≡ y.cut = one_first_settled lanes r x.cut y.cut x.first y.first in
+    let cut : x.cut ≡ y.cut = one_first_settled bracket lanes r x.cut y.cut x.first y.first in
     let brackets : x.brackets ≡ y.brackets =
-    one_bracketing (shown lanes y.cut) x.brackets y.brackets (subst (λ (c : List ℕ). AreBracketsOf (shown lanes c) x.brackets) cut x.bounds) y.bounds in
+    one_bracketing bracket (shown lanes y.cut) x.brackets y.brackets (subst (λ (c : List ℕ). AreBracketsOf (shown lanes c) x.brackets) cut x.bounds) y.bounds in
     let answer : a.answer ≡ b.answer =
     one_chosen y.brackets r a.answer b.answer (risen_are_distinct y.brackets y.bounds.rise) (subst (λ (bs : List Bracket). IsChosen bs r a.answer) brackets x.answer) y.answer in
     let header : a.header ≡ b.header = x.header ∙ sym y.header in

@@ -22,7 +22,7 @@ use Rattle.ats_dict.proofs.Sentinels.{terms_rise}
 use Rattle.ats_prover.specs.Terms.{AreSpots, AreNeeded, has, lower, needs, place, shown_entry, slot_of}
 use Rattle.ats_prover.proofs.Spots.{leaf_at, lower_within}
 use Rattle.ats_prover.proofs.Places.{place_grows}
-use Rattle.ats_prover.proofs.Needed.{has_contained, contained_has}
+use Rattle.ats_bound.proofs.Members.{has_contained, contained_has}
 use Rattle.ats_prover.proofs.Coming.{AreGoodEntries, AreGoodSlots, AreGoodIds}
 
 -- ---- digests have 32 bytes

@@ -27,7 +27,8 @@ use Rattle.ats_tree.specs.Tree.{tree_of}
 use Rattle.ats_tree.specs.Rebuild.{tree_of_places}
 use Rattle.ats_prover.proofs.Coming.{AreGoodEntries, IsInRange}
 use Rattle.ats_prover.proofs.Elided.{holes, holes-few, prefix_need}
-use Rattle.ats_prover.proofs.Whole.{HasParts, docs_of, is_in_range, proof_of, scheduled_is_cut}
+use Rattle.ats_walk.proofs.Shown.{have_entries, scheduled_is_cut}
+use Rattle.ats_prover.proofs.Whole.{HasParts, docs_of, is_in_range, proof_of}
 
 -- ---- the front of a list
 
@@ -201,7 +202,7 @@ is_short H texts query r spots positions cut brackets picks parts =
     let proof = proof_of H texts query spots positions cut brackets picks in
     let lanes = lanes_of texts query in
     let is : IsInRange proof = is_in_range H texts query r spots positions cut brackets picks parts in
-    let is_cut = scheduled_is_cut lanes parts.first.turns cut parts.whole parts.first.scheduled in
+    let is_cut = scheduled_is_cut lanes parts.first.turns cut (have_entries lanes parts.whole) parts.first.scheduled in
     let number : length proof.lists ≤ 32 = omega (arith, prefix_each H (docs_of brackets) lanes cut is_cut.size, parts.whole.few) in
     let short : All IsShort proof.lists = short_prefixes H parts.sized (docs_of brackets) lanes cut parts.lists is_cut.each in
     let a = front_fields None in

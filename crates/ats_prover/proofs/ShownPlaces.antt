@@ -6,7 +6,7 @@ use Rattle.std.proofs.lemmas.List.{length-map, get_or-map, get_or_default}
 use Rattle.std.proofs.lemmas.List.Kept.{AllPairs-from_increasing}
 use Rattle.std.proofs.lemmas.Option.{slice_get-get_or}
 use Rattle.ats_prover.specs.Terms.{has, place}
-use Rattle.ats_prover.proofs.Needed.{contained_has}
+use Rattle.ats_bound.proofs.Members.{contained_has}
 use Rattle.ats_prover.proofs.Places.{place_at, never_falls}
 
 -- the place of a number is one of the list, and the number stands there

@@ -29,9 +29,8 @@ use Rattle.ats_commit.proofs.DictionaryLemmas.{dictionary_terms}
 use Rattle.ats_index.specs.Parts.{header_parts}
 use Rattle.ats_bound.specs.declared.bracket.Bracket.{Bracket}
 use Rattle.ats_bound.specs.Chosen.{IsChosen}
-use Rattle.ats_bound.specs.Schedule.{WholeLane, AreWholeLanes, AreBracketsOf, IsFirstSettled, IsScheduled, shown}
-use Rattle.ats_bound.specs.Schedule.{IsCut}
-use Rattle.ats_tnra.proofs.Shown.{first_is_cut, cut_after}
+use Rattle.ats_bound.specs.Schedule.{WholeLane, AreWholeLanes, AreBracketsOf, IsFirstSettled, shown}
+use Rattle.ats_walk.proofs.Shown.{have_entries, scheduled_is_cut}
 use Rattle.ats_dict.specs.declared.header.Header.{Header}
 use Rattle.ats_records.specs.Records.{front_record}
 use Rattle.ats_records.specs.Written.{Written, after, writing}
@@ -52,14 +51,6 @@ use Rattle.ats_prover.proofs.Fronts.{prefix_each, range_below}
 use Rattle.ats_prover.proofs.MetDocuments.{met_rises, met_below, rising_few, lists_below}
 use Rattle.ats_prover.proofs.Coming.{IsGoodPrefix, IsInRange, come_proof}
 use Rattle.ats_prover.proofs.Ranges.{elided_sized, good_entries, good_ids, good_slots, positions_below, positions_some}
-
--- ---- the cut of a schedule
-
-pub scheduled_is_cut : (lanes : List WholeLane) (n : ℕ) (cut : List ℕ) → AreWholeLanes lanes → IsScheduled lanes n cut → IsCut lanes cut
-scheduled_is_cut lanes zero cut whole is = subst (IsCut lanes) (sym is) (first_is_cut lanes whole)
-scheduled_is_cut lanes (suc n) cut whole is =
-    let turn = is.2 in
-    subst (IsCut lanes) (sym turn.counts) (cut_after lanes is.0 turn.place (scheduled_is_cut lanes n is.0 whole is.1) turn.next.inside turn.next.more)
 
 -- ---- as many lists as present slots
 
@@ -202,7 +193,7 @@ is_honest H texts query r spots positions cut brackets picks parts = record {
 pub lists_each : (H : List ℕ → List ℕ) (texts : List (List ℕ)) (query : List (List ℕ × ℕ)) (r : ℕ) (spots : List Spot) (positions cut : List ℕ) (brackets : List Bracket) (picks : List ℕ)
     → HasParts H texts query r spots positions cut brackets picks → length (prefixes H (docs_of brackets) (lanes_of texts query) cut) ≡ present_in (map (slot_of positions) spots)
 lists_each H texts query r spots positions cut brackets picks parts =
-    let is_cut = scheduled_is_cut (lanes_of texts query) parts.first.turns cut parts.whole parts.first.scheduled in
+    let is_cut = scheduled_is_cut (lanes_of texts query) parts.first.turns cut (have_entries (lanes_of texts query) parts.whole) parts.first.scheduled in
     prefix_each H (docs_of brackets) (lanes_of texts query) cut is_cut.size ∙ lanes_each H texts query positions spots parts.found
 
 pub is_in_range : (H : List ℕ → List ℕ) (texts : List (List ℕ)) (query : List (List ℕ × ℕ)) (r : ℕ) (spots : List Spot) (positions cut : List ℕ) (brackets : List Bracket) (picks : List ℕ)
@@ -212,7 +203,7 @@ is_in_range H texts query r spots positions cut brackets picks parts =
     let lanes = lanes_of texts query in
     let leaves = dict_leaves entries in
     let docs = docs_of brackets in
-    let is_cut = scheduled_is_cut lanes parts.first.turns cut parts.whole parts.first.scheduled in
+    let is_cut = scheduled_is_cut lanes parts.first.turns cut (have_entries lanes parts.whole) parts.first.scheduled in
     let rises = met_rises (shown lanes cut) brackets parts.bounds in
     let below = met_below 65536 lanes cut brackets (lists_below lanes parts.lists) parts.bounds in
     let few : length docs ≤ 65536 = rising_few 65536 docs rises below in

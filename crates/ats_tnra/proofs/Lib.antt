@@ -1,6 +1,2 @@
-pub mod Shown
-pub mod Advance
-pub mod Whole
 pub mod Joined
 pub mod Fold
-pub mod Greatest

@@ -1,12 +1,13 @@
 //! What shown entries say, entry by entry.
 
-ghost use Rattle.std.specs.Prelude.{◌≡◌, ◌<◌, ◌≤◌, ◌++◌, ◌*◌, ◌+◌, ◌^◌, length, slice_index, slice_index_or, map, IfOk, OnOk};
+ghost use Rattle.std.specs.Prelude.{◌≡◌, ◌≤◌, ◌++◌, ◌^◌, length, IfOk, OnOk};
 ghost use Rattle.std.specs.List.Sorted.{IsPermutation, IsSorted};
-ghost use Rattle.ats_bound.specs.Cut.{lane_of, rest};
+ghost use Rattle.ats_bound.specs.Cut.{lane_of};
 ghost use Rattle.ats_bound.specs.Schedule.{AreWholeLanes, IsCut, IsWholeLane, shown, whole_lane, whole_lanes};
 ghost use Rattle.ats_tnra.specs.Parts.{all_parts, part_cmp, parts_of};
 
 use ats_bound::{Lane, OutOfMemory};
+use ats_walk::rest;
 use std::alloc::Global;
 
 /// A document, what one entry adds to its score, and the rest of the entry's lane.
@@ -15,20 +16,6 @@ pub(crate) struct Part {
     pub(crate) doc: u32,
     pub(crate) gain: u32,
     pub(crate) cover: u32,
-}
-
-/// What the entries of a lane that are not shown can add to a score, at most.
-pub(crate) fn rest(lane: &Lane<'_>, count: u32) -> u32
-    requires whole { IsWholeLane (whole_lane lane.now) }
-    requires some { 1 ≤ count }
-    requires most { count ≤ length lane.now.entries.now }
-    ensures { result ≡ rest (lane_of lane.now.coefficient lane.now.entries.now count) }
-{
-    let shown = count as usize;
-    if shown == lane.entries.len() {
-        return 0;
-    }
-    lane.coefficient * lane.entries[shown - 1].impact as u32
 }
 
 // Adds what the first entries of a lane say.

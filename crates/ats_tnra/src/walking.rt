@@ -1,65 +1,36 @@
 //! The walk.
 
-ghost use Rattle.std.specs.Prelude.{◌≡◌, ℕ, IfOk, List};
+ghost use Rattle.std.specs.Prelude.{◌≡◌, IfOk};
 ghost use Rattle.ats_bound.specs.Chosen.{IsChosen};
-ghost use Rattle.ats_bound.specs.Cut.{threshold};
+ghost use Rattle.ats_bound.specs.Cut.{bracket, lower, missing, threshold};
 ghost use Rattle.ats_bound.specs.Settled.{IsSettled};
-ghost use Rattle.ats_bound.specs.Schedule.{AreBracketsOf, AreWholeLanes, IsCut, IsFirstSettled, shown, whole_lanes};
-ghost use Rattle.ats_tnra.specs.Stand.{IsEnd, IsStand};
+ghost use Rattle.ats_bound.specs.Schedule.{AreBracketsOf, AreWholeLanes, IsFirstSettled, shown, whole_lanes};
+ghost use Rattle.ats_bound.proofs.Scores.{missing_within};
+ghost use Rattle.ats_walk.proofs.Narrow.{is_narrow};
 
 use crate::bracketing::brackets;
-use crate::turns::{first_counts, next_lane, threshold};
-use ats_bound::{Cut, Lane, OutOfMemory, Walk, choose, settled};
+use ats_bound::{Brackets, Lane, OutOfMemory, Walk};
 use ats_impact::Top;
+use ats_walk::{Bounds, first_settled};
 use std::alloc::Global;
 
-// The counts as a cut.
-fn cut_of(alloc: Global, counts: &[u32]) -> Result<Cut, OutOfMemory>
-    ensures { IfOk result (λ cut. cut ≡ counts.now) }
-{
-    let mut cut = Cut::new(alloc);
-    for count in counts {
-        cut.push(*count)?;
-    }
-    Ok(cut)
-}
+// Bounds from the shown entries alone.
+struct FromEntries;
 
-// The chosen answer at a cut, settled or not.
-fn stand(alloc: Global, lanes: &[Lane<'_>], counts: &[u32], top: Top) -> Result<Walk, OutOfMemory>
-    requires lanes { AreWholeLanes (whole_lanes lanes.now) }
-    requires cut { IsCut (whole_lanes lanes.now) counts.now }
-    ensures { IfOk result (IsStand (whole_lanes lanes.now) top counts.now) }
-{
-    let threshold = threshold(lanes, counts);
-    let brackets = brackets(alloc, lanes, counts, threshold)?;
-    let picks = choose(alloc, brackets.as_slice(), top)?;
-    Ok(Walk {
-        cut: cut_of(alloc, counts)?,
-        brackets,
-        picks,
-        threshold,
-    })
-}
+impl Bounds for FromEntries {
+    ghost bracket = { λ _. bracket };
 
-// The first stand at which the chosen answer is settled. Where all lists are whole it needs no test.
-fn first_stand(alloc: Global, lanes: &[Lane<'_>], top: Top) -> Result<Walk, OutOfMemory>
-    requires { AreWholeLanes (whole_lanes lanes.now) }
-    ensures { IfOk result (IsEnd (whole_lanes lanes.now) top) }
-{
-    let mut counts = first_counts(alloc, lanes)?;
-    while let Some(lane) = next_lane(lanes, &counts) {
-        let walk = stand(alloc, lanes, &counts, top)?;
-        if settled(
-            walk.brackets.as_slice(),
-            walk.picks.as_slice(),
-            walk.threshold,
-            top,
-        ) {
-            return Ok(walk);
-        }
-        counts[lane] += 1;
+    ghost narrow = { λ _ lanes doc. is_narrow (threshold lanes) doc (lower lanes doc) (missing lanes doc) (missing_within lanes doc) };
+
+    fn brackets(
+        &self,
+        alloc: Global,
+        lanes: &[Lane<'_>],
+        counts: &[u32],
+        limit: u64,
+    ) -> Result<Brackets, OutOfMemory> {
+        brackets(alloc, lanes, counts, limit)
     }
-    stand(alloc, lanes, &counts, top)
 }
 
 /// The first cut of the schedule at which an answer is settled, with the brackets of the documents met
@@ -75,5 +46,5 @@ pub fn walk(alloc: Global, lanes: &[Lane<'_>], top: Top) -> Result<Walk, OutOfMe
     ensures picks { IfOk result (λ walk. IsChosen walk.brackets top walk.picks) }
     ensures settled { IfOk result (λ walk. IsSettled walk.brackets walk.picks walk.threshold top) }
 {
-    first_stand(alloc, lanes, top)
+    first_settled(alloc, lanes, top, &FromEntries)
 }

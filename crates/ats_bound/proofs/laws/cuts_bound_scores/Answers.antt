@@ -1,4 +1,5 @@
 use Rattle.ats_bound.proofs.Scores.{unmet_scores, bracket_holds, met_below}
+use Rattle.ats_bound.proofs.Lookups.{lookup_holds}
 use Rattle.ats_bound.proofs.laws.cuts_bound_scores.Goals as goal
 
 pub returns-clause-unmet : goal.returns-clause-unmet
@@ -10,3 +11,6 @@ returns-clause-met c n score lanes doc are met =
 
 pub returns-clause-bracket : goal.returns-clause-bracket
 returns-clause-bracket c n score lanes doc are met = bracket_holds n score lanes doc are met
+
+pub returns-clause-looked_up : goal.returns-clause-looked_up
+returns-clause-looked_up c n score lanes table doc are agrees met = lookup_holds n score lanes table doc are agrees met

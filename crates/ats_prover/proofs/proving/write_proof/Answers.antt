@@ -23,7 +23,8 @@ use Rattle.ats_prover.specs.Writing.{put}
 use Rattle.ats_prover.proofs.Spots.{spot_each}
 use Rattle.ats_prover.proofs.Ranges.{positions_below}
 use Rattle.ats_prover.proofs.Short.{is_short}
-use Rattle.ats_prover.proofs.Whole.{HasParts, docs_of, front_put, scheduled_is_cut, written}
+use Rattle.ats_walk.proofs.Shown.{have_entries, scheduled_is_cut}
+use Rattle.ats_prover.proofs.Whole.{HasParts, docs_of, front_put, written}
 use Rattle.ats_prover.proofs.proving.write_proof.Goals as goal
 
 pub write_terms-requires-clause-within : goal.write_terms-requires-clause-within
@@ -43,7 +44,7 @@ write_walk-requires-clause-cut g c =
     let same : whole_lanes c.deref-5.result.now ≡ lanes = ap whole_lanes c.deref-5.ensures.value ∙ c.in_ok-lanes.ensures.lanes in
     let last : whole_lanes c.deref-6.result.now ≡ lanes = ap whole_lanes c.deref-6.ensures.value ∙ c.in_ok-lanes.ensures.lanes in
     let first = subst (λ (ls : List WholeLane). IsFirstSettled ls c.args.top c.in_ok-end.end.cut) same c.in_ok-end.ensures.cut in
-    subst (λ (ls : List WholeLane). IsCut ls c.in_ok-end.end.cut) (sym last) (scheduled_is_cut lanes first.turns c.in_ok-end.end.cut c.in_ok-lanes.ensures.whole first.scheduled)
+    subst (λ (ls : List WholeLane). IsCut ls c.in_ok-end.end.cut) (sym last) (scheduled_is_cut lanes first.turns c.in_ok-end.end.cut (have_entries lanes c.in_ok-lanes.ensures.whole) first.scheduled)
 
 pub returns : goal.returns
 returns g c =

@@ -5,7 +5,7 @@ use Rattle.ats_bound.specs.Cut.{ShownLane, lane_of, rest}
 use Rattle.ats_bound.specs.Schedule.{IsWholeLane, shown, whole_lane, whole_lanes}
 use Rattle.ats_tnra.specs.declared.parts.Part.{Part}
 use Rattle.ats_tnra.specs.Parts.{all_parts, part, parts_of}
-use Rattle.ats_tnra.proofs.Shown.{at_lane, count_at, cut_size, no_lane, no_shown, shown_size, whole_at}
+use Rattle.ats_walk.proofs.Shown.{at_lane, count_at, cut_size, no_lane, no_shown, shown_size, whole_at}
 use Rattle.ats_tnra.proofs.parts.gathered.Goals as goal
 
 pub add_lane-requires-clause-whole : goal.add_lane-requires-clause-whole

@@ -1,0 +1,5 @@
+pub mod Shown
+pub mod Greatest
+pub mod Advance
+pub mod Whole
+pub mod Narrow

@@ -1,0 +1,29 @@
+-- Where a walk stands.
+use Rattle.std.specs.Prelude.{◌≡◌, ◌<◌, ℕ, List}
+use Rattle.ats_bound.specs.declared.walk.Walk.{Walk}
+use Rattle.ats_bound.specs.Cut.{threshold}
+use Rattle.ats_bound.specs.Settled.{ArePicks, IsSettled}
+use Rattle.ats_bound.specs.Chosen.{IsChosen}
+use Rattle.ats_bound.specs.Schedule.{WholeLane, Bounding, AreBracketsBy, CanSettleBy, IsFirstSettledBy, IsScheduled, shown}
+
+-- the brackets, the threshold and the chosen answer at a cut
+pub record IsStand (bounds : Bounding) (lanes : List WholeLane) (r : ℕ) (counts : List ℕ) (walk : Walk) : Type 0 where
+  pub cut : walk.cut ≡ counts
+  pub brackets : AreBracketsBy bounds (shown lanes counts) walk.brackets
+  pub limit : walk.threshold ≡ threshold (shown lanes counts)
+  pub chosen : IsChosen walk.brackets r walk.picks
+  pub inside : ArePicks walk.brackets walk.picks
+  -- it is settled where any answer is
+  pub best : (answer : List ℕ) → ArePicks walk.brackets answer → IsSettled walk.brackets answer walk.threshold r → IsSettled walk.brackets walk.picks walk.threshold r
+
+-- it stands at the first cut of the schedule at which an answer is settled, with the chosen answer
+pub record IsEnd (bounds : Bounding) (lanes : List WholeLane) (r : ℕ) (walk : Walk) : Type 0 where
+  pub first : IsFirstSettledBy bounds lanes r walk.cut
+  pub stand : IsStand bounds lanes r walk.cut walk
+  pub settled : IsSettled walk.brackets walk.picks walk.threshold r
+
+-- a cut of the schedule such that no answer is settled at an earlier one
+pub record IsReached (bounds : Bounding) (lanes : List WholeLane) (r : ℕ) (counts : List ℕ) : Type 0 where
+  pub turns : ℕ
+  pub scheduled : IsScheduled lanes turns counts
+  pub none : (n : ℕ) (earlier : List ℕ) → n < turns → IsScheduled lanes n earlier → CanSettleBy bounds lanes r earlier → ⊥
