@@ -23,14 +23,14 @@ use Rattle.ats_top.specs.declared.rejection.Rejection.TheVariants.{Shape, Tra, C
 use Rattle.ats_top.proofs.Refused.{not_longer, one_file, missing_longer, missing_file, ranking_kept}
 
 -- a told file is one proof
-one_proof : (files : Files) (name : List ℕ) (a b : Algorithm) (first second : Proof) → IsTold files → HasProof files name a first
+pub one_proof : (files : Files) (name : List ℕ) (a b : Algorithm) (first second : Proof) → IsTold files → HasProof files name a first
     → HasProof files name b second → first ≡ second
 one_proof files name a b first second told one two =
     let same = one_file files name one.bytes two.bytes (2 ^ 26) (2 ^ 26) told one.file two.file in
     one_value two.bytes first second (subst (λ (bytes : List ℕ). IsProof bytes first) same one.says) two.says
 
 -- a proof has no fault
-shape_kept : (files : Files) (name : List ℕ) (a : Algorithm) (proof : Proof) (fault : ShapeFault) → IsTold files → HasProof files name a proof
+pub shape_kept : (files : Files) (name : List ℕ) (a : Algorithm) (proof : Proof) (fault : ShapeFault) → IsTold files → HasProof files name a proof
     → IsLongFile files name fault ⊎ IsBadFile files name fault → ⊥
 shape_kept files name a proof fault told has (inl long) = not_longer files name has.bytes (2 ^ 26) told has.file long.longer
 shape_kept files name a proof fault told has (inr is) =
@@ -39,7 +39,7 @@ shape_kept files name a proof fault told has (inr is) =
     no_fault is.bytes fault (fields_of proof) is.bad says.spells
 
 -- and one algorithm
-walk_kept : (files : Files) (name : List ℕ) (first second : Proof) → IsTold files → HasProof files name algorithm.Tnra first
+pub walk_kept : (files : Files) (name : List ℕ) (first second : Proof) → IsTold files → HasProof files name algorithm.Tnra first
     → HasProof files name algorithm.Tra second → ⊥
 walk_kept files name first second told one two =
     let both : algorithm.Tnra ≡ algorithm.Tra = sym one.walk ∙ ap algorithm_of (one_proof files name algorithm.Tnra algorithm.Tra first second told one two) ∙ two.walk in

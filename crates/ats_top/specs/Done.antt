@@ -1,5 +1,6 @@
 -- What the commands do where they are done, and what of it is left where they are not.
-use Rattle.std.specs.Prelude.{◌≡◌, ◌≤◌, ℕ, List, length, take, map}
+use Rattle.std.specs.Prelude.{◌≡◌, ◌≤◌, ℕ, List, length, take, map, Some}
+use Rattle.hex.specs.Hex.{encode_lower}
 use Rattle.ats_base.specs.Outside.{Puts}
 use Rattle.ats_terms.specs.Query.{IsQueryOf}
 use Rattle.ats_impact.specs.Rank.{IsRanking, IsTop}
@@ -9,7 +10,7 @@ use Rattle.ats_index.specs.Spelling.{IsSpelling}
 use Rattle.ats_proof.specs.Value.{Proof}
 use Rattle.ats_client.specs.Headline.{IsTopOrCollides}
 use Rattle.ats_client.specs.Rows.{rows_of}
-use Rattle.ats_top.specs.Words.{RankWords, BuildWords, RootWords, ProveWords, VerifyWords, Command, Rank, Build, Root, Prove, Verify}
+use Rattle.ats_top.specs.Words.{RankWords, BuildWords, RootWords, ProveWords, VerifyWords, Command, Rank, Build, Root, Prove, Verify, root_word}
 use Rattle.ats_top.specs.Print.{lines, line_of_root, line_of_proof}
 use Rattle.ats_top.specs.Read.{Files, HasCollection, HasIndex}
 use Rattle.ats_top.specs.Proved.{IsProofFor, IsProofTooLong}
@@ -28,20 +29,25 @@ pub record IsRanked (files : Files) (words : RankWords) (text : List ℕ) : Type
   pub top : IsTop texts query words.r (map (λ row. row.doc) rows)
   pub printed : text ≡ lines rows
 
--- INDEX was given the index bytes of the named file's collection, and the text is the line of its root
+-- the text is the line of this root, and its digits are the word that `verify` reads the root from
+pub record IsPublished (root text : List ℕ) : Type 0 where
+  pub printed : text ≡ line_of_root root
+  pub word : root_word (encode_lower root) ≡ Some root
+
+-- INDEX was given the index bytes of the named file's collection, and its root was published
 pub record IsBuilt (H : List ℕ → List ℕ) (before now : Files) (words : BuildWords) (text : List ℕ) : Type 0 where
   pub texts : List (List ℕ)
   pub bytes : List ℕ
   pub collection : HasCollection before words.collection texts
   pub spelling : IsSpelling H bytes texts
   pub stored : Puts before now words.index bytes
-  pub printed : text ≡ line_of_root (root_of H texts)
+  pub published : IsPublished (root_of H texts) text
 
--- the named file is the index of a collection, and the text is the line of its root
+-- the named file is the index of a collection, and its root was published
 pub record IsRooted (H : List ℕ → List ℕ) (files : Files) (words : RootWords) (text : List ℕ) : Type 0 where
   pub texts : List (List ℕ)
   pub index : HasIndex H files words.index texts
-  pub printed : text ≡ line_of_root (root_of H texts)
+  pub published : IsPublished (root_of H texts) text
 
 -- PROOF was given the honest proof that the words ask for, and the text is the line of its length
 pub record IsProofStored (H : List ℕ → List ℕ) (before now : Files) (words : ProveWords) (text : List ℕ) : Type 0 where

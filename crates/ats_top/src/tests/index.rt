@@ -1,7 +1,6 @@
 //! `build` and `root` over the example of three texts, whose root an independent program computed.
 
-use super::{FOXES, SHELF, USAGE, expect, shelf_of, words};
-use crate::{run, run_with};
+use super::{FOXES, SHELF, USAGE, WEAK_LINE, expect, expect_under, shelf_of, status_of};
 use ats_base::{MemShelf, MemSink};
 use ats_hash::Weak;
 use std::alloc::Global;
@@ -34,9 +33,8 @@ fn stores_an_index_and_tells_its_root(rt: HostRuntime) -> Result<(), Fail> {
         expect(&rt, &mut shelf, &["root", "I"], 0, ROOT)?;
     }
     let mut shelf = shelf_of(rt.alloc(), r#"["!!"]"#)?;
-    let words = words(rt.alloc(), &BUILD)?;
     let mut sink = MemSink::new(rt.alloc());
-    assert_eq!(rt; run(rt.alloc(), &words, &mut shelf, &mut sink), 0);
+    assert_eq!(rt; status_of(rt.alloc(), &BUILD, &mut shelf, &mut sink)?, 0);
     assert_eq!(rt; shelf.bytes_of("I").map(|bytes| bytes.len()), Some(51));
     Ok(())
 }
@@ -131,8 +129,7 @@ fn stands_whole_where_the_sink_fails(rt: HostRuntime) -> Result<(), Fail> {
     let mut sink = MemSink::new(rt.alloc());
     sink.piece(10);
     sink.fail_at(3)?;
-    let words = words(rt.alloc(), &BUILD)?;
-    assert_eq!(rt; run(rt.alloc(), &words, &mut shelf, &mut sink), 7);
+    assert_eq!(rt; status_of(rt.alloc(), &BUILD, &mut shelf, &mut sink)?, 7);
     assert_eq!(rt; sink.bytes(), &ROOT.as_bytes()[..20]);
     assert_eq!(rt; shelf.bytes_of("I"), Some(index.as_slice()));
     Ok(())
@@ -141,22 +138,8 @@ fn stands_whole_where_the_sink_fails(rt: HostRuntime) -> Result<(), Fail> {
 // What the sum of bytes gives in place of SHA-256.
 #[test]
 fn builds_under_another_hash(rt: HostRuntime) -> Result<(), Fail> {
-    let alloc = rt.alloc();
-    let mut shelf = shelf_of(alloc, FOXES)?;
-    let mut built = MemSink::new(alloc);
-    let words_of_build = words(alloc, &BUILD)?;
-    let status = run_with::<Weak, MemShelf, MemSink>(
-        alloc,
-        &words_of_build,
-        &mut shelf,
-        &mut built,
-    );
-    assert_eq!(rt; status, 0);
-    assert_eq!(rt; built.bytes().len(), 65);
-    let mut told = MemSink::new(alloc);
-    let words_of_root = words(alloc, &["root", "I"])?;
-    let status = run_with::<Weak, MemShelf, MemSink>(alloc, &words_of_root, &mut shelf, &mut told);
-    assert_eq!(rt; status, 0);
-    assert_eq!(rt; told.bytes(), built.bytes());
+    let mut shelf = shelf_of(rt.alloc(), FOXES)?;
+    expect_under::<Weak>(&rt, &mut shelf, &BUILD, 0, WEAK_LINE)?;
+    expect_under::<Weak>(&rt, &mut shelf, &["root", "I"], 0, WEAK_LINE)?;
     expect(&rt, &mut shelf, &["root", "I"], 4, "input: index at 0\n")
 }

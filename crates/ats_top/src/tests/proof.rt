@@ -1,7 +1,6 @@
 //! `prove` over the example of three texts. The lengths of its proofs were computed by hand from the format.
 
-use super::{FOXES, SHELF, USAGE, expect, shelf_of, words};
-use crate::{run, run_with};
+use super::{FOXES, SHELF, USAGE, WEAK_LINE, expect, expect_under, shelf_of, status_of};
 use ats_base::{MemShelf, MemSink};
 use ats_hash::Weak;
 use std::alloc::Global;
@@ -13,9 +12,9 @@ const PROVE: [&str; 6] = ["prove", "I", "tnra", "1", "red hen", "P"];
 // A shelf that has the file under the name X, and the index of its collection under I, and that no call was made on.
 fn built(rt: &(impl Abort + Alloc<A = Global>), file: &str) -> Result<MemShelf, Fail> {
     let mut builder = shelf_of(rt.alloc(), file)?;
-    let words = words(rt.alloc(), &["build", "X", "I"])?;
     let mut sink = MemSink::new(rt.alloc());
-    assert_eq!(rt; run(rt.alloc(), &words, &mut builder, &mut sink), 0);
+    let build = ["build", "X", "I"];
+    assert_eq!(rt; status_of(rt.alloc(), &build, &mut builder, &mut sink)?, 0);
     let mut shelf = shelf_of(rt.alloc(), file)?;
     shelf.put("I", builder.bytes_of("I").ok_or("no index")?)?;
     Ok(shelf)
@@ -197,8 +196,7 @@ fn stands_whole_where_the_sink_fails(rt: HostRuntime) -> Result<(), Fail> {
     let mut sink = MemSink::new(rt.alloc());
     sink.piece(4);
     sink.fail_at(2)?;
-    let words = words(rt.alloc(), &PROVE)?;
-    assert_eq!(rt; run(rt.alloc(), &words, &mut shelf, &mut sink), 7);
+    assert_eq!(rt; status_of(rt.alloc(), &PROVE, &mut shelf, &mut sink)?, 7);
     assert_eq!(rt; sink.bytes(), b"proo".as_slice());
     assert_eq!(rt; shelf.bytes_of("P"), Some(proof.as_slice()));
     Ok(())
@@ -207,21 +205,9 @@ fn stands_whole_where_the_sink_fails(rt: HostRuntime) -> Result<(), Fail> {
 // What the sum of bytes gives in place of SHA-256.
 #[test]
 fn proves_under_another_hash(rt: HostRuntime) -> Result<(), Fail> {
-    let alloc = rt.alloc();
-    let mut shelf = shelf_of(alloc, FOXES)?;
-    let mut sink = MemSink::new(alloc);
-    let build = words(alloc, &["build", "X", "I"])?;
-    let prove = words(alloc, &PROVE)?;
-    assert_eq!(rt;
-        run_with::<Weak, MemShelf, MemSink>(alloc, &build, &mut shelf, &mut sink),
-        0
-    );
-    let mut told = MemSink::new(alloc);
-    assert_eq!(rt;
-        run_with::<Weak, MemShelf, MemSink>(alloc, &prove, &mut shelf, &mut told),
-        0
-    );
-    assert_eq!(rt; told.bytes(), b"proof 365\n".as_slice());
+    let mut shelf = shelf_of(rt.alloc(), FOXES)?;
+    expect_under::<Weak>(&rt, &mut shelf, &["build", "X", "I"], 0, WEAK_LINE)?;
+    expect_under::<Weak>(&rt, &mut shelf, &PROVE, 0, "proof 365\n")?;
     assert_eq!(rt; shelf.bytes_of("P").map(|bytes| bytes.len()), Some(365));
     Ok(())
 }

@@ -1,9 +1,9 @@
 //! `verify` over proofs of the example of three texts, as they are and changed by hand. The places of the changes
 //! are those of the format's fields; what each is refused by was found by hand.
 
-use super::{FOXES, SHELF, USAGE, expect, shelf_of, words};
-use crate::run;
+use super::{FOXES, SHELF, USAGE, WEAK_LINE, expect, expect_under, shelf_of, status_of};
 use ats_base::{MemShelf, MemSink};
+use ats_hash::Weak;
 use std::alloc::Global;
 use std::process::Abort;
 use std::test::Fail;
@@ -23,10 +23,10 @@ fn proved(
     let alloc = rt.alloc();
     let mut shelf = shelf_of(alloc, file)?;
     let mut told = MemSink::new(alloc);
-    let build = words(alloc, &["build", "X", "I"])?;
-    assert_eq!(rt; run(alloc, &build, &mut shelf, &mut told), 0);
-    let prove = words(alloc, &["prove", "I", "tnra", rows, query, "P"])?;
-    assert_eq!(rt; run(alloc, &prove, &mut shelf, &mut told), 0);
+    let build = ["build", "X", "I"];
+    assert_eq!(rt; status_of(alloc, &build, &mut shelf, &mut told)?, 0);
+    let prove = ["prove", "I", "tnra", rows, query, "P"];
+    assert_eq!(rt; status_of(alloc, &prove, &mut shelf, &mut told)?, 0);
     Ok(shelf)
 }
 
@@ -156,6 +156,28 @@ fn refuses_changed_proofs(rt: HostRuntime) -> Result<(), Fail> {
 }
 
 #[test]
+fn refuses_a_file_that_is_too_long(rt: HostRuntime) -> Result<(), Fail> {
+    let zeros = vec![in rt.alloc(); 0u8; 67108865]?;
+    expect_answer(&rt, &zeros, 1, "refused: shape long 67108864\n")
+}
+
+// The impact of hen in document 2 becomes 10498 in place of 1063: the bytes have the same sum, so the sum of bytes gives
+// the forged leaf the digest of the true one. The answer is wrong, and those two leaves are the collision in hand.
+#[test]
+fn accepts_a_collision_under_a_weak_hash(rt: HostRuntime) -> Result<(), Fail> {
+    let mut shelf = shelf_of(rt.alloc(), FOXES)?;
+    expect_under::<Weak>(&rt, &mut shelf, &["build", "X", "I"], 0, WEAK_LINE)?;
+    let prove = ["prove", "I", "tnra", "1", "red hen", "P"];
+    expect_under::<Weak>(&rt, &mut shelf, &prove, 0, "proof 365\n")?;
+    let proof = shelf.bytes_of("P").ok_or("no proof")?;
+    let raised = spliced(rt.alloc(), proof, 331, 333, &[41, 2])?;
+    let forged = spliced(rt.alloc(), &raised, 361, 365, &[0, 0, 0, 2])?;
+    shelf.put("P", &forged)?;
+    let verify = ["verify", WEAK_LINE.trim(), "1", "red hen", "P"];
+    expect_under::<Weak>(&rt, &mut shelf, &verify, 0, "1 2 62988 62988\n")
+}
+
+#[test]
 fn refuses_other_roots_and_queries(rt: HostRuntime) -> Result<(), Fail> {
     let mut shelf = proved(&rt, FOXES, "1", "red hen")?;
     let zeros = "0000000000000000000000000000000000000000000000000000000000000000";
@@ -280,8 +302,7 @@ fn prints_a_prefix_where_the_sink_fails(rt: HostRuntime) -> Result<(), Fail> {
     let mut sink = MemSink::new(rt.alloc());
     sink.piece(4);
     sink.fail_at(2)?;
-    let words = words(rt.alloc(), &VERIFY)?;
-    assert_eq!(rt; run(rt.alloc(), &words, &mut shelf, &mut sink), 7);
+    assert_eq!(rt; status_of(rt.alloc(), &VERIFY, &mut shelf, &mut sink)?, 7);
     assert_eq!(rt; sink.bytes(), b"1 1 ".as_slice());
     Ok(())
 }

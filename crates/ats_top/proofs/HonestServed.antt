@@ -1,0 +1,50 @@
+-- A file that is an honest proof is served by `verify`.
+use Rattle.std.proofs.Common.{◌≡◌, ◌^◌, ℕ, List, Option, Some, None, refl, ap₂}
+use Rattle.std.specs.Prelude.{option_map, option_and_then}
+use Rattle.ats_records.specs.declared.record.Algorithm.TheVariants.{Tnra}
+use Rattle.ats_terms.specs.Query.{IsQueryOf}
+use Rattle.ats_commit.specs.Root.{root_of}
+use Rattle.ats_proof.specs.Value.{Proof, algorithm_of}
+use Rattle.ats_prover.specs.Honest.{IsProved}
+use Rattle.ats_prover.proofs.AcceptedRows.{honest_accepted}
+use Rattle.ats_top.specs.Words.{Command, Verify, number_of, root_word, verify_words, command_of}
+use Rattle.ats_top.specs.Read.{Files, IsFile}
+use Rattle.ats_top.specs.Refusals.{IsRowCount}
+use Rattle.ats_top.specs.Done.{IsServed}
+use Rattle.ats_top.specs.Run.{Said}
+
+-- the command of the words of `verify`, from what its root and its number of rows spell
+abbrev said_by : List ℕ → List ℕ → Option (List ℕ) → Option ℕ → Option Command
+said_by query name root rows =
+    option_and_then (λ digest. option_map (λ n. Verify (record { root = digest; r = n; query = query; proof = name })) rows) root
+
+-- the words of `verify` say its command
+verify_said : (root digest r query name : List ℕ) (rows : ℕ) → root_word root ≡ Some digest → number_of r ≡ Some rows
+    → command_of (verify_words root r query name) ≡ Some (Verify (record { root = digest; r = rows; query = query; proof = name }))
+verify_said root digest r query name rows is_root is_rows = ap₂ (said_by query name) is_root is_rows
+
+-- a proof with no documents is by the walk of lists alone
+no_documents : (proof : Proof) → proof.docs ≡ None → algorithm_of proof ≡ Tnra
+no_documents proof none = rw none refl
+
+pub honest_served : (H : List ℕ → List ℕ) (texts : List (List ℕ)) (asked : List (List ℕ × ℕ)) (rows : ℕ) (bytes : List ℕ) (files : Files) (root r query name : List ℕ)
+    → IsProved H texts asked rows bytes → IsFile files name (2 ^ 26) bytes → root_word root ≡ Some (root_of H texts)
+    → number_of r ≡ Some rows → IsRowCount rows → IsQueryOf query asked
+    → Said (verify_words root r query name) (IsServed H files)
+honest_served H texts asked rows bytes files root r query name proved file is_root is_rows within is_query =
+    let proof = proved.proof in (
+      Verify (record { root = root_of H texts; r = rows; query = query; proof = name }),
+      verify_said root (root_of H texts) r query name rows is_root is_rows,
+      (
+        record { rows = within; query = is_query.has },
+        (
+          asked,
+          proof,
+          record {
+            asked = is_query;
+            held = record { bytes = bytes; file = file; says = proved.spells; walk = no_documents proof proved.honest.docs };
+            accepts = honest_accepted H texts asked rows proof proved.honest;
+          },
+        ),
+      ),
+    )

@@ -1,0 +1,33 @@
+//! What holds of the commands together, as contracts of functions that do nothing.
+
+ghost use Rattle.std.specs.Prelude.{◌≡◌, ◌^◌, ℕ, List, Some};
+ghost use Rattle.ats_terms.specs.Query.{IsQueryOf};
+ghost use Rattle.ats_commit.specs.Root.{root_of};
+ghost use Rattle.ats_prover.specs.Honest.{IsProved};
+ghost use Rattle.ats_top.specs.Words.{Command, number_of, root_word, verify_words};
+ghost use Rattle.ats_top.specs.Read.{Files, IsFile, IsTold};
+ghost use Rattle.ats_top.specs.Refusals.{IsRowCount};
+ghost use Rattle.ats_top.specs.Rejected.{IsRejected};
+ghost use Rattle.ats_top.specs.declared.rejection.Rejection.{Rejection};
+ghost use Rattle.ats_top.specs.Done.{HasInput, IsServed};
+ghost use Rattle.ats_top.specs.Run.{Said};
+
+use ats_hash::HashKind;
+
+/// Where a file is the honest proof of a query over a collection, `verify` serves it under the word of the
+/// collection's root, for the same query and number of rows.
+pub fn honest_proofs_are_served<H: HashKind>()
+    ensures { (texts : List (List ℕ)) (asked : List (List ℕ × ℕ)) (rows : ℕ) (bytes : List ℕ) (files : Files) (root r query name : List ℕ)
+        → IsProved H.hash texts asked rows bytes → IsFile files name (2 ^ 26) bytes → root_word root ≡ Some (root_of H.hash texts)
+        → number_of r ≡ Some rows → IsRowCount rows → IsQueryOf query asked
+        → Said (verify_words root r query name) (IsServed H.hash files) }
+{}
+
+/// Where the shelf tells its files, the proof of a command is refused in one way at most, and in none where the
+/// command has what it reads.
+pub fn commands_have_one_rejection<H: HashKind>()
+    ensures one { (files : Files) (command : Command) (a b : Rejection) → IsTold files
+        → IsRejected H.hash files command a → IsRejected H.hash files command b → a ≡ b }
+    ensures none { (files : Files) (command : Command) (rejection : Rejection) → IsTold files
+        → HasInput H.hash files command → IsRejected H.hash files command rejection → ⊥ }
+{}
