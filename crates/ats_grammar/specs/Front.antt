@@ -1,13 +1,12 @@
--- Fronts of a proof's fields, what spells a proof, and the first fault of other bytes.
-use Rattle.std.specs.Prelude.{◌≡◌, ◌⊎◌, ℕ, ◌<◌, ◌≤◌, ◌^◌, nat_lt, if◌then◌else◌, List, [], ◌∷◌, ◌++◌, length}
+-- Fronts of fields, what spells bytes of a format, and the first fault of other bytes.
+use Rattle.std.specs.Prelude.{◌≡◌, ◌⊎◌, ℕ, ◌<◌, ◌≤◌, nat_lt, if◌then◌else◌, List, [], ◌∷◌, ◌++◌, length}
 use Rattle.std.specs.List.{concat}
 use Rattle.ats_grammar.specs.declared.fault.ShapeFault.{ShapeFault}
 use Rattle.ats_grammar.specs.declared.fault.ShapeKind.{ShapeKind}
 use Rattle.ats_grammar.specs.declared.fault.ShapeKind.TheVariants.{Long, Cut, Trailing}
 use Rattle.ats_grammar.specs.declared.next.Next.{Next}
 use Rattle.ats_grammar.specs.declared.next.Next.TheVariants as next
-use Rattle.ats_grammar.specs.Table.{Table, End, number, head, follow}
-use Rattle.ats_grammar.specs.Grammar.{proof}
+use Rattle.ats_grammar.specs.Table.{Table, Format, End, number, head, follow}
 
 -- these bytes are the field: of its size, and in its range
 abbrev pub IsField : Next → List ℕ → Type 0
@@ -20,24 +19,24 @@ abbrev pub Come : List (List ℕ) → Table → Table → Type 0
 Come [] table last = table ≡ last
 Come (field ∷ fields) table last = IsField (head table) field × Come fields (follow table (number field)) last
 
--- the fields are a front of a proof, the table comes after them, and the bytes are their join and those left
-pub record IsFront (bytes : List ℕ) (fields : List (List ℕ)) (table : Table) (left : List ℕ) : Type 0 where
-  pub come : Come fields proof table
+-- the fields are a front of the format, the table comes after them, and the bytes are their join and those left
+pub record IsFront (format : Format) (bytes : List ℕ) (fields : List (List ℕ)) (table : Table) (left : List ℕ) : Type 0 where
+  pub come : Come fields format.table table
   pub parts : bytes ≡ concat fields ++ left
 
--- the bytes are the join of the whole front of a proof, and few enough
-pub record Spells (bytes : List ℕ) (fields : List (List ℕ)) : Type 0 where
-  pub whole : IsFront bytes fields End []
-  pub few : length bytes ≤ 2 ^ 26
+-- the bytes are the join of a whole front, and few enough
+pub record Spells (format : Format) (bytes : List ℕ) (fields : List (List ℕ)) : Type 0 where
+  pub whole : IsFront format bytes fields End []
+  pub few : length bytes ≤ format.limit
 
--- some proof is spelled so
-pub record IsSpelling (bytes : List ℕ) : Type 0 where
+-- some fields are spelled so
+pub record IsSpelling (format : Format) (bytes : List ℕ) : Type 0 where
   pub fields : List (List ℕ)
-  pub spells : Spells bytes fields
+  pub spells : Spells format bytes fields
 
 -- no front whose join begins the bytes has more fields
-abbrev pub IsLongest : List ℕ → List (List ℕ) → Type 0
-IsLongest bytes fields = (others : List (List ℕ)) (table : Table) (left : List ℕ) → IsFront bytes others table left → length others ≤ length fields
+abbrev pub IsLongest : Format → List ℕ → List (List ℕ) → Type 0
+IsLongest format bytes fields = (others : List (List ℕ)) (table : Table) (left : List ℕ) → IsFront format bytes others table left → length others ≤ length fields
 
 -- a field is wanted, or bytes are left
 abbrev pub IsOpen : Next → List ℕ → Type 0
@@ -51,22 +50,23 @@ kind_of next.End left = Trailing
 kind_of (next.Number size low high kind) left = if nat_lt left size then Cut else kind
 kind_of (next.Bytes size) left = Cut
 
-pub record IsLong (bytes : List ℕ) (fault : ShapeFault) : Type 0 where
-  pub many : 2 ^ 26 < length bytes
-  pub at : fault.at ≡ 2 ^ 26
+pub record IsLong (format : Format) (bytes : List ℕ) (fault : ShapeFault) : Type 0 where
+  pub many : format.limit < length bytes
+  pub at : fault.at ≡ format.limit
   pub kind : fault.kind ≡ Long
 
 -- the fault comes behind the longest front
-pub record IsFirst (bytes : List ℕ) (fault : ShapeFault) : Type 0 where
-  pub few : length bytes ≤ 2 ^ 26
+pub record IsFirst (format : Format) (bytes : List ℕ) (fault : ShapeFault) : Type 0 where
+  pub few : length bytes ≤ format.limit
   pub fields : List (List ℕ)
   pub table : Table
   pub left : List ℕ
-  pub front : IsFront bytes fields table left
-  pub longest : IsLongest bytes fields
+  pub front : IsFront format bytes fields table left
+  pub longest : IsLongest format bytes fields
   pub more : IsOpen (head table) left
   pub at : fault.at ≡ length (concat fields)
   pub kind : fault.kind ≡ kind_of (head table) (length left)
 
-abbrev pub IsBad : List ℕ → ShapeFault → Type 0
-IsBad bytes fault = IsLong bytes fault ⊎ IsFirst bytes fault
+-- there are too many bytes, or the fault comes behind the longest front
+abbrev pub IsBad : Format → List ℕ → ShapeFault → Type 0
+IsBad format bytes fault = IsLong format bytes fault ⊎ IsFirst format bytes fault

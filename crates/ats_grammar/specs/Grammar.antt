@@ -1,7 +1,7 @@
 -- The fields of a proof's bytes, in their order. A run of n like parts is followed by what is given last.
-use Rattle.std.specs.Prelude.{ℕ, zero, suc, ◌+◌, ◌==◌, Bool, true, false}
+use Rattle.std.specs.Prelude.{ℕ, zero, suc, ◌+◌, ◌^◌, ◌==◌, Bool, true, false}
 use Rattle.ats_grammar.specs.declared.fault.ShapeKind.TheVariants.{Magic, Version, Algorithm, Count, Order}
-use Rattle.ats_grammar.specs.Table.{Table, End, Number, Bytes}
+use Rattle.ats_grammar.specs.Table.{Table, Format, End, Number, Bytes}
 
 -- any number of 2 bytes, or of 4; its kind of fault never comes
 abbrev pub any_2 : (ℕ → Table) → Table
@@ -136,3 +136,7 @@ header tra = Number 1 1 1 Version (λ _. Number 4 1 65536 Count (λ _. Number 4 
 
 abbrev pub proof : Table
 proof = Number 4 0x41545350 0x41545350 Magic (λ _. Number 1 1 1 Version (λ _. Number 1 1 2 Algorithm (λ a. header (a == 1))))
+
+-- what the bytes of a proof must be: at most 2^26
+abbrev pub proof_format : Format
+proof_format = record { table = proof; limit = 2 ^ 26 }

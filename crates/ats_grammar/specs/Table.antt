@@ -11,6 +11,11 @@ pub data Table : Type 0 where
   Number : (size low high : ℕ) → ShapeKind → (ℕ → Table) → Table
   Bytes : (size : ℕ) → Table → Table
 
+-- what bytes of one kind must be: the table of their fields, and how many there may be
+pub record Format : Type 0 where
+  pub table : Table
+  pub limit : ℕ
+
 -- bytes as a number, the high byte first
 abbrev pub number : List ℕ → ℕ
 number [] = 0

@@ -7,6 +7,7 @@ use Rattle.ats_lists.specs.declared.entry.Entry.{Entry}
 use Rattle.ats_doctree.specs.declared.doc_leaf.DocLeaf.{DocLeaf}
 use Rattle.ats_records.specs.declared.record.Slot.{Slot}
 use Rattle.ats_grammar.specs.Table.{number}
+use Rattle.ats_grammar.specs.Grammar.{proof_format}
 use Rattle.ats_grammar.proofs.Fronts.{one_spelling}
 use Rattle.ats_proof.specs.Parts.{spelled, counted}
 use Rattle.ats_proof.specs.Value.{ShownEntry, ShownTerm, Prefix, TermsSection, Documents, Proof, IsProof, AreDocuments, AreDocumentsOf, digest_fields, slot_fields, kind_of_slot, id_fields, posting_fields, entry_fields, doc_fields, term_fields, prefix_fields, section_fields, documents_fields, front_fields, header_fields, fields_of, number_of_algorithm, present_in}
@@ -215,7 +216,7 @@ fields_in_turn p = in_turn (front_fields p.docs) (header_fields p.header) (spell
 
 pub one_value : (bytes : List ℕ) (p q : Proof) → IsProof bytes p → IsProof bytes q → p ≡ q
 one_value bytes p q one other =
-    let e = one_spelling bytes (fields_of p) (fields_of q) one.spells other.spells in
+    let e = one_spelling proof_format bytes (fields_of p) (fields_of q) one.spells other.spells in
     let front = front_tells p.docs q.docs (header_fields p.header ++ (spelled 2 (length p.slots) ∷ after_terms p)) (header_fields q.header ++ (spelled 2 (length q.slots) ∷ after_terms q))
     (sym (fields_in_turn p) ∙ e ∙ fields_in_turn q) in
     let header = header_tells p.header q.header (spelled 2 (length p.slots) ∷ after_terms p) (spelled 2 (length q.slots) ∷ after_terms q) front.rest in

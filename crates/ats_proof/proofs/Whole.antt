@@ -6,7 +6,7 @@ use Rattle.std.proofs.lemmas.List.Elements.{All-from_recursion}
 use Rattle.ats_grammar.specs.Front.{Come, Spells, IsSpelling}
 use Rattle.ats_grammar.specs.declared.fault.ShapeKind.TheVariants.{Count}
 use Rattle.ats_grammar.specs.Table.{Table, End, Number}
-use Rattle.ats_grammar.specs.Grammar.{proof, query_terms, dictionary, dict_digests, slots, met, prefixes, documents, doc_digests, term_sections, answer}
+use Rattle.ats_grammar.specs.Grammar.{proof, proof_format, query_terms, dictionary, dict_digests, slots, met, prefixes, documents, doc_digests, term_sections, answer}
 use Rattle.ats_records.specs.declared.record.Slot.{Slot}
 use Rattle.ats_proof.specs.Parts.{spelled, number_in, parts_in, counted_in, counted_size, counted}
 use Rattle.ats_proof.specs.Value.{IsProof, AreDocumentsOf, digest_fields, slot_fields, id_fields, entry_fields, prefix_fields, doc_fields, section_fields, fields_of, front_fields, header_fields, documents_fields, number_of_algorithm, kind_of_slot, present_in}
@@ -157,7 +157,7 @@ documents_whole true bytes =
       slot_each = All-from_recursion (λ s. length s.slots ≡ present) _ (slots_by_recursion present n (drop (sections_place bytes) bytes));
     }
 
-pub whole : (bytes : List ℕ) → AreBytes bytes → IsSpelling bytes → IsWhole bytes
+pub whole : (bytes : List ℕ) → AreBytes bytes → IsSpelling proof_format bytes → IsWhole bytes
 whole bytes small spelling =
     let front = spelling.spells.whole in
     let stands : Stands proof spelling.fields bytes = record { come = front.come; join = front.parts ∙ append-nil (concat spelling.fields); small = small } in
@@ -166,7 +166,7 @@ whole bytes small spelling =
     read.front.split ∙ ap (λ (xs : List (List ℕ)). fields_of (proof_in bytes) ++ xs) (nothing_after read.front.after read.front.stands.come) ∙ append-nil (fields_of (proof_in bytes)) in
     record {
       is = record {
-        spells = subst (Spells bytes) same spelling.spells;
+        spells = subst (Spells proof_format bytes) same spelling.spells;
         prefix_each = length-parts prefix_size prefix_in (present_in (slots_in bytes)) (drop (lists_place bytes) bytes);
         documents = documents_whole (is_tra bytes) bytes;
       };

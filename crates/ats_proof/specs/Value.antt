@@ -9,6 +9,7 @@ use Rattle.ats_records.specs.declared.record.Algorithm.{Algorithm}
 use Rattle.ats_records.specs.declared.record.Algorithm.TheVariants.{Tra, Tnra}
 use Rattle.ats_records.specs.declared.record.Slot.{Slot}
 use Rattle.ats_grammar.specs.Front.{Spells}
+use Rattle.ats_grammar.specs.Grammar.{proof_format}
 use Rattle.ats_proof.specs.Parts.{spelled, counted}
 
 -- a shown leaf of the dictionary
@@ -127,7 +128,7 @@ AreDocumentsOf proof (Some docs) = AreDocuments (length proof.met) (present_in p
 
 -- the bytes spell the proof
 pub record IsProof (bytes : List ℕ) (proof : Proof) : Type 0 where
-  pub spells : Spells bytes (fields_of proof)
+  pub spells : Spells proof_format bytes (fields_of proof)
   pub prefix_each : length proof.lists ≡ present_in proof.slots
   pub documents : AreDocumentsOf proof proof.docs
 

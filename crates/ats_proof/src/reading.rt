@@ -3,6 +3,7 @@
 ghost use Rattle.std.specs.Prelude.{◌≡◌, Err, IsOkAnd, IfOk, IfErr};
 ghost use Rattle.ats_grammar.specs.declared.fault.ShapeFault.{ShapeFault};
 ghost use Rattle.ats_grammar.specs.Front.{IsBad, IsSpelling};
+ghost use Rattle.ats_grammar.specs.Grammar.{proof_format};
 ghost use Rattle.ats_proof.specs.Reading.{proof_in};
 ghost use Rattle.ats_proof.specs.Told.{HasRoom};
 ghost use Rattle.ats_proof.specs.Value.{IsProof};
@@ -15,7 +16,7 @@ use ats_grammar::{ShapeFault, scan};
 
 // What bytes are that spell a proof.
 fn are_a_proof(bytes: &[u8])
-    requires { IsSpelling bytes.now }
+    requires { IsSpelling proof_format bytes.now }
     ensures proof { IsProof bytes.now (proof_in bytes.now) }
     ensures room { HasRoom bytes.now }
 {}
@@ -26,7 +27,7 @@ impl<'a> ProofView<'a> {
 
     // The view of bytes that spell a proof.
     fn of(bytes: &'a [u8]) -> ProofView<'a>
-        requires { IsSpelling bytes.now }
+        requires { IsSpelling proof_format bytes.now }
         ensures proof { IsProof bytes.now (proof_of result) }
         ensures lent { bytes_of result ≡ bytes.now }
     {
@@ -60,8 +61,8 @@ impl<'a> ProofView<'a> {
         ensures spelled { IfOk result (λ view. IsProof bytes.now (proof_of view)) }
         ensures accepted { (proof : Proof) → IsProof bytes.now proof → IsOkAnd result (λ view. proof_of view ≡ proof) }
         ensures lent { IfOk result (λ view. bytes_of view ≡ bytes.now) }
-        ensures refused { IfErr result (λ fault. IsBad bytes.now fault) }
-        ensures exact { (fault : ShapeFault) → IsBad bytes.now fault → result ≡ Err fault }
+        ensures refused { IfErr result (λ fault. IsBad proof_format bytes.now fault) }
+        ensures exact { (fault : ShapeFault) → IsBad proof_format bytes.now fault → result ≡ Err fault }
     {
         match scan(bytes) {
             Ok(()) => Ok(ProofView::of(bytes)),

@@ -3,6 +3,7 @@ use Rattle.std.proofs.Common.{◌≡◌, ◌∙◌, ◌⊎◌, ◌^◌, ℕ, Lis
 use Rattle.ats_records.specs.declared.record.Algorithm.TheVariants as algorithm
 use Rattle.ats_grammar.specs.Front.{IsBad}
 use Rattle.ats_grammar.specs.declared.fault.ShapeFault.{ShapeFault}
+use Rattle.ats_grammar.specs.Grammar.{proof_format}
 use Rattle.ats_grammar.proofs.Fronts.{fault_same, one_fault}
 use Rattle.ats_proof.specs.Value.{Proof}
 use Rattle.ats_client.specs.Accepts.{IsFirstRefusal}
@@ -23,7 +24,7 @@ one_shape files name a b told (inl is) (inr also) = absurd (not_longer files nam
 one_shape files name a b told (inr is) (inl also) = absurd (not_longer files name is.bytes (2 ^ 26) told is.file also.longer)
 one_shape files name a b told (inr is) (inr also) =
     let same = one_file files name also.bytes is.bytes (2 ^ 26) (2 ^ 26) told also.file is.file in
-    one_fault is.bytes a b is.bad (subst (λ (bytes : List ℕ). IsBad bytes b) same also.bad)
+    one_fault proof_format is.bytes a b is.bad (subst (λ (bytes : List ℕ). IsBad proof_format bytes b) same also.bad)
 
 one_check : (H : List ℕ → List ℕ) (files : Files) (words : VerifyWords) (a b : ProofRefusal) → IsTold files
     → IsCheckRejected H files words a → IsCheckRejected H files words b → a ≡ b

@@ -5,6 +5,7 @@ use Rattle.ats_base.specs.Outside.{IsMissing}
 use Rattle.ats_records.specs.declared.record.Algorithm.{Algorithm}
 use Rattle.ats_records.specs.declared.record.Algorithm.TheVariants as algorithm
 use Rattle.ats_grammar.specs.declared.fault.ShapeFault.{ShapeFault}
+use Rattle.ats_grammar.specs.Grammar.{proof_format}
 use Rattle.ats_grammar.proofs.Fronts.{no_fault}
 use Rattle.ats_proof.specs.Value.{Proof, IsProof, algorithm_of, fields_of}
 use Rattle.ats_proof.proofs.Unique.{one_value}
@@ -36,7 +37,7 @@ shape_kept files name a proof fault told has (inl long) = not_longer files name 
 shape_kept files name a proof fault told has (inr is) =
     let same = one_file files name has.bytes is.bytes (2 ^ 26) (2 ^ 26) told has.file is.file in
     let says : IsProof is.bytes proof = subst (λ (bytes : List ℕ). IsProof bytes proof) same has.says in
-    no_fault is.bytes fault (fields_of proof) is.bad says.spells
+    no_fault proof_format is.bytes fault (fields_of proof) is.bad says.spells
 
 -- and one algorithm
 pub walk_kept : (files : Files) (name : List ℕ) (first second : Proof) → IsTold files → HasProof files name algorithm.Tnra first

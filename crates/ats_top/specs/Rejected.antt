@@ -4,6 +4,7 @@ use Rattle.ats_base.specs.Outside.{IsLonger}
 use Rattle.ats_records.specs.declared.record.Algorithm.TheVariants as algorithm
 use Rattle.ats_terms.specs.Query.{IsQueryOf}
 use Rattle.ats_grammar.specs.Front.{IsBad}
+use Rattle.ats_grammar.specs.Grammar.{proof_format}
 use Rattle.ats_grammar.specs.declared.fault.ShapeFault.{ShapeFault}
 use Rattle.ats_grammar.specs.declared.fault.ShapeKind.TheVariants.{Long}
 use Rattle.ats_proof.specs.Value.{Proof}
@@ -25,7 +26,7 @@ pub record IsLongFile (files : Files) (name : List ℕ) (fault : ShapeFault) : T
 pub record IsBadFile (files : Files) (name : List ℕ) (fault : ShapeFault) : Type 0 where
   pub bytes : List ℕ
   pub file : IsFile files name (2 ^ 26) bytes
-  pub bad : IsBad bytes fault
+  pub bad : IsBad proof_format bytes fault
 
 -- the named file is a proof, and this is the first rule that it does not keep, for the query of the words
 pub record IsCheckRejected (H : List ℕ → List ℕ) (files : Files) (words : VerifyWords) (refusal : ProofRefusal) : Type 0 where

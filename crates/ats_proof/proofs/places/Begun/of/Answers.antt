@@ -1,4 +1,4 @@
-use Rattle.std.proofs.Common.{◌≡◌, ◌∙◌, ℕ, ◌+◌, ◌*◌, drop, ap, ap₂, arith}
+use Rattle.std.proofs.Common.{◌≡◌, ◌∙◌, ℕ, drop, ap, ap₂, arith}
 use Rattle.std.proofs.lemmas.List.{length-drop}
 use Rattle.ats_proof.specs.Parts.{number_in, parts_in}
 use Rattle.ats_proof.specs.Value.{present_in}

@@ -1,4 +1,4 @@
-use Rattle.std.proofs.Common.{◌≡◌, ◌∙◌, ℕ, ◌+◌, ◌*◌, drop, sum_by, ap, ap₂, arith}
+use Rattle.std.proofs.Common.{◌≡◌, ◌∙◌, ℕ, ◌+◌, drop, sum_by, ap, ap₂, arith}
 use Rattle.std.proofs.lemmas.List.{length-drop}
 use Rattle.ats_proof.specs.Parts.{number_in, parts_in, total_size}
 use Rattle.ats_proof.specs.Value.{present_in, items_of_section}

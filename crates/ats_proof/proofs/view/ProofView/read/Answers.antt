@@ -1,4 +1,5 @@
 use Rattle.ats_grammar.proofs.Fronts.{no_fault}
+use Rattle.ats_grammar.specs.Grammar.{proof_format}
 use Rattle.ats_proof.specs.Value.{fields_of}
 use Rattle.ats_proof.specs.Views.{proof_of}
 use Rattle.ats_proof.proofs.Unique.{one_value}
@@ -11,7 +12,7 @@ pub returns-in-Ok-clause-exact : goal.returns-in-Ok-clause-exact
 returns-in-Ok-clause-exact c fault is = let e = c.in-Ok.ensures.exact fault is in cc
 
 pub returns-in-Err-clause-accepted : goal.returns-in-Err-clause-accepted
-returns-in-Err-clause-accepted c proof is = no_fault c.args.bytes.now c.in-Err.fault (fields_of proof) c.in-Err.ensures.refused is.spells
+returns-in-Err-clause-accepted c proof is = no_fault proof_format c.args.bytes.now c.in-Err.fault (fields_of proof) c.in-Err.ensures.refused is.spells
 
 pub returns-in-Err-clause-exact : goal.returns-in-Err-clause-exact
 returns-in-Err-clause-exact c fault is = let e = c.in-Err.ensures.exact fault is in cc
