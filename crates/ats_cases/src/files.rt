@@ -1,0 +1,90 @@
+// How a file comes to hold what a case needs.
+use crate::fault::Fault;
+use crate::said::{number, three, two};
+use ats_base::{Bytes, MemShelf};
+use std::alloc::Global;
+
+/// `NAME TIMES TEXT`: adds the text to the file, so many times.
+pub(crate) fn add(alloc: Global, shelf: &mut MemShelf, line: &str) -> Result<(), Fault> {
+    let (name, times, text) = three(line)?;
+    let start = shelf.bytes_of(name).ok_or(Fault::Unread)?;
+    let bytes = with(alloc, start, number(times)?, text.as_bytes())?;
+    shelf.put(name, bytes.as_slice())?;
+    Ok(())
+}
+
+/// `NAME TIMES OTHER`: adds what the other file holds.
+pub(crate) fn join(alloc: Global, shelf: &mut MemShelf, line: &str) -> Result<(), Fault> {
+    let (name, times, other) = three(line)?;
+    let start = shelf.bytes_of(name).ok_or(Fault::Unread)?;
+    let more = shelf.bytes_of(other).ok_or(Fault::Unread)?;
+    let bytes = with(alloc, start, number(times)?, more)?;
+    shelf.put(name, bytes.as_slice())?;
+    Ok(())
+}
+
+fn with(alloc: Global, start: &[u8], times: usize, more: &[u8]) -> Result<Bytes, Fault> {
+    let mut bytes = Bytes::of(alloc, start)?;
+    for _time in 0..times {
+        bytes.extend(more)?;
+    }
+    Ok(bytes)
+}
+
+/// `NAME FROM TO HEX`: puts these bytes in place of those of the file from one place to another.
+pub(crate) fn patch(alloc: Global, shelf: &mut MemShelf, line: &str) -> Result<(), Fault> {
+    let (name, from, rest) = three(line)?;
+    let (to, digits) = rest.split_once(' ').unwrap_or((rest, ""));
+    let others = hex::decode(alloc, digits).map_err(|_| Fault::Unread)?;
+    let whole = shelf.bytes_of(name).ok_or(Fault::Unread)?;
+    let bytes = spliced(alloc, whole, number(from)?, number(to)?, &others)?;
+    shelf.put(name, bytes.as_slice())?;
+    Ok(())
+}
+
+fn spliced(
+    alloc: Global,
+    whole: &[u8],
+    from: usize,
+    to: usize,
+    others: &[u8],
+) -> Result<Bytes, Fault> {
+    let front = whole.get(..from).ok_or(Fault::Unread)?;
+    let back = whole.get(to..).ok_or(Fault::Unread)?;
+    let mut bytes = Bytes::of(alloc, front)?;
+    bytes.extend(others)?;
+    bytes.extend(back)?;
+    Ok(bytes)
+}
+
+/// `NAME OTHER`: the file on the one shelf becomes what the other is on the other shelf.
+pub(crate) fn copy(to: &mut MemShelf, from: &MemShelf, line: &str) -> Result<(), Fault> {
+    let (name, other) = two(line)?;
+    let bytes = from.bytes_of(other).ok_or(Fault::Unread)?;
+    to.put(name, bytes)?;
+    Ok(())
+}
+
+/// Whether the file holds what the note does, or its first bytes where a number of them is said: `NAME NOTE COUNT`.
+pub(crate) fn holds(shelf: &MemShelf, notes: &MemShelf, line: &str) -> Result<bool, Fault> {
+    let (name, rest) = two(line)?;
+    let (note, count) = rest.split_once(' ').unwrap_or((rest, ""));
+    let whole = notes.bytes_of(note).ok_or(Fault::Unread)?;
+    let wanted = if count.is_empty() {
+        Some(whole)
+    } else {
+        whole.get(..number(count)?)
+    };
+    Ok(wanted.is_some() && shelf.bytes_of(name) == wanted)
+}
+
+/// Whether the file has so many bytes: `NAME COUNT`.
+pub(crate) fn has_size(shelf: &MemShelf, line: &str) -> Result<bool, Fault> {
+    let (name, count) = two(line)?;
+    let wanted = number(count)?;
+    Ok(
+        shelf
+            .bytes_of(name)
+            .is_some_and(|bytes| bytes.len() == wanted),
+    )
+}

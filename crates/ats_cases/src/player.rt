@@ -1,0 +1,154 @@
+// What the lines of a block do.
+use crate::fault::Fault;
+use crate::files;
+use crate::said::{number, words};
+use crate::shown::Shown;
+use crate::stage::Stage;
+use crate::tally::Tally;
+use ats_base::MemShelf;
+use std::alloc::Global;
+
+const ARCHIVE: &str = "examples/archive.json";
+
+/// Plays lines. Notes last from block to block.
+#[derive(Drop)]
+pub(crate) struct Player {
+    alloc: Global,
+    notes: MemShelf,
+    stage: Stage,
+    tally: Tally,
+}
+
+impl Player {
+    pub(crate) fn new(alloc: Global, archive: &[u8]) -> Result<Self, Fault> {
+        let mut notes = MemShelf::new(alloc);
+        notes.put(ARCHIVE, archive)?;
+        Ok(Player {
+            alloc,
+            notes,
+            stage: Stage::new(alloc, 1),
+            tally: Tally::new(alloc),
+        })
+    }
+
+    pub(crate) fn tally(&self) -> &Tally {
+        &self.tally
+    }
+
+    /// Begins a block, with a shelf that has the archive and no other file.
+    pub(crate) fn begin(&mut self, moves: usize) -> Result<(), Fault> {
+        self.stage = Stage::new(self.alloc, moves);
+        let archive = self.notes.bytes_of(ARCHIVE).ok_or(Fault::Unread)?;
+        self.stage.shelf.put(ARCHIVE, archive)?;
+        Ok(())
+    }
+
+    /// Counts the last command, if there is one that is not counted.
+    pub(crate) fn settle(&mut self) -> Result<(), Fault> {
+        match self.stage.shown.take() {
+            Some(shown) => self.tally.count(self.alloc, &shown),
+            None => Ok(()),
+        }
+    }
+
+    /// Does what the line says, or reports it.
+    pub(crate) fn line(&mut self, line: &str) -> Result<(), Fault> {
+        match self.try_line(line) {
+            Err(Fault::Unread) => self.tally.refuse(line),
+            done => done,
+        }
+    }
+
+    fn try_line(&mut self, line: &str) -> Result<(), Fault> {
+        if line.is_empty() {
+            return Ok(());
+        }
+        if let Some(said) = line.strip_prefix("$ ./ats") {
+            return self.run(said);
+        }
+        if let Some(said) = line.strip_prefix(": ") {
+            let (verb, rest) = said.split_once(' ').unwrap_or((said, ""));
+            return self.prepare_or_want(verb, rest);
+        }
+        let shown = self.shown()?;
+        shown.want(line)?;
+        shown.want("\n")
+    }
+
+    fn run(&mut self, said: &str) -> Result<(), Fault> {
+        self.settle()?;
+        let words = words(self.alloc, &self.notes, said)?;
+        self.stage.run(self.alloc, said, &words)
+    }
+
+    fn shown(&mut self) -> Result<&mut Shown, Fault> {
+        self.stage.shown.as_mut().ok_or(Fault::Unread)
+    }
+
+    // What is said of the command before stands nearer to it than what prepares the next.
+    fn prepare_or_want(&mut self, verb: &str, rest: &str) -> Result<(), Fault> {
+        match verb {
+            "status" => self.want_status(rest),
+            "part" => self.shown()?.want(rest),
+            "holds" | "size" | "none" => self.want_file(verb, rest),
+            _ => self.prepare(verb, rest),
+        }
+    }
+
+    fn want_status(&mut self, rest: &str) -> Result<(), Fault> {
+        let status = rest.parse::<u8>().map_err(|_| Fault::Unread)?;
+        self.shown()?.want_status(status);
+        Ok(())
+    }
+
+    fn want_file(&mut self, verb: &str, rest: &str) -> Result<(), Fault> {
+        let fits = match verb {
+            "holds" => files::holds(&self.stage.shelf, &self.notes, rest)?,
+            "size" => files::has_size(&self.stage.shelf, rest)?,
+            _ => self.stage.shelf.bytes_of(rest).is_none(),
+        };
+        self.shown()?.note_file(fits);
+        Ok(())
+    }
+
+    fn prepare(&mut self, verb: &str, rest: &str) -> Result<(), Fault> {
+        self.settle()?;
+        match verb {
+            "moves" => Ok(()),
+            "weak" => {
+                self.stage.is_weak = true;
+                Ok(())
+            }
+            "shelf-fails" => {
+                self.stage.shelf.fail_at(number(rest)? as u64)?;
+                Ok(())
+            }
+            "sink-fails" => {
+                self.stage.sink_fails = Some(number(rest)? as u64);
+                Ok(())
+            }
+            _ => self.prepare_file(verb, rest),
+        }
+    }
+
+    fn prepare_file(&mut self, verb: &str, rest: &str) -> Result<(), Fault> {
+        let (alloc, shelf) = (self.alloc, &mut self.stage.shelf);
+        match verb {
+            "note" => put_text(&mut self.notes, rest),
+            "file" => put_text(shelf, rest),
+            "put" => files::copy(shelf, &self.notes, rest),
+            "keep" => files::copy(&mut self.notes, shelf, rest),
+            "add" => files::add(alloc, shelf, rest),
+            "join" => files::join(alloc, shelf, rest),
+            "patch" => files::patch(alloc, shelf, rest),
+            _ => Err(Fault::Unread),
+        }
+    }
+}
+
+// `NAME TEXT`: what follows the name is the whole of the file.
+fn put_text(shelf: &mut MemShelf, line: &str) -> Result<(), Fault> {
+    let (name, text) = line.split_once(' ').unwrap_or((line, ""));
+    shelf.put(name, text.as_bytes())?;
+    Ok(())
+}
