@@ -1,4 +1,6 @@
 ghost use Rattle.std.specs.Prelude.{◌≡◌, ◌<◌, ◌++◌, ◌∷◌, [], List, ℕ, length, slice_index_or, string_bytes, is_ok, if◌then◌else◌};
+ghost use Rattle.std.specs.List.{All};
+ghost use Rattle.std.specs.Str.{IsUtf8};
 
 use crate::memory::OutOfMemory;
 use std::alloc::Global;
@@ -37,9 +39,15 @@ pub struct Texts {
 }
 
 impl Model for Texts {
+    ghost use Rattle.std.specs.Prelude.{List, ℕ};
+    ghost use Rattle.std.specs.List.{All};
+    ghost use Rattle.std.specs.Str.{IsUtf8};
+
     ghost Value = { List (List ℕ) };
 
     ghost view = { λ t. t.items.items };
+
+    ghost invariant = { λ t. All IsUtf8 t.items.items };
 }
 
 impl Texts {
@@ -63,7 +71,8 @@ impl Texts {
 
     /// The number of texts.
     pub fn len(&self) -> usize
-        ensures { result ≡ length self.now }
+        ensures value { result ≡ length self.now }
+        ensures utf8 { All IsUtf8 self.now }
     {
         self.items.len()
     }
@@ -77,7 +86,8 @@ impl Texts {
     }
 
     pub(crate) fn into_items(self) -> Vec<Text>
-        ensures { result.items ≡ self }
+        ensures same { result.items ≡ self }
+        ensures utf8 { All IsUtf8 self }
     {
         let Texts { items, alloc: _ } = self;
         items

@@ -4,3 +4,6 @@ pub mod Writing
 pub mod Reading
 pub mod Loading
 pub mod OneCollection
+pub mod TermBytes
+pub mod Vocabulary
+pub mod Size

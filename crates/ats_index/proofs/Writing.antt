@@ -1,12 +1,10 @@
 -- Parts that are put one behind another.
-use Rattle.std.proofs.Common.{◌≡◌, ◌+◌, ◌<◌, ℕ, List, [], ◌∷◌, ◌++◌, length, get_or, take, sym, ap, ◌∙◌, arith, add-one, append_assoc}
+use Rattle.std.proofs.Common.{◌≡◌, ◌+◌, ◌<◌, ℕ, List, [], ◌∷◌, ◌++◌, length, get_or, take, ap, ◌∙◌, add-one, append_assoc}
 use Rattle.std.specs.Prelude.{codes}
 use Rattle.std.specs.Int.{to_be_bytes, w32}
-use Rattle.std.specs.List.{All, flat_map}
-use Rattle.std.specs.Str.{IsUtf8}
+use Rattle.std.specs.List.{flat_map}
 use Rattle.std.proofs.Math.Seq.{take-suc}
 use Rattle.std.proofs.lemmas.List.{flat_map_more}
-use Rattle.std.proofs.lemmas.List.Elements.{All-push}
 use Rattle.ats_index.specs.Spelling.{front_bytes}
 
 -- the front, before any text
@@ -20,13 +18,3 @@ pub one_more : {X : Type 0} (f : X → List ℕ) (start front : List ℕ) (items
 one_more f start front items i item d inside is =
     rw (add-one, take-suc items i d inside, is)
     (append_assoc start (front ++ flat_map f (take i items)) (f (get_or items i d)) ∙ ap (λ ys. start ++ ys) (flat_map_more f front (take i items) (get_or items i d)))
-
-pub all_of_none : {X : Type 0} (P : X → Type 0) → All P []
-all_of_none P k d inside = absurd (omega (arith, inside))
-
--- one text more in UTF-8
-pub more_utf8 : (texts : List (List ℕ)) (i : ℕ) (text : List ℕ) → i < length texts → text ≡ get_or texts i text → IsUtf8 text
-    → All IsUtf8 (take i texts) → All IsUtf8 (take (i + 1) texts)
-more_utf8 texts i text inside is utf8 all =
-    let some : take (i + 1) texts ≡ take i texts ++ text ∷ [] = rw add-one (take-suc texts i text inside) ∙ ap (λ x. take i texts ++ x ∷ []) (sym is) in
-    rw some (All-push IsUtf8 (take i texts) text all utf8)

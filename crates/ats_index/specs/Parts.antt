@@ -11,6 +11,7 @@ use Rattle.ats_doctree.specs.Sentinels.{terms_leaves}
 use Rattle.ats_doctree.specs.declared.doc_leaf.DocLeaf.{DocLeaf}
 use Rattle.ats_commit.specs.Trees.{dictionary_of, documents_of}
 use Rattle.ats_commit.specs.Root.{root_of}
+use Rattle.ats_commit.specs.Own.{AreTexts}
 
 -- the documents leaf of a document with these terms
 abbrev pub leaf_of_terms : (List ℕ → List ℕ) → List (List ℕ × ℕ) → DocLeaf
@@ -34,7 +35,7 @@ header_parts H texts = record {
   texts_root = mth H texts;
 }
 
--- each part is that of the collection of these texts
+-- the texts are within the limits, and each part is that of their collection
 pub record IsIndexOf
     (H : List ℕ → List ℕ)
     (texts : List (List ℕ))
@@ -45,6 +46,7 @@ pub record IsIndexOf
     (header : Header)
     (root : List ℕ)
     : Type 0 where
+  pub texts_within : AreTexts texts
   pub own_lists : lists ≡ lists_of texts
   pub own_dictionary : dictionary ≡ dictionary_of H texts
   pub own_terms : terms ≡ all_terms texts

@@ -2,6 +2,7 @@
 
 ghost use Rattle.std.specs.Prelude.{◌≡◌};
 ghost use Rattle.ats_commit.specs.Trees.{dictionary_of};
+ghost use Rattle.ats_commit.specs.Own.{AreTexts};
 ghost use Rattle.ats_index.specs.Parts.{all_leaves, header_parts};
 
 use ats_commit::{DocLeaves, TextLeaves};
@@ -21,7 +22,8 @@ pub(crate) fn header_of<H: Hash32>(
 ) -> Header
     requires dictionary { dictionary.now ≡ dictionary_of H.hash collection.now }
     requires leaves { leaves.now ≡ all_leaves H.hash collection.now }
-    ensures { result ≡ header_parts H.hash collection.now }
+    ensures parts { result ≡ header_parts H.hash collection.now }
+    ensures texts { AreTexts collection.now }
 {
     let documents = collection.documents();
     let texts = TextLeaves::new(collection, 0, documents);

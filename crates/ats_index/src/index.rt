@@ -5,6 +5,7 @@ ghost use Rattle.ats_lists.specs.Lists.{lists_of};
 ghost use Rattle.ats_doctree.specs.Impacts.{doc_terms};
 ghost use Rattle.ats_commit.specs.Trees.{dictionary_of};
 ghost use Rattle.ats_commit.specs.Root.{root_of};
+ghost use Rattle.ats_commit.specs.Own.{AreTexts};
 ghost use Rattle.ats_index.specs.Parts.{header_parts, leaf_of_terms};
 ghost use Rattle.ats_index.specs.Spelling.{IsSpelling};
 
@@ -60,14 +61,16 @@ impl<H: HashKind> Index<H> {
 
     /// The header that the root is the digest of.
     pub fn header(&self) -> &Header
-        ensures { result.now ≡ header_parts H.hash self.now }
+        ensures parts { result.now ≡ header_parts H.hash self.now }
+        ensures texts { AreTexts self.now }
     {
         &self.header
     }
 
     /// The texts.
     pub fn collection(&self) -> &Collection
-        ensures { result.now ≡ self.now }
+        ensures same { result.now ≡ self.now }
+        ensures texts { AreTexts self.now }
     {
         &self.collection
     }

@@ -1,6 +1,6 @@
-//! What holds of an index's bytes, as a contract of a function that does nothing.
+//! What holds of an index's bytes, as contracts of functions that do nothing.
 
-ghost use Rattle.std.specs.Prelude.{◌≡◌, ℕ, List};
+ghost use Rattle.std.specs.Prelude.{◌≡◌, ◌≤◌, ◌^◌, ℕ, List, length};
 ghost use Rattle.ats_index.specs.Spelling.{IsSpelling};
 
 use ats_hash::HashKind;
@@ -8,4 +8,12 @@ use ats_hash::HashKind;
 /// Index bytes say one collection: no two have the same.
 pub fn index_bytes_say_one_collection<H: HashKind>()
     ensures { (bytes : List ℕ) (texts others : List (List ℕ)) → IsSpelling H.hash bytes texts → IsSpelling H.hash bytes others → texts ≡ others }
+{}
+
+/// An index has at most 2^29 bytes, which is the most that a file of an index may have. Its texts take at most
+/// 2^24 bytes and 4 for the length of each, and stand behind 9. They have at most 2^24 terms, so that there are as
+/// many entries of 6 bytes at most, and as many distinct terms with 5 more. A term has at most 12 bytes for each of
+/// its word's, since a character folds to three at most, of at most 4 bytes. The root has 32.
+pub fn index_bytes_are_few<H: HashKind>()
+    ensures { (bytes : List ℕ) (texts : List (List ℕ)) → IsSpelling H.hash bytes texts → length bytes ≤ 2 ^ 29 }
 {}

@@ -22,6 +22,6 @@ mod tests;
 mod write;
 
 pub use index::Index;
-pub use laws::index_bytes_say_one_collection;
+pub use laws::{index_bytes_are_few, index_bytes_say_one_collection};
 pub use load::LoadFault;
 pub use memory::OutOfMemory;

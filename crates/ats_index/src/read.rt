@@ -46,8 +46,7 @@ fn front_text(bytes: &[u8]) -> Option<(&str, &[u8])>
 
 /// The texts that an index's bytes begin with, if they begin with texts.
 pub(crate) fn read_texts(alloc: Global, bytes: &[u8]) -> Result<Option<Texts>, OutOfMemory>
-    ensures utf8 { IfOk result (λ found. IfSome found (λ texts. All IsUtf8 texts)) }
-    ensures exact { IfOk result (λ found. (texts : List (List ℕ)) (rest : List ℕ) → All IsUtf8 texts → AreWithin texts
+    ensures { IfOk result (λ found. (texts : List (List ℕ)) (rest : List ℕ) → All IsUtf8 texts → AreWithin texts
         → bytes.now ≡ texts_bytes texts ++ rest → found ≡ Some texts) }
 {
     let mut texts = Texts::new(alloc);

@@ -2,9 +2,7 @@
 
 ghost use Rattle.std.specs.Prelude.{◌≡◌, ◌++◌, ◌<◌, ◌≤◌, ◌^◌, length, OnOk};
 ghost use Rattle.std.specs.Int.{to_be_bytes, w32};
-ghost use Rattle.std.specs.List.{All, flat_map};
-ghost use Rattle.std.specs.Str.{IsUtf8};
-ghost use Rattle.ats_impact.specs.Limits.{AreWithin};
+ghost use Rattle.std.specs.List.{flat_map};
 ghost use Rattle.ats_lists.specs.Leaf.{leaf_bytes};
 ghost use Rattle.ats_index.specs.Spelling.{list_bytes, lists_bytes, text_bytes, texts_bytes};
 
@@ -30,9 +28,7 @@ fn put_text(bytes: &mut Bytes, text: &[u8]) -> Result<(), OutOfMemory>
 
 /// Puts the texts of a collection behind the bytes, with what stands in front of them.
 pub(crate) fn put_texts(bytes: &mut Bytes, collection: &Collection) -> Result<(), OutOfMemory>
-    ensures bytes { OnOk result (bytes.new ≡ bytes.old ++ texts_bytes collection.now) }
-    ensures utf8 { OnOk result (All IsUtf8 collection.now) }
-    ensures within { AreWithin collection.now }
+    ensures { OnOk result (bytes.new ≡ bytes.old ++ texts_bytes collection.now) }
 {
     let documents = collection.documents();
     bytes.extend(&MAGIC)?;

@@ -105,7 +105,8 @@ unfolding vocabulary
 vocabulary_few texts =
     omega (arith, length-map (counted (flat_map terms texts)) (λ (pair : List ℕ × ℕ). pair.0), counted_few (flat_map terms texts) [], length-flat_map terms texts)
 
-occurs_in : (term : List ℕ) (texts : List (List ℕ)) → occurrences term (flat_map terms texts) ≡ sum_by (count term) texts
+-- a term stands in all texts together as often as in each
+pub occurs_in : (term : List ℕ) (texts : List (List ℕ)) → occurrences term (flat_map terms texts) ≡ sum_by (count term) texts
 occurs_in term [] = refl
 occurs_in term (text ∷ texts) =
     omega (arith, sum_by-append (λ (x : List ℕ). cond (bytes_eq term x) 1 0) (terms text) (flat_map terms texts), occurs_in term texts, sum_by-cons (count term) text texts)

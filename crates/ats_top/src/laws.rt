@@ -1,10 +1,12 @@
 //! What holds of the commands together, as contracts of functions that do nothing.
 
 ghost use Rattle.std.specs.Prelude.{◌≡◌, ◌^◌, ℕ, List, Some};
+ghost use Rattle.ats_base.specs.Outside.{Holds};
 ghost use Rattle.ats_terms.specs.Query.{IsQueryOf};
 ghost use Rattle.ats_commit.specs.Root.{root_of};
-ghost use Rattle.ats_prover.specs.Honest.{IsProved};
-ghost use Rattle.ats_top.specs.Words.{Command, number_of, root_word, verify_words};
+ghost use Rattle.ats_index.specs.Spelling.{IsSpelling};
+ghost use Rattle.ats_prover.specs.Honest.{IsProved, IsTooLong};
+ghost use Rattle.ats_top.specs.Words.{Command, number_of, root_word, root_words, prove_words, verify_words};
 ghost use Rattle.ats_top.specs.Read.{Files, IsFile, IsTold};
 ghost use Rattle.ats_top.specs.Refusals.{IsRowCount};
 ghost use Rattle.ats_top.specs.Rejected.{IsRejected};
@@ -21,6 +23,18 @@ pub fn honest_proofs_are_served<H: HashKind>()
         → IsProved H.hash texts asked rows bytes → IsFile files name (2 ^ 26) bytes → root_word root ≡ Some (root_of H.hash texts)
         → number_of r ≡ Some rows → IsRowCount rows → IsQueryOf query asked
         → Said (verify_words root r query name) (IsServed H.hash files) }
+{}
+
+/// Where a file holds the index bytes of a collection, which `build` stores, `root` serves it. So does `prove`,
+/// where the shelf tells its files, for a query and a number of rows within the limits whose honest proof is not
+/// too long.
+pub fn built_indexes_are_served<H: HashKind>()
+    ensures root { (texts : List (List ℕ)) (bytes : List ℕ) (files : Files) (name : List ℕ) → IsSpelling H.hash bytes texts → Holds files name bytes
+        → Said (root_words name) (IsServed H.hash files) }
+    ensures prove { (texts : List (List ℕ)) (bytes : List ℕ) (files : Files) (name : List ℕ) → IsSpelling H.hash bytes texts → Holds files name bytes
+        → (asked : List (List ℕ × ℕ)) (rows : ℕ) (r query proof : List ℕ) → IsTold files → number_of r ≡ Some rows → IsRowCount rows
+        → IsQueryOf query asked → ((size : ℕ) → IsTooLong H.hash texts asked rows (2 ^ 26) size → ⊥)
+        → Said (prove_words name r query proof) (IsServed H.hash files) }
 {}
 
 /// Where the shelf tells its files, the proof of a command is refused in one way at most, and in none where the

@@ -7,8 +7,5 @@ use Rattle.ats_index.proofs.read.read_texts.Given as goal
 
 -- where the bytes begin with texts, the first of them are read, and the others are left
 abbrev pub invariant-loop-document : goal.invariant-loop-document
-invariant-loop-document l = record {
-  utf8 : All IsUtf8 l.texts;
-  read : (all : List (List ℕ)) (behind : List ℕ) → All IsUtf8 all → AreWithin all → l.bytes ≡ texts_bytes all ++ behind
-      → (l.documents ≡ length all) × (l.texts ≡ take l._document all) × (l.rest ≡ flat_map text_bytes (drop l._document all) ++ behind);
-}
+invariant-loop-document l = (all : List (List ℕ)) (behind : List ℕ) → All IsUtf8 all → AreWithin all → l.bytes ≡ texts_bytes all ++ behind
+    → (l.documents ≡ length all) × (l.texts ≡ take l._document all) × (l.rest ≡ flat_map text_bytes (drop l._document all) ++ behind)

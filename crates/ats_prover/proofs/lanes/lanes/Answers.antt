@@ -54,7 +54,7 @@ loop-i-preserved g c =
           let at = lane_at H texts query i (w.in-At.p - 1) c.documents-documents.result w.weight.result lane inside (subst (StandsAt entries term) p is)
           (w.lane.ensures.entries ∙ w.list.ensures.value ([], []) ∙ ap (λ (ls : List (List ℕ × List Entry)). (get_or ls (w.in-At.p - 1) ([], [])).1) c.lists-lists.ensures)
           (subst (λ (es : List Entry). 1 ≤ length es) (sym w.lane.ensures.entries) w.list.ensures.list.some)
-          (c.documents-documents.ensures.value ∙ ap (λ (ts : List (List ℕ)). length ts) c.collection.ensures) (w.weight.ensures.value ([], 0))
+          (c.documents-documents.ensures.value ∙ ap (λ (ts : List (List ℕ)). length ts) c.collection.ensures.same) (w.weight.ensures.value ([], 0))
           (w.lane.ensures.coefficient ∙ ap (λ (es : List Entry). w.weight.result * idf c.documents-documents.result (length es)) (sym w.lane.ensures.entries)) in
           let more : whole_lanes c.match-spots-i.lanes.items ≡ whole_lanes c.loop-i.lanes.items ++ lane ∷ [] =
           ap (λ v. map whole_lane v.items) w.lanes-is ∙ ap (map whole_lane) w.in_ok-push-in-At.ensures.items ∙ map-append whole_lane c.loop-i.lanes.items (w.lane.result ∷ []) in

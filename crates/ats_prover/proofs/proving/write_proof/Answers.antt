@@ -62,8 +62,8 @@ returns g c =
     let dictionary : IsDictionary entries = subst IsDictionary c.dictionary.ensures c.len.ensures.kept in
     let whole : whole_lanes c.deref-5.result.now ≡ lanes = ap whole_lanes c.deref-5.ensures.value ∙ c.in_ok-lanes.ensures.lanes in
     let last : whole_lanes c.deref-6.result.now ≡ lanes = ap whole_lanes c.deref-6.ensures.value ∙ c.in_ok-lanes.ensures.lanes in
-    let total : total_terms texts ≤ 2 ^ 24 = omega (arith, c.total.ensures.value, c.total.ensures.few, ap total_terms c.collection-2.ensures) in
-    let range = header_in_range H g.H.HashKind.sized texts (subst AreWithin c.collection.ensures c.documents.ensures.within) total in
+    let total : total_terms texts ≤ 2 ^ 24 = omega (arith, c.total.ensures.value, c.total.ensures.few, ap total_terms c.collection-2.ensures.same) in
+    let range = header_in_range H g.H.HashKind.sized texts (subst AreWithin c.collection.ensures.same c.documents.ensures.within) total in
     let parts : HasParts H texts query c.args.top spots positions cut brackets picks = record {
       sized = g.H.HashKind.sized;
       dictionary = dictionary;
@@ -82,7 +82,7 @@ returns g c =
     let number : c.len-2.result ≡ length (map (slot_of positions) spots) =
     c.len-2.ensures.value ∙ sym (length-map spots (slot_of positions) ∙ spot_each entries query spots found) in
     let front = c.in_ok-front.ensures.ok
-    ∙ front_put c.args.algorithm c.header.result.now (header_parts H texts) c.len-2.result (length (map (slot_of positions) spots)) c.args.writer.now c.requires.algorithm c.header.ensures number
+    ∙ front_put c.args.algorithm c.header.result.now (header_parts H texts) c.len-2.result (length (map (slot_of positions) spots)) c.args.writer.now c.requires.algorithm c.header.ensures.parts number
     (omega (arith, range.numbers.few)) (omega (arith, range.numbers.terms)) (omega (arith, number, c.len-2.ensures.value, c.len-2.ensures.query.few)) in
     let Terms : List DictEntry → List ℕ → List Spot → Written = λ (es : List DictEntry) (ps : List ℕ) (ss : List Spot).
     put c.front.new.self (counted 2 entry_fields (map (shown_entry es) ps) ++ counted 2 digest_fields (elided_digests H (dict_leaves es) ps) ++ flat_map slot_fields (map (slot_of ps) ss)) in

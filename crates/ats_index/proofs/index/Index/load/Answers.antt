@@ -10,7 +10,7 @@ returns-then-ne-clause-fault g c = (
   refl,
   λ texts spelling.
       let H : List ℕ → List ℕ = g.H.HashKind.hash in
-      let read = c.in_ok-texts.ensures.exact texts (lists_bytes (lists_of texts) ++ root_of H texts) spelling.utf8 spelling.within (spelling.same ∙ texts_first H texts) in
+      let read = c.in_ok-texts.ensures texts (lists_bytes (lists_of texts) ++ root_of H texts) spelling.utf8 spelling.within (spelling.same ∙ texts_first H texts) in
       let same : c.in_ok-index.index ≡ texts = c.in_ok-index.ensures ∙ c.in-Ok.ensures.same ∙ one_some c.in_ok-texts.field-0 c.in-Some.texts texts c.in-Some.is read in
       other_bytes c.as_slice-2.result.now c.args.bytes.now c.ne.result c.ne.ensures c.if-ne.true
       (c.as_slice-2.ensures ∙ c.in_ok-bytes.ensures.same ∙ ap (index_bytes H) same ∙ sym spelling.same),
@@ -25,5 +25,5 @@ returns-clause-ok g c =
 pub returns-clause-only : goal.returns-clause-only
 returns-clause-only g c texts spelling =
     let H : List ℕ → List ℕ = g.H.HashKind.hash in
-    let read = c.in_ok-texts.ensures.exact texts (lists_bytes (lists_of texts) ++ root_of H texts) spelling.utf8 spelling.within (spelling.same ∙ texts_first H texts) in
+    let read = c.in_ok-texts.ensures texts (lists_bytes (lists_of texts) ++ root_of H texts) spelling.utf8 spelling.within (spelling.same ∙ texts_first H texts) in
     c.in_ok-index.ensures ∙ c.in-Ok.ensures.same ∙ one_some c.in_ok-texts.field-0 c.in-Some.texts texts c.in-Some.is read

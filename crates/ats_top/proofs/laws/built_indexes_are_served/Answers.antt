@@ -1,0 +1,8 @@
+use Rattle.ats_top.proofs.BuiltServed.{root_served, prove_served}
+use Rattle.ats_top.proofs.laws.built_indexes_are_served.Goals as goal
+
+pub returns-clause-root : goal.returns-clause-root
+returns-clause-root g c texts bytes files name spelling held = root_served g.H.HashKind.hash g.H.HashKind.sized texts bytes files name spelling held
+
+pub returns-clause-prove : goal.returns-clause-prove
+returns-clause-prove g c texts bytes files name spelling held = prove_served g.H.HashKind.hash g.H.HashKind.sized texts bytes files name spelling held
