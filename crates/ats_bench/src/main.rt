@@ -2,20 +2,24 @@
 //!
 //! `nodes COUNT` hashes so many inner nodes of a tree, each of 65 bytes with its tag, and prints how many digests
 //! were counted; `read ENTRIES TIMES` writes a proof that shows so many entries of lists, reads it so many times, and
-//! prints how many items were read in all; `digest ENTRIES TIMES` hashes the bytes of that proof so many times, and
-//! prints how many digests were counted. The program measures no time itself and promises nothing that the rooms
+//! prints how many items were read in all; `walk ALGORITHM ROWS TEXTS QUERIES` walks for each query of a file over
+//! the texts of another, both a line each, and prints for each the rows, the entries that are shown, the documents
+//! among them, and the microseconds of the walk and of one pass over these entries; `digest ENTRIES TIMES` hashes the bytes of that proof so many times, and
+//! prints how many digests were counted. The program promises nothing that the rooms
 //! below it do not promise. Each kind of work may change as a script needs it.
 #![tactic(auto)]
 
 ghost use Rattle.std.specs.Prelude.{◌≡◌, ◌+◌, ◌<◌, ◌^◌};
 
 mod reading;
+mod walking;
 
 use ats_hash::{Hash32, Sha, Steps};
 use reading::{hash_proof, read_proof};
 use std::alloc::Global;
 use std::process::ExitCode;
 use std::{env, io};
+use walking::time_walks;
 
 fn words(rt: &HostRuntime) -> io::Result<Vec<String>> {
     let words = env::args(rt)?.skip(1).collect(rt.alloc())?;
@@ -44,8 +48,16 @@ fn number(word: &String) -> Option<u32> {
 }
 
 // Does what the words say, and answers the count.
-fn work(alloc: Global, words: &[String]) -> Option<u64> {
+fn work(rt: &HostRuntime, words: &[String]) -> Option<u64> {
+    let alloc = rt.alloc();
     match words {
+        [job, algorithm, rows, texts, queries] if job.as_str() == "walk" => time_walks(
+            rt,
+            algorithm.as_str(),
+            number(rows)?,
+            texts.as_str(),
+            queries.as_str(),
+        ),
         [job, count] if job.as_str() == "nodes" => Some(nodes(alloc, number(count)?)),
         [job, entries, times] if job.as_str() == "read" => {
             read_proof(alloc, number(entries)?, number(times)?)
@@ -59,7 +71,7 @@ fn work(alloc: Global, words: &[String]) -> Option<u64> {
 
 fn main(rt: HostRuntime) -> io::Result<ExitCode> {
     let words = words(&rt)?;
-    match work(rt.alloc(), &words) {
+    match work(&rt, &words) {
         Some(count) => {
             println!(rt; "{count}")?;
             Ok(ExitCode::from(0))

@@ -36,10 +36,10 @@ no_bracket doc (b ∷ brackets) differ =
     let later : has_bracket doc brackets ≡ false = no_bracket doc brackets (λ i inside. differ (suc i) (omega (arith, inside))) in
     ap₂ (λ x y. x || y) here later
 
-below_all : (doc : ℕ) (brackets : List Bracket) → ((i : ℕ) → i < length brackets → doc < (bracket_at brackets i).doc) → has_bracket doc brackets ≡ false
+pub below_all : (doc : ℕ) (brackets : List Bracket) → ((i : ℕ) → i < length brackets → doc < (bracket_at brackets i).doc) → has_bracket doc brackets ≡ false
 below_all doc brackets low = no_bracket doc brackets (λ i inside same. omega (arith, low i inside, same))
 
-first_has : (b : Bracket) (brackets : List Bracket) → has_bracket b.doc (b ∷ brackets) ≡ true
+pub first_has : (b : Bracket) (brackets : List Bracket) → has_bracket b.doc (b ∷ brackets) ≡ true
 first_has b brackets = ap (λ x. x || has_bracket b.doc brackets) (same_doc b.doc b.doc refl)
 
 least_of : (a b : Bracket) (xs ys : List Bracket) → Rise (b ∷ ys) → a.doc < b.doc

@@ -19,7 +19,7 @@ use Rattle.ats_bound.specs.Settled.{HaveDistinctDocs, bracket_at}
 use Rattle.ats_bound.specs.Chosen.{IsChosen, bracket_cmp, place_cmp}
 use Rattle.ats_bound.proofs.Places.{range_below, stands_twice}
 
-bracket_cmp_total : IsTotalOrder bracket_cmp
+pub bracket_cmp_total : IsTotalOrder bracket_cmp
 bracket_cmp_total =
     then_total (then_total (on_total (λ (b : Bracket). b.lo) (back_total nat_cmp_total)) (on_total (λ (b : Bracket). b.hi) (back_total nat_cmp_total)))
     (on_total (λ (b : Bracket). b.doc) nat_cmp_total)

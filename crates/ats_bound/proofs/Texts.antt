@@ -35,11 +35,11 @@ weighted doc v (x ∷ numbers) =
     ]
 
 module _ (texts : List (List ℕ)) (term : List ℕ) (doc : ℕ) where
-  abbrev has : ℕ → Bool
+  abbrev pub has : ℕ → Bool
   has x = nat_lt 0 (count_in texts term x)
 
   -- the term's impact in the document, or 0
-  abbrev own : ℕ
+  abbrev pub own : ℕ
   own = cond (has doc) (posting texts term doc).impact 0
 
   counted : (x : ℕ) → has x ≡ true → share doc (posting texts term x) ≡ cond (nat_eq x doc) own 0
@@ -75,7 +75,7 @@ module _ (texts : List (List ℕ)) (term : List ℕ) (doc : ℕ) where
         | inr is ↦ rw is (omega (arith, value, uncounted x is, gathered docs))
       ]
 
-  listed : doc < length texts → impact_in doc (list texts term) ≡ own
+  pub listed : doc < length texts → impact_in doc (list texts term) ≡ own
   unfolding postings_of_first
   listed low =
       let n : ℕ = length texts in

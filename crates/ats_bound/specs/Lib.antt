@@ -1,4 +1,6 @@
 pub mod Cut
+pub mod Best
+pub mod Scored
 pub mod Settled
 pub mod Chosen
 pub mod Placed
@@ -6,3 +8,9 @@ pub mod Work
 pub mod Ranked
 pub mod Schedule
 pub mod Lookup
+pub mod Narrow
+pub mod Stand
+pub mod Front
+pub mod Known
+pub mod QuickTest
+pub mod Running

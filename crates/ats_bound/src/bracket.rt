@@ -1,6 +1,8 @@
 //! Bounds of the scores of documents.
 
-ghost use Rattle.std.specs.Prelude.{◌≡◌, ◌<◌, ◌++◌, ◌∷◌, [], length, slice_index_or, is_ok, if◌then◌else◌};
+ghost use Rattle.std.specs.Prelude.{◌≡◌, ◌<◌, ◌++◌, ◌∷◌, [], length, slice_index_or, is_ok, if◌then◌else◌, IfOk};
+ghost use Rattle.std.specs.List.Sorted.{IsPermutation, IsSorted};
+ghost use Rattle.ats_bound.specs.Placed.{doc_cmp};
 
 use crate::memory::OutOfMemory;
 use std::alloc::Global;
@@ -36,6 +38,15 @@ impl Brackets {
         Brackets {
             items: Vec::new(alloc),
         }
+    }
+
+    /// Brackets by document ascending.
+    pub(crate) fn sorted(items: Vec<Bracket>) -> Result<Self, OutOfMemory>
+        ensures { IfOk result (λ brackets. IsPermutation items.items brackets × IsSorted doc_cmp brackets) }
+    {
+        let mut items = items;
+        items.sort_by_key(|bracket| bracket.doc)?;
+        Ok(Brackets { items })
     }
 
     /// Puts a bracket at the end. Want of memory leaves the list as it was.

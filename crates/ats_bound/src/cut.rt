@@ -29,6 +29,13 @@ impl Cut {
         }
     }
 
+    /// A cut of these counts.
+    pub(crate) fn of(counts: Vec<u32>) -> Self
+        ensures { result ≡ counts.items }
+    {
+        Cut { items: counts }
+    }
+
     /// Puts a count at the end. Want of memory leaves the list as it was.
     pub fn push(&mut self, count: u32) -> Result<(), OutOfMemory>
         ensures { self.new ≡ (if is_ok result then self.old ++ count ∷ [] else self.old) }

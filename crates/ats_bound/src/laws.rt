@@ -1,7 +1,7 @@
 //! What a cut of whole lists says of scores, as contracts of functions that do nothing. No hash
 //! stands in these sentences, and scores are any sums over lists.
 
-ghost use Rattle.std.specs.Prelude.{◌≡◌, ◌+◌, ◌<◌, ◌≤◌, ◌*◌, ℕ, List, [], length, map, sum_by, slice_index_or};
+ghost use Rattle.std.specs.Prelude.{◌≡◌, ◌↔◌, ◌+◌, ◌<◌, ◌≤◌, ◌*◌, ℕ, Bool, IsTrue, List, [], length, map, sum_by, slice_index_or};
 ghost use Rattle.std.specs.List.{All};
 ghost use Rattle.ats_impact.specs.Rank.{IsTopBy};
 ghost use Rattle.ats_impact.specs.Score.{coefficient, score};
@@ -9,8 +9,10 @@ ghost use Rattle.ats_lists.specs.Lists.{list};
 ghost use Rattle.ats_bound.specs.declared.bracket.Bracket.{Bracket};
 ghost use Rattle.ats_bound.specs.Cut.{ShownLane, IsMet, bracket, held, missing, threshold};
 ghost use Rattle.ats_bound.specs.Settled.{ArePicks, HaveDistinctDocs, IsSettled};
-ghost use Rattle.ats_bound.specs.Chosen.{IsChosen};
-ghost use Rattle.ats_bound.specs.Schedule.{WholeLane, Bounding, AreBracketsBy, IsFirstSettledBy};
+ghost use Rattle.ats_bound.specs.Chosen.{AreBrackets, IsChosen};
+ghost use Rattle.ats_bound.specs.Narrow.{AreNarrow};
+ghost use Rattle.ats_bound.specs.QuickTest.{PassesQuickTest, TellsSettled};
+ghost use Rattle.ats_bound.specs.Schedule.{WholeLane, AreWholeLanes, Bounding, AreBracketsBy, IsFirstSettled, IsFirstSettledBy, shown};
 ghost use Rattle.ats_bound.specs.Lookup.{Table, AreImpactsOf, looked_up};
 ghost use Rattle.ats_bound.specs.Ranked.{CutLane, AreScores, HoldsScore, AreOfMet, answer_of, cut_of, impact_in};
 
@@ -57,4 +59,40 @@ pub fn walks_end_at_one_cut()
         → AreBracketsBy bounds lanes a → AreBracketsBy bounds lanes b → a ≡ b }
     ensures answer { (brackets : List Bracket) (r : ℕ) (a b : List ℕ) → HaveDistinctDocs brackets
         → IsChosen brackets r a → IsChosen brackets r b → a ≡ b }
+{}
+
+/// A walk of whole lists ends, for any number of rows: wherever brackets are narrow, some cut of the
+/// schedule is the first at which an answer is settled. Brackets from the shown entries are narrow, and so
+/// are those of scores that are looked up. A cut has brackets, and brackets have a chosen answer.
+pub fn walks_end()
+    ensures cut { (bounds : Bounding) (lanes : List WholeLane) (r : ℕ) → AreNarrow bounds → AreWholeLanes lanes
+        → (cut : List ℕ) × IsFirstSettledBy bounds lanes r cut }
+    ensures shown { (lanes : List WholeLane) (r : ℕ) → AreWholeLanes lanes → (cut : List ℕ) × IsFirstSettled lanes r cut }
+    ensures looked_up { (table : Table) (lanes : List WholeLane) (r : ℕ) → AreWholeLanes lanes
+        → (cut : List ℕ) × IsFirstSettledBy (looked_up table) lanes r cut }
+    ensures brackets { (bounds : Bounding) (lanes : List ShownLane) → AreNarrow bounds
+        → (brackets : List Bracket) × AreBracketsBy bounds lanes brackets }
+    ensures answer { (brackets : List Bracket) (r : ℕ) → (picks : List ℕ) × IsChosen brackets r picks }
+{}
+
+/// Where the two bounds of each bracket are one, the chosen answer is settled exactly where the necessary
+/// test passes. So a walk with known scores needs no other test.
+pub fn known_scores_settle_by_the_test()
+    ensures { (brackets : List Bracket) (r threshold : ℕ) (picks : List ℕ) → 1 ≤ r → All (λ (b : Bracket). b.hi ≡ b.lo) brackets
+        → IsChosen brackets r picks → PassesQuickTest brackets threshold r ↔ IsSettled brackets picks threshold r }
+{}
+
+/// What is settled passes the necessary test, which is whether as many brackets as there are rows reach
+/// the threshold by their lower bounds.
+pub fn settled_answers_pass_the_test()
+    ensures { (brackets : List Bracket) (picks : List ℕ) (threshold r : ℕ) → AreBrackets brackets → ArePicks brackets picks
+        → IsSettled brackets picks threshold r → PassesQuickTest brackets threshold r }
+{}
+
+/// What a walk tells at a cut is what [`crate::settled`] answers of the answer that [`crate::choose`]
+/// makes there, however brackets are formed.
+pub fn walks_tell_the_chosen_answer()
+    ensures { (bounds : Bounding) (lanes : List WholeLane) (r : ℕ) (cut : List ℕ) (told answered : Bool) (brackets : List Bracket) (picks : List ℕ)
+        → TellsSettled bounds lanes r cut told → AreBracketsBy bounds (shown lanes cut) brackets → IsChosen brackets r picks
+        → (IsTrue answered ↔ IsSettled brackets picks (threshold (shown lanes cut)) r) → told ≡ answered }
 {}

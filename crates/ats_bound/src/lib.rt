@@ -3,23 +3,35 @@
 //! A cut shows the first entries of each list of a query. What is shown bounds the score of each document
 //! that it names by a bracket, and that of every other document by a threshold. An answer is settled where
 //! these bounds alone show that it is right. The room stands on the entries of `ats_lists`, the number of
-//! rows of `ats_impact` and the steps of `ats_hash`. The contracts promise that [`settled`] answers exactly
-//! the rules of a settled answer, that what [`choose`] answers is settled wherever any answer is, that a
-//! settled answer is a top answer wherever the brackets hold the scores, that a walk ends at one cut with
-//! one answer, and that a [`Work`] begins with marks that say nothing. How places are looked up, brackets sorted and marks kept may change unasked.
+//! rows of `ats_impact` and the steps of `ats_hash`. A walk shows the lists further, turn by turn, until an
+//! answer is settled: as [`Running`] it bounds scores by the shown entries alone, as [`Scored`] it is given
+//! them. The contracts promise that [`settled`] answers exactly the rules of a settled answer, that what
+//! [`choose`] answers is settled wherever any answer is, that each walk of whole lists ends, at one cut with
+//! one answer, that it takes the turns of one schedule and tells at each cut exactly whether that answer is
+//! settled there, that a settled answer is a top answer wherever the brackets hold the scores, and that a
+//! [`Work`] begins with marks that say nothing. How places are looked up, brackets sorted, what is known
+//! kept and open answers found may change unasked.
 #![tactic(auto)]
 
+mod best;
+mod bounds;
 mod bracket;
 mod choosing;
 mod cut;
+mod front;
+mod known;
 mod lane;
 mod laws;
 mod memory;
 mod picks;
+mod running;
+mod scored;
 mod settling;
 #[cfg(test)]
 mod tests;
+mod turns;
 mod walk;
+mod watch;
 mod work;
 
 pub use bracket::{Bracket, Brackets};
@@ -27,11 +39,14 @@ pub use choosing::choose;
 pub use cut::Cut;
 pub use lane::Lane;
 pub use laws::{
-    cuts_bound_scores, rests_are_held_or_missing, scores_are_sums_over_lists,
-    settled_answers_are_top, walks_end_at_one_cut,
+    cuts_bound_scores, known_scores_settle_by_the_test, rests_are_held_or_missing,
+    scores_are_sums_over_lists, settled_answers_are_top, settled_answers_pass_the_test, walks_end,
+    walks_end_at_one_cut, walks_tell_the_chosen_answer,
 };
 pub use memory::OutOfMemory;
 pub use picks::Picks;
+pub use running::Running;
+pub use scored::Scored;
 pub use settling::settled;
 pub use walk::Walk;
 pub use work::{Mark, Work};

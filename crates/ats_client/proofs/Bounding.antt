@@ -9,10 +9,10 @@ use Rattle.ats_impact.specs.Rank.{times}
 use Rattle.ats_bound.specs.declared.bracket.Bracket.{Bracket}
 use Rattle.ats_bound.specs.declared.work.Mark.{Mark}
 use Rattle.ats_bound.specs.Work.{mark_at}
-use Rattle.ats_bound.specs.Cut.{ShownLane, bracket, threshold}
+use Rattle.ats_bound.specs.Cut.{ShownLane, threshold}
+use Rattle.ats_bound.specs.Schedule.{Bounding}
 use Rattle.ats_bound.specs.Settled.{AreDistinct, bracket_at, row, last_row}
 use Rattle.ats_bound.proofs.Places.{counted_places, few_places, times_same, times_other}
-use Rattle.ats_bound.proofs.Scores.{held_or_missing}
 use Rattle.ats_client.specs.Bounds.{upper, AreBelow, row_mark, lower_before, AreFalling, IsRestWithin}
 use Rattle.ats_client.specs.Groups.{met_at, brackets_of, AreRowsRight, IsAnswerSettled}
 use Rattle.ats_client.specs.Marked.{AreMarks, AreNoted}
@@ -52,15 +52,13 @@ last_is marks answer (suc n) some =
     let e : suc n - 1 ≡ n = omega arith in
     ap (λ k. (row_mark marks answer k).lo) (sym e)
 
-module _ (lanes : List ShownLane) (met : List ℕ) (marks : List Mark) (limit : ℕ) (are : AreMarks lanes met marks) (rests : limit ≡ threshold lanes) where
+module _ (bounds : Bounding) (lanes : List ShownLane) (met : List ℕ) (marks : List Mark) (limit : ℕ) (are : AreMarks bounds lanes met marks) (rests : limit ≡ threshold lanes) where
   -- the upper end of a bracket, by the mark of its document
-  pub upper_is : (i : ℕ) → i < length met → (bracket lanes (met_at met i)).hi ≡ upper limit (mark_at marks i)
-  upper_is i inside =
-      let mark = are.each i inside in
-      omega (arith, held_or_missing lanes (met_at met i), mark.least, mark.cover, rests)
+  pub upper_is : (i : ℕ) → i < length met → (bounds lanes (met_at met i)).hi ≡ upper limit (mark_at marks i)
+  upper_is i inside = omega (arith, (are.each i inside).most, rests)
 
   pub held_within : (i : ℕ) → i < length met → (mark_at marks i).held ≤ limit
-  held_within i inside = omega (arith, held_or_missing lanes (met_at met i), (are.each i inside).cover, rests)
+  held_within i inside = omega (arith, (are.each i inside).within, rests)
 
   -- the marks are below the limit
   pub below : limit < 2 ^ 48 → AreBelow limit marks
@@ -71,10 +69,10 @@ module _ (lanes : List ShownLane) (met : List ℕ) (marks : List Mark) (limit : 
   }
 
   abbrev brackets : List Bracket
-  brackets = brackets_of lanes met
+  brackets = brackets_of bounds lanes met
 
-  bracket_is : (i : ℕ) → i < length met → bracket_at brackets i ≡ bracket lanes (met_at met i)
-  bracket_is i inside = get_or-map (bracket lanes) met i 0 (record { doc = 0; lo = 0; hi = 0 }) inside
+  bracket_is : (i : ℕ) → i < length met → bracket_at brackets i ≡ bounds lanes (met_at met i)
+  bracket_is i inside = get_or-map (bounds lanes) met i 0 (record { doc = 0; lo = 0; hi = 0 }) inside
 
   hi_at : (i : ℕ) → i < length met → (bracket_at brackets i).hi ≡ upper limit (mark_at marks i)
   hi_at i inside = ap (λ (b : Bracket). b.hi) (bracket_is i inside) ∙ upper_is i inside
@@ -99,7 +97,7 @@ module _ (lanes : List ShownLane) (met : List ℕ) (marks : List Mark) (limit : 
     last_lo some = row_lo (n - 1) (omega (arith, some)) ∙ sym (last_is marks answer n some)
 
     count : length brackets ≡ length met
-    count = length-map met (bracket lanes)
+    count = length-map met (bounds lanes)
 
     high : (i : ℕ) → i < length met → upper limit (mark_at marks i) ≤ 2 ^ 64 - 1
     high i inside = omega (arith, (are.each i inside).small, small)
@@ -113,7 +111,7 @@ module _ (lanes : List ShownLane) (met : List ℕ) (marks : List Mark) (limit : 
 
     -- what the marks say is enough
     pub settles : (r : ℕ) → n ≤ r → ((n ≡ r) ⊎ ((length met ≤ n) × (limit ≡ 0))) → AreFalling limit marks answer n
-        → limit ≤ lower_before marks answer n → IsRestWithin limit marks (lower_before marks answer n) → IsAnswerSettled lanes met answer r
+        → limit ≤ lower_before marks answer n → IsRestWithin limit marks (lower_before marks answer n) → IsAnswerSettled bounds lanes met answer r
     settles r most whole falling unmet rest = record {
       once = right.once;
       most = most;
@@ -139,7 +137,7 @@ module _ (lanes : List ShownLane) (met : List ℕ) (marks : List Mark) (limit : 
         ap (lower_before marks answer) empty
 
     -- and needed
-    module _ (r : ℕ) (settled : IsAnswerSettled lanes met answer r) where
+    module _ (r : ℕ) (settled : IsAnswerSettled bounds lanes met answer r) where
       pub says_whole : (n ≡ r) ⊎ ((length met ≤ n) × (limit ≡ 0))
       says_whole = elim settled.whole [
         | inl full ↦ inl full

@@ -1,19 +1,21 @@
 -- The descent: from the root to the header, the dictionary and the lists, what a proof shows is the collection's own but
 -- for a collision.
-use Rattle.std.proofs.Common.{◌≡◌, ◌+◌, ◌<◌, ◌≤◌, ◌^◌, ℕ, List, [], ◌∷◌, ◌++◌, length, map, get_or, slice_get, Option, Some, None, option_map, refl, sym, ◌∙◌, ap, subst, arith}
+use Rattle.std.proofs.Common.{◌≡◌, ◌+◌, ◌<◌, ◌≤◌, ◌^◌, ℕ, List, [], ◌∷◌, ◌++◌, length, map, get_or, slice_get, Option, Some, refl, sym, ◌∙◌, ap, subst, arith}
 use Rattle.std.specs.List.{All, flat_map}
 use Rattle.std.specs.List.Sorted.{IsStrictlyIncreasing}
 use Rattle.std.proofs.lemmas.List.{length-map}
-use Rattle.std.proofs.lemmas.Option.{get_or_from_slice_get, slice_get_within, slice_get-map}
+use Rattle.std.proofs.lemmas.Option.{get_or_from_slice_get, slice_get_within}
 use Rattle.std.proofs.lemmas.Simd.{map-map}
 use Rattle.ats_terms.specs.Terms.{IsTerm}
 use Rattle.ats_terms.specs.Query.{IsQuery}
 use Rattle.ats_tree.specs.Clashes.{Hashed, first_clash}
-use Rattle.ats_tree.specs.Rebuild.{tree_of_places}
+use Rattle.ats_tree.specs.Paths.{Path}
+use Rattle.ats_tree.specs.Rebuild.{rebuilt, tree_of_places}
 use Rattle.ats_tree.specs.Shown.{Shown}
-use Rattle.ats_tree.specs.Strings.{strings}
-use Rattle.ats_tree.specs.Tree.{mth}
+use Rattle.ats_tree.specs.Strings.{strings, string_at}
+use Rattle.ats_tree.specs.Tree.{tree_of, mth}
 use Rattle.ats_tree.specs.Part.{RisesFrom}
+use Rattle.ats_tree.specs.declared.hashed.Tree.{Tree}
 use Rattle.ats_tree.specs.declared.hashed.Tree.TheVariants.{Dictionary, List as ListOf}
 use Rattle.ats_tree.proofs.Bound.{bound_to}
 use Rattle.ats_tree.proofs.Clashes.{difference-collides}
@@ -39,34 +41,14 @@ use Rattle.ats_client.specs.Groups as groups
 use Rattle.ats_client.specs.Presented.{Presented, presented, entry_at}
 use Rattle.ats_client.specs.Slots as slots
 use Rattle.ats_client.specs.Strings.{header_string, in_tree, strings_in, list_strings, strings_of, extract, AreLeavesOf, IsOwnList, IsOwn, IsBound}
+use Rattle.ats_client.proofs.Kept as kept
 use Rattle.ats_client.proofs.DescentTrees.{Binds, binds-both, binds-moved, binds-weaker, binds-one, binds-all}
 use Rattle.ats_client.proofs.HeadlineTerms.{HoldsPresent, each_presented}
+use Rattle.ats_client.proofs.Leaves.{leaf_own, present_leaf}
 use Rattle.ats_client.proofs.Presents.{at_place, entry_there}
 use Rattle.ats_client.proofs.Slotted.{slot_shows}
 
 -- ---- elements of lists
-
--- what is read of a changed list is the change of what is read
-was_mapped : {X Y : Type 0} (f : X → Y) (o : Option X) (y : Y) → option_map f o ≡ Some y → (x : X) × (o ≡ Some x) × (f x ≡ y)
-was_mapped f None y is = absurd (cc)
-was_mapped f (Some x) y is = (x, refl, cc)
-
--- the leaf that a place of the dictionary section shows
-abbrev pub term_shown : ShownEntry → slots.Shown
-term_shown e = record { position = e.position; term = e.entry.term }
-
-pub leaf_shown : (dict : List ShownEntry) (place : ℕ) (leaf : slots.Shown) → slice_get (groups.dict_terms dict) place ≡ Some leaf
-    → (shown : ShownEntry) × (slice_get dict place ≡ Some shown) × (term_shown shown ≡ leaf)
-leaf_shown dict place leaf there =
-    was_mapped term_shown (slice_get dict place) leaf (sym (slice_get-map term_shown dict place) ∙ there)
-
--- a leaf that is the collection's own stands at its position
-pub leaf_own : (H : List ℕ → List ℕ) (texts : List (List ℕ)) (dict : List ShownEntry) (place : ℕ) (shown : ShownEntry)
-    → AreLeavesOf (dict_leaves (dictionary_of H texts)) (map shown_entry dict) → slice_get dict place ≡ Some shown
-    → slice_get (dict_leaves (dictionary_of H texts)) shown.position ≡ Some (dict_leaf_bytes shown.entry.term shown.entry.f shown.entry.root)
-leaf_own H texts dict place shown own is =
-    at_place (λ (s : Shown). slice_get (dict_leaves (dictionary_of H texts)) s.0 ≡ Some s.1) (map shown_entry dict) place (shown_entry shown) own
-    (slice_get-map shown_entry dict place ∙ ap (option_map shown_entry) is)
 
 -- a pair of a query is a term with a weight
 pub pair_is : (query : List (List ℕ × ℕ)) → IsQuery query → (i : ℕ) (pair : List ℕ × ℕ) → slice_get query i ≡ Some pair
@@ -96,6 +78,18 @@ header-binds H sized texts query header are is root =
     in binds-one H (ours H texts query) (header_string header) (2 ∷ header_of H texts) (IsHeaderOf H texts header) refl root
     (λ same. own_header H sized texts header are is (tail_same (header_of H texts) bytes same))
 
+-- ---- the section of one tree
+
+-- a section that rebuilds to the digest of a tree shows the tree's own leaves
+pub section-binds : (H : List ℕ → List ℕ) → ((m : List ℕ) → length (H m) ≡ 32) → (tree : Tree) (own : TreePlace → Option (List ℕ)) (n : ℕ) (shown : List Shown)
+    (digests : List (List ℕ)) (root : List ℕ) (leaves : List (List ℕ)) → ((path : Path) → own (in_tree tree path) ≡ string_at H (tree_of leaves) path)
+    → RisesFrom 0 shown → AreDigests digests → rebuilt H n shown digests ≡ Some root → length leaves ≡ n → mth H leaves ≡ root
+    → Binds H own (strings_in H tree n shown digests) (AreLeavesOf leaves shown)
+section-binds H sized tree own n shown digests root leaves same rises all right size is =
+    binds-moved H (in_tree tree) own (strings H (tree_of_places n shown) digests) (AreLeavesOf leaves shown)
+    (subst (λ (f : Path → Option (List ℕ)). Binds H f (strings H (tree_of_places n shown) digests) (AreLeavesOf leaves shown)) (λ i path. sym (same path) i)
+    (bound_to H sized n shown digests root rises all right leaves size is))
+
 -- ---- the dictionary
 
 pub dictionary-binds : (H : List ℕ → List ℕ) → ((m : List ℕ) → length (H m) ≡ 32) → (texts : List (List ℕ)) (query : List (List ℕ × ℕ)) (proof : Proof)
@@ -104,12 +98,9 @@ pub dictionary-binds : (H : List ℕ → List ℕ) → ((m : List ℕ) → lengt
     (AreLeavesOf (dict_leaves (dictionary_of H texts)) (map shown_entry proof.dict))
 dictionary-binds H sized texts query proof range right header =
     let shown : List Shown = map shown_entry proof.dict
-    in let leaves : List (List ℕ) = dict_leaves (dictionary_of H texts)
     in let rises : RisesFrom 0 shown = rises-increasing shown (subst IsStrictlyIncreasing (sym (map-map (λ (s : Shown). s.0) shown_entry proof.dict)) range.terms.rises)
-    in binds-moved H (in_tree Dictionary) (ours H texts query) (strings H (tree_of_places proof.header.dict_leaves shown) proof.dict_digests)
-    (AreLeavesOf leaves shown)
-    (bound_to H sized proof.header.dict_leaves shown proof.dict_digests proof.header.dict_root rises range.terms.sized right leaves
-    (sym header.leaves) (sym header.dictionary))
+    in section-binds H sized Dictionary (ours H texts query) proof.header.dict_leaves shown proof.dict_digests proof.header.dict_root
+    (dict_leaves (dictionary_of H texts)) (λ path. refl) rises range.terms.sized right (sym header.leaves) (sym header.dictionary)
 
 -- ---- one list
 
@@ -131,7 +122,7 @@ entry-own H texts query dict one are ranges own asked =
     let leaves : List (List ℕ) = dict_leaves (dictionary_of H texts)
     in let range : IsShownInRange asked.shown = at_place IsShownInRange dict asked.place asked.shown ranges asked.there
     in let small : one.entry.f < 2 ^ 32 = subst (λ (e : DictEntry). e.f < 2 ^ 32) asked.entry range.number
-    in let leaf = leaf_own H texts dict asked.place asked.shown own asked.there
+    in let leaf = leaf_own shown_entry leaves dict asked.place asked.shown own asked.there
     in leaf_tells_entry H texts are asked.shown.position one.entry asked.term small
     (subst (λ (e : DictEntry). slice_get leaves asked.shown.position ≡ Some (dict_leaf_bytes e.term e.f e.root)) asked.entry leaf)
 
@@ -145,9 +136,8 @@ list-binds H sized texts query met one same digests right own =
     length-map (list texts (asked_term query one.number)) leaf_bytes
     ∙ subst (λ term. length (list texts term) ≡ one.entry.f) same (sym own.number)
     in let root : mth H leaves ≡ one.entry.root = subst (λ term. mth H (map leaf_bytes (list texts term)) ≡ one.entry.root) same (sym own.list_root)
-    in binds-moved H (in_tree (ListOf one.number)) (ours H texts query) (strings H (tree_of_places one.entry.f shown) one.prefix.digests)
-    (IsOwnList texts query met one)
-    (bound_to H sized one.entry.f shown one.prefix.digests one.entry.root (rises-list 0 met one.prefix.entries) digests right.root leaves size root)
+    in section-binds H sized (ListOf one.number) (ours H texts query) one.entry.f shown one.prefix.digests one.entry.root leaves (λ path. refl)
+    (rises-list 0 met one.prefix.entries) digests right.root size root
 
 -- ---- all lists
 
@@ -159,12 +149,11 @@ pair-asked query proof is right j pair slot prefix at spot present range =
     in let number : 0 + j ≡ j = omega arith
     in let pair_term = pair_is query is j pair at
     in let shows = slot_shows query proof j slot spot (right j low)
-    in let found : slots.IsAt (groups.dict_terms proof.dict) (groups.term_at query j) slot.index = rw present at shows
-    in let was = leaf_shown proof.dict slot.index found.leaf found.there
+    in let was = present_leaf slots.entry_shown proof.dict (groups.term_at query j) slot shows present
     in let shown : ShownEntry = was.0
     in let entry : shown.entry ≡ entry_at proof.dict slot.index = entry_there proof.dict slot.index shown (sym was.1)
     in let same : (entry_at proof.dict slot.index).term ≡ asked_term query j =
-    ap (λ (e : DictEntry). e.term) (sym entry) ∙ ap (λ (s : slots.Shown). s.term) was.2 ∙ found.same
+    ap (λ (e : DictEntry). e.term) (sym entry) ∙ was.2
     in record {
       place = slot.index;
       shown = shown;
@@ -204,14 +193,15 @@ whole-binds H sized texts query r proof are is range size accepts =
     in let Numbers : Type 0 = IsHeaderOf H texts proof.header
     in let Terms : Type 0 = AreLeavesOf (dict_leaves (dictionary_of H texts)) (map shown_entry proof.dict)
     in let Fronts : Type 0 = All (IsOwnList texts query proof.met) (presented query proof)
-    in let asked = asked-terms query proof is accepts.slots range size
+    in let under : List ℕ = root_of H texts
+    in let asked = asked-terms query proof is (kept.slots H under query r proof accepts) range size
     in binds-weaker H own (strings_of H query proof) (Numbers × (Terms × Fronts)) (IsOwn H texts query proof)
     (λ all. record { numbers = all.0; terms = all.1.0; fronts = all.1.1 })
     (binds-both H own top (terms ++ fronts) Numbers (Terms × Fronts)
-    (header-binds H sized texts query proof.header are range.front accepts.opened.commits)
+    (header-binds H sized texts query proof.header are range.front (kept.opened H under query r proof accepts).commits)
     (λ numbers. binds-both H own terms fronts Terms Fronts
-    (dictionary-binds H sized texts query proof range accepts.dictionary numbers)
-    (λ own_terms. lists-bind H sized texts query proof are range asked accepts.lists own_terms)))
+    (dictionary-binds H sized texts query proof range (kept.dictionary H under query r proof accepts) numbers)
+    (λ own_terms. lists-bind H sized texts query proof are range asked (kept.lists H under query r proof accepts) own_terms)))
 
 -- the first difference is then the first collision
 pub whole-extracts : (H : List ℕ → List ℕ) (texts : List (List ℕ)) (query : List (List ℕ × ℕ)) (proof : Proof) → IsBound H texts query proof

@@ -1,20 +1,19 @@
--- A proof that is accepted is not refused.
-use Rattle.std.proofs.Common.{◌≡◌, ◌<◌, ◌+◌, ◌++◌, ◌∙◌, ℕ, List, [], ◌∷◌, length, true, nat_eq, cond, Option, Some, Result, Ok, Err, refl, ap, subst, arith, inl, inr}
+-- Where a group of rules fails, it is not kept.
+use Rattle.std.proofs.Common.{◌≡◌, ◌<◌, ◌+◌, ◌++◌, ◌∙◌, ℕ, List, [], ◌∷◌, length, true, nat_eq, cond, Option, Some, ap, subst, arith}
 use Rattle.std.specs.List.{All}
-use Rattle.std.specs.Result.{is_ok, IfErr}
 use Rattle.std.proofs.lemmas.Bool.Decides.{nat_tests}
 use Rattle.std.proofs.lemmas.List.Elements.{All-head, All-tail}
 use Rattle.std.proofs.lemmas.List.Sums.{sum_by-append}
 use Rattle.ats_impact.specs.Rank.{times}
 use Rattle.ats_bound.proofs.Places.{times-cons}
 use Rattle.ats_bound.specs.Cut.{ShownLane}
+use Rattle.ats_bound.specs.Schedule.{Bounding}
 use Rattle.ats_proof.specs.Value.{Proof}
 use Rattle.ats_client.specs.declared.refusal.Refusal.{Refusal}
 use Rattle.ats_client.specs.declared.refusal.Refusal.TheVariants.{OtherRoot, SlotCount, DictMisfit, DictRoot, SlotWrong, IndexOut, Repeated, ListMisfit, ListRoot, Unmet, AnswerOut, AnswerRepeated, NotSettled}
-use Rattle.ats_client.specs.Presented.{Presented, lanes_of}
+use Rattle.ats_client.specs.Presented.{Presented}
 use Rattle.ats_client.specs.Indexes.{AreNames, IsOut, IsAgain}
-use Rattle.ats_client.specs.Groups.{IsOther, IsOpened, IsOpeningFault, IsDictionary, IsDictFault, AreSlotsRight, IsSlotsFault, IsListRight, IsListFault, IsEntryFault, IsListRootFault, AreListsRight, IsListsFault, AreAllMet, IsMetFault, AreRowsRight, IsRowsFault, IsAnswerSettled, IsSettledFault, indexes_of}
-use Rattle.ats_client.specs.Accepts.{Accepts, IsFirstRefusal}
+use Rattle.ats_client.specs.Groups.{IsOther, IsOpened, IsOpeningFault, IsDictionary, IsDictFault, AreSlotsRight, IsSlotsFault, IsListRooted, IsEntryFault, IsListRootFault, AreAllMet, IsMetFault, AreRowsRight, IsRowsFault, IsAnswerSettled, IsSettledFault, indexes_of}
 
 not_other : (digest : Option (List ℕ)) (root : List ℕ) → IsOther digest root → digest ≡ Some root → ⊥
 not_other digest root other is = let rebuilt = other.rebuilt in other.differs (cc)
@@ -59,19 +58,10 @@ not_entries met one (IndexOut term entry) fault names = not_out met (indexes_of 
 not_entries met one (Repeated term entry) fault names = not_again met (indexes_of one.prefix.entries) entry fault.1 names
 not_entries met one _ fault names = fault
 
-not_rooted : (H : List ℕ → List ℕ) (met : List ℕ) (one : Presented) (refusal : Refusal) → IsListRootFault H met one refusal → IsListRight H met one → ⊥
-not_rooted H met one (ListMisfit term) fault right = let none = fault.1 in let some = right.root in cc
-not_rooted H met one (ListRoot term) fault right = not_other _ _ fault.1 right.root
-not_rooted H met one _ fault right = fault
-
-pub not_list : (H : List ℕ → List ℕ) (met : List ℕ) (one : Presented) (refusal : Refusal) → IsListFault H met one refusal → IsListRight H met one → ⊥
-not_list H met one refusal (inl fault) right = not_entries (length met) one refusal fault right.names
-not_list H met one refusal (inr fault) right = not_rooted H met one refusal fault.1 right
-
-pub not_lists : (H : List ℕ → List ℕ) (query : List (List ℕ × ℕ)) (proof : Proof) (refusal : Refusal) → IsListsFault H query proof refusal → AreListsRight H query proof → ⊥
-not_lists H query proof refusal fault right =
-    not_list H proof.met fault.one refusal fault.fault
-    (all_middle (IsListRight H proof.met) fault.before fault.one fault.after (subst (λ l. All (IsListRight H proof.met) l) fault.stands right))
+pub not_rooted : (H : List ℕ → List ℕ) (met : List ℕ) (one : Presented) (refusal : Refusal) → IsListRootFault H met one refusal → IsListRooted H met one → ⊥
+not_rooted H met one (ListMisfit term) fault rooted = let none = fault.1 in cc
+not_rooted H met one (ListRoot term) fault rooted = not_other _ _ fault.1 rooted
+not_rooted H met one _ fault rooted = fault
 
 pub not_met : (lanes : List ShownLane) (met : List ℕ) (refusal : Refusal) → IsMetFault lanes met refusal → AreAllMet lanes met → ⊥
 not_met lanes met (Unmet index) fault all = fault.unmet (all index fault.inside)
@@ -82,20 +72,6 @@ not_rows met answer (AnswerOut row) fault right = not_out (length met) answer ro
 not_rows met answer (AnswerRepeated row) fault right = not_again (length met) answer row fault right
 not_rows met answer _ fault right = fault
 
-not_settled : (lanes : List ShownLane) (met answer : List ℕ) (r : ℕ) (refusal : Refusal) → IsSettledFault lanes met answer r refusal → IsAnswerSettled lanes met answer r → ⊥
-not_settled lanes met answer r NotSettled fault settled = fault settled
-not_settled lanes met answer r _ fault settled = fault
-
-pub not_both : (H : List ℕ → List ℕ) (root : List ℕ) (query : List (List ℕ × ℕ)) (r : ℕ) (proof : Proof) (refusal : Refusal) → Accepts H root query r proof → IsFirstRefusal H root query r proof refusal → ⊥
-not_both H root query r proof refusal a (inl fault) = not_opened H root query proof refusal fault a.opened
-not_both H root query r proof refusal a (inr (_, inl fault)) = not_dictionary H proof refusal fault a.dictionary
-not_both H root query r proof refusal a (inr (_, inr (_, inl fault))) = not_slots query proof refusal fault a.slots
-not_both H root query r proof refusal a (inr (_, inr (_, inr (_, inl fault)))) = not_lists H query proof refusal fault a.lists
-not_both H root query r proof refusal a (inr (_, inr (_, inr (_, inr (_, inl fault))))) = not_met (lanes_of query proof) proof.met refusal fault a.met
-not_both H root query r proof refusal a (inr (_, inr (_, inr (_, inr (_, inr (_, inl fault)))))) = not_rows proof.met proof.answer refusal fault a.rows
-not_both H root query r proof refusal a (inr (_, inr (_, inr (_, inr (_, inr (_, inr (_, fault))))))) = not_settled (lanes_of query proof) proof.met proof.answer r refusal fault a.settled
-
-pub accepted : (H : List ℕ → List ℕ) (root : List ℕ) (query : List (List ℕ × ℕ)) (r : ℕ) (proof : Proof) (result : Result ℕ Refusal)
-    → IfErr result (λ refusal. IsFirstRefusal H root query r proof refusal) → Accepts H root query r proof → is_ok result ≡ true
-accepted H root query r proof (Ok limit) refused a = refl
-accepted H root query r proof (Err refusal) refused a = absurd (not_both H root query r proof refusal a refused)
+pub not_settled : (bounds : Bounding) (lanes : List ShownLane) (met answer : List ℕ) (r : ℕ) (refusal : Refusal) → IsSettledFault bounds lanes met answer r refusal → IsAnswerSettled bounds lanes met answer r → ⊥
+not_settled bounds lanes met answer r NotSettled fault settled = fault settled
+not_settled bounds lanes met answer r _ fault settled = fault

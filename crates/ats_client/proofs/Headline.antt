@@ -9,15 +9,20 @@ use Rattle.ats_commit.specs.Own.{AreTexts}
 use Rattle.ats_commit.specs.Root.{root_of}
 use Rattle.ats_commit.specs.Ours.{TreePlace, ours}
 use Rattle.ats_tree.specs.Clashes.{Clash, first_clash}
+use Rattle.ats_bound.specs.Cut.{bracket}
+use Rattle.ats_bound.specs.Schedule.{Bounding}
 use Rattle.ats_bound.specs.Ranked.{AreScores, cut_of}
 use Rattle.ats_proof.specs.Value.{Proof, present_in}
 use Rattle.ats_proof.specs.Ranges.{IsInRange}
-use Rattle.ats_client.specs.Presented.{Presented, presented, lane_of}
-use Rattle.ats_client.specs.Groups.{IsListRight}
+use Rattle.ats_client.specs.Presented.{Presented, presented, lane_of, lanes_of}
+use Rattle.ats_client.specs.Groups.{IsListRight, IsAnswerSettled, met_at}
+use Rattle.ats_client.specs.Bracketing.{bounds_of}
 use Rattle.ats_client.specs.Accepts.{Accepts}
-use Rattle.ats_client.specs.Rows.{rows_of}
+use Rattle.ats_client.specs.Rows.{row_of, rows_of}
 use Rattle.ats_client.specs.Strings.{strings_of, extract, IsOwn, IsBound}
 use Rattle.ats_client.specs.Headline.{AreRight, IsTopOrCollides}
+use Rattle.ats_client.proofs.Bracketing.{lists_alone}
+use Rattle.ats_client.proofs.Kept as kept
 use Rattle.ats_client.proofs.Descent.{whole-binds, whole-extracts}
 use Rattle.ats_client.proofs.HeadlineRows.{NamesMet, settled_rows_right}
 use Rattle.ats_client.proofs.OwnLanes.{AllOf, each_own, own_lanes, lanes_cut, each_cut, score_own}
@@ -26,20 +31,27 @@ pub own_rows_right : (H : List ℕ → List ℕ) (texts : List (List ℕ)) (quer
     → length proof.lists ≡ present_in proof.slots → Accepts H root query r proof → IsOwn H texts query proof
     → AreRight texts query r (rows_of query proof)
 own_rows_right H texts query r root proof are asked range size accepts own =
+    let slots = kept.slots H root query r proof accepts in
+    let lists = kept.lists H root query r proof accepts in
+    let opened = kept.opened H root query r proof accepts in
     let documents : ℕ = proof.header.documents in
     let met : List ℕ = proof.met in
     let terms : List Presented = presented query proof in
     let all : AllOf H texts query documents met are own.numbers.number range.ids.small terms =
-    (each_own H texts query proof are asked range own.terms accepts.slots (sym size), own.fronts, accepts.lists) in
+    (each_own H texts query proof are asked range own.terms slots (sym size), own.fronts, lists) in
     let same : map (lane_of documents met) terms ≡ cut_of (own_lanes texts query proof) =
     lanes_cut H texts query documents met are own.numbers.number range.ids.small terms all in
     let scores : AreScores (length texts) (λ doc. score texts query (get_or texts doc [])) (own_lanes texts query proof) = record {
       each = each_cut H texts query documents met are own.numbers.number range.ids.small terms all;
-      sums = λ doc low. score_own H texts query proof are asked range own.terms accepts.slots accepts.opened.slots doc low;
+      sums = λ doc low. score_own H texts query proof are asked range own.terms slots opened.slots doc low;
     } in
-    settled_rows_right texts query r documents met proof.answer terms (own_lanes texts query proof) same scores range.ids.rise
-    (All-weaker (IsListRight H met) (NamesMet met) (λ one right. right.names) terms accepts.lists)
-    accepts.met accepts.rows accepts.settled
+    let alone : bounds_of proof ≡ bracket = lists_alone proof accepts.walk in
+    let settled : IsAnswerSettled bracket (lanes_of query proof) met proof.answer r =
+    subst (λ (bounds : Bounding). IsAnswerSettled bounds (lanes_of query proof) met proof.answer r) alone (kept.settled H root query r proof accepts) in
+    subst (λ (bounds : Bounding). AreRight texts query r (map (λ index. row_of (bounds (lanes_of query proof) (met_at met index))) proof.answer)) (sym alone)
+    (settled_rows_right texts query r documents met proof.answer terms (own_lanes texts query proof) same scores range.ids.rise
+    (All-weaker (IsListRight H met) (NamesMet met) (λ one right. right.names) terms lists)
+    (kept.met H root query r proof accepts) (kept.rows H root query r proof accepts) settled)
 
 holds_or_some : (P : Type 0) (Q : Clash TreePlace → Type 0) (clash : Option (Clash TreePlace)) → MatchOption clash P Q → P ⊎ IsSome clash
 holds_or_some P Q None holds = inl holds

@@ -79,16 +79,16 @@ lanes_met documents met doc (one ∷ terms) all seen =
           lanes_met documents met doc terms (All-tail (NamesMet met) one terms all) later
     ]
 
-met_docs : (lanes : List ShownLane) (met : List ℕ) → docs_of (brackets_of lanes met) ≡ met
+met_docs : (lanes : List ShownLane) (met : List ℕ) → docs_of (brackets_of bracket lanes met) ≡ met
 met_docs lanes met = map-map (λ (b : Bracket). b.doc) (bracket lanes) met ∙ map-id met
 
 -- the brackets of the met documents are those of the documents that entries name
 of_met : (documents : ℕ) (met : List ℕ) (terms : List Presented) (own : List CutLane) → map (lane_of documents met) terms ≡ cut_of own
     → IsStrictlyIncreasing met → All (NamesMet met) terms → AreAllMet (map (lane_of documents met) terms) met
-    → AreOfMet own (brackets_of (map (lane_of documents met) terms) met)
+    → AreOfMet own (brackets_of bracket (map (lane_of documents met) terms) met)
 of_met documents met terms own same rises named_met all =
     let lanes : List ShownLane = map (lane_of documents met) terms in
-    let docs : docs_of (brackets_of lanes met) ≡ met = met_docs lanes met in
+    let docs : docs_of (brackets_of bracket lanes met) ≡ met = met_docs lanes met in
     record {
       distinct = subst AreDistinct (sym docs) (rising_distinct met rises);
       met = λ doc. (
@@ -109,35 +109,35 @@ module _ (n r : ℕ) (score_of : ℕ → ℕ) (lanes : List ShownLane) (own : Li
       (bracket_holds n score_of own (met_at met i) scores (subst (λ ls. IsMet ls (met_at met i)) same (all i low)))
 
   -- each bracket holds its score
-  all_hold : All (HoldsScore score_of) (brackets_of lanes met)
+  all_hold : All (HoldsScore score_of) (brackets_of bracket lanes met)
   all_hold = All-map (HoldsScore score_of) (bracket lanes) met (λ i d low.
       let is : get_or met i d ≡ met_at met i = get_or_default met i d 0 low in
       subst (λ (m : ℕ). HoldsScore score_of (bracket lanes m)) (sym is) (bracket_scores i low))
 
-  picks : ArePicks (brackets_of lanes met) answer
+  picks : ArePicks (brackets_of bracket lanes met) answer
   picks k d low = omega (arith, rows.inside k d low, length-map met (bracket lanes))
 
-  row_docs : (indexes : List ℕ) → All (λ i. i < length met) indexes → map (met_at met) indexes ≡ answer_of (brackets_of lanes met) indexes
+  row_docs : (indexes : List ℕ) → All (λ i. i < length met) indexes → map (met_at met) indexes ≡ answer_of (brackets_of bracket lanes met) indexes
   row_docs [] inside = refl
   row_docs (i ∷ indexes) inside =
       let none : Bracket = record { doc = 0; lo = 0; hi = 0 } in
       let low : i < length met = All-head (λ i. i < length met) i indexes inside in
-      let is : get_or (brackets_of lanes met) i none ≡ bracket lanes (met_at met i) = get_or-map (bracket lanes) met i 0 none low in
+      let is : get_or (brackets_of bracket lanes met) i none ≡ bracket lanes (met_at met i) = get_or-map (bracket lanes) met i 0 none low in
       ap₂ (λ (d : ℕ) (ds : List ℕ). d ∷ ds) (ap (λ (b : Bracket). b.doc) (sym is)) (row_docs indexes (All-tail (λ i. i < length met) i indexes inside))
 
   abbrev rows_made : List Row
   rows_made = map (λ index. row_of (bracket lanes (met_at met index))) answer
 
-  rows_docs : map (λ (row : Row). row.doc) rows_made ≡ answer_of (brackets_of lanes met) answer
+  rows_docs : map (λ (row : Row). row.doc) rows_made ≡ answer_of (brackets_of bracket lanes met) answer
   rows_docs = map-map (λ (row : Row). row.doc) (λ index. row_of (bracket lanes (met_at met index))) answer ∙ row_docs answer rows.inside
 
   -- a settled answer is a top answer
-  pub rows_top : AreOfMet own (brackets_of lanes met) → IsAnswerSettled lanes met answer r → IsTopBy n score_of r (map (λ (row : Row). row.doc) rows_made)
+  pub rows_top : AreOfMet own (brackets_of bracket lanes met) → IsAnswerSettled bracket lanes met answer r → IsTopBy n score_of r (map (λ (row : Row). row.doc) rows_made)
   rows_top of settled =
-      let rests : IsSettled (brackets_of lanes met) answer (threshold (cut_of own)) r =
-      subst (λ ls. IsSettled (brackets_of lanes met) answer (threshold ls) r) same settled in
+      let rests : IsSettled (brackets_of bracket lanes met) answer (threshold (cut_of own)) r =
+      subst (λ ls. IsSettled (brackets_of bracket lanes met) answer (threshold ls) r) same settled in
       subst (λ ds. IsTopBy n score_of r ds) (sym rows_docs)
-      (settled_is_top n r score_of own (brackets_of lanes met) answer scores of all_hold picks rests)
+      (settled_is_top n r score_of own (brackets_of bracket lanes met) answer scores of all_hold picks rests)
 
   -- each row holds the score of its document
   pub rows_hold : All (λ (row : Row). (row.lower ≤ score_of row.doc) × (score_of row.doc ≤ row.upper)) rows_made
@@ -150,13 +150,13 @@ module _ (n r : ℕ) (score_of : ℕ → ℕ) (lanes : List ShownLane) (own : Li
 pub settled_rows_right : (texts : List (List ℕ)) (query : List (List ℕ × ℕ)) (r documents : ℕ) (met answer : List ℕ) (terms : List Presented) (own : List CutLane)
     → map (lane_of documents met) terms ≡ cut_of own → AreScores (length texts) (λ doc. score texts query (get_or texts doc [])) own
     → IsStrictlyIncreasing met → All (NamesMet met) terms → AreAllMet (map (lane_of documents met) terms) met → AreRowsRight met answer
-    → IsAnswerSettled (map (lane_of documents met) terms) met answer r
+    → IsAnswerSettled bracket (map (lane_of documents met) terms) met answer r
     → AreRight texts query r (map (λ index. row_of (bracket (map (lane_of documents met) terms) (met_at met index))) answer)
 settled_rows_right texts query r documents met answer terms own same scores rises named_met all rows settled =
     let lanes : List ShownLane = map (lane_of documents met) terms in
     let score_of : ℕ → ℕ = λ doc. score texts query (get_or texts doc []) in
     let made : List Row = map (λ index. row_of (bracket lanes (met_at met index))) answer in
-    let of : AreOfMet own (brackets_of lanes met) = of_met documents met terms own same rises named_met all in
+    let of : AreOfMet own (brackets_of bracket lanes met) = of_met documents met terms own same rises named_met all in
     record {
       top = rows_top (length texts) r score_of lanes own met answer same scores all rows of settled;
       bounds = All-weaker (λ (row : Row). (row.lower ≤ score_of row.doc) × (score_of row.doc ≤ row.upper)) (HoldsRow texts query)

@@ -8,6 +8,9 @@ pub mod Lanes
 pub mod Passing
 pub mod Noting
 pub mod Bounding
+pub mod Rules
+pub mod Bracketing
+pub mod Kept
 pub mod Exact
 pub mod OneListFault
 pub mod OneRefusal
@@ -15,5 +18,8 @@ pub mod HeadlineTerms
 pub mod HeadlineRows
 pub mod OwnLanes
 pub mod Headline
+pub mod AnswerRows
+pub mod VerifiedBytes
+pub mod Leaves
 pub mod DescentTrees
 pub mod Descent

@@ -9,27 +9,28 @@ use Rattle.std.proofs.lemmas.Option.{get_or_from_slice_get}
 use Rattle.ats_bound.specs.declared.work.Mark.{Mark}
 use Rattle.ats_bound.specs.Work.{zero_mark, mark_at}
 use Rattle.ats_bound.specs.Cut.{ShownLane, IsMet}
+use Rattle.ats_bound.specs.Schedule.{Bounding}
 use Rattle.ats_client.specs.Groups.{met_at, IsUnmet}
 use Rattle.ats_client.specs.Marked.{IsMark, AreMarks, AreNoted}
 use Rattle.ats_client.proofs.Marks.{or_none}
 
 -- a mark with a list is that of a document that some entry names
-pub is_met : (lanes : List ShownLane) (met : List ℕ) (marks : List Mark) (i : ℕ) → AreMarks lanes met marks → i < length met
+pub is_met : (bounds : Bounding) (lanes : List ShownLane) (met : List ℕ) (marks : List Mark) (i : ℕ) → AreMarks bounds lanes met marks → i < length met
     → 1 ≤ (mark_at marks i).list → IsMet lanes (met_at met i)
-is_met lanes met marks i are inside some =
+is_met bounds lanes met marks i are inside some =
     let yes : nat_lt 0 (mark_at marks i).list ≡ true = grind (arith, nat_tests) in
     sym (are.each i inside).named ∙ yes
 
 -- the first mark with no list is that of the first document that no entry names
-pub unmet_at : (lanes : List ShownLane) (met : List ℕ) (marks : List Mark) (i : ℕ) → AreMarks lanes met marks → i < length met
+pub unmet_at : (bounds : Bounding) (lanes : List ShownLane) (met : List ℕ) (marks : List Mark) (i : ℕ) → AreMarks bounds lanes met marks → i < length met
     → (mark_at marks i).list ≡ 0 → ((k : ℕ) → k < i → 1 ≤ (mark_at marks k).list) → IsUnmet lanes met i
-unmet_at lanes met marks i are inside none before = record {
+unmet_at bounds lanes met marks i are inside none before = record {
   inside = inside;
   unmet = λ seen.
       let no : nat_lt 0 (mark_at marks i).list ≡ false = grind (arith, nat_tests) in
       let clash : true ≡ false = sym seen ∙ (sym (are.each i inside).named ∙ no) in
       absurd (cc);
-  before = λ k less. is_met lanes met marks k are (omega (arith, less)) (before k less);
+  before = λ k less. is_met bounds lanes met marks k are (omega (arith, less)) (before k less);
 }
 
 -- ---- the rows
@@ -56,9 +57,9 @@ noted_more rows k index marks mark is inside noted low marked i in_marks =
     ]
 
 -- a note of a row changes nothing of what a mark says of its document
-pub marks_kept : (lanes : List ShownLane) (met : List ℕ) (marks : List Mark) (index : ℕ) (noted : Bool) → AreMarks lanes met marks → index < length marks
-    → AreMarks lanes met (set marks index (record { lo = (mark_at marks index).lo; held = (mark_at marks index).held; list = (mark_at marks index).list; row = noted }))
-marks_kept lanes met marks index noted are low =
+pub marks_kept : (bounds : Bounding) (lanes : List ShownLane) (met : List ℕ) (marks : List Mark) (index : ℕ) (noted : Bool) → AreMarks bounds lanes met marks → index < length marks
+    → AreMarks bounds lanes met (set marks index (record { lo = (mark_at marks index).lo; held = (mark_at marks index).held; list = (mark_at marks index).list; row = noted }))
+marks_kept bounds lanes met marks index noted are low =
     let old : Mark = mark_at marks index in
     let new : Mark = record { lo = old.lo; held = old.held; list = old.list; row = noted } in
     record {
@@ -66,8 +67,8 @@ marks_kept lanes met marks index noted are low =
       each = λ i inside. elim (cases_order i index) [
         | inl same ↦
             let there : mark_at (set marks index new) i ≡ new = ap (mark_at (set marks index new)) same ∙ get_or-set_same marks index new zero_mark low in
-            let was : IsMark lanes (met_at met i) old = rw (sym same) (are.each i inside) in
-            let is : IsMark lanes (met_at met i) new = record { least = was.least; cover = was.cover; named = was.named; small = was.small } in
+            let was : IsMark bounds lanes (met_at met i) old = rw (sym same) (are.each i inside) in
+            let is : IsMark bounds lanes (met_at met i) new = record { least = was.least; within = was.within; most = was.most; named = was.named; small = was.small } in
             rw there is
         | inr other ↦
             let apart : i ≢ index = λ same. elim other [ inl less ↦ omega (arith, less, same) | inr greater ↦ omega (arith, greater, same) ] in

@@ -1,20 +1,14 @@
 -- Indexes break their rule first at one place at most, and the present terms have one first failure at most.
-use Rattle.std.proofs.Common.{◌≡◌, ◌∙◌, ◌⊎◌, ℕ, List, [], ◌∷◌, ◌++◌, length, refl, sym, ap, ap₂, subst, arith, inl, inr}
+use Rattle.std.proofs.Common.{◌≡◌, ◌∙◌, ℕ, List, [], ◌∷◌, ◌++◌, length, refl, sym, ap, ap₂, subst, arith}
 use Rattle.std.specs.List.{All}
 use Rattle.ats_proof.specs.Value.{Proof}
 use Rattle.ats_client.specs.declared.refusal.Refusal.{Refusal}
 use Rattle.ats_client.specs.declared.refusal.Refusal.TheVariants.{IndexOut, Repeated, ListMisfit, ListRoot}
 use Rattle.ats_client.specs.Presented.{Presented}
 use Rattle.ats_client.specs.Indexes.{AreNames, IsOut, IsAgain}
-use Rattle.ats_client.specs.Groups.{IsListRight, IsListFault, IsEntryFault, IsListRootFault, IsListsFault, indexes_of}
-use Rattle.ats_client.proofs.Exact.{all_middle, not_out, not_again, not_entries, not_list}
-
--- a failure of a rule, or else one of what comes after it, is one where both are
-pub one_of : {K A B L M : Type 0} {a b : Refusal} → (A → K → ⊥) → (B → K → ⊥) → (A → B → a ≡ b) → (L → M → a ≡ b) → A ⊎ (K × L) → B ⊎ (K × M) → a ≡ b
-one_of breaks ends here later (inl first) (inl second) = here first second
-one_of breaks ends here later (inl first) (inr second) = absurd (breaks first second.0)
-one_of breaks ends here later (inr first) (inl second) = absurd (ends second first.0)
-one_of breaks ends here later (inr first) (inr second) = later first.1 second.1
+use Rattle.ats_client.specs.Groups.{IsListRight, IsListFault, IsEntryFault, IsListRootFault, AreListsRight, IsListsFault, indexes_of, list_rules}
+use Rattle.ats_client.proofs.Exact.{all_middle, not_out, not_again, not_entries, not_rooted}
+use Rattle.ats_client.proofs.Rules.{AreExact, not_kept, one_first}
 
 -- two fronts of a list that keep a rule, each before an element with which it is broken, whatever follows, are the same
 one_front : {X : Type 0} (Keeps : List X → Type 0) (before other : List X) (x y : X) (after rest : List X) → before ++ x ∷ after ≡ other ++ y ∷ rest
@@ -102,8 +96,19 @@ one_root H met one (ListRoot term) (ListRoot other) is also = ap ListRoot (is.0 
 one_root H met one (ListRoot term) _ is also = absurd also
 one_root H met one _ b is also = absurd is
 
-one_list : (H : List ℕ → List ℕ) (met : List ℕ) (one : Presented) (a b : Refusal) → IsListFault H met one a → IsListFault H met one b → a ≡ b
-one_list H met one a b = one_of (not_entries (length met) one a) (not_entries (length met) one b) (one_entry (length met) one a b) (one_root H met one a b)
+list_exact : (H : List ℕ → List ℕ) (met : List ℕ) (one : Presented) → AreExact (list_rules H met one)
+list_exact H met one = (
+  record { breaks = not_entries (length met) one; one = one_entry (length met) one },
+  (record { breaks = not_rooted H met one; one = one_root H met one }, tt),
+)
+
+not_list : (H : List ℕ → List ℕ) (met : List ℕ) (one : Presented) (refusal : Refusal) → IsListFault H met one refusal → IsListRight H met one → ⊥
+not_list H met one refusal fault right = not_kept (list_rules H met one) refusal (list_exact H met one) fault (right.names, (right.root, tt))
+
+pub not_lists : (H : List ℕ → List ℕ) (query : List (List ℕ × ℕ)) (proof : Proof) (refusal : Refusal) → IsListsFault H query proof refusal → AreListsRight H query proof → ⊥
+not_lists H query proof refusal fault right =
+    not_list H proof.met fault.one refusal fault.fault
+    (all_middle (IsListRight H proof.met) fault.before fault.one fault.after (subst (λ l. All (IsListRight H proof.met) l) fault.stands right))
 
 list_breaks : (H : List ℕ → List ℕ) (query : List (List ℕ × ℕ)) (proof : Proof) (refusal : Refusal) (fault : IsListsFault H query proof refusal)
     (more : List Presented) → All (IsListRight H proof.met) (fault.before ++ fault.one ∷ more) → ⊥
@@ -114,4 +119,4 @@ pub one_lists : (H : List ℕ → List ℕ) (query : List (List ℕ × ℕ)) (pr
 one_lists H query proof a b is also =
     let same = one_front (All (IsListRight H proof.met)) is.before also.before is.one also.one is.after also.after (sym is.stands ∙ also.stands) is.right also.right
     (list_breaks H query proof a is) (list_breaks H query proof b also) in
-    one_list H proof.met is.one a b is.fault (subst (λ (one : Presented). IsListFault H proof.met one b) (sym same.1) also.fault)
+    one_first (list_rules H proof.met is.one) a b (list_exact H proof.met is.one) is.fault (subst (λ (one : Presented). IsListFault H proof.met one b) (sym same.1) also.fault)

@@ -1,15 +1,19 @@
--- A proof has one first refusal at most.
-use Rattle.std.proofs.Common.{◌≡◌, ◌∙◌, ◌<◌, ℕ, List, refl, sym, ap, inl, inr}
+-- A proof has one first refusal at most, and none where it is accepted.
+use Rattle.std.proofs.Common.{◌≡◌, ◌∙◌, ◌<◌, ℕ, List, true, Result, Ok, Err, refl, sym, ap, inl, inr}
+use Rattle.std.specs.Result.{is_ok, IfErr}
 use Rattle.std.proofs.lemmas.Bool.{cases_order}
 use Rattle.ats_bound.specs.Cut.{ShownLane, IsMet}
+use Rattle.ats_bound.specs.Schedule.{Bounding}
 use Rattle.ats_proof.specs.Value.{Proof}
 use Rattle.ats_client.specs.declared.refusal.Refusal.{Refusal}
 use Rattle.ats_client.specs.declared.refusal.Refusal.TheVariants.{OtherRoot, SlotCount, DictMisfit, DictRoot, SlotWrong, Unmet, AnswerOut, AnswerRepeated, NotSettled}
+use Rattle.ats_client.specs.Bracketing.{bounds_of}
 use Rattle.ats_client.specs.Presented.{lanes_of}
 use Rattle.ats_client.specs.Groups.{IsOpeningFault, IsDictFault, IsSlotsFault, IsSlotRight, IsMetFault, IsRowsFault, IsSettledFault, met_at}
-use Rattle.ats_client.specs.Accepts.{IsFirstRefusal}
-use Rattle.ats_client.proofs.Exact.{not_opened, not_dictionary, not_slots, not_lists, not_met, not_rows}
-use Rattle.ats_client.proofs.OneListFault.{one_of, one_out, one_again, out_or_again, one_lists}
+use Rattle.ats_client.specs.Accepts.{rules, Accepts, IsFirstRefusal}
+use Rattle.ats_client.proofs.Exact.{not_opened, not_dictionary, not_slots, not_met, not_rows, not_settled}
+use Rattle.ats_client.proofs.OneListFault.{not_lists, one_out, one_again, out_or_again, one_lists}
+use Rattle.ats_client.proofs.Rules.{AreExact, not_kept, one_first}
 
 -- the first number that breaks a rule is one
 one_least : (P : ℕ → Type 0) (m n : ℕ) → (P m → ⊥) → (P n → ⊥) → ((i : ℕ) → i < m → P i) → ((i : ℕ) → i < n → P i) → m ≡ n
@@ -57,19 +61,44 @@ one_row met answer (AnswerRepeated row) (AnswerRepeated other) is also = ap Answ
 one_row met answer (AnswerRepeated row) _ is also = absurd also
 one_row met answer _ b is also = absurd is
 
-one_settled : (lanes : List ShownLane) (met answer : List ℕ) (r : ℕ) (a b : Refusal) → IsSettledFault lanes met answer r a → IsSettledFault lanes met answer r b → a ≡ b
-one_settled lanes met answer r NotSettled NotSettled is also = refl
-one_settled lanes met answer r NotSettled _ is also = absurd also
-one_settled lanes met answer r _ b is also = absurd is
+one_settled : (bounds : Bounding) (lanes : List ShownLane) (met answer : List ℕ) (r : ℕ) (a b : Refusal) → IsSettledFault bounds lanes met answer r a → IsSettledFault bounds lanes met answer r b → a ≡ b
+one_settled bounds lanes met answer r NotSettled NotSettled is also = refl
+one_settled bounds lanes met answer r NotSettled _ is also = absurd also
+one_settled bounds lanes met answer r _ b is also = absurd is
+
+-- each group of rules fails in one way, and is then not kept
+exact : (H : List ℕ → List ℕ) (root : List ℕ) (query : List (List ℕ × ℕ)) (r : ℕ) (proof : Proof) → AreExact (rules H root query r proof)
+exact H root query r proof =
+    let lanes : List ShownLane = lanes_of query proof in (
+      record { breaks = not_opened H root query proof; one = one_opening H root query proof },
+      (
+        record { breaks = not_dictionary H proof; one = one_dictionary H proof },
+        (
+          record { breaks = not_slots query proof; one = one_slot query proof },
+          (
+            record { breaks = not_lists H query proof; one = one_lists H query proof },
+            (
+              record { breaks = not_met lanes proof.met; one = one_unmet lanes proof.met },
+              (
+                record { breaks = not_rows proof.met proof.answer; one = one_row proof.met proof.answer },
+                (record { breaks = not_settled (bounds_of proof) lanes proof.met proof.answer r; one = one_settled (bounds_of proof) lanes proof.met proof.answer r }, tt),
+              ),
+            ),
+          ),
+        ),
+      ),
+    )
 
 pub one_refusal : (H : List ℕ → List ℕ) (root : List ℕ) (query : List (List ℕ × ℕ)) (r : ℕ) (proof : Proof) (a b : Refusal)
     → IsFirstRefusal H root query r proof a → IsFirstRefusal H root query r proof b → a ≡ b
-one_refusal H root query r proof a b =
-    let lanes : List ShownLane = lanes_of query proof in
-    one_of (not_opened H root query proof a) (not_opened H root query proof b) (one_opening H root query proof a b)
-    (one_of (not_dictionary H proof a) (not_dictionary H proof b) (one_dictionary H proof a b)
-    (one_of (not_slots query proof a) (not_slots query proof b) (one_slot query proof a b)
-    (one_of (not_lists H query proof a) (not_lists H query proof b) (one_lists H query proof a b)
-    (one_of (not_met lanes proof.met a) (not_met lanes proof.met b) (one_unmet lanes proof.met a b)
-    (one_of (not_rows proof.met proof.answer a) (not_rows proof.met proof.answer b) (one_row proof.met proof.answer a b)
-    (one_settled lanes proof.met proof.answer r a b))))))
+one_refusal H root query r proof a b is also = one_first (rules H root query r proof) a b (exact H root query r proof) is.first also.first
+
+-- a proof that is accepted is not refused
+pub not_both : (H : List ℕ → List ℕ) (root : List ℕ) (query : List (List ℕ × ℕ)) (r : ℕ) (proof : Proof) (refusal : Refusal)
+    → Accepts H root query r proof → IsFirstRefusal H root query r proof refusal → ⊥
+not_both H root query r proof refusal accepts is = not_kept (rules H root query r proof) refusal (exact H root query r proof) is.first accepts.kept
+
+pub accepted : (H : List ℕ → List ℕ) (root : List ℕ) (query : List (List ℕ × ℕ)) (r : ℕ) (proof : Proof) (result : Result ℕ Refusal)
+    → IfErr result (λ refusal. IsFirstRefusal H root query r proof refusal) → Accepts H root query r proof → is_ok result ≡ true
+accepted H root query r proof (Ok limit) refused accepts = refl
+accepted H root query r proof (Err refusal) refused accepts = absurd (not_both H root query r proof refusal accepts refused)

@@ -18,7 +18,7 @@ use Rattle.ats_lists.specs.declared.entry.Entry.{Entry}
 use Rattle.ats_lists.proofs.PostingLemmas.{list_is_sorted}
 use Rattle.ats_lists.proofs.WholeLemmas.{list_keeps, list_frequency}
 use Rattle.ats_dict.specs.Entry.{dict_leaf_bytes}
-use Rattle.ats_dict.specs.Dictionary.{dict_leaves, IsBelow}
+use Rattle.ats_dict.specs.Dictionary.{dict_leaves}
 use Rattle.ats_records.specs.declared.record.Slot.{Slot}
 use Rattle.ats_commit.specs.Trees.{dictionary_of}
 use Rattle.ats_commit.specs.Ours.{asked_term}
@@ -32,12 +32,13 @@ use Rattle.ats_proof.specs.Value.{ShownEntry, Prefix, Proof, present_in}
 use Rattle.ats_proof.specs.Runs.{named, shown_entry, shown_list}
 use Rattle.ats_proof.specs.Ranges.{IsShownInRange, IsEntryInRange, IsPrefixInRange, IsInRange}
 use Rattle.ats_client.specs.Presented.{Presented, presented, lane_of}
-use Rattle.ats_client.specs.Slots.{Shown, IsBetween, ShowsTerm}
+use Rattle.ats_client.specs.Slots.{entry_shown, ShowsTerm}
 use Rattle.ats_client.specs.Groups.{IsListRight, AreSlotsRight, dict_terms, met_at}
 use Rattle.ats_client.specs.Strings.{AreLeavesOf, IsOwnList}
 use Rattle.ats_client.proofs.Presents.{at_front, at_place}
 use Rattle.ats_client.proofs.Slotted.{slot_shows}
-use Rattle.ats_client.proofs.Descent.{IsAsked, asked-terms, entry-own, leaf_own, leaf_shown, pair_is}
+use Rattle.ats_client.proofs.Descent.{IsAsked, asked-terms, entry-own, pair_is}
+use Rattle.ats_client.proofs.Leaves.{leaf_own, absent_leaves}
 use Rattle.ats_client.proofs.Listed.{names_inside}
 use Rattle.ats_client.proofs.HeadlineTerms.{each_presented, sum_presented}
 
@@ -96,26 +97,21 @@ module _ (H : List ℕ → List ℕ) (texts : List (List ℕ)) (query : List (Li
   absent_none i pair slot at spot absent =
       let shows = subst (λ (t : List ℕ). ShowsTerm (dict_terms proof.dict) t slot) (pair_is query asked i pair at).2
       (slot_shows query proof i slot spot (right i (slice_get_within query i pair at))) in
-      let here : IsBetween (dict_terms proof.dict) pair.0 slot.index = rw absent at shows in
-      let below = leaf_shown proof.dict slot.index here.lower here.there in
-      let above = leaf_shown proof.dict (slot.index + 1) here.upper here.next in
-      let lower : ShownEntry = below.0 in
-      let upper : ShownEntry = above.0 in
-      let lower_range : IsShownInRange lower = at_place IsShownInRange proof.dict slot.index lower range.terms.each below.1 in
-      let upper_range : IsShownInRange upper = at_place IsShownInRange proof.dict (slot.index + 1) upper range.terms.each above.1 in
-      let next : upper.position ≡ lower.position + 1 =
-      ap (λ (s : Shown). s.position) above.2 ∙ here.neighbours ∙ ap (λ (s : Shown). s.position + 1) (sym below.2) in
-      let upper_own = subst (λ p. slice_get (dict_leaves (dictionary_of H texts)) p ≡ Some (dict_leaf_bytes upper.entry.term upper.entry.f upper.entry.root)) next
-      (leaf_own H texts proof.dict (slot.index + 1) upper terms_own above.1) in
-      let neighbours : AreNeighbours (dict_leaves (dictionary_of H texts)) lower.position lower.entry upper.entry = record {
+      let around = absent_leaves entry_shown proof.dict pair.0 slot shows absent in
+      let lower : ShownEntry = around.0 in
+      let upper : ShownEntry = around.1 in
+      let leaves : List (List ℕ) = dict_leaves (dictionary_of H texts) in
+      let lower_range : IsShownInRange lower = at_place IsShownInRange proof.dict slot.index lower range.terms.each around.2.first in
+      let upper_range : IsShownInRange upper = at_place IsShownInRange proof.dict (slot.index + 1) upper range.terms.each around.2.second in
+      let neighbours : AreNeighbours leaves lower.position lower.entry upper.entry = record {
         first_small = lower_range.number;
         second_small = upper_range.number;
-        first = leaf_own H texts proof.dict slot.index lower terms_own below.1;
-        second = upper_own;
+        first = leaf_own shown_entry leaves proof.dict slot.index lower terms_own around.2.first;
+        second =
+            subst (λ p. slice_get leaves p ≡ Some (dict_leaf_bytes upper.entry.term upper.entry.f upper.entry.root)) around.2.neighbours
+            (leaf_own shown_entry leaves proof.dict (slot.index + 1) upper terms_own around.2.second);
       } in
-      (neighbours_tell H texts are lower.position lower.entry upper.entry pair.0 neighbours
-      (subst (λ t. IsBelow t pair.0) (ap (λ (s : Shown). s.term) (sym below.2)) here.above)
-      (subst (λ t. IsBelow pair.0 t) (ap (λ (s : Shown). s.term) (sym above.2)) here.below)).0
+      (neighbours_tell H texts are lower.position lower.entry upper.entry pair.0 neighbours around.2.above around.2.below).0
 
   -- ---- the present terms
 

@@ -8,12 +8,13 @@ use Rattle.std.proofs.lemmas.List.Sums.{sum_by-cons, sum_by-append}
 use Rattle.std.proofs.Math.ListN.{drop_of_length-le}
 use Rattle.ats_bound.specs.declared.work.Mark.{Mark}
 use Rattle.ats_bound.specs.Work.{mark_at, zero_mark}
-use Rattle.ats_bound.specs.Cut.{rest, threshold}
+use Rattle.ats_bound.specs.Cut.{rest, threshold, lower, held, bracket}
+use Rattle.ats_bound.proofs.Scores.{held_or_missing}
 use Rattle.ats_proof.specs.Value.{Proof, Prefix, present_in}
 use Rattle.ats_client.specs.declared.refusal.Refusal.{Refusal}
 use Rattle.ats_client.specs.Presented.{Presented, presented, presented_from, lanes_of}
 use Rattle.ats_client.specs.Indexes.{AreNames}
-use Rattle.ats_client.specs.Groups.{IsListRight, IsListFault, IsListsFault, indexes_of}
+use Rattle.ats_client.specs.Groups.{IsListRight, IsListFault, IsListsFault, indexes_of, met_at}
 use Rattle.ats_client.specs.Marked.{AreMarks, AreNoted}
 use Rattle.ats_client.specs.Noting.{Note, AreNotes, IsNoted, index_lane, lane_notes, notes_of}
 use Rattle.ats_client.proofs.Lanes.{gain_all, cover_all, has_all, rests_all}
@@ -145,7 +146,7 @@ named_of : (H : List ℕ → List ℕ) (met : List ℕ) (terms : List Presented)
 named_of H met terms all k d low = (all k d low).names
 
 pub marks_done : (H : List ℕ → List ℕ) (query : List (List ℕ × ℕ)) (proof : Proof) (limit : ℕ) (marks : List Mark) → IsStrictlyIncreasing proof.met
-    → IsDone H query proof limit marks → AreMarks (lanes_of query proof) proof.met marks
+    → IsDone H query proof limit marks → AreMarks bracket (lanes_of query proof) proof.met marks
 marks_done H query proof limit marks rises d =
     let n : ℕ = proof.header.documents in
     let terms : List Presented = presented query proof in
@@ -158,9 +159,13 @@ marks_done H query proof limit marks rises d =
           let is = notes.each i low in
           let lo = is.small_lo in
           let early = is.early in
+          let doc : ℕ = met_at proof.met i in
+          let least : (mark_at marks i).lo ≡ lower (lanes_of query proof) doc = is.least ∙ gain_all n proof.met rises i low terms all in
+          let cover : (mark_at marks i).held ≡ held (lanes_of query proof) doc = is.cover ∙ cover_all n proof.met rises i low terms all in
           record {
-            least = is.least ∙ gain_all n proof.met rises i low terms all;
-            cover = is.cover ∙ cover_all n proof.met rises i low terms all;
+            least = least;
+            within = omega (arith, cover, held_or_missing (lanes_of query proof) doc);
+            most = omega (arith, least, cover, held_or_missing (lanes_of query proof) doc);
             named = is.met ∙ has_all n proof.met rises i low terms all;
             small = omega arith;
           };

@@ -1,27 +1,34 @@
 -- When a proof is accepted, and else by which rule it is refused.
-use Rattle.std.specs.Prelude.{◌⊎◌, ℕ, List}
-use Rattle.ats_proof.specs.Value.{Proof}
+use Rattle.std.specs.Prelude.{◌≡◌, ℕ, List, [], ◌∷◌}
+use Rattle.ats_records.specs.declared.record.Algorithm.TheVariants.{Tnra}
+use Rattle.ats_proof.specs.Value.{Proof, algorithm_of}
 use Rattle.ats_client.specs.declared.refusal.Refusal.{Refusal}
 use Rattle.ats_client.specs.Presented.{lanes_of}
+use Rattle.ats_client.specs.Bracketing.{bounds_of}
+use Rattle.ats_client.specs.Rules.{Group, AreKept, IsFirstFault}
 use Rattle.ats_client.specs.Groups.{IsOpened, IsOpeningFault, IsDictionary, IsDictFault, AreSlotsRight, IsSlotsFault, AreListsRight, IsListsFault, AreAllMet, IsMetFault, AreRowsRight, IsRowsFault, IsAnswerSettled, IsSettledFault}
 
--- all rules hold of a proof that shows lists alone
-pub record Accepts (H : List ℕ → List ℕ) (root : List ℕ) (query : List (List ℕ × ℕ)) (r : ℕ) (proof : Proof) : Type 0 where
-  pub opened : IsOpened H root query proof
-  pub dictionary : IsDictionary H proof
-  pub slots : AreSlotsRight query proof
-  pub lists : AreListsRight H query proof
-  pub met : AreAllMet (lanes_of query proof) proof.met
-  pub rows : AreRowsRight proof.met proof.answer
-  pub settled : IsAnswerSettled (lanes_of query proof) proof.met proof.answer r
+-- the rules of a proof, in their order
+abbrev pub rules : (List ℕ → List ℕ) → List ℕ → List (List ℕ × ℕ) → ℕ → Proof → List (Group Refusal)
+rules H root query r proof =
+    record { kept = IsOpened H root query proof; fault = IsOpeningFault H root query proof }
+    ∷ record { kept = IsDictionary H proof; fault = IsDictFault H proof }
+    ∷ record { kept = AreSlotsRight query proof; fault = IsSlotsFault query proof }
+    ∷ record { kept = AreListsRight H query proof; fault = IsListsFault H query proof }
+    ∷ record { kept = AreAllMet (lanes_of query proof) proof.met; fault = IsMetFault (lanes_of query proof) proof.met }
+    ∷ record { kept = AreRowsRight proof.met proof.answer; fault = IsRowsFault proof.met proof.answer }
+    ∷ record {
+      kept = IsAnswerSettled (bounds_of proof) (lanes_of query proof) proof.met proof.answer r;
+      fault = IsSettledFault (bounds_of proof) (lanes_of query proof) proof.met proof.answer r;
+    }
+    ∷ []
 
--- the first group that is not kept, with its first failure: all groups before it are kept
-abbrev pub IsFirstRefusal : (List ℕ → List ℕ) → List ℕ → List (List ℕ × ℕ) → ℕ → Proof → Refusal → Type 0
-IsFirstRefusal H root query r proof refusal =
-    IsOpeningFault H root query proof refusal
-    ⊎ (IsOpened H root query proof × (IsDictFault H proof refusal
-    ⊎ (IsDictionary H proof × (IsSlotsFault query proof refusal
-    ⊎ (AreSlotsRight query proof × (IsListsFault H query proof refusal
-    ⊎ (AreListsRight H query proof × (IsMetFault (lanes_of query proof) proof.met refusal
-    ⊎ (AreAllMet (lanes_of query proof) proof.met × (IsRowsFault proof.met proof.answer refusal
-    ⊎ (AreRowsRight proof.met proof.answer × IsSettledFault (lanes_of query proof) proof.met proof.answer r refusal)))))))))))
+-- all rules are kept. Of a proof that shows documents too this is not said: such a proof is not checked.
+pub record Accepts (H : List ℕ → List ℕ) (root : List ℕ) (query : List (List ℕ × ℕ)) (r : ℕ) (proof : Proof) : Type 0 where
+  pub walk : algorithm_of proof ≡ Tnra
+  pub kept : AreKept (rules H root query r proof)
+
+-- the first rule that is not kept
+pub record IsFirstRefusal (H : List ℕ → List ℕ) (root : List ℕ) (query : List (List ℕ × ℕ)) (r : ℕ) (proof : Proof) (refusal : Refusal) : Type 0 where
+  pub walk : algorithm_of proof ≡ Tnra
+  pub first : IsFirstFault (rules H root query r proof) refusal

@@ -1,5 +1,5 @@
 -- The rules of a proof, group by group: when a group is kept, and else its first failure.
-use Rattle.std.specs.Prelude.{◌≡◌, ◌≢◌, ◌⊎◌, ◌<◌, ◌∷◌, ◌++◌, ℕ, List, [], length, map, slice_index_or, Option, Some, None, false}
+use Rattle.std.specs.Prelude.{◌≡◌, ◌≢◌, ◌<◌, ◌∷◌, ◌++◌, ℕ, List, [], length, map, slice_index_or, Option, Some, None, false}
 use Rattle.std.specs.List.{All}
 use Rattle.ats_tree.specs.Rebuild.{rebuilt}
 use Rattle.ats_lists.specs.declared.entry.Entry.{Entry}
@@ -7,14 +7,16 @@ use Rattle.ats_dict.specs.Header.{header_bytes}
 use Rattle.ats_dict.specs.declared.header.Header.{Header}
 use Rattle.ats_records.specs.declared.record.Slot.{Slot}
 use Rattle.ats_bound.specs.declared.bracket.Bracket.{Bracket}
-use Rattle.ats_bound.specs.Cut.{ShownLane, IsMet, threshold, bracket}
+use Rattle.ats_bound.specs.Cut.{ShownLane, IsMet, threshold}
+use Rattle.ats_bound.specs.Schedule.{Bounding}
 use Rattle.ats_bound.specs.Settled.{IsSettled}
 use Rattle.ats_proof.specs.Value.{ShownEntry, Proof}
 use Rattle.ats_proof.specs.Runs.{shown_entry, shown_list}
 use Rattle.ats_client.specs.declared.refusal.Refusal.{Refusal}
 use Rattle.ats_client.specs.declared.refusal.Refusal.TheVariants.{OtherRoot, SlotCount, DictMisfit, DictRoot, SlotWrong, IndexOut, Repeated, ListMisfit, ListRoot, Unmet, AnswerOut, AnswerRepeated, NotSettled}
+use Rattle.ats_client.specs.Rules.{Group, IsFirstFault}
 use Rattle.ats_client.specs.Presented.{Presented, presented}
-use Rattle.ats_client.specs.Slots.{Shown, ShowsTerm}
+use Rattle.ats_client.specs.Slots.{Shown, entry_shown, ShowsTerm}
 use Rattle.ats_client.specs.Indexes.{AreNames, IsOut, IsAgain}
 
 -- there is a digest, but another one than this
@@ -62,7 +64,7 @@ slot_at slots i = slice_index_or slots i (record { present = false; index = 0 })
 
 -- the shown leaves of the dictionary, by position and term
 abbrev pub dict_terms : List ShownEntry → List Shown
-dict_terms dict = map (λ (e : ShownEntry). record { position = e.position; term = e.entry.term }) dict
+dict_terms dict = map entry_shown dict
 
 abbrev pub IsSlotRight : List (List ℕ × ℕ) → Proof → ℕ → Type 0
 IsSlotRight query proof i = ShowsTerm (dict_terms proof.dict) (term_at query i) (slot_at proof.slots i)
@@ -90,10 +92,14 @@ indexes_of entries = map (λ (entry : Entry). entry.doc) entries
 abbrev pub list_digest : (List ℕ → List ℕ) → List ℕ → Presented → Option (List ℕ)
 list_digest H met term = rebuilt H term.entry.f (shown_list 0 met term.prefix.entries) term.prefix.digests
 
--- its entries name met documents, each once, and it is the front of the list in the dictionary
+-- it is the front of the list in the dictionary
+abbrev pub IsListRooted : (List ℕ → List ℕ) → List ℕ → Presented → Type 0
+IsListRooted H met term = list_digest H met term ≡ Some term.entry.root
+
+-- its entries name met documents, each once, and it is the front of that list
 pub record IsListRight (H : List ℕ → List ℕ) (met : List ℕ) (term : Presented) : Type 0 where
   pub names : AreNames (length met) (indexes_of term.prefix.entries)
-  pub root : list_digest H met term ≡ Some term.entry.root
+  pub root : IsListRooted H met term
 
 abbrev pub AreListsRight : (List ℕ → List ℕ) → List (List ℕ × ℕ) → Proof → Type 0
 AreListsRight H query proof = All (IsListRight H proof.met) (presented query proof)
@@ -110,11 +116,15 @@ IsListRootFault H met one (ListMisfit term) = (term ≡ one.number) × (list_dig
 IsListRootFault H met one (ListRoot term) = (term ≡ one.number) × IsOther (list_digest H met one) one.entry.root
 IsListRootFault H met one _ = ⊥
 
--- the first failure of one present term: its entries come before its digest
+-- the rules of one present term: its entries come before its digest
+abbrev pub list_rules : (List ℕ → List ℕ) → List ℕ → Presented → List (Group Refusal)
+list_rules H met one =
+    record { kept = AreNames (length met) (indexes_of one.prefix.entries); fault = IsEntryFault (length met) one }
+    ∷ record { kept = IsListRooted H met one; fault = IsListRootFault H met one }
+    ∷ []
+
 abbrev pub IsListFault : (List ℕ → List ℕ) → List ℕ → Presented → Refusal → Type 0
-IsListFault H met one refusal =
-    IsEntryFault (length met) one refusal
-    ⊎ (AreNames (length met) (indexes_of one.prefix.entries) × IsListRootFault H met one refusal)
+IsListFault H met one refusal = IsFirstFault (list_rules H met one) refusal
 
 -- the first failure of the present terms, term by term
 pub record IsListsFault (H : List ℕ → List ℕ) (query : List (List ℕ × ℕ)) (proof : Proof) (refusal : Refusal) : Type 0 where
@@ -159,13 +169,13 @@ IsRowsFault met answer _ = ⊥
 -- ---- whether the answer is settled
 
 -- the brackets of the met documents, in their order
-abbrev pub brackets_of : List ShownLane → List ℕ → List Bracket
-brackets_of lanes met = map (bracket lanes) met
+abbrev pub brackets_of : Bounding → List ShownLane → List ℕ → List Bracket
+brackets_of bounds lanes met = map (bounds lanes) met
 
 -- the answer is settled by what is shown
-abbrev pub IsAnswerSettled : List ShownLane → List ℕ → List ℕ → ℕ → Type 0
-IsAnswerSettled lanes met answer r = IsSettled (brackets_of lanes met) answer (threshold lanes) r
+abbrev pub IsAnswerSettled : Bounding → List ShownLane → List ℕ → List ℕ → ℕ → Type 0
+IsAnswerSettled bounds lanes met answer r = IsSettled (brackets_of bounds lanes met) answer (threshold lanes) r
 
-abbrev pub IsSettledFault : List ShownLane → List ℕ → List ℕ → ℕ → Refusal → Type 0
-IsSettledFault lanes met answer r NotSettled = ¬ IsAnswerSettled lanes met answer r
-IsSettledFault lanes met answer r _ = ⊥
+abbrev pub IsSettledFault : Bounding → List ShownLane → List ℕ → List ℕ → ℕ → Refusal → Type 0
+IsSettledFault bounds lanes met answer r NotSettled = ¬ IsAnswerSettled bounds lanes met answer r
+IsSettledFault bounds lanes met answer r _ = ⊥

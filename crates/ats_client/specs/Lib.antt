@@ -1,14 +1,16 @@
 pub mod Presented
 pub mod Slots
 pub mod Indexes
+pub mod Rules
 pub mod Groups
+pub mod Bracketing
 pub mod Accepts
 pub mod Marked
 pub mod Rows
 pub mod Seen
-pub mod Walked
 pub mod Noting
 pub mod Lists
 pub mod Bounds
 pub mod Strings
 pub mod Headline
+pub mod Bytes

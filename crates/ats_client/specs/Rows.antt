@@ -4,22 +4,23 @@ use Rattle.std.specs.List.{All}
 use Rattle.ats_impact.specs.declared.rank.Row.{Row}
 use Rattle.ats_bound.specs.declared.bracket.Bracket.{Bracket}
 use Rattle.ats_bound.specs.declared.work.Mark.{Mark}
-use Rattle.ats_bound.specs.Cut.{bracket, threshold}
+use Rattle.ats_bound.specs.Cut.{threshold}
 use Rattle.ats_proof.specs.Value.{Proof}
 use Rattle.ats_client.specs.Presented.{lanes_of}
 use Rattle.ats_client.specs.Groups.{met_at}
+use Rattle.ats_client.specs.Bracketing.{bounds_of}
 use Rattle.ats_client.specs.Marked.{AreMarks}
 
 -- the marks of the met documents, the threshold, and rows that name met documents
 pub record IsLeft (query : List (List ℕ × ℕ)) (proof : Proof) (marks : List Mark) (limit : ℕ) : Type 0 where
-  pub each : AreMarks (lanes_of query proof) proof.met marks
+  pub each : AreMarks (bounds_of proof) (lanes_of query proof) proof.met marks
   pub rests : limit ≡ threshold (lanes_of query proof)
   pub small : limit < 2 ^ 48
   pub inside : All (λ index. index < length proof.met) proof.answer
 
 -- the bracket of a row's document
 abbrev pub row_bracket : List (List ℕ × ℕ) → Proof → ℕ → Bracket
-row_bracket query proof i = bracket (lanes_of query proof) (met_at proof.met (slice_index proof.answer i))
+row_bracket query proof i = bounds_of proof (lanes_of query proof) (met_at proof.met (slice_index proof.answer i))
 
 -- a document with what it scores at least and at most
 abbrev pub row_of : Bracket → Row
@@ -27,4 +28,4 @@ row_of b = record { doc = b.doc; lower = b.lo; upper = b.hi }
 
 -- the rows of the answer: each document with what it scores at least and at most
 abbrev pub rows_of : List (List ℕ × ℕ) → Proof → List Row
-rows_of query proof = map (λ index. row_of (bracket (lanes_of query proof) (met_at proof.met index))) proof.answer
+rows_of query proof = map (λ index. row_of (bounds_of proof (lanes_of query proof) (met_at proof.met index))) proof.answer

@@ -2,11 +2,16 @@
 use Rattle.std.specs.Prelude.{◌≡◌, ◌+◌, ℕ, Bool, true, false, List, Some, slice_get}
 use Rattle.ats_dict.specs.Dictionary.{IsBelow}
 use Rattle.ats_records.specs.declared.record.Slot.{Slot}
+use Rattle.ats_proof.specs.Value.{ShownEntry}
 
 -- a shown leaf: its position in the tree, and its term
 pub record Shown : Type 0 where
   pub position : ℕ
   pub term : List ℕ
+
+-- a shown leaf of the dictionary
+abbrev pub entry_shown : ShownEntry → Shown
+entry_shown e = record { position = e.position; term = e.entry.term }
 
 -- the leaf at this place has the term
 pub record IsAt (leaves : List Shown) (term : List ℕ) (place : ℕ) : Type 0 where

@@ -8,6 +8,7 @@ ghost use Rattle.ats_bound.specs.Cut.{threshold};
 ghost use Rattle.ats_proof.specs.Value.{algorithm_of};
 ghost use Rattle.ats_proof.specs.Views.{proof_of};
 ghost use Rattle.ats_client.specs.Presented.{lanes_of};
+ghost use Rattle.ats_client.specs.Bracketing.{bounds_of};
 ghost use Rattle.ats_client.specs.Accepts.{Accepts, IsFirstRefusal};
 ghost use Rattle.ats_client.specs.Marked.{AreMarks};
 ghost use Rattle.ats_client.specs.Rows.{IsLeft};
@@ -35,12 +36,13 @@ fn checked<'a, H: Hash32>(
     work: &mut Work,
     steps: &mut Steps,
 ) -> Result<u64, Refusal>
+    requires algorithm { algorithm_of (proof_of proof.now) ≡ Tnra }
     requires work { length (proof_of proof.now).met ≤ work.old.room }
     requires count { steps.old ≤ 2 ^ 62 }
     ensures accepts { OnOk result (Accepts H.hash root.now query.now top (proof_of proof.now)) }
     ensures asked { OnOk result (IsQuery query.now) }
     ensures limit { IfOk result (λ limit. limit ≡ threshold (lanes_of query.now (proof_of proof.now))) }
-    ensures marks { OnOk result (AreMarks (lanes_of query.now (proof_of proof.now)) (proof_of proof.now).met work.new.marks) }
+    ensures marks { OnOk result (AreMarks (bounds_of (proof_of proof.now)) (lanes_of query.now (proof_of proof.now)) (proof_of proof.now).met work.new.marks) }
     ensures left { IfOk result (λ limit. IsLeft query.now (proof_of proof.now) work.new.marks limit) }
     ensures refused { IfErr result (λ refusal. IsFirstRefusal H.hash root.now query.now top (proof_of proof.now) refusal) }
     ensures room { work.new.room ≡ work.old.room }
@@ -77,7 +79,7 @@ pub fn check<'a, H: Hash32>(
     ensures headline { OnOk result (IsTopOrCollides H.hash root.now query.now top (proof_of proof.now)) }
     ensures exact { Accepts H.hash root.now query.now top (proof_of proof.now) → IsOk result }
     ensures limit { IfOk result (λ limit. limit ≡ threshold (lanes_of query.now (proof_of proof.now))) }
-    ensures marks { OnOk result (AreMarks (lanes_of query.now (proof_of proof.now)) (proof_of proof.now).met work.new.marks) }
+    ensures marks { OnOk result (AreMarks (bounds_of (proof_of proof.now)) (lanes_of query.now (proof_of proof.now)) (proof_of proof.now).met work.new.marks) }
     ensures left { IfOk result (λ limit. IsLeft query.now (proof_of proof.now) work.new.marks limit) }
     ensures refused { IfErr result (λ refusal. IsFirstRefusal H.hash root.now query.now top (proof_of proof.now) refusal) }
     ensures room { work.new.room ≡ work.old.room }

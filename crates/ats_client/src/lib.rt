@@ -1,18 +1,20 @@
 //! The check of a proof: whoever holds the root of a collection learns whether an answer is right.
 //!
-//! A proof shows parts of the dictionary and of the lists of a query's terms. [`check`] rebuilds each part
-//! up to the root, and from what the lists show it tries whether the answer is settled; [`row`] then tells
-//! each document of the answer with its bounds.
+//! [`verify`] goes from the bytes of a proof to the rows of its answer, or to the first thing that is wrong
+//! with them. A proof shows parts of the dictionary and of the lists of a query's terms. [`check`] rebuilds
+//! each part up to the root, and from what the lists show it tries whether the answer is settled; [`row`]
+//! then tells each document of the answer with its bounds. These two take no memory.
 //! The room stands on the proof that `ats_proof` sees in its bytes, on the trees of `ats_tree`, and on the
 //! cuts and settled answers of `ats_bound`. It promises that a proof is accepted exactly where all rules of
-//! `specs/Accepts.antt` hold, else refused by the first that fails, that it takes no memory, and that an
-//! accepted answer is a top answer for each collection with the root, or two different strings with equal
-//! digests are in hand (`specs/Headline.antt`). In which passes leaves and entries are read, and what the
-//! marks note beside the bounds, may change without asking.
+//! `specs/Accepts.antt` hold, else refused by the first that fails, and that an accepted answer is a top
+//! answer for each collection with the root, or two different strings with equal digests are in hand
+//! (`specs/Headline.antt`). In which passes leaves and entries are read, and what the marks note beside the
+//! bounds, may change without asking.
 #![tactic(auto)]
 
 mod answer;
 mod checking;
+mod fault;
 mod laws;
 mod leaf;
 mod listing;
@@ -26,16 +28,20 @@ mod present;
 mod presenting;
 mod refusal;
 mod rows;
+mod section;
 mod settled;
 mod slots;
 #[cfg(test)]
 mod tests;
+mod verifying;
 mod walk;
 
 pub use answer::row;
 pub use checking::check;
+pub use fault::VerifyFault;
 pub use laws::{
     accepted_answers_are_top, own_leaves_make_rows_right, proofs_have_one_refusal,
     shown_leaves_are_bound,
 };
 pub use refusal::Refusal;
+pub use verifying::verify;

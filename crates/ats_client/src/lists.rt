@@ -1,7 +1,7 @@
 //! The prefixes of all present terms.
 
 ghost use Rattle.std.specs.Prelude.{◌≡◌, ◌<◌, ◌≤◌, ◌+◌, ◌^◌, [], length, OnOk, IfOk, IfErr};
-ghost use Rattle.ats_bound.specs.Cut.{threshold};
+ghost use Rattle.ats_bound.specs.Cut.{bracket, threshold};
 ghost use Rattle.ats_proof.specs.Views.{proof_of};
 ghost use Rattle.ats_client.specs.Presented.{lanes_of};
 ghost use Rattle.ats_client.specs.Groups.{AreSlotsRight, AreListsRight, IsListsFault};
@@ -10,7 +10,7 @@ ghost use Rattle.ats_client.specs.Marked.{AreMarks, AreNoted};
 use crate::listing::list;
 use crate::presenting::present;
 use crate::refusal::Refusal;
-use crate::walk::DictWalk;
+use crate::walk::Walk;
 use ats_bound::Work;
 use ats_hash::{Hash32, Steps};
 use ats_proof::ProofView;
@@ -30,7 +30,7 @@ pub(crate) fn lists<'a, H: Hash32>(
     requires room { steps.old ≤ 2 ^ 62 + 2 ^ 42 }
     ensures fault { IfErr result (IsListsFault H.hash query.now (proof_of proof.now)) }
     ensures right { OnOk result (AreListsRight H.hash query.now (proof_of proof.now)) }
-    ensures marks { OnOk result (AreMarks (lanes_of query.now (proof_of proof.now)) (proof_of proof.now).met work.new.marks) }
+    ensures marks { OnOk result (AreMarks bracket (lanes_of query.now (proof_of proof.now)) (proof_of proof.now).met work.new.marks) }
     ensures free { OnOk result (AreNoted [] work.new.marks) }
     ensures rest { IfOk result (λ limit. limit ≡ threshold (lanes_of query.now (proof_of proof.now))) }
     ensures small { IfOk result (λ limit. limit < 2 ^ 48) }
@@ -38,7 +38,7 @@ pub(crate) fn lists<'a, H: Hash32>(
     ensures cost { steps.new ≤ steps.old + 2 ^ 42 }
 {
     work.begin(proof.met(), steps);
-    let mut walk = DictWalk::new(proof);
+    let mut walk = Walk::over(proof.dict());
     let mut left = proof.lists();
     let mut limit = 0;
     for i in 0..query.len() {

@@ -6,12 +6,12 @@ ghost use Rattle.ats_proof.specs.Views.{proof_of};
 ghost use Rattle.ats_client.specs.Presented.{presented_from};
 ghost use Rattle.ats_client.specs.Groups.{IsSlotRight};
 ghost use Rattle.ats_client.specs.Lists.{prefix_of, prefixes_left, presented_of};
-ghost use Rattle.ats_client.specs.Walked.{dict_of};
+ghost use Rattle.ats_client.specs.Seen.{entries_left};
 
 use crate::present::Present;
-use crate::walk::DictWalk;
+use crate::walk::Walk;
 use ats_hash::Steps;
-use ats_proof::{ListView, ListsView, ProofView};
+use ats_proof::{DictView, ListView, ListsView, ProofView};
 use ats_terms::Query;
 
 // The first prefix left.
@@ -30,14 +30,14 @@ pub(crate) fn present<'a>(
     query: &Query,
     proof: &ProofView<'a>,
     i: u32,
-    walk: &mut DictWalk<'a>,
+    walk: &mut Walk<DictView<'a>>,
     left: &mut ListsView<'a>,
     steps: &mut Steps,
 ) -> Option<Present<'a>>
     requires inside { i < length query.now }
     requires each { length (proof_of proof.now).slots ≡ length query.now }
     requires right { IsSlotRight query.now (proof_of proof.now) i }
-    requires dict { dict_of walk.old ≡ (proof_of proof.now).dict }
+    requires dict { entries_left walk.old.all ≡ (proof_of proof.now).dict }
     requires enough { present_in (drop i (proof_of proof.now).slots) ≡ length (prefixes_left left.old) }
     requires room { steps.old ≤ 2 ^ 62 + 2 ^ 45 }
     ensures some { IfSome result (λ one. presented_from (proof_of proof.now).dict i (drop i query.now) (drop i (proof_of proof.now).slots) (prefixes_left left.old)
@@ -46,7 +46,7 @@ pub(crate) fn present<'a>(
     ensures none { IfNone result (presented_from (proof_of proof.now).dict i (drop i query.now) (drop i (proof_of proof.now).slots) (prefixes_left left.old)
         ≡ presented_from (proof_of proof.now).dict (i + 1) (drop (i + 1) query.now) (drop (i + 1) (proof_of proof.now).slots) (prefixes_left left.new)) }
     ensures enough { present_in (drop (i + 1) (proof_of proof.now).slots) ≡ length (prefixes_left left.new) }
-    ensures dict { dict_of walk.new ≡ dict_of walk.old }
+    ensures dict { walk.new.all ≡ walk.old.all }
     ensures cost { steps.new ≤ steps.old + 2 ^ 17 }
 {
     let slot = proof.slot(i, steps);

@@ -2,6 +2,7 @@
 
 ghost use Rattle.std.specs.Prelude.{◌≡◌, ◌+◌, ◌*◌, ◌<◌, ◌≤◌, ◌^◌, List, [], length, take, OnOk, IfErr};
 ghost use Rattle.ats_bound.specs.Cut.{ShownLane};
+ghost use Rattle.ats_bound.specs.Schedule.{Bounding};
 ghost use Rattle.ats_proof.specs.Views.{proof_of};
 ghost use Rattle.ats_client.specs.Indexes.{AreNames};
 ghost use Rattle.ats_client.specs.Groups.{AreRowsRight, IsRowsFault};
@@ -28,7 +29,7 @@ fn read_row(
     ensures noted { OnOk result (AreNoted (take (row + 1) (proof_of proof.now).answer) work.new.marks) }
     ensures fault { IfErr result (λ refusal. IsRowsFault (proof_of proof.now).met (proof_of proof.now).answer refusal) }
     ensures size { length work.new.marks ≡ length work.old.marks }
-    ensures marks { (lanes : List ShownLane) → AreMarks lanes (proof_of proof.now).met work.old.marks → AreMarks lanes (proof_of proof.now).met work.new.marks }
+    ensures marks { (bounds : Bounding) (lanes : List ShownLane) → AreMarks bounds lanes (proof_of proof.now).met work.old.marks → AreMarks bounds lanes (proof_of proof.now).met work.new.marks }
     ensures room { work.new.room ≡ work.old.room }
     ensures least { steps.old ≤ steps.new }
     ensures most { steps.new ≤ steps.old + 3 }
@@ -55,7 +56,7 @@ pub(crate) fn rows(proof: &ProofView<'_>, work: &mut Work, steps: &mut Steps) ->
     ensures noted { OnOk result (AreNoted (proof_of proof.now).answer work.new.marks) }
     ensures fault { IfErr result (λ refusal. IsRowsFault (proof_of proof.now).met (proof_of proof.now).answer refusal) }
     ensures size { length work.new.marks ≡ length work.old.marks }
-    ensures marks { (lanes : List ShownLane) → AreMarks lanes (proof_of proof.now).met work.old.marks → AreMarks lanes (proof_of proof.now).met work.new.marks }
+    ensures marks { (bounds : Bounding) (lanes : List ShownLane) → AreMarks bounds lanes (proof_of proof.now).met work.old.marks → AreMarks bounds lanes (proof_of proof.now).met work.new.marks }
     ensures room { work.new.room ≡ work.old.room }
     ensures least { steps.old ≤ steps.new }
     ensures most { steps.new ≤ steps.old + 3 * length (proof_of proof.now).answer }

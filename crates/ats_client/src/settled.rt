@@ -3,6 +3,7 @@
 ghost use Rattle.std.specs.Prelude.{◌≡◌, ◌⊎◌, ◌↔◌, ◌+◌, ◌*◌, ◌≤◌, ◌<◌, ◌^◌, ℕ, List, length, IsTrue, MatchOption};
 ghost use Rattle.std.specs.List.{All};
 ghost use Rattle.ats_bound.specs.Cut.{ShownLane, threshold};
+ghost use Rattle.ats_bound.specs.Schedule.{Bounding};
 ghost use Rattle.ats_proof.specs.Views.{proof_of};
 ghost use Rattle.ats_client.specs.Bounds.{upper, AreBelow, lower_before, AreFalling, IsRestWithin};
 ghost use Rattle.ats_client.specs.Groups.{AreRowsRight, IsAnswerSettled};
@@ -83,13 +84,13 @@ pub(crate) fn settled(
     top: Top,
     steps: &mut Steps,
 ) -> bool
-    requires marks { (lanes : List ShownLane) × AreMarks lanes (proof_of proof.now).met work.now.marks × (limit ≡ threshold lanes) }
+    requires marks { (bounds : Bounding) × (lanes : List ShownLane) × AreMarks bounds lanes (proof_of proof.now).met work.now.marks × (limit ≡ threshold lanes) }
     requires small { limit < 2 ^ 48 }
     requires rows { AreRowsRight (proof_of proof.now).met (proof_of proof.now).answer }
     requires noted { AreNoted (proof_of proof.now).answer work.now.marks }
     requires count { steps.old ≤ 2 ^ 62 + 2 ^ 50 }
-    ensures settled { (lanes : List ShownLane) → AreMarks lanes (proof_of proof.now).met work.now.marks → limit ≡ threshold lanes
-        → (IsTrue result ↔ IsAnswerSettled lanes (proof_of proof.now).met (proof_of proof.now).answer top) }
+    ensures settled { (bounds : Bounding) (lanes : List ShownLane) → AreMarks bounds lanes (proof_of proof.now).met work.now.marks → limit ≡ threshold lanes
+        → (IsTrue result ↔ IsAnswerSettled bounds lanes (proof_of proof.now).met (proof_of proof.now).answer top) }
     ensures least { steps.old ≤ steps.new }
     ensures most { steps.new ≤ steps.old + 2 * length (proof_of proof.now).answer + length (proof_of proof.now).met }
 {

@@ -5,7 +5,7 @@ ghost use Rattle.ats_proof.specs.Views.{proof_of};
 ghost use Rattle.ats_client.specs.Groups.{AreSlotsRight, IsSlotsFault};
 
 use crate::refusal::Refusal;
-use crate::walk::DictWalk;
+use crate::walk::Walk;
 use ats_hash::Steps;
 use ats_proof::ProofView;
 use ats_terms::Query;
@@ -18,7 +18,7 @@ pub(crate) fn slots(query: &Query, proof: &ProofView<'_>, steps: &mut Steps) -> 
     ensures fault { IfErr result (IsSlotsFault query.now (proof_of proof.now)) }
     ensures cost { steps.new ≤ steps.old + 2 ^ 24 }
 {
-    let mut walk = DictWalk::new(proof);
+    let mut walk = Walk::over(proof.dict());
     for i in 0..query.len() {
         let slot = proof.slot(i as u32, steps);
         if !walk.shows(query.term(i), slot, steps) {

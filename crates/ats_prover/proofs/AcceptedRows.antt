@@ -1,5 +1,5 @@
 -- What a check sees of the documents and rows of an honest proof, which it accepts.
-use Rattle.std.proofs.Common.{◌≡◌, ◌<◌, ℕ, true, nat_eq, List, [], ◌∷◌, length, map, get_or, refl, sym, ap, ap₂, subst, ◌∙◌, arith}
+use Rattle.std.proofs.Common.{◌≡◌, ◌<◌, ℕ, true, nat_eq, List, [], ◌∷◌, length, map, get_or, Option, None, Some, refl, sym, ap, ap₂, subst, ◌∙◌, arith}
 use Rattle.std.specs.List.{All}
 use Rattle.std.proofs.lemmas.Bool.{eqb-true, eq-eqb}
 use Rattle.std.proofs.lemmas.List.{length-map, get_or-map}
@@ -11,17 +11,21 @@ use Rattle.ats_commit.specs.Trees.{dictionary_of}
 use Rattle.ats_bound.specs.declared.bracket.Bracket.{Bracket}
 use Rattle.ats_bound.specs.Cut.{ShownLane, IsMet, bracket, threshold}
 use Rattle.ats_bound.specs.Settled.{ArePicks, IsSettled}
-use Rattle.ats_bound.specs.Schedule.{WholeLane, AreBracketsOf, IsCut, has_bracket, shown}
+use Rattle.ats_bound.specs.Schedule.{Bounding, WholeLane, AreBracketsOf, IsCut, has_bracket, shown}
 use Rattle.ats_bound.proofs.Chain.{chosen_are_picks, chosen_is_settled}
 use Rattle.ats_bound.proofs.One.{are_brackets, one_bracketing}
-use Rattle.ats_walk.proofs.Shown.{scheduled_is_cut}
-use Rattle.ats_proof.specs.Value.{IsProof, Prefix, Proof, ShownEntry}
+use Rattle.ats_bound.proofs.Shown.{scheduled_is_cut}
+use Rattle.ats_proof.specs.Value.{IsProof, Prefix, Proof, ShownEntry, Documents, algorithm_of}
 use Rattle.ats_proof.proofs.Unique.{one_value}
 use Rattle.ats_client.specs.Groups.{AreAllMet, AreListsRight, AreRowsRight, IsAnswerSettled, brackets_of}
 use Rattle.ats_client.specs.Presented.{Presented, presented, presented_from}
 use Rattle.ats_client.specs.Presented as client
+use Rattle.ats_client.specs.Bracketing.{bounds_of}
+use Rattle.ats_client.proofs.Bracketing.{lists_alone}
 use Rattle.ats_client.specs.Accepts.{Accepts}
+use Rattle.ats_client.proofs.Kept.{accepts_all}
 use Rattle.ats_commit.specs.Root.{root_of}
+use Rattle.ats_records.specs.declared.record.Algorithm.TheVariants.{Tra, Tnra}
 use Rattle.ats_prover.specs.Terms.{place, shown_entry, slot_of}
 use Rattle.ats_prover.specs.Lanes.{lanes_of}
 use Rattle.ats_prover.specs.Honest.{IsHonest, IsProved, prefixes}
@@ -56,7 +60,7 @@ all_named lanes brackets are i inside =
     subst (IsMet lanes) (sym (get_or-map (λ (b : Bracket). b.doc) brackets i none 0 here)) (sym (are.met doc) ∙ has)
 
 -- their brackets are these
-brackets_again : (lanes : List ShownLane) (brackets : List Bracket) → All (λ (b : Bracket). b ≡ bracket lanes b.doc) brackets → brackets_of lanes (docs_of brackets) ≡ brackets
+brackets_again : (lanes : List ShownLane) (brackets : List Bracket) → All (λ (b : Bracket). b ≡ bracket lanes b.doc) brackets → brackets_of bracket lanes (docs_of brackets) ≡ brackets
 brackets_again lanes [] each = refl
 brackets_again lanes (b ∷ brackets) each =
     let Is : Bracket → Type 0 = λ (b : Bracket). b ≡ bracket lanes b.doc in
@@ -64,7 +68,7 @@ brackets_again lanes (b ∷ brackets) each =
 
 -- ---- the parts of an honest proof
 
-module _ (H : List ℕ → List ℕ) (texts : List (List ℕ)) (query : List (List ℕ × ℕ)) (r : ℕ) (proof : Proof) (honest : IsHonest H texts query r proof) where
+module _ (H : List ℕ → List ℕ) (texts : List (List ℕ)) (query : List (List ℕ × ℕ)) (r : ℕ) (proof : Proof) (honest : IsHonest H texts query r Tnra proof) where
   abbrev lanes : List WholeLane
   lanes = lanes_of texts query
 
@@ -130,28 +134,27 @@ module _ (H : List ℕ → List ℕ) (texts : List (List ℕ)) (query : List (Li
     once = settled.once;
   }
 
-  pub honest_settled : IsAnswerSettled (client.lanes_of query proof) proof.met proof.answer r
+  -- it shows lists alone
+  pub honest_walk : algorithm_of proof ≡ Tnra
+  honest_walk = ap (λ (docs : Option Documents). elim docs [ None ↦ Tnra | Some d ↦ Tra ]) honest.docs
+
+  pub honest_settled : IsAnswerSettled (bounds_of proof) (client.lanes_of query proof) proof.met proof.answer r
   honest_settled =
-      let same : brackets_of cut_lanes proof.met ≡ honest.brackets = ap (brackets_of cut_lanes) honest.met ∙ brackets_again cut_lanes honest.brackets honest.bounds.each in
-      subst (λ (ls : List ShownLane). IsAnswerSettled ls proof.met proof.answer r) (sym honest_lanes)
-      (subst (λ (bs : List Bracket). IsSettled bs proof.answer (threshold cut_lanes) r) (sym same) settled)
+      let same : brackets_of bracket cut_lanes proof.met ≡ honest.brackets = ap (brackets_of bracket cut_lanes) honest.met ∙ brackets_again cut_lanes honest.brackets honest.bounds.each in
+      subst (λ (bounds : Bounding). IsAnswerSettled bounds (client.lanes_of query proof) proof.met proof.answer r) (sym (lists_alone proof honest_walk))
+      (subst (λ (ls : List ShownLane). IsAnswerSettled bracket ls proof.met proof.answer r) (sym honest_lanes)
+      (subst (λ (bs : List Bracket). IsSettled bs proof.answer (threshold cut_lanes) r) (sym same) settled))
 
   -- all rules hold of it
   pub honest_accepted : Accepts H (root_of H texts) query r proof
-  honest_accepted = record {
-    opened = honest_opened H texts query r proof honest;
-    dictionary = honest_dictionary H texts query r proof honest;
-    slots = honest_slots H texts query r proof honest;
-    lists = honest_lists;
-    met = honest_met;
-    rows = honest_rows;
-    settled = honest_settled;
-  }
+  honest_accepted =
+      accepts_all H (root_of H texts) query r proof honest_walk (honest_opened H texts query r proof honest) (honest_dictionary H texts query r proof honest)
+      (honest_slots H texts query r proof honest) honest_lists honest_met honest_rows honest_settled
 
 -- ---- what the bytes of a proof say
 
 -- the check accepts what they spell, which is the honest proof
-pub proved_accepted : (H : List ℕ → List ℕ) (texts : List (List ℕ)) (query : List (List ℕ × ℕ)) (r : ℕ) (bytes : List ℕ) → IsProved H texts query r bytes
+pub proved_accepted : (H : List ℕ → List ℕ) (texts : List (List ℕ)) (query : List (List ℕ × ℕ)) (r : ℕ) (bytes : List ℕ) → IsProved H texts query r Tnra bytes
     → (proof : Proof) → IsProof bytes proof → Accepts H (root_of H texts) query r proof
 proved_accepted H texts query r bytes is proof says =
     subst (Accepts H (root_of H texts) query r) (one_value bytes is.proof proof is.spells says) (honest_accepted H texts query r is.proof is.honest)

@@ -34,6 +34,7 @@ use Rattle.ats_client.specs.Groups as groups
 use Rattle.ats_client.specs.Presented as presented
 use Rattle.ats_client.specs.Slots as slots
 use Rattle.ats_client.specs.Slots.{ShowsTerm}
+use Rattle.ats_records.specs.declared.record.Algorithm.TheVariants.{Tnra}
 use Rattle.ats_prover.specs.Terms.{AreNeeded, has, needs, place, shown_entry, slot_of}
 use Rattle.ats_prover.specs.Lanes.{lane_of}
 use Rattle.ats_prover.specs.Honest.{IsHonest}
@@ -45,7 +46,7 @@ use Rattle.ats_prover.proofs.Whole.{lanes_each}
 use Rattle.ats_prover.proofs.ShownPlaces.{at_place, next_place, shown_at_place}
 
 -- the header is the collection's, and each term has a slot
-pub honest_opened : (H : List ℕ → List ℕ) (texts : List (List ℕ)) (query : List (List ℕ × ℕ)) (r : ℕ) (proof : Proof) → IsHonest H texts query r proof
+pub honest_opened : (H : List ℕ → List ℕ) (texts : List (List ℕ)) (query : List (List ℕ × ℕ)) (r : ℕ) (proof : Proof) → IsHonest H texts query r Tnra proof
     → IsOpened H (root_of H texts) query proof
 honest_opened H texts query r proof honest = record {
   commits = ap (groups.root_of H) honest.header;
@@ -62,7 +63,7 @@ shown_leaves entries (p ∷ ps) below =
     ap₂ (λ (bytes : List ℕ) (rest : List Shown). let leaf : Shown = (p, bytes) in leaf ∷ rest) (sym (get_or-dict_leaves entries p (below 0 0 (omega arith))))
     (shown_leaves entries ps (All-tail (λ q. q < length entries + 2) p ps below))
 
-pub honest_dictionary : (H : List ℕ → List ℕ) (texts : List (List ℕ)) (query : List (List ℕ × ℕ)) (r : ℕ) (proof : Proof) → IsHonest H texts query r proof
+pub honest_dictionary : (H : List ℕ → List ℕ) (texts : List (List ℕ)) (query : List (List ℕ × ℕ)) (r : ℕ) (proof : Proof) → IsHonest H texts query r Tnra proof
     → IsDictionary H proof
 honest_dictionary H texts query r proof honest =
     let entries = dictionary_of H texts in
@@ -131,7 +132,7 @@ spot_shows entries positions term (Between p) rise shown is =
       below = is.below;
     }
 
-pub honest_slots : (H : List ℕ → List ℕ) (texts : List (List ℕ)) (query : List (List ℕ × ℕ)) (r : ℕ) (proof : Proof) → IsHonest H texts query r proof
+pub honest_slots : (H : List ℕ → List ℕ) (texts : List (List ℕ)) (query : List (List ℕ × ℕ)) (r : ℕ) (proof : Proof) → IsHonest H texts query r Tnra proof
     → AreSlotsRight query proof
 honest_slots H texts query r proof honest i inside =
     let entries = dictionary_of H texts in

@@ -9,11 +9,16 @@ pub mod Present
 pub mod Coming
 pub mod MetDocuments
 pub mod Ranges
+pub mod Sections
 pub mod Whole
 pub mod ShownPlaces
 pub mod AcceptedTerms
 pub mod AcceptedLists
 pub mod AcceptedRows
+pub mod Positions
 pub mod OneProof
 pub mod Sizes
 pub mod Short
+pub mod Standing
+pub mod Exists
+pub mod LookedUp

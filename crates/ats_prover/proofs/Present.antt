@@ -1,8 +1,9 @@
 -- The lists of the terms that are present.
-use Rattle.std.proofs.Common.{◌≡◌, ◌*◌, ◌/◌, ◌^◌, ◌+◌, ◌<◌, ◌≤◌, ◌++◌, ℕ, suc, Bool, true, false, cond, nat_lt, List, [], ◌∷◌, length, map, take, get_or, refl, sym, ap, ap₂, ◌∙◌, arith, inl, inr, append-nil}
+use Rattle.std.proofs.Common.{◌≡◌, ◌*◌, ◌/◌, ◌^◌, ◌+◌, ◌<◌, ◌≤◌, ◌++◌, ℕ, zero, suc, Bool, true, false, cond, nat_lt, List, [], ◌∷◌, length, map, take, get_or, refl, sym, ap, ap₂, ◌∙◌, arith, inl, inr, append-nil}
 use Rattle.std.specs.Prelude.{filter, nat_le}
 use Rattle.std.specs.List.{list_any}
 use Rattle.std.specs.Str.{bytes_eq}
+use Rattle.std.proofs.lemmas.Bool.Decides.{leb_tells}
 use Rattle.std.proofs.lemmas.Bool.{cases_Bool, cases_lt, lt-ltb, le-ltb, ltb-false}
 use Rattle.std.proofs.lemmas.List.{length-map, get_or-map, map-append}
 use Rattle.std.proofs.lemmas.List.Elements.{filter_more}
@@ -11,7 +12,7 @@ use Rattle.std.proofs.Math.Pow.{pow_mono}
 use Rattle.std.proofs.lemmas.List.Folds.{list_any_none}
 use Rattle.std.proofs.lemmas.List.Sums.{count_by-le-length}
 use Rattle.std.proofs.lemmas.Slice.Eq.{bytes_eq-Decides}
-use Rattle.ats_impact.specs.Numbers.{idf, ratio, doublings, eighths, AreDoublings}
+use Rattle.ats_impact.specs.Numbers.{idf, ratio, doublings, eighths}
 use Rattle.ats_impact.specs.Score.{coefficient, frequency}
 use Rattle.ats_lists.specs.Lists.{IsList, list, lists_of, vocabulary}
 use Rattle.ats_lists.specs.declared.entry.Entry.{Entry}
@@ -97,11 +98,25 @@ few_doublings n f e few some within = elim (cases_lt 15 e) [
   | inr most ↦ most
 ]
 
-pub few_idf : (n f : ℕ) → n ≤ 65536 → 1 ≤ f → (1024 ≤ ratio n f → AreDoublings (ratio n f) (doublings 63 (ratio n f))) → idf n f ≤ 128
-few_idf n f few some doubled = elim (cases_lt (ratio n f) 1024) [
+doublings_within : (k q : ℕ) → 1024 ≤ q → 1024 * 2 ^ doublings k q ≤ q
+unfolding doublings
+doublings_within zero q big = omega (arith, big)
+doublings_within (suc k) q big = elim (leb_tells (1024 * 2 ^ suc k) q) [
+  | inl h ↦ rw h.0 h.1
+  | inr h ↦ rw h.0 (doublings_within k q big)
+]
+
+pub some_idf : (n f : ℕ) → 1 ≤ idf n f
+some_idf n f = elim (cases_lt (ratio n f) 1024) [
+  | inl low ↦ rw (lt-ltb (ratio n f) 1024 low) (omega arith)
+  | inr high ↦ rw (le-ltb (ratio n f) 1024 high) (omega arith)
+]
+
+pub few_idf : (n f : ℕ) → n ≤ 65536 → 1 ≤ f → idf n f ≤ 128
+few_idf n f few some = elim (cases_lt (ratio n f) 1024) [
   | inl low ↦ rw (lt-ltb (ratio n f) 1024 low) (omega arith)
   | inr high ↦
-      let e = few_doublings n f (doublings 63 (ratio n f)) few some (doubled high).within in
+      let e = few_doublings n f (doublings 63 (ratio n f)) few some (doublings_within 63 (ratio n f) high) in
       rw (le-ltb (ratio n f) 1024 high) (omega (arith, e, count_by-le-length (λ step. nat_le step (ratio n f / 2 ^ doublings 63 (ratio n f))) eighths))
 ]
 

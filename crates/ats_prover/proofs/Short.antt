@@ -27,7 +27,7 @@ use Rattle.ats_tree.specs.Tree.{tree_of}
 use Rattle.ats_tree.specs.Rebuild.{tree_of_places}
 use Rattle.ats_prover.proofs.Coming.{AreGoodEntries, IsInRange}
 use Rattle.ats_prover.proofs.Elided.{holes, holes-few, prefix_need}
-use Rattle.ats_walk.proofs.Shown.{have_entries, scheduled_is_cut}
+use Rattle.ats_bound.proofs.Shown.{have_entries, scheduled_is_cut}
 use Rattle.ats_prover.proofs.Whole.{HasParts, docs_of, is_in_range, proof_of}
 
 -- ---- the front of a list

@@ -1,6 +1,7 @@
 -- What was asked of a writer for one honest proof is the size of any.
 use Rattle.std.proofs.Common.{◌≡◌, ◌<◌, ◌≤◌, ℕ, List, [], ap, ◌∙◌, arith}
 use Rattle.ats_records.specs.Written.{Written, writing}
+use Rattle.ats_records.specs.declared.record.Algorithm.{Algorithm}
 use Rattle.ats_proof.specs.Value.{Proof}
 use Rattle.ats_prover.specs.Honest.{IsHonest, length_of}
 use Rattle.ats_prover.specs.Writing.{IsWritten}
@@ -12,11 +13,11 @@ pub record IsAsked (limit size : ℕ) (w : Written) : Type 0 where
   pub all : w.asked ≡ size
   pub under : w.limit ≡ limit
 
-pub is_asked : AreJoined → (H : List ℕ → List ℕ) (texts : List (List ℕ)) (query : List (List ℕ × ℕ)) (r limit : ℕ) (w : Written) → IsWritten H texts query r (writing limit []) w
-    → (proof : Proof) → IsHonest H texts query r proof → IsAsked limit (length_of proof) w
-is_asked joined H texts query r limit w is proof honest =
-    let asked = all_asked joined H texts query r limit w is in record {
-      all = ap (λ (v : Written). v.asked) asked ∙ ap length_of (one_proof H texts query r is.proof proof is.honest honest);
+pub is_asked : AreJoined → (H : List ℕ → List ℕ) (texts : List (List ℕ)) (query : List (List ℕ × ℕ)) (r : ℕ) (algorithm : Algorithm) (limit : ℕ) (w : Written) → IsWritten H texts query r algorithm (writing limit []) w
+    → (proof : Proof) → IsHonest H texts query r algorithm proof → IsAsked limit (length_of proof) w
+is_asked joined H texts query r algorithm limit w is proof honest =
+    let asked = all_asked joined H texts query r algorithm limit w is in record {
+      all = ap (λ (v : Written). v.asked) asked ∙ ap length_of (one_proof H texts query r algorithm is.proof proof is.honest honest);
       under = ap (λ (v : Written). v.limit) asked;
     }
 

@@ -9,7 +9,7 @@ use Rattle.std.proofs.lemmas.List.{length-replicate}
 use Rattle.ats_dict.specs.Dictionary.{IsDictionary, entry_at, low, zero_root}
 use Rattle.ats_dict.proofs.Sentinels.{entry_at-suc, entry_at-last}
 use Rattle.ats_dict.specs.Found.{IsSpot}
-use Rattle.ats_prover.specs.Terms.{AreSpots, lower}
+use Rattle.ats_prover.specs.Terms.{AreSpots, HaveSpots, lower}
 
 -- one term more
 pub spots_more : (entries : List DictEntry) (query : List (List ℕ × ℕ)) (spots : List Spot) (spot : Spot) (i : ℕ) (d : List ℕ × ℕ) → i < length query
@@ -22,11 +22,14 @@ spots_more entries (pair ∷ query) (s ∷ spots) spot (suc i) d inside are is =
     (are.0, spots_more entries query spots spot i d (omega (arith, inside)) are.1 is)
 
 -- one spot for each term
+pub spots_each : (is : List ℕ → Spot → Type 0) (terms : List (List ℕ × ℕ)) (spots : List Spot) → HaveSpots is terms spots → length spots ≡ length terms
+spots_each is [] [] are = refl
+spots_each is [] (spot ∷ spots) are = absurd are
+spots_each is (pair ∷ terms) [] are = absurd are
+spots_each is (pair ∷ terms) (spot ∷ spots) are = ap suc (spots_each is terms spots are.1)
+
 pub spot_each : (entries : List DictEntry) (query : List (List ℕ × ℕ)) (spots : List Spot) → AreSpots entries query spots → length spots ≡ length query
-spot_each entries [] [] are = refl
-spot_each entries [] (spot ∷ spots) are = absurd are
-spot_each entries (pair ∷ query) [] are = absurd are
-spot_each entries (pair ∷ query) (spot ∷ spots) are = ap suc (spot_each entries query spots are.1)
+spot_each entries query spots are = spots_each (IsSpot entries) query spots are
 
 -- the spot of a term
 pub spot_at : (entries : List DictEntry) (query : List (List ℕ × ℕ)) (spots : List Spot) (i : ℕ) (d : List ℕ × ℕ) (e : Spot) → AreSpots entries query spots → i < length query

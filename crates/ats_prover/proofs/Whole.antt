@@ -30,7 +30,7 @@ use Rattle.ats_index.specs.Parts.{header_parts}
 use Rattle.ats_bound.specs.declared.bracket.Bracket.{Bracket}
 use Rattle.ats_bound.specs.Chosen.{IsChosen}
 use Rattle.ats_bound.specs.Schedule.{WholeLane, AreWholeLanes, AreBracketsOf, IsFirstSettled, shown}
-use Rattle.ats_walk.proofs.Shown.{have_entries, scheduled_is_cut}
+use Rattle.ats_bound.proofs.Shown.{have_entries, scheduled_is_cut}
 use Rattle.ats_dict.specs.declared.header.Header.{Header}
 use Rattle.ats_records.specs.Records.{front_record}
 use Rattle.ats_records.specs.Written.{Written, after, writing}
@@ -50,6 +50,7 @@ use Rattle.ats_prover.proofs.Present.{absent_term}
 use Rattle.ats_prover.proofs.Fronts.{prefix_each, range_below}
 use Rattle.ats_prover.proofs.MetDocuments.{met_rises, met_below, rising_few, lists_below}
 use Rattle.ats_prover.proofs.Coming.{IsGoodPrefix, IsInRange, come_proof}
+use Rattle.ats_prover.proofs.Sections.{are_documents}
 use Rattle.ats_prover.proofs.Ranges.{elided_sized, good_entries, good_ids, good_slots, positions_below, positions_some}
 
 -- ---- as many lists as present slots
@@ -170,7 +171,7 @@ proof_of H texts query spots positions cut brackets picks = record {
 }
 
 pub is_honest : (H : List ℕ → List ℕ) (texts : List (List ℕ)) (query : List (List ℕ × ℕ)) (r : ℕ) (spots : List Spot) (positions cut : List ℕ) (brackets : List Bracket) (picks : List ℕ)
-    → HasParts H texts query r spots positions cut brackets picks → IsHonest H texts query r (proof_of H texts query spots positions cut brackets picks)
+    → HasParts H texts query r spots positions cut brackets picks → IsHonest H texts query r Tnra (proof_of H texts query spots positions cut brackets picks)
 is_honest H texts query r spots positions cut brackets picks parts = record {
   spots = spots;
   found = parts.found;
@@ -234,7 +235,7 @@ pub written : (H : List ℕ → List ℕ) (texts : List (List ℕ)) (query : Lis
     ++ flat_map slot_fields (map (slot_of positions) spots))
     → z ≡ put y (counted 4 id_fields (docs_of brackets) ++ flat_map prefix_fields (prefixes H (docs_of brackets) (lanes_of texts query) cut) ++ counted 2 id_fields picks)
     → length_of (proof_of H texts query spots positions cut brackets picks) ≤ 2 ^ 26
-    → IsWritten H texts query r w z
+    → IsWritten H texts query r Tnra w z
 written H texts query r spots positions cut brackets picks w x y z parts front terms walk short =
     let proof = proof_of H texts query spots positions cut brackets picks in
     let a : List (List ℕ) = front_fields None ++ header_fields (header_parts H texts) ++ spelled 2 (length (map (slot_of positions) spots)) ∷ [] in
@@ -249,7 +250,7 @@ written H texts query r spots positions cut brackets picks w x y z parts front t
       come = come_proof proof (is_in_range H texts query r spots positions cut brackets picks parts);
       prefix_each = lists_each H texts query r spots positions cut brackets picks parts;
       asked = walk ∙ ap (λ (v : Written). put v (e ++ f ++ g)) (terms ∙ ap (λ (v : Written). put v (b ++ c ++ d)) front) ∙ put_all w a b c d e f g;
-      short = short;
+      short = λ _. short;
     }
 
 -- the first record is the first fields
@@ -263,29 +264,35 @@ front_put algorithm h own n m w tnra header number documents leaves few =
 abbrev pub AreJoined : Type 0
 AreJoined = (limit : ℕ) (bytes more : List ℕ) → after (writing limit bytes) more ≡ writing limit (bytes ++ more)
 
-pub all_asked : AreJoined → (H : List ℕ → List ℕ) (texts : List (List ℕ)) (query : List (List ℕ × ℕ)) (r limit : ℕ) (w : Written) (is : IsWritten H texts query r (writing limit []) w)
+pub all_asked : AreJoined → (H : List ℕ → List ℕ) (texts : List (List ℕ)) (query : List (List ℕ × ℕ)) (r : ℕ) (algorithm : Algorithm) (limit : ℕ) (w : Written) (is : IsWritten H texts query r algorithm (writing limit []) w)
     → w ≡ writing limit (concat (fields_of is.proof))
-all_asked joined H texts query r limit w is = is.asked ∙ joined limit [] (concat (fields_of is.proof))
+all_asked joined H texts query r algorithm limit w is = is.asked ∙ joined limit [] (concat (fields_of is.proof))
 
-no_documents : (proof : Proof) → proof.docs ≡ None → AreDocumentsOf proof proof.docs
-no_documents proof none = subst (AreDocumentsOf proof) (sym none) tt
+-- a leaf and a section for each met document, and a slot in each for each present term
+documents_spelled : (H : List ℕ → List ℕ) (texts : List (List ℕ)) (query : List (List ℕ × ℕ)) (r : ℕ) (algorithm : Algorithm) (proof : Proof)
+    → IsHonest H texts query r algorithm proof → AreDocumentsOf proof proof.docs
+documents_spelled H texts query r algorithm proof honest =
+    let terms : List (List ℕ × ℕ) = present texts query in
+    let each : length terms ≡ present_in proof.slots = sym (length-map terms (lane_of texts))
+    ∙ lanes_each H texts query honest.positions honest.spots honest.found ∙ sym (ap present_in honest.slots) in
+    are_documents H texts terms algorithm proof proof.docs honest.docs each
 
-pub is_proved : (H : List ℕ → List ℕ) (texts : List (List ℕ)) (query : List (List ℕ × ℕ)) (r limit : ℕ) (w : Written) (bytes : List ℕ) (is : IsWritten H texts query r (writing limit []) w)
-    → bytes ≡ concat (fields_of is.proof) → length bytes ≤ 2 ^ 26 → IsProved H texts query r bytes
-is_proved H texts query r limit w bytes is same few = record {
+pub is_proved : (H : List ℕ → List ℕ) (texts : List (List ℕ)) (query : List (List ℕ × ℕ)) (r : ℕ) (algorithm : Algorithm) (limit : ℕ) (w : Written) (bytes : List ℕ) (is : IsWritten H texts query r algorithm (writing limit []) w)
+    → bytes ≡ concat (fields_of is.proof) → length bytes ≤ 2 ^ 26 → IsProved H texts query r algorithm bytes
+is_proved H texts query r algorithm limit w bytes is same few = record {
   proof = is.proof;
   honest = is.honest;
   spells = record {
     spells = record { whole = record { come = is.come; parts = same ∙ sym (append-nil (concat (fields_of is.proof))) }; few = few };
     prefix_each = is.prefix_each;
-    documents = no_documents is.proof is.honest.docs;
+    documents = documents_spelled H texts query r algorithm is.proof is.honest;
   };
 }
 
-pub is_too_long : AreJoined → (H : List ℕ → List ℕ) (texts : List (List ℕ)) (query : List (List ℕ × ℕ)) (r limit : ℕ) (w : Written) (n : ℕ) (is : IsWritten H texts query r (writing limit []) w)
-    → n ≡ w.asked → w.limit < w.asked → IsTooLong H texts query r limit n
-is_too_long joined H texts query r limit w n is same over =
-    let all = all_asked joined H texts query r limit w is in record {
+pub is_too_long : AreJoined → (H : List ℕ → List ℕ) (texts : List (List ℕ)) (query : List (List ℕ × ℕ)) (r : ℕ) (algorithm : Algorithm) (limit : ℕ) (w : Written) (n : ℕ) (is : IsWritten H texts query r algorithm (writing limit []) w)
+    → n ≡ w.asked → w.limit < w.asked → IsTooLong H texts query r algorithm limit n
+is_too_long joined H texts query r algorithm limit w n is same over =
+    let all = all_asked joined H texts query r algorithm limit w is in record {
       proof = is.proof;
       honest = is.honest;
       bytes_are = same ∙ ap (λ (v : Written). v.asked) all;

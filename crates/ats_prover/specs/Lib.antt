@@ -1,4 +1,5 @@
 pub mod Terms
 pub mod Lanes
+pub mod Documents
 pub mod Honest
 pub mod Writing

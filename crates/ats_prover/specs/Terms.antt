@@ -1,4 +1,4 @@
--- Where the terms of a query stand in a dictionary, and which of its leaves show that.
+-- Where the terms of a query stand among leaves in byte order, and which of them show that.
 use Rattle.std.specs.Prelude.{◌≡◌, ◌+◌, ◌==◌, ℕ, Bool, true, false, List, [], ◌∷◌, nat_lt}
 use Rattle.std.specs.List.{count_by, flat_map, list_any}
 use Rattle.std.specs.List.Sorted.{IsStrictlyIncreasing}
@@ -10,12 +10,16 @@ use Rattle.ats_dict.specs.Found.{IsSpot}
 use Rattle.ats_records.specs.declared.record.Slot.{Slot}
 use Rattle.ats_proof.specs.Value.{ShownEntry}
 
--- each term of the query has its spot
+-- each term has its spot, by what a spot says of a term
+abbrev pub HaveSpots : (List ℕ → Spot → Type 0) → List (List ℕ × ℕ) → List Spot → Type 0
+HaveSpots is [] [] = Unit {0}
+HaveSpots is [] (spot ∷ spots) = ⊥
+HaveSpots is (pair ∷ terms) [] = ⊥
+HaveSpots is (pair ∷ terms) (spot ∷ spots) = is pair.0 spot × HaveSpots is terms spots
+
+-- each term of the query has its spot in the dictionary
 abbrev pub AreSpots : List DictEntry → List (List ℕ × ℕ) → List Spot → Type 0
-AreSpots entries [] [] = Unit {0}
-AreSpots entries [] (spot ∷ spots) = ⊥
-AreSpots entries (pair ∷ query) [] = ⊥
-AreSpots entries (pair ∷ query) (spot ∷ spots) = IsSpot entries pair.0 spot × AreSpots entries query spots
+AreSpots entries query spots = HaveSpots (IsSpot entries) query spots
 
 -- the positions that show a term: its leaf, or both neighbours where it is absent
 abbrev pub needs : Spot → List ℕ

@@ -1,21 +1,47 @@
 //! What holds of all honest proofs, as contracts of functions that do nothing.
 
-ghost use Rattle.std.specs.Prelude.{◌≡◌, ℕ, List};
+ghost use Rattle.std.specs.Prelude.{◌≡◌, ◌<◌, ℕ, List, length};
+ghost use Rattle.ats_terms.specs.Query.{IsQuery};
+ghost use Rattle.ats_lists.specs.Lists.{list};
+ghost use Rattle.ats_dict.specs.declared.spot.Spot.TheVariants.{At, Between};
+ghost use Rattle.ats_doctree.specs.Impacts.{doc_terms};
+ghost use Rattle.ats_doctree.specs.Sentinels.{impact_at};
+ghost use Rattle.ats_commit.specs.Own.{AreTexts};
 ghost use Rattle.ats_commit.specs.Root.{root_of};
+ghost use Rattle.ats_records.specs.declared.record.Algorithm.{Algorithm};
+ghost use Rattle.ats_records.specs.declared.record.Algorithm.TheVariants.{Tnra};
 ghost use Rattle.ats_proof.specs.Value.{Proof};
 ghost use Rattle.ats_client.specs.Accepts.{Accepts};
+ghost use Rattle.ats_bound.specs.Ranked.{impact_in};
+ghost use Rattle.ats_prover.specs.Documents.{IsTermSpot};
 ghost use Rattle.ats_prover.specs.Honest.{IsHonest};
 
 use ats_hash::HashKind;
 
-/// The honest proof of a query is one: the texts, the query and the number of rows leave no part of it open.
-pub fn honest_proofs_are_one<H: HashKind>()
-    ensures { (texts : List (List ℕ)) (query : List (List ℕ × ℕ)) (r : ℕ) (a b : Proof)
-        → IsHonest H.hash texts query r a → IsHonest H.hash texts query r b → a ≡ b }
+/// There is an honest proof by either algorithm of every query over every collection, for any number of rows.
+pub fn honest_proofs_exist<H: HashKind>()
+    ensures { (texts : List (List ℕ)) (query : List (List ℕ × ℕ)) (r : ℕ) (algorithm : Algorithm) → AreTexts texts → IsQuery query
+        → (proof : Proof) × IsHonest H.hash texts query r algorithm proof }
 {}
 
-/// An honest proof is accepted under the root of its collection: no rule of the check refuses it.
+/// The honest proof of a query by an algorithm is one: the texts, the query and the number of rows leave no
+/// part of it open.
+pub fn honest_proofs_are_one<H: HashKind>()
+    ensures { (texts : List (List ℕ)) (query : List (List ℕ × ℕ)) (r : ℕ) (algorithm : Algorithm) (a b : Proof)
+        → IsHonest H.hash texts query r algorithm a → IsHonest H.hash texts query r algorithm b → a ≡ b }
+{}
+
+/// An honest proof of lists alone is accepted under the root of its collection: no rule of the check refuses it.
 pub fn honest_proofs_are_accepted<H: HashKind>()
     ensures { (texts : List (List ℕ)) (query : List (List ℕ × ℕ)) (r : ℕ) (proof : Proof)
-        → IsHonest H.hash texts query r proof → Accepts H.hash (root_of H.hash texts) query r proof }
+        → IsHonest H.hash texts query r Tnra proof → Accepts H.hash (root_of H.hash texts) query r proof }
+{}
+
+/// The impacts that are looked up are those that the terms of the documents show: of a term that stands at
+/// a leaf the impact there, and of one that lies between two neighbours 0.
+pub fn impacts_are_shown_by_documents()
+    ensures at { (texts : List (List ℕ)) (term : List ℕ) (doc p : ℕ) → doc < length texts → IsTermSpot (doc_terms texts doc) term (At p)
+        → impact_in doc (list texts term) ≡ impact_at (doc_terms texts doc) p }
+    ensures between { (texts : List (List ℕ)) (term : List ℕ) (doc p : ℕ) → doc < length texts → IsTermSpot (doc_terms texts doc) term (Between p)
+        → impact_in doc (list texts term) ≡ 0 }
 {}

@@ -65,7 +65,7 @@ fn write_proof<H: Hash32>(
 ) -> Result<(), OutOfMemory>
     requires algorithm { algorithm ≡ Tnra }
     requires room { writer.old.asked ≡ 0 }
-    ensures { OnOk result (IsWritten H.hash index.now query.now top writer.old writer.new) }
+    ensures { OnOk result (IsWritten H.hash index.now query.now top algorithm writer.old writer.new) }
 {
     // A collection's header is in range, its dictionary is sorted, and an answer has few rows.
     prove!(index.collection().documents() >= 1);
@@ -92,9 +92,9 @@ pub fn prove<H: Hash32>(
     algorithm: Algorithm,
 ) -> Result<Bytes, ProveFault>
     requires { algorithm ≡ Tnra }
-    ensures ok { IfOk result (IsProved H.hash index.now query.now top) }
-    ensures err { IfErr result (IsFault H.hash index.now query.now top (2 ^ 26)) }
-    ensures size { (proof : Proof) → IsHonest H.hash index.now query.now top proof → IsAnswerWithin (2 ^ 26) (length_of proof) result }
+    ensures ok { IfOk result (IsProved H.hash index.now query.now top algorithm) }
+    ensures err { IfErr result (IsFault H.hash index.now query.now top algorithm (2 ^ 26)) }
+    ensures size { (proof : Proof) → IsHonest H.hash index.now query.now top algorithm proof → IsAnswerWithin (2 ^ 26) (length_of proof) result }
     ensures accepted { IfOk result (λ bytes. (proof : Proof) → IsProof bytes proof → Accepts H.hash (root_of H.hash index.now) query.now top proof) }
     ensures fits { IfErr result (λ fault. fault ≡ MemoryWanted) }
 {
@@ -112,10 +112,10 @@ pub fn prove_within<H: Hash32>(
 ) -> Result<Bytes, ProveFault>
     requires algorithm { algorithm ≡ Tnra }
     requires limit { limit ≤ 2 ^ 26 }
-    ensures ok { IfOk result (IsProved H.hash index.now query.now top) }
+    ensures ok { IfOk result (IsProved H.hash index.now query.now top algorithm) }
     ensures within { IfOk result (λ bytes. length bytes ≤ limit) }
-    ensures err { IfErr result (IsFault H.hash index.now query.now top limit) }
-    ensures size { (proof : Proof) → IsHonest H.hash index.now query.now top proof → IsAnswerWithin limit (length_of proof) result }
+    ensures err { IfErr result (IsFault H.hash index.now query.now top algorithm limit) }
+    ensures size { (proof : Proof) → IsHonest H.hash index.now query.now top algorithm proof → IsAnswerWithin limit (length_of proof) result }
     ensures accepted { IfOk result (λ bytes. (proof : Proof) → IsProof bytes proof → Accepts H.hash (root_of H.hash index.now) query.now top proof) }
     ensures fits { limit ≡ 2 ^ 26 → IfErr result (λ fault. fault ≡ MemoryWanted) }
 {

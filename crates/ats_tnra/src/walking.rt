@@ -2,35 +2,30 @@
 
 ghost use Rattle.std.specs.Prelude.{◌≡◌, IfOk};
 ghost use Rattle.ats_bound.specs.Chosen.{IsChosen};
-ghost use Rattle.ats_bound.specs.Cut.{bracket, lower, missing, threshold};
+ghost use Rattle.ats_bound.specs.Cut.{bracket, threshold};
 ghost use Rattle.ats_bound.specs.Settled.{IsSettled};
 ghost use Rattle.ats_bound.specs.Schedule.{AreBracketsOf, AreWholeLanes, IsFirstSettled, shown, whole_lanes};
-ghost use Rattle.ats_bound.proofs.Scores.{missing_within};
-ghost use Rattle.ats_walk.proofs.Narrow.{is_narrow};
+ghost use Rattle.ats_bound.specs.Stand.{IsEnd};
 
-use crate::bracketing::brackets;
-use ats_bound::{Brackets, Lane, OutOfMemory, Walk};
+use ats_bound::{Lane, OutOfMemory, Running, Walk};
 use ats_impact::Top;
-use ats_walk::{Bounds, first_settled};
 use std::alloc::Global;
 
-// Bounds from the shown entries alone.
-struct FromEntries;
-
-impl Bounds for FromEntries {
-    ghost bracket = { λ _. bracket };
-
-    ghost narrow = { λ _ lanes doc. is_narrow (threshold lanes) doc (lower lanes doc) (missing lanes doc) (missing_within lanes doc) };
-
-    fn brackets(
-        &self,
-        alloc: Global,
-        lanes: &[Lane<'_>],
-        counts: &[u32],
-        limit: u64,
-    ) -> Result<Brackets, OutOfMemory> {
-        brackets(alloc, lanes, counts, limit)
+// The walk to the first cut at which the chosen answer is settled. Where all lists are whole it needs no
+// test.
+fn first_settled(alloc: Global, lanes: &[Lane<'_>], top: Top) -> Result<Walk, OutOfMemory>
+    requires { AreWholeLanes (whole_lanes lanes.now) }
+    ensures { IfOk result (IsEnd bracket (whole_lanes lanes.now) top) }
+{
+    let mut walk = Running::new(alloc, lanes, top)?;
+    while let Some(lane) = walk.next_lane() {
+        let settled = walk.settled()?;
+        if settled {
+            return Ok(walk.finish()?);
+        }
+        walk.advance(lane)?;
     }
+    Ok(walk.finish()?)
 }
 
 /// The first cut of the schedule at which an answer is settled, with the brackets of the documents met
@@ -46,5 +41,5 @@ pub fn walk(alloc: Global, lanes: &[Lane<'_>], top: Top) -> Result<Walk, OutOfMe
     ensures picks { IfOk result (λ walk. IsChosen walk.brackets top walk.picks) }
     ensures settled { IfOk result (λ walk. IsSettled walk.brackets walk.picks walk.threshold top) }
 {
-    first_settled(alloc, lanes, top, &FromEntries)
+    first_settled(alloc, lanes, top)
 }

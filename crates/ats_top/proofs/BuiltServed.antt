@@ -26,14 +26,14 @@ module _ (H : List ℕ → List ℕ) (sized : (m : List ℕ) → length (H m) �
 
   -- the honest proof of another file's index is this one's, where the file is told
   not_long : (words : ProveWords) (asked : List (List ℕ × ℕ)) → IsTold files → words.index ≡ name → IsQueryOf words.query asked
-      → ((size : ℕ) → IsTooLong H texts asked words.r (2 ^ 26) size → ⊥) → (size : ℕ) → IsProofTooLong H files words size → ⊥
+      → ((size : ℕ) → IsTooLong H texts asked words.r words.algorithm (2 ^ 26) size → ⊥) → (size : ℕ) → IsProofTooLong H files words size → ⊥
   not_long words asked told index is_query short size long =
       let other = subst (λ n. HasIndex H files n long.texts) index long.index in
       let same = one_file files name other.bytes bytes (2 ^ 29) (2 ^ 29) told other.file has.file in
       let alike : long.texts ≡ texts = one_collection H bytes long.texts texts (subst (λ b. IsSpelling H b long.texts) same other.spelling) spelling in
       let query : long.query ≡ asked = long.asked.same ∙ sym is_query.same in
       short size
-      (subst (λ t. IsTooLong H t asked words.r (2 ^ 26) size) alike (subst (λ q. IsTooLong H long.texts q words.r (2 ^ 26) size) query long.long))
+      (subst (λ t. IsTooLong H t asked words.r words.algorithm (2 ^ 26) size) alike (subst (λ q. IsTooLong H long.texts q words.r words.algorithm (2 ^ 26) size) query long.long))
 
   prove_said : (r query proof : List ℕ) (rows : ℕ) → number_of r ≡ Some rows
       → command_of (prove_words name r query proof) ≡ Some (Prove (record { index = name; algorithm = Tnra; r = rows; query = query; proof = proof }))
@@ -41,7 +41,7 @@ module _ (H : List ℕ → List ℕ) (sized : (m : List ℕ) → length (H m) �
       ap (option_map (λ n. Prove (record { index = name; algorithm = Tnra; r = n; query = query; proof = proof }))) is
 
   pub prove_served : (asked : List (List ℕ × ℕ)) (rows : ℕ) (r query proof : List ℕ) → IsTold files → number_of r ≡ Some rows → IsRowCount rows → IsQueryOf query asked
-      → ((size : ℕ) → IsTooLong H texts asked rows (2 ^ 26) size → ⊥) → Said (prove_words name r query proof) (IsServed H files)
+      → ((size : ℕ) → IsTooLong H texts asked rows Tnra (2 ^ 26) size → ⊥) → Said (prove_words name r query proof) (IsServed H files)
   prove_served asked rows r query proof told is within is_query short =
       let words : ProveWords = record { index = name; algorithm = Tnra; r = rows; query = query; proof = proof } in (
         Prove words,

@@ -28,7 +28,7 @@ no_documents : (proof : Proof) → proof.docs ≡ None → algorithm_of proof �
 no_documents proof none = rw none refl
 
 pub honest_served : (H : List ℕ → List ℕ) (texts : List (List ℕ)) (asked : List (List ℕ × ℕ)) (rows : ℕ) (bytes : List ℕ) (files : Files) (root r query name : List ℕ)
-    → IsProved H texts asked rows bytes → IsFile files name (2 ^ 26) bytes → root_word root ≡ Some (root_of H texts)
+    → IsProved H texts asked rows Tnra bytes → IsFile files name (2 ^ 26) bytes → root_word root ≡ Some (root_of H texts)
     → number_of r ≡ Some rows → IsRowCount rows → IsQueryOf query asked
     → Said (verify_words root r query name) (IsServed H files)
 honest_served H texts asked rows bytes files root r query name proved file is_root is_rows within is_query =

@@ -58,7 +58,7 @@ no_some o x none some = let both = sym none ∙ some in cc
 same_some : {X : Type 0} (o : Option X) (x y : X) → o ≡ Some x → o ≡ Some y → x ≡ y
 same_some o x y first second = let both = sym first ∙ second in cc
 
-same_items : (bytes : List ℕ) (first second : List Data) → IsJsonArray bytes first → IsJsonArray bytes second → first ≡ second
+pub same_items : (bytes : List ℕ) (first second : List Data) → IsJsonArray bytes first → IsJsonArray bytes second → first ≡ second
 same_items bytes first second one other = same_some _ first second one.read other.read
 
 same_wrapped : (first second : List (List ℕ)) → map Some first ≡ map Some second → first ≡ second
@@ -85,12 +85,12 @@ bad_item items texts doc same bad =
     sym (get_or-map item_text items doc null None inside) ∙ ap (λ all. get_or all doc None) same ∙ get_or-map Some texts doc [] None (omega (arith, many)) in
     no_some _ _ bad.bad some
 
-not_json : (bytes : List ℕ) (items : List Data) → IsJsonArray bytes items → read bytes ≡ None → ⊥
+pub not_json : (bytes : List ℕ) (items : List Data) → IsJsonArray bytes items → read bytes ≡ None → ⊥
 not_json bytes items is none =
     let nothing : option_map item_list (option_and_then as_array (read bytes)) ≡ None = ap (λ o. option_map item_list (option_and_then as_array o)) none in
     no_some _ _ nothing is.read
 
-not_array : (bytes : List ℕ) (items : List Data) (value : Data) → IsJsonArray bytes items → read bytes ≡ Some value → as_array value ≡ None → ⊥
+pub not_array : (bytes : List ℕ) (items : List Data) (value : Data) → IsJsonArray bytes items → read bytes ≡ Some value → as_array value ≡ None → ⊥
 not_array bytes items value is reads none =
     let nothing : option_map item_list (option_and_then as_array (read bytes)) ≡ None =
     ap (λ o. option_map item_list (option_and_then as_array o)) reads ∙ ap (option_map item_list) none in

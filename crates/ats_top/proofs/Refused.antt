@@ -18,9 +18,9 @@ use Rattle.ats_prover.proofs.OneProof.{one_proof}
 use Rattle.ats_top.specs.Input.{AreJsonTexts}
 use Rattle.ats_top.specs.declared.input.JsonFault.{JsonFault}
 use Rattle.ats_top.specs.declared.input.JsonFault.TheVariants as json
-use Rattle.ats_top.specs.Words.{ProveWords, Command, Rank, Build, Root, Prove, Verify, read_name}
+use Rattle.ats_top.specs.Words.{ProveWords, Command, Rank, Build, Root, Prove, Verify}
 use Rattle.ats_top.specs.Read.{Files, IsTold, IsFile, HasCollection, HasIndex}
-use Rattle.ats_top.specs.Refusals.{IsRowCount, AsksRanking, Asks, IsJsonRefused, AreTextsRefused, IsCollectionRefused, IsIndexRefused, IsProvingRefused, IsRankingRefused, IsRefused}
+use Rattle.ats_top.specs.Refusals.{IsRowCount, AsksRanking, Asks, LacksFile, IsJsonRefused, AreTextsRefused, IsCollectionRefused, IsIndexRefused, IsProvingRefused, IsRankingRefused, IsRefused}
 use Rattle.ats_top.specs.Proved.{IsProofFor, IsProofTooLong}
 use Rattle.ats_top.specs.Done.{IsDone, HasInput, IsServed}
 use Rattle.ats_top.specs.declared.stops.Refusal.{Refusal}
@@ -31,16 +31,16 @@ same_some : {X : Type 0} (o : Option X) (x y : X) → o ≡ Some x → o ≡ Som
 same_some o x y first second = let both = sym first ∙ second in cc
 
 -- a fault that is no want of memory
-abbrev IsQueryRefusal : QueryFault → Type 0
+abbrev pub IsQueryRefusal : QueryFault → Type 0
 IsQueryRefusal query.OutOfMemory = ⊥
 IsQueryRefusal _ = Unit {0}
 
-abbrev IsCollectionRefusal : CollectionFault → Type 0
+abbrev pub IsCollectionRefusal : CollectionFault → Type 0
 IsCollectionRefusal collection.OutOfMemory = ⊥
 IsCollectionRefusal _ = Unit {0}
 
 -- a text that is a query has no fault but want of memory
-no_query_fault : (text : List ℕ) (fault : QueryFault) → HasQuery text → IsFirstFault text fault → IsQueryRefusal fault → ⊥
+pub no_query_fault : (text : List ℕ) (fault : QueryFault) → HasQuery text → IsFirstFault text fault → IsQueryRefusal fault → ⊥
 no_query_fault text (query.TooLong bytes) has fault free = omega (arith, has.short, fault.0, fault.1)
 no_query_fault text query.NoTerm has fault free = omega (arith, has.some, fault.1)
 no_query_fault text (query.TooManyWords count) has fault free = omega (arith, has.few, fault.1, fault.2)
@@ -48,7 +48,7 @@ no_query_fault text (query.TooManyTerms distinct) has fault free = omega (arith,
 no_query_fault text query.OutOfMemory has fault free = free
 
 -- texts within the limits have no fault but want of memory
-no_collection_fault : (texts : List (List ℕ)) (fault : CollectionFault) → AreWithin texts → IsFirstCollectionFault texts fault
+pub no_collection_fault : (texts : List (List ℕ)) (fault : CollectionFault) → AreWithin texts → IsFirstCollectionFault texts fault
     → IsCollectionRefusal fault → ⊥
 no_collection_fault texts collection.NoDocuments within fault free = omega (arith, within.some, fault)
 no_collection_fault texts (collection.TooMany n) within fault free = omega (arith, within.few, fault.0, fault.1)
@@ -109,7 +109,7 @@ module _ (files : Files) (told : IsTold files) (name : List ℕ) (texts : List (
   collection_kept _ refused = refused
 
 -- an index is not refused
-index_kept : (H : List ℕ → List ℕ) (files : Files) (name : List ℕ) (texts : List (List ℕ)) → IsTold files → HasIndex H files name texts
+pub index_kept : (H : List ℕ → List ℕ) (files : Files) (name : List ℕ) (texts : List (List ℕ)) → IsTold files → HasIndex H files name texts
     → (refusal : Refusal) → IsIndexRefused H files name refusal → ⊥
 index_kept H files name texts told has (FileTooLong limit) refused =
     not_longer files name has.bytes (2 ^ 29) told has.file (subst (IsLonger files name) refused.0 refused.1)
@@ -158,9 +158,9 @@ too_long_kept H files words bytes size told stored long =
     let texts : stored.texts ≡ long.texts = one_collection H long.index.bytes stored.texts long.texts
     (subst (λ (b : List ℕ). IsSpelling H b stored.texts) same stored.index.spelling) long.index.spelling in
     let query : stored.query ≡ long.query = stored.asked.same ∙ sym long.asked.same in
-    let honest : IsHonest H long.texts long.query words.r stored.proved.proof = subst (λ (t : List (List ℕ)). IsHonest H t long.query words.r stored.proved.proof) texts
-    (subst (λ (q : List (List ℕ × ℕ)). IsHonest H stored.texts q words.r stored.proved.proof) query stored.proved.honest) in
-    let one : stored.proved.proof ≡ long.long.proof = one_proof H long.texts long.query words.r stored.proved.proof long.long.proof honest long.long.honest in
+    let honest : IsHonest H long.texts long.query words.r words.algorithm stored.proved.proof = subst (λ (t : List (List ℕ)). IsHonest H t long.query words.r words.algorithm stored.proved.proof) texts
+    (subst (λ (q : List (List ℕ × ℕ)). IsHonest H stored.texts q words.r words.algorithm stored.proved.proof) query stored.proved.honest) in
+    let one : stored.proved.proof ≡ long.long.proof = one_proof H long.texts long.query words.r words.algorithm stored.proved.proof long.long.proof honest long.long.honest in
     omega (arith, stored.short, spelled_size bytes stored.proved.proof stored.proved.spells, ap length_of one, long.long.bytes_are, long.long.beyond)
 
 proof_kept : (H : List ℕ → List ℕ) (before now : Files) (words : ProveWords) (text : List ℕ) → IsTold before → IsDone H before now (Prove words) text
@@ -199,26 +199,34 @@ module _ (files : Files) (name : List ℕ) (missing : IsMissing files name) wher
   index_missing H (BadIndex at) (bytes, file, fault) = missing_file files name bytes (2 ^ 29) missing file
   index_missing H _ refused = refused
 
--- where the words are within the limits and the file is not there, nothing is refused
-pub missing_kept : (H : List ℕ → List ℕ) (files : Files) (command : Command) → Asks command → IsMissing files (read_name command)
+-- where a file is not there, what the words say is within the limits
+pub lacks_asks : (H : List ℕ → List ℕ) (files : Files) (command : Command) → LacksFile H files command → Asks command
+lacks_asks H files (Rank words) lacks = lacks.0
+lacks_asks H files (Build words) lacks = tt
+lacks_asks H files (Root words) lacks = tt
+lacks_asks H files (Prove words) lacks = lacks.0
+lacks_asks H files (Verify words) lacks = lacks.0
+
+-- and nothing is refused
+pub missing_kept : (H : List ℕ → List ℕ) (files : Files) (command : Command) → LacksFile H files command
     → (refusal : Refusal) → IsRefused H files command refusal → ⊥
-missing_kept H files (Rank words) asks missing refusal refused =
+missing_kept H files (Rank words) (asks, missing) refusal refused =
     ranking_kept words.r words.query (IsCollectionRefused files words.collection) asks (collection_missing files words.collection missing) refusal refused
-missing_kept H files (Build words) asks missing refusal refused = collection_missing files words.collection missing refusal refused
-missing_kept H files (Root words) asks missing refusal refused = index_missing files words.index missing H refusal refused
-missing_kept H files (Prove words) asks missing refusal refused =
+missing_kept H files (Build words) missing refusal refused = collection_missing files words.collection missing refusal refused
+missing_kept H files (Root words) missing refusal refused = index_missing files words.index missing H refusal refused
+missing_kept H files (Prove words) (asks, missing) refusal refused =
     ranking_kept words.r words.query (IsProvingRefused H files words) asks
     (proving_kept H files words (index_missing files words.index missing H)
     (λ size long. missing_file files words.index long.index.bytes (2 ^ 29) missing long.index.file)) refusal refused
-missing_kept H files (Verify words) asks missing refusal refused = ranking_kept words.r words.query (λ other. ⊥) asks (λ other never. never) refusal refused
+missing_kept H files (Verify words) (asks, missing) refusal refused = ranking_kept words.r words.query (λ other. ⊥) asks (λ other never. never) refusal refused
 
 -- a file of the form that the command reads is there
-pub input_there : (H : List ℕ → List ℕ) (files : Files) (command : Command) → HasInput H files command → IsMissing files (read_name command) → ⊥
-input_there H files (Rank words) (asks, (texts, has)) missing = missing_file files words.collection has.bytes (2 ^ 26) missing has.file
-input_there H files (Build words) (texts, has) missing = missing_file files words.collection has.bytes (2 ^ 26) missing has.file
-input_there H files (Root words) (texts, has) missing = missing_file files words.index has.bytes (2 ^ 29) missing has.file
-input_there H files (Prove words) (asks, (texts, has)) missing = missing_file files words.index has.bytes (2 ^ 29) missing has.file
-input_there H files (Verify words) (asks, (query, proof, is)) missing = missing_file files words.proof is.held.bytes (2 ^ 26) missing is.held.file
+pub input_there : (H : List ℕ → List ℕ) (files : Files) (command : Command) → HasInput H files command → LacksFile H files command → ⊥
+input_there H files (Rank words) (asks, (texts, has)) lacks = missing_file files words.collection has.bytes (2 ^ 26) lacks.1 has.file
+input_there H files (Build words) (texts, has) lacks = missing_file files words.collection has.bytes (2 ^ 26) lacks has.file
+input_there H files (Root words) (texts, has) lacks = missing_file files words.index has.bytes (2 ^ 29) lacks has.file
+input_there H files (Prove words) (asks, (texts, has)) lacks = missing_file files words.index has.bytes (2 ^ 29) lacks.1 has.file
+input_there H files (Verify words) (asks, (query, proof, is)) lacks = missing_file files words.proof is.held.bytes (2 ^ 26) lacks.1 is.held.file
 
 pub served_input : (H : List ℕ → List ℕ) (files : Files) (command : Command) → IsServed H files command → HasInput H files command
 served_input H files (Rank words) served = served

@@ -11,11 +11,11 @@ use Rattle.ats_proof.specs.Value.{Proof, IsProof, algorithm_of, fields_of}
 use Rattle.ats_proof.proofs.Unique.{one_value}
 use Rattle.ats_client.specs.Accepts.{Accepts}
 use Rattle.ats_client.specs.declared.refusal.Refusal.{Refusal as ProofRefusal}
-use Rattle.ats_client.proofs.Exact.{accepted}
-use Rattle.ats_top.specs.Words.{VerifyWords, Command, Rank, Build, Root, Prove, Verify, read_name}
+use Rattle.ats_client.proofs.OneRefusal.{accepted}
+use Rattle.ats_top.specs.Words.{VerifyWords, Command, Rank, Build, Root, Prove, Verify}
 use Rattle.ats_top.specs.Read.{Files, IsTold, HasProof}
 use Rattle.ats_top.specs.Verified.{IsAccepted}
-use Rattle.ats_top.specs.Refusals.{IsRefused}
+use Rattle.ats_top.specs.Refusals.{LacksFile, IsRefused}
 use Rattle.ats_top.specs.Rejected.{IsLongFile, IsBadFile, IsCheckRejected, IsProofRejected, IsRejected}
 use Rattle.ats_top.specs.Done.{HasInput}
 use Rattle.ats_top.specs.declared.stops.Refusal.{Refusal}
@@ -81,13 +81,13 @@ proof_missing H files words missing Tra rejected = missing_file files words.proo
 proof_missing H files words missing (Check refusal) rejected = missing_file files words.proof rejected.held.bytes (2 ^ 26) missing rejected.held.file
 
 -- a file that is not there is not rejected
-pub rejected_there : (H : List ℕ → List ℕ) (files : Files) (command : Command) → IsMissing files (read_name command)
+pub rejected_there : (H : List ℕ → List ℕ) (files : Files) (command : Command) → LacksFile H files command
     → (rejection : Rejection) → IsRejected H files command rejection → ⊥
-rejected_there H files (Rank words) missing rejection rejected = rejected
-rejected_there H files (Build words) missing rejection rejected = rejected
-rejected_there H files (Root words) missing rejection rejected = rejected
-rejected_there H files (Prove words) missing rejection rejected = rejected
-rejected_there H files (Verify words) missing rejection rejected = proof_missing H files words missing rejection rejected.1
+rejected_there H files (Rank words) lacks rejection rejected = rejected
+rejected_there H files (Build words) lacks rejection rejected = rejected
+rejected_there H files (Root words) lacks rejection rejected = rejected
+rejected_there H files (Prove words) lacks rejection rejected = rejected
+rejected_there H files (Verify words) lacks rejection rejected = proof_missing H files words lacks.1 rejection rejected.1
 
 -- what is rejected is not refused
 pub rejected_kept : (H : List ℕ → List ℕ) (files : Files) (command : Command) (rejection : Rejection) → IsRejected H files command rejection

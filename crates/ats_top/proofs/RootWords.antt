@@ -1,5 +1,5 @@
 -- The digits of a root spell it as a word.
-use Rattle.std.proofs.Common.{◌≡◌, ◌<◌, ◌/◌, ◌%◌, ℕ, suc, List, [], ◌∷◌, length, slice_index, false, Some, refl, ap, arith}
+use Rattle.std.proofs.Common.{◌≡◌, ◌<◌, ◌/◌, ◌%◌, ℕ, suc, List, [], ◌∷◌, length, slice_index, false, Some, refl, arith}
 use Rattle.std.specs.List.{list_any}
 use Rattle.std.specs.Char.{is_ascii_uppercase}
 use Rattle.hex.specs.Hex.{IsBytes, encode_with, encode_lower, lower_digits}

@@ -13,7 +13,7 @@ pub record IsProofFor (H : List ℕ → List ℕ) (files : Files) (words : Prove
   pub index : HasIndex H files words.index texts
   pub asked : IsQueryOf words.query query
   pub walk : words.algorithm ≡ Tnra
-  pub proved : IsProved H texts query words.r bytes
+  pub proved : IsProved H texts query words.r words.algorithm bytes
   pub short : length bytes ≤ 2 ^ 26
 
 -- the honest proof of the query over that collection has so many bytes, which are more than a proof may have
@@ -23,4 +23,4 @@ pub record IsProofTooLong (H : List ℕ → List ℕ) (files : Files) (words : P
   pub index : HasIndex H files words.index texts
   pub asked : IsQueryOf words.query query
   pub walk : words.algorithm ≡ Tnra
-  pub long : IsTooLong H texts query words.r (2 ^ 26) size
+  pub long : IsTooLong H texts query words.r words.algorithm (2 ^ 26) size

@@ -1,6 +1,6 @@
 -- Why a command refuses its words or its file: the first limit or form that is not kept, in the order of the trials.
 use Rattle.std.specs.Prelude.{◌≡◌, ◌≤◌, ◌^◌, ℕ, List}
-use Rattle.ats_base.specs.Outside.{IsLonger}
+use Rattle.ats_base.specs.Outside.{IsMissing, IsLonger}
 use Rattle.ats_terms.specs.Query.{HasQuery}
 use Rattle.ats_terms.specs.Faults.{IsFirstFault}
 use Rattle.ats_terms.specs.declared.query.QueryFault.TheVariants as query
@@ -35,6 +35,14 @@ Asks (Build words) = Unit {0}
 Asks (Root words) = Unit {0}
 Asks (Prove words) = AsksRanking words.r words.query
 Asks (Verify words) = AsksRanking words.r words.query
+
+-- a file that the command reads is not there, where what is tried before it is good
+abbrev pub LacksFile : (List ℕ → List ℕ) → Files → Command → Type 0
+LacksFile H files (Rank words) = AsksRanking words.r words.query × IsMissing files words.collection
+LacksFile H files (Build words) = IsMissing files words.collection
+LacksFile H files (Root words) = IsMissing files words.index
+LacksFile H files (Prove words) = AsksRanking words.r words.query × IsMissing files words.index
+LacksFile H files (Verify words) = AsksRanking words.r words.query × IsMissing files words.proof
 
 -- the first refusal of the file's bytes is that of the JSON text
 abbrev pub IsJsonRefused : Files → List ℕ → JsonFault → Type 0

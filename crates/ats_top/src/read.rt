@@ -1,7 +1,7 @@
 // The files that commands read.
-ghost use Rattle.std.specs.Prelude.{◌≡◌, ◌≤◌, ◌^◌, IfOk, IfErr};
-ghost use Rattle.ats_base.specs.Outside.{IsMissing};
+ghost use Rattle.std.specs.Prelude.{◌≤◌, ◌^◌, IfOk, IfErr};
 ghost use Rattle.ats_top.specs.Read.{IsFile, HasCollection, HasIndex};
+ghost use Rattle.ats_top.specs.Reading.{Reads};
 ghost use Rattle.ats_top.specs.ReadStops.{FileStop, CollectionStop, IndexStop, ProofStop};
 
 use crate::input::read_collection;
@@ -31,11 +31,9 @@ const TOO_LONG: ShapeFault = ShapeFault {
 
 fn file<S: Shelf>(alloc: Global, name: &str, limit: u64, shelf: &mut S) -> Result<Bytes, Stop>
     requires { limit ≤ 2 ^ 29 }
-    ensures ok { IfOk result (IsFile (S.files shelf.old) name.now limit) }
-    ensures stop { IfErr result (FileStop (S.files shelf.old) name.now limit (S.faults shelf.old) (S.faults shelf.new)) }
-    ensures files { S.files shelf.new ≡ S.files shelf.old }
-    ensures later { S.faults shelf.old ≤ S.faults shelf.new }
-    ensures uncounted { IsMissing (S.files shelf.old) name.now → S.faults shelf.new ≡ S.faults shelf.old }
+    ensures ok { IfOk result (IsFile (S.told shelf.old).files name.now limit) }
+    ensures stop { IfErr result (FileStop (S.told shelf.old) (S.told shelf.new) name.now limit) }
+    ensures reads { Reads (S.told shelf.old) (S.told shelf.new) name.now limit }
 {
     match gather(alloc, shelf, name, limit) {
         Ok(bytes) => Ok(bytes),
@@ -51,11 +49,9 @@ pub(crate) fn collection<S: Shelf>(
     name: &str,
     shelf: &mut S,
 ) -> Result<Collection, Stop>
-    ensures ok { IfOk result (HasCollection (S.files shelf.old) name.now) }
-    ensures stop { IfErr result (CollectionStop (S.files shelf.old) name.now (S.faults shelf.old) (S.faults shelf.new)) }
-    ensures files { S.files shelf.new ≡ S.files shelf.old }
-    ensures later { S.faults shelf.old ≤ S.faults shelf.new }
-    ensures uncounted { IsMissing (S.files shelf.old) name.now → S.faults shelf.new ≡ S.faults shelf.old }
+    ensures ok { IfOk result (HasCollection (S.told shelf.old).files name.now) }
+    ensures stop { IfErr result (CollectionStop (S.told shelf.old) (S.told shelf.new) name.now) }
+    ensures reads { Reads (S.told shelf.old) (S.told shelf.new) name.now (2 ^ 26) }
 {
     let bytes = file(alloc, name, COLLECTION_LIMIT, shelf)?;
     let texts = read_collection(alloc, bytes.as_slice())?;
@@ -68,11 +64,9 @@ pub(crate) fn index<H: Hash32, S: Shelf>(
     name: &str,
     shelf: &mut S,
 ) -> Result<Index<H>, Stop>
-    ensures ok { IfOk result (HasIndex H.hash (S.files shelf.old) name.now) }
-    ensures stop { IfErr result (IndexStop H.hash (S.files shelf.old) name.now (S.faults shelf.old) (S.faults shelf.new)) }
-    ensures files { S.files shelf.new ≡ S.files shelf.old }
-    ensures later { S.faults shelf.old ≤ S.faults shelf.new }
-    ensures uncounted { IsMissing (S.files shelf.old) name.now → S.faults shelf.new ≡ S.faults shelf.old }
+    ensures ok { IfOk result (HasIndex H.hash (S.told shelf.old).files name.now) }
+    ensures stop { IfErr result (IndexStop H.hash (S.told shelf.old) (S.told shelf.new) name.now) }
+    ensures reads { Reads (S.told shelf.old) (S.told shelf.new) name.now (2 ^ 29) }
 {
     let bytes = file(alloc, name, INDEX_LIMIT, shelf)?;
     Ok(Index::<H>::load(alloc, bytes.as_slice())?)
@@ -80,11 +74,9 @@ pub(crate) fn index<H: Hash32, S: Shelf>(
 
 /// The bytes of the proof that the named file may be.
 pub(crate) fn proof<S: Shelf>(alloc: Global, name: &str, shelf: &mut S) -> Result<Bytes, Stop>
-    ensures ok { IfOk result (IsFile (S.files shelf.old) name.now (2 ^ 26)) }
-    ensures stop { IfErr result (ProofStop (S.files shelf.old) name.now (S.faults shelf.old) (S.faults shelf.new)) }
-    ensures files { S.files shelf.new ≡ S.files shelf.old }
-    ensures later { S.faults shelf.old ≤ S.faults shelf.new }
-    ensures uncounted { IsMissing (S.files shelf.old) name.now → S.faults shelf.new ≡ S.faults shelf.old }
+    ensures ok { IfOk result (IsFile (S.told shelf.old).files name.now (2 ^ 26)) }
+    ensures stop { IfErr result (ProofStop (S.told shelf.old) (S.told shelf.new) name.now) }
+    ensures reads { Reads (S.told shelf.old) (S.told shelf.new) name.now (2 ^ 26) }
 {
     match gather(alloc, shelf, name, PROOF_LIMIT) {
         Ok(bytes) => Ok(bytes),

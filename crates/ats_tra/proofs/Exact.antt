@@ -1,55 +1,66 @@
--- Scores that are looked up, and the brackets that they make.
-use Rattle.std.proofs.Common.{◌≡◌, ◌<◌, ◌+◌, ◌*◌, ◌||◌, ◌++◌, ℕ, suc, nat_eq, List, [], ◌∷◌, length, map, take, get_or, refl, sym, ap, ◌∙◌, arith, add-zero, length-take}
-use Rattle.std.proofs.lemmas.List.{get_or-map, length-map, take_more}
-use Rattle.std.proofs.lemmas.List.Elements.{All-map}
-use Rattle.std.proofs.lemmas.List.Kept.{AllPairs-from_increasing}
+-- Scores by a table of impacts, and the brackets that they make.
+use Rattle.std.proofs.Common.{◌≡◌, ◌<◌, ◌+◌, ◌*◌, ◌++◌, ℕ, suc, List, [], ◌∷◌, length, take, get_or, refl, sym, ap, ◌∙◌, arith, add-zero, length-take}
+use Rattle.std.proofs.Math.Nat.{le_refl, le-add_right}
+use Rattle.std.proofs.lemmas.List.{take_more}
 use Rattle.ats_bound.specs.declared.bracket.Bracket.{Bracket}
-use Rattle.ats_bound.specs.Cut.{ShownLane}
-use Rattle.ats_bound.specs.Lookup.{Table, looked_score_from, looked_up}
-use Rattle.ats_bound.specs.Schedule.{AreBracketsBy, has_bracket}
-use Rattle.ats_bound.specs.Settled.{bracket_at}
-use Rattle.ats_bound.proofs.Members.{has}
-use Rattle.ats_tra.specs.Documents.{AreMet}
+use Rattle.ats_bound.specs.Cut.{ShownLane, threshold}
+use Rattle.ats_bound.specs.Lookup.{Table, looked_score, looked_score_from, looked_up}
+use Rattle.ats_bound.specs.Narrow.{IsNarrow}
+use Rattle.ats_bound.specs.Schedule.{AreBracketsBy, WholeLane, shown}
+use Rattle.ats_bound.specs.Scored.{exact, exactly}
+use Rattle.ats_tra.specs.Looked.{score_by, score_from}
 
-looked_push : (k : ℕ) (table : Table) (lanes : List ShownLane) (lane : ShownLane) (doc : ℕ)
-    → looked_score_from k table (lanes ++ lane ∷ []) doc ≡ looked_score_from k table lanes doc + lane.coefficient * table (k + length lanes) doc
-looked_push k table [] lane doc =
+score_push : (k : ℕ) (table : Table) (lanes : List WholeLane) (lane : WholeLane) (doc : ℕ)
+    → score_from k table (lanes ++ lane ∷ []) doc ≡ score_from k table lanes doc + lane.coefficient * table (k + length lanes) doc
+score_push k table [] lane doc =
     let here : lane.coefficient * table k doc ≡ lane.coefficient * table (k + 0) doc = ap (λ n. lane.coefficient * table n doc) (sym (add-zero k)) in
     omega (arith, here)
-looked_push k table (first ∷ lanes) lane doc =
-    let later = looked_push (k + 1) table lanes lane doc in
+score_push k table (first ∷ lanes) lane doc =
+    let later = score_push (k + 1) table lanes lane doc in
     let here : lane.coefficient * table (k + 1 + length lanes) doc ≡ lane.coefficient * table (k + suc (length lanes)) doc =
     ap (λ n. lane.coefficient * table n doc) (omega arith) in
     omega (arith, later, here)
 
 -- the score by one lane more
-pub looked_more : (table : Table) (lanes : List ShownLane) (doc i : ℕ) (d : ShownLane) → i < length lanes
-    → looked_score_from 0 table (take (i + 1) lanes) doc ≡ looked_score_from 0 table (take i lanes) doc + (get_or lanes i d).coefficient * table i doc
-looked_more table lanes doc i d inside =
-    let lane : ShownLane = get_or lanes i d in
+pub score_more : (table : Table) (lanes : List WholeLane) (doc i : ℕ) (d : WholeLane) → i < length lanes
+    → score_by table (take (i + 1) lanes) doc ≡ score_by table (take i lanes) doc + (get_or lanes i d).coefficient * table i doc
+score_more table lanes doc i d inside =
+    let lane : WholeLane = get_or lanes i d in
     let place : 0 + length (take i lanes) ≡ i = omega (arith, length-take i lanes, inside) in
-    ap (λ front. looked_score_from 0 table front doc) (take_more lanes i d inside) ∙ looked_push 0 table (take i lanes) lane doc
-    ∙ ap (λ n. looked_score_from 0 table (take i lanes) doc + lane.coefficient * table n doc) place
+    ap (λ front. score_from 0 table front doc) (take_more lanes i d inside) ∙ score_push 0 table (take i lanes) lane doc
+    ∙ ap (λ n. score_from 0 table (take i lanes) doc + lane.coefficient * table n doc) place
 
-has_looked : (table : Table) (lanes : List ShownLane) (doc : ℕ) (documents : List ℕ) → has_bracket doc (map (looked_up table lanes) documents) ≡ has doc documents
-has_looked table lanes doc [] = refl
-has_looked table lanes doc (first ∷ documents) = ap (λ b. nat_eq first doc || b) (has_looked table lanes doc documents)
+-- what is shown does not matter
+looked_is_score : (k : ℕ) (table : Table) (lanes : List WholeLane) (cut : List ℕ) (doc : ℕ) → length cut ≡ length lanes
+    → looked_score_from k table (shown lanes cut) doc ≡ score_from k table lanes doc
+looked_is_score k table [] cut doc same = refl
+looked_is_score k table (lane ∷ lanes) [] doc same = absurd (omega (arith, same))
+looked_is_score k table (lane ∷ lanes) (count ∷ cut) doc same =
+    ap (λ n. lane.coefficient * table k doc + n) (looked_is_score (k + 1) table lanes cut doc (omega (arith, same)))
 
-doc_at : (table : Table) (lanes : List ShownLane) (documents : List ℕ) (i : ℕ) → i < length documents
-    → (bracket_at (map (looked_up table lanes) documents) i).doc ≡ get_or documents i 0
-doc_at table lanes documents i inside =
-    ap (λ (b : Bracket). b.doc) (get_or-map (looked_up table lanes) documents i 0 (record { doc = 0; lo = 0; hi = 0 }) inside)
+exact_is_looked : (table : Table) (lanes : List WholeLane) (cut : List ℕ) (doc : ℕ) → length cut ≡ length lanes
+    → exact doc (score_by table lanes doc) ≡ looked_up table (shown lanes cut) doc
+exact_is_looked table lanes cut doc same = ap (exact doc) (sym (looked_is_score 0 table lanes cut doc same))
 
--- the scores of the met documents are their brackets
-pub looked_are_brackets : (table : Table) (lanes : List ShownLane) (documents : List ℕ) → AreMet lanes documents
-    → AreBracketsBy (looked_up table) lanes (map (looked_up table lanes) documents)
-looked_are_brackets table lanes documents are = record {
-  rise = λ i j less inside.
-      let size : length (map (looked_up table lanes) documents) ≡ length documents = length-map documents (looked_up table lanes) in
-      let there : j < length documents = omega (arith, size, inside) in
-      let here : i < length documents = omega (arith, less, there) in
-      rw (doc_at table lanes documents i here, doc_at table lanes documents j there)
-      (AllPairs-from_increasing documents are.rise i j 0 less there);
-  met = λ doc. has_looked table lanes doc documents ∙ are.met doc;
-  each = All-map (λ (b : Bracket). b ≡ looked_up table lanes b.doc) (looked_up table lanes) documents (λ i d inside. refl);
+-- brackets of these scores are looked up
+pub scores_are_looked : (table : Table) (lanes : List WholeLane) (cut : List ℕ) (brackets : List Bracket) → length cut ≡ length lanes
+    → AreBracketsBy (exactly (score_by table lanes)) (shown lanes cut) brackets → AreBracketsBy (looked_up table) (shown lanes cut) brackets
+scores_are_looked table lanes cut brackets same of = record {
+  rise = of.rise;
+  met = of.met;
+  each = λ i d inside. of.each i d inside ∙ exact_is_looked table lanes cut (get_or brackets i d).doc same;
 }
+
+-- and back
+pub looked_are_scores : (table : Table) (lanes : List WholeLane) (cut : List ℕ) (brackets : List Bracket) → length cut ≡ length lanes
+    → AreBracketsBy (looked_up table) (shown lanes cut) brackets → AreBracketsBy (exactly (score_by table lanes)) (shown lanes cut) brackets
+looked_are_scores table lanes cut brackets same of = record {
+  rise = of.rise;
+  met = of.met;
+  each = λ i d inside. of.each i d inside ∙ sym (exact_is_looked table lanes cut (get_or brackets i d).doc same);
+}
+
+pub looked_is_narrow : (table : Table) (lanes : List ShownLane) (doc : ℕ) → IsNarrow (threshold lanes) doc (looked_up table lanes doc)
+looked_is_narrow table lanes doc =
+    let score : ℕ = looked_score table lanes doc in
+    record { of = refl; proper = le_refl score; narrow = le-add_right score (threshold lanes) }

@@ -1,2 +1,2 @@
 pub mod Exact
-pub mod Gathered
+pub mod Turns

@@ -1,16 +1,15 @@
 //! The threshold walk with random access: how far the lists of a query must be shown, where the score of
 //! each document that they name is looked up.
 //!
-//! The room stands on the walk of `ats_walk`, the lanes and settled answers of `ats_bound` and the number
-//! of rows of `ats_impact`. A caller hands in the impacts as a [`RandomAccess`]. The contract of [`walk`]
-//! promises the first cut of the schedule at which any answer is settled by exact scores, with the brackets
-//! of the documents met there, each its document's score twice, the chosen answer among them, and the
-//! threshold. How met documents are gathered and scores are summed may change without asking.
+//! The room stands on the lanes, settled answers and the walk with known scores of `ats_bound` and the
+//! number of rows of `ats_impact`. A caller hands in the impacts as a [`RandomAccess`]. The contract of
+//! [`walk`] promises the first cut of the schedule at which any answer is settled by exact scores, with the
+//! brackets of the documents met there, each its document's score twice, the chosen answer among them, and
+//! the threshold. How scores are summed may change without asking.
 #![tactic(auto)]
 
 mod access;
 mod looking;
-mod meeting;
 #[cfg(test)]
 mod tests;
 mod walking;

@@ -4,9 +4,12 @@ use Rattle.ats_grammar.specs.Table.{number}
 use Rattle.ats_impact.specs.declared.rank.Row.{Row}
 use Rattle.ats_bound.specs.declared.bracket.Bracket.{Bracket}
 use Rattle.ats_bound.specs.declared.work.Mark.{Mark}
-use Rattle.ats_bound.specs.Cut.{ShownLane, bracket}
+use Rattle.ats_bound.specs.Cut.{ShownLane}
+use Rattle.ats_bound.specs.Schedule.{Bounding}
 use Rattle.ats_proof.specs.Value.{Proof}
 use Rattle.ats_proof.specs.Views.{proof_of}
+use Rattle.ats_client.specs.Bracketing.{bounds_of}
+use Rattle.ats_client.proofs.Bracketing.{own_doc}
 use Rattle.ats_client.specs.Bounds.{upper}
 use Rattle.ats_client.specs.Groups.{met_at}
 use Rattle.ats_client.specs.Presented.{lanes_of}
@@ -37,7 +40,7 @@ upper-requires-clause-held c =
     let left : IsLeft query proof c.args.work.now.marks c.args.threshold = c.requires.left.1 in
     let index : ℕ = c.answer-index.result in
     let inside : index < length proof.met = at_place (λ (x : ℕ). x < length proof.met) proof.answer c.args.i index left.inside c.answer-index.ensures.row in
-    rw c.get-mark.ensures.mark (held_within (lanes_of query proof) proof.met c.args.work.now.marks c.args.threshold left.each left.rests index inside)
+    rw c.get-mark.ensures.mark (held_within (bounds_of proof) (lanes_of query proof) proof.met c.args.work.now.marks c.args.threshold left.each left.rests index inside)
 
 pub upper-requires-clause-small : goal.upper-requires-clause-small
 upper-requires-clause-small c =
@@ -52,14 +55,16 @@ pub returns-clause-row : goal.returns-clause-row
 returns-clause-row c query left =
     let proof : Proof = proof_of c.args.proof.now in
     let lanes : List ShownLane = lanes_of query proof in
+    let bounds : Bounding = bounds_of proof in
     let marks : List Mark = c.args.work.now.marks in
     let index : ℕ = c.answer-index.result in
     let here : get_or proof.answer c.args.i 0 ≡ index = get_or_from_slice_get proof.answer c.args.i index 0 c.answer-index.ensures.row in
     let inside : index < length proof.met = at_place (λ (x : ℕ). x < length proof.met) proof.answer c.args.i index left.inside c.answer-index.ensures.row in
     let id : get_or proof.met index 0 ≡ number c.met_id-id.result.now = get_or_from_slice_get proof.met index (number c.met_id-id.result.now) 0 c.met_id-id.ensures.id in
-    let doc : c.from_be_bytes.result ≡ get_or proof.met index 0 = omega (arith, number_of_four c.met_id-id.result.now c.met_id-id.ensures.size, c.from_be_bytes.ensures, id) in
-    let lower : c.get-mark.result.lo ≡ (bracket lanes (met_at proof.met index)).lo = ap (λ (m : Mark). m.lo) c.get-mark.ensures.mark ∙ (left.each.each index inside).least in
-    let at_most : c.upper.result ≡ (bracket lanes (met_at proof.met index)).hi =
-    c.upper.ensures ∙ (ap (upper c.args.threshold) c.get-mark.ensures.mark ∙ sym (upper_is lanes proof.met marks c.args.threshold left.each left.rests index inside)) in
-    row_is c.from_be_bytes.result c.get-mark.result.lo c.upper.result (bracket lanes (met_at proof.met index)) doc lower at_most
-    ∙ ap (λ k. row_of (bracket lanes (met_at proof.met k))) (sym here)
+    let doc : c.from_be_bytes.result ≡ (bounds lanes (met_at proof.met index)).doc =
+    omega (arith, number_of_four c.met_id-id.result.now c.met_id-id.ensures.size, c.from_be_bytes.ensures, id, own_doc proof.met proof.docs lanes (met_at proof.met index)) in
+    let lower : c.get-mark.result.lo ≡ (bounds lanes (met_at proof.met index)).lo = ap (λ (m : Mark). m.lo) c.get-mark.ensures.mark ∙ (left.each.each index inside).least in
+    let at_most : c.upper.result ≡ (bounds lanes (met_at proof.met index)).hi =
+    c.upper.ensures ∙ (ap (upper c.args.threshold) c.get-mark.ensures.mark ∙ sym (upper_is bounds lanes proof.met marks c.args.threshold left.each left.rests index inside)) in
+    row_is c.from_be_bytes.result c.get-mark.result.lo c.upper.result (bounds lanes (met_at proof.met index)) doc lower at_most
+    ∙ ap (λ k. row_of (bounds lanes (met_at proof.met k))) (sym here)

@@ -5,7 +5,7 @@ use Rattle.ats_proof.specs.Reading.{prefix_size, prefix_in, lists_place}
 use Rattle.ats_proof.specs.Views.{proof_of}
 use Rattle.ats_proof.proofs.Runs.{length-parts}
 use Rattle.ats_client.specs.declared.refusal.Refusal.{Refusal}
-use Rattle.ats_client.proofs.Exact.{accepted}
+use Rattle.ats_client.proofs.OneRefusal.{accepted}
 use Rattle.ats_client.proofs.Headline.{top_or_collides}
 use Rattle.ats_client.proofs.checking.check.Goals as goal
 

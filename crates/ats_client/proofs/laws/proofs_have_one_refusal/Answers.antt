@@ -1,5 +1,4 @@
-use Rattle.ats_client.proofs.Exact.{not_both}
-use Rattle.ats_client.proofs.OneRefusal.{one_refusal}
+use Rattle.ats_client.proofs.OneRefusal.{one_refusal, not_both}
 use Rattle.ats_client.proofs.laws.proofs_have_one_refusal.Goals as goal
 
 pub returns-clause-one : goal.returns-clause-one

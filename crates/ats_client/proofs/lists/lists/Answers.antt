@@ -5,6 +5,7 @@ use Rattle.ats_proof.specs.Reading.{prefix_size, prefix_in, slots_in, lists_plac
 use Rattle.ats_proof.specs.Views.{proof_of}
 use Rattle.ats_proof.proofs.Runs.{length-parts}
 use Rattle.ats_client.specs.Lists.{prefixes_left, presented_of}
+use Rattle.ats_client.specs.Seen.{entries_left}
 use Rattle.ats_client.specs.Presented.{Presented}
 use Rattle.ats_client.specs.Noting.{Note, AreNotes, index_lane, lane_notes, notes_of}
 use Rattle.ats_client.proofs.Passing.{begins, passes_absent, passes_present, done, marks_done, free_done, rests_done, IsPassed}
@@ -12,7 +13,7 @@ use Rattle.ats_client.proofs.lists.lists.Goals as goal
 use Rattle.ats_client.proofs.lists.lists.Goals.{in-Some+in_ok-limit, in_default}
 
 pub loop-i-init : goal.loop-i-init
-unfolding prefixes_left
+unfolding prefixes_left entries_left
 loop-i-init g c =
     let proof = proof_of c.args.proof.now in
     let bytes = c.args.proof.now.bytes.now in
@@ -22,7 +23,7 @@ loop-i-init g c =
     let zeros : c.begin.new.self.marks ≡ replicate (length proof.met) zero_mark = ap (λ (w : Marked). w.marks) c.begin.ensures.marks ∙ ap (λ (n : ℕ). replicate n zero_mark) c.met.ensures in
     record {
       passed = begins g.H.HashKind.hash c.args.query.now proof (prefixes_left c.lists-left.result) c.begin.new.self.marks all enough zeros;
-      dict = c.new-walk.ensures;
+      dict = ap entries_left c.over-walk.ensures ∙ c.dict.ensures.entries;
       room = ap (λ (w : Marked). w.room) c.begin.ensures.marks;
       cost = omega (arith, c.begin.ensures.steps, c.met.type_inv);
     }
@@ -52,7 +53,7 @@ loop-i-preserved g c =
           record {
             passed = subst (λ (n : ℕ). IsPassed H query proof (i + 1) after n c.match-present.work.marks) (sym w.limit-is)
                 (subst (λ (m : Marked). IsPassed H query proof (i + 1) after (c.loop-i.limit + w.in_ok-limit.field-0) m.marks) (sym w.work-is) passed);
-            dict = w.in-Some.ensures.dict ∙ c.loop-i.invariant.dict;
+            dict = ap entries_left w.in-Some.ensures.dict ∙ c.loop-i.invariant.dict;
             room = ap (λ (m : Marked). m.room) w.work-is ∙ w.in_ok-limit.ensures.room ∙ c.loop-i.invariant.room;
             cost = omega (arith, w.steps-is, w.in_ok-limit.ensures.cost, w.in-Some.ensures.cost, c.loop-i.invariant.cost);
           }
@@ -61,7 +62,7 @@ loop-i-preserved g c =
           record {
             passed = subst (λ (n : ℕ). IsPassed H query proof (i + 1) after n c.match-present.work.marks) (sym w.limit-is)
                 (subst (λ (m : Marked). IsPassed H query proof (i + 1) after c.loop-i.limit m.marks) (sym w.work-is) passed);
-            dict = w.in_default.ensures.dict ∙ c.loop-i.invariant.dict;
+            dict = ap entries_left w.in_default.ensures.dict ∙ c.loop-i.invariant.dict;
             room = ap (λ (m : Marked). m.room) w.work-is ∙ c.loop-i.invariant.room;
             cost = omega (arith, w.steps-is, w.in_default.ensures.cost, c.loop-i.invariant.cost);
           }

@@ -46,7 +46,7 @@ returns-clause-noted c =
     subst (λ (ms : List Mark). AreNoted (take (c.args.row + 1) proof.answer) ms) (sym is) more
 
 pub returns-clause-marks : goal.returns-clause-marks
-returns-clause-marks c lanes are =
+returns-clause-marks c bounds lanes are =
     let proof : Proof = proof_of c.args.proof.now in
     let index : ℕ = c.answer-index.result in
     let marks : List Mark = c.args.work.now.marks in
@@ -54,4 +54,4 @@ returns-clause-marks c lanes are =
     let noted : Mark → Mark = λ (m : Mark). record { lo = m.lo; held = m.held; list = m.list; row = true } in
     let is : c.put.new.self.marks ≡ set marks index (noted (mark_at marks index)) =
     ap (λ (w : Marked). w.marks) c.put.ensures.marks ∙ ap (λ (m : Mark). set marks index (noted m)) c.get-mark.ensures.mark in
-    subst (λ (ms : List Mark). AreMarks lanes proof.met ms) (sym is) (marks_kept lanes proof.met marks index true are low)
+    subst (λ (ms : List Mark). AreMarks bounds lanes proof.met ms) (sym is) (marks_kept bounds lanes proof.met marks index true are low)

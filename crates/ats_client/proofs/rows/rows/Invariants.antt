@@ -1,5 +1,6 @@
 use Rattle.std.proofs.Common.{◌≡◌, ◌+◌, ◌*◌, ◌≤◌, List, length, take}
 use Rattle.ats_bound.specs.Cut.{ShownLane}
+use Rattle.ats_bound.specs.Schedule.{Bounding}
 use Rattle.ats_proof.specs.Views.{proof_of}
 use Rattle.ats_client.specs.Indexes.{AreNames}
 use Rattle.ats_client.specs.Marked.{AreMarks, AreNoted}
@@ -10,7 +11,7 @@ invariant-loop-row l = record {
   names : AreNames (length (proof_of l.proof).met) (take l.row (proof_of l.proof).answer);
   noted : AreNoted (take l.row (proof_of l.proof).answer) l.work.marks;
   size : length l.work.marks ≡ length l.initial.work.marks;
-  marks : (lanes : List ShownLane) → AreMarks lanes (proof_of l.proof).met l.initial.work.marks → AreMarks lanes (proof_of l.proof).met l.work.marks;
+  marks : (bounds : Bounding) (lanes : List ShownLane) → AreMarks bounds lanes (proof_of l.proof).met l.initial.work.marks → AreMarks bounds lanes (proof_of l.proof).met l.work.marks;
   room : l.work.room ≡ l.initial.work.room;
   least : l.initial.steps ≤ l.steps;
   most : l.steps ≤ l.initial.steps + 3 * l.row;

@@ -20,48 +20,48 @@ whole_as n r m n' r' m' limit same_n same_r same_m whole = elim whole [
 
 pub last_lower-requires-clause-below : goal.last_lower-requires-clause-below
 last_lower-requires-clause-below c =
-    below c.requires.marks.0 (proof_of c.args.proof.now).met c.args.work.now.marks c.args.limit c.requires.marks.1 c.requires.marks.2 c.requires.small
+    below c.requires.marks.0 c.requires.marks.1 (proof_of c.args.proof.now).met c.args.work.now.marks c.args.limit c.requires.marks.2 c.requires.marks.3 c.requires.small
 
 pub rest_is_within-requires-clause-below : goal.rest_is_within-requires-clause-below
 rest_is_within-requires-clause-below c =
-    below c.requires.marks.0 (proof_of c.args.proof.now).met c.args.work.now.marks c.args.limit c.requires.marks.1 c.requires.marks.2 c.requires.small
+    below c.requires.marks.0 c.requires.marks.1 (proof_of c.args.proof.now).met c.args.work.now.marks c.args.limit c.requires.marks.2 c.requires.marks.3 c.requires.small
 
 pub returns-then-not-is_whole-clause-settled : goal.returns-then-not-is_whole-clause-settled
-returns-then-not-is_whole-clause-settled c lanes are rests =
+returns-then-not-is_whole-clause-settled c bounds lanes are rests =
     let proof : Proof = proof_of c.args.proof.now in (
       λ seen. absurd (false≢true seen),
       λ settled. absurd (false≢true (sym c.if-not-is_whole.true ∙ c.is_whole.ensures.1 (
         omega (arith, settled.most, c.answers.ensures, c.get.ensures.value),
         whole_as (length proof.answer) c.args.top (length proof.met) c.answers.result c.get.result c.met-met.result c.args.limit c.answers.ensures c.get.ensures.value c.met-met.ensures
-            (says_whole lanes proof.met c.args.work.now.marks c.args.limit are rests proof.answer c.requires.rows c.requires.noted c.requires.small c.args.top settled),
+            (says_whole bounds lanes proof.met c.args.work.now.marks c.args.limit are rests proof.answer c.requires.rows c.requires.noted c.requires.small c.args.top settled),
       ))),
     )
 
 pub returns-in-None-clause-settled : goal.returns-in-None-clause-settled
-returns-in-None-clause-settled c lanes are rests =
+returns-in-None-clause-settled c bounds lanes are rests =
     let proof : Proof = proof_of c.args.proof.now in (
       λ seen. absurd (false≢true seen),
-      λ settled. absurd (c.in-None.ensures.falling (says_falling lanes proof.met c.args.work.now.marks c.args.limit are rests proof.answer c.requires.rows c.requires.noted c.requires.small c.args.top settled)),
+      λ settled. absurd (c.in-None.ensures.falling (says_falling bounds lanes proof.met c.args.work.now.marks c.args.limit are rests proof.answer c.requires.rows c.requires.noted c.requires.small c.args.top settled)),
     )
 
 pub returns-then-limit-score-clause-settled : goal.returns-then-limit-score-clause-settled
-returns-then-limit-score-clause-settled c lanes are rests =
+returns-then-limit-score-clause-settled c bounds lanes are rests =
     let proof : Proof = proof_of c.args.proof.now in
     let marks : List Mark = c.args.work.now.marks in
     let score : c.in-Some.score ≡ lower_before marks proof.answer (length proof.answer) = c.in-Some.ensures.falling.1 in
     let whole = c.is_whole.ensures.0 c.if-not-is_whole.false in (
-      λ seen. settles lanes proof.met marks c.args.limit are rests proof.answer c.requires.rows c.requires.noted c.requires.small c.args.top
+      λ seen. settles bounds lanes proof.met marks c.args.limit are rests proof.answer c.requires.rows c.requires.noted c.requires.small c.args.top
           (omega (arith, whole.0, c.answers.ensures, c.get.ensures.value))
           (whole_as c.answers.result c.get.result c.met-met.result (length proof.answer) c.args.top (length proof.met) c.args.limit (sym c.answers.ensures) (sym c.get.ensures.value) (sym c.met-met.ensures) whole.1)
           c.in-Some.ensures.falling.0
           (omega (arith, c.if-limit-score.true, score))
           (subst (λ (s : ℕ). IsRestWithin c.args.limit marks s) score (c.rest_is_within.ensures.within.0 seen)),
       λ settled. c.rest_is_within.ensures.within.1
-          (subst (λ (s : ℕ). IsRestWithin c.args.limit marks s) (sym score) (says_rest lanes proof.met marks c.args.limit are rests proof.answer c.requires.rows c.requires.noted c.requires.small c.args.top settled)),
+          (subst (λ (s : ℕ). IsRestWithin c.args.limit marks s) (sym score) (says_rest bounds lanes proof.met marks c.args.limit are rests proof.answer c.requires.rows c.requires.noted c.requires.small c.args.top settled)),
     )
 
 pub returns-else-limit-score-clause-settled : goal.returns-else-limit-score-clause-settled
-returns-else-limit-score-clause-settled c lanes are rests =
+returns-else-limit-score-clause-settled c bounds lanes are rests =
     let proof : Proof = proof_of c.args.proof.now in
     let marks : List Mark = c.args.work.now.marks in
     let score : c.in-Some.score ≡ lower_before marks proof.answer (length proof.answer) = c.in-Some.ensures.falling.1 in (
@@ -70,6 +70,6 @@ returns-else-limit-score-clause-settled c lanes are rests =
           absurd (omega (arith, c.if-limit-score.false, less)),
       λ settled.
           let le : c.args.limit ≤ lower_before marks proof.answer (length proof.answer) =
-          says_unmet lanes proof.met marks c.args.limit are rests proof.answer c.requires.rows c.requires.noted c.requires.small c.args.top settled in
+          says_unmet bounds lanes proof.met marks c.args.limit are rests proof.answer c.requires.rows c.requires.noted c.requires.small c.args.top settled in
           absurd (omega (arith, c.if-limit-score.false, le, score)),
     )

@@ -1,12 +1,12 @@
 use Rattle.std.proofs.Common.{◌≡◌, ◌+◌, ◌*◌, ◌<◌, ◌≤◌, ℕ}
 use Rattle.ats_proof.specs.Views.{proof_of}
 use Rattle.ats_client.specs.Groups.{IsSlotRight}
-use Rattle.ats_client.specs.Walked.{dict_of}
+use Rattle.ats_client.specs.Seen.{entries_left}
 use Rattle.ats_client.proofs.slots.slots.Given as goal
 
 abbrev pub invariant-loop-i : goal.invariant-loop-i
 invariant-loop-i l = record {
-  dict : dict_of l.walk ≡ (proof_of l.proof).dict;
+  dict : entries_left l.walk.all ≡ (proof_of l.proof).dict;
   right : (i : ℕ) → i < l.i → IsSlotRight l.query (proof_of l.proof) i;
   cost : l.steps ≤ l.fn.steps + l.i * 262144;
 }

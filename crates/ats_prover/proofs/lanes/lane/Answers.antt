@@ -5,7 +5,7 @@ use Rattle.ats_prover.proofs.lanes.lane.Goals as goal
 
 pub returns-clause-few : goal.returns-clause-few
 returns-clause-few c =
-    let few = few_idf c.args.documents (length c.args.entries.now) c.requires.documents c.requires.list.some c.idf.ensures.doublings in
+    let few = few_idf c.args.documents (length c.args.entries.now) c.requires.documents c.requires.list.some in
     let weight : c.from.result ≤ 255 = omega (arith, c.ranges.weight.fits, c.from.ensures) in
     let idf : c.idf.result ≤ 128 = omega (arith, few, c.idf.ensures.value) in
     omega (arith, mul-le-mul weight idf)

@@ -19,11 +19,12 @@ use Rattle.ats_proof.specs.Value.{digest_fields, entry_fields, id_fields, prefix
 use Rattle.ats_prover.specs.Terms.{AreNeeded, AreSpots, shown_entry, slot_of}
 use Rattle.ats_prover.specs.Lanes.{lanes_of}
 use Rattle.ats_prover.specs.Honest.{prefixes}
-use Rattle.ats_prover.specs.Writing.{put}
+use Rattle.ats_prover.specs.Writing.{IsWritten, put}
+use Rattle.ats_records.specs.declared.record.Algorithm.{Algorithm}
 use Rattle.ats_prover.proofs.Spots.{spot_each}
 use Rattle.ats_prover.proofs.Ranges.{positions_below}
 use Rattle.ats_prover.proofs.Short.{is_short}
-use Rattle.ats_walk.proofs.Shown.{have_entries, scheduled_is_cut}
+use Rattle.ats_bound.proofs.Shown.{have_entries, scheduled_is_cut}
 use Rattle.ats_prover.proofs.Whole.{HasParts, docs_of, front_put, written}
 use Rattle.ats_prover.proofs.proving.write_proof.Goals as goal
 
@@ -92,5 +93,6 @@ returns g c =
     let Walk : List WholeLane → Written = λ (ls : List WholeLane).
     put c.write_terms.new.writer (counted 4 id_fields (docs_of brackets) ++ flat_map prefix_fields (prefixes H (docs_of brackets) ls cut) ++ counted 2 id_fields picks) in
     on_ok_weaker c.write_walk.result (λ is.
-    written H texts query c.args.top spots positions cut brackets picks c.args.writer.now c.front.new.self c.write_terms.new.writer c.write_walk.new.writer parts front terms
-    (is ∙ ap Walk last) (is_short H texts query c.args.top spots positions cut brackets picks parts)) c.write_walk.ensures.fields
+    subst (λ (a : Algorithm). IsWritten H texts query c.args.top a c.args.writer.now c.write_walk.new.writer) (sym c.requires.algorithm)
+    (written H texts query c.args.top spots positions cut brackets picks c.args.writer.now c.front.new.self c.write_terms.new.writer c.write_walk.new.writer parts front terms
+    (is ∙ ap Walk last) (is_short H texts query c.args.top spots positions cut brackets picks parts))) c.write_walk.ensures.fields

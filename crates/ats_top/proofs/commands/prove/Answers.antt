@@ -1,6 +1,7 @@
 use Rattle.std.proofs.Common.{inl, arith}
 use Rattle.ats_top.specs.Refusals.{AsksRanking}
 use Rattle.ats_top.specs.Proved.{IsProofFor}
+use Rattle.ats_top.proofs.Readings.{prove_read, prove_stored}
 use Rattle.ats_top.proofs.Stored.{proof_part}
 use Rattle.ats_top.proofs.commands.prove.Goals as goal
 
@@ -9,8 +10,8 @@ returns-clause-stop g c =
     let within = c.in_ok-rows.ensures.within in
     let asks : AsksRanking c.args.r c.args.query.now = record { rows = record { some = within.0; few = within.1 }; query = c.in_ok-asked.ensures.ok.has } in
     let failed = c.in-Err.ensures.cause.failed in
-    let later = c.in_ok-loaded.ensures.later in
-    let proof : IsProofFor g.H.HashKind.hash (g.S.Shelf.files c.args.shelf.now)
+    let later = c.in_ok-loaded.ensures.reads.later in
+    let proof : IsProofFor g.H.HashKind.hash (g.S.Shelf.told c.args.shelf.now).files
     (record { index = c.args.index.now; algorithm = c.args.algorithm; r = c.args.r; query = c.args.query.now; proof = c.args.proof.now }) _ = record {
       texts = _;
       query = _;
@@ -20,4 +21,21 @@ returns-clause-stop g c =
       proved = rw c.in_ok-rows.ensures.ok at c.in_ok-bytes.ensures.ok;
       short = c.in_ok-bytes.ensures.within;
     } in
-    (asks, inl (omega (arith, failed, later)), proof_part _ _ _ _ _ _ asks proof c.in_ok-loaded.ensures.files (rw c.as_slice.ensures at c.in-Err.ensures.err))
+    (inl (asks, omega (arith, failed, later)), proof_part _ _ _ _ _ _ asks proof c.in_ok-loaded.ensures.reads.files (rw c.as_slice.ensures at c.in-Err.ensures.err))
+
+pub returns-in_err-loaded-clause-serves : goal.returns-in_err-loaded-clause-serves
+returns-in_err-loaded-clause-serves g c = prove_read _ _ _ c.index.ensures.reads
+
+pub returns-in_err-bytes-clause-serves : goal.returns-in_err-bytes-clause-serves
+returns-in_err-bytes-clause-serves g c = prove_read _ _ _ c.in_ok-loaded.ensures.reads
+
+pub returns-in_err-line-clause-serves : goal.returns-in_err-line-clause-serves
+returns-in_err-line-clause-serves g c = prove_read _ _ _ c.in_ok-loaded.ensures.reads
+
+pub returns-in-Ok-clause-serves : goal.returns-in-Ok-clause-serves
+returns-in-Ok-clause-serves g c =
+    prove_stored _ _ (g.S.Shelf.told c.index.new.shelf) g.H.HashKind.hash _ _ c.in_ok-loaded.ensures.ok c.in_ok-loaded.ensures.reads c.in-Ok.ensures.asked c.in-Ok.ensures.cause.later
+
+pub returns-clause-serves : goal.returns-clause-serves
+returns-clause-serves g c =
+    prove_stored _ _ (g.S.Shelf.told c.index.new.shelf) g.H.HashKind.hash _ _ c.in_ok-loaded.ensures.ok c.in_ok-loaded.ensures.reads c.in-Err.ensures.asked c.in-Err.ensures.cause.later

@@ -1,0 +1,66 @@
+-- The walk takes turn after turn until an answer is settled.
+use Rattle.std.proofs.Common.{◌≡◌, ◌+◌, ℕ, suc, List, set, get_or, refl, sym, subst, arith, inl, inr}
+use Rattle.std.proofs.lemmas.Bool.{cases_order}
+use Rattle.ats_bound.specs.declared.bracket.Bracket.{Bracket}
+use Rattle.ats_bound.specs.declared.walk.Walk.{Walk}
+use Rattle.ats_bound.specs.Settled.{ArePicks, IsSettled}
+use Rattle.ats_bound.specs.Schedule.{WholeLane, Bounding, IsNextLane, IsScheduled, CanSettleBy, IsFirstSettledBy, first_cut, shown}
+use Rattle.ats_bound.specs.Stand.{IsStand, IsEnd, IsReached}
+use Rattle.ats_bound.proofs.One.{one_bracketing}
+use Rattle.ats_bound.proofs.OneCut.{one_schedule}
+
+-- the walk begins at the first cut
+pub reached_first : (bounds : Bounding) (lanes : List WholeLane) (r : ℕ) → IsReached bounds lanes r (first_cut lanes)
+reached_first bounds lanes r = record {
+  turns = 0;
+  scheduled = refl;
+  none = λ n earlier less is can. omega (arith, less);
+}
+
+-- where no answer is settled, it goes on with the next cut
+pub reached_after : (bounds : Bounding) (lanes : List WholeLane) (r : ℕ) (cut : List ℕ) (i : ℕ) → IsReached bounds lanes r cut → (CanSettleBy bounds lanes r cut → ⊥)
+    → IsNextLane lanes cut i → IsReached bounds lanes r (set cut i (get_or cut i 0 + 1))
+reached_after bounds lanes r cut i reached cannot next = record {
+  turns = suc reached.turns;
+  scheduled = (cut, reached.scheduled, record { place = i; next = next; counts = refl });
+  none = λ n earlier less is can. elim (cases_order n reached.turns) [
+    | inl same ↦
+        let here : IsScheduled lanes reached.turns earlier = subst (λ (m : ℕ). IsScheduled lanes m earlier) same is in
+        cannot (subst (λ (c : List ℕ). CanSettleBy bounds lanes r c) (one_schedule lanes reached.turns earlier cut here reached.scheduled) can)
+    | inr other ↦ elim other [
+      | inl before ↦ reached.none n earlier before is can
+      | inr after ↦ absurd (omega (arith, less, after))
+    ]
+  ];
+}
+
+-- where the chosen answer is not settled, none is
+pub cannot_settle : (bounds : Bounding) (lanes : List WholeLane) (r : ℕ) (cut : List ℕ) (walk : Walk) → IsStand bounds lanes r cut walk
+    → (IsSettled walk.brackets walk.picks walk.threshold r → ⊥) → CanSettleBy bounds lanes r cut → ⊥
+cannot_settle bounds lanes r cut walk stand unsettled can =
+    let same : can.brackets ≡ walk.brackets = one_bracketing bounds (shown lanes cut) can.brackets walk.brackets can.bounded stand.brackets in
+    let inside : ArePicks walk.brackets can.answer = subst (λ (bs : List Bracket). ArePicks bs can.answer) same can.inside in
+    let limit : IsSettled can.brackets can.answer walk.threshold r = subst (λ (t : ℕ). IsSettled can.brackets can.answer t r) (sym stand.limit) can.settled in
+    unsettled (stand.best can.answer inside (subst (λ (bs : List Bracket). IsSettled bs can.answer walk.threshold r) same limit))
+
+-- where it is settled, the walk ends
+pub end_at : (bounds : Bounding) (lanes : List WholeLane) (r : ℕ) (cut : List ℕ) (walk : Walk) → IsReached bounds lanes r cut → IsStand bounds lanes r cut walk
+    → IsSettled walk.brackets walk.picks walk.threshold r → IsEnd bounds lanes r walk
+end_at bounds lanes r cut walk reached stand settled =
+    let here : IsFirstSettledBy bounds lanes r cut = record {
+      turns = reached.turns;
+      scheduled = reached.scheduled;
+      settled = record {
+        brackets = walk.brackets;
+        bounded = stand.brackets;
+        answer = walk.picks;
+        inside = stand.inside;
+        settled = subst (λ (t : ℕ). IsSettled walk.brackets walk.picks t r) stand.limit settled;
+      };
+      first = reached.none;
+    } in
+    record {
+      first = subst (λ (c : List ℕ). IsFirstSettledBy bounds lanes r c) (sym stand.cut) here;
+      stand = subst (λ (c : List ℕ). IsStand bounds lanes r c walk) (sym stand.cut) stand;
+      settled = settled;
+    }

@@ -1,0 +1,37 @@
+use Rattle.std.proofs.Common.{◌≡◌, ◌↔◌, ℕ, List, leb, nat_eq, true, sym, ◌∙◌}
+use Rattle.std.specs.Bool.{IsTrue}
+use Rattle.ats_bound.specs.Cut.{threshold}
+use Rattle.ats_bound.specs.Front.{shown_on}
+use Rattle.ats_bound.specs.Scored.{exact_brackets}
+use Rattle.ats_bound.specs.QuickTest.{PassesQuickTest}
+use Rattle.ats_bound.proofs.One.{same_doc}
+use Rattle.ats_bound.proofs.Reach.{least_answers, tells_settled, zero_answers}
+use Rattle.ats_bound.proofs.scored.Scored.settled.Goals as goal
+
+pub returns-then-threshold-eq0-clause-tells : goal.returns-then-threshold-eq0-clause-tells
+returns-then-threshold-eq0-clause-tells c =
+    let limit : ℕ = c.threshold-threshold.result in
+    let scores : List (ℕ × ℕ) = c.self.inside.scores.entries in
+    let holds : nat_eq limit 0 ≡ true = same_doc limit 0 c.if-threshold-eq0.true in
+    let none : threshold (shown_on c.self.inside.front) ≡ 0 = sym c.threshold-threshold.ensures ∙ c.if-threshold-eq0.true in
+    rw (← c.self.view_is) (
+    tells_settled c.self.inside.front c.self.inside.top scores c.self.inside.best (nat_eq limit 0) c.self.invariant
+    (zero_answers c.self.inside.top (threshold (shown_on c.self.inside.front)) (exact_brackets scores) none (nat_eq limit 0) holds)
+    )
+
+pub returns-else-threshold-eq0-clause-quick : goal.returns-else-threshold-eq0-clause-quick
+returns-else-threshold-eq0-clause-quick c =
+    rw (← c.self.view_is, ← c.threshold-threshold.ensures) (
+    least_answers c.self.inside.front c.self.inside.top c.self.inside.scores.entries c.self.inside.best c.threshold-threshold.result c.least.result c.self.invariant
+    c.least.ensures c.if-threshold-eq0.false
+    )
+
+pub returns-else-threshold-eq0-clause-tells : goal.returns-else-threshold-eq0-clause-tells
+returns-else-threshold-eq0-clause-tells c =
+    let limit : ℕ = c.threshold-threshold.result in
+    let scores : List (ℕ × ℕ) = c.self.inside.scores.entries in
+    let quick : IsTrue (leb limit c.least.result) ↔ PassesQuickTest (exact_brackets scores) limit c.self.inside.top =
+    least_answers c.self.inside.front c.self.inside.top scores c.self.inside.best limit c.least.result c.self.invariant c.least.ensures c.if-threshold-eq0.false in
+    rw (← c.self.view_is) (
+    tells_settled c.self.inside.front c.self.inside.top scores c.self.inside.best (leb limit c.least.result) c.self.invariant (rw (← c.threshold-threshold.ensures) quick)
+    )

@@ -1,0 +1,101 @@
+//! The greatest of a growing list of values.
+
+ghost use Rattle.std.specs.Prelude.{◌≡◌, ◌<◌, ◌≤◌, ◌↔◌, ◌∷◌, [], ℕ, List, length, slice_index, slice_set, IfOk};
+ghost use Rattle.std.specs.List.Sorted.{IsPermutation};
+ghost use Rattle.ats_bound.specs.Best.{AreBest, Ascends, AscendsBut, count_at_least};
+
+use crate::memory::OutOfMemory;
+use ats_impact::Top;
+use std::alloc::Global;
+use std::marker::Model;
+
+/// The greatest values of a list, as many as an answer may have rows.
+///
+/// The values ascend, and a 0 stands in the place of each that is not there yet, so that no call after
+/// the first wants memory.
+#[derive(Drop)]
+pub(crate) struct Best {
+    values: Vec<u64>,
+}
+
+impl Model for Best {
+    ghost use Rattle.std.specs.Prelude.{List, ℕ};
+    ghost use Rattle.ats_bound.specs.Best.{AreKept};
+
+    ghost Value = { List ℕ };
+
+    ghost view = { λ b. b.values.items };
+
+    ghost invariant = { λ b. AreKept b.values.items };
+}
+
+// Moves the value at a place behind those that are lower.
+fn sift(values: &mut [u64], place: usize)
+    requires inside { place < length values.old }
+    requires others { AscendsBut place values.old }
+    ensures same { IsPermutation values.old values.new }
+    ensures ascends { Ascends values.new }
+{
+    for next in place + 1..values.len() {
+        if values[next - 1] <= values[next] {
+            return;
+        }
+        values.swap(next - 1, next);
+    }
+}
+
+impl Best {
+    /// No value yet, and room for as many as an answer may have rows.
+    pub(crate) fn new(alloc: Global, top: Top) -> Result<Best, OutOfMemory>
+        ensures size { IfOk result (λ best. length best ≡ top) }
+        ensures none { IfOk result (λ best. AreBest best []) }
+        ensures some { 1 ≤ top }
+    {
+        Ok(Best {
+            values: vec![in alloc; 0u64; top.get() as usize]?,
+        })
+    }
+
+    /// The last of the greatest values; 0 where there are fewer.
+    pub(crate) fn least(&self) -> u64
+        ensures { (all : List ℕ) (threshold : ℕ) → AreBest self.now all → 1 ≤ threshold
+            → (threshold ≤ result) ↔ (length self.now ≤ count_at_least threshold all) }
+    {
+        self.values[0]
+    }
+
+    // Puts a value that is no lower in the place of one.
+    fn put(&mut self, place: usize, value: u64)
+        requires inside { place < length self.old }
+        requires more { slice_index self.old place ≤ value }
+        ensures size { length self.new ≡ length self.old }
+        ensures same { IsPermutation (slice_set self.old place value) self.new }
+    {
+        let values = &mut self.values;
+        values[place] = value;
+        sift(values.as_mut_slice(), place);
+    }
+
+    /// One value more.
+    pub(crate) fn add(&mut self, value: u64)
+        ensures size { length self.new ≡ length self.old }
+        ensures best { (all after : List ℕ) → AreBest self.old all → IsPermutation (value ∷ all) after → AreBest self.new after }
+    {
+        if self.values[0] < value {
+            self.put(0, value);
+        }
+    }
+
+    /// A value of the list is now a greater one.
+    pub(crate) fn raise(&mut self, from: u64, to: u64)
+        requires { from ≤ to }
+        ensures size { length self.new ≡ length self.old }
+        ensures best { (all : List ℕ) (i : ℕ) → AreBest self.old all → i < length all → slice_index all i ≡ from
+            → AreBest self.new (slice_set all i to) }
+    {
+        match self.values.binary_search(&from) {
+            Ok(place) => self.put(place, to),
+            Err(_) => self.add(to),
+        }
+    }
+}

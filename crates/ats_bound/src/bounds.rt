@@ -1,0 +1,56 @@
+//! Brackets of what is known.
+
+ghost use Rattle.std.specs.Prelude.{◌≡◌, ◌↔◌, IsTrue, IfOk};
+ghost use Rattle.ats_bound.specs.Cut.{bracket};
+ghost use Rattle.ats_bound.specs.Front.{shown_on};
+ghost use Rattle.ats_bound.specs.Known.{AreKnown, IsKnown};
+ghost use Rattle.ats_bound.specs.Running.{DoOverlap, IsAround};
+ghost use Rattle.ats_bound.specs.Schedule.{AreBracketsOf};
+
+use crate::bracket::{Bracket, Brackets};
+use crate::front::Front;
+use crate::known::{Known, Met};
+use crate::memory::OutOfMemory;
+use std::alloc::Global;
+
+/// The bracket of a document.
+pub(crate) fn bracket_of(front: &Front<'_>, met: Met) -> Bracket
+    requires { IsKnown (shown_on front.now) met }
+    ensures { result ≡ bracket (shown_on front.now) met.doc }
+{
+    Bracket {
+        doc: met.doc,
+        lo: met.lo,
+        hi: met.lo + front.missing(met.named),
+    }
+}
+
+/// Whether a bracket lies around this score.
+pub(crate) fn is_around(score: u64, bracket: Bracket) -> bool
+    ensures { IsTrue result ↔ IsAround score bracket }
+{
+    bracket.lo < score && score < bracket.hi
+}
+
+/// Whether the brackets of two documents overlap, and one goes above this score.
+pub(crate) fn overlap(score: u64, a: Bracket, b: Bracket) -> bool
+    ensures { IsTrue result ↔ DoOverlap score a b }
+{
+    a.doc != b.doc && b.lo < a.hi && a.lo < b.hi && (score < a.hi || score < b.hi)
+}
+
+/// The brackets of all met documents, by document ascending.
+pub(crate) fn brackets(
+    alloc: Global,
+    front: &Front<'_>,
+    known: &Known,
+) -> Result<Brackets, OutOfMemory>
+    requires { AreKnown (shown_on front.now) known.now }
+    ensures { IfOk result (AreBracketsOf (shown_on front.now)) }
+{
+    let mut all: Vec<Bracket> = Vec::new(alloc);
+    for met in known.as_slice() {
+        all.push(bracket_of(front, *met))?;
+    }
+    Brackets::sorted(all)
+}

@@ -1,0 +1,105 @@
+//! What is known of the documents that are met.
+
+ghost use Rattle.std.specs.Prelude.{◌≡◌, ◌≢◌, ◌<◌, ◌++◌, ◌∷◌, [], ℕ, length, set, is_ok, if◌then◌else◌, MatchOption};
+ghost use Rattle.ats_bound.specs.Known.{AreOnce, met_at};
+
+use crate::memory::OutOfMemory;
+use std::alloc::Global;
+use std::collections::BTreeMap;
+use std::marker::Model;
+
+/// A document with what the shown entries say that it scores at least, and which lists name it: the binary
+/// digits of the number tell, the first list by the lowest digit.
+#[derive(Clone, Copy, Debug)]
+pub(crate) struct Met {
+    pub(crate) doc: u32,
+    pub(crate) lo: u64,
+    pub(crate) named: u32,
+}
+
+/// The documents that are met, each in a slot, in the order in which they were met first.
+#[derive(Drop)]
+pub(crate) struct Known {
+    met: Vec<Met>,
+    slots: BTreeMap<u32, usize>,
+}
+
+impl Model for Known {
+    ghost use Rattle.std.specs.Prelude.{List, ℕ};
+    ghost use Rattle.std.specs.Ordering.{nat_cmp};
+    ghost use Rattle.std.specs.BTreeMap as tree;
+    ghost use Rattle.ats_bound.specs.declared.known.Met.{Met as Item};
+    ghost use Rattle.ats_bound.specs.Known.{AreSlots};
+
+    ghost Value = { List Item };
+
+    ghost view = { λ k. k.met.items };
+
+    ghost invariant = { λ k. AreSlots k.met.items (tree.get nat_cmp k.slots) };
+}
+
+impl Known {
+    pub(crate) fn new(alloc: Global) -> Known
+        ensures { result ≡ [] }
+    {
+        Known {
+            met: Vec::new(alloc),
+            slots: BTreeMap::new(alloc),
+        }
+    }
+
+    /// The slot of a document.
+    pub(crate) fn find(&self, doc: u32) -> Option<usize>
+        ensures slot { MatchOption result ((slot : ℕ) → slot < length self.now → (met_at self.now slot).doc ≢ doc)
+            (λ slot. (slot < length self.now) × ((met_at self.now slot).doc ≡ doc)) }
+        ensures once { AreOnce self.now }
+    {
+        self.slots.get(&doc).copied()
+    }
+
+    /// The number of documents.
+    pub(crate) fn len(&self) -> usize
+        ensures { result ≡ length self.now }
+    {
+        self.met.len()
+    }
+
+    /// What is known of the document in a slot.
+    pub(crate) fn get(&self, slot: usize) -> Met
+        requires { slot < length self.now }
+        ensures { result ≡ met_at self.now slot }
+    {
+        self.met[slot]
+    }
+
+    pub(crate) fn as_slice(&self) -> &[Met]
+        ensures { result.now ≡ self.now }
+    {
+        self.met.as_slice()
+    }
+
+    /// Puts a document that has no slot into the next one. Want of memory leaves all as it was.
+    pub(crate) fn push(&mut self, met: Met) -> Result<(), OutOfMemory>
+        requires { (slot : ℕ) → slot < length self.old → (met_at self.old slot).doc ≢ met.doc }
+        ensures { self.new ≡ (if is_ok result then self.old ++ met ∷ [] else self.old) }
+    {
+        let slot = self.met.len();
+        self.met.push(met)?;
+        match self.slots.insert(met.doc, slot) {
+            Ok(_) => Ok(()),
+            Err(_) => {
+                self.met.truncate(slot);
+                Err(OutOfMemory)
+            }
+        }
+    }
+
+    /// Something else is known of the document in a slot.
+    pub(crate) fn set(&mut self, slot: usize, met: Met)
+        requires inside { slot < length self.old }
+        requires doc { met.doc ≡ (met_at self.old slot).doc }
+        ensures { self.new ≡ set self.old slot met }
+    {
+        self.met[slot] = met;
+    }
+}

@@ -1,0 +1,213 @@
+//! A walk with no random access, from cut to cut.
+
+ghost use Rattle.std.specs.Prelude.{◌≡◌, ◌<◌, ◌≤◌, ◌+◌, ◌*◌, ◌^◌, ℕ, [], List, length, set, slice_index, slice_index_or, MatchOption, IfOk, OnOk, OnErr};
+ghost use Rattle.ats_bound.specs.declared.bracket.Bracket.{Bracket as Bounded};
+ghost use Rattle.ats_bound.specs.Best.{AreBest};
+ghost use Rattle.ats_bound.specs.Cut.{bracket, threshold};
+ghost use Rattle.ats_bound.specs.Known.{AreKnown, Meets, lows, met_at};
+ghost use Rattle.ats_bound.specs.Schedule.{AreBracketsOf, AreWholeLanes, IsNextLane, IsOpen, IsWholeLane, first_cut, shown, whole_lane, whole_lanes};
+ghost use Rattle.ats_bound.specs.Running.{shown_in};
+ghost use Rattle.ats_bound.specs.QuickTest.{PassesQuickTest, TellsSettled};
+ghost use Rattle.ats_bound.specs.Stand.{IsStand};
+
+use crate::best::Best;
+use crate::bounds::brackets;
+use crate::choosing::choose;
+use crate::front::{Front, Gain};
+use crate::known::{Known, Met};
+use crate::lane::Lane;
+use crate::memory::OutOfMemory;
+use crate::settling::settled;
+use crate::walk::Walk;
+use crate::watch::Watch;
+use ats_impact::Top;
+use std::alloc::Global;
+use std::marker::Model;
+
+/// A walk that bounds scores by the shown entries alone, where it stands in the schedule.
+///
+/// It is seen as its whole lists, the number of rows and its cut. What is known of each met document is
+/// kept from cut to cut, so that one entry more costs little, and a slot that shows that no answer is
+/// settled is remembered as long as it does.
+#[derive(Drop)]
+pub struct Running<'a> {
+    alloc: Global,
+    front: Front<'a>,
+    top: Top,
+    known: Known,
+    best: Best,
+    watch: Watch,
+}
+
+impl<'a> Model for Running<'a> {
+    ghost use Rattle.ats_bound.specs.Running.{IsRunning, Standing};
+
+    ghost Value = { Standing };
+
+    ghost view = { λ r. record { lanes = r.front.lanes; rows = r.top; cut = r.front.cut } };
+
+    ghost invariant = { λ r. IsRunning r.front r.top r.known r.best };
+}
+
+// The digit of a list among those that tell which lists name a document.
+fn digit(lane: u32) -> u32
+    requires { lane < 32 }
+    ensures { result ≡ 2 ^ lane }
+{
+    1 << lane
+}
+
+// What the first entry of a list adds to the score of its document.
+fn first_gain(lane: &Lane<'_>) -> Gain
+    requires { IsWholeLane (whole_lane lane.now) }
+    ensures doc { result.doc ≡ (slice_index_or lane.now.entries.now 0 record { doc = 0; impact = 0 }).doc }
+    ensures gain { result.gain ≡ lane.now.coefficient * (slice_index_or lane.now.entries.now 0 record { doc = 0; impact = 0 }).impact }
+    ensures few { result.gain ≤ 34935 * 65535 }
+{
+    let entry = lane.entries[0];
+    Gain {
+        doc: entry.doc,
+        gain: lane.coefficient * entry.impact as u32,
+    }
+}
+
+// One entry more names a document. Want of memory leaves all as it was.
+fn meet(known: &mut Known, best: &mut Best, gain: Gain, digit: u32) -> Result<(), OutOfMemory>
+    requires { (slot : ℕ) → slot < length known.old → (met_at known.old slot).doc ≡ gain.doc
+        → ((met_at known.old slot).lo + gain.gain < 2 ^ 64) × ((met_at known.old slot).named + digit < 2 ^ 32) }
+    ensures met { OnOk result (Meets known.old known.new gain.doc gain.gain digit) }
+    ensures best { OnOk result (AreBest best.old (lows known.old) → AreBest best.new (lows known.new)) }
+    ensures size { length best.new ≡ length best.old }
+    ensures kept { OnErr result (known.new ≡ known.old) }
+    ensures kept_best { OnErr result (best.new ≡ best.old) }
+{
+    match known.find(gain.doc) {
+        Some(slot) => {
+            let met = known.get(slot);
+            let lo = met.lo + gain.gain as u64;
+            best.raise(met.lo, lo);
+            known.set(
+                slot,
+                Met {
+                    doc: met.doc,
+                    lo,
+                    named: met.named + digit,
+                },
+            );
+        }
+        None => {
+            known.push(Met {
+                doc: gain.doc,
+                lo: gain.gain as u64,
+                named: digit,
+            })?;
+            best.add(gain.gain as u64);
+        }
+    }
+    Ok(())
+}
+
+// The first entry of each list names a document.
+fn meet_first(lanes: &[Lane<'_>], known: &mut Known, best: &mut Best) -> Result<(), OutOfMemory>
+    requires lanes { AreWholeLanes (whole_lanes lanes.now) }
+    requires none { known.old ≡ [] }
+    requires best { AreBest best.old [] }
+    ensures known { OnOk result (AreKnown (shown (whole_lanes lanes.now) (first_cut (whole_lanes lanes.now))) known.new) }
+    ensures best { OnOk result (AreBest best.new (lows known.new)) }
+    ensures size { length best.new ≡ length best.old }
+{
+    for (i, lane) in lanes.iter().enumerate() {
+        meet(known, best, first_gain(lane), digit(i as u32))?;
+    }
+    Ok(())
+}
+
+impl<'a> Running<'a> {
+    /// Stands at the first cut, which shows one entry of each list.
+    pub fn new(alloc: Global, lanes: &[Lane<'a>], top: Top) -> Result<Running<'a>, OutOfMemory>
+        requires { AreWholeLanes (whole_lanes lanes.now) }
+        ensures { IfOk result (λ running. running ≡ record { lanes = whole_lanes lanes.now; rows = top; cut = first_cut (whole_lanes lanes.now) }) }
+    {
+        let front = Front::new(alloc, lanes)?;
+        let mut known = Known::new(alloc);
+        let mut best = Best::new(alloc, top)?;
+        meet_first(lanes, &mut known, &mut best)?;
+        Ok(Running {
+            alloc,
+            front,
+            top,
+            known,
+            best,
+            watch: Watch::new(alloc),
+        })
+    }
+
+    /// The list that shows one entry more in the next turn; none where all lists are whole.
+    pub fn next_lane(&self) -> Option<u32>
+        ensures { MatchOption result (threshold (shown_in self.now) ≡ 0) (IsNextLane self.now.lanes self.now.cut) }
+    {
+        self.front.next_lane()
+    }
+
+    /// Shows one entry more of a list. Want of memory leaves the walk where it stood.
+    pub fn advance(&mut self, lane: u32) -> Result<(), OutOfMemory>
+        requires inside { lane < length self.old.lanes }
+        requires more { IsOpen self.old.lanes self.old.cut lane }
+        ensures ok { OnOk result (self.new ≡ record { lanes = self.old.lanes; rows = self.old.rows; cut = set self.old.cut lane (slice_index self.old.cut lane + 1) }) }
+        ensures err { OnErr result (self.new ≡ self.old) }
+    {
+        let gain = self.front.gain(lane);
+        meet(&mut self.known, &mut self.best, gain, digit(lane))?;
+        self.front.advance(lane);
+        let score = self.best.least();
+        self.watch.look(&self.front, &self.known, score);
+        Ok(())
+    }
+
+    /// Whether the chosen answer is settled, and so whether any answer is. Memory is wanted only where the
+    /// necessary test holds.
+    pub fn settled(&self) -> Result<bool, OutOfMemory>
+        ensures told { IfOk result (TellsSettled bracket self.now.lanes self.now.rows self.now.cut) }
+        ensures wanted { OnErr result ((brackets : List Bounded) → AreBracketsOf (shown_in self.now) brackets
+            → PassesQuickTest brackets (threshold (shown_in self.now)) self.now.rows) }
+    {
+        let threshold = self.front.threshold();
+        if threshold == 0 {
+            return Ok(true);
+        }
+        let score = self.best.least();
+        if threshold > score {
+            return Ok(false);
+        }
+        if self.watch.stands(&self.front, &self.known, score) {
+            return Ok(false);
+        }
+        let brackets = brackets(self.alloc, &self.front, &self.known)?;
+        let picks = choose(self.alloc, brackets.as_slice(), self.top)?;
+        Ok(settled(brackets.as_slice(), picks.as_slice(), threshold, self.top))
+    }
+
+    /// The cut, the brackets of the documents met there by document ascending, the chosen answer and the
+    /// threshold.
+    pub fn finish(self) -> Result<Walk, OutOfMemory>
+        ensures { IfOk result (IsStand bracket self.entry.lanes self.entry.rows self.entry.cut) }
+    {
+        let Running {
+            alloc,
+            front,
+            top,
+            known,
+            best: _,
+            watch: _,
+        } = self;
+        let threshold = front.threshold();
+        let brackets = brackets(alloc, &front, &known)?;
+        let picks = choose(alloc, brackets.as_slice(), top)?;
+        Ok(Walk {
+            cut: front.cut(),
+            brackets,
+            picks,
+            threshold,
+        })
+    }
+}

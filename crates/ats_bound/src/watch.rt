@@ -1,0 +1,141 @@
+//! What shows that no answer is settled yet.
+
+ghost use Rattle.std.specs.Prelude.{IsTrue};
+ghost use Rattle.ats_bound.specs.Front.{shown_on};
+ghost use Rattle.ats_bound.specs.Known.{AreKnown};
+ghost use Rattle.ats_bound.specs.Running.{IsOpenAt};
+
+use crate::bounds::{bracket_of, is_around, overlap};
+use crate::front::Front;
+use crate::known::Known;
+use std::alloc::Global;
+use std::cmp::Reverse;
+
+// A slot whose document was one of the best when it was looked at, with its bounds at that time.
+#[derive(Clone, Copy)]
+struct Row {
+    slot: usize,
+    lo: u64,
+    hi: u64,
+}
+
+/// One slot, or two, whose brackets show that no answer is settled, as long as they do.
+///
+/// Lower bounds never fall, upper bounds never rise, and the least of the best never falls. So a document
+/// whose upper bound is no longer above it is never looked at again: [`Watch::look`] goes once through the
+/// slots, and keeps those of the best documents aside. What it misses costs time and nothing else.
+#[derive(Drop)]
+pub(crate) struct Watch {
+    around: usize,
+    left: usize,
+    right: usize,
+    place: usize,
+    rows: Vec<Row>,
+}
+
+impl Watch {
+    pub(crate) fn new(alloc: Global) -> Watch {
+        Watch {
+            around: 0,
+            left: 0,
+            right: 0,
+            place: 0,
+            rows: Vec::new(alloc),
+        }
+    }
+
+    /// Whether these slots show that no answer is settled. The score is the least of the best lower
+    /// bounds.
+    pub(crate) fn stands(&self, front: &Front<'_>, known: &Known, score: u64) -> bool
+        requires { AreKnown (shown_on front.now) known.now }
+        ensures { IsTrue result → IsOpenAt score (shown_on front.now) known.now }
+    {
+        let size = known.len();
+        if self.around < size && is_around(score, bracket_of(front, known.get(self.around))) {
+            return true;
+        }
+        if self.left >= size || self.right >= size {
+            return false;
+        }
+        let left = bracket_of(front, known.get(self.left));
+        let right = bracket_of(front, known.get(self.right));
+        overlap(score, left, right)
+    }
+
+    /// Looks for other slots where these show it no longer.
+    pub(crate) fn look(&mut self, front: &Front<'_>, known: &Known, score: u64)
+        requires { AreKnown (shown_on front.now) known.now }
+    {
+        if front.threshold() > score || self.stands(front, known, score) {
+            return;
+        }
+        if self.sweep(front, known, score) {
+            return;
+        }
+        self.refresh(front, known);
+        self.rows.retain(|row| row.hi > score);
+        self.rows
+            .sort_unstable_by_key(|row| (Reverse(row.lo), Reverse(row.hi)));
+        self.compare(score);
+    }
+
+    // Goes on through the slots to a document whose bracket lies around the score, and keeps those above
+    // it aside. Where memory is wanted, one is left out.
+    fn sweep(&mut self, front: &Front<'_>, known: &Known, score: u64) -> bool
+        requires { AreKnown (shown_on front.now) known.now }
+    {
+        for slot in self.place..known.len() {
+            self.place = slot;
+            let bracket = bracket_of(front, known.get(slot));
+            if is_around(score, bracket) {
+                self.around = slot;
+                return true;
+            }
+            if bracket.hi > score {
+                let _ = self.rows.push(Row {
+                    slot,
+                    lo: bracket.lo,
+                    hi: bracket.hi,
+                });
+            }
+        }
+        self.place = known.len();
+        false
+    }
+
+    // The bounds of the rows as they are.
+    fn refresh(&mut self, front: &Front<'_>, known: &Known)
+        requires { AreKnown (shown_on front.now) known.now }
+    {
+        for row in &mut self.rows {
+            if row.slot < known.len() {
+                let bracket = bracket_of(front, known.get(row.slot));
+                row.lo = bracket.lo;
+                row.hi = bracket.hi;
+            }
+        }
+    }
+
+    // Takes the last row where its bracket lies around the score, else the neighbours that overlap most.
+    fn compare(&mut self, score: u64) {
+        let mut most = 0;
+        for i in 1..self.rows.len() {
+            let above = self.rows[i - 1];
+            let below = self.rows[i];
+            let shared = below
+                .hi
+                .saturating_sub(above.lo)
+                .min(above.hi.saturating_sub(below.lo));
+            if shared > most {
+                most = shared;
+                self.left = above.slot;
+                self.right = below.slot;
+            }
+        }
+        if let Some(row) = self.rows.last() {
+            if row.lo < score {
+                self.around = row.slot;
+            }
+        }
+    }
+}

@@ -1,0 +1,39 @@
+-- Laws of groups of rules that are tried one after another.
+use Rattle.std.proofs.Common.{◌≡◌, ◌⊎◌, List, [], ◌∷◌, inl, inr}
+use Rattle.ats_client.specs.Rules.{Group, AreKept, IsFirstFault}
+
+-- a group that fails is not kept, and fails in one way
+pub record IsExact {F : Type 0} (group : Group F) : Type 0 where
+  pub breaks : (fault : F) → group.fault fault → group.kept → ⊥
+  pub one : (a b : F) → group.fault a → group.fault b → a ≡ b
+
+abbrev pub AreExact : {F : Type 0} → List (Group F) → Type 0
+AreExact [] = Unit {0}
+AreExact (group ∷ groups) = IsExact group × AreExact groups
+
+-- where a group fails first, not all are kept
+pub not_kept : {F : Type 0} (groups : List (Group F)) (fault : F) → AreExact groups → IsFirstFault groups fault → AreKept groups → ⊥
+not_kept [] fault exact is kept = is
+not_kept (group ∷ groups) fault exact (inl is) kept = exact.0.breaks fault is kept.0
+not_kept (group ∷ groups) fault exact (inr later) kept = not_kept groups fault exact.1 later.1 kept.1
+
+-- there is one first failure
+pub one_first : {F : Type 0} (groups : List (Group F)) (a b : F) → AreExact groups → IsFirstFault groups a → IsFirstFault groups b → a ≡ b
+one_first [] a b exact is also = absurd is
+one_first (group ∷ groups) a b exact (inl is) (inl also) = exact.0.one a b is also
+one_first (group ∷ groups) a b exact (inl is) (inr later) = absurd (exact.0.breaks a is later.0)
+one_first (group ∷ groups) a b exact (inr later) (inl is) = absurd (exact.0.breaks b is later.0)
+one_first (group ∷ groups) a b exact (inr later) (inr also) = one_first groups a b exact.1 later.1 also.1
+
+-- where each group is kept or fails, all are kept or one fails first
+abbrev pub AreTried : {F : Type 0} → List (Group F) → Type 0
+AreTried [] = Unit {0}
+AreTried {F} (group ∷ groups) = (group.kept ⊎ ((fault : F) × group.fault fault)) × AreTried groups
+
+pub kept_or_first : {F : Type 0} (groups : List (Group F)) → AreTried groups → AreKept groups ⊎ ((fault : F) × IsFirstFault groups fault)
+kept_or_first [] tried = inl tt
+kept_or_first (group ∷ groups) (inr fails, later) = inr (fails.0, inl fails.1)
+kept_or_first (group ∷ groups) (inl kept, later) = elim (kept_or_first groups later) [
+  | inl all ↦ inl (kept, all)
+  | inr first ↦ inr (first.0, inr (kept, first.1))
+]

@@ -1,0 +1,38 @@
+-- When bytes are accepted as a proof, with the rows of its answer, and else why they are not.
+use Rattle.std.specs.Prelude.{◌≡◌, ℕ, List}
+use Rattle.ats_impact.specs.declared.rank.Row.{Row}
+use Rattle.ats_records.specs.declared.record.Algorithm.TheVariants as algorithm
+use Rattle.ats_grammar.specs.Front.{IsBad}
+use Rattle.ats_grammar.specs.Grammar.{proof_format}
+use Rattle.ats_proof.specs.Value.{Proof, IsProof, algorithm_of}
+use Rattle.ats_client.specs.Accepts.{Accepts, IsFirstRefusal}
+use Rattle.ats_client.specs.Headline.{IsTopOrCollides}
+use Rattle.ats_client.specs.Rows.{rows_of}
+use Rattle.ats_client.specs.declared.fault.VerifyFault.{VerifyFault}
+use Rattle.ats_client.specs.declared.fault.VerifyFault.TheVariants.{Shape, Tra, Refused, OutOfMemory}
+
+-- the bytes spell this proof, and it is accepted under the root for the query
+pub record IsAcceptedBytes (H : List ℕ → List ℕ) (root : List ℕ) (query : List (List ℕ × ℕ)) (r : ℕ) (bytes : List ℕ) (proof : Proof) : Type 0 where
+  pub says : IsProof bytes proof
+  pub accepts : Accepts H root query r proof
+
+-- the rows are those of an accepted proof that the bytes spell, and the headline holds of it
+pub record AreVerifiedRows (H : List ℕ → List ℕ) (root : List ℕ) (query : List (List ℕ × ℕ)) (r : ℕ) (bytes : List ℕ) (rows : List Row) : Type 0 where
+  pub proof : Proof
+  pub accepted : IsAcceptedBytes H root query r bytes proof
+  pub headline : IsTopOrCollides H root query r proof
+  pub answer : rows ≡ rows_of query proof
+
+-- the shape of the bytes, then the algorithm, then the rules
+abbrev pub IsRejectedBytes : (List ℕ → List ℕ) → List ℕ → List (List ℕ × ℕ) → ℕ → List ℕ → VerifyFault → Type 0
+IsRejectedBytes H root query r bytes (Shape fault) = IsBad proof_format bytes fault
+IsRejectedBytes H root query r bytes Tra = (proof : Proof) × IsProof bytes proof × (algorithm_of proof ≡ algorithm.Tra)
+IsRejectedBytes H root query r bytes (Refused refusal) = (proof : Proof) × IsProof bytes proof × IsFirstRefusal H root query r proof refusal
+IsRejectedBytes H root query r bytes OutOfMemory = Unit {0}
+
+-- of a proof in hand: the first rule that it does not keep
+abbrev pub IsProofFault : (List ℕ → List ℕ) → List ℕ → List (List ℕ × ℕ) → ℕ → Proof → VerifyFault → Type 0
+IsProofFault H root query r proof (Shape fault) = ⊥
+IsProofFault H root query r proof Tra = ⊥
+IsProofFault H root query r proof (Refused refusal) = IsFirstRefusal H root query r proof refusal
+IsProofFault H root query r proof OutOfMemory = Unit {0}

@@ -1,0 +1,16 @@
+-- Groups of rules that are tried one after another: when all are kept, and else the first failure.
+use Rattle.std.specs.Prelude.{◌⊎◌, List, [], ◌∷◌}
+
+-- when a group of rules is kept, and how it fails
+pub record Group (F : Type 0) : Type 1 where
+  pub kept : Type 0
+  pub fault : F → Type 0
+
+abbrev pub AreKept : {F : Type 0} → List (Group F) → Type 0
+AreKept [] = Unit {0}
+AreKept (group ∷ groups) = group.kept × AreKept groups
+
+-- the failure of the first group that is not kept: all groups before it are kept
+abbrev pub IsFirstFault : {F : Type 0} → List (Group F) → F → Type 0
+IsFirstFault [] fault = ⊥
+IsFirstFault (group ∷ groups) fault = group.fault fault ⊎ (group.kept × IsFirstFault groups fault)

@@ -1,0 +1,79 @@
+//! The check of bytes, up to the rows of the answer.
+
+ghost use Rattle.std.specs.Prelude.{◌≡◌, ℕ, List, OnOk, IfOk, IfErr};
+ghost use Rattle.ats_records.specs.declared.record.Algorithm.TheVariants.{Tnra};
+ghost use Rattle.ats_proof.specs.Value.{algorithm_of};
+ghost use Rattle.ats_proof.specs.Views.{proof_of, bytes_of};
+ghost use Rattle.ats_client.specs.Accepts.{Accepts};
+ghost use Rattle.ats_client.specs.Headline.{IsTopOrCollides};
+ghost use Rattle.ats_client.specs.Rows.{IsLeft, rows_of};
+ghost use Rattle.ats_client.specs.Bytes.{AreVerifiedRows, IsRejectedBytes, IsProofFault};
+
+use crate::answer::row;
+use crate::checking::check;
+use crate::fault::VerifyFault;
+use ats_bound::Work;
+use ats_hash::{Hash32, Steps};
+use ats_impact::{OutOfMemory, Rows, Top};
+use ats_proof::{Algorithm, ProofView};
+use ats_terms::Query;
+use std::alloc::Global;
+
+// The rows of an answer, from what an accepted check leaves.
+fn answer_rows(
+    alloc: Global,
+    proof: &ProofView<'_>,
+    work: &Work,
+    limit: u64,
+) -> Result<Rows, OutOfMemory>
+    requires left { (query : List (List ℕ × ℕ)) × IsLeft query (proof_of proof.now) work.now.marks limit }
+    ensures rows { (query : List (List ℕ × ℕ)) → IsLeft query (proof_of proof.now) work.now.marks limit → IfOk result (λ rows. rows ≡ rows_of query (proof_of proof.now)) }
+{
+    let mut steps = Steps::new(alloc);
+    let mut rows = Rows::new(alloc);
+    for i in 0..proof.answers() {
+        rows.push(row(proof, work, limit, i, &mut steps))?;
+    }
+    Ok(rows)
+}
+
+// The rows of a proof that is accepted. The memory for the marks is taken before the check.
+fn checked_rows<H: Hash32>(
+    alloc: Global,
+    root: &[u8; 32],
+    query: &Query,
+    top: Top,
+    proof: &ProofView<'_>,
+) -> Result<Rows, VerifyFault>
+    requires { algorithm_of (proof_of proof.now) ≡ Tnra }
+    ensures accepts { OnOk result (Accepts H.hash root.now query.now top (proof_of proof.now)) }
+    ensures headline { OnOk result (IsTopOrCollides H.hash root.now query.now top (proof_of proof.now)) }
+    ensures rows { IfOk result (λ rows. rows ≡ rows_of query.now (proof_of proof.now)) }
+    ensures fault { IfErr result (IsProofFault H.hash root.now query.now top (proof_of proof.now)) }
+{
+    let mut steps = Steps::new(alloc);
+    let mut work = Work::with_room(alloc, proof.met())?;
+    let limit = check::<H>(root, query, top, proof, &mut work, &mut steps)?;
+    let rows = answer_rows(alloc, proof, &work, limit)?;
+    Ok(rows)
+}
+
+/// Tries whether bytes are a proof that their answer is right: the best `top` documents for the query in
+/// the collection that the root commits to. It answers the rows of the answer, or the first thing that is
+/// wrong with the bytes.
+pub fn verify<H: Hash32>(
+    alloc: Global,
+    bytes: &[u8],
+    root: &[u8; 32],
+    query: &Query,
+    top: Top,
+) -> Result<Rows, VerifyFault>
+    ensures rows { IfOk result (AreVerifiedRows H.hash root.now query.now top bytes.now) }
+    ensures fault { IfErr result (IsRejectedBytes H.hash root.now query.now top bytes.now) }
+{
+    let proof = ProofView::read(bytes)?;
+    match proof.algorithm() {
+        Algorithm::Tra => Err(VerifyFault::Tra),
+        Algorithm::Tnra => checked_rows::<H>(alloc, root, query, top, &proof),
+    }
+}

@@ -1,0 +1,76 @@
+use Rattle.std.proofs.Common.{◌≡◌, ℕ, List, true, refl, sym, subst}
+use Rattle.ats_bound.specs.declared.walk.Walk.{Walk}
+use Rattle.ats_bound.specs.Cut.{ShownLane, bracket, lower, missing, threshold}
+use Rattle.ats_bound.specs.QuickTest.{TellsSettled}
+use Rattle.ats_bound.specs.Running.{Standing}
+use Rattle.ats_bound.specs.Schedule.{AreWholeLanes, CanSettleBy, IsCut, IsNextLane, WholeLane, shown, whole_lanes}
+use Rattle.ats_bound.specs.Settled.{IsSettled}
+use Rattle.ats_bound.specs.Stand.{IsReached, IsStand}
+use Rattle.ats_bound.proofs.Advance.{end_at, reached_after, reached_first}
+use Rattle.ats_bound.proofs.Narrow.{is_narrow}
+use Rattle.ats_bound.proofs.Scores.{missing_within}
+use Rattle.ats_bound.proofs.Shown.{fewer_hidden, have_entries, scheduled_is_cut}
+use Rattle.ats_bound.proofs.Whole.{whole_settled}
+use Rattle.ats_tnra.proofs.walking.first_settled.Goals as goal
+
+pub loop-lane-init : goal.loop-lane-init
+loop-lane-init c = rw c.in_ok-walk.ensures (record {
+  lanes = refl;
+  rows = refl;
+  reached = reached_first bracket (whole_lanes c.args.lanes.now) c.args.top;
+})
+
+pub loop-lane-smaller : goal.loop-lane-smaller
+loop-lane-smaller c =
+    let walk : Standing = c.loop-lane.walk in
+    let i : ℕ = c.in-Some.lane in
+    let next : IsNextLane walk.lanes walk.cut i = c.in-Some.ensures in
+    let whole : AreWholeLanes walk.lanes = subst AreWholeLanes (sym c.loop-lane.invariant.lanes) c.requires in
+    let reached : IsReached bracket walk.lanes c.args.top walk.cut = subst (λ (ls : List WholeLane). IsReached bracket ls c.args.top walk.cut) (sym c.loop-lane.invariant.lanes) c.loop-lane.invariant.reached in
+    let is : IsCut walk.lanes walk.cut = scheduled_is_cut walk.lanes reached.turns walk.cut (have_entries walk.lanes whole) reached.scheduled in
+    rw c.in_ok-advance.ensures.ok (fewer_hidden walk.lanes walk.cut i is next.inside next.more)
+
+pub loop-lane-preserved : goal.loop-lane-preserved
+loop-lane-preserved c =
+    let walk : Standing = c.loop-lane.walk in
+    let i : ℕ = c.in-Some.lane in
+    let lanes : List WholeLane = whole_lanes c.args.lanes.now in
+    let next : IsNextLane lanes walk.cut i = subst (λ (ls : List WholeLane). IsNextLane ls walk.cut i) c.loop-lane.invariant.lanes c.in-Some.ensures in
+    let cannot : CanSettleBy bracket lanes c.args.top walk.cut → ⊥ = λ can.
+    let here : CanSettleBy bracket walk.lanes walk.rows walk.cut = subst (λ (ls : List WholeLane). CanSettleBy bracket ls walk.rows walk.cut) (sym c.loop-lane.invariant.lanes)
+    (subst (λ (r : ℕ). CanSettleBy bracket lanes r walk.cut) (sym c.loop-lane.invariant.rows) can) in
+    let is : c.in_ok-settled.settled ≡ true = c.in_ok-settled.ensures.told.any here in
+    absurd (cc) in
+    rw c.in_ok-advance.ensures.ok (record {
+      lanes = c.loop-lane.invariant.lanes;
+      rows = c.loop-lane.invariant.rows;
+      reached = reached_after bracket lanes c.args.top walk.cut i c.loop-lane.invariant.reached cannot next;
+    })
+
+-- where the walk stands, of the lists that it was given
+stand_of : (lanes : List WholeLane) (r : ℕ) (walk : Standing) (end : Walk) → walk.lanes ≡ lanes → walk.rows ≡ r → IsStand bracket walk.lanes walk.rows walk.cut end
+    → IsStand bracket lanes r walk.cut end
+stand_of lanes r walk end same rows stand =
+    subst (λ (n : ℕ). IsStand bracket lanes n walk.cut end) rows (subst (λ (ls : List WholeLane). IsStand bracket ls walk.rows walk.cut end) same stand)
+
+pub returns-then-settled : goal.returns-then-settled
+returns-then-settled c =
+    let walk : Standing = c.loop-lane.walk in
+    let lanes : List WholeLane = whole_lanes c.args.lanes.now in
+    let end : Walk = c.in_ok-finish.field-0 in
+    let told : TellsSettled bracket walk.lanes walk.rows walk.cut c.in_ok-settled.settled = c.in_ok-settled.ensures.told in
+    let stand : IsStand bracket walk.lanes walk.rows walk.cut end = c.in_ok-finish.ensures in
+    let settled : IsSettled end.brackets end.picks (threshold (shown walk.lanes walk.cut)) walk.rows = (told.chosen end.brackets end.picks stand.brackets stand.chosen).0 c.if-settled.true in
+    end_at bracket lanes c.args.top walk.cut end c.loop-lane.invariant.reached (stand_of lanes c.args.top walk end c.loop-lane.invariant.lanes c.loop-lane.invariant.rows stand)
+    (subst (λ (r : ℕ). IsSettled end.brackets end.picks end.threshold r) c.loop-lane.invariant.rows (rw stand.limit settled))
+
+pub returns : goal.returns
+returns c =
+    let walk : Standing = c.loop-lane.walk in
+    let lanes : List WholeLane = whole_lanes c.args.lanes.now in
+    let end : Walk = c.in_ok-finish-2.field-0 in
+    let all : List ShownLane = shown lanes walk.cut in
+    let none : threshold all ≡ 0 = subst (λ (ls : List WholeLane). threshold (shown ls walk.cut) ≡ 0) c.loop-lane.invariant.lanes c.in_default.ensures in
+    let stand : IsStand bracket lanes c.args.top walk.cut end = stand_of lanes c.args.top walk end c.loop-lane.invariant.lanes c.loop-lane.invariant.rows c.in_ok-finish-2.ensures in
+    end_at bracket lanes c.args.top walk.cut end c.loop-lane.invariant.reached stand
+    (whole_settled bracket lanes c.args.top walk.cut end (λ doc. is_narrow (threshold all) doc (lower all doc) (missing all doc) (missing_within all doc)) stand none)

@@ -1,0 +1,18 @@
+use Rattle.std.proofs.Common.{◌≡◌}
+use Rattle.std.specs.List.{sum_by}
+use Rattle.ats_bound.specs.Cut.{bracket}
+use Rattle.ats_bound.specs.Running.{shown_in}
+use Rattle.ats_bound.specs.Schedule.{whole_lanes}
+use Rattle.ats_bound.specs.Stand.{IsReached}
+use Rattle.ats_bound.proofs.Shown.{hidden}
+use Rattle.ats_tnra.proofs.walking.first_settled.Given as goal
+
+abbrev pub invariant-loop-lane : goal.invariant-loop-lane
+invariant-loop-lane l = record {
+  lanes : l.walk.lanes ≡ whole_lanes l.lanes;
+  rows : l.walk.rows ≡ l.fn.top;
+  reached : IsReached bracket (whole_lanes l.lanes) l.fn.top l.walk.cut;
+}
+
+abbrev pub decreases-loop-lane : goal.decreases-loop-lane
+decreases-loop-lane l = sum_by hidden (shown_in l.walk)

@@ -1,0 +1,20 @@
+use Rattle.ats_top.proofs.Readings.{build_read, build_stored}
+use Rattle.ats_top.proofs.commands.build.Goals as goal
+
+pub returns-in_err-texts-clause-serves : goal.returns-in_err-texts-clause-serves
+returns-in_err-texts-clause-serves g c = build_read _ _ _ c.collection.ensures.reads
+
+pub returns-in_err-built-clause-serves : goal.returns-in_err-built-clause-serves
+returns-in_err-built-clause-serves g c = build_read _ _ _ c.in_ok-texts.ensures.reads
+
+pub returns-in_err-bytes-clause-serves : goal.returns-in_err-bytes-clause-serves
+returns-in_err-bytes-clause-serves g c = build_read _ _ _ c.in_ok-texts.ensures.reads
+
+pub returns-in_err-line-clause-serves : goal.returns-in_err-line-clause-serves
+returns-in_err-line-clause-serves g c = build_read _ _ _ c.in_ok-texts.ensures.reads
+
+pub returns-in-Ok-clause-serves : goal.returns-in-Ok-clause-serves
+returns-in-Ok-clause-serves g c = build_stored _ _ (g.S.Shelf.told c.collection.new.shelf) _ _ c.in_ok-texts.ensures.ok c.in_ok-texts.ensures.reads c.in-Ok.ensures.asked c.in-Ok.ensures.cause.later
+
+pub returns-clause-serves : goal.returns-clause-serves
+returns-clause-serves g c = build_stored _ _ (g.S.Shelf.told c.collection.new.shelf) _ _ c.in_ok-texts.ensures.ok c.in_ok-texts.ensures.reads c.in-Err.ensures.asked c.in-Err.ensures.cause.later

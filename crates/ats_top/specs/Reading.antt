@@ -1,0 +1,73 @@
+-- The files that commands read and store, and what comes of the shelf by it.
+use Rattle.std.specs.Prelude.{◌≡◌, ◌⊎◌, ◌≤◌, ◌^◌, ◌++◌, ◌∷◌, ℕ, List, [], Option, Some, None}
+use Rattle.ats_base.specs.Outside.{IsMissing, ShelfTold, Ask, Asked, ReadsAtMostOnce, StoresOnce}
+use Rattle.ats_top.specs.Words.{Command, Rank, Build, Root, Prove, Verify}
+
+-- what a file is read as
+pub data Form : Type 0 where
+  AsCollection : Form
+  AsIndex : Form
+  AsProof : Form
+
+-- the most bytes that it may have
+abbrev pub limit_of : Form → ℕ
+limit_of AsCollection = 2 ^ 26
+limit_of AsIndex = 2 ^ 29
+limit_of AsProof = 2 ^ 26
+
+pub record InputFile : Type 0 where
+  pub name : List ℕ
+  pub form : Form
+
+-- the files that a command reads, in order
+abbrev pub reads : Command → List InputFile
+reads (Rank words) = (record { name = words.collection; form = AsCollection }) ∷ []
+reads (Build words) = (record { name = words.collection; form = AsCollection }) ∷ []
+reads (Root words) = (record { name = words.index; form = AsIndex }) ∷ []
+reads (Prove words) = (record { name = words.index; form = AsIndex }) ∷ []
+reads (Verify words) = (record { name = words.proof; form = AsProof }) ∷ []
+
+-- the file that it stores, if it stores one
+abbrev pub stores : Command → Option (List ℕ)
+stores (Rank words) = None
+stores (Build words) = Some words.index
+stores (Root words) = None
+stores (Prove words) = Some words.proof
+stores (Verify words) = None
+
+-- these files alone are read, in this order, each once at most
+abbrev pub ReadsInOrder : List InputFile → List Ask → Type 0
+ReadsInOrder [] asks = asks ≡ []
+ReadsInOrder (file ∷ rest) asks =
+    (first : List Ask) × (later : List Ask) × (asks ≡ first ++ later) × ReadsAtMostOnce file.name (limit_of file.form) first × ReadsInOrder rest later
+
+-- this file alone is stored, once at most, if there is one to store
+abbrev pub StoresAtMostOnce : Option (List ℕ) → List Ask → Type 0
+StoresAtMostOnce None asks = asks ≡ []
+StoresAtMostOnce (Some name) asks = (asks ≡ []) ⊎ StoresOnce name asks
+
+-- the calls read the files of the command, and then store its file
+pub record AsksFor (command : Command) (asks : List Ask) : Type 0 where
+  pub read : List Ask
+  pub stored : List Ask
+  pub parts : asks ≡ read ++ stored
+  pub reads : ReadsInOrder (reads command) read
+  pub stores : StoresAtMostOnce (stores command) stored
+
+-- the first of the files is not there
+abbrev pub IsFirstMissing : Option (List ℕ → Option (List ℕ)) → List InputFile → Type 0
+IsFirstMissing files [] = ⊥
+IsFirstMissing files (file ∷ rest) = IsMissing files file.name
+
+-- what the reading of one file leaves of the shelf
+pub record Reads (before now : ShelfTold) (name : List ℕ) (limit : ℕ) : Type 0 where
+  pub files : now.files ≡ before.files
+  pub later : before.faults ≤ now.faults
+  pub uncounted : IsMissing before.files name → now.faults ≡ before.faults
+  pub asked : Asked before.asked now.asked (ReadsAtMostOnce name limit)
+
+-- what a command leaves of the shelf's counts, and its calls
+pub record Serves (before now : ShelfTold) (command : Command) : Type 0 where
+  pub later : before.faults ≤ now.faults
+  pub uncounted : IsFirstMissing before.files (reads command) → now.faults ≡ before.faults
+  pub asked : Asked before.asked now.asked (AsksFor command)

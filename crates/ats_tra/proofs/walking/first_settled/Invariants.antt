@@ -1,0 +1,21 @@
+use Rattle.std.proofs.Common.{◌≡◌}
+use Rattle.std.specs.List.{sum_by}
+use Rattle.ats_bound.specs.Front.{shown_on}
+use Rattle.ats_bound.specs.Lookup.{looked_up}
+use Rattle.ats_bound.specs.Schedule.{AreBracketsBy, whole_lanes}
+use Rattle.ats_bound.specs.Stand.{IsReached}
+use Rattle.ats_bound.specs.Scored.{exactly}
+use Rattle.ats_bound.proofs.Shown.{hidden}
+use Rattle.ats_tra.specs.Looked.{score_by}
+use Rattle.ats_tra.proofs.walking.first_settled.Given as goal
+
+abbrev pub invariant-loop-lane : goal.invariant-loop-lane
+invariant-loop-lane g l = record {
+  lanes : l.walk.stage.lanes ≡ whole_lanes l.lanes;
+  rows : l.walk.rows ≡ l.fn.top;
+  known : AreBracketsBy (exactly (score_by (g.A.RandomAccess.table l.access) (whole_lanes l.lanes))) (shown_on l.walk.stage) l.walk.brackets;
+  reached : IsReached (looked_up (g.A.RandomAccess.table l.access)) (whole_lanes l.lanes) l.fn.top l.walk.stage.cut;
+}
+
+abbrev pub decreases-loop-lane : goal.decreases-loop-lane
+decreases-loop-lane g l = sum_by hidden (shown_on l.walk.stage)
