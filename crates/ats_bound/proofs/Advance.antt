@@ -40,7 +40,7 @@ pub cannot_settle : (bounds : Bounding) (lanes : List WholeLane) (r : ℕ) (cut 
 cannot_settle bounds lanes r cut walk stand unsettled can =
     let same : can.brackets ≡ walk.brackets = one_bracketing bounds (shown lanes cut) can.brackets walk.brackets can.bounded stand.brackets in
     let inside : ArePicks walk.brackets can.answer = subst (λ (bs : List Bracket). ArePicks bs can.answer) same can.inside in
-    let limit : IsSettled can.brackets can.answer walk.threshold r = subst (λ (t : ℕ). IsSettled can.brackets can.answer t r) (sym stand.limit) can.settled in
+    let limit : IsSettled can.brackets can.answer walk.threshold r = subst (λ (t : ℕ). IsSettled can.brackets can.answer t r) (sym stand.threshold) can.settled in
     unsettled (stand.best can.answer inside (subst (λ (bs : List Bracket). IsSettled bs can.answer walk.threshold r) same limit))
 
 -- where it is settled, the walk ends
@@ -55,7 +55,7 @@ end_at bounds lanes r cut walk reached stand settled =
         bounded = stand.brackets;
         answer = walk.picks;
         inside = stand.inside;
-        settled = subst (λ (t : ℕ). IsSettled walk.brackets walk.picks t r) stand.limit settled;
+        settled = subst (λ (t : ℕ). IsSettled walk.brackets walk.picks t r) stand.threshold settled;
       };
       first = reached.none;
     } in

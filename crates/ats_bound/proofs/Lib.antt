@@ -25,6 +25,7 @@ pub mod Deciding
 pub mod Ending
 pub mod Stages
 pub mod Slots
+pub mod Cells
 pub mod Entered
 pub mod KnownAfter
 pub mod KnownBrackets

@@ -125,4 +125,4 @@ whole_settled bounds lanes r cut walk narrow stand none =
     let is : b ≡ bounds (shown lanes cut) b.doc = stand.brackets.each i (record { doc = 0; lo = 0; hi = 0 }) inside in
     omega (arith, ap (λ (b : Bracket). b.lo) is, ap (λ (b : Bracket). b.hi) is, (narrow b.doc).narrow, none) in
     let settled : IsSettled brackets (take r stand.chosen.all) 0 r = even_settled brackets r stand.chosen.all even stand.chosen.same stand.chosen.ordered in
-    rw (stand.limit ∙ none, stand.chosen.first) settled
+    rw (stand.threshold ∙ none, stand.chosen.first) settled

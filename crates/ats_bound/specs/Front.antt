@@ -19,10 +19,10 @@ pub record IsStage (stage : Stage) : Type 0 where
   pub cut : IsCut stage.lanes stage.cut
 
 -- the rests of its lists, and their sum
-pub record AreRests (stage : Stage) (rests : List ℕ) (limit : ℕ) : Type 0 where
+pub record AreRests (stage : Stage) (rests : List ℕ) (total : ℕ) : Type 0 where
   pub stands : IsStage stage
   pub each : rests ≡ map rest (shown_on stage)
-  pub sum : limit ≡ threshold (shown_on stage)
+  pub sum : total ≡ threshold (shown_on stage)
 
 -- list i
 abbrev pub lane_on : Stage → ℕ → WholeLane

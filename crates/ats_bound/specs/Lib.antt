@@ -12,5 +12,6 @@ pub mod Narrow
 pub mod Stand
 pub mod Front
 pub mod Known
+pub mod Pages
 pub mod QuickTest
 pub mod Running

@@ -4,12 +4,12 @@ use Rattle.ats_bound.specs.declared.bracket.Bracket.{Bracket}
 use Rattle.ats_bound.specs.Cut.{ShownLane, threshold}
 use Rattle.ats_bound.specs.Schedule.{Bounding}
 
--- it is the document's, its bounds are in order, and they lie no further apart than the limit
-pub record IsNarrow (limit doc : ℕ) (bracket : Bracket) : Type 0 where
+-- it is the document's, its bounds are in order, and they lie no further apart than this
+pub record IsNarrow (room doc : ℕ) (bracket : Bracket) : Type 0 where
   pub of : bracket.doc ≡ doc
   pub proper : bracket.lo ≤ bracket.hi
-  pub narrow : bracket.hi ≤ bracket.lo + limit
+  pub narrow : bracket.hi ≤ bracket.lo + room
 
--- each bracket is its document's, and no wider than what is not shown can add to a score
+-- each bracket is its document's, and no wider than the threshold
 abbrev pub AreNarrow : Bounding → Type 0
 AreNarrow bounds = (lanes : List ShownLane) (doc : ℕ) → IsNarrow (threshold lanes) doc (bounds lanes doc)

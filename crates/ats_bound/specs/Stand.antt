@@ -10,7 +10,7 @@ use Rattle.ats_bound.specs.Schedule.{WholeLane, Bounding, AreBracketsBy, CanSett
 pub record IsStand (bounds : Bounding) (lanes : List WholeLane) (r : ℕ) (counts : List ℕ) (walk : Walk) : Type 0 where
   pub cut : walk.cut ≡ counts
   pub brackets : AreBracketsBy bounds (shown lanes counts) walk.brackets
-  pub limit : walk.threshold ≡ threshold (shown lanes counts)
+  pub threshold : walk.threshold ≡ threshold (shown lanes counts)
   pub chosen : IsChosen walk.brackets r walk.picks
   pub inside : ArePicks walk.brackets walk.picks
   -- it is settled where any answer is

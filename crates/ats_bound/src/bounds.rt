@@ -48,7 +48,7 @@ pub(crate) fn brackets(
     requires { AreKnown (shown_on front.now) known.now }
     ensures { IfOk result (AreBracketsOf (shown_on front.now)) }
 {
-    let mut all: Vec<Bracket> = Vec::new(alloc);
+    let mut all: Vec<Bracket> = Vec::with_capacity(alloc, known.len())?;
     for met in known.as_slice() {
         all.push(bracket_of(front, *met))?;
     }

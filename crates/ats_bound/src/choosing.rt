@@ -17,9 +17,9 @@ use std::cmp::Reverse;
 // A bracket with its place in the list.
 #[derive(Clone, Copy)]
 struct Placed {
-    doc: u32,
     lo: u64,
     hi: u64,
+    doc: u32,
     place: u32,
 }
 
@@ -37,12 +37,12 @@ fn with_places(alloc: Global, brackets: &[Bracket]) -> Result<Vec<Placed>, OutOf
     ensures places { IfOk result (λ all. map (λ p. p.place) all.items ≡ range_with_len 0 (length brackets.now)) }
     ensures brackets { IfOk result (λ all. All (IsPlaced brackets.now) all.items) }
 {
-    let mut all: Vec<Placed> = Vec::new(alloc);
+    let mut all: Vec<Placed> = Vec::with_capacity(alloc, brackets.len())?;
     for (place, bracket) in brackets.iter().enumerate() {
         all.push(Placed {
-            doc: document(bracket),
             lo: bracket.lo,
             hi: bracket.hi,
+            doc: document(bracket),
             place: place as u32,
         })?;
     }

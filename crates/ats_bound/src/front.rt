@@ -19,7 +19,7 @@ pub(crate) struct Front<'a> {
     lanes: Vec<Lane<'a>>,
     counts: Vec<u32>,
     rests: Vec<u32>,
-    limit: u64,
+    threshold: u64,
 }
 
 impl<'a> Model for Front<'a> {
@@ -30,7 +30,7 @@ impl<'a> Model for Front<'a> {
 
     ghost view = { λ f. record { lanes = whole_lanes f.lanes.items; cut = f.counts.items } };
 
-    ghost invariant = { λ f. AreRests (record { lanes = whole_lanes f.lanes.items; cut = f.counts.items }) f.rests.items f.limit };
+    ghost invariant = { λ f. AreRests (record { lanes = whole_lanes f.lanes.items; cut = f.counts.items }) f.rests.items f.threshold };
 }
 
 /// What an entry adds to the score of its document.
@@ -69,12 +69,12 @@ impl<'a> Front<'a> {
     {
         let counts = first_counts(alloc, lanes)?;
         let rests = rests(alloc, lanes, &counts)?;
-        let limit = total(&rests);
+        let threshold = total(&rests);
         Ok(Front {
             lanes: lanes.to_vec(alloc)?,
             counts,
             rests,
-            limit,
+            threshold,
         })
     }
 
@@ -126,14 +126,14 @@ impl<'a> Front<'a> {
         self.counts[i] += 1;
         let rest = rest(&self.lanes[i], self.counts[i]);
         self.rests[i] = rest;
-        self.limit = total(&self.rests);
+        self.threshold = total(&self.rests);
     }
 
     /// What a document that no shown entry names can score, at most.
     pub(crate) fn threshold(&self) -> u64
         ensures { result ≡ threshold (shown_on self.now) }
     {
-        self.limit
+        self.threshold
     }
 
     /// What the lists that do not name a document can add to its score, at most. The binary digits of the
@@ -161,7 +161,7 @@ impl<'a> Front<'a> {
             lanes: _,
             counts,
             rests: _,
-            limit: _,
+            threshold: _,
         } = self;
         Cut::of(counts)
     }

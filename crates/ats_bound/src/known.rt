@@ -4,8 +4,8 @@ ghost use Rattle.std.specs.Prelude.{◌≡◌, ◌≢◌, ◌<◌, ◌++◌, ◌
 ghost use Rattle.ats_bound.specs.Known.{AreOnce, met_at};
 
 use crate::memory::OutOfMemory;
+use crate::pages::Pages;
 use std::alloc::Global;
-use std::collections::BTreeMap;
 use std::marker::Model;
 
 /// A document with what the shown entries say that it scores at least, and which lists name it: the binary
@@ -13,29 +13,28 @@ use std::marker::Model;
 #[derive(Clone, Copy, Debug)]
 pub(crate) struct Met {
     pub(crate) doc: u32,
-    pub(crate) lo: u64,
     pub(crate) named: u32,
+    pub(crate) lo: u64,
 }
 
 /// The documents that are met, each in a slot, in the order in which they were met first.
 #[derive(Drop)]
 pub(crate) struct Known {
     met: Vec<Met>,
-    slots: BTreeMap<u32, usize>,
+    slots: Pages,
 }
 
 impl Model for Known {
     ghost use Rattle.std.specs.Prelude.{List, ℕ};
-    ghost use Rattle.std.specs.Ordering.{nat_cmp};
-    ghost use Rattle.std.specs.BTreeMap as tree;
     ghost use Rattle.ats_bound.specs.declared.known.Met.{Met as Item};
     ghost use Rattle.ats_bound.specs.Known.{AreSlots};
+    ghost use Rattle.ats_bound.specs.Pages.{slot_in};
 
     ghost Value = { List Item };
 
     ghost view = { λ k. k.met.items };
 
-    ghost invariant = { λ k. AreSlots k.met.items (tree.get nat_cmp k.slots) };
+    ghost invariant = { λ k. AreSlots k.met.items (slot_in k.slots.pages) };
 }
 
 impl Known {
@@ -44,7 +43,7 @@ impl Known {
     {
         Known {
             met: Vec::new(alloc),
-            slots: BTreeMap::new(alloc),
+            slots: Pages::new(alloc),
         }
     }
 
@@ -54,7 +53,7 @@ impl Known {
             (λ slot. (slot < length self.now) × ((met_at self.now slot).doc ≡ doc)) }
         ensures once { AreOnce self.now }
     {
-        self.slots.get(&doc).copied()
+        self.slots.get(doc)
     }
 
     /// The number of documents.
@@ -85,11 +84,11 @@ impl Known {
     {
         let slot = self.met.len();
         self.met.push(met)?;
-        match self.slots.insert(met.doc, slot) {
-            Ok(_) => Ok(()),
-            Err(_) => {
+        match self.slots.put(met.doc, self.met.len()) {
+            Ok(()) => Ok(()),
+            Err(wanted) => {
                 self.met.truncate(slot);
-                Err(OutOfMemory)
+                Err(wanted)
             }
         }
     }

@@ -23,6 +23,7 @@ mod known;
 mod lane;
 mod laws;
 mod memory;
+mod pages;
 mod picks;
 mod running;
 mod scored;

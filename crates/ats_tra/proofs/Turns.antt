@@ -41,7 +41,7 @@ finished bounds lanes r walk end same rows cut brackets limit chosen inside best
     subst (λ (n : ℕ). IsStand bounds lanes n walk.stage.cut end) rows (record {
       cut = cut;
       brackets = subst (λ (bs : List Bracket). AreBracketsBy bounds (shown lanes walk.stage.cut) bs) (sym brackets) of;
-      limit = subst (λ (ls : List WholeLane). end.threshold ≡ threshold (shown ls walk.stage.cut)) same limit;
+      threshold = subst (λ (ls : List WholeLane). end.threshold ≡ threshold (shown ls walk.stage.cut)) same limit;
       chosen = chosen;
       inside = inside;
       best = best;

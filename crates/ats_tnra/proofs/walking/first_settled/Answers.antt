@@ -62,7 +62,7 @@ returns-then-settled c =
     let stand : IsStand bracket walk.lanes walk.rows walk.cut end = c.in_ok-finish.ensures in
     let settled : IsSettled end.brackets end.picks (threshold (shown walk.lanes walk.cut)) walk.rows = (told.chosen end.brackets end.picks stand.brackets stand.chosen).0 c.if-settled.true in
     end_at bracket lanes c.args.top walk.cut end c.loop-lane.invariant.reached (stand_of lanes c.args.top walk end c.loop-lane.invariant.lanes c.loop-lane.invariant.rows stand)
-    (subst (λ (r : ℕ). IsSettled end.brackets end.picks end.threshold r) c.loop-lane.invariant.rows (rw stand.limit settled))
+    (subst (λ (r : ℕ). IsSettled end.brackets end.picks end.threshold r) c.loop-lane.invariant.rows (rw stand.threshold settled))
 
 pub returns : goal.returns
 returns c =

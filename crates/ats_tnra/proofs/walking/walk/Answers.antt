@@ -21,7 +21,7 @@ returns-clause-brackets c =
 pub returns-clause-threshold : goal.returns-clause-threshold
 returns-clause-threshold c =
     IfOk-weaker c.first_settled.result (IsEnd bracket (whole_lanes c.args.lanes.now) c.args.top) (λ (walk : Walk). walk.threshold ≡ threshold (shown (whole_lanes c.args.lanes.now) walk.cut))
-    (λ walk end. end.stand.limit) c.first_settled.ensures
+    (λ walk end. end.stand.threshold) c.first_settled.ensures
 
 pub returns-clause-picks : goal.returns-clause-picks
 returns-clause-picks c =

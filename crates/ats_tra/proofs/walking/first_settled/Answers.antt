@@ -70,7 +70,7 @@ returns-then-settled g c =
     let stand : IsStand bounds lanes c.args.top cut end = finished bounds lanes c.args.top walk end c.loop-lane.invariant.lanes c.loop-lane.invariant.rows
     c.in_ok-finish.ensures.cut c.in_ok-finish.ensures.brackets c.in_ok-finish.ensures.threshold c.in_ok-finish.ensures.picks c.in_ok-finish.ensures.inside c.in_ok-finish.ensures.best known in
     let settled : IsSettled end.brackets end.picks (threshold (shown lanes cut)) c.args.top = (told.chosen end.brackets end.picks stand.brackets stand.chosen).0 c.if-settled.true in
-    end_at bounds lanes c.args.top cut end c.loop-lane.invariant.reached stand (rw (stand.limit) settled)
+    end_at bounds lanes c.args.top cut end c.loop-lane.invariant.reached stand (rw (stand.threshold) settled)
 
 pub returns : goal.returns
 returns g c =

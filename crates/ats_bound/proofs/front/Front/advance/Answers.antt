@@ -41,7 +41,7 @@ pub total-self-inside-requires : goal.total-self-inside-requires
 total-self-inside-requires c =
     let stage : Stage = record { lanes = whole_lanes c.self.inside.lanes.items; cut = c.self.inside.counts.items } in
     let rests = c.self.inside.rests.items in
-    omega (arith, ap length c.deref.ensures.value, length-set rests c.args.lane c.rest-rest.result, rests_size stage rests c.self.inside.limit c.self.invariant, c.self.invariant.stands.whole.few)
+    omega (arith, ap length c.deref.ensures.value, length-set rests c.args.lane c.rest-rest.result, rests_size stage rests c.self.inside.threshold c.self.invariant, c.self.invariant.stands.whole.few)
 
 pub invariant_of-self : goal.invariant_of-self
 invariant_of-self c =
@@ -54,5 +54,5 @@ invariant_of-self c =
     let here : c.index-2.result.now ≡ get_or counts i 0 + 1 = c.index-2.ensures ∙ get_or-set_same counts i (c.index_mut.result.now + 1) c.index-2.result.now (omega (arith, inside, c.self.invariant.stands.cut.size)) ∙ ap (λ n. n + 1) next.count in
     let amount : c.rest-rest.result ≡ rest (lane_of (lane_on stage i).coefficient (lane_on stage i).entries (get_or counts i 0 + 1)) =
     c.rest-rest.ensures ∙ ap (λ (lane : WholeLane). rest (lane_of lane.coefficient lane.entries c.index-2.result.now)) next.lane_is ∙ ap (λ n. rest (lane_of (lane_on stage i).coefficient (lane_on stage i).entries n)) here in
-    rw next.count (rests_after stage c.self.inside.rests.items c.self.inside.limit i c.rest-rest.result c.total-self-inside.result c.self.invariant inside more amount
+    rw next.count (rests_after stage c.self.inside.rests.items c.self.inside.threshold i c.rest-rest.result c.total-self-inside.result c.self.invariant inside more amount
     (c.total-self-inside.ensures ∙ ap sum c.deref.ensures.value))

@@ -11,8 +11,8 @@ use Rattle.ats_bound.proofs.front.Front.new.Goals as goal
 pub rests-requires-clause-cut : goal.rests-requires-clause-cut
 rests-requires-clause-cut c = rw (c.deref.ensures.value, c.in_ok-counts.ensures) (first_is_cut (whole_lanes c.args.lanes.now) (have_entries (whole_lanes c.args.lanes.now) c.requires))
 
-pub total-limit-requires : goal.total-limit-requires
-total-limit-requires c =
+pub total-threshold-requires : goal.total-threshold-requires
+total-threshold-requires c =
     let lanes : List WholeLane = whole_lanes c.args.lanes.now in
     let counts : List ℕ = c.in_ok-counts.counts.items in
     let cut : IsCut lanes counts = rw c.in_ok-counts.ensures (first_is_cut lanes (have_entries lanes c.requires)) in
@@ -25,7 +25,7 @@ invariant_of-result c =
     let counts : List ℕ = c.in_ok-counts.counts.items in
     let same : c.in_ok-to_vec.field-0.items ≡ c.args.lanes.now = c.in_ok-to_vec.ensures.items_if_clones_equal (search rules) in
     let cut : IsCut lanes counts = rw c.in_ok-counts.ensures (first_is_cut lanes (have_entries lanes c.requires)) in
-    let are : AreRests (record { lanes = lanes; cut = counts }) c.in_ok-rests.rests.items c.total-limit.result =
-    rests_are (record { lanes = lanes; cut = counts }) c.in_ok-rests.rests.items c.total-limit.result (record { whole = c.requires; cut = cut })
-    (rw c.deref.ensures.value at c.in_ok-rests.ensures) (rw c.deref-2.ensures.value at c.total-limit.ensures) in
-    subst (λ (ls : List Lane). AreRests (record { lanes = whole_lanes ls; cut = counts }) c.in_ok-rests.rests.items c.total-limit.result) (sym same) are
+    let are : AreRests (record { lanes = lanes; cut = counts }) c.in_ok-rests.rests.items c.total-threshold.result =
+    rests_are (record { lanes = lanes; cut = counts }) c.in_ok-rests.rests.items c.total-threshold.result (record { whole = c.requires; cut = cut })
+    (rw c.deref.ensures.value at c.in_ok-rests.ensures) (rw c.deref-2.ensures.value at c.total-threshold.ensures) in
+    subst (λ (ls : List Lane). AreRests (record { lanes = whole_lanes ls; cut = counts }) c.in_ok-rests.rests.items c.total-threshold.result) (sym same) are

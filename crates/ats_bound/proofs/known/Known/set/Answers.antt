@@ -1,5 +1,5 @@
-use Rattle.std.proofs.Common.{◌≡◌, ◌<◌, List, length, nat_cmp, sym, subst}
-use Rattle.std.specs.BTreeMap as tree
+use Rattle.std.proofs.Common.{◌≡◌, ◌<◌, List, length, sym, subst}
+use Rattle.ats_bound.specs.Pages.{slot_in}
 use Rattle.ats_bound.specs.declared.known.Met.{Met}
 use Rattle.ats_bound.specs.Known.{met_at}
 use Rattle.ats_bound.proofs.Slots.{slots_set}
@@ -9,4 +9,4 @@ pub invariant_of-self : goal.invariant_of-self
 invariant_of-self c =
     let inside : c.args.slot < length c.self.inside.met.items = subst (λ (met : List Met). c.args.slot < length met) (sym c.self.view_is) c.requires.inside in
     let same : c.args.met.doc ≡ (met_at c.self.inside.met.items c.args.slot).doc = subst (λ (met : List Met). c.args.met.doc ≡ (met_at met c.args.slot).doc) (sym c.self.view_is) c.requires.doc in
-    slots_set c.self.inside.met.items c.args.met c.args.slot (tree.get nat_cmp c.self.inside.slots) c.self.invariant inside same
+    slots_set c.self.inside.met.items c.args.met c.args.slot (slot_in c.self.inside.slots.pages) c.self.invariant inside same
