@@ -9,11 +9,11 @@ use Rattle.ats_impact.specs.Rank.{times}
 use Rattle.ats_bound.specs.declared.bracket.Bracket.{Bracket}
 use Rattle.ats_bound.specs.declared.work.Mark.{Mark}
 use Rattle.ats_bound.specs.Work.{mark_at}
-use Rattle.ats_bound.specs.Cut.{ShownLane, threshold}
+use Rattle.ats_bound.specs.Cut.{ShownLane, threshold as threshold_of}
 use Rattle.ats_bound.specs.Schedule.{Bounding}
 use Rattle.ats_bound.specs.Settled.{AreDistinct, bracket_at, row, last_row}
 use Rattle.ats_bound.proofs.Places.{counted_places, few_places, times_same, times_other}
-use Rattle.ats_client.specs.Bounds.{upper, AreBelow, row_mark, lower_before, AreFalling, IsRestWithin}
+use Rattle.ats_client.specs.Bounds.{upper, AreBelow, row_mark, lower_before, AreFalling, AreOthersWithin}
 use Rattle.ats_client.specs.Groups.{met_at, brackets_of, AreRowsRight, IsAnswerSettled}
 use Rattle.ats_client.specs.Marked.{AreMarks, AreNoted}
 use Rattle.ats_client.proofs.Named.{any_is_times, any_none}
@@ -52,18 +52,18 @@ last_is marks answer (suc n) some =
     let e : suc n - 1 ≡ n = omega arith in
     ap (λ k. (row_mark marks answer k).lo) (sym e)
 
-module _ (bounds : Bounding) (lanes : List ShownLane) (met : List ℕ) (marks : List Mark) (limit : ℕ) (are : AreMarks bounds lanes met marks) (rests : limit ≡ threshold lanes) where
+module _ (bounds : Bounding) (lanes : List ShownLane) (met : List ℕ) (marks : List Mark) (threshold : ℕ) (are : AreMarks bounds lanes met marks) (rests : threshold ≡ threshold_of lanes) where
   -- the upper end of a bracket, by the mark of its document
-  pub upper_is : (i : ℕ) → i < length met → (bounds lanes (met_at met i)).hi ≡ upper limit (mark_at marks i)
+  pub upper_is : (i : ℕ) → i < length met → (bounds lanes (met_at met i)).hi ≡ upper threshold (mark_at marks i)
   upper_is i inside = omega (arith, (are.each i inside).most, rests)
 
-  pub held_within : (i : ℕ) → i < length met → (mark_at marks i).held ≤ limit
+  pub held_within : (i : ℕ) → i < length met → (mark_at marks i).held ≤ threshold
   held_within i inside = omega (arith, (are.each i inside).within, rests)
 
-  -- the marks are below the limit
-  pub below : limit < 2 ^ 48 → AreBelow limit marks
+  -- the marks are below the threshold
+  pub below : threshold < 2 ^ 48 → AreBelow threshold marks
   below small = record {
-    limit_small = small;
+    threshold_small = small;
     small = λ i inside. (are.each i (omega (arith, inside, are.size))).small;
     held = λ i inside. held_within i (omega (arith, inside, are.size));
   }
@@ -74,20 +74,20 @@ module _ (bounds : Bounding) (lanes : List ShownLane) (met : List ℕ) (marks : 
   bracket_is : (i : ℕ) → i < length met → bracket_at brackets i ≡ bounds lanes (met_at met i)
   bracket_is i inside = get_or-map (bounds lanes) met i 0 (record { doc = 0; lo = 0; hi = 0 }) inside
 
-  hi_at : (i : ℕ) → i < length met → (bracket_at brackets i).hi ≡ upper limit (mark_at marks i)
+  hi_at : (i : ℕ) → i < length met → (bracket_at brackets i).hi ≡ upper threshold (mark_at marks i)
   hi_at i inside = ap (λ (b : Bracket). b.hi) (bracket_is i inside) ∙ upper_is i inside
 
   lo_at : (i : ℕ) → i < length met → (bracket_at brackets i).lo ≡ (mark_at marks i).lo
   lo_at i inside = ap (λ (b : Bracket). b.lo) (bracket_is i inside) ∙ sym (are.each i inside).least
 
-  module _ (answer : List ℕ) (right : AreRowsRight met answer) (noted : AreNoted answer marks) (small : limit < 2 ^ 48) where
+  module _ (answer : List ℕ) (right : AreRowsRight met answer) (noted : AreNoted answer marks) (small : threshold < 2 ^ 48) where
     abbrev n : ℕ
     n = length answer
 
     low : (k : ℕ) → k < n → get_or answer k 0 < length met
     low k inside = right.inside k 0 inside
 
-    row_hi : (k : ℕ) → k < n → (row brackets answer k).hi ≡ upper limit (row_mark marks answer k)
+    row_hi : (k : ℕ) → k < n → (row brackets answer k).hi ≡ upper threshold (row_mark marks answer k)
     row_hi k inside = hi_at (get_or answer k 0) (low k inside)
 
     row_lo : (k : ℕ) → k < n → (row brackets answer k).lo ≡ (row_mark marks answer k).lo
@@ -99,7 +99,7 @@ module _ (bounds : Bounding) (lanes : List ShownLane) (met : List ℕ) (marks : 
     count : length brackets ≡ length met
     count = length-map met (bounds lanes)
 
-    high : (i : ℕ) → i < length met → upper limit (mark_at marks i) ≤ 2 ^ 64 - 1
+    high : (i : ℕ) → i < length met → upper threshold (mark_at marks i) ≤ 2 ^ 64 - 1
     high i inside = omega (arith, (are.each i inside).small, small)
 
     -- a document is outside the answer where its mark notes no row
@@ -110,8 +110,8 @@ module _ (bounds : Bounding) (lanes : List ShownLane) (met : List ℕ) (marks : 
     free_if i inside none = noted i (omega (arith, inside, are.size)) ∙ (any_is_times i answer ∙ ap (λ x. nat_lt 0 x) none)
 
     -- what the marks say is enough
-    pub settles : (r : ℕ) → n ≤ r → ((n ≡ r) ⊎ ((length met ≤ n) × (limit ≡ 0))) → AreFalling limit marks answer n
-        → limit ≤ lower_before marks answer n → IsRestWithin limit marks (lower_before marks answer n) → IsAnswerSettled bounds lanes met answer r
+    pub settles : (r : ℕ) → n ≤ r → ((n ≡ r) ⊎ ((length met ≤ n) × (threshold ≡ 0))) → AreFalling threshold marks answer n
+        → threshold ≤ lower_before marks answer n → AreOthersWithin threshold marks (lower_before marks answer n) → IsAnswerSettled bounds lanes met answer r
     settles r most whole falling unmet rest = record {
       once = right.once;
       most = most;
@@ -120,8 +120,8 @@ module _ (bounds : Bounding) (lanes : List ShownLane) (met : List ℕ) (marks : 
         | inr all ↦ inr (λ i inside. fill_all (length met) answer right.inside right.once all.0 i (omega (arith, inside, count)), sym rests ∙ all.1)
       ];
       falling = λ k inside.
-          let next : upper limit (row_mark marks answer (suc k)) ≤ (row_mark marks answer k).lo = falling (suc k) (omega (arith, inside)) in
-          let hi : (row brackets answer (suc k)).hi ≡ upper limit (row_mark marks answer (suc k)) = row_hi (suc k) (omega (arith, inside)) in
+          let next : upper threshold (row_mark marks answer (suc k)) ≤ (row_mark marks answer k).lo = falling (suc k) (omega (arith, inside)) in
+          let hi : (row brackets answer (suc k)).hi ≡ upper threshold (row_mark marks answer (suc k)) = row_hi (suc k) (omega (arith, inside)) in
           let le : (row brackets answer (suc k)).hi ≤ (row brackets answer k).lo = omega (arith, next, hi, row_lo k (omega (arith, inside))) in
           subst (λ (j : ℕ). (row brackets answer j).hi ≤ (row brackets answer k).lo) (sym (add-one k)) le;
       rest = λ i outside some.
@@ -138,31 +138,31 @@ module _ (bounds : Bounding) (lanes : List ShownLane) (met : List ℕ) (marks : 
 
     -- and needed
     module _ (r : ℕ) (settled : IsAnswerSettled bounds lanes met answer r) where
-      pub says_whole : (n ≡ r) ⊎ ((length met ≤ n) × (limit ≡ 0))
+      pub says_whole : (n ≡ r) ⊎ ((length met ≤ n) × (threshold ≡ 0))
       says_whole = elim settled.whole [
         | inl full ↦ inl full
         | inr all ↦ inr (all_fill (length met) answer right.inside (λ i inside. all.0 i (omega (arith, inside, count))), rests ∙ all.1)
       ]
 
-      pub says_falling : AreFalling limit marks answer n
+      pub says_falling : AreFalling threshold marks answer n
       says_falling zero inside = high (get_or answer 0 0) (low 0 inside)
       says_falling (suc k) inside =
           let next : (row brackets answer (suc k)).hi ≤ (row brackets answer k).lo =
           subst (λ (j : ℕ). (row brackets answer j).hi ≤ (row brackets answer k).lo) (add-one k) (settled.falling k (omega (arith, inside))) in
           omega (arith, next, row_hi (suc k) inside, row_lo k (omega (arith, inside)))
 
-      pub says_unmet : limit ≤ lower_before marks answer n
+      pub says_unmet : threshold ≤ lower_before marks answer n
       says_unmet = elim (cases_lt 0 n) [
         | inl some ↦
-            elim (cases_lt 0 limit) [
+            elim (cases_lt 0 threshold) [
               | inl more ↦ omega (arith, settled.unmet some (omega (arith, more, rests)), rests, last_lo some)
               | inr none ↦ omega (arith, none)
             ]
         | inr none ↦ omega (arith, none_before none, small)
       ]
 
-      pub says_rest : IsRestWithin limit marks (lower_before marks answer n)
-      says_rest i in_marks free =
+      pub says_others : AreOthersWithin threshold marks (lower_before marks answer n)
+      says_others i in_marks free =
           let inside : i < length met = omega (arith, in_marks, are.size) in
           elim (cases_lt 0 n) [
             | inl some ↦

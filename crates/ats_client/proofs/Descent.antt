@@ -1,46 +1,46 @@
--- The descent: from the root to the header, the dictionary and the lists, what a proof shows is the collection's own but
--- for a collision.
+-- The descent: from the root to the header, the dictionary and the lists, what a proof shows is the archive's own but for
+-- a collision.
 use Rattle.std.proofs.Common.{◌≡◌, ◌+◌, ◌<◌, ◌≤◌, ◌^◌, ℕ, List, [], ◌∷◌, ◌++◌, length, map, get_or, slice_get, Option, Some, refl, sym, ◌∙◌, ap, subst, arith}
 use Rattle.std.specs.List.{All, flat_map}
 use Rattle.std.specs.List.Sorted.{IsStrictlyIncreasing}
-use Rattle.std.proofs.lemmas.List.{length-map}
 use Rattle.std.proofs.lemmas.Option.{get_or_from_slice_get, slice_get_within}
 use Rattle.std.proofs.lemmas.Simd.{map-map}
 use Rattle.ats_terms.specs.Terms.{IsTerm}
 use Rattle.ats_terms.specs.Query.{IsQuery}
-use Rattle.ats_tree.specs.Clashes.{Hashed, first_clash}
-use Rattle.ats_tree.specs.Paths.{Path}
-use Rattle.ats_tree.specs.Rebuild.{rebuilt, tree_of_places}
+use Rattle.ats_tree.specs.Differences.{Hashed, moved, first_difference}
+use Rattle.ats_tree.specs.Nodes.{Node}
 use Rattle.ats_tree.specs.Shown.{Shown}
-use Rattle.ats_tree.specs.Strings.{strings, string_at}
-use Rattle.ats_tree.specs.Tree.{tree_of, mth}
+use Rattle.ats_tree.specs.Strings.{node_string, node_strings}
 use Rattle.ats_tree.specs.Part.{RisesFrom}
 use Rattle.ats_tree.specs.declared.hashed.Tree.{Tree}
 use Rattle.ats_tree.specs.declared.hashed.Tree.TheVariants.{Dictionary, List as ListOf}
 use Rattle.ats_tree.proofs.Bound.{bound_to}
-use Rattle.ats_tree.proofs.Clashes.{difference-collides}
+use Rattle.ats_tree.proofs.Differences.{difference-collides}
 use Rattle.ats_tree.proofs.Positions.{rises-increasing}
-use Rattle.ats_lists.specs.Leaf.{leaf_bytes}
 use Rattle.ats_lists.specs.Lists.{list}
 use Rattle.ats_lists.specs.declared.entry.Entry.{Entry}
 use Rattle.ats_dict.specs.Dictionary.{dict_leaves}
 use Rattle.ats_dict.specs.Entry.{DictEntry, dict_leaf_bytes}
 use Rattle.ats_dict.specs.Header.{header_bytes, IsHeader}
 use Rattle.ats_dict.specs.declared.header.Header.{Header}
+use Rattle.ats_commit.specs.Archive.{Layout, Archive, header_tag, list_root}
+use Rattle.ats_commit.specs.Prefixes.{list_string, prefix_strings}
 use Rattle.ats_commit.specs.Trees.{dictionary_of}
-use Rattle.ats_commit.specs.Root.{header_of, root_of}
+use Rattle.ats_commit.specs.Root.{header_of, header_root, root_of}
 use Rattle.ats_commit.specs.Own.{AreTexts, IsHeaderOf, IsEntryOf}
 use Rattle.ats_commit.specs.Ours.{TreePlace, asked_term, ours}
+use Rattle.ats_commit.proofs.Layouts.{same_layout}
 use Rattle.ats_commit.proofs.OwnHeader.{own_header}
 use Rattle.ats_commit.proofs.OwnLeaves.{leaf_tells_entry}
-use Rattle.ats_proof.specs.Value.{ShownEntry, Proof, present_in}
+use Rattle.ats_commit.proofs.PrefixLemmas.{prefix-binds}
+use Rattle.ats_proof.specs.Value.{ShownEntry, Proof, layout_of, present_in}
 use Rattle.ats_proof.specs.Ranges.{AreDigests, IsShownInRange, IsInRange}
 use Rattle.ats_proof.specs.Runs.{shown_entry, shown_list}
 use Rattle.ats_client.specs.Accepts.{Accepts}
 use Rattle.ats_client.specs.Groups as groups
 use Rattle.ats_client.specs.Presented.{Presented, presented, entry_at}
 use Rattle.ats_client.specs.Slots as slots
-use Rattle.ats_client.specs.Strings.{header_string, in_tree, strings_in, list_strings, strings_of, extract, AreLeavesOf, IsOwnList, IsOwn, IsBound}
+use Rattle.ats_client.specs.Strings.{hashed_header, in_tree, strings_in, list_strings, strings_of, extract, AreLeavesOf, IsOwnList, IsOwn, IsBound}
 use Rattle.ats_client.proofs.Kept as kept
 use Rattle.ats_client.proofs.DescentTrees.{Binds, binds-both, binds-moved, binds-weaker, binds-one, binds-all}
 use Rattle.ats_client.proofs.HeadlineTerms.{HoldsPresent, each_presented}
@@ -67,40 +67,40 @@ rises-list at met (e ∷ entries) = (omega arith, rises-list (at + 1) met entrie
 -- ---- the header
 
 -- two preimages of roots that are equal
-tail_same : (xs ys : List ℕ) → 2 ∷ xs ≡ 2 ∷ ys → ys ≡ xs
-tail_same xs ys same = cc
+tail_same : (x y : ℕ) (xs ys : List ℕ) → x ∷ xs ≡ y ∷ ys → ys ≡ xs
+tail_same x y xs ys same = cc
 
-pub header-binds : (H : List ℕ → List ℕ) → ((m : List ℕ) → length (H m) ≡ 32) → (texts : List (List ℕ)) (query : List (List ℕ × ℕ)) (header : Header) → AreTexts texts
-    → IsHeader header.documents header.dict_leaves header.dict_root header.docs_root header.texts_root
-    → groups.root_of H header ≡ root_of H texts → Binds H (ours H texts query) (header_string header ∷ []) (IsHeaderOf H texts header)
-header-binds H sized texts query header are is root =
+pub header-binds : (H : List ℕ → List ℕ) → ((m : List ℕ) → length (H m) ≡ 32) → (archive : Archive) (query : List (List ℕ × ℕ)) (layout : Layout) (header : Header)
+    → AreTexts archive.texts → IsHeader header.documents header.dict_leaves header.dict_root header.docs_root header.texts_root
+    → header_root H layout header ≡ root_of H archive → Binds H (ours H archive query) (hashed_header layout header ∷ []) (IsHeaderOf H archive header)
+header-binds H sized archive query layout header are is root =
     let bytes : List ℕ = header_bytes header.documents header.dict_leaves header.dict_root header.docs_root header.texts_root
-    in binds-one H (ours H texts query) (header_string header) (2 ∷ header_of H texts) (IsHeaderOf H texts header) refl root
-    (λ same. own_header H sized texts header are is (tail_same (header_of H texts) bytes same))
+    in let tag : ℕ = header_tag archive.layout
+    in binds-one H (ours H archive query) (hashed_header layout header) (tag ∷ header_of H archive) (IsHeaderOf H archive header) refl root
+    (λ same. own_header H sized archive header are is (tail_same tag (header_tag layout) (header_of H archive) bytes same))
 
 -- ---- the section of one tree
 
--- a section that rebuilds to the digest of a tree shows the tree's own leaves
-pub section-binds : (H : List ℕ → List ℕ) → ((m : List ℕ) → length (H m) ≡ 32) → (tree : Tree) (own : TreePlace → Option (List ℕ)) (n : ℕ) (shown : List Shown)
-    (digests : List (List ℕ)) (root : List ℕ) (leaves : List (List ℕ)) → ((path : Path) → own (in_tree tree path) ≡ string_at H (tree_of leaves) path)
-    → RisesFrom 0 shown → AreDigests digests → rebuilt H n shown digests ≡ Some root → length leaves ≡ n → mth H leaves ≡ root
-    → Binds H own (strings_in H tree n shown digests) (AreLeavesOf leaves shown)
-section-binds H sized tree own n shown digests root leaves same rises all right size is =
-    binds-moved H (in_tree tree) own (strings H (tree_of_places n shown) digests) (AreLeavesOf leaves shown)
-    (subst (λ (f : Path → Option (List ℕ)). Binds H f (strings H (tree_of_places n shown) digests) (AreLeavesOf leaves shown)) (λ i path. sym (same path) i)
-    (bound_to H sized n shown digests root rises all right leaves size is))
+-- the strings of one tree show what they show among the strings there
+tree-binds : (H : List ℕ → List ℕ) (tree : Tree) (own : TreePlace → Option (List ℕ)) (there : Node → Option (List ℕ)) (ss : List (Hashed Node)) (A : Type 0)
+    → ((node : Node) → own (in_tree tree node) ≡ there node) → Binds H there ss A → Binds H own (map (moved (in_tree tree)) ss) A
+tree-binds H tree own there ss A same bound =
+    binds-moved H (in_tree tree) own ss A (subst (λ (f : Node → Option (List ℕ)). Binds H f ss A) (λ i node. sym (same node) i) bound)
 
 -- ---- the dictionary
 
-pub dictionary-binds : (H : List ℕ → List ℕ) → ((m : List ℕ) → length (H m) ≡ 32) → (texts : List (List ℕ)) (query : List (List ℕ × ℕ)) (proof : Proof)
-    → IsInRange proof → groups.IsDictionary H proof → IsHeaderOf H texts proof.header
-    → Binds H (ours H texts query) (strings_in H Dictionary proof.header.dict_leaves (map shown_entry proof.dict) proof.dict_digests)
-    (AreLeavesOf (dict_leaves (dictionary_of H texts)) (map shown_entry proof.dict))
-dictionary-binds H sized texts query proof range right header =
+pub dictionary-binds : (H : List ℕ → List ℕ) → ((m : List ℕ) → length (H m) ≡ 32) → (archive : Archive) (query : List (List ℕ × ℕ)) (proof : Proof)
+    → IsInRange proof → groups.IsDictionary H proof → IsHeaderOf H archive proof.header
+    → Binds H (ours H archive query) (strings_in H Dictionary proof.header.dict_leaves (map shown_entry proof.dict) proof.dict_digests)
+    (AreLeavesOf (dict_leaves (dictionary_of H archive)) (map shown_entry proof.dict))
+dictionary-binds H sized archive query proof range right header =
     let shown : List Shown = map shown_entry proof.dict
+    in let leaves : List (List ℕ) = dict_leaves (dictionary_of H archive)
     in let rises : RisesFrom 0 shown = rises-increasing shown (subst IsStrictlyIncreasing (sym (map-map (λ (s : Shown). s.0) shown_entry proof.dict)) range.terms.rises)
-    in section-binds H sized Dictionary (ours H texts query) proof.header.dict_leaves shown proof.dict_digests proof.header.dict_root
-    (dict_leaves (dictionary_of H texts)) (λ path. refl) rises range.terms.sized right (sym header.leaves) (sym header.dictionary)
+    in tree-binds H Dictionary (ours H archive query) (node_string H leaves) (node_strings H proof.header.dict_leaves shown proof.dict_digests)
+    (AreLeavesOf leaves shown) (λ node. refl)
+    (bound_to H sized proof.header.dict_leaves shown proof.dict_digests proof.header.dict_root rises range.terms.sized right leaves
+    (sym header.leaves) (sym header.dictionary))
 
 -- ---- one list
 
@@ -114,30 +114,35 @@ pub record IsAsked (query : List (List ℕ × ℕ)) (dict : List ShownEntry) (on
   pub term : IsTerm one.entry.term
   pub sized : AreDigests one.prefix.digests
 
--- the entry of a present term says what the collection's list of the term has
-pub entry-own : (H : List ℕ → List ℕ) (texts : List (List ℕ)) (query : List (List ℕ × ℕ)) (dict : List ShownEntry) (one : Presented) → AreTexts texts
-    → All IsShownInRange dict → AreLeavesOf (dict_leaves (dictionary_of H texts)) (map shown_entry dict) → IsAsked query dict one
-    → IsEntryOf H texts one.entry
-entry-own H texts query dict one are ranges own asked =
-    let leaves : List (List ℕ) = dict_leaves (dictionary_of H texts)
+-- the entry of a present term says what the archive's list of the term has
+pub entry-own : (H : List ℕ → List ℕ) (archive : Archive) (query : List (List ℕ × ℕ)) (dict : List ShownEntry) (one : Presented) → AreTexts archive.texts
+    → All IsShownInRange dict → AreLeavesOf (dict_leaves (dictionary_of H archive)) (map shown_entry dict) → IsAsked query dict one
+    → IsEntryOf H archive one.entry
+entry-own H archive query dict one are ranges own asked =
+    let leaves : List (List ℕ) = dict_leaves (dictionary_of H archive)
     in let range : IsShownInRange asked.shown = at_place IsShownInRange dict asked.place asked.shown ranges asked.there
     in let small : one.entry.f < 2 ^ 32 = subst (λ (e : DictEntry). e.f < 2 ^ 32) asked.entry range.number
     in let leaf = leaf_own shown_entry leaves dict asked.place asked.shown own asked.there
-    in leaf_tells_entry H texts are asked.shown.position one.entry asked.term small
+    in leaf_tells_entry H archive are asked.shown.position one.entry asked.term small
     (subst (λ (e : DictEntry). slice_get leaves asked.shown.position ≡ Some (dict_leaf_bytes e.term e.f e.root)) asked.entry leaf)
 
-pub list-binds : (H : List ℕ → List ℕ) → ((m : List ℕ) → length (H m) ≡ 32) → (texts : List (List ℕ)) (query : List (List ℕ × ℕ)) (met : List ℕ) (one : Presented)
-    → one.entry.term ≡ asked_term query one.number → AreDigests one.prefix.digests → groups.IsListRight H met one → IsEntryOf H texts one.entry
-    → Binds H (ours H texts query) (list_strings H met one) (IsOwnList texts query met one)
-list-binds H sized texts query met one same digests right own =
-    let leaves : List (List ℕ) = map leaf_bytes (list texts (asked_term query one.number))
+pub list-binds : (H : List ℕ → List ℕ) → ((m : List ℕ) → length (H m) ≡ 32) → (archive : Archive) (query : List (List ℕ × ℕ)) (layout : Layout) (met : List ℕ) (one : Presented)
+    → one.entry.term ≡ asked_term query one.number → AreDigests one.prefix.digests → groups.IsListRight H layout met one → IsEntryOf H archive one.entry
+    → Binds H (ours H archive query) (list_strings H layout met one) (IsOwnList archive.texts query met one)
+list-binds H sized archive query layout met one same digests right own =
+    let entries : List Entry = list archive.texts (asked_term query one.number)
     in let shown : List Shown = shown_list 0 met one.prefix.entries
-    in let size : length leaves ≡ one.entry.f =
-    length-map (list texts (asked_term query one.number)) leaf_bytes
-    ∙ subst (λ term. length (list texts term) ≡ one.entry.f) same (sym own.number)
-    in let root : mth H leaves ≡ one.entry.root = subst (λ term. mth H (map leaf_bytes (list texts term)) ≡ one.entry.root) same (sym own.list_root)
-    in section-binds H sized (ListOf one.number) (ours H texts query) one.entry.f shown one.prefix.digests one.entry.root leaves (λ path. refl)
-    (rises-list 0 met one.prefix.entries) digests right.root size root
+    in let hashed : List (Hashed Node) = prefix_strings H layout one.entry.f shown one.prefix.digests
+    in let Shows : Type 0 = IsOwnList archive.texts query met one
+    in let size : length entries ≡ one.entry.f = subst (λ term. length (list archive.texts term) ≡ one.entry.f) same (sym own.number)
+    in let layouts : archive.layout ≡ layout = same_layout archive.layout layout
+    in let root : list_root H layout entries ≡ one.entry.root =
+    subst (λ term. list_root H layout (list archive.texts term) ≡ one.entry.root) same
+    (subst (λ l. list_root H l (list archive.texts one.entry.term) ≡ one.entry.root) layouts (sym own.root))
+    in let bound : Binds H (list_string H layout entries) hashed Shows =
+    prefix-binds H sized layout entries one.entry.f shown one.prefix.digests one.entry.root (rises-list 0 met one.prefix.entries) digests right.root size root
+    in tree-binds H (ListOf one.number) (ours H archive query) (list_string H archive.layout entries) hashed Shows (λ node. refl)
+    (subst (λ l. Binds H (list_string H l entries) hashed Shows) (sym layouts) bound)
 
 -- ---- all lists
 
@@ -149,7 +154,7 @@ pair-asked query proof is right j pair slot prefix at spot present range =
     in let number : 0 + j ≡ j = omega arith
     in let pair_term = pair_is query is j pair at
     in let shows = slot_shows query proof j slot spot (right j low)
-    in let was = present_leaf slots.entry_shown proof.dict (groups.term_at query j) slot shows present
+    in let was = present_leaf slots.entry_shown proof.dict (asked_term query j) slot shows present
     in let shown : ShownEntry = was.0
     in let entry : shown.entry ≡ entry_at proof.dict slot.index = entry_there proof.dict slot.index shown (sym was.1)
     in let same : (entry_at proof.dict slot.index).term ≡ asked_term query j =
@@ -169,42 +174,44 @@ pub asked-terms : (query : List (List ℕ × ℕ)) (proof : Proof) → IsQuery q
 asked-terms query proof is right range size =
     each_presented (IsAsked query proof.dict) proof.dict 0 query proof.slots proof.lists size range.fronts (pair-asked query proof is right)
 
-pub lists-bind : (H : List ℕ → List ℕ) → ((m : List ℕ) → length (H m) ≡ 32) → (texts : List (List ℕ)) (query : List (List ℕ × ℕ)) (proof : Proof) → AreTexts texts
+pub lists-bind : (H : List ℕ → List ℕ) → ((m : List ℕ) → length (H m) ≡ 32) → (archive : Archive) (query : List (List ℕ × ℕ)) (proof : Proof) → AreTexts archive.texts
     → IsInRange proof → All (IsAsked query proof.dict) (presented query proof) → groups.AreListsRight H query proof
-    → AreLeavesOf (dict_leaves (dictionary_of H texts)) (map shown_entry proof.dict)
-    → Binds H (ours H texts query) (flat_map (list_strings H proof.met) (presented query proof)) (All (IsOwnList texts query proof.met) (presented query proof))
-lists-bind H sized texts query proof are range asked right own =
-    binds-all H (ours H texts query) (list_strings H proof.met) (IsOwnList texts query proof.met) (presented query proof)
+    → AreLeavesOf (dict_leaves (dictionary_of H archive)) (map shown_entry proof.dict)
+    → Binds H (ours H archive query) (flat_map (list_strings H (layout_of proof) proof.met) (presented query proof))
+    (All (IsOwnList archive.texts query proof.met) (presented query proof))
+lists-bind H sized archive query proof are range asked right own =
+    binds-all H (ours H archive query) (list_strings H (layout_of proof) proof.met) (IsOwnList archive.texts query proof.met) (presented query proof)
     (λ k d low.
     let one : Presented = get_or (presented query proof) k d
     in let is : IsAsked query proof.dict one = asked k d low
-    in list-binds H sized texts query proof.met one is.same is.sized (right k d low)
-    (entry-own H texts query proof.dict one are range.terms.each own is))
+    in list-binds H sized archive query (layout_of proof) proof.met one is.same is.sized (right k d low)
+    (entry-own H archive query proof.dict one are range.terms.each own is))
 
 -- ---- the whole proof
 
-pub whole-binds : (H : List ℕ → List ℕ) → ((m : List ℕ) → length (H m) ≡ 32) → (texts : List (List ℕ)) (query : List (List ℕ × ℕ)) (r : ℕ) (proof : Proof) → AreTexts texts
-    → IsQuery query → IsInRange proof → present_in proof.slots ≡ length proof.lists → Accepts H (root_of H texts) query r proof → IsBound H texts query proof
-whole-binds H sized texts query r proof are is range size accepts =
-    let own : TreePlace → Option (List ℕ) = ours H texts query
-    in let top : List (Hashed TreePlace) = header_string proof.header ∷ []
+pub whole-binds : (H : List ℕ → List ℕ) → ((m : List ℕ) → length (H m) ≡ 32) → (archive : Archive) (query : List (List ℕ × ℕ)) (r : ℕ) (proof : Proof) → AreTexts archive.texts
+    → IsQuery query → IsInRange proof → present_in proof.slots ≡ length proof.lists → Accepts H (root_of H archive) query r proof → IsBound H archive query proof
+whole-binds H sized archive query r proof are is range size accepts =
+    let own : TreePlace → Option (List ℕ) = ours H archive query
+    in let layout : Layout = layout_of proof
+    in let top : List (Hashed TreePlace) = hashed_header layout proof.header ∷ []
     in let terms : List (Hashed TreePlace) = strings_in H Dictionary proof.header.dict_leaves (map shown_entry proof.dict) proof.dict_digests
-    in let fronts : List (Hashed TreePlace) = flat_map (list_strings H proof.met) (presented query proof)
-    in let Numbers : Type 0 = IsHeaderOf H texts proof.header
-    in let Terms : Type 0 = AreLeavesOf (dict_leaves (dictionary_of H texts)) (map shown_entry proof.dict)
-    in let Fronts : Type 0 = All (IsOwnList texts query proof.met) (presented query proof)
-    in let under : List ℕ = root_of H texts
+    in let fronts : List (Hashed TreePlace) = flat_map (list_strings H layout proof.met) (presented query proof)
+    in let Numbers : Type 0 = IsHeaderOf H archive proof.header
+    in let Terms : Type 0 = AreLeavesOf (dict_leaves (dictionary_of H archive)) (map shown_entry proof.dict)
+    in let Fronts : Type 0 = All (IsOwnList archive.texts query proof.met) (presented query proof)
+    in let under : List ℕ = root_of H archive
     in let asked = asked-terms query proof is (kept.slots H under query r proof accepts) range size
-    in binds-weaker H own (strings_of H query proof) (Numbers × (Terms × Fronts)) (IsOwn H texts query proof)
-    (λ all. record { numbers = all.0; terms = all.1.0; fronts = all.1.1 })
+    in binds-weaker H own (strings_of H query proof) (Numbers × (Terms × Fronts)) (IsOwn H archive query proof)
+    (λ all. record { layout = same_layout layout archive.layout; numbers = all.0; terms = all.1.0; fronts = all.1.1 })
     (binds-both H own top (terms ++ fronts) Numbers (Terms × Fronts)
-    (header-binds H sized texts query proof.header are range.front (kept.opened H under query r proof accepts).commits)
+    (header-binds H sized archive query layout proof.header are range.front (kept.opened H under query r proof accepts).commits)
     (λ numbers. binds-both H own terms fronts Terms Fronts
-    (dictionary-binds H sized texts query proof range (kept.dictionary H under query r proof accepts) numbers)
-    (λ own_terms. lists-bind H sized texts query proof are range asked (kept.lists H under query r proof accepts) own_terms)))
+    (dictionary-binds H sized archive query proof range (kept.dictionary H under query r proof accepts) numbers)
+    (λ own_terms. lists-bind H sized archive query proof are range asked (kept.lists H under query r proof accepts) own_terms)))
 
 -- the first difference is then the first collision
-pub whole-extracts : (H : List ℕ → List ℕ) (texts : List (List ℕ)) (query : List (List ℕ × ℕ)) (proof : Proof) → IsBound H texts query proof
-    → extract H texts query proof ≡ first_clash (ours H texts query) (strings_of H query proof)
-whole-extracts H texts query proof bound =
-    difference-collides H (IsOwn H texts query proof) (ours H texts query) (strings_of H query proof) bound
+pub whole-extracts : (H : List ℕ → List ℕ) (archive : Archive) (query : List (List ℕ × ℕ)) (proof : Proof) → IsBound H archive query proof
+    → extract H archive query proof ≡ first_difference (ours H archive query) (strings_of H query proof)
+whole-extracts H archive query proof bound =
+    difference-collides H (IsOwn H archive query proof) (ours H archive query) (strings_of H query proof) bound

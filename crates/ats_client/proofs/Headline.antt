@@ -1,18 +1,19 @@
--- Where all that an accepted proof shows is a collection's own, its rows are right. So they are right for each collection
--- with the root, or two different strings have equal digests.
+-- Where all that an accepted proof shows is an archive's own, its rows are right. So they are right for each archive with
+-- the root, or two different strings have equal digests.
 use Rattle.std.proofs.Common.{◌≡◌, ◌⊎◌, ℕ, List, [], length, get_or, map, Option, Some, None, refl, sym, subst, inl, inr}
 use Rattle.std.specs.Prelude.{IsSome, MatchOption}
 use Rattle.std.proofs.lemmas.List.Elements.{All-weaker}
 use Rattle.ats_terms.specs.Query.{IsQuery}
 use Rattle.ats_impact.specs.Score.{score}
+use Rattle.ats_commit.specs.Archive.{Layout, Archive}
 use Rattle.ats_commit.specs.Own.{AreTexts}
 use Rattle.ats_commit.specs.Root.{root_of}
 use Rattle.ats_commit.specs.Ours.{TreePlace, ours}
-use Rattle.ats_tree.specs.Clashes.{Clash, first_clash}
+use Rattle.ats_tree.specs.Differences.{Difference, first_difference}
 use Rattle.ats_bound.specs.Cut.{bracket}
 use Rattle.ats_bound.specs.Schedule.{Bounding}
 use Rattle.ats_bound.specs.Ranked.{AreScores, cut_of}
-use Rattle.ats_proof.specs.Value.{Proof, present_in}
+use Rattle.ats_proof.specs.Value.{Proof, layout_of, present_in}
 use Rattle.ats_proof.specs.Ranges.{IsInRange}
 use Rattle.ats_client.specs.Presented.{Presented, presented, lane_of, lanes_of}
 use Rattle.ats_client.specs.Groups.{IsListRight, IsAnswerSettled, met_at}
@@ -27,44 +28,46 @@ use Rattle.ats_client.proofs.Descent.{whole-binds, whole-extracts}
 use Rattle.ats_client.proofs.HeadlineRows.{NamesMet, settled_rows_right}
 use Rattle.ats_client.proofs.OwnLanes.{AllOf, each_own, own_lanes, lanes_cut, each_cut, score_own}
 
-pub own_rows_right : (H : List ℕ → List ℕ) (texts : List (List ℕ)) (query : List (List ℕ × ℕ)) (r : ℕ) (root : List ℕ) (proof : Proof) → AreTexts texts → IsQuery query → IsInRange proof
-    → length proof.lists ≡ present_in proof.slots → Accepts H root query r proof → IsOwn H texts query proof
-    → AreRight texts query r (rows_of query proof)
-own_rows_right H texts query r root proof are asked range size accepts own =
+pub own_rows_right : (H : List ℕ → List ℕ) (archive : Archive) (query : List (List ℕ × ℕ)) (r : ℕ) (root : List ℕ) (proof : Proof) → AreTexts archive.texts → IsQuery query → IsInRange proof
+    → length proof.lists ≡ present_in proof.slots → Accepts H root query r proof → IsOwn H archive query proof
+    → AreRight archive.texts query r (rows_of query proof)
+own_rows_right H archive query r root proof are asked range size accepts own =
+    let texts : List (List ℕ) = archive.texts in
+    let layout : Layout = layout_of proof in
     let slots = kept.slots H root query r proof accepts in
     let lists = kept.lists H root query r proof accepts in
     let opened = kept.opened H root query r proof accepts in
     let documents : ℕ = proof.header.documents in
     let met : List ℕ = proof.met in
     let terms : List Presented = presented query proof in
-    let all : AllOf H texts query documents met are own.numbers.number range.ids.small terms =
-    (each_own H texts query proof are asked range own.terms slots (sym size), own.fronts, lists) in
+    let all : AllOf H layout texts query documents met are own.numbers.number range.ids.small terms =
+    (each_own H archive query proof are asked range own.terms slots (sym size), own.fronts, lists) in
     let same : map (lane_of documents met) terms ≡ cut_of (own_lanes texts query proof) =
-    lanes_cut H texts query documents met are own.numbers.number range.ids.small terms all in
+    lanes_cut H layout texts query documents met are own.numbers.number range.ids.small terms all in
     let scores : AreScores (length texts) (λ doc. score texts query (get_or texts doc [])) (own_lanes texts query proof) = record {
-      each = each_cut H texts query documents met are own.numbers.number range.ids.small terms all;
-      sums = λ doc low. score_own H texts query proof are asked range own.terms slots opened.slots doc low;
+      each = each_cut H layout texts query documents met are own.numbers.number range.ids.small terms all;
+      sums = λ doc low. score_own H archive query proof are asked range own.terms slots opened.slots doc low;
     } in
     let alone : bounds_of proof ≡ bracket = lists_alone proof accepts.walk in
     let settled : IsAnswerSettled bracket (lanes_of query proof) met proof.answer r =
     subst (λ (bounds : Bounding). IsAnswerSettled bounds (lanes_of query proof) met proof.answer r) alone (kept.settled H root query r proof accepts) in
     subst (λ (bounds : Bounding). AreRight texts query r (map (λ index. row_of (bounds (lanes_of query proof) (met_at met index))) proof.answer)) (sym alone)
     (settled_rows_right texts query r documents met proof.answer terms (own_lanes texts query proof) same scores range.ids.rise
-    (All-weaker (IsListRight H met) (NamesMet met) (λ one right. right.names) terms lists)
+    (All-weaker (IsListRight H layout met) (NamesMet met) (λ one right. right.names) terms lists)
     (kept.met H root query r proof accepts) (kept.rows H root query r proof accepts) settled)
 
-holds_or_some : (P : Type 0) (Q : Clash TreePlace → Type 0) (clash : Option (Clash TreePlace)) → MatchOption clash P Q → P ⊎ IsSome clash
+holds_or_some : (P : Type 0) (Q : Difference TreePlace → Type 0) (difference : Option (Difference TreePlace)) → MatchOption difference P Q → P ⊎ IsSome difference
 holds_or_some P Q None holds = inl holds
 holds_or_some P Q (Some c) holds = inr refl
 
 -- the headline
 pub top_or_collides : (H : List ℕ → List ℕ) → ((m : List ℕ) → length (H m) ≡ 32) → (root : List ℕ) (query : List (List ℕ × ℕ)) (r : ℕ) (proof : Proof)
     → IsQuery query → IsInRange proof → length proof.lists ≡ present_in proof.slots → Accepts H root query r proof → IsTopOrCollides H root query r proof
-top_or_collides H sized root query r proof asked range size accepts texts are same =
-    let under : Accepts H (root_of H texts) query r proof = subst (λ (digest : List ℕ). Accepts H digest query r proof) (sym same) accepts in
-    let bound : IsBound H texts query proof = whole-binds H sized texts query r proof are asked range (sym size) under in
-    let found : extract H texts query proof ≡ first_clash (ours H texts query) (strings_of H query proof) = whole-extracts H texts query proof bound in
-    elim (holds_or_some (IsOwn H texts query proof) (λ c. H c.theirs ≡ H c.ours) (first_clash (ours H texts query) (strings_of H query proof)) bound) [
-      | inl own ↦ inl (own_rows_right H texts query r root proof are asked range size accepts own)
-      | inr some ↦ inr (subst (λ (clash : Option (Clash TreePlace)). IsSome clash) (sym found) some)
+top_or_collides H sized root query r proof asked range size accepts archive are same =
+    let under : Accepts H (root_of H archive) query r proof = subst (λ (digest : List ℕ). Accepts H digest query r proof) (sym same) accepts in
+    let bound : IsBound H archive query proof = whole-binds H sized archive query r proof are asked range (sym size) under in
+    let found : extract H archive query proof ≡ first_difference (ours H archive query) (strings_of H query proof) = whole-extracts H archive query proof bound in
+    elim (holds_or_some (IsOwn H archive query proof) (λ c. H c.theirs ≡ H c.ours) (first_difference (ours H archive query) (strings_of H query proof)) bound) [
+      | inl own ↦ inl (own_rows_right H archive query r root proof are asked range size accepts own)
+      | inr some ↦ inr (subst (λ (difference : Option (Difference TreePlace)). IsSome difference) (sym found) some)
     ]

@@ -19,15 +19,15 @@ use Rattle.ats_proof.specs.Runs.{named}
 use Rattle.ats_client.specs.Indexes.{AreNames}
 use Rattle.ats_client.specs.Presented.{Presented, lane_of}
 use Rattle.ats_client.specs.Groups.{indexes_of, met_at}
-use Rattle.ats_client.specs.Noting.{Note, note, index_lane, lane_notes, notes_of, gain_of, cover_of, has_note}
+use Rattle.ats_client.specs.Noting.{Note, note, index_lane, lane_notes, notes_of, gain_of, held_of, has_note}
 use Rattle.ats_client.proofs.Named.{any_some}
 use Rattle.ats_client.proofs.Listed.{names_inside}
 
 -- ---- one lane, by met indexes
 
-has_entries : (c cover i : ℕ) (entries : List Entry) → has_note i (map (note c cover) entries) ≡ list_any (λ (e : Entry). nat_eq e.doc i) entries
-has_entries c cover i [] = refl
-has_entries c cover i (e ∷ entries) = ap (λ b. nat_eq e.doc i || b) (has_entries c cover i entries)
+has_entries : (c most i : ℕ) (entries : List Entry) → has_note i (map (note c most) entries) ≡ list_any (λ (e : Entry). nat_eq e.doc i) entries
+has_entries c most i [] = refl
+has_entries c most i (e ∷ entries) = ap (λ b. nat_eq e.doc i || b) (has_entries c most i entries)
 
 gain_entry : (c amount : ℕ) (same : Bool) → cond same (c * amount) 0 ≡ c * cond same amount 0
 gain_entry c amount true = refl
@@ -36,19 +36,19 @@ gain_entry c amount false = sym (mul-zero c)
 abbrev impact_in : ℕ → List Entry → ℕ
 impact_in i entries = sum_by (λ (e : Entry). cond (nat_eq e.doc i) e.impact 0) entries
 
-gain_entries : (c cover i : ℕ) (entries : List Entry) → gain_of i (map (note c cover) entries) ≡ c * impact_in i entries
-gain_entries c cover i [] = sym (mul-zero c)
-gain_entries c cover i (e ∷ entries) =
-    sum_by-cons (λ (n : Note). cond (nat_eq n.index i) n.gain 0) (note c cover e) (map (note c cover) entries)
-    ∙ ap₂ (λ a b. a + b) (gain_entry c e.impact (nat_eq e.doc i)) (gain_entries c cover i entries)
+gain_entries : (c most i : ℕ) (entries : List Entry) → gain_of i (map (note c most) entries) ≡ c * impact_in i entries
+gain_entries c most i [] = sym (mul-zero c)
+gain_entries c most i (e ∷ entries) =
+    sum_by-cons (λ (n : Note). cond (nat_eq n.index i) n.gain 0) (note c most e) (map (note c most) entries)
+    ∙ ap₂ (λ a b. a + b) (gain_entry c e.impact (nat_eq e.doc i)) (gain_entries c most i entries)
     ∙ sym (mul-add c (cond (nat_eq e.doc i) e.impact 0) (impact_in i entries))
     ∙ ap (λ n. c * n) (sym (sum_by-cons (λ (e : Entry). cond (nat_eq e.doc i) e.impact 0) e entries))
 
-cover_step : (here later : Bool) (cover others n m : ℕ) → n ≡ cond here 1 0 + m → n ≤ 1 → (later ≡ true → 1 ≤ m) → others ≡ cond later cover 0
-    → cond here cover 0 + others ≡ cond (here || later) cover 0
-cover_step true true cover others n m is once some all = let more = some refl in absurd (omega (arith, is, once, more))
-cover_step true false cover others n m is once some all = omega (arith, all)
-cover_step false later cover others n m is once some all = omega (arith, all)
+held_step : (here later : Bool) (most others n m : ℕ) → n ≡ cond here 1 0 + m → n ≤ 1 → (later ≡ true → 1 ≤ m) → others ≡ cond later most 0
+    → cond here most 0 + others ≡ cond (here || later) most 0
+held_step true true most others n m is once some all = let more = some refl in absurd (omega (arith, is, once, more))
+held_step true false most others n m is once some all = omega (arith, all)
+held_step false later most others n m is once some all = omega (arith, all)
 
 any_index : (i : ℕ) (entries : List Entry) → list_any (λ (e : Entry). nat_eq e.doc i) entries ≡ list_any (λ x. nat_eq x i) (indexes_of entries)
 any_index i [] = refl
@@ -57,15 +57,15 @@ any_index i (e ∷ entries) = ap (λ b. nat_eq e.doc i || b) (any_index i entrie
 fewer_times : (i x : ℕ) (xs : List ℕ) → times i (x ∷ xs) ≤ 1 → times i xs ≤ 1
 fewer_times i x xs once = let step = times-cons i x xs in omega (arith, step, once)
 
-cover_entries : (c cover i : ℕ) (entries : List Entry) → times i (indexes_of entries) ≤ 1
-    → cover_of i (map (note c cover) entries) ≡ cond (list_any (λ (e : Entry). nat_eq e.doc i) entries) cover 0
-cover_entries c cover i [] once = refl
-cover_entries c cover i (e ∷ entries) once =
-    sum_by-cons (λ (n : Note). cond (nat_eq n.index i) n.cover 0) (note c cover e) (map (note c cover) entries)
-    ∙ cover_step (nat_eq e.doc i) (list_any (λ (e : Entry). nat_eq e.doc i) entries) cover (cover_of i (map (note c cover) entries))
+held_entries : (c most i : ℕ) (entries : List Entry) → times i (indexes_of entries) ≤ 1
+    → held_of i (map (note c most) entries) ≡ cond (list_any (λ (e : Entry). nat_eq e.doc i) entries) most 0
+held_entries c most i [] once = refl
+held_entries c most i (e ∷ entries) once =
+    sum_by-cons (λ (n : Note). cond (nat_eq n.index i) n.rest 0) (note c most e) (map (note c most) entries)
+    ∙ held_step (nat_eq e.doc i) (list_any (λ (e : Entry). nat_eq e.doc i) entries) most (held_of i (map (note c most) entries))
     (times i (indexes_of (e ∷ entries))) (times i (indexes_of entries)) (times-cons i e.doc (indexes_of entries)) once
     (λ there. any_some i (indexes_of entries) (sym (any_index i entries) ∙ there))
-    (cover_entries c cover i entries (fewer_times i e.doc (indexes_of entries) once))
+    (held_entries c most i entries (fewer_times i e.doc (indexes_of entries) once))
 
 -- ---- met indexes and the documents that they name
 
@@ -138,18 +138,18 @@ gain_all documents met rises i low (one ∷ terms) all =
     (gain_all documents met rises i low terms later)
     ∙ sym (sum_by-cons (λ (lane : ShownLane). lane.coefficient * shown_impact (met_at met i) lane) (lane_of documents met one) (map (lane_of documents met) terms))
 
-pub cover_all : (documents : ℕ) (met : List ℕ) → IsStrictlyIncreasing met → (i : ℕ) → i < length met → (terms : List Presented) → AreAllNamed met terms
-    → cover_of i (notes_of documents terms) ≡ held (map (lane_of documents met) terms) (met_at met i)
-cover_all documents met rises i low [] all = refl
-cover_all documents met rises i low (one ∷ terms) all =
+pub held_all : (documents : ℕ) (met : List ℕ) → IsStrictlyIncreasing met → (i : ℕ) → i < length met → (terms : List Presented) → AreAllNamed met terms
+    → held_of i (notes_of documents terms) ≡ held (map (lane_of documents met) terms) (met_at met i)
+held_all documents met rises i low [] all = refl
+held_all documents met rises i low (one ∷ terms) all =
     let here = All-head (λ (one : Presented). AreNames (length met) (indexes_of one.prefix.entries)) one terms all in
     let later = All-tail (λ (one : Presented). AreNames (length met) (indexes_of one.prefix.entries)) one terms all in
     let lane : ShownLane = index_lane documents one in
-    sum_by-append (λ (n : Note). cond (nat_eq n.index i) n.cover 0) (lane_notes lane) (notes_of documents terms)
+    sum_by-append (λ (n : Note). cond (nat_eq n.index i) n.rest 0) (lane_notes lane) (notes_of documents terms)
     ∙ ap₂ (λ a b. a + b)
-    (cover_entries lane.coefficient (rest lane) i lane.shown (here.once i)
+    (held_entries lane.coefficient (rest lane) i lane.shown (here.once i)
     ∙ ap₂ (λ b n. cond b n 0) (sym (names_id met rises i low lane.shown (names_inside (length met) lane.shown here))) (sym (rest_id documents met one)))
-    (cover_all documents met rises i low terms later)
+    (held_all documents met rises i low terms later)
     ∙ sym (sum_by-cons (λ (lane : ShownLane). cond (names (met_at met i) lane) (rest lane) 0) (lane_of documents met one) (map (lane_of documents met) terms))
 
 pub rests_all : (documents : ℕ) (met : List ℕ) (terms : List Presented) → threshold (map (index_lane documents) terms) ≡ threshold (map (lane_of documents met) terms)

@@ -14,6 +14,7 @@ pub mod Kept
 pub mod Exact
 pub mod OneListFault
 pub mod OneRefusal
+pub mod OneRejection
 pub mod HeadlineTerms
 pub mod HeadlineRows
 pub mod OwnLanes

@@ -18,12 +18,12 @@ names_inside met entries names k d low =
     let size = length-map entries (λ (e : Entry). e.doc) in
     subst (λ x. x < met) here (names.inside k d.doc (omega (arith, size, low)))
 
-pub list_noted : (met : ℕ) (notes : List Note) (number documents coefficient cover : ℕ) (one : Presented) (marks : List Mark)
-    → coefficient ≡ one.weight * idf documents one.entry.f → cover ≡ rest (index_lane documents one)
-    → AreNotes met (notes ++ map (note coefficient cover) one.prefix.entries) (number + 1) (indexes_of one.prefix.entries) marks
+pub list_noted : (met : ℕ) (notes : List Note) (number documents coefficient most : ℕ) (one : Presented) (marks : List Mark)
+    → coefficient ≡ one.weight * idf documents one.entry.f → most ≡ rest (index_lane documents one)
+    → AreNotes met (notes ++ map (note coefficient most) one.prefix.entries) (number + 1) (indexes_of one.prefix.entries) marks
     → AreNotes met (notes ++ lane_notes (index_lane documents one)) (number + 2) [] marks
-list_noted met notes number documents coefficient cover one marks is covers are =
-    let all : map (note coefficient cover) one.prefix.entries ≡ lane_notes (index_lane documents one) = ap₂ (λ c r. map (note c r) one.prefix.entries) is covers in
+list_noted met notes number documents coefficient most one marks is are_most are =
+    let all : map (note coefficient most) one.prefix.entries ≡ lane_notes (index_lane documents one) = ap₂ (λ c r. map (note c r) one.prefix.entries) is are_most in
     let here = subst (λ more. AreNotes met (notes ++ more) (number + 1) (indexes_of one.prefix.entries) marks) all are in
     let next : number + 1 + 1 ≡ number + 2 = omega arith in
     subst (λ l. AreNotes met (notes ++ lane_notes (index_lane documents one)) l [] marks) next

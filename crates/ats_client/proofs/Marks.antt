@@ -43,26 +43,26 @@ some_list n some = grind (arith, nat_tests)
 
 -- the mark of the index that the note names
 noted_here : (notes : List Note) (l : ℕ) (named : List ℕ) (mark : Mark) (n : Note) → IsNoted notes l named n.index mark → mark.list ≢ l → 1 ≤ l
-    → n.gain ≤ 2 ^ 33 → n.cover ≤ 2 ^ 33 → IsNoted (notes ++ n ∷ []) l (named ++ n.index ∷ []) n.index (with_note mark l n.gain n.cover)
-noted_here notes l named mark n is new some small_gain small_cover =
+    → n.gain ≤ 2 ^ 33 → n.rest ≤ 2 ^ 33 → IsNoted (notes ++ n ∷ []) l (named ++ n.index ∷ []) n.index (with_note mark l n.gain n.rest)
+noted_here notes l named mark n is new some small_gain small_rest =
     let yes = same_number n.index in
     let gain = sum_snoc (λ (m : Note). cond (nat_eq m.index n.index) m.gain 0) notes n in
     let gained : cond (nat_eq n.index n.index) n.gain 0 ≡ n.gain = ap (λ b. cond b n.gain 0) yes in
-    let cover = sum_snoc (λ (m : Note). cond (nat_eq m.index n.index) m.cover 0) notes n in
-    let covered : cond (nat_eq n.index n.index) n.cover 0 ≡ n.cover = ap (λ b. cond b n.cover 0) yes in
+    let most = sum_snoc (λ (m : Note). cond (nat_eq m.index n.index) m.rest 0) notes n in
+    let added : cond (nat_eq n.index n.index) n.rest 0 ≡ n.rest = ap (λ b. cond b n.rest 0) yes in
     let least = is.least in
-    let held = is.cover in
+    let held = is.held in
     let early = is.early in
-    let small_lo = is.small_lo in
+    let small_lower = is.small_lower in
     let small_held = is.small_held in
     let less : mark.list < l = omega arith in
     record {
       least = omega (arith, gain, gained, least);
-      cover = omega (arith, cover, covered, held);
+      held = omega (arith, most, added, held);
       met = some_list l some ∙ sym (any_snoc (λ (m : Note). nat_eq m.index n.index) notes n ∙ or_right (has_note n.index notes) (nat_eq n.index n.index) yes);
       here = same_number l ∙ sym (any_snoc (λ i. nat_eq i n.index) named n.index ∙ or_right (list_any (λ i. nat_eq i n.index) named) (nat_eq n.index n.index) yes);
       early = omega arith;
-      small_lo = omega arith;
+      small_lower = omega arith;
       small_held = omega arith;
       free = is.free;
     }
@@ -74,34 +74,34 @@ noted_there notes l named index mark n is other =
     let no = other_number n.index index other in
     let gain = sum_snoc (λ (m : Note). cond (nat_eq m.index index) m.gain 0) notes n in
     let gained : cond (nat_eq n.index index) n.gain 0 ≡ 0 = ap (λ b. cond b n.gain 0) no in
-    let cover = sum_snoc (λ (m : Note). cond (nat_eq m.index index) m.cover 0) notes n in
-    let covered : cond (nat_eq n.index index) n.cover 0 ≡ 0 = ap (λ b. cond b n.cover 0) no in
+    let most = sum_snoc (λ (m : Note). cond (nat_eq m.index index) m.rest 0) notes n in
+    let added : cond (nat_eq n.index index) n.rest 0 ≡ 0 = ap (λ b. cond b n.rest 0) no in
     let least = is.least in
-    let held = is.cover in
+    let held = is.held in
     record {
       least = omega (arith, gain, gained, least);
-      cover = omega (arith, cover, covered, held);
+      held = omega (arith, most, added, held);
       met = is.met ∙ sym (any_snoc (λ (m : Note). nat_eq m.index index) notes n ∙ or_none (has_note index notes) (nat_eq n.index index) no);
       here = is.here ∙ sym (any_snoc (λ i. nat_eq i index) named n.index ∙ or_none (list_any (λ i. nat_eq i index) named) (nat_eq n.index index) no);
       early = is.early;
-      small_lo = is.small_lo;
+      small_lower = is.small_lower;
       small_held = is.small_held;
       free = is.free;
     }
 
 pub notes_more : (met : ℕ) (notes : List Note) (l : ℕ) (named : List ℕ) (marks : List Mark) (n : Note) → AreNotes met notes l named marks → n.index < met
-    → (mark_at marks n.index).list ≢ l → 1 ≤ l → n.gain ≤ 2 ^ 33 → n.cover ≤ 2 ^ 33
-    → AreNotes met (notes ++ n ∷ []) l (named ++ n.index ∷ []) (set marks n.index (with_note (mark_at marks n.index) l n.gain n.cover))
-notes_more met notes l named marks n are inside new some small_gain small_cover =
+    → (mark_at marks n.index).list ≢ l → 1 ≤ l → n.gain ≤ 2 ^ 33 → n.rest ≤ 2 ^ 33
+    → AreNotes met (notes ++ n ∷ []) l (named ++ n.index ∷ []) (set marks n.index (with_note (mark_at marks n.index) l n.gain n.rest))
+notes_more met notes l named marks n are inside new some small_gain small_rest =
     let size = are.size in
-    let after : Mark = with_note (mark_at marks n.index) l n.gain n.cover in
+    let after : Mark = with_note (mark_at marks n.index) l n.gain n.rest in
     record {
       size = length-set marks n.index after ∙ size;
       each = λ (i : ℕ) (low : i < met). elim (cases_eq n.index i) [
         | inl is ↦
             let there : i < length marks = omega (arith, size, low) in
             let here = subst (λ k. IsNoted (notes ++ n ∷ []) l (named ++ n.index ∷ []) k after) is
-            (noted_here notes l named (mark_at marks n.index) n (are.each n.index inside) new some small_gain small_cover) in
+            (noted_here notes l named (mark_at marks n.index) n (are.each n.index inside) new some small_gain small_rest) in
             let at : n.index < length marks = omega (arith, size, inside) in
             let found : mark_at (set marks n.index after) i ≡ after = subst (λ k. mark_at (set marks n.index after) k ≡ after) is (get_or-set_same marks n.index after zero_mark at) in
             subst (λ m. IsNoted (notes ++ n ∷ []) l (named ++ n.index ∷ []) i m) (sym found) here
@@ -121,11 +121,11 @@ notes_turn met notes l named marks are = record {
       let less : (mark_at marks i).list ≢ l + 1 = omega arith in
       record {
         least = is.least;
-        cover = is.cover;
+        held = is.held;
         met = is.met;
         here = other_number (mark_at marks i).list (l + 1) less;
         early = omega arith;
-        small_lo = is.small_lo;
+        small_lower = is.small_lower;
         small_held = is.small_held;
         free = is.free;
       };
@@ -140,22 +140,22 @@ taken_more : {X : Type 0} (xs : List X) (i : ℕ) (x : X) → slice_get xs i ≡
 taken_more xs i x is = take_more xs i x (slice_get_within xs i x is) ∙ ap (λ y. take i xs ++ y ∷ []) (get_or_from_slice_get xs i x x is)
 
 -- the notes of the first entries, after one entry more
-pub notes_next : (met : ℕ) (notes : List Note) (l c cover : ℕ) (entries : List Entry) (i : ℕ) (e : Entry) (marks after : List Mark)
-    → slice_get entries i ≡ Some e → e.doc < met → 1 ≤ l → c * e.impact ≤ 2 ^ 33 → cover ≤ 2 ^ 33
-    → AreNotes met (notes ++ map (note c cover) (take i entries)) l (take i (indexes_of entries)) marks
-    → (mark_at marks e.doc).list ≢ l → after ≡ set marks e.doc (with_note (mark_at marks e.doc) l (c * e.impact) cover)
-    → AreNotes met (notes ++ map (note c cover) (take (i + 1) entries)) l (take (i + 1) (indexes_of entries)) after
-notes_next met notes l c cover entries i e marks after is inside some small_gain small_cover are new put =
-    let old : List Note = notes ++ map (note c cover) (take i entries) in
-    let n : Note = note c cover e in
-    let more = notes_more met old l (take i (indexes_of entries)) marks n are inside new some small_gain small_cover in
-    let all : old ++ n ∷ [] ≡ notes ++ map (note c cover) (take (i + 1) entries) =
-    append_assoc notes (map (note c cover) (take i entries)) (n ∷ [])
-    ∙ ap (λ l. notes ++ l) (sym (map-append (note c cover) (take i entries) (e ∷ [])) ∙ ap (map (note c cover)) (sym (taken_more entries i e is))) in
+pub notes_next : (met : ℕ) (notes : List Note) (l c most : ℕ) (entries : List Entry) (i : ℕ) (e : Entry) (marks after : List Mark)
+    → slice_get entries i ≡ Some e → e.doc < met → 1 ≤ l → c * e.impact ≤ 2 ^ 33 → most ≤ 2 ^ 33
+    → AreNotes met (notes ++ map (note c most) (take i entries)) l (take i (indexes_of entries)) marks
+    → (mark_at marks e.doc).list ≢ l → after ≡ set marks e.doc (with_note (mark_at marks e.doc) l (c * e.impact) most)
+    → AreNotes met (notes ++ map (note c most) (take (i + 1) entries)) l (take (i + 1) (indexes_of entries)) after
+notes_next met notes l c most entries i e marks after is inside some small_gain small_rest are new put =
+    let old : List Note = notes ++ map (note c most) (take i entries) in
+    let n : Note = note c most e in
+    let more = notes_more met old l (take i (indexes_of entries)) marks n are inside new some small_gain small_rest in
+    let all : old ++ n ∷ [] ≡ notes ++ map (note c most) (take (i + 1) entries) =
+    append_assoc notes (map (note c most) (take i entries)) (n ∷ [])
+    ∙ ap (λ l. notes ++ l) (sym (map-append (note c most) (take i entries) (e ∷ [])) ∙ ap (map (note c most)) (sym (taken_more entries i e is))) in
     let indexes : take i (indexes_of entries) ++ e.doc ∷ [] ≡ take (i + 1) (indexes_of entries) = sym (taken_more (indexes_of entries) i e.doc (index_at entries i e is)) in
-    subst (λ m. AreNotes met (notes ++ map (note c cover) (take (i + 1) entries)) l (take (i + 1) (indexes_of entries)) m) (sym put)
-    (subst (λ x. AreNotes met x l (take (i + 1) (indexes_of entries)) (set marks e.doc (with_note (mark_at marks e.doc) l (c * e.impact) cover))) all
-    (subst (λ x. AreNotes met (old ++ n ∷ []) l x (set marks e.doc (with_note (mark_at marks e.doc) l (c * e.impact) cover))) indexes more))
+    subst (λ m. AreNotes met (notes ++ map (note c most) (take (i + 1) entries)) l (take (i + 1) (indexes_of entries)) m) (sym put)
+    (subst (λ x. AreNotes met x l (take (i + 1) (indexes_of entries)) (set marks e.doc (with_note (mark_at marks e.doc) l (c * e.impact) most))) all
+    (subst (λ x. AreNotes met (old ++ n ∷ []) l x (set marks e.doc (with_note (mark_at marks e.doc) l (c * e.impact) most))) indexes more))
 
 -- whether the list has named the document of an entry, by its mark
 pub named_before : (met : ℕ) (notes : List Note) (l : ℕ) (named : List ℕ) (marks : List Mark) (x : ℕ) → AreNotes met notes l named marks → x < met
@@ -181,6 +181,6 @@ room_for met notes l named marks x are inside few =
     let is = are.each x inside in
     let size = are.size in
     let early = is.early in
-    let lo = is.small_lo in
+    let lo = is.small_lower in
     let held = is.small_held in
     record { inside = omega arith; lo = omega arith; held = omega arith }

@@ -1,7 +1,8 @@
 -- Indexes break their rule first at one place at most, and the present terms have one first failure at most.
 use Rattle.std.proofs.Common.{◌≡◌, ◌∙◌, ℕ, List, [], ◌∷◌, ◌++◌, length, refl, sym, ap, ap₂, subst, arith}
 use Rattle.std.specs.List.{All}
-use Rattle.ats_proof.specs.Value.{Proof}
+use Rattle.ats_proof.specs.Value.{Proof, layout_of}
+use Rattle.ats_commit.specs.Archive.{Layout}
 use Rattle.ats_client.specs.declared.refusal.Refusal.{Refusal}
 use Rattle.ats_client.specs.declared.refusal.Refusal.TheVariants.{IndexOut, Repeated, ListMisfit, ListRoot}
 use Rattle.ats_client.specs.Presented.{Presented}
@@ -87,36 +88,36 @@ one_entry met one (Repeated term entry) (Repeated other place) is also =
 one_entry met one (Repeated term entry) _ is also = absurd also
 one_entry met one _ b is also = absurd is
 
-one_root : (H : List ℕ → List ℕ) (met : List ℕ) (one : Presented) (a b : Refusal) → IsListRootFault H met one a → IsListRootFault H met one b → a ≡ b
-one_root H met one (ListMisfit term) (ListMisfit other) is also = ap ListMisfit (is.0 ∙ sym also.0)
-one_root H met one (ListMisfit term) (ListRoot other) is also = let none = is.1 in let some = also.1.rebuilt in absurd (cc)
-one_root H met one (ListMisfit term) _ is also = absurd also
-one_root H met one (ListRoot term) (ListMisfit other) is also = let none = also.1 in let some = is.1.rebuilt in absurd (cc)
-one_root H met one (ListRoot term) (ListRoot other) is also = ap ListRoot (is.0 ∙ sym also.0)
-one_root H met one (ListRoot term) _ is also = absurd also
-one_root H met one _ b is also = absurd is
+one_root : (H : List ℕ → List ℕ) (layout : Layout) (met : List ℕ) (one : Presented) (a b : Refusal) → IsListRootFault H layout met one a → IsListRootFault H layout met one b → a ≡ b
+one_root H layout met one (ListMisfit term) (ListMisfit other) is also = ap ListMisfit (is.0 ∙ sym also.0)
+one_root H layout met one (ListMisfit term) (ListRoot other) is also = let none = is.1 in let some = also.1.rebuilt in absurd (cc)
+one_root H layout met one (ListMisfit term) _ is also = absurd also
+one_root H layout met one (ListRoot term) (ListMisfit other) is also = let none = also.1 in let some = is.1.rebuilt in absurd (cc)
+one_root H layout met one (ListRoot term) (ListRoot other) is also = ap ListRoot (is.0 ∙ sym also.0)
+one_root H layout met one (ListRoot term) _ is also = absurd also
+one_root H layout met one _ b is also = absurd is
 
-list_exact : (H : List ℕ → List ℕ) (met : List ℕ) (one : Presented) → AreExact (list_rules H met one)
-list_exact H met one = (
+list_exact : (H : List ℕ → List ℕ) (layout : Layout) (met : List ℕ) (one : Presented) → AreExact (list_rules H layout met one)
+list_exact H layout met one = (
   record { breaks = not_entries (length met) one; one = one_entry (length met) one },
-  (record { breaks = not_rooted H met one; one = one_root H met one }, tt),
+  (record { breaks = not_rooted H layout met one; one = one_root H layout met one }, tt),
 )
 
-not_list : (H : List ℕ → List ℕ) (met : List ℕ) (one : Presented) (refusal : Refusal) → IsListFault H met one refusal → IsListRight H met one → ⊥
-not_list H met one refusal fault right = not_kept (list_rules H met one) refusal (list_exact H met one) fault (right.names, (right.root, tt))
+not_list : (H : List ℕ → List ℕ) (layout : Layout) (met : List ℕ) (one : Presented) (refusal : Refusal) → IsListFault H layout met one refusal → IsListRight H layout met one → ⊥
+not_list H layout met one refusal fault right = not_kept (list_rules H layout met one) refusal (list_exact H layout met one) fault (right.names, (right.root, tt))
 
 pub not_lists : (H : List ℕ → List ℕ) (query : List (List ℕ × ℕ)) (proof : Proof) (refusal : Refusal) → IsListsFault H query proof refusal → AreListsRight H query proof → ⊥
 not_lists H query proof refusal fault right =
-    not_list H proof.met fault.one refusal fault.fault
-    (all_middle (IsListRight H proof.met) fault.before fault.one fault.after (subst (λ l. All (IsListRight H proof.met) l) fault.stands right))
+    not_list H (layout_of proof) proof.met fault.one refusal fault.fault
+    (all_middle (IsListRight H (layout_of proof) proof.met) fault.before fault.one fault.after (subst (λ l. All (IsListRight H (layout_of proof) proof.met) l) fault.stands right))
 
 list_breaks : (H : List ℕ → List ℕ) (query : List (List ℕ × ℕ)) (proof : Proof) (refusal : Refusal) (fault : IsListsFault H query proof refusal)
-    (more : List Presented) → All (IsListRight H proof.met) (fault.before ++ fault.one ∷ more) → ⊥
+    (more : List Presented) → All (IsListRight H (layout_of proof) proof.met) (fault.before ++ fault.one ∷ more) → ⊥
 list_breaks H query proof refusal fault more right =
-    not_list H proof.met fault.one refusal fault.fault (all_middle (IsListRight H proof.met) fault.before fault.one more right)
+    not_list H (layout_of proof) proof.met fault.one refusal fault.fault (all_middle (IsListRight H (layout_of proof) proof.met) fault.before fault.one more right)
 
 pub one_lists : (H : List ℕ → List ℕ) (query : List (List ℕ × ℕ)) (proof : Proof) (a b : Refusal) → IsListsFault H query proof a → IsListsFault H query proof b → a ≡ b
 one_lists H query proof a b is also =
-    let same = one_front (All (IsListRight H proof.met)) is.before also.before is.one also.one is.after also.after (sym is.stands ∙ also.stands) is.right also.right
+    let same = one_front (All (IsListRight H (layout_of proof) proof.met)) is.before also.before is.one also.one is.after also.after (sym is.stands ∙ also.stands) is.right also.right
     (list_breaks H query proof a is) (list_breaks H query proof b also) in
-    one_first (list_rules H proof.met is.one) a b (list_exact H proof.met is.one) is.fault (subst (λ (one : Presented). IsListFault H proof.met one b) (sym same.1) also.fault)
+    one_first (list_rules H (layout_of proof) proof.met is.one) a b (list_exact H (layout_of proof) proof.met is.one) is.fault (subst (λ (one : Presented). IsListFault H (layout_of proof) proof.met one b) (sym same.1) also.fault)

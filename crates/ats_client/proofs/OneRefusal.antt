@@ -100,5 +100,5 @@ not_both H root query r proof refusal accepts is = not_kept (rules H root query 
 
 pub accepted : (H : List ℕ → List ℕ) (root : List ℕ) (query : List (List ℕ × ℕ)) (r : ℕ) (proof : Proof) (result : Result ℕ Refusal)
     → IfErr result (λ refusal. IsFirstRefusal H root query r proof refusal) → Accepts H root query r proof → is_ok result ≡ true
-accepted H root query r proof (Ok limit) refused accepts = refl
+accepted H root query r proof (Ok threshold) refused accepts = refl
 accepted H root query r proof (Err refusal) refused accepts = absurd (not_both H root query r proof refusal accepts refused)

@@ -1,4 +1,4 @@
--- The lanes of a proof that shows a collection's own leaves are cuts of the collection's lists, which sum to scores.
+-- The lanes of a proof that shows an archive's own leaves are cuts of the archive's lists, which sum to scores.
 use Rattle.std.proofs.Common.{◌≡◌, ◌<◌, ◌≤◌, ◌+◌, ◌*◌, ◌^◌, ◌∙◌, ℕ, true, false, nat_lt, List, [], ◌∷◌, length, get_or, take, drop, map, slice_get, Some, refl, sym, ap, ap₂, subst, inl, inr, arith, length-take, mul-zero}
 use Rattle.std.specs.List.{All, sum_by}
 use Rattle.std.proofs.Math.Nat.{mul-le-mul_left}
@@ -20,6 +20,7 @@ use Rattle.ats_lists.proofs.WholeLemmas.{list_keeps, list_frequency}
 use Rattle.ats_dict.specs.Entry.{dict_leaf_bytes}
 use Rattle.ats_dict.specs.Dictionary.{dict_leaves}
 use Rattle.ats_records.specs.declared.record.Slot.{Slot}
+use Rattle.ats_commit.specs.Archive.{Layout, Archive}
 use Rattle.ats_commit.specs.Trees.{dictionary_of}
 use Rattle.ats_commit.specs.Ours.{asked_term}
 use Rattle.ats_commit.specs.Own.{AreTexts, IsEntryOf, AreNeighbours}
@@ -89,18 +90,18 @@ HasOwnList texts query one = (1 ≤ one.weight) × (one.entry.f ≡ length (list
 
 -- ---- the slots
 
-module _ (H : List ℕ → List ℕ) (texts : List (List ℕ)) (query : List (List ℕ × ℕ)) (proof : Proof) (are : AreTexts texts) (asked : IsQuery query) (range : IsInRange proof)
-    (terms_own : AreLeavesOf (dict_leaves (dictionary_of H texts)) (map shown_entry proof.dict)) (right : AreSlotsRight query proof) where
+module _ (H : List ℕ → List ℕ) (archive : Archive) (query : List (List ℕ × ℕ)) (proof : Proof) (are : AreTexts archive.texts) (asked : IsQuery query) (range : IsInRange proof)
+    (terms_own : AreLeavesOf (dict_leaves (dictionary_of H archive)) (map shown_entry proof.dict)) (right : AreSlotsRight query proof) where
   -- an absent term has no list
   pub absent_none : (i : ℕ) (pair : List ℕ × ℕ) (slot : Slot) → slice_get query i ≡ Some pair → slice_get proof.slots i ≡ Some slot
-      → slot.present ≡ false → list texts pair.0 ≡ []
+      → slot.present ≡ false → list archive.texts pair.0 ≡ []
   absent_none i pair slot at spot absent =
       let shows = subst (λ (t : List ℕ). ShowsTerm (dict_terms proof.dict) t slot) (pair_is query asked i pair at).2
       (slot_shows query proof i slot spot (right i (slice_get_within query i pair at))) in
       let around = absent_leaves entry_shown proof.dict pair.0 slot shows absent in
       let lower : ShownEntry = around.0 in
       let upper : ShownEntry = around.1 in
-      let leaves : List (List ℕ) = dict_leaves (dictionary_of H texts) in
+      let leaves : List (List ℕ) = dict_leaves (dictionary_of H archive) in
       let lower_range : IsShownInRange lower = at_place IsShownInRange proof.dict slot.index lower range.terms.each around.2.first in
       let upper_range : IsShownInRange upper = at_place IsShownInRange proof.dict (slot.index + 1) upper range.terms.each around.2.second in
       let neighbours : AreNeighbours leaves lower.position lower.entry upper.entry = record {
@@ -111,11 +112,11 @@ module _ (H : List ℕ → List ℕ) (texts : List (List ℕ)) (query : List (Li
             subst (λ p. slice_get leaves p ≡ Some (dict_leaf_bytes upper.entry.term upper.entry.f upper.entry.root)) around.2.neighbours
             (leaf_own shown_entry leaves proof.dict (slot.index + 1) upper terms_own around.2.second);
       } in
-      (neighbours_tell H texts are lower.position lower.entry upper.entry pair.0 neighbours around.2.above around.2.below).0
+      (neighbours_tell H archive are lower.position lower.entry upper.entry pair.0 neighbours around.2.above around.2.below).0
 
   -- ---- the present terms
 
-  pub each_own : present_in proof.slots ≡ length proof.lists → All (HasOwnList texts query) (presented query proof)
+  pub each_own : present_in proof.slots ≡ length proof.lists → All (HasOwnList archive.texts query) (presented query proof)
   each_own size =
       let terms : List Presented = presented query proof in
       let each_asked : All (IsAsked query proof.dict) terms = asked-terms query proof asked right range size in
@@ -123,9 +124,9 @@ module _ (H : List ℕ → List ℕ) (texts : List (List ℕ)) (query : List (Li
       (λ j pair slot prefix at spot present in_range. ((pair_is query asked j pair at).1, in_range)) in
       λ k d inside.
       let is : IsAsked query proof.dict (get_or terms k d) = each_asked k d inside in
-      let entry : IsEntryOf H texts (get_or terms k d).entry = entry-own H texts query proof.dict (get_or terms k d) are range.terms.each terms_own is in
+      let entry : IsEntryOf H archive (get_or terms k d).entry = entry-own H archive query proof.dict (get_or terms k d) are range.terms.each terms_own is in
       let weighs : Weighs (get_or terms k d) = each_weighs k d inside in
-      (weighs.0, entry.number ∙ ap (λ t. length (list texts t)) is.same, weighs.1)
+      (weighs.0, entry.number ∙ ap (λ t. length (list archive.texts t)) is.same, weighs.1)
 
 -- ---- the lanes
 
@@ -140,19 +141,19 @@ own_lane texts query one = record {
 abbrev pub own_lanes : List (List ℕ) → List (List ℕ × ℕ) → Proof → List CutLane
 own_lanes texts query proof = map (own_lane texts query) (presented query proof)
 
-module _ (H : List ℕ → List ℕ) (texts : List (List ℕ)) (query : List (List ℕ × ℕ)) (documents : ℕ) (met : List ℕ) (are : AreTexts texts)
+module _ (H : List ℕ → List ℕ) (layout : Layout) (texts : List (List ℕ)) (query : List (List ℕ × ℕ)) (documents : ℕ) (met : List ℕ) (are : AreTexts texts)
     (number : documents ≡ length texts) (small : All (λ id. id < 2 ^ 32) met) where
   abbrev pub AllOf : List Presented → Type 0
-  AllOf terms = All (HasOwnList texts query) terms × All (IsOwnList texts query met) terms × All (IsListRight H met) terms
+  AllOf terms = All (HasOwnList texts query) terms × All (IsOwnList texts query met) terms × All (IsListRight H layout met) terms
 
-  front_is : (one : Presented) → HasOwnList texts query one → IsOwnList texts query met one → IsListRight H met one
+  front_is : (one : Presented) → HasOwnList texts query one → IsOwnList texts query met one → IsListRight H layout met one
       → map (named met) one.prefix.entries ≡ take (length one.prefix.entries) (list texts (asked_term query one.number))
   front_is one is own right =
       let entries : List Entry = one.prefix.entries in
       let term : List ℕ = asked_term query one.number in
       front_from texts are term met 0 entries small (names_inside (length met) entries right.names) is.2.each own
 
-  lane_is : (one : Presented) → HasOwnList texts query one → IsOwnList texts query met one → IsListRight H met one
+  lane_is : (one : Presented) → HasOwnList texts query one → IsOwnList texts query met one → IsListRight H layout met one
       → lane_of documents met one ≡ cut.lane_of (own_lane texts query one).coefficient (own_lane texts query one).entries (own_lane texts query one).shown
   lane_is one is own right =
       let term : List ℕ = asked_term query one.number in
@@ -162,7 +163,7 @@ module _ (H : List ℕ → List ℕ) (texts : List (List ℕ)) (query : List (Li
       ap₂ (λ n often. made (one.weight * idf n often) f (map (named met) one.prefix.entries)) number often
       ∙ ap₂ (made (one.weight * idf (length texts) (frequency term texts))) is.1 (front_is one is own right)
 
-  cut_is : (one : Presented) → HasOwnList texts query one → IsOwnList texts query met one → IsListRight H met one → IsCutLane (length texts) (own_lane texts query one)
+  cut_is : (one : Presented) → HasOwnList texts query one → IsOwnList texts query met one → IsListRight H layout met one → IsCutLane (length texts) (own_lane texts query one)
   cut_is one is own right =
       let term : List ℕ = asked_term query one.number in
       let entries : List Entry = one.prefix.entries in
@@ -184,9 +185,9 @@ module _ (H : List ℕ → List ℕ) (texts : List (List ℕ)) (query : List (Li
   lanes_cut (one ∷ terms) all =
       let is = All-head (HasOwnList texts query) one terms all.0 in
       let own = All-head (IsOwnList texts query met) one terms all.1 in
-      let right = All-head (IsListRight H met) one terms all.2 in
+      let right = All-head (IsListRight H layout met) one terms all.2 in
       ap₂ (λ (l : ShownLane) (ls : List ShownLane). l ∷ ls) (lane_is one is own right)
-      (lanes_cut terms (All-tail (HasOwnList texts query) one terms all.0, All-tail (IsOwnList texts query met) one terms all.1, All-tail (IsListRight H met) one terms all.2))
+      (lanes_cut terms (All-tail (HasOwnList texts query) one terms all.0, All-tail (IsOwnList texts query met) one terms all.1, All-tail (IsListRight H layout met) one terms all.2))
 
   pub each_cut : (terms : List Presented) → AllOf terms → All (IsCutLane (length texts)) (map (own_lane texts query) terms)
   each_cut terms all =
@@ -213,18 +214,18 @@ sum_own texts query doc (one ∷ terms) =
     )
 
 -- a score is a sum over the present terms' lists
-pub score_own : (H : List ℕ → List ℕ) (texts : List (List ℕ)) (query : List (List ℕ × ℕ)) (proof : Proof) → AreTexts texts → IsQuery query → IsInRange proof
-    → AreLeavesOf (dict_leaves (dictionary_of H texts)) (map shown_entry proof.dict) → AreSlotsRight query proof → length proof.slots ≡ length query
-    → (doc : ℕ) → doc < length texts
-    → score texts query (get_or texts doc []) ≡ whole_score (own_lanes texts query proof) doc
-score_own H texts query proof are asked range terms_own right size doc low =
+pub score_own : (H : List ℕ → List ℕ) (archive : Archive) (query : List (List ℕ × ℕ)) (proof : Proof) → AreTexts archive.texts → IsQuery query → IsInRange proof
+    → AreLeavesOf (dict_leaves (dictionary_of H archive)) (map shown_entry proof.dict) → AreSlotsRight query proof → length proof.slots ≡ length query
+    → (doc : ℕ) → doc < length archive.texts
+    → score archive.texts query (get_or archive.texts doc []) ≡ whole_score (own_lanes archive.texts query proof) doc
+score_own H archive query proof are asked range terms_own right size doc low =
     let adds = λ (j : ℕ) (pair : List ℕ × ℕ) (slot : Slot) (prefix : Prefix) (at : slice_get query j ≡ Some pair) (spot : slice_get proof.slots j ≡ Some slot) (present : slot.present ≡ true).
     let number : 0 + j ≡ j = omega arith in
     let term_is : asked_term query (0 + j) ≡ pair.0 = ap (asked_term query) number ∙ (pair_is query asked j pair at).2 in
-    ap (λ t. (pair.1 * idf (length texts) (frequency t texts)) * impact_in doc (list texts t)) term_is in
+    ap (λ t. (pair.1 * idf (length archive.texts) (frequency t archive.texts)) * impact_in doc (list archive.texts t)) term_is in
     let nothing = λ (j : ℕ) (pair : List ℕ × ℕ) (slot : Slot) (at : slice_get query j ≡ Some pair) (spot : slice_get proof.slots j ≡ Some slot) (absent : slot.present ≡ false).
-    let none_listed : list texts pair.0 ≡ [] = absent_none H texts query proof are asked range terms_own right j pair slot at spot absent in
-    ap (λ es. coefficient texts pair * impact_in doc es) none_listed ∙ mul-zero (coefficient texts pair) in
-    score_listed texts query doc low
-    ∙ sum_presented (part_of texts doc) (lane_part texts query doc) proof.dict 0 query proof.slots proof.lists size adds nothing
-    ∙ sym (sum_own texts query doc (presented query proof))
+    let none_listed : list archive.texts pair.0 ≡ [] = absent_none H archive query proof are asked range terms_own right j pair slot at spot absent in
+    ap (λ es. coefficient archive.texts pair * impact_in doc es) none_listed ∙ mul-zero (coefficient archive.texts pair) in
+    score_listed archive.texts query doc low
+    ∙ sum_presented (part_of archive.texts doc) (lane_part archive.texts query doc) proof.dict 0 query proof.slots proof.lists size adds nothing
+    ∙ sym (sum_own archive.texts query doc (presented query proof))

@@ -8,36 +8,37 @@ use Rattle.std.proofs.lemmas.List.Sums.{sum_by-cons, sum_by-append}
 use Rattle.std.proofs.Math.ListN.{drop_of_length-le}
 use Rattle.ats_bound.specs.declared.work.Mark.{Mark}
 use Rattle.ats_bound.specs.Work.{mark_at, zero_mark}
-use Rattle.ats_bound.specs.Cut.{rest, threshold, lower, held, bracket}
+use Rattle.ats_bound.specs.Cut.{rest, threshold as threshold_of, lower, held, bracket}
 use Rattle.ats_bound.proofs.Scores.{held_or_missing}
-use Rattle.ats_proof.specs.Value.{Proof, Prefix, present_in}
+use Rattle.ats_proof.specs.Value.{Proof, Prefix, present_in, layout_of}
+use Rattle.ats_commit.specs.Archive.{Layout}
 use Rattle.ats_client.specs.declared.refusal.Refusal.{Refusal}
 use Rattle.ats_client.specs.Presented.{Presented, presented, presented_from, lanes_of}
 use Rattle.ats_client.specs.Indexes.{AreNames}
 use Rattle.ats_client.specs.Groups.{IsListRight, IsListFault, IsListsFault, indexes_of, met_at}
 use Rattle.ats_client.specs.Marked.{AreMarks, AreNoted}
 use Rattle.ats_client.specs.Noting.{Note, AreNotes, IsNoted, index_lane, lane_notes, notes_of}
-use Rattle.ats_client.proofs.Lanes.{gain_all, cover_all, has_all, rests_all}
+use Rattle.ats_client.proofs.Lanes.{gain_all, held_all, has_all, rests_all}
 use Rattle.ats_client.proofs.Marks.{notes_turn}
 
 -- the terms below a number are tried, and what is noted is of those that are present
-pub record IsPassed (H : List ℕ → List ℕ) (query : List (List ℕ × ℕ)) (proof : Proof) (i : ℕ) (left : List Prefix) (limit : ℕ) (marks : List Mark) : Type 0 where
+pub record IsPassed (H : List ℕ → List ℕ) (query : List (List ℕ × ℕ)) (proof : Proof) (i : ℕ) (left : List Prefix) (threshold : ℕ) (marks : List Mark) : Type 0 where
   pub before : List Presented
   pub stands : presented query proof ≡ before ++ presented_from proof.dict i (drop i query) (drop i proof.slots) left
-  pub right : All (IsListRight H proof.met) before
+  pub right : All (IsListRight H (layout_of proof) proof.met) before
   pub notes : AreNotes (length proof.met) (notes_of proof.header.documents before) (i + 1) [] marks
-  pub rests : limit ≡ threshold (map (index_lane proof.header.documents) before)
+  pub rests : threshold ≡ threshold_of (map (index_lane proof.header.documents) before)
   pub enough : present_in (drop i proof.slots) ≡ length left
-  pub small : limit ≤ i * 2 ^ 33
+  pub small : threshold ≤ i * 2 ^ 33
 
 noted_first : (i : ℕ) (mark : Mark) → mark ≡ zero_mark → IsNoted [] 1 [] i mark
 noted_first i mark is = subst (λ m. IsNoted [] 1 [] i m) (sym is) (record {
   least = refl;
-  cover = refl;
+  held = refl;
   met = refl;
   here = refl;
   early = omega arith;
-  small_lo = omega arith;
+  small_lower = omega arith;
   small_held = omega arith;
   free = refl;
 })
@@ -47,7 +48,7 @@ pub begins : (H : List ℕ → List ℕ) (query : List (List ℕ × ℕ)) (proof
 begins H query proof left marks all enough zeros = record {
   before = [];
   stands = ap (λ (l : List Prefix). presented_from proof.dict 0 query proof.slots l) (sym all);
-  right = All-nil (IsListRight H proof.met);
+  right = All-nil (IsListRight H (layout_of proof) proof.met);
   notes = record {
     size = ap (λ (m : List Mark). length m) zeros ∙ length-replicate (length proof.met) zero_mark;
     each = λ (i : ℕ) (low : i < length proof.met).
@@ -58,11 +59,11 @@ begins H query proof left marks all enough zeros = record {
   small = omega arith;
 }
 
-pub passes_absent : (H : List ℕ → List ℕ) (query : List (List ℕ × ℕ)) (proof : Proof) (i : ℕ) (left after : List Prefix) (limit : ℕ) (marks : List Mark)
-    → IsPassed H query proof i left limit marks
+pub passes_absent : (H : List ℕ → List ℕ) (query : List (List ℕ × ℕ)) (proof : Proof) (i : ℕ) (left after : List Prefix) (threshold : ℕ) (marks : List Mark)
+    → IsPassed H query proof i left threshold marks
     → presented_from proof.dict i (drop i query) (drop i proof.slots) left ≡ presented_from proof.dict (i + 1) (drop (i + 1) query) (drop (i + 1) proof.slots) after
-    → present_in (drop (i + 1) proof.slots) ≡ length after → IsPassed H query proof (i + 1) after limit marks
-passes_absent H query proof i left after limit marks p step enough =
+    → present_in (drop (i + 1) proof.slots) ≡ length after → IsPassed H query proof (i + 1) after threshold marks
+passes_absent H query proof i left after threshold marks p step enough =
     let small = p.small in
     record {
       before = p.before;
@@ -74,27 +75,27 @@ passes_absent H query proof i left after limit marks p step enough =
       small = omega arith;
     }
 
-pub passes_present : (H : List ℕ → List ℕ) (query : List (List ℕ × ℕ)) (proof : Proof) (i : ℕ) (left after : List Prefix) (limit cover : ℕ) (one : Presented) (marks next : List Mark)
-    → IsPassed H query proof i left limit marks
+pub passes_present : (H : List ℕ → List ℕ) (query : List (List ℕ × ℕ)) (proof : Proof) (i : ℕ) (left after : List Prefix) (threshold most : ℕ) (one : Presented) (marks next : List Mark)
+    → IsPassed H query proof i left threshold marks
     → presented_from proof.dict i (drop i query) (drop i proof.slots) left ≡ one ∷ presented_from proof.dict (i + 1) (drop (i + 1) query) (drop (i + 1) proof.slots) after
-    → IsListRight H proof.met one
+    → IsListRight H (layout_of proof) proof.met one
     → ((notes : List Note) → AreNotes (length proof.met) notes (i + 1) [] marks → AreNotes (length proof.met) (notes ++ lane_notes (index_lane proof.header.documents one)) (i + 2) [] next)
-    → cover ≡ rest (index_lane proof.header.documents one) → cover ≤ 2 ^ 33
-    → present_in (drop (i + 1) proof.slots) ≡ length after → IsPassed H query proof (i + 1) after (limit + cover) next
-passes_present H query proof i left after limit cover one marks next p step right noted is few enough =
+    → most ≡ rest (index_lane proof.header.documents one) → most ≤ 2 ^ 33
+    → present_in (drop (i + 1) proof.slots) ≡ length after → IsPassed H query proof (i + 1) after (threshold + most) next
+passes_present H query proof i left after threshold most one marks next p step right noted is few enough =
     let n : ℕ = proof.header.documents in
     let small = p.small in
     let rests = p.rests in
     let number : i + 2 ≡ i + 1 + 1 = omega arith in
     let notes : notes_of n p.before ++ lane_notes (index_lane n one) ≡ notes_of n (p.before ++ one ∷ []) =
     flat_map_more (λ (term : Presented). lane_notes (index_lane n term)) [] p.before one in
-    let lanes : threshold (map (index_lane n) (p.before ++ one ∷ [])) ≡ threshold (map (index_lane n) p.before) + threshold (map (index_lane n) (one ∷ [])) =
-    ap threshold (map-append (index_lane n) p.before (one ∷ [])) ∙ sum_by-append rest (map (index_lane n) p.before) (map (index_lane n) (one ∷ [])) in
-    let last : threshold (map (index_lane n) (one ∷ [])) ≡ rest (index_lane n one) + 0 = sum_by-cons rest (index_lane n one) [] in
+    let lanes : threshold_of (map (index_lane n) (p.before ++ one ∷ [])) ≡ threshold_of (map (index_lane n) p.before) + threshold_of (map (index_lane n) (one ∷ [])) =
+    ap threshold_of (map-append (index_lane n) p.before (one ∷ [])) ∙ sum_by-append rest (map (index_lane n) p.before) (map (index_lane n) (one ∷ [])) in
+    let last : threshold_of (map (index_lane n) (one ∷ [])) ≡ rest (index_lane n one) + 0 = sum_by-cons rest (index_lane n one) [] in
     record {
       before = p.before ++ one ∷ [];
       stands = p.stands ∙ ap (λ (l : List Presented). p.before ++ l) step ∙ sym (append_assoc p.before (one ∷ []) _);
-      right = All-append (IsListRight H proof.met) p.before (one ∷ []) p.right (All-cons (IsListRight H proof.met) one [] right (All-nil (IsListRight H proof.met)));
+      right = All-append (IsListRight H (layout_of proof) proof.met) p.before (one ∷ []) p.right (All-cons (IsListRight H (layout_of proof) proof.met) one [] right (All-nil (IsListRight H (layout_of proof) proof.met)));
       notes = subst (λ k. AreNotes (length proof.met) (notes_of n (p.before ++ one ∷ [])) k [] next) number
           (subst (λ m. AreNotes (length proof.met) m (i + 2) [] next) notes (noted (notes_of n p.before) p.notes));
       rests = omega (arith, rests, is, lanes, last);
@@ -102,10 +103,10 @@ passes_present H query proof i left after limit cover one marks next p step righ
       small = omega arith;
     }
 
-pub fails : (H : List ℕ → List ℕ) (query : List (List ℕ × ℕ)) (proof : Proof) (i : ℕ) (left : List Prefix) (limit : ℕ) (one : Presented) (later : List Presented) (marks : List Mark) (refusal : Refusal)
-    → IsPassed H query proof i left limit marks → presented_from proof.dict i (drop i query) (drop i proof.slots) left ≡ one ∷ later
-    → IsListFault H proof.met one refusal → IsListsFault H query proof refusal
-fails H query proof i left limit one later marks refusal p step fault = record {
+pub fails : (H : List ℕ → List ℕ) (query : List (List ℕ × ℕ)) (proof : Proof) (i : ℕ) (left : List Prefix) (threshold : ℕ) (one : Presented) (later : List Presented) (marks : List Mark) (refusal : Refusal)
+    → IsPassed H query proof i left threshold marks → presented_from proof.dict i (drop i query) (drop i proof.slots) left ≡ one ∷ later
+    → IsListFault H (layout_of proof) proof.met one refusal → IsListsFault H query proof refusal
+fails H query proof i left threshold one later marks refusal p step fault = record {
   before = p.before;
   one = one;
   after = later;
@@ -115,67 +116,67 @@ fails H query proof i left limit one later marks refusal p step fault = record {
 }
 
 -- all terms are tried
-pub record IsDone (H : List ℕ → List ℕ) (query : List (List ℕ × ℕ)) (proof : Proof) (limit : ℕ) (marks : List Mark) : Type 0 where
-  pub right : All (IsListRight H proof.met) (presented query proof)
+pub record IsDone (H : List ℕ → List ℕ) (query : List (List ℕ × ℕ)) (proof : Proof) (threshold : ℕ) (marks : List Mark) : Type 0 where
+  pub right : All (IsListRight H (layout_of proof) proof.met) (presented query proof)
   pub list : ℕ
   pub notes : AreNotes (length proof.met) (notes_of proof.header.documents (presented query proof)) list [] marks
   pub few : list ≤ 33
-  pub rests : limit ≡ threshold (map (index_lane proof.header.documents) (presented query proof))
-  pub small : limit ≤ 33 * 2 ^ 33
+  pub rests : threshold ≡ threshold_of (map (index_lane proof.header.documents) (presented query proof))
+  pub small : threshold ≤ 33 * 2 ^ 33
 
-pub done : (H : List ℕ → List ℕ) (query : List (List ℕ × ℕ)) (proof : Proof) (i : ℕ) (left : List Prefix) (limit : ℕ) (marks : List Mark)
-    → IsPassed H query proof i left limit marks → length query ≤ i → i ≤ 32 → IsDone H query proof limit marks
-done H query proof i left limit marks p all few =
+pub done : (H : List ℕ → List ℕ) (query : List (List ℕ × ℕ)) (proof : Proof) (i : ℕ) (left : List Prefix) (threshold : ℕ) (marks : List Mark)
+    → IsPassed H query proof i left threshold marks → length query ≤ i → i ≤ 32 → IsDone H query proof threshold marks
+done H query proof i left threshold marks p all few =
     let n : ℕ = proof.header.documents in
     let nothing : drop i query ≡ [] = drop_of_length-le query all in
     let same : presented query proof ≡ p.before =
     p.stands ∙ ap (λ (q : List (List ℕ × ℕ)). p.before ++ presented_from proof.dict i q (drop i proof.slots) left) nothing ∙ append-nil p.before in
     let small = p.small in
     record {
-      right = subst (λ l. All (IsListRight H proof.met) l) (sym same) p.right;
+      right = subst (λ l. All (IsListRight H (layout_of proof) proof.met) l) (sym same) p.right;
       list = i + 1;
       notes = subst (λ l. AreNotes (length proof.met) (notes_of n l) (i + 1) [] marks) (sym same) p.notes;
       few = omega arith;
-      rests = p.rests ∙ ap (λ l. threshold (map (index_lane n) l)) (sym same);
+      rests = p.rests ∙ ap (λ l. threshold_of (map (index_lane n) l)) (sym same);
       small = omega arith;
     }
 
 -- ---- what the marks then say
 
-named_of : (H : List ℕ → List ℕ) (met : List ℕ) (terms : List Presented) → All (IsListRight H met) terms → All (λ (one : Presented). AreNames (length met) (indexes_of one.prefix.entries)) terms
-named_of H met terms all k d low = (all k d low).names
+named_of : (H : List ℕ → List ℕ) (layout : Layout) (met : List ℕ) (terms : List Presented) → All (IsListRight H layout met) terms → All (λ (one : Presented). AreNames (length met) (indexes_of one.prefix.entries)) terms
+named_of H layout met terms all k d low = (all k d low).names
 
-pub marks_done : (H : List ℕ → List ℕ) (query : List (List ℕ × ℕ)) (proof : Proof) (limit : ℕ) (marks : List Mark) → IsStrictlyIncreasing proof.met
-    → IsDone H query proof limit marks → AreMarks bracket (lanes_of query proof) proof.met marks
-marks_done H query proof limit marks rises d =
+pub marks_done : (H : List ℕ → List ℕ) (query : List (List ℕ × ℕ)) (proof : Proof) (threshold : ℕ) (marks : List Mark) → IsStrictlyIncreasing proof.met
+    → IsDone H query proof threshold marks → AreMarks bracket (lanes_of query proof) proof.met marks
+marks_done H query proof threshold marks rises d =
     let n : ℕ = proof.header.documents in
     let terms : List Presented = presented query proof in
-    let all = named_of H proof.met terms d.right in
+    let all = named_of H (layout_of proof) proof.met terms d.right in
     let notes = d.notes in
     let few = d.few in
     record {
       size = notes.size;
       each = λ (i : ℕ) (low : i < length proof.met).
           let is = notes.each i low in
-          let lo = is.small_lo in
+          let lo = is.small_lower in
           let early = is.early in
           let doc : ℕ = met_at proof.met i in
           let least : (mark_at marks i).lo ≡ lower (lanes_of query proof) doc = is.least ∙ gain_all n proof.met rises i low terms all in
-          let cover : (mark_at marks i).held ≡ held (lanes_of query proof) doc = is.cover ∙ cover_all n proof.met rises i low terms all in
+          let held_is : (mark_at marks i).held ≡ held (lanes_of query proof) doc = is.held ∙ held_all n proof.met rises i low terms all in
           record {
             least = least;
-            within = omega (arith, cover, held_or_missing (lanes_of query proof) doc);
-            most = omega (arith, least, cover, held_or_missing (lanes_of query proof) doc);
+            within = omega (arith, held_is, held_or_missing (lanes_of query proof) doc);
+            most = omega (arith, least, held_is, held_or_missing (lanes_of query proof) doc);
             named = is.met ∙ has_all n proof.met rises i low terms all;
             small = omega arith;
           };
     }
 
-pub free_done : (H : List ℕ → List ℕ) (query : List (List ℕ × ℕ)) (proof : Proof) (limit : ℕ) (marks : List Mark) → IsDone H query proof limit marks → AreNoted [] marks
-free_done H query proof limit marks d i low =
+pub free_done : (H : List ℕ → List ℕ) (query : List (List ℕ × ℕ)) (proof : Proof) (threshold : ℕ) (marks : List Mark) → IsDone H query proof threshold marks → AreNoted [] marks
+free_done H query proof threshold marks d i low =
     let notes = d.notes in
     let size = notes.size in
     (notes.each i (omega (arith, low, size))).free
 
-pub rests_done : (H : List ℕ → List ℕ) (query : List (List ℕ × ℕ)) (proof : Proof) (limit : ℕ) (marks : List Mark) → IsDone H query proof limit marks → limit ≡ threshold (lanes_of query proof)
-rests_done H query proof limit marks d = d.rests ∙ rests_all proof.header.documents proof.met (presented query proof)
+pub rests_done : (H : List ℕ → List ℕ) (query : List (List ℕ × ℕ)) (proof : Proof) (threshold : ℕ) (marks : List Mark) → IsDone H query proof threshold marks → threshold ≡ threshold_of (lanes_of query proof)
+rests_done H query proof threshold marks d = d.rests ∙ rests_all proof.header.documents proof.met (presented query proof)

@@ -10,7 +10,8 @@ use Rattle.ats_records.specs.declared.record.Slot.{Slot}
 use Rattle.ats_proof.specs.Value.{ShownEntry, Prefix, Proof, present_in, kind_of_slot}
 use Rattle.ats_client.specs.Presented.{Presented, presented_from, entry_at, first_prefix}
 use Rattle.ats_client.specs.Slots.{IsAt}
-use Rattle.ats_client.specs.Groups.{dict_terms, term_at, IsSlotRight}
+use Rattle.ats_commit.specs.Ours.{asked_term}
+use Rattle.ats_client.specs.Groups.{dict_terms, IsSlotRight}
 use Rattle.ats_client.proofs.Slotted.{slot_shows}
 
 -- what holds of all elements holds of the one at a place
@@ -77,7 +78,7 @@ pub has_leaf : (query : List (List ℕ × ℕ)) (proof : Proof) (i : ℕ) (slot 
     → None ≡ slice_get proof.dict slot.index → ⊥
 has_leaf query proof i slot right is present none =
     let shows = slot_shows query proof i slot is right in
-    let at : IsAt (dict_terms proof.dict) (term_at query i) slot.index = rw present at shows in
+    let at : IsAt (dict_terms proof.dict) (asked_term query i) slot.index = rw present at shows in
     let there = at.there in
     let gone = leaf_gone proof.dict slot.index none in
     cc

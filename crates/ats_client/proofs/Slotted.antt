@@ -4,17 +4,18 @@ use Rattle.std.proofs.lemmas.Option.{get_or_from_slice_get}
 use Rattle.ats_records.specs.declared.record.Slot.{Slot}
 use Rattle.ats_proof.specs.Value.{ShownEntry, Proof}
 use Rattle.ats_client.specs.Slots.{ShowsTerm}
-use Rattle.ats_client.specs.Groups.{dict_terms, term_at, slot_at, IsSlotRight}
+use Rattle.ats_commit.specs.Ours.{asked_term}
+use Rattle.ats_client.specs.Groups.{dict_terms, slot_at, IsSlotRight}
 
 -- the slot that stands at a place, where it is right, shows its term
 pub slot_shows : (query : List (List ℕ × ℕ)) (proof : Proof) (i : ℕ) (slot : Slot) → slice_get proof.slots i ≡ Some slot → IsSlotRight query proof i
-    → ShowsTerm (dict_terms proof.dict) (term_at query i) slot
+    → ShowsTerm (dict_terms proof.dict) (asked_term query i) slot
 slot_shows query proof i slot is right =
     let slot_is : slot_at proof.slots i ≡ slot = get_or_from_slice_get proof.slots i slot (record { present = false; index = 0 }) is in
-    subst (λ (s : Slot). ShowsTerm (dict_terms proof.dict) (term_at query i) s) slot_is right
+    subst (λ (s : Slot). ShowsTerm (dict_terms proof.dict) (asked_term query i) s) slot_is right
 
 pub slot_right : (query : List (List ℕ × ℕ)) (proof : Proof) (i : ℕ) (dict : List ShownEntry) (term : List ℕ) (slot : Slot) (shows : Bool)
-    → dict ≡ proof.dict → term ≡ term_at query i → slice_get proof.slots i ≡ Some slot
+    → dict ≡ proof.dict → term ≡ asked_term query i → slice_get proof.slots i ≡ Some slot
     → IsTrue shows ↔ ShowsTerm (dict_terms dict) term slot → IsTrue shows ↔ IsSlotRight query proof i
 slot_right query proof i dict term slot shows same_dict same_term same_slot test =
     let slot_is : slot_at proof.slots i ≡ slot = get_or_from_slice_get proof.slots i slot (record { present = false; index = 0 }) same_slot in

@@ -6,9 +6,10 @@ use Rattle.ats_proof.specs.Value.{Proof, IsProof}
 use Rattle.ats_client.specs.Accepts.{Accepts}
 use Rattle.ats_client.specs.Headline.{IsTopOrCollides}
 use Rattle.ats_client.specs.Rows.{rows_of}
-use Rattle.ats_client.specs.Bytes.{AreVerifiedRows, IsRejectedBytes, IsProofFault}
+use Rattle.ats_client.specs.Bytes.{AreVerifiedRows, IsVerifyFault, IsProofFault}
+use Rattle.ats_client.specs.declared.fault.Rejection.TheVariants.{Shape, Tra, Check}
 use Rattle.ats_client.specs.declared.fault.VerifyFault.{VerifyFault}
-use Rattle.ats_client.specs.declared.fault.VerifyFault.TheVariants.{Shape, Tra, Refused, OutOfMemory}
+use Rattle.ats_client.specs.declared.fault.VerifyFault.TheVariants.{Rejected, OutOfMemory}
 
 module _ (H : List ℕ → List ℕ) (root : List ℕ) (query : List (List ℕ × ℕ)) (r : ℕ) (bytes : List ℕ) (proof : Proof) (says : IsProof bytes proof) where
   pub verified : (result : Result (List Row) VerifyFault) → OnOk result (Accepts H root query r proof) → OnOk result (IsTopOrCollides H root query r proof)
@@ -21,12 +22,12 @@ module _ (H : List ℕ → List ℕ) (root : List ℕ) (query : List (List ℕ �
   }
   verified (Err fault) accepts headline answer = tt
 
-  fault_of_bytes : (fault : VerifyFault) → IsProofFault H root query r proof fault → IsRejectedBytes H root query r bytes fault
-  fault_of_bytes (Shape shape) is = absurd is
-  fault_of_bytes Tra is = absurd is
-  fault_of_bytes (Refused refusal) is = (proof, says, is)
+  fault_of_bytes : (fault : VerifyFault) → IsProofFault H root query r proof fault → IsVerifyFault H root query r bytes fault
+  fault_of_bytes (Rejected (Shape shape)) is = absurd is
+  fault_of_bytes (Rejected Tra) is = absurd is
+  fault_of_bytes (Rejected (Check refusal)) is = (proof, says, is)
   fault_of_bytes OutOfMemory is = tt
 
-  pub rejected : (result : Result (List Row) VerifyFault) → IfErr result (IsProofFault H root query r proof) → IfErr result (IsRejectedBytes H root query r bytes)
+  pub rejected : (result : Result (List Row) VerifyFault) → IfErr result (IsProofFault H root query r proof) → IfErr result (IsVerifyFault H root query r bytes)
   rejected (Ok rows) is = tt
   rejected (Err fault) is = fault_of_bytes fault is

@@ -5,13 +5,13 @@ use Rattle.ats_bound.specs.Work.{mark_at}
 
 -- what a document scores at most: what it scores at least, and what the lists that do not name it can add
 abbrev pub upper : ℕ → Mark → ℕ
-upper limit mark = mark.lo + (limit - mark.held)
+upper threshold mark = mark.lo + (threshold - mark.held)
 
--- no mark holds more than the limit, and sums do not wrap
-pub record AreBelow (limit : ℕ) (marks : List Mark) : Type 0 where
-  pub limit_small : limit < 2 ^ 48
+-- no mark holds more than the threshold, and sums do not wrap
+pub record AreBelow (threshold : ℕ) (marks : List Mark) : Type 0 where
+  pub threshold_small : threshold < 2 ^ 48
   pub small : (i : ℕ) → i < length marks → (mark_at marks i).lo < 2 ^ 48
-  pub held : (i : ℕ) → i < length marks → (mark_at marks i).held ≤ limit
+  pub held : (i : ℕ) → i < length marks → (mark_at marks i).held ≤ threshold
 
 -- the mark of a row's document
 abbrev pub row_mark : List Mark → List ℕ → ℕ → Mark
@@ -24,8 +24,8 @@ lower_before marks answer (suc k) = (row_mark marks answer k).lo
 
 -- none of the first n rows can score more than the row before it scores at least
 abbrev pub AreFalling : ℕ → List Mark → List ℕ → ℕ → Type 0
-AreFalling limit marks answer n = (k : ℕ) → k < n → upper limit (row_mark marks answer k) ≤ lower_before marks answer k
+AreFalling threshold marks answer n = (k : ℕ) → k < n → upper threshold (row_mark marks answer k) ≤ lower_before marks answer k
 
 -- no document that no row names can score more
-abbrev pub IsRestWithin : ℕ → List Mark → ℕ → Type 0
-IsRestWithin limit marks score = (i : ℕ) → i < length marks → (mark_at marks i).row ≡ false → upper limit (mark_at marks i) ≤ score
+abbrev pub AreOthersWithin : ℕ → List Mark → ℕ → Type 0
+AreOthersWithin threshold marks score = (i : ℕ) → i < length marks → (mark_at marks i).row ≡ false → upper threshold (mark_at marks i) ≤ score

@@ -8,8 +8,10 @@ use Rattle.ats_proof.specs.Value.{Proof, IsProof, algorithm_of}
 use Rattle.ats_client.specs.Accepts.{Accepts, IsFirstRefusal}
 use Rattle.ats_client.specs.Headline.{IsTopOrCollides}
 use Rattle.ats_client.specs.Rows.{rows_of}
+use Rattle.ats_client.specs.declared.fault.Rejection.{Rejection}
+use Rattle.ats_client.specs.declared.fault.Rejection.TheVariants.{Shape, Tra, Check}
 use Rattle.ats_client.specs.declared.fault.VerifyFault.{VerifyFault}
-use Rattle.ats_client.specs.declared.fault.VerifyFault.TheVariants.{Shape, Tra, Refused, OutOfMemory}
+use Rattle.ats_client.specs.declared.fault.VerifyFault.TheVariants.{Rejected, OutOfMemory}
 
 -- the bytes spell this proof, and it is accepted under the root for the query
 pub record IsAcceptedBytes (H : List ℕ → List ℕ) (root : List ℕ) (query : List (List ℕ × ℕ)) (r : ℕ) (bytes : List ℕ) (proof : Proof) : Type 0 where
@@ -23,16 +25,20 @@ pub record AreVerifiedRows (H : List ℕ → List ℕ) (root : List ℕ) (query 
   pub headline : IsTopOrCollides H root query r proof
   pub answer : rows ≡ rows_of query proof
 
--- the shape of the bytes, then the algorithm, then the rules
-abbrev pub IsRejectedBytes : (List ℕ → List ℕ) → List ℕ → List (List ℕ × ℕ) → ℕ → List ℕ → VerifyFault → Type 0
+-- the bytes are refused so under the root for the query: by their shape, then the algorithm, then the rules
+abbrev pub IsRejectedBytes : (List ℕ → List ℕ) → List ℕ → List (List ℕ × ℕ) → ℕ → List ℕ → Rejection → Type 0
 IsRejectedBytes H root query r bytes (Shape fault) = IsBad proof_format bytes fault
 IsRejectedBytes H root query r bytes Tra = (proof : Proof) × IsProof bytes proof × (algorithm_of proof ≡ algorithm.Tra)
-IsRejectedBytes H root query r bytes (Refused refusal) = (proof : Proof) × IsProof bytes proof × IsFirstRefusal H root query r proof refusal
-IsRejectedBytes H root query r bytes OutOfMemory = Unit {0}
+IsRejectedBytes H root query r bytes (Check refusal) = (proof : Proof) × IsProof bytes proof × IsFirstRefusal H root query r proof refusal
+
+-- why no rows were answered; want of memory is free
+abbrev pub IsVerifyFault : (List ℕ → List ℕ) → List ℕ → List (List ℕ × ℕ) → ℕ → List ℕ → VerifyFault → Type 0
+IsVerifyFault H root query r bytes (Rejected rejection) = IsRejectedBytes H root query r bytes rejection
+IsVerifyFault H root query r bytes OutOfMemory = Unit {0}
 
 -- of a proof in hand: the first rule that it does not keep
 abbrev pub IsProofFault : (List ℕ → List ℕ) → List ℕ → List (List ℕ × ℕ) → ℕ → Proof → VerifyFault → Type 0
-IsProofFault H root query r proof (Shape fault) = ⊥
-IsProofFault H root query r proof Tra = ⊥
-IsProofFault H root query r proof (Refused refusal) = IsFirstRefusal H root query r proof refusal
+IsProofFault H root query r proof (Rejected (Shape fault)) = ⊥
+IsProofFault H root query r proof (Rejected Tra) = ⊥
+IsProofFault H root query r proof (Rejected (Check refusal)) = IsFirstRefusal H root query r proof refusal
 IsProofFault H root query r proof OutOfMemory = Unit {0}

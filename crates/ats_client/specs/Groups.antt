@@ -3,14 +3,16 @@ use Rattle.std.specs.Prelude.{◌≡◌, ◌≢◌, ◌<◌, ◌∷◌, ◌++◌
 use Rattle.std.specs.List.{All}
 use Rattle.ats_tree.specs.Rebuild.{rebuilt}
 use Rattle.ats_lists.specs.declared.entry.Entry.{Entry}
-use Rattle.ats_dict.specs.Header.{header_bytes}
-use Rattle.ats_dict.specs.declared.header.Header.{Header}
+use Rattle.ats_commit.specs.Archive.{Layout}
+use Rattle.ats_commit.specs.Ours.{asked_term}
+use Rattle.ats_commit.specs.Prefixes.{prefix_root}
+use Rattle.ats_commit.specs.Root.{header_root}
 use Rattle.ats_records.specs.declared.record.Slot.{Slot}
 use Rattle.ats_bound.specs.declared.bracket.Bracket.{Bracket}
 use Rattle.ats_bound.specs.Cut.{ShownLane, IsMet, threshold}
 use Rattle.ats_bound.specs.Schedule.{Bounding}
 use Rattle.ats_bound.specs.Settled.{IsSettled}
-use Rattle.ats_proof.specs.Value.{ShownEntry, Proof}
+use Rattle.ats_proof.specs.Value.{ShownEntry, Proof, layout_of}
 use Rattle.ats_proof.specs.Runs.{shown_entry, shown_list}
 use Rattle.ats_client.specs.declared.refusal.Refusal.{Refusal}
 use Rattle.ats_client.specs.declared.refusal.Refusal.TheVariants.{OtherRoot, SlotCount, DictMisfit, DictRoot, SlotWrong, IndexOut, Repeated, ListMisfit, ListRoot, Unmet, AnswerOut, AnswerRepeated, NotSettled}
@@ -27,17 +29,14 @@ pub record IsOther (digest : Option (List ℕ)) (root : List ℕ) : Type 0 where
 
 -- ---- the root, and the number of slots
 
-abbrev pub root_of : (List ℕ → List ℕ) → Header → List ℕ
-root_of H h = H (2 ∷ header_bytes h.documents h.dict_leaves h.dict_root h.docs_root h.texts_root)
-
 pub record IsOpened (H : List ℕ → List ℕ) (root : List ℕ) (query : List (List ℕ × ℕ)) (proof : Proof) : Type 0 where
-  pub commits : root_of H proof.header ≡ root
+  pub commits : header_root H (layout_of proof) proof.header ≡ root
   pub slots : length proof.slots ≡ length query
 
 abbrev pub IsOpeningFault : (List ℕ → List ℕ) → List ℕ → List (List ℕ × ℕ) → Proof → Refusal → Type 0
-IsOpeningFault H root query proof OtherRoot = root_of H proof.header ≢ root
+IsOpeningFault H root query proof OtherRoot = header_root H (layout_of proof) proof.header ≢ root
 IsOpeningFault H root query proof (SlotCount shown) =
-    (root_of H proof.header ≡ root) × (shown ≡ length proof.slots) × (shown ≢ length query)
+    (header_root H (layout_of proof) proof.header ≡ root) × (shown ≡ length proof.slots) × (shown ≢ length query)
 IsOpeningFault H root query proof _ = ⊥
 
 -- ---- the dictionary
@@ -56,9 +55,6 @@ IsDictFault H proof _ = ⊥
 
 -- ---- the slots
 
-abbrev pub term_at : List (List ℕ × ℕ) → ℕ → List ℕ
-term_at query i = (slice_index_or query i ([], 0)).0
-
 abbrev pub slot_at : List Slot → ℕ → Slot
 slot_at slots i = slice_index_or slots i (record { present = false; index = 0 })
 
@@ -67,7 +63,7 @@ abbrev pub dict_terms : List ShownEntry → List Shown
 dict_terms dict = map entry_shown dict
 
 abbrev pub IsSlotRight : List (List ℕ × ℕ) → Proof → ℕ → Type 0
-IsSlotRight query proof i = ShowsTerm (dict_terms proof.dict) (term_at query i) (slot_at proof.slots i)
+IsSlotRight query proof i = ShowsTerm (dict_terms proof.dict) (asked_term query i) (slot_at proof.slots i)
 
 abbrev pub AreSlotsRight : List (List ℕ × ℕ) → Proof → Type 0
 AreSlotsRight query proof = (i : ℕ) → i < length query → IsSlotRight query proof i
@@ -88,21 +84,21 @@ IsSlotsFault query proof _ = ⊥
 abbrev pub indexes_of : List Entry → List ℕ
 indexes_of entries = map (λ (entry : Entry). entry.doc) entries
 
--- what the prefix of a present term rebuilds to, among as many leaves as its entry in the dictionary tells
-abbrev pub list_digest : (List ℕ → List ℕ) → List ℕ → Presented → Option (List ℕ)
-list_digest H met term = rebuilt H term.entry.f (shown_list 0 met term.prefix.entries) term.prefix.digests
+-- what the prefix of a present term rebuilds to, among as many entries as its entry in the dictionary tells
+abbrev pub list_digest : (List ℕ → List ℕ) → Layout → List ℕ → Presented → Option (List ℕ)
+list_digest H layout met term = prefix_root H layout term.entry.f (shown_list 0 met term.prefix.entries) term.prefix.digests
 
 -- it is the front of the list in the dictionary
-abbrev pub IsListRooted : (List ℕ → List ℕ) → List ℕ → Presented → Type 0
-IsListRooted H met term = list_digest H met term ≡ Some term.entry.root
+abbrev pub IsListRooted : (List ℕ → List ℕ) → Layout → List ℕ → Presented → Type 0
+IsListRooted H layout met term = list_digest H layout met term ≡ Some term.entry.root
 
 -- its entries name met documents, each once, and it is the front of that list
-pub record IsListRight (H : List ℕ → List ℕ) (met : List ℕ) (term : Presented) : Type 0 where
+pub record IsListRight (H : List ℕ → List ℕ) (layout : Layout) (met : List ℕ) (term : Presented) : Type 0 where
   pub names : AreNames (length met) (indexes_of term.prefix.entries)
-  pub root : IsListRooted H met term
+  pub root : IsListRooted H layout met term
 
 abbrev pub AreListsRight : (List ℕ → List ℕ) → List (List ℕ × ℕ) → Proof → Type 0
-AreListsRight H query proof = All (IsListRight H proof.met) (presented query proof)
+AreListsRight H query proof = All (IsListRight H (layout_of proof) proof.met) (presented query proof)
 
 -- the first entry of a prefix that fails
 abbrev pub IsEntryFault : ℕ → Presented → Refusal → Type 0
@@ -111,20 +107,20 @@ IsEntryFault met one (Repeated term entry) = (term ≡ one.number) × IsAgain me
 IsEntryFault met one _ = ⊥
 
 -- how its digest fails
-abbrev pub IsListRootFault : (List ℕ → List ℕ) → List ℕ → Presented → Refusal → Type 0
-IsListRootFault H met one (ListMisfit term) = (term ≡ one.number) × (list_digest H met one ≡ None)
-IsListRootFault H met one (ListRoot term) = (term ≡ one.number) × IsOther (list_digest H met one) one.entry.root
-IsListRootFault H met one _ = ⊥
+abbrev pub IsListRootFault : (List ℕ → List ℕ) → Layout → List ℕ → Presented → Refusal → Type 0
+IsListRootFault H layout met one (ListMisfit term) = (term ≡ one.number) × (list_digest H layout met one ≡ None)
+IsListRootFault H layout met one (ListRoot term) = (term ≡ one.number) × IsOther (list_digest H layout met one) one.entry.root
+IsListRootFault H layout met one _ = ⊥
 
 -- the rules of one present term: its entries come before its digest
-abbrev pub list_rules : (List ℕ → List ℕ) → List ℕ → Presented → List (Group Refusal)
-list_rules H met one =
+abbrev pub list_rules : (List ℕ → List ℕ) → Layout → List ℕ → Presented → List (Group Refusal)
+list_rules H layout met one =
     record { kept = AreNames (length met) (indexes_of one.prefix.entries); fault = IsEntryFault (length met) one }
-    ∷ record { kept = IsListRooted H met one; fault = IsListRootFault H met one }
+    ∷ record { kept = IsListRooted H layout met one; fault = IsListRootFault H layout met one }
     ∷ []
 
-abbrev pub IsListFault : (List ℕ → List ℕ) → List ℕ → Presented → Refusal → Type 0
-IsListFault H met one refusal = IsFirstFault (list_rules H met one) refusal
+abbrev pub IsListFault : (List ℕ → List ℕ) → Layout → List ℕ → Presented → Refusal → Type 0
+IsListFault H layout met one refusal = IsFirstFault (list_rules H layout met one) refusal
 
 -- the first failure of the present terms, term by term
 pub record IsListsFault (H : List ℕ → List ℕ) (query : List (List ℕ × ℕ)) (proof : Proof) (refusal : Refusal) : Type 0 where
@@ -132,8 +128,8 @@ pub record IsListsFault (H : List ℕ → List ℕ) (query : List (List ℕ × �
   pub one : Presented
   pub after : List Presented
   pub stands : presented query proof ≡ before ++ one ∷ after
-  pub right : All (IsListRight H proof.met) before
-  pub fault : IsListFault H proof.met one refusal
+  pub right : All (IsListRight H (layout_of proof) proof.met) before
+  pub fault : IsListFault H (layout_of proof) proof.met one refusal
 
 -- ---- the met documents
 

@@ -1,9 +1,10 @@
--- What an accepted proof says of each collection with the root.
+-- What an accepted proof says of each archive with the root.
 use Rattle.std.specs.Prelude.{◌≡◌, ◌⊎◌, ◌≤◌, ℕ, List, [], map, slice_index_or, IsSome}
 use Rattle.std.specs.List.{All}
 use Rattle.ats_impact.specs.Rank.{IsTop}
 use Rattle.ats_impact.specs.Score.{score}
 use Rattle.ats_impact.specs.declared.rank.Row.{Row}
+use Rattle.ats_commit.specs.Archive.{Archive}
 use Rattle.ats_commit.specs.Root.{root_of}
 use Rattle.ats_commit.specs.Own.{AreTexts}
 use Rattle.ats_proof.specs.Value.{Proof}
@@ -20,8 +21,8 @@ pub record AreRight (texts : List (List ℕ)) (query : List (List ℕ × ℕ)) (
   pub top : IsTop texts query r (map (λ (row : Row). row.doc) rows)
   pub bounds : All (HoldsRow texts query) rows
 
--- The headline: for every collection with this root, the rows are right, or the strings of the proof and those of the
--- collection hold two different ones with equal digests.
+-- The headline: for every archive with this root, the rows are right for its texts, or the strings of the proof and those
+-- of the archive hold two different ones with equal digests.
 abbrev pub IsTopOrCollides : (List ℕ → List ℕ) → List ℕ → List (List ℕ × ℕ) → ℕ → Proof → Type 0
-IsTopOrCollides H root query r proof = (texts : List (List ℕ)) → AreTexts texts → root_of H texts ≡ root
-    → AreRight texts query r (rows_of query proof) ⊎ IsSome (extract H texts query proof)
+IsTopOrCollides H root query r proof = (archive : Archive) → AreTexts archive.texts → root_of H archive ≡ root
+    → AreRight archive.texts query r (rows_of query proof) ⊎ IsSome (extract H archive query proof)

@@ -20,10 +20,10 @@ index_lane documents term = record {
 pub record Note : Type 0 where
   pub index : ℕ
   pub gain : ℕ
-  pub cover : ℕ
+  pub rest : ℕ
 
 abbrev pub note : ℕ → ℕ → Entry → Note
-note coefficient cover entry = record { index = entry.doc; gain = coefficient * entry.impact; cover = cover }
+note coefficient most entry = record { index = entry.doc; gain = coefficient * entry.impact; rest = most }
 
 -- the notes of a lane's entries, and of those of some present terms
 abbrev pub lane_notes : ShownLane → List Note
@@ -35,24 +35,24 @@ notes_of documents terms = flat_map (λ term. lane_notes (index_lane documents t
 abbrev pub gain_of : ℕ → List Note → ℕ
 gain_of index notes = sum_by (λ (n : Note). if n.index == index then n.gain else 0) notes
 
-abbrev pub cover_of : ℕ → List Note → ℕ
-cover_of index notes = sum_by (λ (n : Note). if n.index == index then n.cover else 0) notes
+abbrev pub held_of : ℕ → List Note → ℕ
+held_of index notes = sum_by (λ (n : Note). if n.index == index then n.rest else 0) notes
 
 abbrev pub has_note : ℕ → List Note → Bool
 has_note index notes = list_any (λ (n : Note). n.index == index) notes
 
 -- a mark after one note more, of a list that is counted from 1
 abbrev pub with_note : Mark → ℕ → ℕ → ℕ → Mark
-with_note mark list gain cover = record { lo = mark.lo + gain; held = mark.held + cover; list = list; row = mark.row }
+with_note mark list gain most = record { lo = mark.lo + gain; held = mark.held + most; list = list; row = mark.row }
 
 -- the mark of a met index after some notes: the list at hand, counted from 1, has named these indexes so far
 pub record IsNoted (notes : List Note) (list : ℕ) (named : List ℕ) (index : ℕ) (mark : Mark) : Type 0 where
   pub least : mark.lo ≡ gain_of index notes
-  pub cover : mark.held ≡ cover_of index notes
+  pub held : mark.held ≡ held_of index notes
   pub met : nat_lt 0 mark.list ≡ has_note index notes
   pub here : (mark.list == list) ≡ list_any (λ i. i == index) named
   pub early : mark.list ≤ list
-  pub small_lo : mark.lo ≤ 2 ^ 33 * mark.list
+  pub small_lower : mark.lo ≤ 2 ^ 33 * mark.list
   pub small_held : mark.held ≤ 2 ^ 33 * mark.list
   pub free : mark.row ≡ false
 

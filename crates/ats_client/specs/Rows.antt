@@ -4,7 +4,7 @@ use Rattle.std.specs.List.{All}
 use Rattle.ats_impact.specs.declared.rank.Row.{Row}
 use Rattle.ats_bound.specs.declared.bracket.Bracket.{Bracket}
 use Rattle.ats_bound.specs.declared.work.Mark.{Mark}
-use Rattle.ats_bound.specs.Cut.{threshold}
+use Rattle.ats_bound.specs.Cut.{threshold as threshold_of}
 use Rattle.ats_proof.specs.Value.{Proof}
 use Rattle.ats_client.specs.Presented.{lanes_of}
 use Rattle.ats_client.specs.Groups.{met_at}
@@ -12,10 +12,10 @@ use Rattle.ats_client.specs.Bracketing.{bounds_of}
 use Rattle.ats_client.specs.Marked.{AreMarks}
 
 -- the marks of the met documents, the threshold, and rows that name met documents
-pub record IsLeft (query : List (List ℕ × ℕ)) (proof : Proof) (marks : List Mark) (limit : ℕ) : Type 0 where
+pub record IsLeft (query : List (List ℕ × ℕ)) (proof : Proof) (marks : List Mark) (threshold : ℕ) : Type 0 where
   pub each : AreMarks (bounds_of proof) (lanes_of query proof) proof.met marks
-  pub rests : limit ≡ threshold (lanes_of query proof)
-  pub small : limit < 2 ^ 48
+  pub rests : threshold ≡ threshold_of (lanes_of query proof)
+  pub small : threshold < 2 ^ 48
   pub inside : All (λ index. index < length proof.met) proof.answer
 
 -- the bracket of a row's document

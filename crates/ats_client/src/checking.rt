@@ -4,7 +4,7 @@ ghost use Rattle.std.specs.Prelude.{◌≡◌, ◌≤◌, ◌+◌, ◌^◌, ℕ,
 ghost use Rattle.ats_records.specs.declared.record.Algorithm.{Algorithm};
 ghost use Rattle.ats_records.specs.declared.record.Algorithm.TheVariants.{Tnra};
 ghost use Rattle.ats_terms.specs.Query.{IsQuery};
-ghost use Rattle.ats_bound.specs.Cut.{threshold};
+ghost use Rattle.ats_bound.specs.Cut.{threshold as threshold_of};
 ghost use Rattle.ats_proof.specs.Value.{algorithm_of};
 ghost use Rattle.ats_proof.specs.Views.{proof_of};
 ghost use Rattle.ats_client.specs.Presented.{lanes_of};
@@ -41,22 +41,22 @@ fn checked<'a, H: Hash32>(
     requires count { steps.old ≤ 2 ^ 62 }
     ensures accepts { OnOk result (Accepts H.hash root.now query.now top (proof_of proof.now)) }
     ensures asked { OnOk result (IsQuery query.now) }
-    ensures limit { IfOk result (λ limit. limit ≡ threshold (lanes_of query.now (proof_of proof.now))) }
+    ensures threshold { IfOk result (λ threshold. threshold ≡ threshold_of (lanes_of query.now (proof_of proof.now))) }
     ensures marks { OnOk result (AreMarks (bounds_of (proof_of proof.now)) (lanes_of query.now (proof_of proof.now)) (proof_of proof.now).met work.new.marks) }
-    ensures left { IfOk result (λ limit. IsLeft query.now (proof_of proof.now) work.new.marks limit) }
+    ensures left { IfOk result (λ threshold. IsLeft query.now (proof_of proof.now) work.new.marks threshold) }
     ensures refused { IfErr result (λ refusal. IsFirstRefusal H.hash root.now query.now top (proof_of proof.now) refusal) }
     ensures room { work.new.room ≡ work.old.room }
 {
     opened::<H>(root, query, proof, steps)?;
     dictionary::<H>(proof, steps)?;
     slots(query, proof, steps)?;
-    let limit = lists::<H>(query, proof, work, steps)?;
+    let threshold = lists::<H>(query, proof, work, steps)?;
     met(proof, work, steps)?;
     rows(proof, work, steps)?;
-    if !settled(proof, work, limit, top, steps) {
+    if !settled(proof, work, threshold, top, steps) {
         return Err(Refusal::NotSettled);
     }
-    Ok(limit)
+    Ok(threshold)
 }
 
 /// Tries whether a proof shows that its answer is right: the best `top` documents for the query in the
@@ -78,9 +78,9 @@ pub fn check<'a, H: Hash32>(
     ensures accepts { OnOk result (Accepts H.hash root.now query.now top (proof_of proof.now)) }
     ensures headline { OnOk result (IsTopOrCollides H.hash root.now query.now top (proof_of proof.now)) }
     ensures exact { Accepts H.hash root.now query.now top (proof_of proof.now) → IsOk result }
-    ensures limit { IfOk result (λ limit. limit ≡ threshold (lanes_of query.now (proof_of proof.now))) }
+    ensures threshold { IfOk result (λ threshold. threshold ≡ threshold_of (lanes_of query.now (proof_of proof.now))) }
     ensures marks { OnOk result (AreMarks (bounds_of (proof_of proof.now)) (lanes_of query.now (proof_of proof.now)) (proof_of proof.now).met work.new.marks) }
-    ensures left { IfOk result (λ limit. IsLeft query.now (proof_of proof.now) work.new.marks limit) }
+    ensures left { IfOk result (λ threshold. IsLeft query.now (proof_of proof.now) work.new.marks threshold) }
     ensures refused { IfErr result (λ refusal. IsFirstRefusal H.hash root.now query.now top (proof_of proof.now) refusal) }
     ensures room { work.new.room ≡ work.old.room }
 {

@@ -1,38 +1,45 @@
 //! Why bytes are not accepted.
 
 ghost use Rattle.std.specs.Prelude.{◌≡◌};
-ghost use Rattle.ats_client.specs.declared.fault.VerifyFault.TheVariants.{Shape, Refused, OutOfMemory};
+ghost use Rattle.ats_client.specs.declared.fault.Rejection.TheVariants.{Shape, Check};
+ghost use Rattle.ats_client.specs.declared.fault.VerifyFault.TheVariants.{Rejected, OutOfMemory};
 
 use crate::refusal::Refusal;
 use ats_proof::ShapeFault;
 
-/// What is wrong with bytes that are not accepted: their shape, their algorithm, or the first rule that the proof does not
-/// keep. Want of memory says nothing of them.
+/// What is wrong with bytes as a proof: their shape, their algorithm, or the first rule that the proof does not keep.
 #[derive(Clone, Copy, Debug, PartialEq, Eq)]
-pub enum VerifyFault {
+pub enum Rejection {
     /// The bytes spell no proof.
     Shape(ShapeFault),
     /// They spell a proof by random access, which is not checked.
     Tra,
     /// The first rule that the proof does not keep.
-    Refused(Refusal),
-    /// Memory was wanted and not there.
+    Check(Refusal),
+}
+
+/// Why no rows were answered.
+#[derive(Clone, Copy, Debug, PartialEq, Eq)]
+pub enum VerifyFault {
+    /// The bytes are not accepted.
+    Rejected(Rejection),
+    /// Memory was wanted and not there, which says nothing of the bytes.
     OutOfMemory,
 }
 
 impl From<ShapeFault> for VerifyFault {
-    ghost from_gives = { λ shape fault. fault ≡ Shape shape };
+    ghost from_gives = { λ shape fault. fault ≡ Rejected (Shape shape) };
 
     fn from(shape: ShapeFault) -> Self {
-        VerifyFault::Shape(shape)
+        VerifyFault::Rejected(Rejection::Shape(shape))
     }
 }
 
 impl From<Refusal> for VerifyFault {
-    ghost from_gives = { λ refusal fault. fault ≡ Refused refusal };
+    ghost from_gives = { λ refusal fault. fault ≡ Rejected (Check refusal) };
 
     fn from(refusal: Refusal) -> Self {
-        VerifyFault::Refused(refusal)
+        VerifyFault::Rejected(Rejection::Check(refusal))
     }
 }
 

@@ -7,7 +7,7 @@
 //! The room stands on the proof that `ats_proof` sees in its bytes, on the trees of `ats_tree`, and on the
 //! cuts and settled answers of `ats_bound`. It promises that a proof is accepted exactly where all rules of
 //! `specs/Accepts.antt` hold, else refused by the first that fails, and that an accepted answer is a top
-//! answer for each collection with the root, or two different strings with equal digests are in hand
+//! answer for each archive with the root, or two different strings with equal digests are in hand
 //! (`specs/Headline.antt`). In which passes leaves and entries are read, and what the marks note beside the
 //! bounds, may change without asking.
 #![tactic(auto)]
@@ -38,10 +38,10 @@ mod walk;
 
 pub use answer::row;
 pub use checking::check;
-pub use fault::VerifyFault;
+pub use fault::{Rejection, VerifyFault};
 pub use laws::{
-    accepted_answers_are_top, own_leaves_make_rows_right, proofs_have_one_refusal,
-    shown_leaves_are_bound,
+    accepted_answers_are_top, bytes_have_one_rejection, own_leaves_make_rows_right,
+    proofs_have_one_refusal, shown_leaves_are_bound,
 };
 pub use refusal::Refusal;
 pub use verifying::verify;

@@ -3,6 +3,7 @@
 ghost use Rattle.std.specs.Prelude.{◌≡◌, ◌<◌, ◌≤◌, ◌+◌, ◌^◌, ◌++◌, List, [], Some, length, OnOk, IfOk, IfErr};
 ghost use Rattle.std.specs.List.{All};
 ghost use Rattle.ats_bound.specs.Cut.{rest};
+ghost use Rattle.ats_proof.specs.Value.{layout_of};
 ghost use Rattle.ats_proof.specs.Views.{proof_of};
 ghost use Rattle.ats_client.specs.Groups.{IsListRight, IsListFault, IsListRootFault, list_digest};
 ghost use Rattle.ats_client.specs.Noting.{Note, AreNotes, index_lane, lane_notes};
@@ -26,8 +27,8 @@ fn rooted<'a, H: Hash32>(
 ) -> Result<(), Refusal>
     requires named { All (λ e. e.doc < length (proof_of proof.now).met) (prefix_of one.now.list).entries }
     requires room { steps.old ≤ 2 ^ 63 }
-    ensures kept { OnOk result (list_digest H.hash (proof_of proof.now).met (presented_of one.now) ≡ Some (presented_of one.now).entry.root) }
-    ensures fault { IfErr result (IsListRootFault H.hash (proof_of proof.now).met (presented_of one.now)) }
+    ensures kept { OnOk result (list_digest H.hash (layout_of (proof_of proof.now)) (proof_of proof.now).met (presented_of one.now) ≡ Some (presented_of one.now).entry.root) }
+    ensures fault { IfErr result (IsListRootFault H.hash (layout_of (proof_of proof.now)) (proof_of proof.now).met (presented_of one.now)) }
     ensures cost { steps.new ≤ steps.old + 2 ^ 34 }
 {
     let mut section = one.list.revealed(proof);
@@ -51,19 +52,19 @@ pub(crate) fn list<'a, H: Hash32>(
     requires number { one.now.number < 32 }
     requires notes { (notes : List Note) × AreNotes (length (proof_of proof.now).met) notes (one.now.number + 1) [] work.old.marks }
     requires room { steps.old ≤ 2 ^ 62 + 2 ^ 45 }
-    ensures fault { IfErr result (IsListFault H.hash (proof_of proof.now).met (presented_of one.now)) }
-    ensures right { OnOk result (IsListRight H.hash (proof_of proof.now).met (presented_of one.now)) }
+    ensures fault { IfErr result (IsListFault H.hash (layout_of (proof_of proof.now)) (proof_of proof.now).met (presented_of one.now)) }
+    ensures right { OnOk result (IsListRight H.hash (layout_of (proof_of proof.now)) (proof_of proof.now).met (presented_of one.now)) }
     ensures notes { OnOk result ((notes : List Note) → AreNotes (length (proof_of proof.now).met) notes (one.now.number + 1) [] work.old.marks
         → AreNotes (length (proof_of proof.now).met) (notes ++ lane_notes (index_lane (proof_of proof.now).header.documents (presented_of one.now))) (one.now.number + 2) [] work.new.marks) }
-    ensures rest { IfOk result (λ cover. cover ≡ rest (index_lane (proof_of proof.now).header.documents (presented_of one.now))) }
-    ensures small { IfOk result (λ cover. cover ≤ 2 ^ 33) }
+    ensures rest { IfOk result (λ most. most ≡ rest (index_lane (proof_of proof.now).header.documents (presented_of one.now))) }
+    ensures small { IfOk result (λ most. most ≤ 2 ^ 33) }
     ensures room { work.new.room ≡ work.old.room }
     ensures cost { steps.new ≤ steps.old + 2 ^ 36 }
 {
     let coefficient = u32::from(one.weight) * idf(proof.header().documents, one.entry.f);
     let impact = rest_impact(&one.list, one.entry.f, steps);
-    let cover = weighed(coefficient, impact);
-    entries(one, proof.met(), coefficient, cover, work, steps)?;
+    let rest = weighed(coefficient, impact);
+    entries(one, proof.met(), coefficient, rest, work, steps)?;
     rooted::<H>(one, proof, steps)?;
-    Ok(cover)
+    Ok(rest)
 }

@@ -1,7 +1,7 @@
 //! The prefixes of all present terms.
 
 ghost use Rattle.std.specs.Prelude.{◌≡◌, ◌<◌, ◌≤◌, ◌+◌, ◌^◌, [], length, OnOk, IfOk, IfErr};
-ghost use Rattle.ats_bound.specs.Cut.{bracket, threshold};
+ghost use Rattle.ats_bound.specs.Cut.{bracket, threshold as threshold_of};
 ghost use Rattle.ats_proof.specs.Views.{proof_of};
 ghost use Rattle.ats_client.specs.Presented.{lanes_of};
 ghost use Rattle.ats_client.specs.Groups.{AreSlotsRight, AreListsRight, IsListsFault};
@@ -32,19 +32,19 @@ pub(crate) fn lists<'a, H: Hash32>(
     ensures right { OnOk result (AreListsRight H.hash query.now (proof_of proof.now)) }
     ensures marks { OnOk result (AreMarks bracket (lanes_of query.now (proof_of proof.now)) (proof_of proof.now).met work.new.marks) }
     ensures free { OnOk result (AreNoted [] work.new.marks) }
-    ensures rest { IfOk result (λ limit. limit ≡ threshold (lanes_of query.now (proof_of proof.now))) }
-    ensures small { IfOk result (λ limit. limit < 2 ^ 48) }
+    ensures threshold { IfOk result (λ threshold. threshold ≡ threshold_of (lanes_of query.now (proof_of proof.now))) }
+    ensures small { IfOk result (λ threshold. threshold < 2 ^ 48) }
     ensures room { work.new.room ≡ work.old.room }
     ensures cost { steps.new ≤ steps.old + 2 ^ 42 }
 {
     work.begin(proof.met(), steps);
     let mut walk = Walk::over(proof.dict());
     let mut left = proof.lists();
-    let mut limit = 0;
+    let mut threshold = 0;
     for i in 0..query.len() {
         if let Some(one) = present(query, proof, i as u32, &mut walk, &mut left, steps) {
-            limit += list::<H>(&one, proof, work, steps)?;
+            threshold += list::<H>(&one, proof, work, steps)?;
         }
     }
-    Ok(limit)
+    Ok(threshold)
 }

@@ -30,13 +30,13 @@ pub(crate) fn rest_impact(list: &ListView<'_>, total: u32, steps: &mut Steps) ->
 
 // Notes an entry of a list, counted from 1, in the mark of its document. It answers false, and notes
 // nothing, where the list has named the document before.
-fn noted(work: &mut Work, index: u32, list: u32, gain: u64, cover: u64, steps: &mut Steps) -> bool
+fn noted(work: &mut Work, index: u32, list: u32, gain: u64, rest: u64, steps: &mut Steps) -> bool
     requires inside { index < length work.old.marks }
     requires lo { (mark_at work.old.marks index).lo + gain < 2 ^ 64 }
-    requires held { (mark_at work.old.marks index).held + cover < 2 ^ 64 }
+    requires held { (mark_at work.old.marks index).held + rest < 2 ^ 64 }
     requires room { steps.old ≤ 2 ^ 63 }
     ensures first { IsTrue result ↔ ((mark_at work.old.marks index).list ≢ list) }
-    ensures marks { IsTrue result → work.new ≡ record { marks = slice_set work.old.marks index (with_note (mark_at work.old.marks index) list gain cover); room = work.old.room } }
+    ensures marks { IsTrue result → work.new ≡ record { marks = slice_set work.old.marks index (with_note (mark_at work.old.marks index) list gain rest); room = work.old.room } }
     ensures room { work.new.room ≡ work.old.room }
     ensures cost { steps.new ≤ steps.old + 2 }
 {
@@ -46,7 +46,7 @@ fn noted(work: &mut Work, index: u32, list: u32, gain: u64, cover: u64, steps: &
     }
     let mark = Mark {
         lo: mark.lo + gain,
-        held: mark.held + cover,
+        held: mark.held + rest,
         list,
         row: mark.row,
     };
@@ -69,19 +69,19 @@ pub(crate) fn entries(
     one: &Present<'_>,
     met: u32,
     coefficient: u32,
-    cover: u64,
+    rest: u64,
     work: &mut Work,
     steps: &mut Steps,
 ) -> Result<(), Refusal>
     requires number { one.now.number < 32 }
     requires coefficient { coefficient ≤ 2 ^ 17 }
-    requires cover { cover ≤ 2 ^ 33 }
+    requires rest { rest ≤ 2 ^ 33 }
     requires notes { (notes : List Note) × AreNotes met notes (one.now.number + 1) [] work.old.marks }
     requires room { steps.old ≤ 2 ^ 62 + 2 ^ 50 }
     ensures fault { IfErr result (IsEntryFault met (presented_of one.now)) }
     ensures names { OnOk result (AreNames met (indexes_of (prefix_of one.now.list).entries)) }
     ensures notes { OnOk result ((notes : List Note) → AreNotes met notes (one.now.number + 1) [] work.old.marks
-        → AreNotes met (notes ++ map (note coefficient cover) (prefix_of one.now.list).entries) (one.now.number + 1) (indexes_of (prefix_of one.now.list).entries) work.new.marks) }
+        → AreNotes met (notes ++ map (note coefficient rest) (prefix_of one.now.list).entries) (one.now.number + 1) (indexes_of (prefix_of one.now.list).entries) work.new.marks) }
     ensures room { work.new.room ≡ work.old.room }
     ensures cost { steps.new ≤ steps.old + 2 ^ 34 }
 {
@@ -94,7 +94,7 @@ pub(crate) fn entries(
             });
         }
         let gain = weighed(coefficient, entry.impact);
-        if !noted(work, entry.doc, one.number + 1, gain, cover, steps) {
+        if !noted(work, entry.doc, one.number + 1, gain, rest, steps) {
             return Err(Refusal::Repeated {
                 term: one.number,
                 entry: i,

@@ -2,10 +2,10 @@
 
 ghost use Rattle.std.specs.Prelude.{◌≡◌, ◌⊎◌, ◌↔◌, ◌+◌, ◌*◌, ◌≤◌, ◌<◌, ◌^◌, ℕ, List, length, IsTrue, MatchOption};
 ghost use Rattle.std.specs.List.{All};
-ghost use Rattle.ats_bound.specs.Cut.{ShownLane, threshold};
+ghost use Rattle.ats_bound.specs.Cut.{ShownLane, threshold as threshold_of};
 ghost use Rattle.ats_bound.specs.Schedule.{Bounding};
 ghost use Rattle.ats_proof.specs.Views.{proof_of};
-ghost use Rattle.ats_client.specs.Bounds.{upper, AreBelow, lower_before, AreFalling, IsRestWithin};
+ghost use Rattle.ats_client.specs.Bounds.{upper, AreBelow, lower_before, AreFalling, AreOthersWithin};
 ghost use Rattle.ats_client.specs.Groups.{AreRowsRight, IsAnswerSettled};
 ghost use Rattle.ats_client.specs.Marked.{AreMarks, AreNoted};
 
@@ -14,32 +14,32 @@ use ats_hash::Steps;
 use ats_impact::Top;
 use ats_proof::ProofView;
 
-/// What a document scores at most, where no document that is not met scores more than the limit.
-pub(crate) fn upper(mark: Mark, limit: u64) -> u64
-    requires held { mark.held ≤ limit }
-    requires small { mark.lo + limit < 2 ^ 64 }
-    ensures { result ≡ upper limit mark }
+/// What a document scores at most, where no document that is not met scores more than the threshold.
+pub(crate) fn upper(mark: Mark, threshold: u64) -> u64
+    requires held { mark.held ≤ threshold }
+    requires small { mark.lo + threshold < 2 ^ 64 }
+    ensures { result ≡ upper threshold mark }
 {
-    mark.lo + (limit - mark.held)
+    mark.lo + (threshold - mark.held)
 }
 
 // Whether an answer has as many rows as it may have, or a row for each met document where no other can
 // score.
-fn is_whole(rows: u32, most: u32, met: u32, limit: u64) -> bool
-    ensures { IsTrue result ↔ ((rows ≤ most) × ((rows ≡ most) ⊎ ((met ≤ rows) × (limit ≡ 0)))) }
+fn is_whole(rows: u32, most: u32, met: u32, threshold: u64) -> bool
+    ensures { IsTrue result ↔ ((rows ≤ most) × ((rows ≡ most) ⊎ ((met ≤ rows) × (threshold ≡ 0)))) }
 {
-    rows == most || (rows < most && met <= rows && limit == 0)
+    rows == most || (rows < most && met <= rows && threshold == 0)
 }
 
 // What the last row scores at least, the greatest number where there is none. Nothing if some row can
 // score more than the row before it scores at least.
-fn last_lower(proof: &ProofView<'_>, work: &Work, limit: u64, steps: &mut Steps) -> Option<u64>
+fn last_lower(proof: &ProofView<'_>, work: &Work, threshold: u64, steps: &mut Steps) -> Option<u64>
     requires rows { All (λ index. index < length work.now.marks) (proof_of proof.now).answer }
-    requires below { AreBelow limit work.now.marks }
+    requires below { AreBelow threshold work.now.marks }
     requires count { steps.old ≤ 2 ^ 63 }
     ensures falling { MatchOption result
-        (¬ AreFalling limit work.now.marks (proof_of proof.now).answer (length (proof_of proof.now).answer))
-        (λ score. AreFalling limit work.now.marks (proof_of proof.now).answer (length (proof_of proof.now).answer)
+        (¬ AreFalling threshold work.now.marks (proof_of proof.now).answer (length (proof_of proof.now).answer))
+        (λ score. AreFalling threshold work.now.marks (proof_of proof.now).answer (length (proof_of proof.now).answer)
         × (score ≡ lower_before work.now.marks (proof_of proof.now).answer (length (proof_of proof.now).answer))) }
     ensures least { steps.old ≤ steps.new }
     ensures most { steps.new ≤ steps.old + 2 * length (proof_of proof.now).answer }
@@ -47,7 +47,7 @@ fn last_lower(proof: &ProofView<'_>, work: &Work, limit: u64, steps: &mut Steps)
     let mut score = u64::MAX;
     for k in 0..proof.answers() {
         let mark = work.get(proof.answer(k, steps), steps);
-        if upper(mark, limit) > score {
+        if upper(mark, threshold) > score {
             return None;
         }
         score = mark.lo;
@@ -56,17 +56,17 @@ fn last_lower(proof: &ProofView<'_>, work: &Work, limit: u64, steps: &mut Steps)
 }
 
 // Whether no document outside the answer can score more than this.
-fn rest_is_within(marks: u32, work: &Work, limit: u64, score: u64, steps: &mut Steps) -> bool
+fn others_are_within(marks: u32, work: &Work, threshold: u64, score: u64, steps: &mut Steps) -> bool
     requires all { marks ≡ length work.now.marks }
-    requires below { AreBelow limit work.now.marks }
+    requires below { AreBelow threshold work.now.marks }
     requires count { steps.old ≤ 2 ^ 63 }
-    ensures within { IsTrue result ↔ IsRestWithin limit work.now.marks score }
+    ensures within { IsTrue result ↔ AreOthersWithin threshold work.now.marks score }
     ensures least { steps.old ≤ steps.new }
     ensures most { steps.new ≤ steps.old + marks }
 {
     for i in 0..marks {
         let mark = work.get(i, steps);
-        if !mark.row && upper(mark, limit) > score {
+        if !mark.row && upper(mark, threshold) > score {
             return false;
         }
     }
@@ -75,31 +75,31 @@ fn rest_is_within(marks: u32, work: &Work, limit: u64, score: u64, steps: &mut S
 
 /// Whether what is shown settles the answer. Each row and each mark is read once.
 ///
-/// The limit is what a document that is not met can score at most. An answer with fewer rows than it may
+/// The threshold is what a document that is not met can score at most. An answer with fewer rows than it may
 /// have is settled only where each met document has a row, and no other can score.
 pub(crate) fn settled(
     proof: &ProofView<'_>,
     work: &Work,
-    limit: u64,
+    threshold: u64,
     top: Top,
     steps: &mut Steps,
 ) -> bool
-    requires marks { (bounds : Bounding) × (lanes : List ShownLane) × AreMarks bounds lanes (proof_of proof.now).met work.now.marks × (limit ≡ threshold lanes) }
-    requires small { limit < 2 ^ 48 }
+    requires marks { (bounds : Bounding) × (lanes : List ShownLane) × AreMarks bounds lanes (proof_of proof.now).met work.now.marks × (threshold ≡ threshold_of lanes) }
+    requires small { threshold < 2 ^ 48 }
     requires rows { AreRowsRight (proof_of proof.now).met (proof_of proof.now).answer }
     requires noted { AreNoted (proof_of proof.now).answer work.now.marks }
     requires count { steps.old ≤ 2 ^ 62 + 2 ^ 50 }
-    ensures settled { (bounds : Bounding) (lanes : List ShownLane) → AreMarks bounds lanes (proof_of proof.now).met work.now.marks → limit ≡ threshold lanes
+    ensures settled { (bounds : Bounding) (lanes : List ShownLane) → AreMarks bounds lanes (proof_of proof.now).met work.now.marks → threshold ≡ threshold_of lanes
         → (IsTrue result ↔ IsAnswerSettled bounds lanes (proof_of proof.now).met (proof_of proof.now).answer top) }
     ensures least { steps.old ≤ steps.new }
     ensures most { steps.new ≤ steps.old + 2 * length (proof_of proof.now).answer + length (proof_of proof.now).met }
 {
     let met = proof.met();
-    if !is_whole(proof.answers(), top.get(), met, limit) {
+    if !is_whole(proof.answers(), top.get(), met, threshold) {
         return false;
     }
-    match last_lower(proof, work, limit, steps) {
+    match last_lower(proof, work, threshold, steps) {
         None => false,
-        Some(score) => limit <= score && rest_is_within(met, work, limit, score, steps),
+        Some(score) => threshold <= score && others_are_within(met, work, threshold, score, steps),
     }
 }

@@ -49,11 +49,11 @@ fn first_row(alloc: Global, bytes: &[u8], query: &str) -> Result<Row, Fail> {
     let top = Top::new(1)?;
     let mut work = Work::with_room(alloc, proof.met())?;
     let mut steps = Steps::new(alloc);
-    let Ok(limit) = check::<Sha>(&ROOT, &query, top, &proof, &mut work, &mut steps) else {
+    let Ok(threshold) = check::<Sha>(&ROOT, &query, top, &proof, &mut work, &mut steps) else {
         return Err(Fail::from("it is accepted"));
     };
     let mut more = Steps::new(alloc);
-    Ok(row(&proof, &work, limit, 0, &mut more))
+    Ok(row(&proof, &work, threshold, 0, &mut more))
 }
 
 #[test]

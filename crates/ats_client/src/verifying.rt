@@ -7,11 +7,11 @@ ghost use Rattle.ats_proof.specs.Views.{proof_of, bytes_of};
 ghost use Rattle.ats_client.specs.Accepts.{Accepts};
 ghost use Rattle.ats_client.specs.Headline.{IsTopOrCollides};
 ghost use Rattle.ats_client.specs.Rows.{IsLeft, rows_of};
-ghost use Rattle.ats_client.specs.Bytes.{AreVerifiedRows, IsRejectedBytes, IsProofFault};
+ghost use Rattle.ats_client.specs.Bytes.{AreVerifiedRows, IsVerifyFault, IsProofFault};
 
 use crate::answer::row;
 use crate::checking::check;
-use crate::fault::VerifyFault;
+use crate::fault::{Rejection, VerifyFault};
 use ats_bound::Work;
 use ats_hash::{Hash32, Steps};
 use ats_impact::{OutOfMemory, Rows, Top};
@@ -24,15 +24,15 @@ fn answer_rows(
     alloc: Global,
     proof: &ProofView<'_>,
     work: &Work,
-    limit: u64,
+    threshold: u64,
 ) -> Result<Rows, OutOfMemory>
-    requires left { (query : List (List ℕ × ℕ)) × IsLeft query (proof_of proof.now) work.now.marks limit }
-    ensures rows { (query : List (List ℕ × ℕ)) → IsLeft query (proof_of proof.now) work.now.marks limit → IfOk result (λ rows. rows ≡ rows_of query (proof_of proof.now)) }
+    requires left { (query : List (List ℕ × ℕ)) × IsLeft query (proof_of proof.now) work.now.marks threshold }
+    ensures rows { (query : List (List ℕ × ℕ)) → IsLeft query (proof_of proof.now) work.now.marks threshold → IfOk result (λ rows. rows ≡ rows_of query (proof_of proof.now)) }
 {
     let mut steps = Steps::new(alloc);
     let mut rows = Rows::new(alloc);
     for i in 0..proof.answers() {
-        rows.push(row(proof, work, limit, i, &mut steps))?;
+        rows.push(row(proof, work, threshold, i, &mut steps))?;
     }
     Ok(rows)
 }
@@ -53,8 +53,8 @@ fn checked_rows<H: Hash32>(
 {
     let mut steps = Steps::new(alloc);
     let mut work = Work::with_room(alloc, proof.met())?;
-    let limit = check::<H>(root, query, top, proof, &mut work, &mut steps)?;
-    let rows = answer_rows(alloc, proof, &work, limit)?;
+    let threshold = check::<H>(root, query, top, proof, &mut work, &mut steps)?;
+    let rows = answer_rows(alloc, proof, &work, threshold)?;
     Ok(rows)
 }
 
@@ -69,11 +69,11 @@ pub fn verify<H: Hash32>(
     top: Top,
 ) -> Result<Rows, VerifyFault>
     ensures rows { IfOk result (AreVerifiedRows H.hash root.now query.now top bytes.now) }
-    ensures fault { IfErr result (IsRejectedBytes H.hash root.now query.now top bytes.now) }
+    ensures fault { IfErr result (IsVerifyFault H.hash root.now query.now top bytes.now) }
 {
     let proof = ProofView::read(bytes)?;
     match proof.algorithm() {
-        Algorithm::Tra => Err(VerifyFault::Tra),
+        Algorithm::Tra => Err(VerifyFault::Rejected(Rejection::Tra)),
         Algorithm::Tnra => checked_rows::<H>(alloc, root, query, top, &proof),
     }
 }

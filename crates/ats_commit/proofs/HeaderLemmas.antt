@@ -1,4 +1,4 @@
--- The parts of a collection's header.
+-- The parts of an archive's header.
 use Rattle.std.proofs.Common.{◌≡◌, ◌+◌, ◌≤◌, ◌^◌, ℕ, List, [], ◌∷◌, ◌++◌, length, ap, arith, length-append}
 use Rattle.std.specs.Int.{to_be_bytes, w32}
 use Rattle.ats_tree.specs.Tree.{Tree, empty, leaf, node, tree_of, digest_of, mth}
@@ -8,6 +8,7 @@ use Rattle.ats_lists.specs.Lists.{vocabulary}
 use Rattle.ats_lists.proofs.VocabularyLemmas.{vocabulary_few}
 use Rattle.ats_dict.specs.Dictionary.{dict_leaves}
 use Rattle.ats_dict.specs.Header.{header_bytes}
+use Rattle.ats_commit.specs.Archive.{Archive}
 use Rattle.ats_commit.specs.Trees.{dictionary_of, documents_of}
 use Rattle.ats_commit.specs.Root.{header_of, HasHeaderInRange}
 use Rattle.ats_commit.proofs.DictionaryLemmas.{dictionary_count}
@@ -22,17 +23,17 @@ module _ (H : List ℕ → List ℕ) (sized : (bytes : List ℕ) → length (H b
   length-mth : (ds : List (List ℕ)) → length (mth H ds) ≡ 32
   length-mth ds = length-digest_of (tree_of ds)
 
-  pub header_in_range : (texts : List (List ℕ)) → AreWithin texts → total_terms texts ≤ 2 ^ 24 → HasHeaderInRange H texts
-  header_in_range texts within few = record {
+  pub header_in_range : (archive : Archive) → AreWithin archive.texts → total_terms archive.texts ≤ 2 ^ 24 → HasHeaderInRange H archive
+  header_in_range archive within few = record {
     numbers = record {
       some = within.some;
       few = within.few;
-      sentinels = omega (arith, dictionary_count H texts);
-      terms = omega (arith, dictionary_count H texts, vocabulary_few texts);
+      sentinels = omega (arith, dictionary_count H archive);
+      terms = omega (arith, dictionary_count H archive, vocabulary_few archive.texts);
     };
-    dict = length-mth (dict_leaves (dictionary_of H texts));
-    docs = length-mth (documents_of H texts);
-    texts = length-mth texts;
+    dict = length-mth (dict_leaves (dictionary_of H archive));
+    docs = length-mth (documents_of H archive.texts);
+    texts = length-mth archive.texts;
   }
 
   length-parts : (n d : ℕ) (a b c : List ℕ) → length a ≡ 32 → length b ≡ 32 → length c ≡ 32 → length (header_bytes n d a b c) ≡ 105
@@ -41,15 +42,15 @@ module _ (H : List ℕ → List ℕ) (sized : (bytes : List ℕ) → length (H b
       let front : List ℕ = 1 ∷ to_be_bytes w32 n ++ to_be_bytes w32 d in
       omega (arith, first, second, third, length-append (front ++ a ++ b) c, length-append (front ++ a) b, length-append front a)
 
-  pub length-header : (texts : List (List ℕ)) → length (header_of H texts) ≡ 105
-  length-header texts =
-      length-parts (length texts) (length (dict_leaves (dictionary_of H texts))) (mth H (dict_leaves (dictionary_of H texts))) (mth H (documents_of H texts)) (mth H texts)
-      (length-mth (dict_leaves (dictionary_of H texts))) (length-mth (documents_of H texts)) (length-mth texts)
+  pub length-header : (archive : Archive) → length (header_of H archive) ≡ 105
+  length-header archive =
+      length-parts (length archive.texts) (length (dict_leaves (dictionary_of H archive))) (mth H (dict_leaves (dictionary_of H archive))) (mth H (documents_of H archive.texts)) (mth H archive.texts)
+      (length-mth (dict_leaves (dictionary_of H archive))) (length-mth (documents_of H archive.texts)) (length-mth archive.texts)
 
 -- the bytes of the header, one part after another
-pub header_parts : (H : List ℕ → List ℕ) (texts : List (List ℕ)) → header_of H texts
-    ≡ 1 ∷ to_be_bytes w32 (length texts) ++ to_be_bytes w32 (length (vocabulary texts) + 2)
-    ++ mth H (dict_leaves (dictionary_of H texts)) ++ mth H (documents_of H texts) ++ mth H texts
+pub header_parts : (H : List ℕ → List ℕ) (archive : Archive) → header_of H archive
+    ≡ 1 ∷ to_be_bytes w32 (length archive.texts) ++ to_be_bytes w32 (length (vocabulary archive.texts) + 2)
+    ++ mth H (dict_leaves (dictionary_of H archive)) ++ mth H (documents_of H archive.texts) ++ mth H archive.texts
 unfolding header_bytes
-header_parts H texts =
-    ap (λ d. header_bytes (length texts) d (mth H (dict_leaves (dictionary_of H texts))) (mth H (documents_of H texts)) (mth H texts)) (dictionary_count H texts)
+header_parts H archive =
+    ap (λ d. header_bytes (length archive.texts) d (mth H (dict_leaves (dictionary_of H archive))) (mth H (documents_of H archive.texts)) (mth H archive.texts)) (dictionary_count H archive)

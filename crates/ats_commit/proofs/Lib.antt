@@ -1,6 +1,8 @@
 pub mod DictionaryLemmas
 pub mod HeaderLemmas
 pub mod TermLemmas
+pub mod Layouts
+pub mod PrefixLemmas
 pub mod OwnHeader
 pub mod OwnLeaves
 pub mod OwnStrings

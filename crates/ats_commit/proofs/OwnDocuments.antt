@@ -20,7 +20,7 @@ use Rattle.ats_doctree.proofs.Counts.{impact_in_range}
 use Rattle.ats_doctree.proofs.Documents.{doc_terms_rise, doc_terms_few, term_stands, impact_tells, none_stands}
 use Rattle.ats_doctree.proofs.LeafLemmas.{leaf_parts}
 use Rattle.ats_doctree.proofs.Positions.{item_at-suc, item_at-last, length-terms_leaves, get_or-terms_leaves}
-use Rattle.ats_commit.specs.Trees.{documents_of, terms_root}
+use Rattle.ats_commit.specs.Trees.{documents_of, documents_leaf}
 use Rattle.ats_commit.specs.Own.{AreTexts, IsDocumentOf, IsImpactOf, AreTermNeighbours}
 use Rattle.ats_commit.proofs.Enclosed.{at_each, none_between}
 use Rattle.ats_commit.proofs.TermLemmas.{few_terms}
@@ -96,7 +96,7 @@ pub leaf_tells_document : (H : List ℕ → List ℕ) (texts : List (List ℕ)) 
     → slice_get (documents_of H texts) doc ≡ Some (doc_leaf_bytes leaf.leaves leaf.root) → IsDocumentOf H texts doc leaf
 leaf_tells_document H texts are doc leaf small there =
     let leaves : List (List ℕ) = terms_leaves (doc_terms texts doc) in
-    let made : List ℕ → List ℕ = λ (text : List ℕ). terms_root H (terms_leaves (text_terms texts text)) in
+    let made : List ℕ → List ℕ = λ (text : List ℕ). documents_leaf H (terms_leaves (text_terms texts text)) in
     let bytes : List ℕ = doc_leaf_bytes leaf.leaves leaf.root in
     let inside : doc < length texts = omega (arith, slice_get_within (documents_of H texts) doc bytes there, length-map texts made) in
     let same : bytes ≡ doc_leaf_bytes (length leaves) (mth H leaves) =

@@ -1,10 +1,11 @@
--- What a header with the bytes of a collection's own says of it.
+-- What a header with the bytes of an archive's own says of it.
 use Rattle.std.proofs.Common.{◌≡◌, ◌∙◌, ℕ, List, length, sym, subst}
 use Rattle.ats_tree.specs.Tree.{mth}
 use Rattle.ats_dict.specs.Dictionary.{dict_leaves}
 use Rattle.ats_dict.specs.Header.{header_bytes, IsHeader}
 use Rattle.ats_dict.specs.declared.header.Header.{Header}
 use Rattle.ats_dict.proofs.HeaderLemmas.{AreParts, parts}
+use Rattle.ats_commit.specs.Archive.{Archive}
 use Rattle.ats_commit.specs.Trees.{dictionary_of, documents_of}
 use Rattle.ats_commit.specs.Root.{header_of}
 use Rattle.ats_commit.specs.Own.{AreTexts, IsHeaderOf}
@@ -12,19 +13,19 @@ use Rattle.ats_commit.proofs.HeaderLemmas.{header_in_range}
 use Rattle.ats_commit.proofs.TermLemmas.{few_within}
 
 -- both headers are in range, so that equal bytes have equal parts
-pub own_header : (H : List ℕ → List ℕ) → ((bytes : List ℕ) → length (H bytes) ≡ 32) → (texts : List (List ℕ)) (header : Header) → AreTexts texts
+pub own_header : (H : List ℕ → List ℕ) → ((bytes : List ℕ) → length (H bytes) ≡ 32) → (archive : Archive) (header : Header) → AreTexts archive.texts
     → IsHeader header.documents header.dict_leaves header.dict_root header.docs_root header.texts_root
-    → header_bytes header.documents header.dict_leaves header.dict_root header.docs_root header.texts_root ≡ header_of H texts
-    → IsHeaderOf H texts header
-own_header H sized texts header are is same =
-    let n : ℕ = length texts in
-    let leaves : List (List ℕ) = dict_leaves (dictionary_of H texts) in
+    → header_bytes header.documents header.dict_leaves header.dict_root header.docs_root header.texts_root ≡ header_of H archive
+    → IsHeaderOf H archive header
+own_header H sized archive header are is same =
+    let n : ℕ = length archive.texts in
+    let leaves : List (List ℕ) = dict_leaves (dictionary_of H archive) in
     let a : List ℕ = mth H leaves in
-    let b : List ℕ = mth H (documents_of H texts) in
-    let c : List ℕ = mth H texts in
+    let b : List ℕ = mth H (documents_of H archive.texts) in
+    let c : List ℕ = mth H archive.texts in
     let here = parts header.documents header.dict_leaves header.dict_root header.docs_root header.texts_root is in
-    let own : AreParts (header_of H texts) n (length leaves) a b c =
-    parts n (length leaves) a b c (header_in_range H sized texts are.within (few_within texts are.utf8 are.within)) in
+    let own : AreParts (header_of H archive) n (length leaves) a b c =
+    parts n (length leaves) a b c (header_in_range H sized archive are.within (few_within archive.texts are.utf8 are.within)) in
     let there : AreParts (header_bytes header.documents header.dict_leaves header.dict_root header.docs_root header.texts_root) n (length leaves) a b c =
     subst (λ (bytes : List ℕ). AreParts bytes n (length leaves) a b c) (sym same) own in
     record {

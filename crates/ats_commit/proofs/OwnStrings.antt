@@ -1,43 +1,52 @@
--- Where a collection's own strings stand, and where none stands.
+-- Where an archive's own strings stand, and where none stands.
 use Rattle.std.proofs.Common.{◌≡◌, ◌∙◌, ◌≤◌, ◌^◌, ℕ, List, [], ◌∷◌, length, map, nat_lt, IsSome, None, false, refl, ap, arith}
 use Rattle.std.proofs.lemmas.Bool.Decides.{nat_tests}
 use Rattle.std.proofs.lemmas.List.{nil_from_length}
 use Rattle.ats_tree.specs.Tree.{tree_of, tree_within}
-use Rattle.ats_tree.specs.Paths.{Path}
-use Rattle.ats_tree.specs.Strings.{string_at}
+use Rattle.ats_tree.specs.Nodes.{Node, by_path, depth_of}
+use Rattle.ats_tree.specs.Strings.{string_at, node_string}
 use Rattle.ats_tree.specs.declared.hashed.Tree.{Tree}
 use Rattle.ats_tree.specs.declared.hashed.Tree.TheVariants.{Header, Dictionary, List as ListOf, Documents, Terms}
-use Rattle.ats_tree.proofs.PathLemmas.{path-ours}
+use Rattle.ats_tree.proofs.NodeLemmas.{node-ours}
 use Rattle.ats_impact.specs.Score.{frequency}
 use Rattle.ats_lists.specs.Leaf.{leaf_bytes}
 use Rattle.ats_lists.specs.Lists.{list}
 use Rattle.ats_lists.proofs.WholeLemmas.{list_frequency}
+use Rattle.ats_lists.specs.declared.entry.Entry.{Entry}
+use Rattle.ats_commit.specs.Archive.{Layout, whole_lists, Archive}
+use Rattle.ats_commit.specs.Prefixes.{list_string}
 use Rattle.ats_commit.specs.Ours.{asked_term, own_leaves, own_string}
 
-module _ (H : List ℕ → List ℕ) (texts : List (List ℕ)) (query : List (List ℕ × ℕ)) where
-  -- no path is longer than its tree is high
-  pub own_within : (tree : Tree) (path : Path) (h : ℕ) → length (own_leaves H texts query tree) ≤ 2 ^ h
-      → IsSome (own_string H texts query tree path) → length path ≤ h
-  own_within Header [] h few there = omega arith
-  own_within Header (turn ∷ path) h few there = absurd (cc)
-  own_within Dictionary path h few there = path-ours H h (own_leaves H texts query Dictionary) path few there
-  own_within (ListOf number) path h few there = path-ours H h (own_leaves H texts query (ListOf number)) path few there
-  own_within Documents path h few there = path-ours H h (own_leaves H texts query Documents) path few there
-  own_within (Terms doc) path h few there = path-ours H h (own_leaves H texts query (Terms doc)) path few there
+module _ (H : List ℕ → List ℕ) (archive : Archive) (query : List (List ℕ × ℕ)) where
+  -- no node is deeper than its tree is high
+  list_within : (layout : Layout) (entries : List Entry) (node : Node) (h : ℕ) → length (map leaf_bytes entries) ≤ 2 ^ h
+      → IsSome (list_string H layout entries node) → depth_of node ≤ h
+  list_within whole_lists entries node h few there = node-ours H h (map leaf_bytes entries) node few there
 
-  none_in : (leaves : List (List ℕ)) (path : Path) → leaves ≡ [] → string_at H (tree_of leaves) path ≡ None
+  pub own_within : (tree : Tree) (node : Node) (h : ℕ) → length (own_leaves H archive query tree) ≤ 2 ^ h
+      → IsSome (own_string H archive query tree node) → depth_of node ≤ h
+  own_within Header (by_path []) h few there = omega arith
+  own_within Header (by_path (turn ∷ path)) h few there = absurd (cc)
+  own_within Dictionary node h few there = node-ours H h (own_leaves H archive query Dictionary) node few there
+  own_within (ListOf number) node h few there = list_within archive.layout (list archive.texts (asked_term query number)) node h few there
+  own_within Documents node h few there = node-ours H h (own_leaves H archive query Documents) node few there
+  own_within (Terms doc) node h few there = node-ours H h (own_leaves H archive query (Terms doc)) node few there
+
+  none_in : (leaves : List (List ℕ)) (node : Node) → leaves ≡ [] → node_string H leaves node ≡ None
   unfolding tree_of tree_within
-  none_in leaves path none = ap (λ (xs : List (List ℕ)). string_at H (tree_of xs) path) none
+  none_in leaves (by_path path) none = ap (λ (xs : List (List ℕ)). string_at H (tree_of xs) path) none
+
+  none_listed : (layout : Layout) (entries : List Entry) (node : Node) → entries ≡ [] → list_string H layout entries node ≡ None
+  none_listed whole_lists entries node none = none_in (map leaf_bytes entries) node (ap (map leaf_bytes) none)
 
   -- no string stands in the list of a term that no text has
-  pub none_in_list : (number : ℕ) (path : Path) → frequency (asked_term query number) texts ≡ 0 → own_string H texts query (ListOf number) path ≡ None
-  none_in_list number path none =
-      let term : List ℕ = asked_term query number in
-      none_in (map leaf_bytes (list texts term)) path
-      (ap (map leaf_bytes) (nil_from_length (list texts term) (list_frequency texts term ∙ none)))
+  pub none_in_list : (number : ℕ) (node : Node) → frequency (asked_term query number) archive.texts ≡ 0 → own_string H archive query (ListOf number) node ≡ None
+  none_in_list number node none =
+      let entries : List Entry = list archive.texts (asked_term query number) in
+      none_listed archive.layout entries node (nil_from_length entries (list_frequency archive.texts (asked_term query number) ∙ none))
 
   -- nor in the tree of a document past the last
-  pub none_past : (doc : ℕ) (path : Path) → length texts ≤ doc → own_string H texts query (Terms doc) path ≡ None
-  none_past doc path past =
-      let outside : nat_lt doc (length texts) ≡ false = grind (arith, nat_tests) in
-      none_in (own_leaves H texts query (Terms doc)) path (rw outside refl)
+  pub none_past : (doc : ℕ) (node : Node) → length archive.texts ≤ doc → own_string H archive query (Terms doc) node ≡ None
+  none_past doc node past =
+      let outside : nat_lt doc (length archive.texts) ≡ false = grind (arith, nat_tests) in
+      none_in (own_leaves H archive query (Terms doc)) node (rw outside refl)

@@ -1,3 +1,5 @@
+pub mod Archive
+pub mod Prefixes
 pub mod Trees
 pub mod Root
 pub mod Ours

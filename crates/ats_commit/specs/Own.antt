@@ -1,5 +1,5 @@
--- What strings of a collection's own say of it.
-use Rattle.std.specs.Prelude.{◌≡◌, ◌+◌, ◌<◌, ◌^◌, ℕ, List, [], Some, length, map, slice_get, slice_index_or}
+-- What strings of an archive's own say of it.
+use Rattle.std.specs.Prelude.{◌≡◌, ◌+◌, ◌<◌, ◌^◌, ℕ, List, [], Some, length, slice_get, slice_index_or}
 use Rattle.std.specs.List.{All}
 use Rattle.std.specs.Str.{IsUtf8}
 use Rattle.ats_tree.specs.Tree.{mth}
@@ -7,7 +7,6 @@ use Rattle.ats_terms.specs.Terms.{terms}
 use Rattle.ats_impact.specs.Limits.{AreWithin}
 use Rattle.ats_impact.specs.Numbers.{impact}
 use Rattle.ats_impact.specs.Score.{count, total_terms}
-use Rattle.ats_lists.specs.Leaf.{leaf_bytes}
 use Rattle.ats_lists.specs.Lists.{list}
 use Rattle.ats_dict.specs.Dictionary.{leaf_of, dict_leaves}
 use Rattle.ats_dict.specs.Entry.{DictEntry}
@@ -15,6 +14,7 @@ use Rattle.ats_dict.specs.declared.header.Header.{Header}
 use Rattle.ats_doctree.specs.Impacts.{doc_terms}
 use Rattle.ats_doctree.specs.Sentinels.{terms_leaves, leaf_bytes as term_bytes}
 use Rattle.ats_doctree.specs.declared.doc_leaf.DocLeaf.{DocLeaf}
+use Rattle.ats_commit.specs.Archive.{Archive, list_root}
 use Rattle.ats_commit.specs.Trees.{dictionary_of, documents_of}
 
 -- texts within the limits of a collection
@@ -22,18 +22,18 @@ pub record AreTexts (texts : List (List ℕ)) : Type 0 where
   pub utf8 : All IsUtf8 texts
   pub within : AreWithin texts
 
--- the numbers and roots are those of the collection's header
-pub record IsHeaderOf (H : List ℕ → List ℕ) (texts : List (List ℕ)) (header : Header) : Type 0 where
-  pub number : header.documents ≡ length texts
-  pub leaves : header.dict_leaves ≡ length (dict_leaves (dictionary_of H texts))
-  pub dictionary : header.dict_root ≡ mth H (dict_leaves (dictionary_of H texts))
-  pub all : header.docs_root ≡ mth H (documents_of H texts)
-  pub raw : header.texts_root ≡ mth H texts
+-- the numbers and roots are those of the archive's header
+pub record IsHeaderOf (H : List ℕ → List ℕ) (archive : Archive) (header : Header) : Type 0 where
+  pub number : header.documents ≡ length archive.texts
+  pub leaves : header.dict_leaves ≡ length (dict_leaves (dictionary_of H archive))
+  pub dictionary : header.dict_root ≡ mth H (dict_leaves (dictionary_of H archive))
+  pub all : header.docs_root ≡ mth H (documents_of H archive.texts)
+  pub raw : header.texts_root ≡ mth H archive.texts
 
 -- the number and the root are those of the list of the entry's term
-pub record IsEntryOf (H : List ℕ → List ℕ) (texts : List (List ℕ)) (entry : DictEntry) : Type 0 where
-  pub number : entry.f ≡ length (list texts entry.term)
-  pub list_root : entry.root ≡ mth H (map leaf_bytes (list texts entry.term))
+pub record IsEntryOf (H : List ℕ → List ℕ) (archive : Archive) (entry : DictEntry) : Type 0 where
+  pub number : entry.f ≡ length (list archive.texts entry.term)
+  pub root : entry.root ≡ list_root H archive.layout (list archive.texts entry.term)
 
 -- the leaves at p and behind it are those of these two entries
 pub record AreNeighbours (leaves : List (List ℕ)) (p : ℕ) (lower upper : DictEntry) : Type 0 where

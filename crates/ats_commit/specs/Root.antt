@@ -1,30 +1,40 @@
--- The header of a collection, and the root that commits to all of it.
+-- The header of an archive, and the root that commits to all of it.
 use Rattle.std.specs.Prelude.{ℕ, List, ◌∷◌, length}
 use Rattle.ats_tree.specs.Tree.{mth}
 use Rattle.ats_dict.specs.Dictionary.{dict_leaves}
 use Rattle.ats_dict.specs.Header.{header_bytes, IsHeader}
+use Rattle.ats_dict.specs.declared.header.Header.{Header}
+use Rattle.ats_commit.specs.Archive.{Layout, Archive, header_tag}
 use Rattle.ats_commit.specs.Trees.{dictionary_of, documents_of}
 
 -- the numbers of documents and of dictionary leaves, and the roots of the dictionary, the documents and the texts
-abbrev pub header_of : (List ℕ → List ℕ) → List (List ℕ) → List ℕ
-header_of H texts =
+abbrev pub header_of : (List ℕ → List ℕ) → Archive → List ℕ
+header_of H archive =
     header_bytes
-    (length texts)
-    (length (dict_leaves (dictionary_of H texts)))
-    (mth H (dict_leaves (dictionary_of H texts)))
-    (mth H (documents_of H texts))
-    (mth H texts)
+    (length archive.texts)
+    (length (dict_leaves (dictionary_of H archive)))
+    (mth H (dict_leaves (dictionary_of H archive)))
+    (mth H (documents_of H archive.texts))
+    (mth H archive.texts)
 
 -- numbers and roots that a header can have
-abbrev pub HasHeaderInRange : (List ℕ → List ℕ) → List (List ℕ) → Type 0
-HasHeaderInRange H texts =
+abbrev pub HasHeaderInRange : (List ℕ → List ℕ) → Archive → Type 0
+HasHeaderInRange H archive =
     IsHeader
-    (length texts)
-    (length (dict_leaves (dictionary_of H texts)))
-    (mth H (dict_leaves (dictionary_of H texts)))
-    (mth H (documents_of H texts))
-    (mth H texts)
+    (length archive.texts)
+    (length (dict_leaves (dictionary_of H archive)))
+    (mth H (dict_leaves (dictionary_of H archive)))
+    (mth H (documents_of H archive.texts))
+    (mth H archive.texts)
 
--- the digest of the header under the tag 2
-abbrev pub root_of : (List ℕ → List ℕ) → List (List ℕ) → List ℕ
-root_of H texts = H (2 ∷ header_of H texts)
+-- the digest of the header under the tag of its layout
+abbrev pub root_of : (List ℕ → List ℕ) → Archive → List ℕ
+root_of H archive = H (header_tag archive.layout ∷ header_of H archive)
+
+-- the bytes of these numbers and roots under the tag of a layout
+abbrev pub header_string : Layout → Header → List ℕ
+header_string layout h = header_tag layout ∷ header_bytes h.documents h.dict_leaves h.dict_root h.docs_root h.texts_root
+
+-- the root that they stand for
+abbrev pub header_root : (List ℕ → List ℕ) → Layout → Header → List ℕ
+header_root H layout h = H (header_string layout h)

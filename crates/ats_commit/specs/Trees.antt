@@ -1,7 +1,6 @@
--- The trees of a collection, each as the list of its leaves, under a hash function H.
+-- The trees of an archive, each as the list of its leaves, under a hash function H.
 use Rattle.std.specs.Prelude.{◌<◌, ◌≤◌, ◌^◌, ℕ, List, length, map}
 use Rattle.ats_tree.specs.Tree.{mth}
-use Rattle.ats_lists.specs.Leaf.{leaf_bytes}
 use Rattle.ats_lists.specs.Lists.{lists_of}
 use Rattle.ats_lists.specs.declared.entry.Entry.{Entry}
 use Rattle.ats_dict.specs.Entry.{DictEntry}
@@ -9,22 +8,23 @@ use Rattle.ats_doctree.specs.DocumentLeaf.{doc_leaf_bytes}
 use Rattle.ats_doctree.specs.Impacts.{text_terms}
 use Rattle.ats_doctree.specs.Sentinels.{terms_leaves}
 use Rattle.ats_doctree.specs.declared.doc_leaf.DocLeaf.{DocLeaf}
+use Rattle.ats_commit.specs.Archive.{Layout, Archive, list_root}
 
 -- the entry of a term's list: the term, how many entries the list has, and its root
-abbrev pub dict_entry : (List ℕ → List ℕ) → List ℕ × List Entry → DictEntry
-dict_entry H list = record { term = list.0; f = length list.1; root = mth H (map leaf_bytes list.1) }
+abbrev pub dict_entry : (List ℕ → List ℕ) → Layout → List ℕ × List Entry → DictEntry
+dict_entry H layout list = record { term = list.0; f = length list.1; root = list_root H layout list.1 }
 
 -- the entries of the dictionary, one for each list
-abbrev pub dictionary_of : (List ℕ → List ℕ) → List (List ℕ) → List DictEntry
-dictionary_of H texts = map (dict_entry H) (lists_of texts)
+abbrev pub dictionary_of : (List ℕ → List ℕ) → Archive → List DictEntry
+dictionary_of H archive = map (dict_entry H archive.layout) (lists_of archive.texts)
 
 -- the leaf of a document whose terms tree has these leaves: their number and their root
-abbrev pub terms_root : (List ℕ → List ℕ) → List (List ℕ) → List ℕ
-terms_root H leaves = doc_leaf_bytes (length leaves) (mth H leaves)
+abbrev pub documents_leaf : (List ℕ → List ℕ) → List (List ℕ) → List ℕ
+documents_leaf H leaves = doc_leaf_bytes (length leaves) (mth H leaves)
 
 -- the leaves of the documents tree, one for each text
 abbrev pub documents_of : (List ℕ → List ℕ) → List (List ℕ) → List (List ℕ)
-documents_of H texts = map (λ text. terms_root H (terms_leaves (text_terms texts text))) texts
+documents_of H texts = map (λ text. documents_leaf H (terms_leaves (text_terms texts text))) texts
 
 -- the bytes of a documents leaf
 abbrev pub leaf_of : DocLeaf → List ℕ

@@ -1,16 +1,21 @@
-//! The root of a collection.
+//! The root of an archive.
 
-ghost use Rattle.std.specs.Prelude.{◌≡◌, ◌+◌, ◌<◌, ◌^◌, ◌∷◌};
-ghost use Rattle.ats_dict.specs.Header.{header_bytes};
+ghost use Rattle.std.specs.Prelude.{◌≡◌, ◌+◌, ◌<◌, ◌^◌};
+ghost use Rattle.ats_commit.specs.Archive.{whole_lists};
+ghost use Rattle.ats_commit.specs.Root.{header_root};
 
 use ats_dict::Header;
 use ats_hash::{Hash32, Steps};
 
-/// The root that a header stands for: the digest of its bytes under the tag 2. It is one step.
+/// The tag of the header where each list is one tree.
+const HEADER_TAG: u8 = 2;
+
+/// The root that a header stands for, where each list is one tree: the digest of its bytes under the tag 2.
+/// It is one step.
 pub fn root_of_header<H: Hash32>(header: &Header, steps: &mut Steps) -> [u8; 32]
     requires { steps.old + 1 < 2 ^ 64 }
-    ensures value { result ≡ H.hash (2 ∷ header_bytes header.now.documents header.now.dict_leaves header.now.dict_root header.now.docs_root header.now.texts_root) }
+    ensures value { result ≡ header_root H.hash whole_lists header.now }
     ensures cost { steps.new ≡ steps.old + 1 }
 {
-    H::digest2(2, &header.bytes(), &[], steps)
+    H::digest2(HEADER_TAG, &header.bytes(), &[], steps)
 }

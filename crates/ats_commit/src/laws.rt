@@ -1,12 +1,15 @@
-//! What holds of the trees, the header and the root of any texts, as contracts of functions that do
+//! What holds of the trees, the header and the root of any archive, as contracts of functions that do
 //! nothing. Who believes these sentences need not read how the definitions are made.
 
-ghost use Rattle.std.specs.Prelude.{◌≡◌, ◌+◌, ◌<◌, ◌≤◌, ◌^◌, ◌∷◌, ◌++◌, List, [], ℕ, Some, None, IsSome, length, map, slice_get, slice_index_or};
+ghost use Rattle.std.specs.Prelude.{◌≡◌, ◌+◌, ◌<◌, ◌≤◌, ◌^◌, ◌∷◌, ◌++◌, List, [], ℕ, Some, None, IsSome, MatchOption, length, map, slice_get, slice_index_or};
 ghost use Rattle.std.specs.Int.{to_be_bytes, w32};
 ghost use Rattle.std.specs.List.{All};
 ghost use Rattle.std.specs.Str.{IsUtf8};
+ghost use Rattle.ats_tree.specs.Differences.{first_difference};
+ghost use Rattle.ats_tree.specs.Part.{RisesFrom};
+ghost use Rattle.ats_tree.specs.Shown.{Shown};
 ghost use Rattle.ats_tree.specs.Tree.{mth};
-ghost use Rattle.ats_tree.specs.Paths.{Path};
+ghost use Rattle.ats_tree.specs.Nodes.{Node, by_path, depth_of};
 ghost use Rattle.ats_tree.specs.declared.hashed.Tree.TheVariants.{Header as HeaderTree, List as ListTree, Terms as TermsTree};
 ghost use Rattle.ats_terms.specs.Terms.{IsTerm};
 ghost use Rattle.ats_impact.specs.Limits.{AreWithin};
@@ -22,6 +25,8 @@ ghost use Rattle.ats_dict.specs.Header.{header_bytes, IsHeader};
 ghost use Rattle.ats_dict.specs.declared.header.Header.{Header};
 ghost use Rattle.ats_dict.specs.Entry.{DictEntry, dict_leaf_bytes};
 ghost use Rattle.ats_dict.specs.Dictionary.{IsBelow, dict_leaves};
+ghost use Rattle.ats_commit.specs.Archive.{Layout, Archive, whole_lists, header_tag, list_root};
+ghost use Rattle.ats_commit.specs.Prefixes.{list_string, prefix_root, prefix_strings};
 ghost use Rattle.ats_commit.specs.Trees.{dictionary_of, documents_of};
 ghost use Rattle.ats_commit.specs.Root.{header_of, root_of, HasHeaderInRange};
 ghost use Rattle.ats_commit.specs.Ours.{TreePlace, asked_term, own_leaves, ours};
@@ -30,11 +35,12 @@ ghost use Rattle.ats_commit.specs.Own.{AreTexts, AreNeighbours, AreTermNeighbour
 use ats_hash::HashKind;
 
 /// The dictionary has the terms that have a list, each with the number of documents that have it and the
-/// root of its list.
+/// root of its list. Where each list is one tree, that is the root of this tree.
 pub fn dictionary_has_all_terms<H: HashKind>()
-    ensures terms { (texts : List (List ℕ)) → map (λ entry. entry.term) (dictionary_of H.hash texts) ≡ vocabulary texts }
-    ensures numbers { (texts : List (List ℕ)) → All (λ entry. entry.f ≡ frequency entry.term texts) (dictionary_of H.hash texts) }
-    ensures roots { (texts : List (List ℕ)) → All (λ entry. entry.root ≡ mth H.hash (map leaf_bytes (list texts entry.term))) (dictionary_of H.hash texts) }
+    ensures terms { (archive : Archive) → map (λ entry. entry.term) (dictionary_of H.hash archive) ≡ vocabulary archive.texts }
+    ensures numbers { (archive : Archive) → All (λ entry. entry.f ≡ frequency entry.term archive.texts) (dictionary_of H.hash archive) }
+    ensures roots { (archive : Archive) → All (λ entry. entry.root ≡ list_root H.hash archive.layout (list archive.texts entry.term)) (dictionary_of H.hash archive) }
+    ensures whole { (entries : List Entry) → list_root H.hash whole_lists entries ≡ mth H.hash (map leaf_bytes entries) }
 {}
 
 /// The documents tree has a leaf for each text, with the number of leaves of its terms tree, which are its
@@ -46,43 +52,44 @@ pub fn documents_have_all_texts<H: HashKind>()
         ≡ Some (doc_leaf_bytes (length (doc_terms texts doc) + 2) (mth H.hash (terms_leaves (doc_terms texts doc)))) }
 {}
 
-/// A collection within the limits has a header in range, so that its bytes are read back. Its terms are
+/// Texts within the limits have a header in range, so that its bytes are read back. Its terms are
 /// few: texts in UTF-8 have no more terms than bytes, and a `Collection` tells their number.
 pub fn headers_are_in_range<H: HashKind>()
-    ensures texts { (texts : List (List ℕ)) → All IsUtf8 texts → AreWithin texts → HasHeaderInRange H.hash texts }
-    ensures counted { (texts : List (List ℕ)) → AreWithin texts → total_terms texts ≤ 2 ^ 24 → HasHeaderInRange H.hash texts }
+    ensures texts { (archive : Archive) → All IsUtf8 archive.texts → AreWithin archive.texts → HasHeaderInRange H.hash archive }
+    ensures counted { (archive : Archive) → AreWithin archive.texts → total_terms archive.texts ≤ 2 ^ 24 → HasHeaderInRange H.hash archive }
 {}
 
-/// The root is the digest of the header under the tag 2. The header is the version 1, the numbers of
-/// documents and of dictionary leaves, high byte first, and the roots of the dictionary, the documents and
-/// the texts, 105 bytes in all.
+/// The root is the digest of the header under the tag of its layout, which is 2 where each list is one tree.
+/// The header is the version 1, the numbers of documents and of dictionary leaves, high byte first, and the
+/// roots of the dictionary, the documents and the texts, 105 bytes in all.
 pub fn roots_bind_headers<H: HashKind>()
-    ensures root { (texts : List (List ℕ)) → root_of H.hash texts ≡ H.hash (2 ∷ header_of H.hash texts) }
-    ensures header { (texts : List (List ℕ)) → header_of H.hash texts
-        ≡ 1 ∷ to_be_bytes w32 (length texts) ++ to_be_bytes w32 (length (vocabulary texts) + 2)
-        ++ mth H.hash (dict_leaves (dictionary_of H.hash texts)) ++ mth H.hash (documents_of H.hash texts) ++ mth H.hash texts }
-    ensures size { (texts : List (List ℕ)) → length (header_of H.hash texts) ≡ 105 }
+    ensures root { (archive : Archive) → root_of H.hash archive ≡ H.hash (header_tag archive.layout ∷ header_of H.hash archive) }
+    ensures tag { header_tag whole_lists ≡ 2 }
+    ensures header { (archive : Archive) → header_of H.hash archive
+        ≡ 1 ∷ to_be_bytes w32 (length archive.texts) ++ to_be_bytes w32 (length (vocabulary archive.texts) + 2)
+        ++ mth H.hash (dict_leaves (dictionary_of H.hash archive)) ++ mth H.hash (documents_of H.hash archive.texts) ++ mth H.hash archive.texts }
+    ensures size { (archive : Archive) → length (header_of H.hash archive) ≡ 105 }
 {}
 
-/// A header in range whose bytes are those of the texts' own has their numbers and roots.
+/// A header in range whose bytes are those of the archive's own has its numbers and roots.
 pub fn own_headers_are_read<H: HashKind>()
-    ensures { (texts : List (List ℕ)) (header : Header) → AreTexts texts
+    ensures { (archive : Archive) (header : Header) → AreTexts archive.texts
         → IsHeader header.documents header.dict_leaves header.dict_root header.docs_root header.texts_root
-        → header_bytes header.documents header.dict_leaves header.dict_root header.docs_root header.texts_root ≡ header_of H.hash texts
-        → IsHeaderOf H.hash texts header }
+        → header_bytes header.documents header.dict_leaves header.dict_root header.docs_root header.texts_root ≡ header_of H.hash archive
+        → IsHeaderOf H.hash archive header }
 {}
 
-/// A leaf whose bytes are those of the texts' own says of their lists what its parts say: a term's leaf in
+/// A leaf whose bytes are those of the archive's own says of its lists what its parts say: a term's leaf in
 /// the dictionary how many entries its list has and with which root, two neighbours that no text has a term
 /// between theirs, and a leaf of a list which posting stands there.
 pub fn own_leaves_tell_lists<H: HashKind>()
-    ensures entry { (texts : List (List ℕ)) (p : ℕ) (entry : DictEntry) → AreTexts texts → IsTerm entry.term
+    ensures entry { (archive : Archive) (p : ℕ) (entry : DictEntry) → AreTexts archive.texts → IsTerm entry.term
         → entry.f < 2 ^ 32
-        → slice_get (dict_leaves (dictionary_of H.hash texts)) p ≡ Some (dict_leaf_bytes entry.term entry.f entry.root)
-        → IsEntryOf H.hash texts entry }
-    ensures absent { (texts : List (List ℕ)) (p : ℕ) (lower upper : DictEntry) (term : List ℕ) → AreTexts texts
-        → AreNeighbours (dict_leaves (dictionary_of H.hash texts)) p lower upper → IsBelow lower.term term → IsBelow term upper.term
-        → (list texts term ≡ []) × (frequency term texts ≡ 0) }
+        → slice_get (dict_leaves (dictionary_of H.hash archive)) p ≡ Some (dict_leaf_bytes entry.term entry.f entry.root)
+        → IsEntryOf H.hash archive entry }
+    ensures absent { (archive : Archive) (p : ℕ) (lower upper : DictEntry) (term : List ℕ) → AreTexts archive.texts
+        → AreNeighbours (dict_leaves (dictionary_of H.hash archive)) p lower upper → IsBelow lower.term term → IsBelow term upper.term
+        → (list archive.texts term ≡ []) × (frequency term archive.texts ≡ 0) }
     ensures posting { (texts : List (List ℕ)) (term : List ℕ) (i : ℕ) (entry : Entry) → AreTexts texts
         → entry.doc < 2 ^ 32 → entry.impact < 2 ^ 16
         → slice_get (map leaf_bytes (list texts term)) i ≡ Some (leaf_bytes entry) → slice_get (list texts term) i ≡ Some entry }
@@ -103,17 +110,26 @@ pub fn own_leaves_tell_documents<H: HashKind>()
         → count term (slice_index_or texts doc []) ≡ 0 }
 {}
 
-/// The header's string stands at the place with no turns, and in no tree does a string stand past its
+/// Shown leaves of a list that rebuild its root with some digests are the list's own, or the first string that
+/// differs from the list's has an equal digest.
+pub fn list_prefixes_are_bound<H: HashKind>()
+    ensures { (layout : Layout) (entries : List Entry) (shown : List Shown) (digests : List (List ℕ)) → RisesFrom 0 shown
+        → All (λ d. length d ≡ 32) digests → prefix_root H.hash layout (length entries) shown digests ≡ Some (list_root H.hash layout entries)
+        → MatchOption (first_difference (list_string H.hash layout entries) (prefix_strings H.hash layout (length entries) shown digests))
+        (All (λ s. slice_get (map leaf_bytes entries) s.0 ≡ Some s.1) shown) (λ c. H.hash c.theirs ≡ H.hash c.ours) }
+{}
+
+/// The header's string stands at the node with no turns, and in no tree does a string stand past its
 /// leaves: `h` turns are the most where there are at most 2^h. None stands in the list of a term that no
 /// text has, nor in the tree of a document past the last.
 pub fn own_strings_stand_in_trees<H: HashKind>()
-    ensures header { (texts : List (List ℕ)) (query : List (List ℕ × ℕ))
-        → ours H.hash texts query (record { tree = HeaderTree; path = [] }) ≡ Some (2 ∷ header_of H.hash texts) }
-    ensures within { (texts : List (List ℕ)) (query : List (List ℕ × ℕ)) (place : TreePlace) (h : ℕ)
-        → length (own_leaves H.hash texts query place.tree) ≤ 2 ^ h → IsSome (ours H.hash texts query place) → length place.path ≤ h }
-    ensures lists { (texts : List (List ℕ)) (query : List (List ℕ × ℕ)) (number : ℕ) (path : Path)
-        → frequency (asked_term query number) texts ≡ 0
-        → ours H.hash texts query (record { tree = ListTree number; path = path }) ≡ None }
-    ensures documents { (texts : List (List ℕ)) (query : List (List ℕ × ℕ)) (doc : ℕ) (path : Path) → length texts ≤ doc
-        → ours H.hash texts query (record { tree = TermsTree doc; path = path }) ≡ None }
+    ensures header { (archive : Archive) (query : List (List ℕ × ℕ))
+        → ours H.hash archive query (record { tree = HeaderTree; node = by_path [] }) ≡ Some (header_tag archive.layout ∷ header_of H.hash archive) }
+    ensures within { (archive : Archive) (query : List (List ℕ × ℕ)) (place : TreePlace) (h : ℕ)
+        → length (own_leaves H.hash archive query place.tree) ≤ 2 ^ h → IsSome (ours H.hash archive query place) → depth_of place.node ≤ h }
+    ensures lists { (archive : Archive) (query : List (List ℕ × ℕ)) (number : ℕ) (node : Node)
+        → frequency (asked_term query number) archive.texts ≡ 0
+        → ours H.hash archive query (record { tree = ListTree number; node = node }) ≡ None }
+    ensures documents { (archive : Archive) (query : List (List ℕ × ℕ)) (doc : ℕ) (node : Node) → length archive.texts ≤ doc
+        → ours H.hash archive query (record { tree = TermsTree doc; node = node }) ≡ None }
 {}

@@ -1,10 +1,11 @@
-//! The commitment to a whole collection: the leaves of its trees, its header, and its root.
+//! The commitment to an archive, which is the texts of a collection with the layout of their trees: the
+//! leaves of these trees, the header, and the root.
 //!
 //! The root is the digest of the header, which binds the numbers of documents and of dictionary leaves to
 //! the roots of the dictionary, of the documents and of the texts. The dictionary binds each term to the
 //! root of its list, and the documents tree binds each document to the root of its terms.
 //! The room stands on `ats_lists`, `ats_doctree` and `ats_dict`, which make the leaves of those trees, and
-//! says from plain definitions over the texts what they are together. The contracts promise the root of a
+//! says from plain definitions over the archive what they are together. The contracts promise the root of a
 //! header in one step, and the leaves of the documents and texts trees byte by byte. The laws say what the
 //! definitions mean. How leaves are lent may change without asking; the bytes may not.
 #![tactic(auto)]
@@ -12,9 +13,9 @@
 pub use commitment::root_of_header;
 pub use documents::DocLeaves;
 pub use laws::{
-    dictionary_has_all_terms, documents_have_all_texts, headers_are_in_range, own_headers_are_read,
-    own_leaves_tell_documents, own_leaves_tell_lists, own_strings_stand_in_trees,
-    roots_bind_headers,
+    dictionary_has_all_terms, documents_have_all_texts, headers_are_in_range,
+    list_prefixes_are_bound, own_headers_are_read, own_leaves_tell_documents,
+    own_leaves_tell_lists, own_strings_stand_in_trees, roots_bind_headers,
 };
 pub use texts::TextLeaves;
 

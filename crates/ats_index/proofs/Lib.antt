@@ -3,7 +3,7 @@ pub mod Whole
 pub mod Writing
 pub mod Reading
 pub mod Loading
-pub mod OneCollection
+pub mod OneArchive
 pub mod TermBytes
 pub mod Vocabulary
 pub mod Size

@@ -1,10 +1,12 @@
 -- Bytes that are compared, and the texts in front of an index's bytes.
-use Rattle.std.proofs.Common.{◌≡◌, ◌≢◌, ◌++◌, ℕ, List, Bool, true, false, Option, Some, refl, sym, ap, ◌∙◌, append_assoc}
+use Rattle.std.proofs.Common.{◌≡◌, ◌≢◌, ◌++◌, ℕ, List, Bool, true, false, Option, Some, refl, sym, ap, ap₂, ◌∙◌, append_assoc}
 use Rattle.std.specs.Prelude.{not, unwrap_or}
 use Rattle.std.specs.Str.{bytes_eq}
 use Rattle.std.proofs.lemmas.Slice.Eq.{bytes_eq-Decides}
 use Rattle.ats_lists.specs.Lists.{lists_of}
+use Rattle.ats_commit.specs.Archive.{Layout, whole_lists, Archive, archive_of}
 use Rattle.ats_commit.specs.Root.{root_of}
+use Rattle.ats_commit.proofs.Layouts.{same_layout}
 use Rattle.ats_index.specs.Spelling.{texts_bytes, lists_bytes, index_bytes}
 
 from_not : (equal : Bool) → false ≡ not equal → equal ≡ true
@@ -21,5 +23,12 @@ pub one_some : {X : Type 0} (found : Option X) (a b : X) → found ≡ Some a �
 one_some found a b first second = ap (λ o. unwrap_or o a) (sym first ∙ second)
 
 -- the texts, and what stands behind them
-pub texts_first : (H : List ℕ → List ℕ) (texts : List (List ℕ)) → index_bytes H texts ≡ texts_bytes texts ++ (lists_bytes (lists_of texts) ++ root_of H texts)
-texts_first H texts = append_assoc (texts_bytes texts) (lists_bytes (lists_of texts)) (root_of H texts)
+pub texts_first : (H : List ℕ → List ℕ) (archive : Archive)
+    → index_bytes H archive ≡ texts_bytes archive.texts ++ (lists_bytes (lists_of archive.texts) ++ root_of H archive)
+texts_first H archive = append_assoc (texts_bytes archive.texts) (lists_bytes (lists_of archive.texts)) (root_of H archive)
+
+-- an archive of the same texts is the same, since there is one layout
+pub same_archive : {texts : List (List ℕ)} (archive : Archive) → texts ≡ archive.texts → archive_of texts ≡ archive
+same_archive archive is =
+    let Made : List (List ℕ) → Layout → Archive = λ (t : List (List ℕ)) (l : Layout). record { texts = t; layout = l } in
+    ap₂ Made is (same_layout whole_lists archive.layout)

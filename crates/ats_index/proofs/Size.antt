@@ -11,6 +11,7 @@ use Rattle.ats_lists.specs.Lists.{list, lists_of, vocabulary}
 use Rattle.ats_lists.specs.declared.entry.Entry.{Entry}
 use Rattle.ats_lists.proofs.VocabularyLemmas.{vocabulary_few}
 use Rattle.ats_lists.proofs.WholeLemmas.{list_frequency}
+use Rattle.ats_commit.specs.Archive.{Archive, header_tag}
 use Rattle.ats_commit.specs.Root.{root_of, header_of}
 use Rattle.ats_commit.proofs.TermLemmas.{few_within}
 use Rattle.ats_index.specs.Spelling.{IsSpelling, front_bytes, text_bytes, list_bytes, texts_bytes, lists_bytes}
@@ -76,15 +77,16 @@ sum_small : (n s k v w f : ℕ) → n ≤ 65536 → s ≤ 2 ^ 24 → k ≤ 2 ^ 2
     → 9 + (4 * n + s) + (4 + (5 * v + w + 6 * f) + 32) ≤ 2 ^ 29
 sum_small n s k v w f few small terms distinct spelled entries = omega arith
 
--- the bytes of a collection's index
-pub index_size : (H : List ℕ → List ℕ) → ((m : List ℕ) → length (H m) ≡ 32) → (bytes : List ℕ) (texts : List (List ℕ)) → IsSpelling H bytes texts → length bytes ≤ 2 ^ 29
-index_size H sized bytes texts is =
+-- the bytes of an archive's index
+pub index_size : (H : List ℕ → List ℕ) → ((m : List ℕ) → length (H m) ≡ 32) → (bytes : List ℕ) (archive : Archive) → IsSpelling H bytes archive → length bytes ≤ 2 ^ 29
+index_size H sized bytes archive is =
     let Length : List ℕ → ℕ = λ t. length t in
+    let texts : List (List ℕ) = archive.texts in
     let lists : List ℕ = lists_bytes (lists_of texts) in
-    let root : List ℕ = root_of H texts in
+    let root : List ℕ = root_of H archive in
     let behind : length (lists ++ root) ≡ 4 + (5 * length (vocabulary texts) + sum_by Length (vocabulary texts) + 6 * sum_by (λ term. frequency term texts) (vocabulary texts)) + 32 =
-    length-append lists root ∙ ap₂ (λ a b. a + b) (lists_size texts) (sized (2 ∷ header_of H texts)) in
-    let whole = ap length (is.same ∙ texts_first H texts) ∙ length-append (texts_bytes texts) (lists ++ root) ∙ ap₂ (λ a b. a + b) (texts_size texts) behind in
+    length-append lists root ∙ ap₂ (λ a b. a + b) (lists_size texts) (sized (header_tag archive.layout ∷ header_of H archive)) in
+    let whole = ap length (is.same ∙ texts_first H archive) ∙ length-append (texts_bytes texts) (lists ++ root) ∙ ap₂ (λ a b. a + b) (texts_size texts) behind in
     let spelled : sum_by Length (vocabulary texts) ≤ 12 * sum_by Length texts = omega (arith, distinct_within Length texts, term_bytes texts is.utf8) in
     subst (λ n. n ≤ 2 ^ 29) (sym whole)
     (sum_small (length texts) (sum_by Length texts) (total_terms texts) (length (vocabulary texts)) (sum_by Length (vocabulary texts))

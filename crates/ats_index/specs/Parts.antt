@@ -1,4 +1,4 @@
--- The parts of a collection's index, under a hash function H.
+-- The parts of an archive's index, under a hash function H.
 use Rattle.std.specs.Prelude.{◌≡◌, ℕ, List, length, map}
 use Rattle.ats_tree.specs.Tree.{mth}
 use Rattle.ats_lists.specs.Lists.{lists_of}
@@ -9,6 +9,7 @@ use Rattle.ats_dict.specs.declared.header.Header.{Header}
 use Rattle.ats_doctree.specs.Impacts.{text_terms}
 use Rattle.ats_doctree.specs.Sentinels.{terms_leaves}
 use Rattle.ats_doctree.specs.declared.doc_leaf.DocLeaf.{DocLeaf}
+use Rattle.ats_commit.specs.Archive.{Archive}
 use Rattle.ats_commit.specs.Trees.{dictionary_of, documents_of}
 use Rattle.ats_commit.specs.Root.{root_of}
 use Rattle.ats_commit.specs.Own.{AreTexts}
@@ -26,19 +27,19 @@ abbrev pub all_leaves : (List ℕ → List ℕ) → List (List ℕ) → List Doc
 all_leaves H texts = map (λ text. leaf_of_terms H (text_terms texts text)) texts
 
 -- the numbers and roots of the header
-abbrev pub header_parts : (List ℕ → List ℕ) → List (List ℕ) → Header
-header_parts H texts = record {
-  documents = length texts;
-  dict_leaves = length (dict_leaves (dictionary_of H texts));
-  dict_root = mth H (dict_leaves (dictionary_of H texts));
-  docs_root = mth H (documents_of H texts);
-  texts_root = mth H texts;
+abbrev pub header_parts : (List ℕ → List ℕ) → Archive → Header
+header_parts H archive = record {
+  documents = length archive.texts;
+  dict_leaves = length (dict_leaves (dictionary_of H archive));
+  dict_root = mth H (dict_leaves (dictionary_of H archive));
+  docs_root = mth H (documents_of H archive.texts);
+  texts_root = mth H archive.texts;
 }
 
--- the texts are within the limits, and each part is that of their collection
+-- the texts are within the limits, and each part is the archive's
 pub record IsIndexOf
     (H : List ℕ → List ℕ)
-    (texts : List (List ℕ))
+    (archive : Archive)
     (lists : List (List ℕ × List Entry))
     (dictionary : List DictEntry)
     (terms : List (List (List ℕ × ℕ)))
@@ -46,10 +47,10 @@ pub record IsIndexOf
     (header : Header)
     (root : List ℕ)
     : Type 0 where
-  pub texts_within : AreTexts texts
-  pub own_lists : lists ≡ lists_of texts
-  pub own_dictionary : dictionary ≡ dictionary_of H texts
-  pub own_terms : terms ≡ all_terms texts
-  pub own_leaves : leaves ≡ all_leaves H texts
-  pub own_header : header ≡ header_parts H texts
-  pub own_root : root ≡ root_of H texts
+  pub texts_within : AreTexts archive.texts
+  pub own_lists : lists ≡ lists_of archive.texts
+  pub own_dictionary : dictionary ≡ dictionary_of H archive
+  pub own_terms : terms ≡ all_terms archive.texts
+  pub own_leaves : leaves ≡ all_leaves H archive.texts
+  pub own_header : header ≡ header_parts H archive
+  pub own_root : root ≡ root_of H archive

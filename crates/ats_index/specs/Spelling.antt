@@ -1,4 +1,4 @@
--- The bytes of an index: its collection's texts, its lists, and its root. Numbers stand high byte first.
+-- The bytes of an index: its archive's texts, its lists, and its root. Numbers stand high byte first.
 use Rattle.std.specs.Prelude.{◌≡◌, ℕ, List, ◌∷◌, ◌++◌, length, codes}
 use Rattle.std.specs.Int.{to_be_bytes, w32}
 use Rattle.std.specs.List.{All, flat_map}
@@ -7,6 +7,7 @@ use Rattle.ats_impact.specs.Limits.{AreWithin}
 use Rattle.ats_lists.specs.Leaf.{leaf_bytes}
 use Rattle.ats_lists.specs.Lists.{lists_of}
 use Rattle.ats_lists.specs.declared.entry.Entry.{Entry}
+use Rattle.ats_commit.specs.Archive.{Archive}
 use Rattle.ats_commit.specs.Root.{root_of}
 
 -- ATSI, the version 1, and the number of texts in 4 bytes
@@ -30,11 +31,11 @@ abbrev pub lists_bytes : List (List ℕ × List Entry) → List ℕ
 lists_bytes lists = to_be_bytes w32 (length lists) ++ flat_map list_bytes lists
 
 -- the texts, the lists and the root
-abbrev pub index_bytes : (List ℕ → List ℕ) → List (List ℕ) → List ℕ
-index_bytes H texts = texts_bytes texts ++ lists_bytes (lists_of texts) ++ root_of H texts
+abbrev pub index_bytes : (List ℕ → List ℕ) → Archive → List ℕ
+index_bytes H archive = texts_bytes archive.texts ++ lists_bytes (lists_of archive.texts) ++ root_of H archive
 
--- the bytes are the index of a collection of these texts
-pub record IsSpelling (H : List ℕ → List ℕ) (bytes : List ℕ) (texts : List (List ℕ)) : Type 0 where
-  pub utf8 : All IsUtf8 texts
-  pub within : AreWithin texts
-  pub same : bytes ≡ index_bytes H texts
+-- the bytes are the index of this archive
+pub record IsSpelling (H : List ℕ → List ℕ) (bytes : List ℕ) (archive : Archive) : Type 0 where
+  pub utf8 : All IsUtf8 archive.texts
+  pub within : AreWithin archive.texts
+  pub same : bytes ≡ index_bytes H archive

@@ -1,6 +1,7 @@
 //! The header of a collection.
 
 ghost use Rattle.std.specs.Prelude.{◌≡◌};
+ghost use Rattle.ats_commit.specs.Archive.{archive_of};
 ghost use Rattle.ats_commit.specs.Trees.{dictionary_of};
 ghost use Rattle.ats_commit.specs.Own.{AreTexts};
 ghost use Rattle.ats_index.specs.Parts.{all_leaves, header_parts};
@@ -20,9 +21,9 @@ pub(crate) fn header_of<H: Hash32>(
     dictionary: &Dictionary,
     leaves: &[DocLeaf],
 ) -> Header
-    requires dictionary { dictionary.now ≡ dictionary_of H.hash collection.now }
+    requires dictionary { dictionary.now ≡ dictionary_of H.hash (archive_of collection.now) }
     requires leaves { leaves.now ≡ all_leaves H.hash collection.now }
-    ensures parts { result ≡ header_parts H.hash collection.now }
+    ensures parts { result ≡ header_parts H.hash (archive_of collection.now) }
     ensures texts { AreTexts collection.now }
 {
     let documents = collection.documents();

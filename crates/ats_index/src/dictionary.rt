@@ -1,8 +1,7 @@
 //! The dictionary of some lists.
 
 ghost use Rattle.std.specs.Prelude.{◌≡◌, ◌<◌, ◌≤◌, length, map, IfOk};
-ghost use Rattle.ats_tree.specs.Tree.{mth};
-ghost use Rattle.ats_lists.specs.Leaf.{leaf_bytes};
+ghost use Rattle.ats_commit.specs.Archive.{whole_lists, list_root};
 ghost use Rattle.ats_commit.specs.Trees.{dict_entry};
 
 use crate::memory::OutOfMemory;
@@ -16,7 +15,7 @@ use std::alloc::Global;
 fn list_root<H: Hash32>(alloc: Global, entries: &[Entry]) -> [u8; 32]
     requires some { 1 ≤ length entries.now }
     requires few { length entries.now ≤ 65536 }
-    ensures { result ≡ mth H.hash (map leaf_bytes entries.now) }
+    ensures { result ≡ list_root H.hash whole_lists entries.now }
 {
     root::<H, _>(&ListLeaves { entries }, &mut Steps::new(alloc))
 }
@@ -26,7 +25,7 @@ pub(crate) fn dictionary_of<H: Hash32>(
     alloc: Global,
     lists: &Lists,
 ) -> Result<Dictionary, OutOfMemory>
-    ensures { IfOk result (λ made. made ≡ map (dict_entry H.hash) lists.now) }
+    ensures { IfOk result (λ made. made ≡ map (dict_entry H.hash whole_lists) lists.now) }
 {
     let mut dictionary = Dictionary::new(alloc);
     for i in 0..lists.len() {

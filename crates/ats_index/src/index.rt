@@ -1,12 +1,13 @@
-//! The index of a collection.
+//! The index of an archive.
 
-ghost use Rattle.std.specs.Prelude.{◌≡◌, ◌<◌, List, ℕ, length, slice_index_or, IfOk};
+ghost use Rattle.std.specs.Prelude.{◌≡◌, ◌<◌, ◌≤◌, length, IfOk};
 ghost use Rattle.ats_lists.specs.Lists.{lists_of};
 ghost use Rattle.ats_doctree.specs.Impacts.{doc_terms};
+ghost use Rattle.ats_commit.specs.Archive.{archive_of};
 ghost use Rattle.ats_commit.specs.Trees.{dictionary_of};
 ghost use Rattle.ats_commit.specs.Root.{root_of};
 ghost use Rattle.ats_commit.specs.Own.{AreTexts};
-ghost use Rattle.ats_index.specs.Parts.{header_parts, leaf_of_terms};
+ghost use Rattle.ats_index.specs.Parts.{all_leaves, header_parts, leaf_of_terms};
 ghost use Rattle.ats_index.specs.Spelling.{IsSpelling};
 
 use crate::build::header_of;
@@ -24,7 +25,8 @@ use ats_lists::Lists;
 use std::alloc::Global;
 use std::marker::{Model, PhantomData};
 
-/// A collection of 1 to 65,536 texts with all that its root commits to, under a hash function.
+/// A collection of 1 to 65,536 texts with all that its root commits to, under a hash function. Each list is
+/// one tree.
 ///
 /// It keeps its allocator.
 #[derive(Drop)]
@@ -41,18 +43,18 @@ pub struct Index<H: HashKind> {
 }
 
 impl<H: HashKind> Model for Index<H> {
-    ghost use Rattle.std.specs.Prelude.{List, ℕ};
+    ghost use Rattle.ats_commit.specs.Archive.{Archive, archive_of};
     ghost use Rattle.ats_index.specs.Parts.{IsIndexOf};
 
-    ghost Value = { List (List ℕ) };
+    ghost Value = { Archive };
 
-    ghost view = { λ i. i.collection };
+    ghost view = { λ i. archive_of i.collection };
 
-    ghost invariant = { λ i. IsIndexOf H.hash i.collection i.lists i.dictionary i.terms.items i.leaves.items i.header i.root };
+    ghost invariant = { λ i. IsIndexOf H.hash (archive_of i.collection) i.lists i.dictionary i.terms.items i.leaves.items i.header i.root };
 }
 
 impl<H: HashKind> Index<H> {
-    /// The root of the collection.
+    /// The root of the archive.
     pub fn root(&self) -> [u8; 32]
         ensures { result ≡ root_of H.hash self.now }
     {
@@ -62,22 +64,22 @@ impl<H: HashKind> Index<H> {
     /// The header that the root is the digest of.
     pub fn header(&self) -> &Header
         ensures parts { result.now ≡ header_parts H.hash self.now }
-        ensures texts { AreTexts self.now }
+        ensures texts { AreTexts self.now.texts }
     {
         &self.header
     }
 
     /// The texts.
     pub fn collection(&self) -> &Collection
-        ensures same { result.now ≡ self.now }
-        ensures texts { AreTexts self.now }
+        ensures same { result.now ≡ self.now.texts }
+        ensures texts { AreTexts self.now.texts }
     {
         &self.collection
     }
 
     /// The inverted lists.
     pub fn lists(&self) -> &Lists
-        ensures { result.now ≡ lists_of self.now }
+        ensures { result.now ≡ lists_of self.now.texts }
     {
         &self.lists
     }
@@ -91,18 +93,26 @@ impl<H: HashKind> Index<H> {
 
     /// The terms of a document, counted from 0, with their impacts.
     pub fn doc_terms(&self, doc: u32) -> &DocTerms
-        requires { doc < length self.now }
-        ensures { result.now ≡ doc_terms self.now doc }
+        requires { doc < length self.now.texts }
+        ensures { result.now ≡ doc_terms self.now.texts doc }
     {
         &self.terms[doc as usize]
     }
 
     /// The leaf of a document, counted from 0, in the documents tree.
     pub fn doc_leaf(&self, doc: u32) -> &DocLeaf
-        requires { doc < length self.now }
-        ensures { result.now ≡ leaf_of_terms H.hash (doc_terms self.now doc) }
+        requires { doc < length self.now.texts }
+        ensures { result.now ≡ leaf_of_terms H.hash (doc_terms self.now.texts doc) }
     {
         &self.leaves[doc as usize]
+    }
+
+    /// The leaves of all documents in the documents tree, in the order of documents: 1 to 65,536.
+    pub fn doc_leaves(&self) -> &[DocLeaf]
+        ensures leaves { result.now ≡ all_leaves H.hash self.now.texts }
+        ensures few { length result.now ≤ 65536 }
+    {
+        &self.leaves
     }
 
     /// The bytes of the index. Numbers stand high byte first: `ATSI`, the version 1 in one byte, the number of
@@ -122,7 +132,7 @@ impl<H: HashKind> Index<H> {
 impl<H: Hash32> Index<H> {
     /// The index of a collection. Want of memory drops the collection.
     pub fn build(alloc: Global, collection: Collection) -> Result<Self, OutOfMemory>
-        ensures { IfOk result (λ index. index ≡ collection) }
+        ensures { IfOk result (λ index. index ≡ archive_of collection) }
     {
         let DocumentParts {
             lists,

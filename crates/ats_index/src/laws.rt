@@ -1,13 +1,14 @@
 //! What holds of an index's bytes, as contracts of functions that do nothing.
 
 ghost use Rattle.std.specs.Prelude.{◌≡◌, ◌≤◌, ◌^◌, ℕ, List, length};
+ghost use Rattle.ats_commit.specs.Archive.{Archive};
 ghost use Rattle.ats_index.specs.Spelling.{IsSpelling};
 
 use ats_hash::HashKind;
 
-/// Index bytes say one collection: no two have the same.
-pub fn index_bytes_say_one_collection<H: HashKind>()
-    ensures { (bytes : List ℕ) (texts others : List (List ℕ)) → IsSpelling H.hash bytes texts → IsSpelling H.hash bytes others → texts ≡ others }
+/// Index bytes say one archive: no two have the same.
+pub fn index_bytes_say_one_archive<H: HashKind>()
+    ensures { (bytes : List ℕ) (archive other : Archive) → IsSpelling H.hash bytes archive → IsSpelling H.hash bytes other → archive ≡ other }
 {}
 
 /// An index has at most 2^29 bytes, which is the most that a file of an index may have. Its texts take at most
@@ -15,5 +16,5 @@ pub fn index_bytes_say_one_collection<H: HashKind>()
 /// many entries of 6 bytes at most, and as many distinct terms with 5 more. A term has at most 12 bytes for each of
 /// its word's, since a character folds to three at most, of at most 4 bytes. The root has 32.
 pub fn index_bytes_are_few<H: HashKind>()
-    ensures { (bytes : List ℕ) (texts : List (List ℕ)) → IsSpelling H.hash bytes texts → length bytes ≤ 2 ^ 29 }
+    ensures { (bytes : List ℕ) (archive : Archive) → IsSpelling H.hash bytes archive → length bytes ≤ 2 ^ 29 }
 {}

@@ -3,9 +3,9 @@
 //! An owner builds an index from a collection once, and a server answers queries from it.
 //! The room stands on `ats_lists`, `ats_dict` and `ats_doctree`, whose parts it makes from one count of each
 //! document's terms, and on `ats_commit`, which says what they are together. The contracts promise that an
-//! index is seen as its collection alone, that each part is that collection's under the hash function, that
-//! its bytes are one spelling, that bytes are the spelling of one collection at most, and that bytes are
-//! loaded exactly where they are the spelling of some collection. How the parts are made and kept may change
+//! index is seen as its archive alone, that each part is that archive's under the hash function, that its
+//! bytes are one spelling, that bytes are the spelling of one archive at most, and that bytes are loaded
+//! exactly where they are the spelling of some archive. How the parts are made and kept may change
 //! without asking; the bytes may not.
 #![tactic(auto)]
 
@@ -22,6 +22,6 @@ mod tests;
 mod write;
 
 pub use index::Index;
-pub use laws::{index_bytes_are_few, index_bytes_say_one_collection};
+pub use laws::{index_bytes_are_few, index_bytes_say_one_archive};
 pub use load::LoadFault;
 pub use memory::OutOfMemory;

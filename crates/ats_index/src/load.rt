@@ -1,6 +1,7 @@
 //! An index from its bytes.
 
-ghost use Rattle.std.specs.Prelude.{◌≡◌, ℕ, List, IfOk, IfErr};
+ghost use Rattle.std.specs.Prelude.{◌≡◌, IfOk, IfErr};
+ghost use Rattle.ats_commit.specs.Archive.{Archive};
 ghost use Rattle.ats_index.specs.Spelling.{IsSpelling};
 ghost use Rattle.ats_index.specs.LoadFaults.{IsLoadFault};
 
@@ -14,7 +15,7 @@ use std::alloc::Global;
 /// Why bytes are no index.
 #[derive(Clone, Copy, Debug, PartialEq, Eq)]
 pub enum LoadFault {
-    /// The bytes are the index of no collection. The place is 0.
+    /// The bytes are the index of no archive. The place is 0.
     BadIndex { at: u64 },
     /// Memory was wanted and not there.
     OutOfMemory,
@@ -36,7 +37,7 @@ impl<H: Hash32> Index<H> {
     /// be theirs.
     pub fn load(alloc: Global, bytes: &[u8]) -> Result<Self, LoadFault>
         ensures ok { IfOk result (IsSpelling H.hash bytes.now) }
-        ensures only { (texts : List (List ℕ)) → IsSpelling H.hash bytes.now texts → IfOk result (λ index. index ≡ texts) }
+        ensures only { (archive : Archive) → IsSpelling H.hash bytes.now archive → IfOk result (λ index. index ≡ archive) }
         ensures fault { IfErr result (IsLoadFault H.hash bytes.now) }
     {
         let texts = match read_texts(alloc, bytes)? {

@@ -5,6 +5,7 @@ use Rattle.ats_lists.specs.declared.entry.Entry.{Entry}
 use Rattle.ats_dict.specs.Entry.{DictEntry}
 use Rattle.ats_dict.specs.declared.header.Header.{Header}
 use Rattle.ats_doctree.specs.declared.doc_leaf.DocLeaf.{DocLeaf}
+use Rattle.ats_commit.specs.Archive.{Layout, whole_lists}
 use Rattle.ats_records.specs.declared.record.Algorithm.{Algorithm}
 use Rattle.ats_records.specs.declared.record.Algorithm.TheVariants.{Tra, Tnra}
 use Rattle.ats_records.specs.declared.record.Slot.{Slot}
@@ -49,6 +50,10 @@ pub record Proof : Type 0 where
   pub lists : List Prefix
   pub docs : Option Documents
   pub answer : List ℕ
+
+-- the layout of the archive whose parts are shown
+abbrev pub layout_of : Proof → Layout
+layout_of proof = whole_lists
 
 abbrev pub algorithm_of : Proof → Algorithm
 algorithm_of proof = elim proof.docs [ None ↦ Tnra | Some docs ↦ Tra ]

@@ -7,7 +7,7 @@ use Rattle.std.proofs.lemmas.Cmp.{nat_cmp_total}
 use Rattle.std.proofs.lemmas.List.{get_or-map, length-map}
 use Rattle.std.proofs.lemmas.List.Elements.{All-filter}
 use Rattle.std.proofs.lemmas.List.MinMax.{ranks_by}
-use Rattle.std.proofs.lemmas.List.Sums.{count_by-le-length, get_or-le-sum_by, length-filter}
+use Rattle.std.proofs.lemmas.List.Sums.{get_or-le-sum_by}
 use Rattle.ats_terms.specs.Query.{IsQuery}
 use Rattle.ats_impact.specs.Numbers.{idf}
 use Rattle.ats_impact.specs.Score.{frequency}
@@ -18,6 +18,7 @@ use Rattle.ats_dict.specs.Dictionary.{dict_leaves}
 use Rattle.ats_dict.specs.declared.spot.Spot.{Spot}
 use Rattle.ats_doctree.specs.Impacts.{doc_terms}
 use Rattle.ats_doctree.specs.Sentinels.{terms_leaves}
+use Rattle.ats_commit.specs.Archive.{whole_lists, archive_of}
 use Rattle.ats_commit.specs.Own.{AreTexts}
 use Rattle.ats_commit.specs.Trees.{dictionary_of, documents_of}
 use Rattle.ats_index.specs.Parts.{header_parts}
@@ -35,8 +36,7 @@ use Rattle.ats_prover.specs.Lanes.{bounding, impacts_of, lane_of, lanes_of, pres
 use Rattle.ats_prover.specs.Documents.{AreHonestSections, HasDocuments, IsHonestSection, document_leaf, shown_term}
 use Rattle.ats_prover.specs.Honest.{IsHonest, prefixes}
 use Rattle.ats_prover.proofs.Needed.{are_needed}
-use Rattle.ats_prover.proofs.AcceptedLists.{lanes_have_lists}
-use Rattle.ats_prover.proofs.Present.{few_idf, some_idf}
+use Rattle.ats_prover.proofs.Present.{few_idf, lanes_few, lanes_have_lists, some_idf}
 use Rattle.ats_prover.proofs.Standing.{HasTerm, entry_spots, item_spots}
 
 -- the positions that spots need can be put in order
@@ -75,7 +75,7 @@ lanes_are_whole texts query few is =
     let size : length (lanes_of texts query) ≡ length terms = length-map terms (lane_of texts) in
     let all : All IsWeighed query = λ k d inside. (is.weighed k d inside, omega (arith, get_or-le-sum_by (λ (pair : List ℕ × ℕ). pair.1) query k d inside, is.weights)) in
     record {
-      few = omega (arith, size, length-filter has query, count_by-le-length has query, is.few);
+      few = omega (arith, lanes_few texts query, is.few);
       each = λ k d inside.
           let pair : List ℕ × ℕ = get_or terms k ([], 0) in
           let here : k < length terms = omega (arith, size, inside) in
@@ -136,9 +136,9 @@ documents_exist Tra H texts terms met all =
 -- ---- all together
 
 pub honest_exists : (H : List ℕ → List ℕ) (texts : List (List ℕ)) (query : List (List ℕ × ℕ)) (r : ℕ) (algorithm : Algorithm) → AreTexts texts → IsQuery query
-    → (proof : Proof) × IsHonest H texts query r algorithm proof
+    → (proof : Proof) × IsHonest H (archive_of texts) query r algorithm proof
 honest_exists H texts query r algorithm are is =
-    let entries = dictionary_of H texts in
+    let entries = dictionary_of H (archive_of texts) in
     let lanes : List WholeLane = lanes_of texts query in
     let terms : List (List ℕ × ℕ) = present texts query in
     let has : List ℕ × ℕ → Bool = λ (pair : List ℕ × ℕ). nat_lt 0 (frequency pair.0 texts) in
@@ -150,12 +150,12 @@ honest_exists H texts query r algorithm are is =
     let docs = documents_exist algorithm H texts terms met (All-filter has HasTerm query is.terms) in
     let answer = chosen_exists made.0 r in
     let proof : Proof = record {
-      header = header_parts H texts;
+      header = header_parts H (archive_of texts);
       dict = map (shown_entry entries) positions.0;
       dict_digests = elided_digests H (dict_leaves entries) positions.0;
       slots = map (slot_of positions.0) spots.0;
       met = met;
-      lists = prefixes H met lanes ending.0;
+      lists = prefixes H whole_lists met lanes ending.0;
       docs = docs.0;
       answer = answer.0;
     } in (
@@ -169,6 +169,7 @@ honest_exists H texts query r algorithm are is =
         first = ending.1;
         brackets = made.0;
         bounds = made.1;
+        layout = refl;
         header = refl;
         dict = refl;
         dict_digests = refl;

@@ -6,6 +6,7 @@ use Rattle.std.proofs.lemmas.List.FromFn.{length-range_with_len, get_or-range_wi
 use Rattle.std.proofs.lemmas.List.Elements.{All-take}
 use Rattle.ats_lists.specs.declared.entry.Entry.{Entry}
 use Rattle.ats_lists.specs.Lists.{IsList}
+use Rattle.ats_commit.specs.Archive.{whole_lists}
 use Rattle.ats_bound.specs.Schedule.{WholeLane, whole_lane, whole_lanes}
 use Rattle.ats_bound.specs.declared.lane.Lane.{Lane}
 use Rattle.ats_records.specs.Written.{Written}
@@ -15,13 +16,13 @@ use Rattle.ats_prover.proofs.Putting.{put_more}
 use Rattle.ats_proof.specs.Value.{Prefix, prefix_fields}
 use Rattle.ats_prover.specs.Honest.{prefix_of, prefixes}
 
-pub prefix_each : (H : List ℕ → List ℕ) (met : List ℕ) (lanes : List WholeLane) (cut : List ℕ) → length cut ≡ length lanes → length (prefixes H met lanes cut) ≡ length lanes
+pub prefix_each : (H : List ℕ → List ℕ) (met : List ℕ) (lanes : List WholeLane) (cut : List ℕ) → length cut ≡ length lanes → length (prefixes H whole_lists met lanes cut) ≡ length lanes
 prefix_each H met [] cut same = refl
 prefix_each H met (lane ∷ lanes) [] same = absurd (omega (arith, same))
 prefix_each H met (lane ∷ lanes) (count ∷ cut) same = ap suc (prefix_each H met lanes cut (omega (arith, same)))
 
 pub prefix_at : (H : List ℕ → List ℕ) (met : List ℕ) (lanes : List WholeLane) (cut : List ℕ) (i : ℕ) (d : Prefix) (e : WholeLane) → length cut ≡ length lanes → i < length lanes
-    → get_or (prefixes H met lanes cut) i d ≡ prefix_of H met (get_or lanes i e).entries (get_or cut i 0)
+    → get_or (prefixes H whole_lists met lanes cut) i d ≡ prefix_of H whole_lists met (get_or lanes i e).entries (get_or cut i 0)
 prefix_at H met [] cut i d e same inside = absurd (omega (arith, inside))
 prefix_at H met (lane ∷ lanes) [] i d e same inside = absurd (omega (arith, same))
 prefix_at H met (lane ∷ lanes) (count ∷ cut) zero d e same inside = refl
@@ -42,15 +43,15 @@ small_impacts entries k is = All-take (λ (e : Entry). e.impact < 2 ^ 16) k entr
 
 -- one prefix more
 pub prefix_more : (H : List ℕ → List ℕ) (met : List ℕ) (w : Written) (front : List (List ℕ)) (lanes : List Lane) (cut : List ℕ) (i : ℕ) (d : Lane) (old new : Written)
-    → length cut ≡ length (whole_lanes lanes) → i < length lanes → old ≡ put w (front ++ flat_map prefix_fields (take i (prefixes H met (whole_lanes lanes) cut)))
-    → new ≡ put old (prefix_fields (prefix_of H met (get_or lanes i d).entries.now (get_or cut i 0)))
-    → new ≡ put w (front ++ flat_map prefix_fields (take (i + 1) (prefixes H met (whole_lanes lanes) cut)))
+    → length cut ≡ length (whole_lanes lanes) → i < length lanes → old ≡ put w (front ++ flat_map prefix_fields (take i (prefixes H whole_lists met (whole_lanes lanes) cut)))
+    → new ≡ put old (prefix_fields (prefix_of H whole_lists met (get_or lanes i d).entries.now (get_or cut i 0)))
+    → new ≡ put w (front ++ flat_map prefix_fields (take (i + 1) (prefixes H whole_lists met (whole_lanes lanes) cut)))
 prefix_more H met w front lanes cut i d old new same inside before next =
     let none : WholeLane = record { coefficient = 0; entries = [] } in
     let e : Prefix = record { entries = []; digests = [] } in
-    let x = prefix_of H met (get_or lanes i d).entries.now (get_or cut i 0) in
+    let x = prefix_of H whole_lists met (get_or lanes i d).entries.now (get_or cut i 0) in
     let size = length-map lanes whole_lane in
     let at = prefix_at H met (whole_lanes lanes) cut i e none same (omega (arith, inside, size)) in
     next ∙ ap (λ (v : Written). put v (prefix_fields x)) before
-    ∙ put_more prefix_fields w front (prefixes H met (whole_lanes lanes) cut) i x e (concat (prefix_fields x)) (omega (arith, inside, size, prefix_each H met (whole_lanes lanes) cut same))
-    (ap (λ (l : WholeLane). prefix_of H met l.entries (get_or cut i 0)) (sym (get_or-map whole_lane lanes i d none inside)) ∙ sym at) refl
+    ∙ put_more prefix_fields w front (prefixes H whole_lists met (whole_lanes lanes) cut) i x e (concat (prefix_fields x)) (omega (arith, inside, size, prefix_each H met (whole_lanes lanes) cut same))
+    (ap (λ (l : WholeLane). prefix_of H whole_lists met l.entries (get_or cut i 0)) (sym (get_or-map whole_lane lanes i d none inside)) ∙ sym at) refl

@@ -11,14 +11,12 @@ pub mod MetDocuments
 pub mod Ranges
 pub mod Sections
 pub mod Whole
-pub mod ShownPlaces
-pub mod AcceptedTerms
-pub mod AcceptedLists
-pub mod AcceptedRows
 pub mod Positions
 pub mod OneProof
 pub mod Sizes
+pub mod OwnEntries
 pub mod Short
 pub mod Standing
 pub mod Exists
 pub mod LookedUp
+pub mod Archives

@@ -1,10 +1,13 @@
 -- The positions that some terms need, each once.
-use Rattle.std.proofs.Common.{◌≡◌, ◌+◌, ◌*◌, ◌≤◌, ◌++◌, ℕ, zero, suc, nat_eq, List, [], ◌∷◌, length, sym, ap, ◌∙◌, arith}
-use Rattle.std.specs.List.{dedup, flat_map}
+use Rattle.std.proofs.Common.{◌≡◌, ◌==◌, Bool, ◌+◌, ◌*◌, ◌≤◌, ◌++◌, ℕ, zero, suc, nat_eq, List, [], ◌∷◌, length, sym, ap, ◌∙◌, arith}
+use Rattle.std.specs.List.{dedup, flat_map, list_any}
 use Rattle.std.specs.List.Sorted.{IsPermutation, IsSorted}
-use Rattle.std.specs.Ordering.{nat_cmp}
+use Rattle.std.specs.Ordering.{eq_by_cmp, nat_cmp}
+use Rattle.std.proofs.lemmas.Bool.Decides.{nat_tests}
+use Rattle.std.proofs.lemmas.Cmp.{eq_by_cmp_equiv, nat_cmp_total}
+use Rattle.std.proofs.lemmas.Map.Made.{length-le_from_is_member}
 use Rattle.std.proofs.lemmas.List.Sorted.{list_any-IsPermutation}
-use Rattle.std.proofs.lemmas.Map.Keys.{IsStrictlyIncreasing-dedup}
+use Rattle.std.proofs.lemmas.Map.Keys.{IsDistinct-from_sorted, IsStrictlyIncreasing-dedup, sorted_from_strictly_increasing}
 use Rattle.std.specs.List.{range_with_len}
 use Rattle.ats_dict.specs.declared.spot.Spot.{Spot}
 use Rattle.ats_dict.specs.declared.spot.Spot.TheVariants.{At, Between}
@@ -23,6 +26,19 @@ pub needs_few : (spots : List Spot) → length (flat_map needs spots) ≤ 2 * le
 needs_few [] = omega arith
 needs_few (At p ∷ spots) = omega (arith, needs_few spots)
 needs_few (Between p ∷ spots) = omega (arith, needs_few spots)
+
+pub same_test : (q m : ℕ) → eq_by_cmp nat_cmp q m ≡ (m == q)
+same_test q m = grind (arith, nat_tests)
+
+-- no more positions than the spots need
+pub positions_few : (spots : List Spot) (positions : List ℕ) → AreNeeded spots positions → length positions ≤ 2 * length spots
+positions_few spots positions is =
+    let all : List ℕ = flat_map needs spots in
+    let tests : (q : ℕ) → eq_by_cmp nat_cmp q ≡ (λ (m : ℕ). m == q) = λ q. λ i. λ m. same_test q m i in
+    let few = length-le_from_is_member (eq_by_cmp_equiv nat_cmp_total) positions all
+    (IsDistinct-from_sorted nat_cmp positions (sorted_from_strictly_increasing positions is.rise))
+    (λ q member. ap (λ (f : ℕ → Bool). list_any f all) (tests q) ∙ sym (is.needed q) ∙ sym (ap (λ (f : ℕ → Bool). list_any f positions) (tests q)) ∙ member) in
+    omega (arith, few, needs_few spots)
 
 -- one number more
 pub range_more : (a n : ℕ) → range_with_len a (suc n) ≡ range_with_len a n ++ (a + n) ∷ []

@@ -4,7 +4,6 @@ use Rattle.std.specs.List.{list_any}
 use Rattle.std.specs.List.Sorted.{IsStrictlySortedBy}
 use Rattle.std.specs.Ordering.{nat_cmp, eq_by_cmp}
 use Rattle.std.specs.declared.cmp.Ordering.TheVariants.{Less}
-use Rattle.std.proofs.lemmas.Bool.Decides.{nat_tests}
 use Rattle.std.proofs.lemmas.Cmp.{nat_cmp_total}
 use Rattle.std.proofs.lemmas.List.{get_or-map, length-map}
 use Rattle.std.proofs.lemmas.Map.Keys.{Less-from_sorted, sorted_from_strictly_increasing}
@@ -17,6 +16,7 @@ use Rattle.ats_dict.specs.Entry.{DictEntry}
 use Rattle.ats_dict.specs.Dictionary.{IsBelow, byte_cmp, dict_leaves, low, term_at}
 use Rattle.ats_dict.specs.Found.{IsSpot, LiesBetween, StandsAt}
 use Rattle.ats_dict.proofs.Sentinels.{entry_at-suc}
+use Rattle.ats_commit.specs.Archive.{whole_lists, archive_of}
 use Rattle.ats_commit.specs.Trees.{dictionary_of}
 use Rattle.ats_commit.proofs.DictionaryLemmas.{dictionary_terms}
 use Rattle.ats_bound.specs.declared.bracket.Bracket.{Bracket}
@@ -39,6 +39,7 @@ use Rattle.ats_prover.specs.Terms.{AreNeeded, HaveSpots, shown_entry, slot_of}
 use Rattle.ats_prover.specs.Documents.{AreHonestSections, HasDocuments, IsHonestSection, IsTermSpot, shown_term}
 use Rattle.ats_prover.specs.Lanes.{bounding, lanes_of, present}
 use Rattle.ats_prover.specs.Honest.{IsHonest, prefixes}
+use Rattle.ats_prover.proofs.Needed.{same_test}
 use Rattle.ats_prover.proofs.Positions.{Lies, Stands, one_lie, one_stand}
 use Rattle.ats_tree.specs.Elided.{elided_digests}
 
@@ -58,13 +59,13 @@ one_spots is one (pair ∷ terms) (s ∷ ss) (t ∷ ts) first second =
 -- the terms of a dictionary rise
 module _ (H : List ℕ → List ℕ) (texts : List (List ℕ)) where
   abbrev entries : List DictEntry
-  entries = dictionary_of H texts
+  entries = dictionary_of H (archive_of texts)
 
   pub entries_rise : (i j : ℕ) → i < j → j < length entries → IsBelow (get_or entries i low).term (get_or entries j low).term
   entries_rise i j less inside =
       let term : DictEntry → List ℕ = λ e. e.term in
       let size : length (map term entries) ≡ length entries = length-map entries term in
-      let rises : IsStrictlySortedBy byte_cmp (map term entries) = subst (IsStrictlySortedBy byte_cmp) (sym (dictionary_terms H texts)) (vocabulary_rises texts) in
+      let rises : IsStrictlySortedBy byte_cmp (map term entries) = subst (IsStrictlySortedBy byte_cmp) (sym (dictionary_terms H (archive_of texts))) (vocabulary_rises texts) in
       let below : byte_cmp (get_or (map term entries) i []) (get_or (map term entries) j []) ≡ Less =
       Less-from_sorted byte_cmp (map term entries) i j [] rises less (omega (arith, size, inside)) in
       rw (get_or-map term entries i low [] (omega (arith, less, inside)), get_or-map term entries j low [] inside) at below
@@ -131,9 +132,6 @@ module _ (texts : List (List ℕ)) (doc : ℕ) where
 
 -- ---- positions
 
-same_test : (q m : ℕ) → eq_by_cmp nat_cmp q m ≡ (m == q)
-same_test q m = grind (arith, nat_tests)
-
 one_needed : (spots : List Spot) (a b : List ℕ) → AreNeeded spots a → AreNeeded spots b → a ≡ b
 one_needed spots a b first second =
     let tests : (q : ℕ) → eq_by_cmp nat_cmp q ≡ (λ (m : ℕ). m == q) = λ q. λ i. λ m. same_test q m i in
@@ -178,9 +176,9 @@ one_documents Tra H texts terms met (Some a) (Some b) x y =
 -- ---- all together
 
 pub one_proof : (H : List ℕ → List ℕ) (texts : List (List ℕ)) (query : List (List ℕ × ℕ)) (r : ℕ) (algorithm : Algorithm) (a b : Proof)
-    → IsHonest H texts query r algorithm a → IsHonest H texts query r algorithm b → a ≡ b
+    → IsHonest H (archive_of texts) query r algorithm a → IsHonest H (archive_of texts) query r algorithm b → a ≡ b
 one_proof H texts query r algorithm a b x y =
-    let entries : List DictEntry = dictionary_of H texts in
+    let entries : List DictEntry = dictionary_of H (archive_of texts) in
     let lanes : List WholeLane = lanes_of texts query in
     let by : Bounding = bounding algorithm lanes in
     let spots : x.spots ≡ y.spots = one_spots (IsSpot entries) (one_spot H texts) query x.spots y.spots x.found y.found in
@@ -196,7 +194,7 @@ one_proof H texts query r algorithm a b x y =
     let digests : a.dict_digests ≡ b.dict_digests = x.dict_digests ∙ ap (elided_digests H (dict_leaves entries)) positions ∙ sym y.dict_digests in
     let slots : a.slots ≡ b.slots = x.slots ∙ ap₂ (λ (ps : List ℕ) (ss : List Spot). map (slot_of ps) ss) positions spots ∙ sym y.slots in
     let met : a.met ≡ b.met = x.met ∙ ap (λ (bs : List Bracket). map (λ (b : Bracket). b.doc) bs) brackets ∙ sym y.met in
-    let lists : a.lists ≡ b.lists = x.lists ∙ ap₂ (λ (ids c : List ℕ). prefixes H ids lanes c) met cut ∙ sym y.lists in
+    let lists : a.lists ≡ b.lists = x.lists ∙ ap₂ (λ (ids c : List ℕ). prefixes H whole_lists ids lanes c) met cut ∙ sym y.lists in
     let docs : a.docs ≡ b.docs =
     one_documents algorithm H texts (present texts query) b.met a.docs b.docs (subst (λ (ids : List ℕ). HasDocuments algorithm H texts (present texts query) ids a.docs) met x.docs) y.docs in
     λ i. record {

@@ -1,31 +1,33 @@
 -- The lists of the terms that are present.
-use Rattle.std.proofs.Common.{◌≡◌, ◌*◌, ◌/◌, ◌^◌, ◌+◌, ◌<◌, ◌≤◌, ◌++◌, ℕ, zero, suc, Bool, true, false, cond, nat_lt, List, [], ◌∷◌, length, map, take, get_or, refl, sym, ap, ap₂, ◌∙◌, arith, inl, inr, append-nil}
+use Rattle.std.proofs.Common.{subst, ◌≡◌, ◌*◌, ◌/◌, ◌^◌, ◌+◌, ◌<◌, ◌≤◌, ◌++◌, ℕ, zero, suc, Bool, true, false, cond, nat_lt, List, [], ◌∷◌, length, map, take, get_or, refl, sym, ap, ap₂, ◌∙◌, arith, inl, inr, append-nil}
 use Rattle.std.specs.Prelude.{filter, nat_le}
-use Rattle.std.specs.List.{list_any}
+use Rattle.std.specs.List.{All, list_any}
 use Rattle.std.specs.Str.{bytes_eq}
 use Rattle.std.proofs.lemmas.Bool.Decides.{leb_tells}
-use Rattle.std.proofs.lemmas.Bool.{cases_Bool, cases_lt, lt-ltb, le-ltb, ltb-false}
+use Rattle.std.proofs.lemmas.Bool.{cases_Bool, cases_lt, lt-ltb, le-ltb, ltb-false, ltb-true}
 use Rattle.std.proofs.lemmas.List.{length-map, get_or-map, map-append}
-use Rattle.std.proofs.lemmas.List.Elements.{filter_more}
+use Rattle.std.proofs.lemmas.List.Elements.{All-cons, filter_more}
 use Rattle.std.proofs.Math.Nat.{div-mul-le_self, mul-le-mul_left}
 use Rattle.std.proofs.Math.Pow.{pow_mono}
 use Rattle.std.proofs.lemmas.List.Folds.{list_any_none}
-use Rattle.std.proofs.lemmas.List.Sums.{count_by-le-length}
+use Rattle.std.proofs.lemmas.List.Sums.{count_by-le-length, length-filter}
 use Rattle.std.proofs.lemmas.Slice.Eq.{bytes_eq-Decides}
 use Rattle.ats_impact.specs.Numbers.{idf, ratio, doublings, eighths}
 use Rattle.ats_impact.specs.Score.{coefficient, frequency}
 use Rattle.ats_lists.specs.Lists.{IsList, list, lists_of, vocabulary}
 use Rattle.ats_lists.specs.declared.entry.Entry.{Entry}
 use Rattle.ats_lists.proofs.VocabularyLemmas.{vocabulary_has, postings_frequency}
-use Rattle.ats_lists.proofs.WholeLemmas.{list_frequency}
+use Rattle.ats_lists.specs.Postings.{postings}
+use Rattle.ats_lists.proofs.WholeLemmas.{list_frequency, list_keeps}
 use Rattle.ats_dict.specs.Entry.{DictEntry}
 use Rattle.ats_dict.specs.Dictionary.{low, entry_at}
 use Rattle.ats_dict.specs.Found.{StandsAt, LiesBetween}
 use Rattle.ats_dict.proofs.Sentinels.{entry_at-suc}
+use Rattle.ats_commit.specs.Archive.{Archive}
 use Rattle.ats_commit.specs.Trees.{dict_entry, dictionary_of}
 use Rattle.ats_commit.proofs.DictionaryLemmas.{dictionary_terms}
 use Rattle.ats_bound.specs.Schedule.{WholeLane, IsWholeLane}
-use Rattle.ats_prover.specs.Lanes.{lane_of, lanes_of}
+use Rattle.ats_prover.specs.Lanes.{lane_of, lanes_of, present}
 
 abbrev has_list : List (List ℕ) → List ℕ × ℕ → Bool
 has_list texts pair = nat_lt 0 (frequency pair.0 texts)
@@ -47,13 +49,13 @@ lane_none texts query i d inside none =
     ∙ append-nil (filter (has_list texts) (take i query)))
 
 -- a term that stands in the dictionary is that of its list
-pub standing_term : (H : List ℕ → List ℕ) (texts : List (List ℕ)) (term : List ℕ) (p : ℕ) (d : List ℕ × List Entry) → StandsAt (dictionary_of H texts) term (suc p)
-    → (p < length (lists_of texts)) × ((get_or (lists_of texts) p d).0 ≡ term)
-standing_term H texts term p d is =
-    let size = length-map (lists_of texts) (dict_entry H) in
-    let inside : p < length (lists_of texts) = omega (arith, is.within, size) in
-    let entry : entry_at (dictionary_of H texts) (suc p) ≡ dict_entry H (get_or (lists_of texts) p d) =
-    entry_at-suc (dictionary_of H texts) p low (omega (arith, inside, size)) ∙ get_or-map (dict_entry H) (lists_of texts) p d low inside in
+pub standing_term : (H : List ℕ → List ℕ) (archive : Archive) (term : List ℕ) (p : ℕ) (d : List ℕ × List Entry) → StandsAt (dictionary_of H archive) term (suc p)
+    → (p < length (lists_of archive.texts)) × ((get_or (lists_of archive.texts) p d).0 ≡ term)
+standing_term H archive term p d is =
+    let size = length-map (lists_of archive.texts) (dict_entry H archive.layout) in
+    let inside : p < length (lists_of archive.texts) = omega (arith, is.within, size) in
+    let entry : entry_at (dictionary_of H archive) (suc p) ≡ dict_entry H archive.layout (get_or (lists_of archive.texts) p d) =
+    entry_at-suc (dictionary_of H archive) p low (omega (arith, inside, size)) ∙ get_or-map (dict_entry H archive.layout) (lists_of archive.texts) p d low inside in
     (inside, ap (λ (e : DictEntry). e.term) (sym entry) ∙ is.same)
 
 -- each list is that of its term
@@ -66,17 +68,17 @@ list_at texts p d inside =
     rw is refl
 
 -- a term that lies between two leaves has no list
-pub absent_term : (H : List ℕ → List ℕ) (texts : List (List ℕ)) (term : List ℕ) (p : ℕ) → LiesBetween (dictionary_of H texts) term p → frequency term texts ≡ 0
-absent_term H texts term p is =
-    let entries = dictionary_of H texts in
+pub absent_term : (H : List ℕ → List ℕ) (archive : Archive) (term : List ℕ) (p : ℕ) → LiesBetween (dictionary_of H archive) term p → frequency term archive.texts ≡ 0
+absent_term H archive term p is =
+    let entries = dictionary_of H archive in
     let terms : List (List ℕ) = map (λ (e : DictEntry). e.term) entries in
     let none : list_any (bytes_eq term) terms ≡ false = list_any_none (bytes_eq term) terms (λ k d inside.
     let within : k < length entries = omega (arith, inside, length-map entries (λ (e : DictEntry). e.term)) in
     let at : get_or terms k d ≡ (get_or entries k low).term = get_or-map (λ (e : DictEntry). e.term) entries k low d within in
     other term (get_or terms k d) (λ same. is.absent k low within (sym at ∙ sym same))) in
-    let test : nat_lt 0 (frequency term texts) ≡ false =
-    ap (nat_lt 0) (sym (postings_frequency term texts)) ∙ sym (vocabulary_has texts term) ∙ ap (list_any (bytes_eq term)) (sym (dictionary_terms H texts)) ∙ none in
-    zero_of (frequency term texts) test
+    let test : nat_lt 0 (frequency term archive.texts) ≡ false =
+    ap (nat_lt 0) (sym (postings_frequency term archive.texts)) ∙ sym (vocabulary_has archive.texts term) ∙ ap (list_any (bytes_eq term)) (sym (dictionary_terms H archive)) ∙ none in
+    zero_of (frequency term archive.texts) test
   where
     other : (xs ys : List ℕ) → (xs ≡ ys → ⊥) → bytes_eq xs ys ≡ false
     other xs ys differ = elim (cases_Bool (bytes_eq xs ys)) [
@@ -145,16 +147,55 @@ pub record IsLaneAt (H : List ℕ → List ℕ) (texts : List (List ℕ)) (query
   pub same : lane ≡ lane_of texts (get_or query i ([], 0))
   pub more : lanes_of texts (take (i + 1) query) ≡ lanes_of texts (take i query) ++ lane ∷ []
 
-pub lane_at : (H : List ℕ → List ℕ) (texts : List (List ℕ)) (query : List (List ℕ × ℕ)) (i p documents weight : ℕ) (lane : WholeLane) → i < length query
-    → StandsAt (dictionary_of H texts) (get_or query i ([], 0)).0 (suc p) → lane.entries ≡ (get_or (lists_of texts) p ([], [])).1 → 1 ≤ length lane.entries
-    → documents ≡ length texts → weight ≡ (get_or query i ([], 0)).1 → lane.coefficient ≡ weight * idf documents (length lane.entries) → IsLaneAt H texts query i lane
-lane_at H texts query i p documents weight lane inside stands entries some number times coefficient_is =
+pub lane_at : (H : List ℕ → List ℕ) (archive : Archive) (query : List (List ℕ × ℕ)) (i p documents weight : ℕ) (lane : WholeLane) → i < length query
+    → StandsAt (dictionary_of H archive) (get_or query i ([], 0)).0 (suc p) → lane.entries ≡ (get_or (lists_of archive.texts) p ([], [])).1 → 1 ≤ length lane.entries
+    → documents ≡ length archive.texts → weight ≡ (get_or query i ([], 0)).1 → lane.coefficient ≡ weight * idf documents (length lane.entries) → IsLaneAt H archive.texts query i lane
+lane_at H archive query i p documents weight lane inside stands entries some number times coefficient_is =
     let pair = get_or query i ([], 0) in
-    let term = standing_term H texts pair.0 p ([], []) stands in
-    let own : lane.entries ≡ list texts pair.0 = entries ∙ list_at texts p ([], []) term.0 ∙ ap (list texts) term.1 in
-    let is = lane_is texts pair lane documents weight own number times coefficient_is in
-    let count : 0 < frequency pair.0 texts = omega (arith, some, ap (λ (es : List Entry). length es) own, list_frequency texts pair.0) in
+    let term = standing_term H archive pair.0 p ([], []) stands in
+    let own : lane.entries ≡ list archive.texts pair.0 = entries ∙ list_at archive.texts p ([], []) term.0 ∙ ap (list archive.texts) term.1 in
+    let is = lane_is archive.texts pair lane documents weight own number times coefficient_is in
+    let count : 0 < frequency pair.0 archive.texts = omega (arith, some, ap (λ (es : List Entry). length es) own, list_frequency archive.texts pair.0) in
     record {
       same = is;
-      more = lane_more texts query i ([], 0) inside count ∙ ap (λ (l : WholeLane). lanes_of texts (take i query) ++ l ∷ []) (sym is);
+      more = lane_more archive.texts query i ([], 0) inside count ∙ ap (λ (l : WholeLane). lanes_of archive.texts (take i query) ++ l ∷ []) (sym is);
     }
+
+-- a lane for each term that some text has
+pub with_lane : (texts : List (List ℕ)) (pair : List ℕ × ℕ) (query : List (List ℕ × ℕ)) → has_list texts pair ≡ true → lanes_of texts (pair ∷ query) ≡ lane_of texts pair ∷ lanes_of texts query
+with_lane texts pair query is = ap (λ b. map (lane_of texts) (cond b (pair ∷ present texts query) (present texts query))) is
+
+pub with_none : (texts : List (List ℕ)) (pair : List ℕ × ℕ) (query : List (List ℕ × ℕ)) → has_list texts pair ≡ false → lanes_of texts (pair ∷ query) ≡ lanes_of texts query
+with_none texts pair query is = ap (λ b. map (lane_of texts) (cond b (pair ∷ present texts query) (present texts query))) is
+
+abbrev pub HasList : ℕ → WholeLane → Type 0
+HasList n lane = IsList n lane.entries
+
+-- each lane has a list over the texts
+pub lanes_have_lists : (texts : List (List ℕ)) (query : List (List ℕ × ℕ)) → All (HasList (length texts)) (lanes_of texts query)
+lanes_have_lists texts [] = λ k d inside. absurd (omega (arith, inside))
+lanes_have_lists texts (pair ∷ query) = elim (cases_Bool (has_list texts pair)) [
+  | inl one ↦
+      let some : 1 ≤ length (postings texts pair.0) = omega (arith, ltb-true 0 (frequency pair.0 texts) one, postings_frequency pair.0 texts) in
+      subst (All (HasList (length texts))) (sym (with_lane texts pair query one))
+      (All-cons (HasList (length texts)) (lane_of texts pair) (lanes_of texts query) (list_keeps texts pair.0 some) (lanes_have_lists texts query))
+  | inr none ↦ subst (All (HasList (length texts))) (sym (with_none texts pair query none)) (lanes_have_lists texts query)
+]
+
+-- within the limits it is one over 65,536 documents
+pub lists_within : (texts : List (List ℕ)) (query : List (List ℕ × ℕ)) → length texts ≤ 65536 → All (HasList 65536) (lanes_of texts query)
+lists_within texts query few k d inside =
+    let is = lanes_have_lists texts query k d inside in
+    record {
+      some = is.some;
+      few = omega (arith, is.few, few);
+      documents = λ i e less. omega (arith, is.documents i e less, few);
+      impacts = is.impacts;
+      falling = is.falling;
+      once = is.once;
+    }
+
+-- no more lanes than terms
+pub lanes_few : (texts : List (List ℕ)) (query : List (List ℕ × ℕ)) → length (lanes_of texts query) ≤ length query
+lanes_few texts query =
+    omega (arith, length-map (present texts query) (lane_of texts), length-filter (has_list texts) query, count_by-le-length (has_list texts) query)

@@ -27,7 +27,7 @@ use Rattle.ats_prover.proofs.Coming.{AreGoodEntries, AreGoodSlots, AreGoodIds}
 
 -- ---- digests have 32 bytes
 
-digest_sized : (H : List ℕ → List ℕ) → ((bytes : List ℕ) → length (H bytes) ≡ 32) → (t : Tree (List ℕ)) → length (digest_of H t) ≡ 32
+pub digest_sized : (H : List ℕ → List ℕ) → ((bytes : List ℕ) → length (H bytes) ≡ 32) → (t : Tree (List ℕ)) → length (digest_of H t) ≡ 32
 digest_sized H sized empty = sized []
 digest_sized H sized (leaf d) = sized (0 ∷ d)
 digest_sized H sized (node l r) = sized (1 ∷ digest_of H l ++ digest_of H r)

@@ -1,11 +1,12 @@
 -- What was asked of a writer for one honest proof is the size of any.
 use Rattle.std.proofs.Common.{◌≡◌, ◌<◌, ◌≤◌, ℕ, List, [], ap, ◌∙◌, arith}
+use Rattle.ats_commit.specs.Archive.{Archive}
 use Rattle.ats_records.specs.Written.{Written, writing}
 use Rattle.ats_records.specs.declared.record.Algorithm.{Algorithm}
 use Rattle.ats_proof.specs.Value.{Proof}
 use Rattle.ats_prover.specs.Honest.{IsHonest, length_of}
 use Rattle.ats_prover.specs.Writing.{IsWritten}
-use Rattle.ats_prover.proofs.OneProof.{one_proof}
+use Rattle.ats_prover.proofs.Archives.{archive_one}
 use Rattle.ats_prover.proofs.Whole.{AreJoined, all_asked}
 
 -- so many bytes were asked for, under this limit
@@ -13,11 +14,11 @@ pub record IsAsked (limit size : ℕ) (w : Written) : Type 0 where
   pub all : w.asked ≡ size
   pub under : w.limit ≡ limit
 
-pub is_asked : AreJoined → (H : List ℕ → List ℕ) (texts : List (List ℕ)) (query : List (List ℕ × ℕ)) (r : ℕ) (algorithm : Algorithm) (limit : ℕ) (w : Written) → IsWritten H texts query r algorithm (writing limit []) w
-    → (proof : Proof) → IsHonest H texts query r algorithm proof → IsAsked limit (length_of proof) w
-is_asked joined H texts query r algorithm limit w is proof honest =
-    let asked = all_asked joined H texts query r algorithm limit w is in record {
-      all = ap (λ (v : Written). v.asked) asked ∙ ap length_of (one_proof H texts query r algorithm is.proof proof is.honest honest);
+pub is_asked : AreJoined → (H : List ℕ → List ℕ) (archive : Archive) (query : List (List ℕ × ℕ)) (r : ℕ) (algorithm : Algorithm) (limit : ℕ) (w : Written) → IsWritten H archive query r algorithm (writing limit []) w
+    → (proof : Proof) → IsHonest H archive query r algorithm proof → IsAsked limit (length_of proof) w
+is_asked joined H archive query r algorithm limit w is proof honest =
+    let asked = all_asked joined H archive query r algorithm limit w is in record {
+      all = ap (λ (v : Written). v.asked) asked ∙ ap length_of (archive_one H archive query r algorithm is.proof proof is.honest honest);
       under = ap (λ (v : Written). v.limit) asked;
     }
 

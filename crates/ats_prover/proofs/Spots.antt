@@ -55,14 +55,18 @@ zero_root_size : length zero_root ≡ 32
 unfolding zero_root
 zero_root_size = length-replicate {A = ℕ} 32 0
 
-pub leaf_at : (entries : List DictEntry) (p : ℕ) → IsDictionary entries → p < length entries + 2 → IsLeaf (entry_at entries p)
-leaf_at entries zero is inside = record { short = omega arith; number = omega arith; root = zero_root_size }
-leaf_at entries (suc p) is inside = elim (cases_lt p (length entries)) [
-  | inl within ↦
-      let entry = is.each p low within in
-      subst IsLeaf (sym (entry_at-suc entries p low within)) (record { short = entry.term.few; number = entry.number; root = entry.root })
+-- where each entry keeps it, each leaf does
+pub leaf_among : (entries : List DictEntry) (p : ℕ) → All IsLeaf entries → p < length entries + 2 → IsLeaf (entry_at entries p)
+leaf_among entries zero each inside = record { short = omega arith; number = omega arith; root = zero_root_size }
+leaf_among entries (suc p) each inside = elim (cases_lt p (length entries)) [
+  | inl within ↦ subst IsLeaf (sym (entry_at-suc entries p low within)) (each p low within)
   | inr past ↦ subst IsLeaf (sym (entry_at-last entries (suc p) (omega (arith, past, inside)))) (record { short = omega arith; number = omega arith; root = zero_root_size })
 ]
+
+pub leaf_at : (entries : List DictEntry) (p : ℕ) → IsDictionary entries → p < length entries + 2 → IsLeaf (entry_at entries p)
+leaf_at entries p is inside = leaf_among entries p (λ k d less.
+    let entry = is.each k d less in
+    record { short = entry.term.few; number = entry.number; root = entry.root }) inside
 
 pub lowers : (entries : List DictEntry) (query : List (List ℕ × ℕ)) (spots : List Spot) → length entries ≤ 2 ^ 24 → AreSpots entries query spots
     → All (λ spot. lower spot ≤ 2 ^ 24) spots

@@ -14,6 +14,7 @@ use Rattle.ats_doctree.specs.Impacts.{doc_terms}
 use Rattle.ats_doctree.specs.Sentinels as tree
 use Rattle.ats_doctree.proofs.Documents.{doc_terms_rise}
 use Rattle.ats_doctree.proofs.Positions.{item_at-last, item_at-suc}
+use Rattle.ats_commit.specs.Archive.{archive_of}
 use Rattle.ats_commit.specs.Trees.{dictionary_of}
 use Rattle.ats_commit.proofs.Enclosed.{none_between}
 use Rattle.ats_prover.specs.Terms.{HaveSpots}
@@ -22,9 +23,9 @@ use Rattle.ats_prover.proofs.OneProof.{entries_rise}
 use Rattle.ats_prover.proofs.Positions.{found}
 
 -- a term has a spot in the dictionary of texts
-entry_spot : (H : List ℕ → List ℕ) (texts : List (List ℕ)) (term : List ℕ) → IsTerm term → (spot : Spot) × IsSpot (dictionary_of H texts) term spot
+entry_spot : (H : List ℕ → List ℕ) (texts : List (List ℕ)) (term : List ℕ) → IsTerm term → (spot : Spot) × IsSpot (dictionary_of H (archive_of texts)) term spot
 entry_spot H texts term is =
-    let entries : List DictEntry = dictionary_of H texts in
+    let entries : List DictEntry = dictionary_of H (archive_of texts) in
     let n : ℕ = length entries in
     let past : term_at entries (n + 1) ≡ 255 ∷ [] = ap (λ (e : DictEntry). e.term) (entry_at-last entries (n + 1) refl) in
     let last : IsBelow term (term_at entries (n + 1)) = subst (IsBelow term) (sym past) (high_above term is.some is.front) in
@@ -75,8 +76,8 @@ have_spots is each (pair ∷ terms) all =
 
 -- terms have spots in the dictionary
 pub entry_spots : (H : List ℕ → List ℕ) (texts : List (List ℕ)) (terms : List (List ℕ × ℕ)) → All HasTerm terms
-    → (spots : List Spot) × HaveSpots (IsSpot (dictionary_of H texts)) terms spots
-entry_spots H texts terms all = have_spots (IsSpot (dictionary_of H texts)) (entry_spot H texts) terms all
+    → (spots : List Spot) × HaveSpots (IsSpot (dictionary_of H (archive_of texts))) terms spots
+entry_spots H texts terms all = have_spots (IsSpot (dictionary_of H (archive_of texts))) (entry_spot H texts) terms all
 
 -- and in each document
 pub item_spots : (texts : List (List ℕ)) (doc : ℕ) (terms : List (List ℕ × ℕ)) → All HasTerm terms

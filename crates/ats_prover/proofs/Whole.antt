@@ -24,6 +24,8 @@ use Rattle.ats_dict.specs.Header.{IsHeader}
 use Rattle.ats_dict.specs.declared.spot.Spot.{Spot}
 use Rattle.ats_dict.specs.declared.spot.Spot.TheVariants.{At, Between}
 use Rattle.ats_dict.proofs.Sentinels.{entry_at-suc, length-dict_leaves}
+use Rattle.ats_commit.specs.Archive.{whole_lists, Archive, archive_of}
+use Rattle.ats_commit.proofs.Layouts.{each_archive}
 use Rattle.ats_commit.specs.Trees.{dictionary_of}
 use Rattle.ats_commit.proofs.DictionaryLemmas.{dictionary_terms}
 use Rattle.ats_index.specs.Parts.{header_parts}
@@ -55,25 +57,25 @@ use Rattle.ats_prover.proofs.Ranges.{elided_sized, good_entries, good_ids, good_
 
 -- ---- as many lists as present slots
 
-present_term : (H : List ℕ → List ℕ) (texts : List (List ℕ)) (term : List ℕ) (p : ℕ) → StandsAt (dictionary_of H texts) term (suc p) → nat_lt 0 (frequency term texts) ≡ true
+present_term : (H : List ℕ → List ℕ) (texts : List (List ℕ)) (term : List ℕ) (p : ℕ) → StandsAt (dictionary_of H (archive_of texts)) term (suc p) → nat_lt 0 (frequency term texts) ≡ true
 present_term H texts term p is =
-    let entries = dictionary_of H texts in
+    let entries = dictionary_of H (archive_of texts) in
     let terms : List (List ℕ) = map (λ (e : DictEntry). e.term) entries in
     let inside : p < length entries = omega (arith, is.within) in
     let at : get_or terms p [] ≡ term = get_or-map (λ (e : DictEntry). e.term) entries p low [] inside ∙ ap (λ (e : DictEntry). e.term) (sym (entry_at-suc entries p low inside)) ∙ is.same in
-    ap (nat_lt 0) (sym (postings_frequency term texts)) ∙ sym (vocabulary_has texts term) ∙ ap (list_any (bytes_eq term)) (sym (dictionary_terms H texts))
+    ap (nat_lt 0) (sym (postings_frequency term texts)) ∙ sym (vocabulary_has texts term) ∙ ap (list_any (bytes_eq term)) (sym (dictionary_terms H (archive_of texts)))
     ∙ list_any_at (bytes_eq term) terms p [] (omega (arith, inside, length-map entries (λ (e : DictEntry). e.term))) ((bytes_eq-Decides term (get_or terms p [])).1 (sym at))
 
 abbrev has_list : List (List ℕ) → List ℕ × ℕ → Bool
 has_list texts pair = nat_lt 0 (frequency pair.0 texts)
 
-kind_tells : (H : List ℕ → List ℕ) (texts : List (List ℕ)) (pair : List ℕ × ℕ) (positions : List ℕ) (spot : Spot) → AreSpots (dictionary_of H texts) (pair ∷ []) (spot ∷ [])
+kind_tells : (H : List ℕ → List ℕ) (texts : List (List ℕ)) (pair : List ℕ × ℕ) (positions : List ℕ) (spot : Spot) → AreSpots (dictionary_of H (archive_of texts)) (pair ∷ []) (spot ∷ [])
     → cond (has_list texts pair) 1 0 ≡ kind_of_slot (slot_of positions spot)
 kind_tells H texts pair positions (At zero) are = absurd (omega (arith, are.0.some))
 kind_tells H texts pair positions (At (suc p)) are = ap (λ b. cond b 1 0) (present_term H texts pair.0 p are.0)
-kind_tells H texts pair positions (Between p) are = ap (λ n. cond (nat_lt 0 n) 1 0) (absent_term H texts pair.0 p are.0)
+kind_tells H texts pair positions (Between p) are = ap (λ n. cond (nat_lt 0 n) 1 0) (absent_term H (archive_of texts) pair.0 p are.0)
 
-count_present : (H : List ℕ → List ℕ) (texts : List (List ℕ)) (query : List (List ℕ × ℕ)) (positions : List ℕ) (spots : List Spot) → AreSpots (dictionary_of H texts) query spots
+count_present : (H : List ℕ → List ℕ) (texts : List (List ℕ)) (query : List (List ℕ × ℕ)) (positions : List ℕ) (spots : List Spot) → AreSpots (dictionary_of H (archive_of texts)) query spots
     → count_by (has_list texts) query ≡ present_in (map (slot_of positions) spots)
 count_present H texts [] positions [] are = refl
 count_present H texts [] positions (s ∷ spots) are = absurd are
@@ -87,7 +89,7 @@ count_present H texts (pair ∷ query) positions (s ∷ spots) are =
       count_present H texts query positions spots are.1,
     )
 
-pub lanes_each : (H : List ℕ → List ℕ) (texts : List (List ℕ)) (query : List (List ℕ × ℕ)) (positions : List ℕ) (spots : List Spot) → AreSpots (dictionary_of H texts) query spots
+pub lanes_each : (H : List ℕ → List ℕ) (texts : List (List ℕ)) (query : List (List ℕ × ℕ)) (positions : List ℕ) (spots : List Spot) → AreSpots (dictionary_of H (archive_of texts)) query spots
     → length (lanes_of texts query) ≡ present_in (map (slot_of positions) spots)
 lanes_each H texts query positions spots are =
     length-map (present texts query) (lane_of texts) ∙ length-filter (has_list texts) query ∙ count_present H texts query positions spots are
@@ -95,7 +97,7 @@ lanes_each H texts query positions spots are =
 -- ---- prefixes
 
 good_prefix : (H : List ℕ → List ℕ) → ((bytes : List ℕ) → length (H bytes) ≡ 32) → (met : List ℕ) (entries : List Entry) (count : ℕ) → length met ≤ 65536 → IsList 65536 entries
-    → 1 ≤ count → count ≤ length entries → IsGoodPrefix (prefix_of H met entries count)
+    → 1 ≤ count → count ≤ length entries → IsGoodPrefix (prefix_of H whole_lists met entries count)
 good_prefix H sized met entries count few is some within =
     let size = length-map (take count entries) (placed met) in
     let took = length-take-le count entries within in
@@ -118,7 +120,7 @@ good_prefix H sized met entries count few is some within =
 
 good_prefixes : (H : List ℕ → List ℕ) → ((bytes : List ℕ) → length (H bytes) ≡ 32) → (met : List ℕ) (lanes : List WholeLane) (cut : List ℕ) → length met ≤ 65536
     → All (λ (lane : WholeLane). IsList 65536 lane.entries) lanes → ((i : ℕ) (d : WholeLane) → i < length lanes → (1 ≤ get_or cut i 0) × (get_or cut i 0 ≤ length (get_or lanes i d).entries))
-    → All IsGoodPrefix (prefixes H met lanes cut)
+    → All IsGoodPrefix (prefixes H whole_lists met lanes cut)
 good_prefixes H sized met [] cut few lists is k d inside = absurd (omega (arith, inside))
 good_prefixes H sized met (lane ∷ lanes) [] few lists is k d inside = absurd (omega (arith, inside))
 good_prefixes H sized met (lane ∷ lanes) (count ∷ cut) few lists is zero d inside =
@@ -142,10 +144,10 @@ small_rows brackets r picks few is = subst (All (λ n. n ≤ 0xffff_ffff)) (sym 
 -- what a walk and the dictionary give to a proof
 pub record HasParts (H : List ℕ → List ℕ) (texts : List (List ℕ)) (query : List (List ℕ × ℕ)) (r : ℕ) (spots : List Spot) (positions cut : List ℕ) (brackets : List Bracket) (picks : List ℕ) : Type 0 where
   pub sized : (bytes : List ℕ) → length (H bytes) ≡ 32
-  pub dictionary : IsDictionary (dictionary_of H texts)
-  pub front : IsHeader (header_parts H texts).documents (header_parts H texts).dict_leaves (header_parts H texts).dict_root (header_parts H texts).docs_root (header_parts H texts).texts_root
+  pub dictionary : IsDictionary (dictionary_of H (archive_of texts))
+  pub front : IsHeader (header_parts H (archive_of texts)).documents (header_parts H (archive_of texts)).dict_leaves (header_parts H (archive_of texts)).dict_root (header_parts H (archive_of texts)).docs_root (header_parts H (archive_of texts)).texts_root
   pub is_query : IsQuery query
-  pub found : AreSpots (dictionary_of H texts) query spots
+  pub found : AreSpots (dictionary_of H (archive_of texts)) query spots
   pub needed : AreNeeded spots positions
   pub positions_few : length positions ≤ 64
   pub whole : AreWholeLanes (lanes_of texts query)
@@ -160,18 +162,18 @@ docs_of brackets = map (λ (b : Bracket). b.doc) brackets
 
 abbrev pub proof_of : (List ℕ → List ℕ) → List (List ℕ) → List (List ℕ × ℕ) → List Spot → List ℕ → List ℕ → List Bracket → List ℕ → Proof
 proof_of H texts query spots positions cut brackets picks = record {
-  header = header_parts H texts;
-  dict = map (shown_entry (dictionary_of H texts)) positions;
-  dict_digests = elided_digests H (dict_leaves (dictionary_of H texts)) positions;
+  header = header_parts H (archive_of texts);
+  dict = map (shown_entry (dictionary_of H (archive_of texts))) positions;
+  dict_digests = elided_digests H (dict_leaves (dictionary_of H (archive_of texts))) positions;
   slots = map (slot_of positions) spots;
   met = docs_of brackets;
-  lists = prefixes H (docs_of brackets) (lanes_of texts query) cut;
+  lists = prefixes H whole_lists (docs_of brackets) (lanes_of texts query) cut;
   docs = None;
   answer = picks;
 }
 
 pub is_honest : (H : List ℕ → List ℕ) (texts : List (List ℕ)) (query : List (List ℕ × ℕ)) (r : ℕ) (spots : List Spot) (positions cut : List ℕ) (brackets : List Bracket) (picks : List ℕ)
-    → HasParts H texts query r spots positions cut brackets picks → IsHonest H texts query r Tnra (proof_of H texts query spots positions cut brackets picks)
+    → HasParts H texts query r spots positions cut brackets picks → IsHonest H (archive_of texts) query r Tnra (proof_of H texts query spots positions cut brackets picks)
 is_honest H texts query r spots positions cut brackets picks parts = record {
   spots = spots;
   found = parts.found;
@@ -181,6 +183,7 @@ is_honest H texts query r spots positions cut brackets picks parts = record {
   first = parts.first;
   brackets = brackets;
   bounds = parts.bounds;
+  layout = refl;
   header = refl;
   dict = refl;
   dict_digests = refl;
@@ -192,7 +195,7 @@ is_honest H texts query r spots positions cut brackets picks parts = record {
 }
 
 pub lists_each : (H : List ℕ → List ℕ) (texts : List (List ℕ)) (query : List (List ℕ × ℕ)) (r : ℕ) (spots : List Spot) (positions cut : List ℕ) (brackets : List Bracket) (picks : List ℕ)
-    → HasParts H texts query r spots positions cut brackets picks → length (prefixes H (docs_of brackets) (lanes_of texts query) cut) ≡ present_in (map (slot_of positions) spots)
+    → HasParts H texts query r spots positions cut brackets picks → length (prefixes H whole_lists (docs_of brackets) (lanes_of texts query) cut) ≡ present_in (map (slot_of positions) spots)
 lists_each H texts query r spots positions cut brackets picks parts =
     let is_cut = scheduled_is_cut (lanes_of texts query) parts.first.turns cut (have_entries (lanes_of texts query) parts.whole) parts.first.scheduled in
     prefix_each H (docs_of brackets) (lanes_of texts query) cut is_cut.size ∙ lanes_each H texts query positions spots parts.found
@@ -200,7 +203,7 @@ lists_each H texts query r spots positions cut brackets picks parts =
 pub is_in_range : (H : List ℕ → List ℕ) (texts : List (List ℕ)) (query : List (List ℕ × ℕ)) (r : ℕ) (spots : List Spot) (positions cut : List ℕ) (brackets : List Bracket) (picks : List ℕ)
     → HasParts H texts query r spots positions cut brackets picks → IsInRange (proof_of H texts query spots positions cut brackets picks)
 is_in_range H texts query r spots positions cut brackets picks parts =
-    let entries = dictionary_of H texts in
+    let entries = dictionary_of H (archive_of texts) in
     let lanes = lanes_of texts query in
     let leaves = dict_leaves entries in
     let docs = docs_of brackets in
@@ -230,20 +233,20 @@ is_in_range H texts query r spots positions cut brackets picks parts =
 -- the parts of the honest proof were asked for, one behind another
 pub written : (H : List ℕ → List ℕ) (texts : List (List ℕ)) (query : List (List ℕ × ℕ)) (r : ℕ) (spots : List Spot) (positions cut : List ℕ) (brackets : List Bracket) (picks : List ℕ) (w x y z : Written)
     → HasParts H texts query r spots positions cut brackets picks
-    → x ≡ put w (front_fields None ++ header_fields (header_parts H texts) ++ spelled 2 (length (map (slot_of positions) spots)) ∷ [])
-    → y ≡ put x (counted 2 entry_fields (map (shown_entry (dictionary_of H texts)) positions) ++ counted 2 digest_fields (elided_digests H (dict_leaves (dictionary_of H texts)) positions)
+    → x ≡ put w (front_fields None ++ header_fields (header_parts H (archive_of texts)) ++ spelled 2 (length (map (slot_of positions) spots)) ∷ [])
+    → y ≡ put x (counted 2 entry_fields (map (shown_entry (dictionary_of H (archive_of texts))) positions) ++ counted 2 digest_fields (elided_digests H (dict_leaves (dictionary_of H (archive_of texts))) positions)
     ++ flat_map slot_fields (map (slot_of positions) spots))
-    → z ≡ put y (counted 4 id_fields (docs_of brackets) ++ flat_map prefix_fields (prefixes H (docs_of brackets) (lanes_of texts query) cut) ++ counted 2 id_fields picks)
+    → z ≡ put y (counted 4 id_fields (docs_of brackets) ++ flat_map prefix_fields (prefixes H whole_lists (docs_of brackets) (lanes_of texts query) cut) ++ counted 2 id_fields picks)
     → length_of (proof_of H texts query spots positions cut brackets picks) ≤ 2 ^ 26
-    → IsWritten H texts query r Tnra w z
+    → IsWritten H (archive_of texts) query r Tnra w z
 written H texts query r spots positions cut brackets picks w x y z parts front terms walk short =
     let proof = proof_of H texts query spots positions cut brackets picks in
-    let a : List (List ℕ) = front_fields None ++ header_fields (header_parts H texts) ++ spelled 2 (length (map (slot_of positions) spots)) ∷ [] in
-    let b : List (List ℕ) = counted 2 entry_fields (map (shown_entry (dictionary_of H texts)) positions) in
-    let c : List (List ℕ) = counted 2 digest_fields (elided_digests H (dict_leaves (dictionary_of H texts)) positions) in
+    let a : List (List ℕ) = front_fields None ++ header_fields (header_parts H (archive_of texts)) ++ spelled 2 (length (map (slot_of positions) spots)) ∷ [] in
+    let b : List (List ℕ) = counted 2 entry_fields (map (shown_entry (dictionary_of H (archive_of texts))) positions) in
+    let c : List (List ℕ) = counted 2 digest_fields (elided_digests H (dict_leaves (dictionary_of H (archive_of texts))) positions) in
     let d : List (List ℕ) = flat_map slot_fields (map (slot_of positions) spots) in
     let e : List (List ℕ) = counted 4 id_fields (docs_of brackets) in
-    let f : List (List ℕ) = flat_map prefix_fields (prefixes H (docs_of brackets) (lanes_of texts query) cut) in
+    let f : List (List ℕ) = flat_map prefix_fields (prefixes H whole_lists (docs_of brackets) (lanes_of texts query) cut) in
     let g : List (List ℕ) = counted 2 id_fields picks in record {
       proof = proof;
       honest = is_honest H texts query r spots positions cut brackets picks parts;
@@ -259,40 +262,46 @@ pub front_put : (algorithm : Algorithm) (h own : Header) (n m : ℕ) (w : Writte
 front_put algorithm h own n m w tnra header number documents leaves few =
     ap (after w) (ap (λ (x : Algorithm). front_record x h n) tnra ∙ ap₂ (λ (x : Header) (k : ℕ). front_record Tnra x k) header number ∙ front_is own m documents leaves few)
 
+-- an index is built in the one layout
+pub as_built : (archive : Archive) → archive ≡ archive_of archive.texts
+as_built archive = each_archive (λ a. a ≡ archive_of a.texts) (λ texts. refl) archive
+
 -- ---- what a finished writer gives
 
 abbrev pub AreJoined : Type 0
 AreJoined = (limit : ℕ) (bytes more : List ℕ) → after (writing limit bytes) more ≡ writing limit (bytes ++ more)
 
-pub all_asked : AreJoined → (H : List ℕ → List ℕ) (texts : List (List ℕ)) (query : List (List ℕ × ℕ)) (r : ℕ) (algorithm : Algorithm) (limit : ℕ) (w : Written) (is : IsWritten H texts query r algorithm (writing limit []) w)
+pub all_asked : AreJoined → (H : List ℕ → List ℕ) (archive : Archive) (query : List (List ℕ × ℕ)) (r : ℕ) (algorithm : Algorithm) (limit : ℕ) (w : Written) (is : IsWritten H archive query r algorithm (writing limit []) w)
     → w ≡ writing limit (concat (fields_of is.proof))
-all_asked joined H texts query r algorithm limit w is = is.asked ∙ joined limit [] (concat (fields_of is.proof))
+all_asked joined H archive query r algorithm limit w is = is.asked ∙ joined limit [] (concat (fields_of is.proof))
 
 -- a leaf and a section for each met document, and a slot in each for each present term
 documents_spelled : (H : List ℕ → List ℕ) (texts : List (List ℕ)) (query : List (List ℕ × ℕ)) (r : ℕ) (algorithm : Algorithm) (proof : Proof)
-    → IsHonest H texts query r algorithm proof → AreDocumentsOf proof proof.docs
+    → IsHonest H (archive_of texts) query r algorithm proof → AreDocumentsOf proof proof.docs
 documents_spelled H texts query r algorithm proof honest =
     let terms : List (List ℕ × ℕ) = present texts query in
     let each : length terms ≡ present_in proof.slots = sym (length-map terms (lane_of texts))
     ∙ lanes_each H texts query honest.positions honest.spots honest.found ∙ sym (ap present_in honest.slots) in
     are_documents H texts terms algorithm proof proof.docs honest.docs each
 
-pub is_proved : (H : List ℕ → List ℕ) (texts : List (List ℕ)) (query : List (List ℕ × ℕ)) (r : ℕ) (algorithm : Algorithm) (limit : ℕ) (w : Written) (bytes : List ℕ) (is : IsWritten H texts query r algorithm (writing limit []) w)
-    → bytes ≡ concat (fields_of is.proof) → length bytes ≤ 2 ^ 26 → IsProved H texts query r algorithm bytes
-is_proved H texts query r algorithm limit w bytes is same few = record {
+pub is_proved : (H : List ℕ → List ℕ) (archive : Archive) (query : List (List ℕ × ℕ)) (r : ℕ) (algorithm : Algorithm) (limit : ℕ) (w : Written) (bytes : List ℕ) (is : IsWritten H archive query r algorithm (writing limit []) w)
+    → bytes ≡ concat (fields_of is.proof) → length bytes ≤ 2 ^ 26 → IsProved H archive query r algorithm bytes
+is_proved H archive query r algorithm limit w bytes is same few = record {
   proof = is.proof;
   honest = is.honest;
   spells = record {
     spells = record { whole = record { come = is.come; parts = same ∙ sym (append-nil (concat (fields_of is.proof))) }; few = few };
     prefix_each = is.prefix_each;
-    documents = documents_spelled H texts query r algorithm is.proof is.honest;
+    documents =
+        each_archive (λ a. IsHonest H a query r algorithm is.proof → AreDocumentsOf is.proof is.proof.docs) (λ texts. documents_spelled H texts query r algorithm is.proof)
+        archive is.honest;
   };
 }
 
-pub is_too_long : AreJoined → (H : List ℕ → List ℕ) (texts : List (List ℕ)) (query : List (List ℕ × ℕ)) (r : ℕ) (algorithm : Algorithm) (limit : ℕ) (w : Written) (n : ℕ) (is : IsWritten H texts query r algorithm (writing limit []) w)
-    → n ≡ w.asked → w.limit < w.asked → IsTooLong H texts query r algorithm limit n
-is_too_long joined H texts query r algorithm limit w n is same over =
-    let all = all_asked joined H texts query r algorithm limit w is in record {
+pub is_too_long : AreJoined → (H : List ℕ → List ℕ) (archive : Archive) (query : List (List ℕ × ℕ)) (r : ℕ) (algorithm : Algorithm) (limit : ℕ) (w : Written) (n : ℕ) (is : IsWritten H archive query r algorithm (writing limit []) w)
+    → n ≡ w.asked → w.limit < w.asked → IsTooLong H archive query r algorithm limit n
+is_too_long joined H archive query r algorithm limit w n is same over =
+    let all = all_asked joined H archive query r algorithm limit w is in record {
       proof = is.proof;
       honest = is.honest;
       bytes_are = same ∙ ap (λ (v : Written). v.asked) all;

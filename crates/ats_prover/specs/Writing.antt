@@ -1,6 +1,7 @@
 -- Fields that are asked of a writer.
 use Rattle.std.specs.Prelude.{◌≡◌, ◌≤◌, ◌^◌, ℕ, List, length}
 use Rattle.std.specs.List.{concat}
+use Rattle.ats_commit.specs.Archive.{Archive}
 use Rattle.ats_records.specs.Written.{Written, after}
 use Rattle.ats_records.specs.declared.record.Algorithm.{Algorithm}
 use Rattle.ats_records.specs.declared.record.Algorithm.TheVariants.{Tnra}
@@ -15,9 +16,9 @@ abbrev pub put : Written → List (List ℕ) → Written
 put written fields = after written (concat fields)
 
 -- all fields of the honest proof were asked for, and they come in the grammar's order
-pub record IsWritten (H : List ℕ → List ℕ) (texts : List (List ℕ)) (query : List (List ℕ × ℕ)) (r : ℕ) (algorithm : Algorithm) (before now : Written) : Type 0 where
+pub record IsWritten (H : List ℕ → List ℕ) (archive : Archive) (query : List (List ℕ × ℕ)) (r : ℕ) (algorithm : Algorithm) (before now : Written) : Type 0 where
   pub proof : Proof
-  pub honest : IsHonest H texts query r algorithm proof
+  pub honest : IsHonest H archive query r algorithm proof
   pub come : Come (fields_of proof) grammar.proof End
   pub prefix_each : length proof.lists ≡ present_in proof.slots
   pub asked : now ≡ put before (fields_of proof)

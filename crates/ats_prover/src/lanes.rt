@@ -43,9 +43,9 @@ pub(crate) fn lanes<'a, H: HashKind>(
     spots: &[Spot],
 ) -> Result<Vec<Lane<'a>>, OutOfMemory>
     requires { AreSpots (dictionary_of H.hash index.now) query.now spots.now }
-    ensures lanes { IfOk result (λ lanes. whole_lanes lanes.items ≡ lanes_of index.now query.now) }
-    ensures whole { OnOk result (AreWholeLanes (lanes_of index.now query.now)) }
-    ensures lists { OnOk result (All (λ lane. IsList 65536 lane.entries) (lanes_of index.now query.now)) }
+    ensures lanes { IfOk result (λ lanes. whole_lanes lanes.items ≡ lanes_of index.now.texts query.now) }
+    ensures whole { OnOk result (AreWholeLanes (lanes_of index.now.texts query.now)) }
+    ensures lists { OnOk result (All (λ lane. IsList 65536 lane.entries) (lanes_of index.now.texts query.now)) }
 {
     let documents = index.collection().documents();
     let lists = index.lists();

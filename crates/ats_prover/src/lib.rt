@@ -6,10 +6,8 @@
 //! `ats_proof` for the bytes. The contracts promise that a query over a collection has one honest proof by each
 //! algorithm, no more and no fewer, which shows exactly the leaves that its terms need and exactly the
 //! entries of the first settled cut. Of the proof by lists alone, which is the one that is made, they promise
-//! that the bytes spell it, that the check accepts it under the root of its collection, that short of want
-//! of memory it is refused exactly where it is longer than the limit, and that it never has more than 2^26
-//! bytes. Of
-//! `ats_client` the contracts cite the rules of the check; its code is not called.
+//! that the bytes spell it, that short of want of memory it is refused exactly where it is longer than the
+//! limit, and that it never has more than 2^26 bytes. That the check accepts it is the law of `ats_accepts`.
 //! The order in which the parts are made may change without asking; the bytes may not.
 #![tactic(auto)]
 
@@ -26,7 +24,7 @@ mod tests;
 pub use ats_records::Algorithm;
 pub use fault::ProveFault;
 pub use laws::{
-    honest_proofs_are_accepted, honest_proofs_are_one, honest_proofs_exist,
+    honest_proofs_are_one, honest_proofs_are_short, honest_proofs_exist,
     impacts_are_shown_by_documents,
 };
 pub use proving::{prove, prove_within};

@@ -6,6 +6,7 @@ ghost use Rattle.std.specs.List.Sorted.{IsStrictlyIncreasing};
 ghost use Rattle.ats_tree.specs.Elided.{elided_digests};
 ghost use Rattle.ats_lists.specs.Leaf.{leaf_bytes};
 ghost use Rattle.ats_lists.specs.Lists.{IsList};
+ghost use Rattle.ats_commit.specs.Archive.{whole_lists};
 ghost use Rattle.ats_bound.specs.Schedule.{whole_lanes};
 ghost use Rattle.ats_bound.specs.Schedule.{IsCut};
 ghost use Rattle.ats_bound.specs.Schedule.{AreWholeLanes};
@@ -70,7 +71,7 @@ fn write_prefix<H: Hash32>(
     requires some { 1 ≤ count }
     requires within { count ≤ length entries.now }
     requires room { writer.old.asked ≤ 2 ^ 59 }
-    ensures fields { OnOk result (writer.new ≡ put writer.old (prefix_fields (prefix_of H.hash met.now entries.now count))) }
+    ensures fields { OnOk result (writer.new ≡ put writer.old (prefix_fields (prefix_of H.hash whole_lists met.now entries.now count))) }
     ensures size { OnOk result (writer.new.asked ≤ writer.old.asked + 2 ^ 23) }
 {
     let positions = first(alloc, count)?;
@@ -96,7 +97,7 @@ pub(crate) fn write_lists<H: Hash32>(
     requires cut { IsCut (whole_lanes lanes.now) cut.now }
     requires room { writer.old.asked ≤ 2 ^ 58 }
     ensures fields { OnOk result (writer.new ≡ put writer.old (counted 4 id_fields met.now
-        ++ flat_map prefix_fields (prefixes H.hash met.now (whole_lanes lanes.now) cut.now))) }
+        ++ flat_map prefix_fields (prefixes H.hash whole_lists met.now (whole_lanes lanes.now) cut.now))) }
     ensures size { OnOk result (writer.new.asked ≤ writer.old.asked + 2 ^ 29) }
 {
     write_met(writer, met)?;

@@ -9,9 +9,8 @@ ghost use Rattle.ats_bound.specs.Schedule.{IsCut};
 ghost use Rattle.ats_proof.specs.Parts.{counted};
 ghost use Rattle.ats_proof.specs.Value.{id_fields, prefix_fields};
 ghost use Rattle.ats_records.specs.declared.record.Algorithm.TheVariants.{Tnra};
-ghost use Rattle.ats_proof.specs.Value.{Proof, IsProof};
-ghost use Rattle.ats_commit.specs.Root.{root_of};
-ghost use Rattle.ats_client.specs.Accepts.{Accepts};
+ghost use Rattle.ats_commit.specs.Archive.{whole_lists};
+ghost use Rattle.ats_proof.specs.Value.{Proof};
 ghost use Rattle.ats_prover.specs.declared.fault.ProveFault.TheVariants.{OutOfMemory as MemoryWanted};
 ghost use Rattle.ats_prover.specs.Honest.{IsHonest, IsProved, IsFault, IsAnswerWithin, length_of, prefixes};
 ghost use Rattle.ats_prover.specs.Writing.{IsWritten, put};
@@ -46,7 +45,7 @@ fn write_walk<H: Hash32>(
     requires rows { length walk.now.picks ≤ 1000 }
     requires room { writer.old.asked ≤ 2 ^ 57 }
     ensures fields { OnOk result (writer.new ≡ put writer.old (counted 4 id_fields (map (λ (b : Bounds). b.doc) walk.now.brackets)
-        ++ flat_map prefix_fields (prefixes H.hash (map (λ (b : Bounds). b.doc) walk.now.brackets) (whole_lanes lanes.now) walk.now.cut)
+        ++ flat_map prefix_fields (prefixes H.hash whole_lists (map (λ (b : Bounds). b.doc) walk.now.brackets) (whole_lanes lanes.now) walk.now.cut)
         ++ counted 2 id_fields walk.now.picks)) }
 {
     let met = documents(alloc, walk.brackets.as_slice())?;
@@ -95,7 +94,6 @@ pub fn prove<H: Hash32>(
     ensures ok { IfOk result (IsProved H.hash index.now query.now top algorithm) }
     ensures err { IfErr result (IsFault H.hash index.now query.now top algorithm (2 ^ 26)) }
     ensures size { (proof : Proof) → IsHonest H.hash index.now query.now top algorithm proof → IsAnswerWithin (2 ^ 26) (length_of proof) result }
-    ensures accepted { IfOk result (λ bytes. (proof : Proof) → IsProof bytes proof → Accepts H.hash (root_of H.hash index.now) query.now top proof) }
     ensures fits { IfErr result (λ fault. fault ≡ MemoryWanted) }
 {
     prove_within(alloc, index, query, top, algorithm, MAX_PROOF)
@@ -116,7 +114,6 @@ pub fn prove_within<H: Hash32>(
     ensures within { IfOk result (λ bytes. length bytes ≤ limit) }
     ensures err { IfErr result (IsFault H.hash index.now query.now top algorithm limit) }
     ensures size { (proof : Proof) → IsHonest H.hash index.now query.now top algorithm proof → IsAnswerWithin limit (length_of proof) result }
-    ensures accepted { IfOk result (λ bytes. (proof : Proof) → IsProof bytes proof → Accepts H.hash (root_of H.hash index.now) query.now top proof) }
     ensures fits { limit ≡ 2 ^ 26 → IfErr result (λ fault. fault ≡ MemoryWanted) }
 {
     records_are_joined();

@@ -1,17 +1,16 @@
 -- What follows from how a command ended and what it printed.
-use Rattle.std.proofs.Common.{◌≡◌, ◌≢◌, ◌⊎◌, ◌≤◌, ◌∙◌, ℕ, List, length, Some, None, Result, Ok, Err, refl, sym, ap, subst, inl, inr, arith, take_all}
+use Rattle.std.proofs.Common.{◌≡◌, ◌≢◌, ◌⊎◌, ◌≤◌, ◌∙◌, ℕ, List, length, Some, None, refl, sym, ap, subst, inl, inr, arith, take_all}
 use Rattle.ats_base.specs.Outside.{Rose, ShelfTold, Asked, Puts}
+use Rattle.ats_client.specs.declared.fault.Rejection.{Rejection}
 use Rattle.ats_top.specs.Words.{Command, Rank, Build, Root, Prove, Verify, command_of}
-use Rattle.ats_top.specs.RejectionLines.{line_of_rejection}
-use Rattle.ats_top.specs.Stops.{status_of, status_of_stop, text_of, text_of_stop, line_of_refusal}
+use Rattle.ats_top.specs.Stops.{End, Done, Stopped, status_of, status_of_stop, text_of}
 use Rattle.ats_top.specs.Read.{Files, IsTold}
 use Rattle.ats_top.specs.Reading.{reads, AsksFor, IsFirstMissing, Serves}
 use Rattle.ats_top.specs.Refusals.{LacksFile, IsRefused}
 use Rattle.ats_top.specs.Rejected.{IsRejected}
 use Rattle.ats_top.specs.Done.{IsDone, PutsPart, Changes, HasInput, IsServed}
-use Rattle.ats_top.specs.Run.{Said, Outside, HasShelfCause, Ends, Ended, IsStatus, TookAll, Ran}
-use Rattle.ats_top.specs.declared.rejection.Rejection.{Rejection}
-use Rattle.ats_top.specs.declared.stops.Refusal.{Refusal}
+use Rattle.ats_top.specs.Run.{Said, Outside, HasShelfCause, Ends, Ended, IsStatus, SinkFailed, Failed, TookAll, Ran}
+use Rattle.ats_top.specs.declared.stops.InputRefusal.{InputRefusal}
 use Rattle.ats_top.specs.declared.stops.Stop.{Stop}
 use Rattle.ats_top.specs.declared.stops.Stop.TheVariants.{Usage, Shelf, Input, Rejected, Memory}
 use Rattle.ats_top.proofs.Refused.{served_kept, done_kept, missing_kept, input_there, served_input}
@@ -33,21 +32,21 @@ never_done (Rejected rejection) = omega arith
 never_done Memory = omega arith
 
 -- each end has a status
-has_status : (end : Result (List ℕ) Stop) → IsStatus (status_of end)
-has_status (Ok text) = inl refl
-has_status (Err (Rejected rejection)) = inr (inl refl)
-has_status (Err Usage) = inr (inr (inl refl))
-has_status (Err Shelf) = inr (inr (inr (inl refl)))
-has_status (Err (Input refusal)) = inr (inr (inr (inr (inl refl))))
-has_status (Err Memory) = inr (inr (inr (inr (inr (inl refl)))))
+has_status : (end : End) → IsStatus (status_of end)
+has_status (Done text) = inl refl
+has_status (Stopped text (Rejected rejection)) = inr (inl refl)
+has_status (Stopped text Usage) = inr (inr (inl refl))
+has_status (Stopped text Shelf) = inr (inr (inr (inl refl)))
+has_status (Stopped text (Input refusal)) = inr (inr (inr (inr (inl refl))))
+has_status (Stopped text Memory) = inr (inr (inr (inr (inr (inl refl)))))
 
 -- what is done was asked within the limits, of a file of the form that the command reads
 done_input : (H : List ℕ → List ℕ) (before now : Files) (command : Command) (text : List ℕ) → IsDone H before now command text → HasInput H before command
 done_input H before now (Rank words) text (ranked, same) = (ranked.asks, (ranked.texts, ranked.collection))
 done_input H before now (Build words) text built = (built.texts, built.collection)
-done_input H before now (Root words) text (rooted, same) = (rooted.texts, rooted.index)
-done_input H before now (Prove words) text done = (done.asks, (done.proof.texts, done.proof.index))
-done_input H before now (Verify words) text (verified, same) = (verified.asks, (verified.query, verified.proof, verified.accepted))
+done_input H before now (Root words) text (rooted, same) = (rooted.archive, rooted.index)
+done_input H before now (Prove words) text done = (done.asks, (done.proof.archive, done.proof.index))
+done_input H before now (Verify words) text (verified, same) = (verified.asks, verified.accepted)
 
 -- all bytes are a prefix of them
 whole_part : (before now : Files) (name bytes : List ℕ) → Puts before now name bytes → PutsPart before now name bytes
@@ -77,165 +76,104 @@ done_changes H before now (Prove words) text done = inr (record {
 })
 done_changes H before now (Verify words) text (verified, same) = inl same
 
--- a run
-module _ (H : List ℕ → List ℕ) (said : List (List ℕ)) (before now : Outside) (result : ℕ) where
-  abbrev Sinks : Type 0
-  Sinks = (result ≡ 7) × Rose before.sink.faults now.sink.faults
-
-  abbrev Shelves : Type 0
-  Shelves = (result ≡ 3) × Rose before.shelf.faults now.shelf.faults
-
-  -- a run that ended so
-  record This (end : Result (List ℕ) Stop) : Type 0 where
-    ends : Ends H before.shelf now.shelf said end
-    answer : (result ≡ status_of end) ⊎ Sinks
-    took : result ≢ 7 → TookAll before.sink now.sink (text_of end)
-
-  is_status : (end : Result (List ℕ) Stop) → This end → IsStatus result
-  is_status end this = elim this.answer [ inl is ↦ subst IsStatus (sym is) (has_status end) | inr sinks ↦ inr (inr (inr (inr (inr (inr sinks.0))))) ]
-
-  -- a status but 7 is that of the end alone
-  other : (status told : ℕ) → (result ≡ status) ⊎ Sinks → result ≡ told → status ≢ told → 7 ≢ told → ⊥
-  other status told (inl is) same first second = first (sym is ∙ same)
-  other status told (inr is) same first second = second (sym is.0 ∙ same)
-
-  took : (end : Result (List ℕ) Stop) → This end → (k : ℕ) → result ≡ k → k ≢ 7 → TookAll before.sink now.sink (text_of end)
-  took end this k is differs = this.took (λ seven. differs (sym is ∙ seven))
-
-  done : (end : Result (List ℕ) Stop) → This end → result ≡ 0
-      → Said said (λ command. (text : List ℕ) × IsDone H before.shelf.files now.shelf.files command text × TookAll before.sink now.sink text)
-  done (Ok text) this is = (this.ends.0, this.ends.1, (text, this.ends.2, took (Ok text) this 0 is (omega arith)))
-  done (Err stop) this is = absurd (other (status_of_stop stop) 0 this.answer is (never_done stop) (omega arith))
-
-  usage : (end : Result (List ℕ) Stop) → This end → result ≡ 2 → (command_of said ≡ None) × TookAll before.sink now.sink (text_of_stop Usage)
-  usage (Err Usage) this is = (this.ends.0, took (Err Usage) this 2 is (omega arith))
-  usage end this is = absurd (other (status_of end) 2 this.answer is (omega arith) (omega arith))
-
-  unsaid : (end : Result (List ℕ) Stop) → This end → command_of said ≡ None → (result ≡ 2) ⊎ Sinks
-  unsaid (Err Usage) this none = this.answer
-  unsaid end this none = absurd (no_command said this.ends.0 none this.ends.1)
-
-  shelf : (end : Result (List ℕ) Stop) → This end → result ≡ 3
-      → Said said (λ command. HasShelfCause H before.shelf now.shelf command) × TookAll before.sink now.sink (text_of_stop Shelf)
-  shelf (Err Shelf) this is = ((this.ends.0, this.ends.1, this.ends.2.0), took (Err Shelf) this 3 is (omega arith))
-  shelf end this is = absurd (other (status_of end) 3 this.answer is (omega arith) (omega arith))
-
-  input : (end : Result (List ℕ) Stop) → This end → result ≡ 4
-      → Said said (λ command. (refusal : Refusal) × IsRefused H before.shelf.files command refusal × TookAll before.sink now.sink (line_of_refusal refusal))
-  input (Err (Input refusal)) this is = (this.ends.0, this.ends.1, (refusal, this.ends.2.0, took (Err (Input refusal)) this 4 is (omega arith)))
-  input end this is = absurd (other (status_of end) 4 this.answer is (omega arith) (omega arith))
-
-  rejected : (end : Result (List ℕ) Stop) → This end → result ≡ 1
-      → Said said (λ command. (rejection : Rejection) × IsRejected H before.shelf.files command rejection × TookAll before.sink now.sink (line_of_rejection rejection))
-  rejected (Err (Rejected rejection)) this is =
-      (this.ends.0, this.ends.1, (rejection, this.ends.2.0, took (Err (Rejected rejection)) this 1 is (omega arith)))
-  rejected end this is = absurd (other (status_of end) 1 this.answer is (omega arith) (omega arith))
-
-  memory : (end : Result (List ℕ) Stop) → This end → result ≡ 6 → Said said (λ command. Unit {0}) × TookAll before.sink now.sink (text_of_stop Memory)
-  memory (Err Memory) this is = ((this.ends.0, this.ends.1, tt), took (Err Memory) this 6 is (omega arith))
-  memory end this is = absurd (other (status_of end) 6 this.answer is (omega arith) (omega arith))
-
+-- of a run
+module _ (H : List ℕ → List ℕ) (said : List (List ℕ)) (before now : Outside) where
   -- what the words say of the command that ended is said of theirs
   its : (P : Command → Type 0) (command : Command) → Said said P → command_of said ≡ Some command → P command
   its P command is also = subst P (same_command said is.0 command is.1 also) is.2
 
-  -- a refused input is served by no run
-  refused : (end : Result (List ℕ) Stop) → This end → IsTold before.shelf.files
-      → Said said (λ command. (refusal : Refusal) × IsRefused H before.shelf.files command refusal)
-      → (result ≡ 4) ⊎ ((result ≡ 6) ⊎ (Shelves ⊎ Sinks))
-  refused (Ok text) this told (command, is, (refusal, cause)) =
-      absurd (done_kept H before.shelf.files now.shelf.files command text told
-      (its (λ c. IsDone H before.shelf.files now.shelf.files c text) command this.ends is) refusal cause)
-  refused (Err Usage) this told (command, is, (refusal, cause)) = absurd (no_command said command this.ends.0 is)
-  refused (Err Shelf) this told (command, is, (refusal, cause)) = elim (its (HasShelfCause H before.shelf now.shelf) command (this.ends.0, this.ends.1, this.ends.2.0) is) [
-    | inl rose ↦ elim this.answer [ inl three ↦ inr (inr (inl (three, rose.1))) | inr sinks ↦ inr (inr (inr sinks)) ]
-    | inr lacks ↦ absurd (missing_kept H before.shelf.files command lacks refusal cause)
-  ]
-  refused (Err (Input found)) this told refusal = elim this.answer [ inl four ↦ inl four | inr sinks ↦ inr (inr (inr sinks)) ]
-  refused (Err (Rejected rejection)) this told (command, is, (refusal, cause)) =
-      absurd (rejected_kept H before.shelf.files command rejection
-      (its (λ c. IsRejected H before.shelf.files c rejection) command (this.ends.0, this.ends.1, this.ends.2.0) is) refusal cause)
-  refused (Err Memory) this told refusal = elim this.answer [ inl six ↦ inr (inl six) | inr sinks ↦ inr (inr (inr sinks)) ]
+  -- the status is this one, or 6, or the shelf's count rose and it is 3
+  abbrev Comes : ℕ → ℕ → Type 0
+  Comes k status = (status ≡ k) ⊎ ((status ≡ 6) ⊎ ((status ≡ 3) × Rose before.shelf.faults now.shelf.faults))
 
-  -- a rejected proof is accepted by no run
-  rejected_exactly : (end : Result (List ℕ) Stop) → This end → IsTold before.shelf.files
-      → Said said (λ command. (rejection : Rejection) × IsRejected H before.shelf.files command rejection)
-      → (result ≡ 1) ⊎ ((result ≡ 6) ⊎ (Shelves ⊎ Sinks))
-  rejected_exactly (Ok text) this told (command, is, (rejection, cause)) =
-      absurd (input_kept H before.shelf.files command told
-      (its (HasInput H before.shelf.files) command (this.ends.0, this.ends.1, done_input H before.shelf.files now.shelf.files this.ends.0 text this.ends.2) is) rejection cause)
-  rejected_exactly (Err Usage) this told (command, is, (rejection, cause)) = absurd (no_command said command this.ends.0 is)
-  rejected_exactly (Err Shelf) this told (command, is, (rejection, cause)) = elim (its (HasShelfCause H before.shelf now.shelf) command (this.ends.0, this.ends.1, this.ends.2.0) is) [
-    | inl rose ↦ elim this.answer [ inl three ↦ inr (inr (inl (three, rose.1))) | inr sinks ↦ inr (inr (inr sinks)) ]
-    | inr lacks ↦ absurd (rejected_there H before.shelf.files command lacks rejection cause)
-  ]
-  rejected_exactly (Err (Input refusal)) this told (command, is, (rejection, cause)) =
-      absurd (rejected_kept H before.shelf.files command rejection cause refusal
-      (its (λ c. IsRefused H before.shelf.files c refusal) command (this.ends.0, this.ends.1, this.ends.2.0) is))
-  rejected_exactly (Err (Rejected found)) this told rejection = elim this.answer [ inl one ↦ inl one | inr sinks ↦ inr (inr (inr sinks)) ]
-  rejected_exactly (Err Memory) this told rejection = elim this.answer [ inl six ↦ inr (inl six) | inr sinks ↦ inr (inr (inr sinks)) ]
+  unsaid_end : (end : End) → Ends H before.shelf now.shelf said end → command_of said ≡ None → status_of end ≡ 2
+  unsaid_end (Done text) ends none = absurd (no_command said ends.0 none ends.1)
+  unsaid_end (Stopped text Usage) ends none = refl
+  unsaid_end (Stopped text Shelf) (empty, ends) none = absurd (no_command said ends.0 none ends.1)
+  unsaid_end (Stopped text (Input refusal)) (empty, ends) none = absurd (no_command said ends.0 none ends.1)
+  unsaid_end (Stopped text (Rejected rejection)) (empty, ends) none = absurd (no_command said ends.0 none ends.1)
+  unsaid_end (Stopped text Memory) (empty, ends) none = absurd (no_command said ends.0 none ends.1)
 
   -- a file that is not there is a fault of the shelf
-  missing : (end : Result (List ℕ) Stop) → This end → Said said (λ command. LacksFile H before.shelf.files command)
-      → (result ≡ 3) ⊎ ((result ≡ 6) ⊎ Sinks)
-  missing (Ok text) this (command, is, lacks) =
+  missing_end : (end : End) → Ends H before.shelf now.shelf said end → Said said (λ command. LacksFile H before.shelf.files command)
+      → (status_of end ≡ 3) ⊎ (status_of end ≡ 6)
+  missing_end (Done text) ends (command, is, lacks) =
       absurd (input_there H before.shelf.files command
-      (its (HasInput H before.shelf.files) command (this.ends.0, this.ends.1, done_input H before.shelf.files now.shelf.files this.ends.0 text this.ends.2) is) lacks)
-  missing (Err Usage) this (command, is, lacks) = absurd (no_command said command this.ends.0 is)
-  missing (Err Shelf) this lacks = elim this.answer [ inl three ↦ inl three | inr sinks ↦ inr (inr sinks) ]
-  missing (Err (Input refusal)) this (command, is, lacks) =
+      (its (HasInput H before.shelf.files) command (ends.0, ends.1, done_input H before.shelf.files now.shelf.files ends.0 text ends.2) is) lacks)
+  missing_end (Stopped text Usage) (empty, none, same) (command, is, lacks) = absurd (no_command said command none is)
+  missing_end (Stopped text Shelf) ends lacks = inl refl
+  missing_end (Stopped text (Input refusal)) (empty, ends) (command, is, lacks) =
       absurd (missing_kept H before.shelf.files command lacks refusal
-      (its (λ c. IsRefused H before.shelf.files c refusal) command (this.ends.0, this.ends.1, this.ends.2.0) is))
-  missing (Err (Rejected rejection)) this (command, is, lacks) =
+      (its (λ c. IsRefused H before.shelf.files c refusal) command (ends.0, ends.1, ends.2.0) is))
+  missing_end (Stopped text (Rejected rejection)) (empty, ends) (command, is, lacks) =
       absurd (rejected_there H before.shelf.files command lacks rejection
-      (its (λ c. IsRejected H before.shelf.files c rejection) command (this.ends.0, this.ends.1, this.ends.2.0) is))
-  missing (Err Memory) this lacks = elim this.answer [ inl six ↦ inr (inl six) | inr sinks ↦ inr (inr sinks) ]
+      (its (λ c. IsRejected H before.shelf.files c rejection) command (ends.0, ends.1, ends.2.0) is))
+  missing_end (Stopped text Memory) ends lacks = inr refl
 
-  -- where everything is within the limits and nothing fails, the command is done, or memory is wanted
-  complete : (end : Result (List ℕ) Stop) → This end → IsTold before.shelf.files → Said said (λ command. IsServed H before.shelf.files command)
-      → (Rose before.shelf.faults now.shelf.faults → ⊥) → (Rose before.sink.faults now.sink.faults → ⊥) → (result ≡ 0) ⊎ (result ≡ 6)
-  complete (Ok text) this told asked still quiet = elim this.answer [ inl is ↦ inl is | inr sinks ↦ absurd (quiet sinks.1) ]
-  complete (Err Usage) this told (command, is, served) still quiet = absurd (no_command said command this.ends.0 is)
-  complete (Err Shelf) this told (command, is, served) still quiet = elim (its (HasShelfCause H before.shelf now.shelf) command (this.ends.0, this.ends.1, this.ends.2.0) is) [
-    | inl rose ↦ absurd (still rose.1)
+  -- a refused input is served by no run
+  refused_end : (end : End) → Ends H before.shelf now.shelf said end → IsTold before.shelf.files
+      → Said said (λ command. (refusal : InputRefusal) × IsRefused H before.shelf.files command refusal) → Comes 4 (status_of end)
+  refused_end (Done text) ends told (command, is, (refusal, cause)) =
+      absurd (done_kept H before.shelf.files now.shelf.files command text told
+      (its (λ c. IsDone H before.shelf.files now.shelf.files c text) command ends is) refusal cause)
+  refused_end (Stopped text Usage) (empty, none, same) told (command, is, (refusal, cause)) = absurd (no_command said command none is)
+  refused_end (Stopped text Shelf) (empty, ends) told (command, is, (refusal, cause)) = elim (its (HasShelfCause H before.shelf now.shelf) command (ends.0, ends.1, ends.2.0) is) [
+    | inl rose ↦ inr (inr (refl, rose.1))
+    | inr lacks ↦ absurd (missing_kept H before.shelf.files command lacks refusal cause)
+  ]
+  refused_end (Stopped text (Input found)) ends told refusal = inl refl
+  refused_end (Stopped text (Rejected rejection)) (empty, ends) told (command, is, (refusal, cause)) =
+      absurd (rejected_kept H before.shelf.files command rejection
+      (its (λ c. IsRejected H before.shelf.files c rejection) command (ends.0, ends.1, ends.2.0) is) refusal cause)
+  refused_end (Stopped text Memory) ends told refusal = inr (inl refl)
+
+  -- a rejected proof is accepted by no run
+  rejected_end : (end : End) → Ends H before.shelf now.shelf said end → IsTold before.shelf.files
+      → Said said (λ command. (rejection : Rejection) × IsRejected H before.shelf.files command rejection) → Comes 1 (status_of end)
+  rejected_end (Done text) ends told (command, is, (rejection, cause)) =
+      absurd (input_kept H before.shelf.files command told
+      (its (HasInput H before.shelf.files) command (ends.0, ends.1, done_input H before.shelf.files now.shelf.files ends.0 text ends.2) is) rejection cause)
+  rejected_end (Stopped text Usage) (empty, none, same) told (command, is, (rejection, cause)) = absurd (no_command said command none is)
+  rejected_end (Stopped text Shelf) (empty, ends) told (command, is, (rejection, cause)) = elim (its (HasShelfCause H before.shelf now.shelf) command (ends.0, ends.1, ends.2.0) is) [
+    | inl rose ↦ inr (inr (refl, rose.1))
+    | inr lacks ↦ absurd (rejected_there H before.shelf.files command lacks rejection cause)
+  ]
+  rejected_end (Stopped text (Input refusal)) (empty, ends) told (command, is, (rejection, cause)) =
+      absurd (rejected_kept H before.shelf.files command rejection cause refusal
+      (its (λ c. IsRefused H before.shelf.files c refusal) command (ends.0, ends.1, ends.2.0) is))
+  rejected_end (Stopped text (Rejected found)) ends told rejection = inl refl
+  rejected_end (Stopped text Memory) ends told rejection = inr (inl refl)
+
+  -- what is within the limits is done, unless memory is wanted or the shelf failed
+  served_end : (end : End) → Ends H before.shelf now.shelf said end → IsTold before.shelf.files → Said said (λ command. IsServed H before.shelf.files command)
+      → Comes 0 (status_of end)
+  served_end (Done text) ends told asked = inl refl
+  served_end (Stopped text Usage) (empty, none, same) told (command, is, served) = absurd (no_command said command none is)
+  served_end (Stopped text Shelf) (empty, ends) told (command, is, served) = elim (its (HasShelfCause H before.shelf now.shelf) command (ends.0, ends.1, ends.2.0) is) [
+    | inl rose ↦ inr (inr (refl, rose.1))
     | inr lacks ↦ absurd (input_there H before.shelf.files command (served_input H before.shelf.files command served) lacks)
   ]
-  complete (Err (Input refusal)) this told (command, is, served) still quiet =
+  served_end (Stopped text (Input refusal)) (empty, ends) told (command, is, served) =
       absurd (served_kept H before.shelf.files command told served refusal
-      (its (λ c. IsRefused H before.shelf.files c refusal) command (this.ends.0, this.ends.1, this.ends.2.0) is))
-  complete (Err (Rejected rejection)) this told (command, is, served) still quiet =
+      (its (λ c. IsRefused H before.shelf.files c refusal) command (ends.0, ends.1, ends.2.0) is))
+  served_end (Stopped text (Rejected rejection)) (empty, ends) told (command, is, served) =
       absurd (input_kept H before.shelf.files command told (served_input H before.shelf.files command served) rejection
-      (its (λ c. IsRejected H before.shelf.files c rejection) command (this.ends.0, this.ends.1, this.ends.2.0) is))
-  complete (Err Memory) this told asked still quiet = elim this.answer [ inl six ↦ inr six | inr sinks ↦ absurd (quiet sinks.1) ]
+      (its (λ c. IsRejected H before.shelf.files c rejection) command (ends.0, ends.1, ends.2.0) is))
+  served_end (Stopped text Memory) ends told asked = inr (inl refl)
 
   or_said : (command : Command) → command_of said ≡ Some command → (now.shelf.files ≡ before.shelf.files) ⊎ Changes H before.shelf.files now.shelf.files command
       → (now.shelf.files ≡ before.shelf.files) ⊎ Said said (λ c. Changes H before.shelf.files now.shelf.files c)
   or_said command is (inl same) = inl same
   or_said command is (inr changes) = inr (command, is, changes)
 
-  files : (end : Result (List ℕ) Stop) → This end
+  files_end : (end : End) → Ends H before.shelf now.shelf said end
       → (now.shelf.files ≡ before.shelf.files) ⊎ Said said (λ command. Changes H before.shelf.files now.shelf.files command)
-  files (Ok text) this = or_said this.ends.0 this.ends.1 (done_changes H before.shelf.files now.shelf.files this.ends.0 text this.ends.2)
-  files (Err Usage) this = inl this.ends.1
-  files (Err Shelf) this = or_said this.ends.0 this.ends.1 this.ends.2.1
-  files (Err (Input refusal)) this = inl this.ends.2.1
-  files (Err (Rejected rejection)) this = inl this.ends.2.1
-  files (Err Memory) this = inl this.ends.2
-
-  no_stop : (status : ℕ) → (result ≡ status) ⊎ Sinks → (result ≡ 1) ⊎ ((result ≡ 2) ⊎ ((result ≡ 4) ⊎ (result ≡ 6))) → status ≢ 1 → status ≢ 2 → status ≢ 4
-      → status ≢ 6 → ⊥
-  no_stop status answer (inl is) one two four six = other status 1 answer is one (omega arith)
-  no_stop status answer (inr (inl is)) one two four six = other status 2 answer is two (omega arith)
-  no_stop status answer (inr (inr (inl is))) one two four six = other status 4 answer is four (omega arith)
-  no_stop status answer (inr (inr (inr is))) one two four six = other status 6 answer is six (omega arith)
-
-  kept : (end : Result (List ℕ) Stop) → This end → (result ≡ 1) ⊎ ((result ≡ 2) ⊎ ((result ≡ 4) ⊎ (result ≡ 6))) → now.shelf.files ≡ before.shelf.files
-  kept (Ok text) this is = absurd (no_stop 0 this.answer is (omega arith) (omega arith) (omega arith) (omega arith))
-  kept (Err Usage) this is = this.ends.1
-  kept (Err Shelf) this is = absurd (no_stop 3 this.answer is (omega arith) (omega arith) (omega arith) (omega arith))
-  kept (Err (Input refusal)) this is = this.ends.2.1
-  kept (Err (Rejected rejection)) this is = this.ends.2.1
-  kept (Err Memory) this is = this.ends.2
+  files_end (Done text) ends = or_said ends.0 ends.1 (done_changes H before.shelf.files now.shelf.files ends.0 text ends.2)
+  files_end (Stopped text Usage) (empty, none, same) = inl same
+  files_end (Stopped text Shelf) (empty, ends) = or_said ends.0 ends.1 ends.2.1
+  files_end (Stopped text (Input refusal)) (empty, ends) = inl ends.2.1
+  files_end (Stopped text (Rejected rejection)) (empty, ends) = inl ends.2.1
+  files_end (Stopped text Memory) (empty, ends) = inl ends.2
 
   abbrev Served : Type 0
   Served = (now.shelf ≡ before.shelf) ⊎ Said said (Serves before.shelf now.shelf)
@@ -252,29 +190,54 @@ module _ (H : List ℕ → List ℕ) (said : List (List ℕ)) (before now : Outs
   later (inl same) = omega (arith, ap (λ (told : ShelfTold). told.faults) same)
   later (inr serves) = serves.2.later
 
-  pub ran : Ended H said before now result → Served → before.sink.faults ≤ now.sink.faults → Ran H said before now result
-  ran ended served sink_later =
-      let end = ended.end in
-      let answer : (result ≡ status_of end) ⊎ Sinks = elim ended.prints.answer [ inl is ↦ inl is | inr is ↦ inr (is, (ended.prints.part is).0) ] in
-      let this : This end = record { ends = ended.ends; answer = answer; took = ended.prints.all } in
-      record {
-        status = is_status end this;
-        done = done end this;
-        rejected = rejected end this;
-        rejected_exactly = rejected_exactly end this;
-        usage = usage end this;
-        unsaid = unsaid end this;
-        shelf = shelf end this;
-        missing = missing end this;
-        input = input end this;
-        refused = refused end this;
-        memory = memory end this;
-        sink = λ seven. let failed = ended.prints.part seven in (end, ended.ends, failed.0, failed.1);
-        complete = complete end this;
-        files = files end this;
-        kept = kept end this;
-        asked = asked served;
-        uncounted = uncounted served;
-        later = later served;
-        sink_later = sink_later;
-      }
+  module _ (result : ℕ) where
+    -- what holds of the status of the end holds of that of the run, or the sink failed
+    tells : (P : ℕ → Type 0) (ended : Ended H said before now result) → P (status_of ended.end) → P result ⊎ SinkFailed before now result
+    tells P ended is = elim ended.prints [
+      | inl told ↦ inl (subst P (sym told.1) is)
+      | inr failed ↦ inr (failed.0, failed.1)
+    ]
+
+    -- 0 is the status of what is done
+    done_end : (end : End) → Ends H before.shelf now.shelf said end → result ≡ 0 → result ≡ status_of end → TookAll before.sink now.sink (text_of end)
+        → Said said (λ command. (text : List ℕ) × IsDone H before.shelf.files now.shelf.files command text × TookAll before.sink now.sink text)
+    done_end (Done text) ends is same took = (ends.0, ends.1, (text, ends.2, took))
+    done_end (Stopped text stop) ends is same took = absurd (never_done stop (sym same ∙ is))
+
+    done : Ended H said before now result → result ≡ 0
+        → Said said (λ command. (text : List ℕ) × IsDone H before.shelf.files now.shelf.files command text × TookAll before.sink now.sink text)
+    done ended is = elim ended.prints [
+      | inl told ↦ done_end ended.end ended.ends is told.1 told.2
+      | inr failed ↦ absurd (omega (arith, is, failed.0))
+    ]
+
+    with_sink : (a b : ℕ) → ((result ≡ a) ⊎ (result ≡ b)) ⊎ SinkFailed before now result → (result ≡ a) ⊎ ((result ≡ b) ⊎ SinkFailed before now result)
+    with_sink a b (inl (inl is)) = inl is
+    with_sink a b (inl (inr is)) = inr (inl is)
+    with_sink a b (inr sinks) = inr (inr sinks)
+
+    with_faults : (k : ℕ) → Comes k result ⊎ SinkFailed before now result → (result ≡ k) ⊎ ((result ≡ 6) ⊎ Failed before now result)
+    with_faults k (inl (inl is)) = inl is
+    with_faults k (inl (inr (inl is))) = inr (inl is)
+    with_faults k (inl (inr (inr shelves))) = inr (inr (inl shelves))
+    with_faults k (inr sinks) = inr (inr (inr sinks))
+
+    status : Ended H said before now result → IsStatus result
+    status ended = elim (tells IsStatus ended (has_status ended.end)) [ inl is ↦ is | inr sinks ↦ inr (inr (inr (inr (inr (inr sinks.0))))) ]
+
+    pub ran : Ended H said before now result → Served → before.sink.faults ≤ now.sink.faults → Ran H said before now result
+    ran ended served sink_later = record {
+      ended = ended;
+      status = status ended;
+      done = done ended;
+      unsaid = λ none. tells (λ status. status ≡ 2) ended (unsaid_end ended.end ended.ends none);
+      missing = λ lacks. with_sink 3 6 (tells (λ status. (status ≡ 3) ⊎ (status ≡ 6)) ended (missing_end ended.end ended.ends lacks));
+      refused = λ told refusal. with_faults 4 (tells (Comes 4) ended (refused_end ended.end ended.ends told refusal));
+      rejected = λ told rejection. with_faults 1 (tells (Comes 1) ended (rejected_end ended.end ended.ends told rejection));
+      complete = λ told asks. with_faults 0 (tells (Comes 0) ended (served_end ended.end ended.ends told asks));
+      files = files_end ended.end ended.ends;
+      asked = asked served;
+      uncounted = uncounted served;
+      later = later served;
+      sink_later = sink_later;
+    }

@@ -7,10 +7,11 @@ use Rattle.ats_terms.specs.declared.query.QueryFault.TheVariants as query
 use Rattle.ats_impact.specs.CollectionFaults.{IsFirstCollectionFault}
 use Rattle.ats_impact.specs.declared.collection.CollectionFault.{CollectionFault}
 use Rattle.ats_impact.specs.declared.collection.CollectionFault.TheVariants as collection
+use Rattle.ats_commit.specs.Archive.{Archive}
 use Rattle.ats_index.specs.Spelling.{IsSpelling}
-use Rattle.ats_index.proofs.OneCollection.{one_collection}
+use Rattle.ats_index.proofs.OneArchive.{one_archive}
 use Rattle.ats_prover.specs.Honest.{IsHonest, length_of}
-use Rattle.ats_prover.proofs.OneProof.{one_proof}
+use Rattle.ats_prover.proofs.Archives.{archive_one}
 use Rattle.ats_top.specs.Input.{AreJsonTexts, IsFirstJsonFault}
 use Rattle.ats_top.specs.declared.input.JsonFault.{JsonFault}
 use Rattle.ats_top.specs.declared.input.JsonFault.TheVariants as json
@@ -19,8 +20,8 @@ use Rattle.ats_top.specs.Read.{Files, IsTold, IsFile}
 use Rattle.ats_top.specs.Stops.{stop_of_query, stop_of_json, stop_of_collection}
 use Rattle.ats_top.specs.Refusals.{IsRowCount, AsksRanking, IsCollectionRefused, IsIndexRefused, IsProvingRefused, IsRankingRefused, IsRefused}
 use Rattle.ats_top.specs.Proved.{IsProofTooLong}
-use Rattle.ats_top.specs.declared.stops.Refusal.{Refusal}
-use Rattle.ats_top.specs.declared.stops.Refusal.TheVariants.{ROut, QueryTooLong, NoTerm, TooManyWords, TooManyTerms, FileTooLong, NotJson, NotArray, BadItem, NoDocuments, TooManyDocuments, TextTooLong, AllTooLong, BadIndex, ProofTooLong}
+use Rattle.ats_top.specs.declared.stops.InputRefusal.{InputRefusal}
+use Rattle.ats_top.specs.declared.stops.InputRefusal.TheVariants.{ROut, QueryTooLong, NoTerm, TooManyWords, TooManyTerms, FileTooLong, NotJson, NotArray, BadItem, NoDocuments, TooManyDocuments, TextTooLong, AllTooLong, BadIndex, ProofTooLong}
 use Rattle.ats_top.specs.declared.stops.Stop.{Stop}
 use Rattle.ats_top.specs.declared.stops.Stop.TheVariants.{Input}
 use Rattle.ats_top.proofs.JsonLemmas.{same_texts, IsJsonRefusal, no_json_fault}
@@ -28,11 +29,11 @@ use Rattle.ats_top.proofs.Refused.{IsQueryRefusal, IsCollectionRefusal, no_query
 use Rattle.ats_top.proofs.OneFault.{one_query_fault, one_json_fault, one_collection_fault}
 
 -- refusals of one stop are one
-same_input : (a b : Refusal) (first second : Stop) → Input a ≡ first → Input b ≡ second → first ≡ second → a ≡ b
+same_input : (a b : InputRefusal) (first second : Stop) → Input a ≡ first → Input b ≡ second → first ≡ second → a ≡ b
 same_input a b first second is also same = let both : Input a ≡ Input b = is ∙ same ∙ sym also in cc
 
 -- the refusal is that of the query's fault
-record OfQuery (r : ℕ) (text : List ℕ) (refusal : Refusal) : Type 0 where
+record OfQuery (r : ℕ) (text : List ℕ) (refusal : InputRefusal) : Type 0 where
   fault : QueryFault
   free : IsQueryRefusal fault
   is : Input refusal ≡ stop_of_query fault
@@ -40,15 +41,15 @@ record OfQuery (r : ℕ) (text : List ℕ) (refusal : Refusal) : Type 0 where
   first : IsFirstFault text fault
 
 -- it is that of the number of rows, of the query, or of what is tried after them
-abbrev RankingCause : ℕ → List ℕ → (Refusal → Type 0) → Refusal → Type 0
+abbrev RankingCause : ℕ → List ℕ → (InputRefusal → Type 0) → InputRefusal → Type 0
 RankingCause r text later refusal =
     ((refusal ≡ ROut r) × (IsRowCount r → ⊥)) ⊎ (OfQuery r text refusal ⊎ (AsksRanking r text × later refusal))
 
-of_query : (r : ℕ) (text : List ℕ) (later : Refusal → Type 0) (refusal : Refusal) (fault : QueryFault) → IsQueryRefusal fault → Input refusal ≡ stop_of_query fault
+of_query : (r : ℕ) (text : List ℕ) (later : InputRefusal → Type 0) (refusal : InputRefusal) (fault : QueryFault) → IsQueryRefusal fault → Input refusal ≡ stop_of_query fault
     → IsRowCount r × IsFirstFault text fault → RankingCause r text later refusal
 of_query r text later refusal fault free is (rows, first) = inr (inl (record { fault = fault; free = free; is = is; rows = rows; first = first }))
 
-ranking_cause : (r : ℕ) (text : List ℕ) (later : Refusal → Type 0) (refusal : Refusal) → IsRankingRefused r text later refusal → RankingCause r text later refusal
+ranking_cause : (r : ℕ) (text : List ℕ) (later : InputRefusal → Type 0) (refusal : InputRefusal) → IsRankingRefused r text later refusal → RankingCause r text later refusal
 ranking_cause r text later (ROut out) refused = inl (ap ROut refused.0, subst (λ (n : ℕ). IsRowCount n → ⊥) refused.0 refused.1)
 ranking_cause r text later (QueryTooLong bytes) refused = of_query r text later (QueryTooLong bytes) (query.TooLong bytes) tt refl refused
 ranking_cause r text later NoTerm refused = of_query r text later NoTerm query.NoTerm tt refl refused
@@ -56,8 +57,8 @@ ranking_cause r text later (TooManyWords count) refused = of_query r text later 
 ranking_cause r text later (TooManyTerms distinct) refused = of_query r text later (TooManyTerms distinct) (query.TooManyTerms distinct) tt refl refused
 ranking_cause r text later other refused = inr (inr refused)
 
-one_ranking_cause : (r : ℕ) (text : List ℕ) (later : Refusal → Type 0) → ((a b : Refusal) → later a → later b → a ≡ b)
-    → (a b : Refusal) → RankingCause r text later a → RankingCause r text later b → a ≡ b
+one_ranking_cause : (r : ℕ) (text : List ℕ) (later : InputRefusal → Type 0) → ((a b : InputRefusal) → later a → later b → a ≡ b)
+    → (a b : InputRefusal) → RankingCause r text later a → RankingCause r text later b → a ≡ b
 one_ranking_cause r text later one a b (inl is) (inl also) = is.0 ∙ sym also.0
 one_ranking_cause r text later one a b (inl is) (inr (inl also)) = absurd (is.1 also.rows)
 one_ranking_cause r text later one a b (inl is) (inr (inr also)) = absurd (is.1 also.0.rows)
@@ -69,13 +70,13 @@ one_ranking_cause r text later one a b (inr (inr is)) (inl also) = absurd (also.
 one_ranking_cause r text later one a b (inr (inr is)) (inr (inl also)) = absurd (no_query_fault text also.fault is.0.query also.first also.free)
 one_ranking_cause r text later one a b (inr (inr is)) (inr (inr also)) = one a b is.1 also.1
 
-one_ranking : (r : ℕ) (text : List ℕ) (later : Refusal → Type 0) → ((a b : Refusal) → later a → later b → a ≡ b)
-    → (a b : Refusal) → IsRankingRefused r text later a → IsRankingRefused r text later b → a ≡ b
+one_ranking : (r : ℕ) (text : List ℕ) (later : InputRefusal → Type 0) → ((a b : InputRefusal) → later a → later b → a ≡ b)
+    → (a b : InputRefusal) → IsRankingRefused r text later a → IsRankingRefused r text later b → a ≡ b
 one_ranking r text later one a b is also = one_ranking_cause r text later one a b (ranking_cause r text later a is) (ranking_cause r text later b also)
 
 module _ (files : Files) (name : List ℕ) where
   -- the refusal is that of the file's bytes as JSON
-  record OfJson (refusal : Refusal) : Type 0 where
+  record OfJson (refusal : InputRefusal) : Type 0 where
     fault : JsonFault
     free : IsJsonRefusal fault
     is : Input refusal ≡ stop_of_json fault
@@ -84,7 +85,7 @@ module _ (files : Files) (name : List ℕ) where
     first : IsFirstJsonFault bytes fault
 
   -- it is that of its texts as a collection
-  record OfTexts (refusal : Refusal) : Type 0 where
+  record OfTexts (refusal : InputRefusal) : Type 0 where
     fault : CollectionFault
     free : IsCollectionRefusal fault
     is : Input refusal ≡ stop_of_collection fault
@@ -94,19 +95,19 @@ module _ (files : Files) (name : List ℕ) where
     json : AreJsonTexts bytes texts
     first : IsFirstCollectionFault texts fault
 
-  abbrev CollectionCause : Refusal → Type 0
+  abbrev CollectionCause : InputRefusal → Type 0
   CollectionCause refusal = ((refusal ≡ FileTooLong (2 ^ 26)) × IsLonger files name (2 ^ 26)) ⊎ (OfJson refusal ⊎ OfTexts refusal)
 
-  of_json : (refusal : Refusal) (fault : JsonFault) → IsJsonRefusal fault → Input refusal ≡ stop_of_json fault
+  of_json : (refusal : InputRefusal) (fault : JsonFault) → IsJsonRefusal fault → Input refusal ≡ stop_of_json fault
       → (bytes : List ℕ) × IsFile files name (2 ^ 26) bytes × IsFirstJsonFault bytes fault → CollectionCause refusal
   of_json refusal fault free is (bytes, file, first) = inr (inl (record { fault = fault; free = free; is = is; bytes = bytes; file = file; first = first }))
 
-  of_texts : (refusal : Refusal) (fault : CollectionFault) → IsCollectionRefusal fault → Input refusal ≡ stop_of_collection fault
+  of_texts : (refusal : InputRefusal) (fault : CollectionFault) → IsCollectionRefusal fault → Input refusal ≡ stop_of_collection fault
       → (bytes : List ℕ) × (texts : List (List ℕ)) × IsFile files name (2 ^ 26) bytes × AreJsonTexts bytes texts × IsFirstCollectionFault texts fault → CollectionCause refusal
   of_texts refusal fault free is (bytes, texts, file, json, first) =
       inr (inr (record { fault = fault; free = free; is = is; bytes = bytes; texts = texts; file = file; json = json; first = first }))
 
-  collection_cause : (refusal : Refusal) → IsCollectionRefused files name refusal → CollectionCause refusal
+  collection_cause : (refusal : InputRefusal) → IsCollectionRefused files name refusal → CollectionCause refusal
   collection_cause (FileTooLong limit) refused = inl (ap FileTooLong refused.0, subst (IsLonger files name) refused.0 refused.1)
   collection_cause NotJson refused = of_json NotJson json.NotJson tt refl refused
   collection_cause NotArray refused = of_json NotArray json.NotArray tt refl refused
@@ -118,25 +119,25 @@ module _ (files : Files) (name : List ℕ) where
   collection_cause _ refused = absurd refused
 
   module _ (told : IsTold files) where
-    json_or_texts : (a b : Refusal) → OfJson a → OfTexts b → ⊥
+    json_or_texts : (a b : InputRefusal) → OfJson a → OfTexts b → ⊥
     json_or_texts a b is also =
         let same = one_file files name also.bytes is.bytes (2 ^ 26) (2 ^ 26) told also.file is.file in
         no_json_fault is.bytes also.texts is.fault (subst (λ (bytes : List ℕ). AreJsonTexts bytes also.texts) same also.json) is.first is.free
 
-    one_of_json : (a b : Refusal) → OfJson a → OfJson b → a ≡ b
+    one_of_json : (a b : InputRefusal) → OfJson a → OfJson b → a ≡ b
     one_of_json a b is also =
         let same = one_file files name also.bytes is.bytes (2 ^ 26) (2 ^ 26) told also.file is.file in
         let first : IsFirstJsonFault is.bytes also.fault = subst (λ (bytes : List ℕ). IsFirstJsonFault bytes also.fault) same also.first in
         same_input a b _ _ is.is also.is (ap stop_of_json (one_json_fault is.bytes is.fault also.fault is.free also.free is.first first))
 
-    one_of_texts : (a b : Refusal) → OfTexts a → OfTexts b → a ≡ b
+    one_of_texts : (a b : InputRefusal) → OfTexts a → OfTexts b → a ≡ b
     one_of_texts a b is also =
         let same = one_file files name also.bytes is.bytes (2 ^ 26) (2 ^ 26) told also.file is.file in
         let alike : also.texts ≡ is.texts = same_texts is.bytes also.texts is.texts (subst (λ (bytes : List ℕ). AreJsonTexts bytes also.texts) same also.json) is.json in
         let first : IsFirstCollectionFault is.texts also.fault = subst (λ (texts : List (List ℕ)). IsFirstCollectionFault texts also.fault) alike also.first in
         same_input a b _ _ is.is also.is (ap stop_of_collection (one_collection_fault is.texts is.fault also.fault is.free also.free is.first first))
 
-    one_collection_cause : (a b : Refusal) → CollectionCause a → CollectionCause b → a ≡ b
+    one_collection_cause : (a b : InputRefusal) → CollectionCause a → CollectionCause b → a ≡ b
     one_collection_cause a b (inl is) (inl also) = is.0 ∙ sym also.0
     one_collection_cause a b (inl is) (inr (inl also)) = absurd (not_longer files name also.bytes (2 ^ 26) told also.file is.1)
     one_collection_cause a b (inl is) (inr (inr also)) = absurd (not_longer files name also.bytes (2 ^ 26) told also.file is.1)
@@ -147,27 +148,27 @@ module _ (files : Files) (name : List ℕ) where
     one_collection_cause a b (inr (inr is)) (inr (inl also)) = absurd (json_or_texts b a also is)
     one_collection_cause a b (inr (inr is)) (inr (inr also)) = one_of_texts a b is also
 
-    one_collection_refusal : (a b : Refusal) → IsCollectionRefused files name a → IsCollectionRefused files name b → a ≡ b
+    one_collection_refusal : (a b : InputRefusal) → IsCollectionRefused files name a → IsCollectionRefused files name b → a ≡ b
     one_collection_refusal a b is also = one_collection_cause a b (collection_cause a is) (collection_cause b also)
 
   module _ (H : List ℕ → List ℕ) where
     -- an index is refused for its length, or as the index of no collection, which is told at its front
-    abbrev IndexCause : Refusal → Type 0
+    abbrev IndexCause : InputRefusal → Type 0
     IndexCause refusal = ((refusal ≡ FileTooLong (2 ^ 29)) × IsLonger files name (2 ^ 29))
         ⊎ ((refusal ≡ BadIndex 0) × ((bytes : List ℕ) × IsFile files name (2 ^ 29) bytes))
 
-    index_cause : (refusal : Refusal) → IsIndexRefused H files name refusal → IndexCause refusal
+    index_cause : (refusal : InputRefusal) → IsIndexRefused H files name refusal → IndexCause refusal
     index_cause (FileTooLong limit) refused = inl (ap FileTooLong refused.0, subst (IsLonger files name) refused.0 refused.1)
     index_cause (BadIndex at) (bytes, file, fault) = inr (ap BadIndex fault.0, (bytes, file))
     index_cause _ refused = absurd refused
 
-    one_index_cause : IsTold files → (a b : Refusal) → IndexCause a → IndexCause b → a ≡ b
+    one_index_cause : IsTold files → (a b : InputRefusal) → IndexCause a → IndexCause b → a ≡ b
     one_index_cause told a b (inl is) (inl also) = is.0 ∙ sym also.0
     one_index_cause told a b (inl is) (inr (also, (bytes, file))) = absurd (not_longer files name bytes (2 ^ 29) told file is.1)
     one_index_cause told a b (inr (is, (bytes, file))) (inl also) = absurd (not_longer files name bytes (2 ^ 29) told file also.1)
     one_index_cause told a b (inr is) (inr also) = is.0 ∙ sym also.0
 
-    one_index_refusal : IsTold files → (a b : Refusal) → IsIndexRefused H files name a → IsIndexRefused H files name b → a ≡ b
+    one_index_refusal : IsTold files → (a b : InputRefusal) → IsIndexRefused H files name a → IsIndexRefused H files name b → a ≡ b
     one_index_refusal told a b is also = one_index_cause told a b (index_cause a is) (index_cause b also)
 
 module _ (H : List ℕ → List ℕ) (files : Files) (told : IsTold files) (words : ProveWords) where
@@ -175,31 +176,31 @@ module _ (H : List ℕ → List ℕ) (files : Files) (told : IsTold files) (word
   one_size : (a b : ℕ) → IsProofTooLong H files words a → IsProofTooLong H files words b → a ≡ b
   one_size a b is also =
       let same = one_file files words.index is.index.bytes also.index.bytes (2 ^ 29) (2 ^ 29) told is.index.file also.index.file in
-      let texts : is.texts ≡ also.texts = one_collection H also.index.bytes is.texts also.texts
-      (subst (λ (b : List ℕ). IsSpelling H b is.texts) same is.index.spelling) also.index.spelling in
+      let archives : is.archive ≡ also.archive = one_archive H also.index.bytes is.archive also.archive
+      (subst (λ (b : List ℕ). IsSpelling H b is.archive) same is.index.spelling) also.index.spelling in
       let query : is.query ≡ also.query = is.asked.same ∙ sym also.asked.same in
-      let honest : IsHonest H also.texts also.query words.r words.algorithm is.long.proof = subst (λ (t : List (List ℕ)). IsHonest H t also.query words.r words.algorithm is.long.proof) texts
-      (subst (λ (q : List (List ℕ × ℕ)). IsHonest H is.texts q words.r words.algorithm is.long.proof) query is.long.honest) in
-      let one : is.long.proof ≡ also.long.proof = one_proof H also.texts also.query words.r words.algorithm is.long.proof also.long.proof honest also.long.honest in
+      let honest : IsHonest H also.archive also.query words.r words.algorithm is.long.proof = subst (λ (t : Archive). IsHonest H t also.query words.r words.algorithm is.long.proof) archives
+      (subst (λ (q : List (List ℕ × ℕ)). IsHonest H is.archive q words.r words.algorithm is.long.proof) query is.long.honest) in
+      let one : is.long.proof ≡ also.long.proof = archive_one H also.archive also.query words.r words.algorithm is.long.proof also.long.proof honest also.long.honest in
       is.long.bytes_are ∙ ap length_of one ∙ sym also.long.bytes_are
 
-  abbrev ProvingCause : Refusal → Type 0
+  abbrev ProvingCause : InputRefusal → Type 0
   ProvingCause refusal = ((size : ℕ) × (refusal ≡ ProofTooLong size) × IsProofTooLong H files words size) ⊎ IsIndexRefused H files words.index refusal
 
-  proving_cause : (refusal : Refusal) → IsProvingRefused H files words refusal → ProvingCause refusal
+  proving_cause : (refusal : InputRefusal) → IsProvingRefused H files words refusal → ProvingCause refusal
   proving_cause (ProofTooLong size) refused = inl (size, refl, refused)
   proving_cause other refused = inr refused
 
-  one_proving_cause : (a b : Refusal) → ProvingCause a → ProvingCause b → a ≡ b
+  one_proving_cause : (a b : InputRefusal) → ProvingCause a → ProvingCause b → a ≡ b
   one_proving_cause a b (inl is) (inl also) = is.1 ∙ ap ProofTooLong (one_size is.0 also.0 is.2 also.2) ∙ sym also.1
-  one_proving_cause a b (inl is) (inr also) = absurd (index_kept H files words.index is.2.texts told is.2.index b also)
-  one_proving_cause a b (inr is) (inl also) = absurd (index_kept H files words.index also.2.texts told also.2.index a is)
+  one_proving_cause a b (inl is) (inr also) = absurd (index_kept H files words.index is.2.archive told is.2.index b also)
+  one_proving_cause a b (inr is) (inl also) = absurd (index_kept H files words.index also.2.archive told also.2.index a is)
   one_proving_cause a b (inr is) (inr also) = one_index_refusal files words.index H told a b is also
 
-  one_proving_refusal : (a b : Refusal) → IsProvingRefused H files words a → IsProvingRefused H files words b → a ≡ b
+  one_proving_refusal : (a b : InputRefusal) → IsProvingRefused H files words a → IsProvingRefused H files words b → a ≡ b
   one_proving_refusal a b is also = one_proving_cause a b (proving_cause a is) (proving_cause b also)
 
-pub one_refusal : (H : List ℕ → List ℕ) (files : Files) (command : Command) (a b : Refusal) → IsTold files
+pub one_refusal : (H : List ℕ → List ℕ) (files : Files) (command : Command) (a b : InputRefusal) → IsTold files
     → IsRefused H files command a → IsRefused H files command b → a ≡ b
 one_refusal H files (Rank words) a b told is also =
     one_ranking words.r words.query (IsCollectionRefused files words.collection) (one_collection_refusal files words.collection told) a b is also

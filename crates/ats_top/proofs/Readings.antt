@@ -2,6 +2,7 @@
 use Rattle.std.proofs.Common.{◌≡◌, ◌≤◌, ◌^◌, ◌++◌, ◌∷◌, ℕ, List, [], Option, Some, None, refl, sym, subst, inl, inr, arith, append-nil}
 use Rattle.ats_base.specs.Outside.{IsMissing, ShelfTold, Ask, Asked, ReadsAtMostOnce, StoresOnce}
 use Rattle.ats_base.proofs.Asking.{asked_none, asked_then, asked_as}
+use Rattle.ats_commit.specs.Archive.{Archive}
 use Rattle.ats_top.specs.Words.{RankWords, BuildWords, RootWords, ProveWords, VerifyWords, Command, Rank, Build, Root, Prove, Verify}
 use Rattle.ats_top.specs.Read.{HasCollection, HasIndex}
 use Rattle.ats_top.specs.Reading.{AsCollection, AsIndex, AsProof, InputFile, limit_of, reads, stores, ReadsInOrder, StoresAtMostOnce, AsksFor, IsFirstMissing, Reads, Serves}
@@ -93,8 +94,8 @@ module _ (before now : ShelfTold) where
       read_stored (Build words) (record { name = words.collection; form = AsCollection }) refl before mid now words.index refl
       (λ missing. missing_file before.files words.collection has.bytes (2 ^ 26) missing has.file) is stored later
 
-  pub prove_stored : (mid : ShelfTold) (H : List ℕ → List ℕ) (words : ProveWords) (texts : List (List ℕ)) → HasIndex H before.files words.index texts
+  pub prove_stored : (mid : ShelfTold) (H : List ℕ → List ℕ) (words : ProveWords) (archive : Archive) → HasIndex H before.files words.index archive
       → Reads before mid words.index (2 ^ 29) → Asked mid.asked now.asked (StoresOnce words.proof) → mid.faults ≤ now.faults → Serves before now (Prove words)
-  prove_stored mid H words texts has is stored later =
+  prove_stored mid H words archive has is stored later =
       read_stored (Prove words) (record { name = words.index; form = AsIndex }) refl before mid now words.proof refl
       (λ missing. missing_file before.files words.index has.bytes (2 ^ 29) missing has.file) is stored later

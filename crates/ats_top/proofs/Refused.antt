@@ -10,11 +10,12 @@ use Rattle.ats_impact.specs.Limits.{AreWithin}
 use Rattle.ats_impact.specs.CollectionFaults.{IsFirstCollectionFault}
 use Rattle.ats_impact.specs.declared.collection.CollectionFault.{CollectionFault}
 use Rattle.ats_impact.specs.declared.collection.CollectionFault.TheVariants as collection
+use Rattle.ats_commit.specs.Archive.{Archive}
 use Rattle.ats_index.specs.Spelling.{IsSpelling}
-use Rattle.ats_index.proofs.OneCollection.{one_collection}
+use Rattle.ats_index.proofs.OneArchive.{one_archive}
 use Rattle.ats_proof.specs.Value.{Proof, IsProof, fields_of}
 use Rattle.ats_prover.specs.Honest.{IsHonest, length_of}
-use Rattle.ats_prover.proofs.OneProof.{one_proof}
+use Rattle.ats_prover.proofs.Archives.{archive_one}
 use Rattle.ats_top.specs.Input.{AreJsonTexts}
 use Rattle.ats_top.specs.declared.input.JsonFault.{JsonFault}
 use Rattle.ats_top.specs.declared.input.JsonFault.TheVariants as json
@@ -23,8 +24,8 @@ use Rattle.ats_top.specs.Read.{Files, IsTold, IsFile, HasCollection, HasIndex}
 use Rattle.ats_top.specs.Refusals.{IsRowCount, AsksRanking, Asks, LacksFile, IsJsonRefused, AreTextsRefused, IsCollectionRefused, IsIndexRefused, IsProvingRefused, IsRankingRefused, IsRefused}
 use Rattle.ats_top.specs.Proved.{IsProofFor, IsProofTooLong}
 use Rattle.ats_top.specs.Done.{IsDone, HasInput, IsServed}
-use Rattle.ats_top.specs.declared.stops.Refusal.{Refusal}
-use Rattle.ats_top.specs.declared.stops.Refusal.TheVariants.{ROut, QueryTooLong, NoTerm, TooManyWords, TooManyTerms, FileTooLong, NotJson, NotArray, BadItem, NoDocuments, TooManyDocuments, TextTooLong, AllTooLong, BadIndex, ProofTooLong}
+use Rattle.ats_top.specs.declared.stops.InputRefusal.{InputRefusal}
+use Rattle.ats_top.specs.declared.stops.InputRefusal.TheVariants.{ROut, QueryTooLong, NoTerm, TooManyWords, TooManyTerms, FileTooLong, NotJson, NotArray, BadItem, NoDocuments, TooManyDocuments, TextTooLong, AllTooLong, BadIndex, ProofTooLong}
 use Rattle.ats_top.proofs.JsonLemmas.{same_texts, IsJsonRefusal, no_json_fault}
 
 same_some : {X : Type 0} (o : Option X) (x y : X) → o ≡ Some x → o ≡ Some y → x ≡ y
@@ -96,7 +97,7 @@ module _ (files : Files) (told : IsTold files) (name : List ℕ) (texts : List (
       no_collection_fault others fault (subst AreWithin alike has.collection.within) is free
 
   -- a collection is not refused
-  collection_kept : (refusal : Refusal) → IsCollectionRefused files name refusal → ⊥
+  collection_kept : (refusal : InputRefusal) → IsCollectionRefused files name refusal → ⊥
   collection_kept (FileTooLong limit) refused =
       not_longer files name has.bytes (2 ^ 26) told has.file (subst (IsLonger files name) refused.0 refused.1)
   collection_kept NotJson refused = json_kept json.NotJson refused tt
@@ -109,18 +110,18 @@ module _ (files : Files) (told : IsTold files) (name : List ℕ) (texts : List (
   collection_kept _ refused = refused
 
 -- an index is not refused
-pub index_kept : (H : List ℕ → List ℕ) (files : Files) (name : List ℕ) (texts : List (List ℕ)) → IsTold files → HasIndex H files name texts
-    → (refusal : Refusal) → IsIndexRefused H files name refusal → ⊥
-index_kept H files name texts told has (FileTooLong limit) refused =
+pub index_kept : (H : List ℕ → List ℕ) (files : Files) (name : List ℕ) (archive : Archive) → IsTold files → HasIndex H files name archive
+    → (refusal : InputRefusal) → IsIndexRefused H files name refusal → ⊥
+index_kept H files name archive told has (FileTooLong limit) refused =
     not_longer files name has.bytes (2 ^ 29) told has.file (subst (IsLonger files name) refused.0 refused.1)
-index_kept H files name texts told has (BadIndex at) (bytes, file, fault) =
+index_kept H files name archive told has (BadIndex at) (bytes, file, fault) =
     let same = one_file files name has.bytes bytes (2 ^ 29) (2 ^ 29) told has.file file in
-    fault.1 texts (subst (λ b. IsSpelling H b texts) same has.spelling)
-index_kept H files name texts told has _ refused = refused
+    fault.1 archive (subst (λ b. IsSpelling H b archive) same has.spelling)
+index_kept H files name archive told has _ refused = refused
 
 -- rows and a query within the limits are not refused, nor what is tried after them, if that is not
-pub ranking_kept : (r : ℕ) (text : List ℕ) (later : Refusal → Type 0) → AsksRanking r text → ((refusal : Refusal) → later refusal → ⊥)
-    → (refusal : Refusal) → IsRankingRefused r text later refusal → ⊥
+pub ranking_kept : (r : ℕ) (text : List ℕ) (later : InputRefusal → Type 0) → AsksRanking r text → ((refusal : InputRefusal) → later refusal → ⊥)
+    → (refusal : InputRefusal) → IsRankingRefused r text later refusal → ⊥
 ranking_kept r text later asks kept (ROut out) refused = refused.1 (subst IsRowCount (sym refused.0) asks.rows)
 ranking_kept r text later asks kept (QueryTooLong bytes) refused = no_query_fault text (query.TooLong bytes) asks.query refused.1 tt
 ranking_kept r text later asks kept NoTerm refused = no_query_fault text query.NoTerm asks.query refused.1 tt
@@ -129,21 +130,21 @@ ranking_kept r text later asks kept (TooManyTerms distinct) refused = no_query_f
 ranking_kept r text later asks kept other refused = kept other refused.1
 
 -- nothing is refused of `prove` but its rows and its query, if the index is not refused, nor the proof's length
-proving_kept : (H : List ℕ → List ℕ) (files : Files) (words : ProveWords) → ((refusal : Refusal) → IsIndexRefused H files words.index refusal → ⊥)
-    → ((size : ℕ) → IsProofTooLong H files words size → ⊥) → (refusal : Refusal) → IsProvingRefused H files words refusal → ⊥
+proving_kept : (H : List ℕ → List ℕ) (files : Files) (words : ProveWords) → ((refusal : InputRefusal) → IsIndexRefused H files words.index refusal → ⊥)
+    → ((size : ℕ) → IsProofTooLong H files words size → ⊥) → (refusal : InputRefusal) → IsProvingRefused H files words refusal → ⊥
 proving_kept H files words kept fits (ProofTooLong size) refused = fits size refused
 proving_kept H files words kept fits other refused = kept other refused
 
 -- what is served is not refused, where the files are told
 pub served_kept : (H : List ℕ → List ℕ) (files : Files) (command : Command) → IsTold files → IsServed H files command
-    → (refusal : Refusal) → IsRefused H files command refusal → ⊥
+    → (refusal : InputRefusal) → IsRefused H files command refusal → ⊥
 served_kept H files (Rank words) told (asks, (texts, has)) refusal refused =
     ranking_kept words.r words.query (IsCollectionRefused files words.collection) asks (collection_kept files told words.collection texts has) refusal refused
 served_kept H files (Build words) told (texts, has) refusal refused = collection_kept files told words.collection texts has refusal refused
-served_kept H files (Root words) told (texts, has) refusal refused = index_kept H files words.index texts told has refusal refused
-served_kept H files (Prove words) told ((asks, (texts, has)), fits) refusal refused =
+served_kept H files (Root words) told (archive, has) refusal refused = index_kept H files words.index archive told has refusal refused
+served_kept H files (Prove words) told ((asks, (archive, has)), fits) refusal refused =
     ranking_kept words.r words.query (IsProvingRefused H files words) asks
-    (proving_kept H files words (index_kept H files words.index texts told has) fits) refusal refused
+    (proving_kept H files words (index_kept H files words.index archive told has) fits) refusal refused
 served_kept H files (Verify words) told (asks, has) refusal refused = ranking_kept words.r words.query (λ other. ⊥) asks (λ other never. never) refusal refused
 
 -- bytes that spell a proof are as many as its fields have
@@ -155,35 +156,35 @@ too_long_kept : (H : List ℕ → List ℕ) (files : Files) (words : ProveWords)
     → IsProofTooLong H files words size → ⊥
 too_long_kept H files words bytes size told stored long =
     let same = one_file files words.index stored.index.bytes long.index.bytes (2 ^ 29) (2 ^ 29) told stored.index.file long.index.file in
-    let texts : stored.texts ≡ long.texts = one_collection H long.index.bytes stored.texts long.texts
-    (subst (λ (b : List ℕ). IsSpelling H b stored.texts) same stored.index.spelling) long.index.spelling in
+    let archives : stored.archive ≡ long.archive = one_archive H long.index.bytes stored.archive long.archive
+    (subst (λ (b : List ℕ). IsSpelling H b stored.archive) same stored.index.spelling) long.index.spelling in
     let query : stored.query ≡ long.query = stored.asked.same ∙ sym long.asked.same in
-    let honest : IsHonest H long.texts long.query words.r words.algorithm stored.proved.proof = subst (λ (t : List (List ℕ)). IsHonest H t long.query words.r words.algorithm stored.proved.proof) texts
-    (subst (λ (q : List (List ℕ × ℕ)). IsHonest H stored.texts q words.r words.algorithm stored.proved.proof) query stored.proved.honest) in
-    let one : stored.proved.proof ≡ long.long.proof = one_proof H long.texts long.query words.r words.algorithm stored.proved.proof long.long.proof honest long.long.honest in
+    let honest : IsHonest H long.archive long.query words.r words.algorithm stored.proved.proof = subst (λ (t : Archive). IsHonest H t long.query words.r words.algorithm stored.proved.proof) archives
+    (subst (λ (q : List (List ℕ × ℕ)). IsHonest H stored.archive q words.r words.algorithm stored.proved.proof) query stored.proved.honest) in
+    let one : stored.proved.proof ≡ long.long.proof = archive_one H long.archive long.query words.r words.algorithm stored.proved.proof long.long.proof honest long.long.honest in
     omega (arith, stored.short, spelled_size bytes stored.proved.proof stored.proved.spells, ap length_of one, long.long.bytes_are, long.long.beyond)
 
 proof_kept : (H : List ℕ → List ℕ) (before now : Files) (words : ProveWords) (text : List ℕ) → IsTold before → IsDone H before now (Prove words) text
-    → (refusal : Refusal) → IsProvingRefused H before words refusal → ⊥
+    → (refusal : InputRefusal) → IsProvingRefused H before words refusal → ⊥
 proof_kept H before now words text told done (ProofTooLong size) refused = too_long_kept H before words done.bytes size told done.proof refused
-proof_kept H before now words text told done other refused = index_kept H before words.index done.proof.texts told done.proof.index other refused
+proof_kept H before now words text told done other refused = index_kept H before words.index done.proof.archive told done.proof.index other refused
 
 -- what is done is not refused, where the files are told
 pub done_kept : (H : List ℕ → List ℕ) (before now : Files) (command : Command) (text : List ℕ) → IsTold before → IsDone H before now command text
-    → (refusal : Refusal) → IsRefused H before command refusal → ⊥
+    → (refusal : InputRefusal) → IsRefused H before command refusal → ⊥
 done_kept H before now (Rank words) text told (ranked, same) refusal refused =
     served_kept H before (Rank words) told (ranked.asks, (ranked.texts, ranked.collection)) refusal refused
 done_kept H before now (Build words) text told built refusal refused =
     served_kept H before (Build words) told (built.texts, built.collection) refusal refused
 done_kept H before now (Root words) text told (rooted, same) refusal refused =
-    served_kept H before (Root words) told (rooted.texts, rooted.index) refusal refused
+    served_kept H before (Root words) told (rooted.archive, rooted.index) refusal refused
 done_kept H before now (Prove words) text told done refusal refused =
     ranking_kept words.r words.query (IsProvingRefused H before words) done.asks (proof_kept H before now words text told done) refusal refused
 done_kept H before now (Verify words) text told (verified, same) refusal refused =
     ranking_kept words.r words.query (λ other. ⊥) verified.asks (λ other never. never) refusal refused
 
 module _ (files : Files) (name : List ℕ) (missing : IsMissing files name) where
-  collection_missing : (refusal : Refusal) → IsCollectionRefused files name refusal → ⊥
+  collection_missing : (refusal : InputRefusal) → IsCollectionRefused files name refusal → ⊥
   collection_missing (FileTooLong limit) refused = missing_longer files name limit missing refused.1
   collection_missing NotJson refused = missing_file files name refused.0 (2 ^ 26) missing refused.1
   collection_missing NotArray refused = missing_file files name refused.0 (2 ^ 26) missing refused.1
@@ -194,7 +195,7 @@ module _ (files : Files) (name : List ℕ) (missing : IsMissing files name) wher
   collection_missing (AllTooLong total) (bytes, texts, file, are, is) = missing_file files name bytes (2 ^ 26) missing file
   collection_missing _ refused = refused
 
-  index_missing : (H : List ℕ → List ℕ) (refusal : Refusal) → IsIndexRefused H files name refusal → ⊥
+  index_missing : (H : List ℕ → List ℕ) (refusal : InputRefusal) → IsIndexRefused H files name refusal → ⊥
   index_missing H (FileTooLong limit) refused = missing_longer files name limit missing refused.1
   index_missing H (BadIndex at) (bytes, file, fault) = missing_file files name bytes (2 ^ 29) missing file
   index_missing H _ refused = refused
@@ -209,7 +210,7 @@ lacks_asks H files (Verify words) lacks = lacks.0
 
 -- and nothing is refused
 pub missing_kept : (H : List ℕ → List ℕ) (files : Files) (command : Command) → LacksFile H files command
-    → (refusal : Refusal) → IsRefused H files command refusal → ⊥
+    → (refusal : InputRefusal) → IsRefused H files command refusal → ⊥
 missing_kept H files (Rank words) (asks, missing) refusal refused =
     ranking_kept words.r words.query (IsCollectionRefused files words.collection) asks (collection_missing files words.collection missing) refusal refused
 missing_kept H files (Build words) missing refusal refused = collection_missing files words.collection missing refusal refused
@@ -224,9 +225,9 @@ missing_kept H files (Verify words) (asks, missing) refusal refused = ranking_ke
 pub input_there : (H : List ℕ → List ℕ) (files : Files) (command : Command) → HasInput H files command → LacksFile H files command → ⊥
 input_there H files (Rank words) (asks, (texts, has)) lacks = missing_file files words.collection has.bytes (2 ^ 26) lacks.1 has.file
 input_there H files (Build words) (texts, has) lacks = missing_file files words.collection has.bytes (2 ^ 26) lacks has.file
-input_there H files (Root words) (texts, has) lacks = missing_file files words.index has.bytes (2 ^ 29) lacks has.file
-input_there H files (Prove words) (asks, (texts, has)) lacks = missing_file files words.index has.bytes (2 ^ 29) lacks.1 has.file
-input_there H files (Verify words) (asks, (query, proof, is)) lacks = missing_file files words.proof is.held.bytes (2 ^ 26) lacks.1 is.held.file
+input_there H files (Root words) (archive, has) lacks = missing_file files words.index has.bytes (2 ^ 29) lacks has.file
+input_there H files (Prove words) (asks, (archive, has)) lacks = missing_file files words.index has.bytes (2 ^ 29) lacks.1 has.file
+input_there H files (Verify words) (asks, is) lacks = missing_file files words.proof is.bytes (2 ^ 26) lacks.1 is.file
 
 pub served_input : (H : List ℕ → List ℕ) (files : Files) (command : Command) → IsServed H files command → HasInput H files command
 served_input H files (Rank words) served = served

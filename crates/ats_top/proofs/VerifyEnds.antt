@@ -14,7 +14,6 @@ use Rattle.ats_top.specs.Done.{IsVerified}
 use Rattle.ats_top.specs.Run.{IsStopped}
 use Rattle.ats_top.specs.declared.stops.Stop.{Stop}
 use Rattle.ats_top.specs.declared.stops.Stop.TheVariants.{Usage, Shelf, Input, Rejected, Memory}
-use Rattle.ats_top.specs.declared.rejection.Rejection.TheVariants.{Shape, Tra, Check}
 
 -- rows and a query that were read are within the limits
 pub asks_of : (r : ℕ) (text : List ℕ) (query : List (List ℕ × ℕ)) → (1 ≤ r) × (r ≤ 1000) → IsQueryOf text query → AsksRanking r text
@@ -27,9 +26,7 @@ module _ (H : List ℕ → List ℕ) (before now : ShelfTold) (words : VerifyWor
   file_stops Shelf (inl rose) = (inl (asks, rose), inl same)
   file_stops Shelf (inr missing) = (inr (asks, missing), inl same)
   file_stops (Input refusal) stops = absurd stops
-  file_stops (Rejected (Shape fault)) stops = ((asks, inl stops), same)
-  file_stops (Rejected Tra) stops = absurd stops
-  file_stops (Rejected (Check refusal)) stops = absurd stops
+  file_stops (Rejected rejection) stops = ((asks, inl stops), same)
   file_stops Memory stops = same
 
   module _ (query : List (List ℕ × ℕ)) (bytes : List ℕ) (asked : IsQueryOf words.query query) (file : IsFile before.files words.proof (2 ^ 26) bytes) where
@@ -37,21 +34,8 @@ module _ (H : List ℕ → List ℕ) (before now : ShelfTold) (words : VerifyWor
     bytes_stop Usage stops = stops
     bytes_stop Shelf stops = absurd stops
     bytes_stop (Input refusal) stops = absurd stops
-    bytes_stop (Rejected (Shape fault)) stops = ((asks, inr (record { bytes = bytes; file = file; bad = stops })), same)
-    bytes_stop (Rejected Tra) stops = ((asks, (stops.0, record { bytes = bytes; file = file; says = stops.1; walk = stops.2 })), same)
-    bytes_stop (Rejected (Check refusal)) stops = (
-      (
-        asks,
-        record {
-          query = query;
-          proof = stops.0;
-          asked = asked;
-          held = record { bytes = bytes; file = file; says = stops.1; walk = stops.2.walk };
-          first = stops.2;
-        },
-      ),
-      same,
-    )
+    bytes_stop (Rejected rejection) stops =
+        ((asks, inr (record { query = query; asked = asked; bytes = bytes; file = file; rejected = stops })), same)
     bytes_stop Memory stops = same
 
     -- bytes that were refused
@@ -68,13 +52,7 @@ module _ (H : List ℕ → List ℕ) (before now : ShelfTold) (words : VerifyWor
         let verified = is.1 in
         record {
           asks = asks;
-          query = query;
-          proof = verified.proof;
-          accepted = record {
-            asked = asked;
-            held = record { bytes = bytes; file = file; says = verified.accepted.says; walk = verified.accepted.accepts.walk };
-            accepts = verified.accepted.accepts;
-          };
+          accepted = record { query = query; asked = asked; bytes = bytes; file = file; proof = verified.proof; accepted = verified.accepted };
           headline = verified.headline;
           printed = is.2 ∙ ap lines verified.answer;
         }

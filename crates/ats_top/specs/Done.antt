@@ -5,9 +5,9 @@ use Rattle.ats_base.specs.Outside.{Puts}
 use Rattle.ats_terms.specs.Query.{IsQueryOf}
 use Rattle.ats_impact.specs.Rank.{IsRanking, IsTop}
 use Rattle.ats_impact.specs.declared.rank.Row.{Row}
+use Rattle.ats_commit.specs.Archive.{Archive, archive_of}
 use Rattle.ats_commit.specs.Root.{root_of}
 use Rattle.ats_index.specs.Spelling.{IsSpelling}
-use Rattle.ats_proof.specs.Value.{Proof}
 use Rattle.ats_client.specs.Headline.{IsTopOrCollides}
 use Rattle.ats_client.specs.Rows.{rows_of}
 use Rattle.ats_top.specs.Words.{RankWords, BuildWords, RootWords, ProveWords, VerifyWords, Command, Rank, Build, Root, Prove, Verify, root_word}
@@ -34,20 +34,20 @@ pub record IsPublished (root text : List ℕ) : Type 0 where
   pub printed : text ≡ line_of_root root
   pub word : root_word (encode_lower root) ≡ Some root
 
--- INDEX was given the index bytes of the named file's collection, and its root was published
+-- INDEX was given the index bytes of the archive of the named file's texts, and its root was published
 pub record IsBuilt (H : List ℕ → List ℕ) (before now : Files) (words : BuildWords) (text : List ℕ) : Type 0 where
   pub texts : List (List ℕ)
   pub bytes : List ℕ
   pub collection : HasCollection before words.collection texts
-  pub spelling : IsSpelling H bytes texts
+  pub spelling : IsSpelling H bytes (archive_of texts)
   pub stored : Puts before now words.index bytes
-  pub published : IsPublished (root_of H texts) text
+  pub published : IsPublished (root_of H (archive_of texts)) text
 
--- the named file is the index of a collection, and its root was published
+-- the named file is the index of an archive, and its root was published
 pub record IsRooted (H : List ℕ → List ℕ) (files : Files) (words : RootWords) (text : List ℕ) : Type 0 where
-  pub texts : List (List ℕ)
-  pub index : HasIndex H files words.index texts
-  pub published : IsPublished (root_of H texts) text
+  pub archive : Archive
+  pub index : HasIndex H files words.index archive
+  pub published : IsPublished (root_of H archive) text
 
 -- PROOF was given the honest proof that the words ask for, and the text is the line of its length
 pub record IsProofStored (H : List ℕ → List ℕ) (before now : Files) (words : ProveWords) (text : List ℕ) : Type 0 where
@@ -57,15 +57,13 @@ pub record IsProofStored (H : List ℕ → List ℕ) (before now : Files) (words
   pub stored : Puts before now words.proof bytes
   pub printed : text ≡ line_of_proof (length bytes)
 
--- the named file is an accepted proof, the text is the lines of the rows of its answer, and for every collection with the
--- root these rows are right, or the proof and the collection hold two different strings with equal digests
+-- the named file is an accepted proof, the text is the lines of the rows of its answer, and for every archive with the
+-- root these rows are right, or the proof and the archive hold two different strings with equal digests
 pub record IsVerified (H : List ℕ → List ℕ) (files : Files) (words : VerifyWords) (text : List ℕ) : Type 0 where
   pub asks : AsksRanking words.r words.query
-  pub query : List (List ℕ × ℕ)
-  pub proof : Proof
-  pub accepted : IsAccepted H files words query proof
-  pub headline : IsTopOrCollides H words.root query words.r proof
-  pub printed : text ≡ lines (rows_of query proof)
+  pub accepted : IsAccepted H files words
+  pub headline : IsTopOrCollides H words.root accepted.query words.r accepted.proof
+  pub printed : text ≡ lines (rows_of accepted.query accepted.proof)
 
 -- the command of these words is done: this is its text, and what the shelf holds after it
 abbrev pub IsDone : (List ℕ → List ℕ) → Files → Files → Command → List ℕ → Type 0
@@ -81,12 +79,12 @@ pub record PutsPart (before now : Files) (name bytes : List ℕ) : Type 0 where
   pub within : n ≤ length bytes
   pub stored : Puts before now name (take n bytes)
 
--- INDEX was given a prefix of the index bytes of the named file's collection
+-- INDEX was given a prefix of the index bytes of the archive of the named file's texts
 pub record IsBuiltPart (H : List ℕ → List ℕ) (before now : Files) (words : BuildWords) : Type 0 where
   pub texts : List (List ℕ)
   pub bytes : List ℕ
   pub collection : HasCollection before words.collection texts
-  pub spelling : IsSpelling H bytes texts
+  pub spelling : IsSpelling H bytes (archive_of texts)
   pub part : PutsPart before now words.index bytes
 
 -- PROOF was given a prefix of the honest proof that the words ask for
@@ -108,9 +106,9 @@ Changes H before now (Verify words) = ⊥
 abbrev pub HasInput : (List ℕ → List ℕ) → Files → Command → Type 0
 HasInput H files (Rank words) = AsksRanking words.r words.query × ((texts : List (List ℕ)) × HasCollection files words.collection texts)
 HasInput H files (Build words) = (texts : List (List ℕ)) × HasCollection files words.collection texts
-HasInput H files (Root words) = (texts : List (List ℕ)) × HasIndex H files words.index texts
-HasInput H files (Prove words) = AsksRanking words.r words.query × ((texts : List (List ℕ)) × HasIndex H files words.index texts)
-HasInput H files (Verify words) = AsksRanking words.r words.query × ((query : List (List ℕ × ℕ)) × (proof : Proof) × IsAccepted H files words query proof)
+HasInput H files (Root words) = (archive : Archive) × HasIndex H files words.index archive
+HasInput H files (Prove words) = AsksRanking words.r words.query × ((archive : Archive) × HasIndex H files words.index archive)
+HasInput H files (Verify words) = AsksRanking words.r words.query × IsAccepted H files words
 
 -- and no honest proof that the words ask for is too long
 abbrev pub IsServed : (List ℕ → List ℕ) → Files → Command → Type 0

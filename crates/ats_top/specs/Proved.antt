@@ -1,26 +1,27 @@
 -- The honest proof that the words of `prove` ask for.
 use Rattle.std.specs.Prelude.{◌≡◌, ◌≤◌, ◌^◌, ℕ, List, length}
 use Rattle.ats_records.specs.declared.record.Algorithm.TheVariants.{Tnra}
+use Rattle.ats_commit.specs.Archive.{Archive}
 use Rattle.ats_terms.specs.Query.{IsQueryOf}
 use Rattle.ats_prover.specs.Honest.{IsProved, IsTooLong}
 use Rattle.ats_top.specs.Words.{ProveWords}
 use Rattle.ats_top.specs.Read.{Files, HasIndex}
 
--- the bytes are the honest proof of the query over the collection of the named index, and no more than a proof may have
+-- the bytes are the honest proof of the query over the archive of the named index, and no more than a proof may have
 pub record IsProofFor (H : List ℕ → List ℕ) (files : Files) (words : ProveWords) (bytes : List ℕ) : Type 0 where
-  pub texts : List (List ℕ)
+  pub archive : Archive
   pub query : List (List ℕ × ℕ)
-  pub index : HasIndex H files words.index texts
+  pub index : HasIndex H files words.index archive
   pub asked : IsQueryOf words.query query
   pub walk : words.algorithm ≡ Tnra
-  pub proved : IsProved H texts query words.r words.algorithm bytes
+  pub proved : IsProved H archive query words.r words.algorithm bytes
   pub short : length bytes ≤ 2 ^ 26
 
--- the honest proof of the query over that collection has so many bytes, which are more than a proof may have
+-- the honest proof of the query over that archive has so many bytes, which are more than a proof may have
 pub record IsProofTooLong (H : List ℕ → List ℕ) (files : Files) (words : ProveWords) (size : ℕ) : Type 0 where
-  pub texts : List (List ℕ)
+  pub archive : Archive
   pub query : List (List ℕ × ℕ)
-  pub index : HasIndex H files words.index texts
+  pub index : HasIndex H files words.index archive
   pub asked : IsQueryOf words.query query
   pub walk : words.algorithm ≡ Tnra
-  pub long : IsTooLong H texts query words.r words.algorithm (2 ^ 26) size
+  pub long : IsTooLong H archive query words.r words.algorithm (2 ^ 26) size

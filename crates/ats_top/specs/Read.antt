@@ -1,9 +1,8 @@
 -- The files that commands read, as a shelf tells them.
-use Rattle.std.specs.Prelude.{◌≡◌, ◌≤◌, ◌^◌, ℕ, List, length, Option, IsSome}
+use Rattle.std.specs.Prelude.{◌≤◌, ◌^◌, ℕ, List, length, Option, IsSome}
 use Rattle.ats_base.specs.Outside.{Holds}
-use Rattle.ats_records.specs.declared.record.Algorithm.{Algorithm}
+use Rattle.ats_commit.specs.Archive.{Archive}
 use Rattle.ats_index.specs.Spelling.{IsSpelling}
-use Rattle.ats_proof.specs.Value.{Proof, IsProof, algorithm_of}
 use Rattle.ats_top.specs.Input.{IsCollectionOf}
 
 -- what a shelf tells of its files
@@ -24,15 +23,8 @@ pub record HasCollection (files : Files) (name : List ℕ) (texts : List (List �
   pub file : IsFile files name (2 ^ 26) bytes
   pub collection : IsCollectionOf bytes texts
 
--- the named file is the index, under H, of the collection of these texts
-pub record HasIndex (H : List ℕ → List ℕ) (files : Files) (name : List ℕ) (texts : List (List ℕ)) : Type 0 where
+-- the named file is the index, under H, of this archive
+pub record HasIndex (H : List ℕ → List ℕ) (files : Files) (name : List ℕ) (archive : Archive) : Type 0 where
   pub bytes : List ℕ
   pub file : IsFile files name (2 ^ 29) bytes
-  pub spelling : IsSpelling H bytes texts
-
--- the named file is this proof, by this algorithm
-pub record HasProof (files : Files) (name : List ℕ) (algorithm : Algorithm) (proof : Proof) : Type 0 where
-  pub bytes : List ℕ
-  pub file : IsFile files name (2 ^ 26) bytes
-  pub says : IsProof bytes proof
-  pub walk : algorithm_of proof ≡ algorithm
+  pub spelling : IsSpelling H bytes archive

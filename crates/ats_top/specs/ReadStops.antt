@@ -2,12 +2,10 @@
 use Rattle.std.specs.Prelude.{◌≡◌, ◌⊎◌, ℕ, List}
 use Rattle.ats_base.specs.Outside.{Rose, IsMissing, IsLonger, ShelfTold}
 use Rattle.ats_client.specs.Bytes.{IsRejectedBytes}
-use Rattle.ats_client.specs.declared.fault.VerifyFault.TheVariants as verify
 use Rattle.ats_top.specs.Refusals.{AsksRanking, IsCollectionRefused, IsIndexRefused, IsRankingRefused}
 use Rattle.ats_top.specs.Rejected.{IsLongFile}
-use Rattle.ats_top.specs.declared.rejection.Rejection.TheVariants.{Shape, Tra, Check}
-use Rattle.ats_top.specs.declared.stops.Refusal.{Refusal}
-use Rattle.ats_top.specs.declared.stops.Refusal.TheVariants.{FileTooLong}
+use Rattle.ats_top.specs.declared.stops.InputRefusal.{InputRefusal}
+use Rattle.ats_top.specs.declared.stops.InputRefusal.TheVariants.{FileTooLong}
 use Rattle.ats_top.specs.declared.stops.Stop.{Stop}
 use Rattle.ats_top.specs.declared.stops.Stop.TheVariants.{Usage, Shelf, Input, Rejected, Memory}
 
@@ -16,7 +14,7 @@ abbrev pub IsUnread : (before now : ShelfTold) → List ℕ → Type 0
 IsUnread before now name = Rose before.faults now.faults ⊎ IsMissing before.files name
 
 -- a shelf's fault, or a refusal of which this holds
-abbrev pub StopsBy : (before now : ShelfTold) → List ℕ → (Refusal → Type 0) → Stop → Type 0
+abbrev pub StopsBy : (before now : ShelfTold) → List ℕ → (InputRefusal → Type 0) → Stop → Type 0
 StopsBy before now name refused Usage = ⊥
 StopsBy before now name refused Shelf = IsUnread before now name
 StopsBy before now name refused (Input refusal) = refused refusal
@@ -33,7 +31,7 @@ abbrev pub IndexStop : (List ℕ → List ℕ) → (before now : ShelfTold) → 
 IndexStop H before now name stop = StopsBy before now name (IsIndexRefused H before.files name) stop
 
 -- the rows and the query are tried first, then the named file and what is made of it
-abbrev pub RankingStop : (before now : ShelfTold) → List ℕ → (r : ℕ) (text : List ℕ) → (Refusal → Type 0) → Stop → Type 0
+abbrev pub RankingStop : (before now : ShelfTold) → List ℕ → (r : ℕ) (text : List ℕ) → (InputRefusal → Type 0) → Stop → Type 0
 RankingStop before now name r text later Usage = ⊥
 RankingStop before now name r text later Shelf = AsksRanking r text × IsUnread before now name
 RankingStop before now name r text later (Input refusal) = IsRankingRefused r text later refusal
@@ -45,17 +43,13 @@ abbrev pub ProofStop : (before now : ShelfTold) → List ℕ → Stop → Type 0
 ProofStop before now name Usage = ⊥
 ProofStop before now name Shelf = IsUnread before now name
 ProofStop before now name (Input refusal) = ⊥
-ProofStop before now name (Rejected (Shape fault)) = IsLongFile before.files name fault
-ProofStop before now name (Rejected Tra) = ⊥
-ProofStop before now name (Rejected (Check refusal)) = ⊥
+ProofStop before now name (Rejected rejection) = IsLongFile before.files name rejection
 ProofStop before now name Memory = Unit {0}
 
--- the bytes spell no proof, one by random access, or one that does not keep this rule first
+-- the bytes are rejected
 abbrev pub BytesStop : (List ℕ → List ℕ) → List ℕ → List (List ℕ × ℕ) → ℕ → List ℕ → Stop → Type 0
 BytesStop H root query r bytes Usage = ⊥
 BytesStop H root query r bytes Shelf = ⊥
 BytesStop H root query r bytes (Input refusal) = ⊥
-BytesStop H root query r bytes (Rejected (Shape fault)) = IsRejectedBytes H root query r bytes (verify.Shape fault)
-BytesStop H root query r bytes (Rejected Tra) = IsRejectedBytes H root query r bytes verify.Tra
-BytesStop H root query r bytes (Rejected (Check refusal)) = IsRejectedBytes H root query r bytes (verify.Refused refusal)
+BytesStop H root query r bytes (Rejected rejection) = IsRejectedBytes H root query r bytes rejection
 BytesStop H root query r bytes Memory = Unit {0}

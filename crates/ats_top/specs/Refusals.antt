@@ -15,8 +15,8 @@ use Rattle.ats_top.specs.declared.input.JsonFault.TheVariants as json
 use Rattle.ats_top.specs.Words.{ProveWords, Command, Rank, Build, Root, Prove, Verify}
 use Rattle.ats_top.specs.Read.{Files, IsFile}
 use Rattle.ats_top.specs.Proved.{IsProofTooLong}
-use Rattle.ats_top.specs.declared.stops.Refusal.{Refusal}
-use Rattle.ats_top.specs.declared.stops.Refusal.TheVariants.{ROut, QueryTooLong, NoTerm, TooManyWords, TooManyTerms, FileTooLong, NotJson, NotArray, BadItem, NoDocuments, TooManyDocuments, TextTooLong, AllTooLong, BadIndex, ProofTooLong}
+use Rattle.ats_top.specs.declared.stops.InputRefusal.{InputRefusal}
+use Rattle.ats_top.specs.declared.stops.InputRefusal.TheVariants.{ROut, QueryTooLong, NoTerm, TooManyWords, TooManyTerms, FileTooLong, NotJson, NotArray, BadItem, NoDocuments, TooManyDocuments, TextTooLong, AllTooLong, BadIndex, ProofTooLong}
 
 -- an answer may have 1 to 1,000 rows
 pub record IsRowCount (r : ℕ) : Type 0 where
@@ -54,7 +54,7 @@ AreTextsRefused files name fault = (bytes : List ℕ) × (texts : List (List ℕ
     × IsFile files name (2 ^ 26) bytes × AreJsonTexts bytes texts × IsFirstCollectionFault texts fault
 
 -- the named file as a collection: its length, its JSON text, its texts
-abbrev pub IsCollectionRefused : Files → List ℕ → Refusal → Type 0
+abbrev pub IsCollectionRefused : Files → List ℕ → InputRefusal → Type 0
 IsCollectionRefused files name (FileTooLong limit) = (limit ≡ 2 ^ 26) × IsLonger files name limit
 IsCollectionRefused files name NotJson = IsJsonRefused files name json.NotJson
 IsCollectionRefused files name NotArray = IsJsonRefused files name json.NotArray
@@ -66,18 +66,18 @@ IsCollectionRefused files name (AllTooLong bytes) = AreTextsRefused files name (
 IsCollectionRefused files name _ = ⊥
 
 -- the named file as an index: its length, and that it is the index of no collection
-abbrev pub IsIndexRefused : (List ℕ → List ℕ) → Files → List ℕ → Refusal → Type 0
+abbrev pub IsIndexRefused : (List ℕ → List ℕ) → Files → List ℕ → InputRefusal → Type 0
 IsIndexRefused H files name (FileTooLong limit) = (limit ≡ 2 ^ 29) × IsLonger files name limit
 IsIndexRefused H files name (BadIndex at) = (bytes : List ℕ) × IsFile files name (2 ^ 29) bytes × IsLoadFault H bytes (index.BadIndex at)
 IsIndexRefused H files name _ = ⊥
 
 -- the named index, then the length of the honest proof
-abbrev pub IsProvingRefused : (List ℕ → List ℕ) → Files → ProveWords → Refusal → Type 0
+abbrev pub IsProvingRefused : (List ℕ → List ℕ) → Files → ProveWords → InputRefusal → Type 0
 IsProvingRefused H files words (ProofTooLong bytes) = IsProofTooLong H files words bytes
 IsProvingRefused H files words refusal = IsIndexRefused H files words.index refusal
 
 -- rows, query, and then what is tried after them
-abbrev pub IsRankingRefused : ℕ → List ℕ → (Refusal → Type 0) → Refusal → Type 0
+abbrev pub IsRankingRefused : ℕ → List ℕ → (InputRefusal → Type 0) → InputRefusal → Type 0
 IsRankingRefused r text later (ROut out) = (out ≡ r) × (IsRowCount out → ⊥)
 IsRankingRefused r text later (QueryTooLong bytes) = IsRowCount r × IsFirstFault text (query.TooLong bytes)
 IsRankingRefused r text later NoTerm = IsRowCount r × IsFirstFault text query.NoTerm
@@ -85,7 +85,7 @@ IsRankingRefused r text later (TooManyWords count) = IsRowCount r × IsFirstFaul
 IsRankingRefused r text later (TooManyTerms distinct) = IsRowCount r × IsFirstFault text (query.TooManyTerms distinct)
 IsRankingRefused r text later refusal = AsksRanking r text × later refusal
 
-abbrev pub IsRefused : (List ℕ → List ℕ) → Files → Command → Refusal → Type 0
+abbrev pub IsRefused : (List ℕ → List ℕ) → Files → Command → InputRefusal → Type 0
 IsRefused H files (Rank words) refusal = IsRankingRefused words.r words.query (IsCollectionRefused files words.collection) refusal
 IsRefused H files (Build words) refusal = IsCollectionRefused files words.collection refusal
 IsRefused H files (Root words) refusal = IsIndexRefused H files words.index refusal

@@ -4,8 +4,8 @@ use Rattle.ats_grammar.specs.declared.fault.ShapeKind.{ShapeKind}
 use Rattle.ats_grammar.specs.declared.fault.ShapeKind.TheVariants.{Long, Cut, Magic, Version, Algorithm, Count, Order, Trailing}
 use Rattle.ats_client.specs.declared.refusal.Refusal.{Refusal}
 use Rattle.ats_client.specs.declared.refusal.Refusal.TheVariants.{OtherRoot, SlotCount, DictMisfit, DictRoot, SlotWrong, IndexOut, Repeated, ListMisfit, ListRoot, Unmet, DocsMisfit, DocsRoot, TermsMisfit, TermsRoot, TermSlot, AnswerOut, AnswerRepeated, NotSettled}
-use Rattle.ats_top.specs.declared.rejection.Rejection.{Rejection}
-use Rattle.ats_top.specs.declared.rejection.Rejection.TheVariants.{Shape, Tra, Check}
+use Rattle.ats_client.specs.declared.fault.Rejection.{Rejection}
+use Rattle.ats_client.specs.declared.fault.Rejection.TheVariants.{Shape, Tra, Check}
 
 abbrev pub kind_word : ShapeKind → List ℕ
 kind_word Long = codes "long"

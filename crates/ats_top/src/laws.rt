@@ -3,39 +3,38 @@
 ghost use Rattle.std.specs.Prelude.{◌≡◌, ◌^◌, ℕ, List, Some};
 ghost use Rattle.ats_base.specs.Outside.{Holds};
 ghost use Rattle.ats_terms.specs.Query.{IsQueryOf};
+ghost use Rattle.ats_commit.specs.Archive.{Archive};
 ghost use Rattle.ats_commit.specs.Root.{root_of};
 ghost use Rattle.ats_records.specs.declared.record.Algorithm.TheVariants.{Tnra};
 ghost use Rattle.ats_index.specs.Spelling.{IsSpelling};
-ghost use Rattle.ats_prover.specs.Honest.{IsProved, IsTooLong};
+ghost use Rattle.ats_prover.specs.Honest.{IsProved};
 ghost use Rattle.ats_top.specs.Words.{Command, number_of, root_word, root_words, prove_words, verify_words};
 ghost use Rattle.ats_top.specs.Read.{Files, IsFile, IsTold};
-ghost use Rattle.ats_top.specs.Refusals.{IsRowCount, IsRefused};
+ghost use Rattle.ats_top.specs.Refusals.{IsRowCount, AsksRanking, IsRefused};
 ghost use Rattle.ats_top.specs.Rejected.{IsRejected};
-ghost use Rattle.ats_top.specs.declared.rejection.Rejection.{Rejection};
-ghost use Rattle.ats_top.specs.declared.stops.Refusal.{Refusal};
+ghost use Rattle.ats_client.specs.declared.fault.Rejection.{Rejection};
+ghost use Rattle.ats_top.specs.declared.stops.InputRefusal.{InputRefusal};
 ghost use Rattle.ats_top.specs.Done.{HasInput, IsServed};
 ghost use Rattle.ats_top.specs.Run.{Said};
 
 use ats_hash::HashKind;
 
-/// Where a file is the honest proof of a query over a collection by lists alone, `verify` serves it under the
-/// word of the collection's root, for the same query and number of rows.
+/// Where a file is the honest proof of a query over an archive by lists alone, `verify` serves it under the
+/// word of the archive's root, for the same query and number of rows.
 pub fn honest_proofs_are_served<H: HashKind>()
-    ensures { (texts : List (List ℕ)) (asked : List (List ℕ × ℕ)) (rows : ℕ) (bytes : List ℕ) (files : Files) (root r query name : List ℕ)
-        → IsProved H.hash texts asked rows Tnra bytes → IsFile files name (2 ^ 26) bytes → root_word root ≡ Some (root_of H.hash texts)
+    ensures { (archive : Archive) (asked : List (List ℕ × ℕ)) (rows : ℕ) (bytes : List ℕ) (files : Files) (root r query name : List ℕ)
+        → IsProved H.hash archive asked rows Tnra bytes → IsFile files name (2 ^ 26) bytes → root_word root ≡ Some (root_of H.hash archive)
         → number_of r ≡ Some rows → IsRowCount rows → IsQueryOf query asked
         → Said (verify_words root r query name) (IsServed H.hash files) }
 {}
 
-/// Where a file holds the index bytes of a collection, which `build` stores, `root` serves it. So does `prove`,
-/// where the shelf tells its files, for a query and a number of rows within the limits whose honest proof is not
-/// too long.
+/// Where a file holds the index bytes of an archive, which `build` stores, `root` serves it. So does `prove`, for a
+/// query and a number of rows within the limits: no proof that they ask for is too long.
 pub fn built_indexes_are_served<H: HashKind>()
-    ensures root { (texts : List (List ℕ)) (bytes : List ℕ) (files : Files) (name : List ℕ) → IsSpelling H.hash bytes texts → Holds files name bytes
+    ensures root { (archive : Archive) (bytes : List ℕ) (files : Files) (name : List ℕ) → IsSpelling H.hash bytes archive → Holds files name bytes
         → Said (root_words name) (IsServed H.hash files) }
-    ensures prove { (texts : List (List ℕ)) (bytes : List ℕ) (files : Files) (name : List ℕ) → IsSpelling H.hash bytes texts → Holds files name bytes
-        → (asked : List (List ℕ × ℕ)) (rows : ℕ) (r query proof : List ℕ) → IsTold files → number_of r ≡ Some rows → IsRowCount rows
-        → IsQueryOf query asked → ((size : ℕ) → IsTooLong H.hash texts asked rows Tnra (2 ^ 26) size → ⊥)
+    ensures prove { (archive : Archive) (bytes : List ℕ) (files : Files) (name : List ℕ) → IsSpelling H.hash bytes archive → Holds files name bytes
+        → (rows : ℕ) (r query proof : List ℕ) → number_of r ≡ Some rows → AsksRanking rows query
         → Said (prove_words name r query proof) (IsServed H.hash files) }
 {}
 
@@ -51,8 +50,8 @@ pub fn commands_have_one_rejection<H: HashKind>()
 /// Where the shelf tells its files, the input of a command is refused in one way at most, and in none where the
 /// command is served.
 pub fn commands_have_one_refusal<H: HashKind>()
-    ensures one { (files : Files) (command : Command) (a b : Refusal) → IsTold files
+    ensures one { (files : Files) (command : Command) (a b : InputRefusal) → IsTold files
         → IsRefused H.hash files command a → IsRefused H.hash files command b → a ≡ b }
-    ensures none { (files : Files) (command : Command) (refusal : Refusal) → IsTold files
+    ensures none { (files : Files) (command : Command) (refusal : InputRefusal) → IsTold files
         → IsServed H.hash files command → IsRefused H.hash files command refusal → ⊥ }
 {}

@@ -5,9 +5,9 @@ ghost use Rattle.ats_top.specs.Reading.{Reads};
 ghost use Rattle.ats_top.specs.ReadStops.{FileStop, CollectionStop, IndexStop, ProofStop};
 
 use crate::input::read_collection;
-use crate::rejection::Rejection;
-use crate::stops::{Refusal, Stop};
+use crate::stops::{InputRefusal, Stop};
 use ats_base::{Bytes, GatherFault, Shelf, gather};
+use ats_client::Rejection;
 use ats_hash::Hash32;
 use ats_impact::Collection;
 use ats_index::Index;
@@ -38,7 +38,7 @@ fn file<S: Shelf>(alloc: Global, name: &str, limit: u64, shelf: &mut S) -> Resul
     match gather(alloc, shelf, name, limit) {
         Ok(bytes) => Ok(bytes),
         Err(GatherFault::ReadFault) => Err(Stop::Shelf),
-        Err(GatherFault::TooLong) => Err(Stop::Input(Refusal::FileTooLong { limit })),
+        Err(GatherFault::TooLong) => Err(Stop::Input(InputRefusal::FileTooLong { limit })),
         Err(GatherFault::OutOfMemory) => Err(Stop::Memory),
     }
 }

@@ -1,18 +1,10 @@
-// Why a proof is refused, and what is then printed.
+// What is printed where a proof is refused.
 ghost use Rattle.std.specs.Prelude.{◌≡◌, IfOk, string_bytes};
 ghost use Rattle.ats_top.specs.RejectionLines.{kind_word, refusal_words, line_of_rejection};
 
-use ats_client::Refusal;
+use ats_client::{Refusal, Rejection};
 use ats_proof::{ShapeFault, ShapeKind};
 use std::alloc::{AllocError, Global};
-
-/// What is wrong with the bytes of a proof: their shape, their algorithm, or the first rule that the proof does not keep.
-#[derive(Clone, Copy, Debug, PartialEq, Eq)]
-pub(crate) enum Rejection {
-    Shape(ShapeFault),
-    Tra,
-    Check(Refusal),
-}
 
 fn kind_word(kind: ShapeKind) -> &'static str
     ensures { result.now ≡ kind_word kind }
@@ -55,21 +47,19 @@ fn refusal_words(alloc: Global, refusal: Refusal) -> Result<String, AllocError>
     }
 }
 
-impl Rejection {
-    /// The line that is printed for it.
-    pub(crate) fn line(self, alloc: Global) -> Result<String, AllocError>
-        ensures { IfOk result (λ line. string_bytes line ≡ line_of_rejection self) }
-    {
-        match self {
-            Rejection::Shape(ShapeFault { at, kind }) => {
-                let kind = kind_word(kind);
-                format!(in alloc; "refused: shape {kind} {at}\n")
-            }
-            Rejection::Tra => format!(in alloc; "refused: tra\n"),
-            Rejection::Check(refusal) => {
-                let words = refusal_words(alloc, refusal)?;
-                format!(in alloc; "refused: {words}\n")
-            }
+/// The line that is printed for it.
+pub(crate) fn rejection_line(alloc: Global, rejection: Rejection) -> Result<String, AllocError>
+    ensures { IfOk result (λ line. string_bytes line ≡ line_of_rejection rejection) }
+{
+    match rejection {
+        Rejection::Shape(ShapeFault { at, kind }) => {
+            let kind = kind_word(kind);
+            format!(in alloc; "refused: shape {kind} {at}\n")
+        }
+        Rejection::Tra => format!(in alloc; "refused: tra\n"),
+        Rejection::Check(refusal) => {
+            let words = refusal_words(alloc, refusal)?;
+            format!(in alloc; "refused: {words}\n")
         }
     }
 }

@@ -12,7 +12,6 @@ ghost use Rattle.ats_top.specs.Run.{IsStopped};
 
 use crate::print::lines;
 use crate::read;
-use crate::rejection::Rejection;
 use crate::stops::Stop;
 use ats_base::Shelf;
 use ats_client::VerifyFault;
@@ -37,9 +36,7 @@ fn answered<H: Hash32>(
             Ok(text) => Ok(text),
             Err(_) => Err(Stop::Memory),
         },
-        Err(VerifyFault::Shape(fault)) => Err(Stop::Rejected(Rejection::Shape(fault))),
-        Err(VerifyFault::Tra) => Err(Stop::Rejected(Rejection::Tra)),
-        Err(VerifyFault::Refused(refusal)) => Err(Stop::Rejected(Rejection::Check(refusal))),
+        Err(VerifyFault::Rejected(rejection)) => Err(Stop::Rejected(rejection)),
         Err(VerifyFault::OutOfMemory) => Err(Stop::Memory),
     }
 }

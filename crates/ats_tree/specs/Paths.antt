@@ -1,5 +1,5 @@
 -- Paths from the root of a tree to a node, and their numbers.
-use Rattle.std.specs.Prelude.{◌≡◌, ℕ, zero, suc, ◌+◌, ◌^◌, ◌<◌, List, [], ◌∷◌, length, Bool, nat_eq, if◌then◌else◌}
+use Rattle.std.specs.Prelude.{ℕ, zero, suc, ◌+◌, ◌^◌, List, [], ◌∷◌, length, Bool, nat_eq, if◌then◌else◌}
 use Rattle.std.specs.Int.{bit_at}
 
 -- the turns from the root to a node: false for left, true for right
@@ -15,8 +15,3 @@ path_of (suc depth) turns = nat_eq (bit_at turns depth) 1 ∷ path_of depth turn
 abbrev pub number_of : Path → ℕ
 number_of [] = 0
 number_of (turn ∷ path) = (if turn then 2 ^ length path else 0) + number_of path
-
--- the path is that of this depth and number, and the number has no digit further up
-pub record IsPathOf (path : Path) (depth turns : ℕ) : Type 0 where
-  pub same : path_of depth turns ≡ path
-  pub below : turns < 2 ^ depth

@@ -13,7 +13,7 @@ pub returns-clause-exact : goal.returns-clause-exact
 returns-clause-exact g c = accepted g.H.HashKind.hash c.args.root.now c.args.query.now c.args.top (proof_of c.args.proof.now) c.checked.result c.checked.ensures.refused
 
 on_both : (P Q R : Type 0) (result : Result ℕ Refusal) → (P → Q → R) → OnOk result P → OnOk result Q → OnOk result R
-on_both P Q R (Ok limit) made p q = made p q
+on_both P Q R (Ok threshold) made p q = made p q
 on_both P Q R (Err refusal) made p q = p
 
 pub returns-clause-headline : goal.returns-clause-headline

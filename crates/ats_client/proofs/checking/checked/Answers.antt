@@ -42,8 +42,8 @@ returns-in_err-met-clause-refused g c =
           inr (
             c.in_ok-slots.ensures.kept,
             inr (
-              c.in_ok-limit.ensures.right,
-              inl (c.in_err-met.ensures.unmet bracket lanes c.in_ok-limit.ensures.marks),
+              c.in_ok-threshold.ensures.right,
+              inl (c.in_err-met.ensures.unmet bracket lanes c.in_ok-threshold.ensures.marks),
             ),
           ),
         ),
@@ -65,9 +65,9 @@ returns-in_err-rows-clause-refused g c =
           inr (
             c.in_ok-slots.ensures.kept,
             inr (
-              c.in_ok-limit.ensures.right,
+              c.in_ok-threshold.ensures.right,
               inr (
-                c.in_ok-met.ensures.all bracket lanes c.in_ok-limit.ensures.marks,
+                c.in_ok-met.ensures.all bracket lanes c.in_ok-threshold.ensures.marks,
                 inl c.in_err-rows.ensures.fault,
               ),
             ),
@@ -85,7 +85,7 @@ rows-requires-clause-count g c =
 pub settled-requires-clause-marks : goal.settled-requires-clause-marks
 settled-requires-clause-marks g c =
     let lanes : List ShownLane = lanes_of c.args.query.now (proof_of c.args.proof.now) in
-    (bracket, lanes, c.rows.ensures.marks bracket lanes c.in_ok-limit.ensures.marks, c.in_ok-limit.ensures.rest)
+    (bracket, lanes, c.rows.ensures.marks bracket lanes c.in_ok-threshold.ensures.marks, c.in_ok-threshold.ensures.threshold)
 
 pub settled-requires-clause-count : goal.settled-requires-clause-count
 settled-requires-clause-count g c =
@@ -95,8 +95,8 @@ pub returns-then-not-settled-clause-refused : goal.returns-then-not-settled-clau
 returns-then-not-settled-clause-refused g c =
     let proof : Proof = proof_of c.args.proof.now in
     let lanes : List ShownLane = lanes_of c.args.query.now proof in
-    let marks = marks_by proof lanes c.rows.new.work.marks c.requires.algorithm (c.rows.ensures.marks bracket lanes c.in_ok-limit.ensures.marks) in
-    let test = c.settled.ensures.settled (bounds_of proof) lanes marks c.in_ok-limit.ensures.rest in
+    let marks = marks_by proof lanes c.rows.new.work.marks c.requires.algorithm (c.rows.ensures.marks bracket lanes c.in_ok-threshold.ensures.marks) in
+    let test = c.settled.ensures.settled (bounds_of proof) lanes marks c.in_ok-threshold.ensures.threshold in
     record {
       walk = c.requires.algorithm;
       first = inr (
@@ -106,9 +106,9 @@ returns-then-not-settled-clause-refused g c =
           inr (
             c.in_ok-slots.ensures.kept,
             inr (
-              c.in_ok-limit.ensures.right,
+              c.in_ok-threshold.ensures.right,
               inr (
-                c.in_ok-met.ensures.all bracket lanes c.in_ok-limit.ensures.marks,
+                c.in_ok-met.ensures.all bracket lanes c.in_ok-threshold.ensures.marks,
                 inr (
                   c.in_ok-rows.ensures.right,
                   inl (λ (settled : IsAnswerSettled (bounds_of proof) lanes proof.met proof.answer c.args.top). let yes = test.1 settled in absurd (cc (yes, c.if-not-settled.true))),
@@ -124,21 +124,21 @@ pub returns-clause-accepts : goal.returns-clause-accepts
 returns-clause-accepts g c =
     let proof : Proof = proof_of c.args.proof.now in
     let lanes : List ShownLane = lanes_of c.args.query.now proof in
-    let marks = marks_by proof lanes c.rows.new.work.marks c.requires.algorithm (c.rows.ensures.marks bracket lanes c.in_ok-limit.ensures.marks) in
+    let marks = marks_by proof lanes c.rows.new.work.marks c.requires.algorithm (c.rows.ensures.marks bracket lanes c.in_ok-threshold.ensures.marks) in
     accepts_all g.H.HashKind.hash c.args.root.now c.args.query.now c.args.top proof c.requires.algorithm
-    c.in_ok-opened.ensures.kept c.in_ok-dictionary.ensures.kept c.in_ok-slots.ensures.kept c.in_ok-limit.ensures.right
-    (c.in_ok-met.ensures.all bracket lanes c.in_ok-limit.ensures.marks) c.in_ok-rows.ensures.right
-    ((c.settled.ensures.settled (bounds_of proof) lanes marks c.in_ok-limit.ensures.rest).0 c.if-not-settled.false)
+    c.in_ok-opened.ensures.kept c.in_ok-dictionary.ensures.kept c.in_ok-slots.ensures.kept c.in_ok-threshold.ensures.right
+    (c.in_ok-met.ensures.all bracket lanes c.in_ok-threshold.ensures.marks) c.in_ok-rows.ensures.right
+    ((c.settled.ensures.settled (bounds_of proof) lanes marks c.in_ok-threshold.ensures.threshold).0 c.if-not-settled.false)
 
 pub returns-clause-marks : goal.returns-clause-marks
 returns-clause-marks g c =
     let lanes : List ShownLane = lanes_of c.args.query.now (proof_of c.args.proof.now) in
-    marks_by (proof_of c.args.proof.now) lanes c.rows.new.work.marks c.requires.algorithm (c.rows.ensures.marks bracket lanes c.in_ok-limit.ensures.marks)
+    marks_by (proof_of c.args.proof.now) lanes c.rows.new.work.marks c.requires.algorithm (c.rows.ensures.marks bracket lanes c.in_ok-threshold.ensures.marks)
 
 pub returns-clause-left : goal.returns-clause-left
 returns-clause-left g c = record {
   each = returns-clause-marks g c;
-  rests = c.in_ok-limit.ensures.rest;
-  small = c.in_ok-limit.ensures.small;
+  rests = c.in_ok-threshold.ensures.threshold;
+  small = c.in_ok-threshold.ensures.small;
   inside = c.in_ok-rows.ensures.right.inside;
 }

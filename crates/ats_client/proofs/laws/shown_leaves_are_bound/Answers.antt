@@ -4,9 +4,9 @@ use Rattle.ats_client.proofs.Descent.{whole-binds, whole-extracts}
 use Rattle.ats_client.proofs.laws.shown_leaves_are_bound.Goals as goal
 
 pub returns-clause-bound : goal.returns-clause-bound
-returns-clause-bound g c texts query r bytes proof are asked is accepts =
-    whole-binds g.H.HashKind.hash g.H.HashKind.sized texts query r proof are asked (in_range bytes proof is) (sym is.prefix_each) accepts
+returns-clause-bound g c archive query r bytes proof are asked is accepts =
+    whole-binds g.H.HashKind.hash g.H.HashKind.sized archive query r proof are asked (in_range bytes proof is) (sym is.prefix_each) accepts
 
 pub returns-clause-extract : goal.returns-clause-extract
-returns-clause-extract g c texts query r bytes proof are asked is accepts =
-    whole-extracts g.H.HashKind.hash texts query proof (returns-clause-bound g c texts query r bytes proof are asked is accepts)
+returns-clause-extract g c archive query r bytes proof are asked is accepts =
+    whole-extracts g.H.HashKind.hash archive query proof (returns-clause-bound g c archive query r bytes proof are asked is accepts)

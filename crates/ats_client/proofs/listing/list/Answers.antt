@@ -22,10 +22,10 @@ returns-clause-notes g c =
     let documents = (proof_of c.args.proof.now).header.documents in
     let coefficient : c.from.result * c.idf.result ≡ one.weight * idf documents one.entry.f =
     ap₂ (λ a b. a * b) c.from.ensures (c.idf.ensures.value ∙ ap (λ (h : Header). idf h.documents one.entry.f) c.header.ensures) in
-    let cover : c.weighed-cover.result ≡ rest (index_lane documents one) = c.weighed-cover.ensures.value ∙ ap₂ (λ a b. a * b) coefficient c.rest_impact-impact.ensures.value in
+    let most : c.weighed-rest.result ≡ rest (index_lane documents one) = c.weighed-rest.ensures.value ∙ ap₂ (λ a b. a * b) coefficient c.rest_impact-impact.ensures.value in
     let notes = subst (λ (met : ℕ). (notes : List Note) → AreNotes met notes (c.args.one.now.number + 1) [] c.args.work.now.marks
-    → AreNotes met (notes ++ map (note (c.from.result * c.idf.result) c.weighed-cover.result) one.prefix.entries) (c.args.one.now.number + 1) (indexes_of one.prefix.entries) c.entries.new.work.marks)
+    → AreNotes met (notes ++ map (note (c.from.result * c.idf.result) c.weighed-rest.result) one.prefix.entries) (c.args.one.now.number + 1) (indexes_of one.prefix.entries) c.entries.new.work.marks)
     c.met.ensures c.in_ok-entries.ensures.notes in
     λ (before : List Note) (from : AreNotes (length (proof_of c.args.proof.now).met) before (c.args.one.now.number + 1) [] c.args.work.now.marks).
-    list_noted (length (proof_of c.args.proof.now).met) before c.args.one.now.number documents (c.from.result * c.idf.result) c.weighed-cover.result one c.entries.new.work.marks
-    coefficient cover (notes before from)
+    list_noted (length (proof_of c.args.proof.now).met) before c.args.one.now.number documents (c.from.result * c.idf.result) c.weighed-rest.result one c.entries.new.work.marks
+    coefficient most (notes before from)

@@ -10,7 +10,7 @@ use Rattle.ats_client.specs.Presented.{Presented}
 use Rattle.ats_client.specs.Noting.{Note, AreNotes, index_lane, lane_notes, notes_of}
 use Rattle.ats_client.proofs.Passing.{begins, passes_absent, passes_present, done, marks_done, free_done, rests_done, IsPassed}
 use Rattle.ats_client.proofs.lists.lists.Goals as goal
-use Rattle.ats_client.proofs.lists.lists.Goals.{in-Some+in_ok-limit, in_default}
+use Rattle.ats_client.proofs.lists.lists.Goals.{in-Some+in_ok-threshold, in_default}
 
 pub loop-i-init : goal.loop-i-init
 unfolding prefixes_left entries_left
@@ -44,24 +44,24 @@ loop-i-preserved g c =
     let after : List Prefix = prefixes_left c.present.new.left in
     let p = c.loop-i.invariant.passed in
     elim c.match-present.branch [
-      | in-Some+in_ok-limit w ↦
+      | in-Some+in_ok-threshold w ↦
           let one : Presented = presented_of w.in-Some.one in
           let noted = subst (λ (k : ℕ). (notes : List Note) → AreNotes (length proof.met) notes (k + 1) [] c.loop-i.work.marks
-          → AreNotes (length proof.met) (notes ++ lane_notes (index_lane proof.header.documents one)) (k + 2) [] w.list.new.work.marks) w.in-Some.ensures.number w.in_ok-limit.ensures.notes in
-          let passed = passes_present H query proof i left after c.loop-i.limit w.in_ok-limit.field-0 one c.loop-i.work.marks w.list.new.work.marks p
-          w.in-Some.ensures.some w.in_ok-limit.ensures.right noted w.in_ok-limit.ensures.rest w.in_ok-limit.ensures.small w.in-Some.ensures.enough in
+          → AreNotes (length proof.met) (notes ++ lane_notes (index_lane proof.header.documents one)) (k + 2) [] w.list.new.work.marks) w.in-Some.ensures.number w.in_ok-threshold.ensures.notes in
+          let passed = passes_present H query proof i left after c.loop-i.threshold w.in_ok-threshold.field-0 one c.loop-i.work.marks w.list.new.work.marks p
+          w.in-Some.ensures.some w.in_ok-threshold.ensures.right noted w.in_ok-threshold.ensures.rest w.in_ok-threshold.ensures.small w.in-Some.ensures.enough in
           record {
-            passed = subst (λ (n : ℕ). IsPassed H query proof (i + 1) after n c.match-present.work.marks) (sym w.limit-is)
-                (subst (λ (m : Marked). IsPassed H query proof (i + 1) after (c.loop-i.limit + w.in_ok-limit.field-0) m.marks) (sym w.work-is) passed);
+            passed = subst (λ (n : ℕ). IsPassed H query proof (i + 1) after n c.match-present.work.marks) (sym w.threshold-is)
+                (subst (λ (m : Marked). IsPassed H query proof (i + 1) after (c.loop-i.threshold + w.in_ok-threshold.field-0) m.marks) (sym w.work-is) passed);
             dict = ap entries_left w.in-Some.ensures.dict ∙ c.loop-i.invariant.dict;
-            room = ap (λ (m : Marked). m.room) w.work-is ∙ w.in_ok-limit.ensures.room ∙ c.loop-i.invariant.room;
-            cost = omega (arith, w.steps-is, w.in_ok-limit.ensures.cost, w.in-Some.ensures.cost, c.loop-i.invariant.cost);
+            room = ap (λ (m : Marked). m.room) w.work-is ∙ w.in_ok-threshold.ensures.room ∙ c.loop-i.invariant.room;
+            cost = omega (arith, w.steps-is, w.in_ok-threshold.ensures.cost, w.in-Some.ensures.cost, c.loop-i.invariant.cost);
           }
       | in_default w ↦
-          let passed = passes_absent H query proof i left after c.loop-i.limit c.loop-i.work.marks p w.in_default.ensures.none w.in_default.ensures.enough in
+          let passed = passes_absent H query proof i left after c.loop-i.threshold c.loop-i.work.marks p w.in_default.ensures.none w.in_default.ensures.enough in
           record {
-            passed = subst (λ (n : ℕ). IsPassed H query proof (i + 1) after n c.match-present.work.marks) (sym w.limit-is)
-                (subst (λ (m : Marked). IsPassed H query proof (i + 1) after c.loop-i.limit m.marks) (sym w.work-is) passed);
+            passed = subst (λ (n : ℕ). IsPassed H query proof (i + 1) after n c.match-present.work.marks) (sym w.threshold-is)
+                (subst (λ (m : Marked). IsPassed H query proof (i + 1) after c.loop-i.threshold m.marks) (sym w.work-is) passed);
             dict = ap entries_left w.in_default.ensures.dict ∙ c.loop-i.invariant.dict;
             room = ap (λ (m : Marked). m.room) w.work-is ∙ c.loop-i.invariant.room;
             cost = omega (arith, w.steps-is, w.in_default.ensures.cost, c.loop-i.invariant.cost);
@@ -70,23 +70,23 @@ loop-i-preserved g c =
 
 pub returns-clause-right : goal.returns-clause-right
 returns-clause-right g c =
-    (done g.H.HashKind.hash c.args.query.now (proof_of c.args.proof.now) c.loop-i.i (prefixes_left c.loop-i.left) c.loop-i.limit c.loop-i.work.marks c.loop-i.invariant.passed
+    (done g.H.HashKind.hash c.args.query.now (proof_of c.args.proof.now) c.loop-i.i (prefixes_left c.loop-i.left) c.loop-i.threshold c.loop-i.work.marks c.loop-i.invariant.passed
     (omega (arith, c.len-i-end.ensures.value)) (omega (arith, c.len-i-end.ensures.value, c.len-i-end.ensures.query.few))).right
 
 pub returns-clause-marks : goal.returns-clause-marks
 returns-clause-marks g c =
-    marks_done g.H.HashKind.hash c.args.query.now (proof_of c.args.proof.now) c.loop-i.limit c.loop-i.work.marks c.args.proof.now.in_range.ids.rise
-    (done g.H.HashKind.hash c.args.query.now (proof_of c.args.proof.now) c.loop-i.i (prefixes_left c.loop-i.left) c.loop-i.limit c.loop-i.work.marks c.loop-i.invariant.passed
+    marks_done g.H.HashKind.hash c.args.query.now (proof_of c.args.proof.now) c.loop-i.threshold c.loop-i.work.marks c.args.proof.now.in_range.ids.rise
+    (done g.H.HashKind.hash c.args.query.now (proof_of c.args.proof.now) c.loop-i.i (prefixes_left c.loop-i.left) c.loop-i.threshold c.loop-i.work.marks c.loop-i.invariant.passed
     (omega (arith, c.len-i-end.ensures.value)) (omega (arith, c.len-i-end.ensures.value, c.len-i-end.ensures.query.few)))
 
 pub returns-clause-free : goal.returns-clause-free
 returns-clause-free g c =
-    free_done g.H.HashKind.hash c.args.query.now (proof_of c.args.proof.now) c.loop-i.limit c.loop-i.work.marks
-    (done g.H.HashKind.hash c.args.query.now (proof_of c.args.proof.now) c.loop-i.i (prefixes_left c.loop-i.left) c.loop-i.limit c.loop-i.work.marks c.loop-i.invariant.passed
+    free_done g.H.HashKind.hash c.args.query.now (proof_of c.args.proof.now) c.loop-i.threshold c.loop-i.work.marks
+    (done g.H.HashKind.hash c.args.query.now (proof_of c.args.proof.now) c.loop-i.i (prefixes_left c.loop-i.left) c.loop-i.threshold c.loop-i.work.marks c.loop-i.invariant.passed
     (omega (arith, c.len-i-end.ensures.value)) (omega (arith, c.len-i-end.ensures.value, c.len-i-end.ensures.query.few)))
 
-pub returns-clause-rest : goal.returns-clause-rest
-returns-clause-rest g c =
-    rests_done g.H.HashKind.hash c.args.query.now (proof_of c.args.proof.now) c.loop-i.limit c.loop-i.work.marks
-    (done g.H.HashKind.hash c.args.query.now (proof_of c.args.proof.now) c.loop-i.i (prefixes_left c.loop-i.left) c.loop-i.limit c.loop-i.work.marks c.loop-i.invariant.passed
+pub returns-clause-threshold : goal.returns-clause-threshold
+returns-clause-threshold g c =
+    rests_done g.H.HashKind.hash c.args.query.now (proof_of c.args.proof.now) c.loop-i.threshold c.loop-i.work.marks
+    (done g.H.HashKind.hash c.args.query.now (proof_of c.args.proof.now) c.loop-i.i (prefixes_left c.loop-i.left) c.loop-i.threshold c.loop-i.work.marks c.loop-i.invariant.passed
     (omega (arith, c.len-i-end.ensures.value)) (omega (arith, c.len-i-end.ensures.value, c.len-i-end.ensures.query.few)))

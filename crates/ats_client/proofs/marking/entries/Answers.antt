@@ -33,7 +33,7 @@ pub noted-requires-clause-held : goal.noted-requires-clause-held
 noted-requires-clause-held c =
     let are = c.loop-i.invariant.notes c.requires.notes.0 c.requires.notes.1 in
     let room = room_for c.args.met _ (c.args.one.now.number + 1) _ c.loop-i.work.marks c.entry-entry.result.doc are c.if-entry-met.false (omega (arith, c.requires.number)) in
-    omega (arith, room.held, c.requires.cover)
+    omega (arith, room.held, c.requires.rest)
 
 pub returns-then-not-noted-clause-fault : goal.returns-then-not-noted-clause-fault
 unfolding prefix_of
@@ -65,8 +65,8 @@ loop-i-preserved c =
     record {
       names = names_more c.args.met (indexes_of entries) c.loop-i.i e.doc at c.loop-i.invariant.names c.if-entry-met.false none;
       notes = λ (notes : List Note) (from : AreNotes c.args.met notes l [] c.args.work.now.marks).
-          notes_next c.args.met notes l c.args.coefficient c.args.cover entries c.loop-i.i e c.loop-i.work.marks c.noted.new.work.marks
-          c.entry-entry.ensures.entry c.if-entry-met.false (omega arith) small c.requires.cover (c.loop-i.invariant.notes notes from) first
+          notes_next c.args.met notes l c.args.coefficient c.args.rest entries c.loop-i.i e c.loop-i.work.marks c.noted.new.work.marks
+          c.entry-entry.ensures.entry c.if-entry-met.false (omega arith) small c.requires.rest (c.loop-i.invariant.notes notes from) first
           (rw gain at (ap (λ (w : Marked). w.marks) put));
       room = c.noted.ensures.room ∙ c.loop-i.invariant.room;
       cost = omega (arith, c.noted.ensures.cost, c.entry-entry.ensures.cost, c.loop-i.invariant.cost);

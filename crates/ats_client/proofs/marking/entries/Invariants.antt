@@ -9,7 +9,7 @@ abbrev pub invariant-loop-i : goal.invariant-loop-i
 invariant-loop-i l = record {
   names : AreNames l.met (take l.i (indexes_of (prefix_of l.one.list).entries));
   notes : (notes : List Note) → AreNotes l.met notes (l.one.number + 1) [] l.fn.work.marks
-      → AreNotes l.met (notes ++ map (note l.coefficient l.cover) (take l.i (prefix_of l.one.list).entries)) (l.one.number + 1)
+      → AreNotes l.met (notes ++ map (note l.coefficient l.rest) (take l.i (prefix_of l.one.list).entries)) (l.one.number + 1)
       (take l.i (indexes_of (prefix_of l.one.list).entries)) l.work.marks;
   room : l.work.room ≡ l.fn.work.room;
   cost : l.steps ≤ l.fn.steps + 3 * l.i;

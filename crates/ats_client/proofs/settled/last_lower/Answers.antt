@@ -20,7 +20,7 @@ returns-then-upper-score-clause-falling c falling =
     let inside : c.loop-k.k < length answer = omega (arith, c.loop-k-test.true, c.answers-k-end.ensures) in
     let here : get_or answer c.loop-k.k 0 ≡ c.answer.result = get_or_from_slice_get answer c.loop-k.k c.answer.result 0 c.answer.ensures.row in
     let mark : c.get-mark.result ≡ row_mark marks answer c.loop-k.k = c.get-mark.ensures.mark ∙ ap (mark_at marks) (sym here) in
-    let le : upper c.args.limit c.get-mark.result ≤ lower_before marks answer c.loop-k.k = rw mark (falling c.loop-k.k inside) in
+    let le : upper c.args.threshold c.get-mark.result ≤ lower_before marks answer c.loop-k.k = rw mark (falling c.loop-k.k inside) in
     omega (arith, le, c.upper.ensures, c.if-upper-score.true, c.loop-k.invariant.score)
 
 pub loop-k-preserved : goal.loop-k-preserved
@@ -29,7 +29,7 @@ loop-k-preserved c =
     let marks : List Mark = c.args.work.now.marks in
     let here : get_or answer c.loop-k.k 0 ≡ c.answer.result = get_or_from_slice_get answer c.loop-k.k c.answer.result 0 c.answer.ensures.row in
     let mark : c.get-mark.result ≡ row_mark marks answer c.loop-k.k = c.get-mark.ensures.mark ∙ ap (mark_at marks) (sym here) in
-    let at_most : upper c.args.limit c.get-mark.result ≤ lower_before marks answer c.loop-k.k =
+    let at_most : upper c.args.threshold c.get-mark.result ≤ lower_before marks answer c.loop-k.k =
     omega (arith, c.upper.ensures, c.if-upper-score.false, c.loop-k.invariant.score) in
     record {
       falling = below_more _ _ c.loop-k.invariant.falling (rw mark at at_most);

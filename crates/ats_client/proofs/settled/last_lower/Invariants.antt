@@ -5,7 +5,7 @@ use Rattle.ats_client.proofs.settled.last_lower.Given as goal
 
 abbrev pub invariant-loop-k : goal.invariant-loop-k
 invariant-loop-k l = record {
-  falling : AreFalling l.limit l.work.marks (proof_of l.proof).answer l.k;
+  falling : AreFalling l.threshold l.work.marks (proof_of l.proof).answer l.k;
   score : l.score ≡ lower_before l.work.marks (proof_of l.proof).answer l.k;
   steps : l.steps ≡ l.initial.steps + 2 * l.k;
 }

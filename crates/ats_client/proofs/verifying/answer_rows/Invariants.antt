@@ -7,5 +7,5 @@ use Rattle.ats_client.proofs.verifying.answer_rows.Given as goal
 abbrev pub invariant-loop-i : goal.invariant-loop-i
 invariant-loop-i l = record {
   steps : l.steps ≡ 3 * l.i;
-  rows : (query : List (List ℕ × ℕ)) → IsLeft query (proof_of l.proof) l.work.marks l.limit → l.rows ≡ rows_before query (proof_of l.proof) l.i;
+  rows : (query : List (List ℕ × ℕ)) → IsLeft query (proof_of l.proof) l.work.marks l.threshold → l.rows ≡ rows_before query (proof_of l.proof) l.i;
 }

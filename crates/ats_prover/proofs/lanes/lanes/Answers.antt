@@ -39,9 +39,9 @@ list-requires g c =
 pub loop-i-preserved : goal.loop-i-preserved
 loop-i-preserved g c =
     let H = g.H.HashKind.hash in
-    let texts = c.args.index.now in
+    let archive = c.args.index.now in
     let query = c.args.query.now in
-    let entries = dictionary_of H texts in
+    let entries = dictionary_of H archive in
     let i = c.loop-i.i in
     let term = (get_or query i ([], 0)).0 in
     let inside : i < length query = omega (arith, c.loop-i-test.true, c.len-i-end.ensures.value) in
@@ -51,7 +51,7 @@ loop-i-preserved g c =
           let is = subst (IsSpot entries term) w.in-At.is spot in
           let p : w.in-At.p ≡ suc (w.in-At.p - 1) = omega (arith, is.some) in
           let lane = whole_lane w.lane.result in
-          let at = lane_at H texts query i (w.in-At.p - 1) c.documents-documents.result w.weight.result lane inside (subst (StandsAt entries term) p is)
+          let at = lane_at H archive query i (w.in-At.p - 1) c.documents-documents.result w.weight.result lane inside (subst (StandsAt entries term) p is)
           (w.lane.ensures.entries ∙ w.list.ensures.value ([], []) ∙ ap (λ (ls : List (List ℕ × List Entry)). (get_or ls (w.in-At.p - 1) ([], [])).1) c.lists-lists.ensures)
           (subst (λ (es : List Entry). 1 ≤ length es) (sym w.lane.ensures.entries) w.list.ensures.list.some)
           (c.documents-documents.ensures.value ∙ ap (λ (ts : List (List ℕ)). length ts) c.collection.ensures.same) (w.weight.ensures.value ([], 0))
@@ -75,8 +75,8 @@ loop-i-preserved g c =
       | in-Between w ↦
           let is = subst (IsSpot entries term) w.in-Between.is spot in
           let same : whole_lanes c.match-spots-i.lanes.items ≡ whole_lanes c.loop-i.lanes.items = ap (λ v. map whole_lane v.items) w.lanes-is in
-          let none = absent_term H texts term w.in-Between.field-0 is in record {
-            lanes = same ∙ c.loop-i.invariant.lanes ∙ sym (lane_none texts query i ([], 0) inside none);
+          let none = absent_term H archive term w.in-Between.field-0 is in record {
+            lanes = same ∙ c.loop-i.invariant.lanes ∙ sym (lane_none archive.texts query i ([], 0) inside none);
             few = omega (arith, ap (λ (ls : List WholeLane). length ls) same, length-map c.loop-i.lanes.items whole_lane, length-map c.match-spots-i.lanes.items whole_lane, c.loop-i.invariant.few);
             each = subst (All IsWholeLane) (sym same) c.loop-i.invariant.each;
             lists = subst (All (λ (l : WholeLane). IsList 65536 l.entries)) (sym same) c.loop-i.invariant.lists;

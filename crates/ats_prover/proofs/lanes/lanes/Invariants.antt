@@ -8,7 +8,7 @@ use Rattle.ats_prover.proofs.lanes.lanes.Given as goal
 -- the lanes of the terms so far
 abbrev pub invariant-loop-i : goal.invariant-loop-i
 invariant-loop-i g l = record {
-  lanes : whole_lanes l.lanes.items ≡ lanes_of l.index (take l.i l.query);
+  lanes : whole_lanes l.lanes.items ≡ lanes_of l.index.texts (take l.i l.query);
   few : length l.lanes.items ≤ l.i;
   each : All IsWholeLane (whole_lanes l.lanes.items);
   lists : All (λ (lane : WholeLane). IsList 65536 lane.entries) (whole_lanes l.lanes.items);

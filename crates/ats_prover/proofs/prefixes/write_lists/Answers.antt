@@ -2,6 +2,7 @@ use Rattle.std.proofs.Common.{◌≡◌, ◌<◌, ◌≤◌, ◌++◌, List, [],
 use Rattle.std.specs.List.{flat_map}
 use Rattle.std.proofs.lemmas.List.{length-map, get_or-map}
 use Rattle.ats_lists.specs.Lists.{IsList}
+use Rattle.ats_commit.specs.Archive.{whole_lists}
 use Rattle.ats_bound.specs.Schedule.{WholeLane, whole_lane, whole_lanes}
 use Rattle.ats_proof.specs.Parts.{counted}
 use Rattle.ats_proof.specs.Value.{Prefix, id_fields, prefix_fields}
@@ -49,7 +50,7 @@ pub returns-clause-fields : goal.returns-clause-fields
 returns-clause-fields g c =
     let H = g.H.HashKind.hash in
     let lanes = whole_lanes c.args.lanes.now in
-    let all : List Prefix = prefixes H c.args.met.now lanes c.args.cut.now in
+    let all : List Prefix = prefixes H whole_lists c.args.met.now lanes c.args.cut.now in
     let each = prefix_each H c.args.met.now lanes c.args.cut.now c.requires.cut.size in
     let whole : take c.loop-i.i all ≡ all = take_all c.loop-i.i all (omega (arith, each, c.loop-i-test.false, length-map c.args.lanes.now whole_lane)) in
     c.loop-i.invariant.fields ∙ ap (λ (ps : List Prefix). put c.args.writer.now (counted 4 id_fields c.args.met.now ++ flat_map prefix_fields ps)) whole

@@ -1,12 +1,7 @@
-use Rattle.std.proofs.Common.{◌≡◌, ℕ, List, [], length, sym, ap, subst, arith}
-use Rattle.std.specs.List.{concat}
+use Rattle.std.proofs.Common.{[], length, subst, arith}
 use Rattle.ats_records.specs.Written.{Written, writing}
-use Rattle.ats_proof.specs.Value.{fields_of}
-use Rattle.ats_prover.specs.Honest.{IsProved, length_of}
-use Rattle.ats_records.specs.declared.record.Algorithm.{Algorithm}
+use Rattle.ats_prover.specs.Honest.{length_of}
 use Rattle.ats_prover.specs.Writing.{IsWritten}
-use Rattle.ats_prover.proofs.Whole.{all_asked, is_proved}
-use Rattle.ats_prover.proofs.AcceptedRows.{proved_accepted}
 use Rattle.ats_prover.proofs.Sizes.{asked_beyond, asked_within, is_asked}
 use Rattle.ats_prover.proofs.proving.prove_within.Given
 use Rattle.ats_prover.proofs.proving.prove_within.Goals as goal
@@ -36,17 +31,3 @@ returns-in-Err-clause-fits g c whole =
     let is = written g c in
     let size = returns-in-Err-clause-size g c is.proof is.honest in
     absurd (omega (arith, size.1, is.short c.requires.algorithm, whole))
-
-pub returns-in-Ok-clause-accepted : goal.returns-in-Ok-clause-accepted
-returns-in-Ok-clause-accepted g c =
-    let H = g.H.HashKind.hash in
-    let w : Written = c.write_proof.new.writer in
-    let is : IsWritten H c.args.index.now c.args.query.now c.args.top c.args.algorithm (writing c.args.limit []) w =
-    subst (λ (v : Written). IsWritten H c.args.index.now c.args.query.now c.args.top c.args.algorithm v w) c.new-writer.ensures.made c.in_ok-write_proof.ensures in
-    let bytes : List ℕ = concat (fields_of is.proof) in
-    let asked = all_asked c.records_are_joined.ensures H c.args.index.now c.args.query.now c.args.top c.args.algorithm c.args.limit w is in
-    let under : w.limit ≡ c.args.limit = ap (λ (v : Written). v.limit) asked in
-    let same : c.in-Ok.bytes ≡ bytes = c.in-Ok.ensures.whole bytes (subst (λ (n : ℕ). w ≡ writing n bytes) (sym under) asked) in
-    proved_accepted H c.args.index.now c.args.query.now c.args.top c.in-Ok.bytes
-    (subst (λ (a : Algorithm). IsProved H c.args.index.now c.args.query.now c.args.top a c.in-Ok.bytes) c.requires.algorithm (is_proved H c.args.index.now c.args.query.now c.args.top c.args.algorithm c.args.limit w c.in-Ok.bytes is same
-    (omega (arith, c.in-Ok.ensures.number, c.in-Ok.ensures.within, under, c.requires.limit))))

@@ -8,6 +8,7 @@ use Rattle.ats_tree.specs.Elided.{elided_digests}
 use Rattle.ats_dict.specs.Entry.{DictEntry}
 use Rattle.ats_dict.specs.Dictionary.{IsDictionary, dict_leaves}
 use Rattle.ats_dict.specs.declared.spot.Spot.{Spot}
+use Rattle.ats_commit.specs.Archive.{whole_lists, Archive, archive_of}
 use Rattle.ats_commit.specs.Trees.{dictionary_of}
 use Rattle.ats_commit.proofs.HeaderLemmas.{header_in_range}
 use Rattle.ats_index.specs.Parts.{header_parts}
@@ -21,11 +22,12 @@ use Rattle.ats_prover.specs.Lanes.{lanes_of}
 use Rattle.ats_prover.specs.Honest.{prefixes}
 use Rattle.ats_prover.specs.Writing.{IsWritten, put}
 use Rattle.ats_records.specs.declared.record.Algorithm.{Algorithm}
+use Rattle.ats_records.specs.declared.record.Algorithm.TheVariants.{Tnra}
 use Rattle.ats_prover.proofs.Spots.{spot_each}
 use Rattle.ats_prover.proofs.Ranges.{positions_below}
-use Rattle.ats_prover.proofs.Short.{is_short}
+use Rattle.ats_prover.proofs.Short.{honest_short}
 use Rattle.ats_bound.proofs.Shown.{have_entries, scheduled_is_cut}
-use Rattle.ats_prover.proofs.Whole.{HasParts, docs_of, front_put, written}
+use Rattle.ats_prover.proofs.Whole.{HasParts, as_built, docs_of, front_put, is_honest, written}
 use Rattle.ats_prover.proofs.proving.write_proof.Goals as goal
 
 pub write_terms-requires-clause-within : goal.write_terms-requires-clause-within
@@ -41,7 +43,7 @@ write_terms-requires-clause-within g c =
 
 pub write_walk-requires-clause-cut : goal.write_walk-requires-clause-cut
 write_walk-requires-clause-cut g c =
-    let lanes = lanes_of c.args.index.now c.args.query.now in
+    let lanes = lanes_of c.args.index.now.texts c.args.query.now in
     let same : whole_lanes c.deref-5.result.now ≡ lanes = ap whole_lanes c.deref-5.ensures.value ∙ c.in_ok-lanes.ensures.lanes in
     let last : whole_lanes c.deref-6.result.now ≡ lanes = ap whole_lanes c.deref-6.ensures.value ∙ c.in_ok-lanes.ensures.lanes in
     let first = subst (λ (ls : List WholeLane). IsFirstSettled ls c.args.top c.in_ok-end.end.cut) same c.in_ok-end.ensures.cut in
@@ -50,21 +52,24 @@ write_walk-requires-clause-cut g c =
 pub returns : goal.returns
 returns g c =
     let H = g.H.HashKind.hash in
-    let texts = c.args.index.now in
+    let archive : Archive = c.args.index.now in
+    let texts = archive.texts in
+    let built : archive ≡ archive_of texts = as_built archive in
     let query = c.args.query.now in
-    let entries = dictionary_of H texts in
+    let entries = dictionary_of H (archive_of texts) in
+    let own : dictionary_of H archive ≡ entries = ap (dictionary_of H) built in
     let lanes = lanes_of texts query in
     let spots = c.in_ok-spots.spots.items in
     let positions = c.in_ok-positions.positions.items in
     let cut = c.in_ok-end.end.cut in
     let brackets = c.in_ok-end.end.brackets in
     let picks = c.in_ok-end.end.picks in
-    let found : AreSpots entries query spots = subst (λ (es : List DictEntry). AreSpots es query spots) c.dictionary-2.ensures c.in_ok-spots.ensures.spots in
-    let dictionary : IsDictionary entries = subst IsDictionary c.dictionary.ensures c.len.ensures.kept in
+    let found : AreSpots entries query spots = subst (λ (es : List DictEntry). AreSpots es query spots) (c.dictionary-2.ensures ∙ own) c.in_ok-spots.ensures.spots in
+    let dictionary : IsDictionary entries = subst IsDictionary (c.dictionary.ensures ∙ own) c.len.ensures.kept in
     let whole : whole_lanes c.deref-5.result.now ≡ lanes = ap whole_lanes c.deref-5.ensures.value ∙ c.in_ok-lanes.ensures.lanes in
     let last : whole_lanes c.deref-6.result.now ≡ lanes = ap whole_lanes c.deref-6.ensures.value ∙ c.in_ok-lanes.ensures.lanes in
     let total : total_terms texts ≤ 2 ^ 24 = omega (arith, c.total.ensures.value, c.total.ensures.few, ap total_terms c.collection-2.ensures.same) in
-    let range = header_in_range H g.H.HashKind.sized texts (subst AreWithin c.collection.ensures.same c.documents.ensures.within) total in
+    let range = header_in_range H g.H.HashKind.sized (archive_of texts) (subst AreWithin c.collection.ensures.same c.documents.ensures.within) total in
     let parts : HasParts H texts query c.args.top spots positions cut brackets picks = record {
       sized = g.H.HashKind.sized;
       dictionary = dictionary;
@@ -80,19 +85,22 @@ returns g c =
       chosen = c.in_ok-end.ensures.picks;
       rows = omega (arith, c.in_ok-end.ensures.settled.most, c.get.ensures.value, c.get.ensures.few);
     } in
+    let short = honest_short H g.H.HashKind.sized texts query c.args.top _ c.header.ensures.texts c.len-2.ensures.query.few (omega (arith, c.get.ensures.value, c.get.ensures.few))
+    (is_honest H texts query c.args.top spots positions cut brackets picks parts) in
     let number : c.len-2.result ≡ length (map (slot_of positions) spots) =
     c.len-2.ensures.value ∙ sym (length-map spots (slot_of positions) ∙ spot_each entries query spots found) in
     let front = c.in_ok-front.ensures.ok
-    ∙ front_put c.args.algorithm c.header.result.now (header_parts H texts) c.len-2.result (length (map (slot_of positions) spots)) c.args.writer.now c.requires.algorithm c.header.ensures.parts number
+    ∙ front_put c.args.algorithm c.header.result.now (header_parts H (archive_of texts)) c.len-2.result (length (map (slot_of positions) spots)) c.args.writer.now c.requires.algorithm (c.header.ensures.parts ∙ ap (header_parts H) built) number
     (omega (arith, range.numbers.few)) (omega (arith, range.numbers.terms)) (omega (arith, number, c.len-2.ensures.value, c.len-2.ensures.query.few)) in
     let Terms : List DictEntry → List ℕ → List Spot → Written = λ (es : List DictEntry) (ps : List ℕ) (ss : List Spot).
     put c.front.new.self (counted 2 entry_fields (map (shown_entry es) ps) ++ counted 2 digest_fields (elided_digests H (dict_leaves es) ps) ++ flat_map slot_fields (map (slot_of ps) ss)) in
     let terms : c.write_terms.new.writer ≡ Terms entries positions spots = c.in_ok-write_terms.ensures.fields
-    ∙ ap (λ (es : List DictEntry). Terms es c.deref-2.result.now c.deref-3.result.now) c.dictionary-3.ensures
+    ∙ ap (λ (es : List DictEntry). Terms es c.deref-2.result.now c.deref-3.result.now) (c.dictionary-3.ensures ∙ own)
     ∙ ap₂ (λ (ps : List ℕ) (ss : List Spot). Terms entries ps ss) c.deref-2.ensures.value c.deref-3.ensures.value in
     let Walk : List WholeLane → Written = λ (ls : List WholeLane).
-    put c.write_terms.new.writer (counted 4 id_fields (docs_of brackets) ++ flat_map prefix_fields (prefixes H (docs_of brackets) ls cut) ++ counted 2 id_fields picks) in
+    put c.write_terms.new.writer (counted 4 id_fields (docs_of brackets) ++ flat_map prefix_fields (prefixes H whole_lists (docs_of brackets) ls cut) ++ counted 2 id_fields picks) in
     on_ok_weaker c.write_walk.result (λ is.
-    subst (λ (a : Algorithm). IsWritten H texts query c.args.top a c.args.writer.now c.write_walk.new.writer) (sym c.requires.algorithm)
+    subst (λ (a : Algorithm). IsWritten H archive query c.args.top a c.args.writer.now c.write_walk.new.writer) (sym c.requires.algorithm)
+    (subst (λ (a : Archive). IsWritten H a query c.args.top Tnra c.args.writer.now c.write_walk.new.writer) (sym built)
     (written H texts query c.args.top spots positions cut brackets picks c.args.writer.now c.front.new.self c.write_terms.new.writer c.write_walk.new.writer parts front terms
-    (is ∙ ap Walk last) (is_short H texts query c.args.top spots positions cut brackets picks parts))) c.write_walk.ensures.fields
+    (is ∙ ap Walk last) short))) c.write_walk.ensures.fields

@@ -2,6 +2,7 @@ use Rattle.std.proofs.Common.{◌≡◌, ◌++◌, ℕ, List, length, map, subst
 use Rattle.std.specs.List.{flat_map}
 use Rattle.std.specs.List.Sorted.{IsStrictlyIncreasing}
 use Rattle.std.proofs.lemmas.Result.{on_ok_weaker}
+use Rattle.ats_commit.specs.Archive.{whole_lists}
 use Rattle.ats_bound.specs.declared.bracket.Bracket.{Bracket}
 use Rattle.ats_bound.specs.Schedule.{whole_lanes, shown}
 use Rattle.ats_records.specs.Written.{Written}
@@ -37,7 +38,7 @@ returns g c =
     let w : Written = c.args.writer.now in
     let docs : List ℕ = map (λ (b : Bracket). b.doc) c.args.walk.now.brackets in
     let met : c.deref.result.now ≡ docs = c.deref.ensures.value ∙ c.in_ok-met.ensures ∙ ap (map (λ (b : Bracket). b.doc)) c.as_slice.ensures in
-    let Front : List ℕ → List ℕ → List (List ℕ) = λ (ids cut : List ℕ). counted 4 id_fields ids ++ flat_map prefix_fields (prefixes H ids lanes cut) in
+    let Front : List ℕ → List ℕ → List (List ℕ) = λ (ids cut : List ℕ). counted 4 id_fields ids ++ flat_map prefix_fields (prefixes H whole_lists ids lanes cut) in
     let all : Front c.deref.result.now c.as_slice-2.result.now ≡ Front docs c.args.walk.now.cut = ap₂ Front met c.as_slice-2.ensures in record {
       fields = on_ok_weaker c.write_answer.result (λ is.
           is ∙ ap (λ (v : Written). put v (counted 2 id_fields c.as_slice-3.result.now)) c.in_ok-write_lists.ensures.fields

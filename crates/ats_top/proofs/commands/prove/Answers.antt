@@ -13,7 +13,7 @@ returns-clause-stop g c =
     let later = c.in_ok-loaded.ensures.reads.later in
     let proof : IsProofFor g.H.HashKind.hash (g.S.Shelf.told c.args.shelf.now).files
     (record { index = c.args.index.now; algorithm = c.args.algorithm; r = c.args.r; query = c.args.query.now; proof = c.args.proof.now }) _ = record {
-      texts = _;
+      archive = _;
       query = _;
       index = c.in_ok-loaded.ensures.ok;
       asked = c.in_ok-asked.ensures.ok;

@@ -2,7 +2,7 @@ use Rattle.ats_top.proofs.BuiltServed.{root_served, prove_served}
 use Rattle.ats_top.proofs.laws.built_indexes_are_served.Goals as goal
 
 pub returns-clause-root : goal.returns-clause-root
-returns-clause-root g c texts bytes files name spelling held = root_served g.H.HashKind.hash g.H.HashKind.sized texts bytes files name spelling held
+returns-clause-root g c archive bytes files name spelling held = root_served g.H.HashKind.hash g.H.HashKind.sized files archive bytes name spelling held
 
 pub returns-clause-prove : goal.returns-clause-prove
-returns-clause-prove g c texts bytes files name spelling held = prove_served g.H.HashKind.hash g.H.HashKind.sized texts bytes files name spelling held
+returns-clause-prove g c archive bytes files name spelling held = prove_served g.H.HashKind.hash g.H.HashKind.sized files archive bytes name spelling held

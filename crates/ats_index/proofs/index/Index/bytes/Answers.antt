@@ -1,11 +1,12 @@
 use Rattle.std.proofs.Common.{ap, subst}
+use Rattle.ats_commit.specs.Archive.{Archive}
 use Rattle.ats_commit.specs.Own.{AreTexts}
 use Rattle.ats_index.specs.Spelling.{index_bytes}
 use Rattle.ats_index.proofs.index.Index.bytes.Goals as goal
 
 pub returns : goal.returns
 returns g c =
-    let texts = subst AreTexts c.self.view_is c.self.invariant.texts_within in
+    let texts = subst (λ (archive : Archive). AreTexts archive.texts) c.self.view_is c.self.invariant.texts_within in
     record {
       utf8 = texts.utf8;
       within = texts.within;

@@ -1,0 +1,266 @@
+-- What a check sees of the lists of an honest proof: the honest cut, which it accepts.
+use Rattle.std.proofs.Common.{◌≡◌, ◌≢◌, ◌+◌, ◌*◌, ◌<◌, ◌≤◌, ◌||◌, ℕ, suc, Bool, true, false, nat_eq, List, [], ◌∷◌, length, map, take, get_or, Some, refl, sym, ap, ap₂, subst, ◌∙◌, arith, inl, inr}
+use Rattle.std.specs.List.{All, list_any, range_with_len}
+use Rattle.std.specs.List.Sorted.{IsStrictlyIncreasing}
+use Rattle.std.proofs.lemmas.Bool.{cases_order, eq-eqb}
+use Rattle.std.proofs.lemmas.List.{length-map, length-take-le, get_or-map, get_or-take}
+use Rattle.std.proofs.lemmas.List.Elements.{All-cons, All-head, All-tail}
+use Rattle.std.proofs.lemmas.List.Folds.{list_any_at}
+use Rattle.ats_impact.specs.Numbers.{idf}
+use Rattle.ats_impact.specs.Rank.{times}
+use Rattle.ats_tree.specs.Tree.{mth}
+use Rattle.ats_tree.specs.Shown.{Shown}
+use Rattle.ats_tree.specs.Rebuild.{rebuilt}
+use Rattle.ats_tree.specs.Elided.{elided_digests, shown_with}
+use Rattle.ats_tree.proofs.Positions.{within-increasing}
+use Rattle.ats_tree.proofs.LawLemmas.{elided-rebuilds}
+use Rattle.ats_lists.specs.Leaf.{leaf_bytes}
+use Rattle.ats_lists.specs.Lists.{IsList}
+use Rattle.ats_lists.specs.declared.entry.Entry.{Entry}
+use Rattle.ats_lists.proofs.WholeLemmas.{list_frequency}
+use Rattle.ats_dict.specs.declared.spot.Spot.{Spot}
+use Rattle.ats_dict.specs.declared.spot.Spot.TheVariants.{At, Between}
+use Rattle.ats_commit.specs.Archive.{whole_lists, archive_of}
+use Rattle.ats_commit.specs.Trees.{dictionary_of}
+use Rattle.ats_bound.specs.Cut.{ShownLane, lane_of as shown_lane, names}
+use Rattle.ats_bound.specs.Settled.{AreDistinct}
+use Rattle.ats_bound.specs.Schedule.{WholeLane, IsCut, shown}
+use Rattle.ats_bound.proofs.Places.{position_of, times_other, times_same}
+use Rattle.ats_proof.specs.Value.{Prefix}
+use Rattle.ats_proof.specs.Runs.{named, shown_list}
+use Rattle.ats_client.specs.Groups.{IsListRight, indexes_of, list_digest}
+use Rattle.ats_client.specs.Indexes.{AreNames}
+use Rattle.ats_client.specs.Presented.{Presented, presented, presented_from}
+use Rattle.ats_client.specs.Presented as client
+use Rattle.ats_prover.specs.Terms.{AreSpots, place, shown_entry, slot_of}
+use Rattle.ats_prover.specs.Lanes.{lane_of, lanes_of}
+use Rattle.ats_prover.specs.Honest.{placed, prefix_of, prefixes}
+use Rattle.ats_prover.proofs.Present.{HasList, with_lane, with_none}
+use Rattle.ats_prover.proofs.Fronts.{range_below, range_rises}
+use Rattle.ats_accepts.proofs.AcceptedTerms.{IsOwnEntry, AreShown, honest_entry, honest_present, shown_first, shown_rest}
+
+-- ---- the lists of the present terms
+
+or_first : (a b : Bool) → a ≡ true → (a || b) ≡ true
+or_first a b is = ap (λ x. x || b) is
+
+or_later : (a b : Bool) → b ≡ true → (a || b) ≡ true
+or_later true b is = refl
+or_later false b is = is
+
+tail_cut : (lane : WholeLane) (lanes : List WholeLane) (count : ℕ) (cut : List ℕ) → IsCut (lane ∷ lanes) (count ∷ cut) → IsCut lanes cut
+tail_cut lane lanes count cut is = record {
+  size = omega (arith, is.size);
+  each = λ i d inside. is.each (suc i) d (omega (arith, inside));
+}
+
+-- ---- places among the met documents
+
+-- the document stands at its place among the met ids
+pub record IsIn (met : List ℕ) (doc : ℕ) : Type 0 where
+  pub inside : place met doc < length met
+  pub back : get_or met (place met doc) 0 ≡ doc
+
+-- each document that a shown entry names does
+abbrev pub AreIn : List ℕ → List ShownLane → Type 0
+AreIn met lanes = (doc : ℕ) → list_any (names doc) lanes ≡ true → IsIn met doc
+
+abbrev pub IsEntryIn : List ℕ → Entry → Type 0
+IsEntryIn met entry = IsIn met entry.doc
+
+first_in : (met : List ℕ) (lane : ShownLane) (lanes : List ShownLane) → AreIn met (lane ∷ lanes) → All (IsEntryIn met) lane.shown
+first_in met lane lanes are k d inside =
+    let doc = (get_or lane.shown k d).doc in
+    are doc (or_first (names doc lane) (list_any (names doc) lanes) (list_any_at (λ (e : Entry). nat_eq e.doc doc) lane.shown k d inside (eq-eqb doc doc refl)))
+
+later_in : (met : List ℕ) (lane : ShownLane) (lanes : List ShownLane) → AreIn met (lane ∷ lanes) → AreIn met lanes
+later_in met lane lanes are doc is = are doc (or_later (names doc lane) (list_any (names doc) lanes) is)
+
+-- an entry is named again by its place
+entry_back : (met : List ℕ) (e : Entry) → IsEntryIn met e → named met (placed met e) ≡ e
+entry_back met e is = ap (λ (doc : ℕ). let x : Entry = record { doc = doc; impact = e.impact } in x) is.back
+
+entries_back : (met : List ℕ) (es : List Entry) → All (IsEntryIn met) es → map (named met) (map (placed met) es) ≡ es
+entries_back met [] are = refl
+entries_back met (e ∷ es) are =
+    ap₂ (λ x xs. x ∷ xs) (entry_back met e (All-head (IsEntryIn met) e es are)) (entries_back met es (All-tail (IsEntryIn met) e es are))
+
+-- numbers that differ from one another stand once
+differing_once : (xs : List ℕ) → ((i j : ℕ) → i < j → j < length xs → get_or xs i 0 ≢ get_or xs j 0) → AreDistinct xs
+differing_once [] differ n = omega arith
+differing_once (x ∷ xs) differ n =
+    let rest = differing_once xs (λ i j less inside. differ (suc i) (suc j) (omega (arith, less)) (omega (arith, inside))) n in
+    elim (cases_order x n) [
+      | inl is ↦ elim (cases_order (times n xs) 0) [
+        | inl none ↦ omega (arith, times_same n x xs is, none)
+        | inr other ↦
+            let some : 1 ≤ times n xs = elim other [ inl less ↦ absurd (omega (arith, less)) | inr more ↦ omega (arith, more) ] in
+            let found = position_of n xs some in
+            absurd (differ 0 (suc found.0) (omega arith) (omega (arith, found.1)) (is ∙ sym found.2))
+      ]
+      | inr other ↦ omega (arith, times_other n x xs other, rest)
+    ]
+
+-- ---- the fronts that a proof shows
+
+-- a present term shows the front of a lane, and its entry in the dictionary tells the lane's length and root
+pub record IsFront (H : List ℕ → List ℕ) (documents : ℕ) (met : List ℕ) (lane : WholeLane) (count : ℕ) (term : Presented) : Type 0 where
+  pub weighs : term.weight * idf documents term.entry.f ≡ lane.coefficient
+  pub size : term.entry.f ≡ length lane.entries
+  pub root : term.entry.root ≡ mth H (map leaf_bytes lane.entries)
+  pub front : term.prefix ≡ prefix_of H whole_lists met lane.entries count
+
+-- the present terms show the fronts of the lanes, as far as the cut says
+abbrev pub AreFronts : (List ℕ → List ℕ) → ℕ → List ℕ → List WholeLane → List ℕ → List Presented → Type 0
+AreFronts H documents met [] cut [] = Unit {0}
+AreFronts H documents met [] cut (term ∷ terms) = ⊥
+AreFronts H documents met (lane ∷ lanes) [] terms = ⊥
+AreFronts H documents met (lane ∷ lanes) (count ∷ cut) [] = ⊥
+AreFronts H documents met (lane ∷ lanes) (count ∷ cut) (term ∷ terms) = IsFront H documents met lane count term × AreFronts H documents met lanes cut terms
+
+-- ---- what a proof shows of the terms
+
+-- the present terms from a number on show the fronts of these lanes
+abbrev pub Show : (List ℕ → List ℕ) → List (List ℕ) → List ℕ → List ℕ → ℕ → List (List ℕ × ℕ) → List Spot → List WholeLane → Type 0
+Show H texts met positions number query spots lanes = (cut : List ℕ) → length cut ≡ length lanes
+    → AreFronts H (length texts) met lanes cut
+    (presented_from (map (shown_entry (dictionary_of H (archive_of texts))) positions) number query (map (slot_of positions) spots) (prefixes H whole_lists met lanes cut))
+
+show_none : (H : List ℕ → List ℕ) (texts : List (List ℕ)) (met positions : List ℕ) (number : ℕ) → Show H texts met positions number [] [] []
+show_none H texts met positions number [] same = tt
+show_none H texts met positions number (count ∷ cut) same = absurd (omega (arith, same))
+
+-- a present term more
+show_one : (H : List ℕ → List ℕ) (texts : List (List ℕ)) (met positions : List ℕ) (number p : ℕ) (pair : List ℕ × ℕ) (query : List (List ℕ × ℕ)) (spots : List Spot) (lanes : List WholeLane)
+    → IsOwnEntry H texts pair.0 (client.entry_at (map (shown_entry (dictionary_of H (archive_of texts))) positions) (place positions p))
+    → Show H texts met positions (number + 1) query spots lanes → Show H texts met positions number (pair ∷ query) (At p ∷ spots) (lane_of texts pair ∷ lanes)
+show_one H texts met positions number p pair query spots lanes entry rest [] same = absurd (omega (arith, same))
+show_one H texts met positions number p pair query spots lanes entry rest (count ∷ cut) same = (
+  record {
+    weighs = ap (λ (f : ℕ). pair.1 * idf (length texts) f) (entry.number ∙ list_frequency texts pair.0);
+    size = entry.number;
+    root = entry.root;
+    front = refl;
+  },
+  rest cut (omega (arith, same)),
+)
+
+pub show_terms : (H : List ℕ → List ℕ) (texts : List (List ℕ)) (met positions : List ℕ) (number : ℕ) (query : List (List ℕ × ℕ)) (spots : List Spot)
+    → IsStrictlyIncreasing positions → AreSpots (dictionary_of H (archive_of texts)) query spots → AreShown spots positions
+    → Show H texts met positions number query spots (lanes_of texts query)
+show_terms H texts met positions number [] [] rise found are = show_none H texts met positions number
+show_terms H texts met positions number [] (spot ∷ spots) rise found are = absurd found
+show_terms H texts met positions number (pair ∷ query) [] rise found are = absurd found
+show_terms H texts met positions number (pair ∷ query) (At p ∷ spots) rise found are =
+    let entry = honest_entry H texts positions pair.0 (At p) rise (shown_first (At p) spots positions are) found.0 refl in
+    subst (Show H texts met positions number (pair ∷ query) (At p ∷ spots)) (sym (with_lane texts pair query (honest_present H texts positions pair (At p) found.0)))
+    (show_one H texts met positions number p pair query spots (lanes_of texts query) entry
+    (show_terms H texts met positions (number + 1) query spots rise found.1 (shown_rest (At p) spots positions are)))
+show_terms H texts met positions number (pair ∷ query) (Between p ∷ spots) rise found are =
+    subst (Show H texts met positions number (pair ∷ query) (Between p ∷ spots)) (sym (with_none texts pair query (honest_present H texts positions pair (Between p) found.0)))
+    (show_terms H texts met positions (number + 1) query spots rise found.1 (shown_rest (Between p) spots positions are))
+
+-- ---- what they make of the cut
+
+front_lane : (H : List ℕ → List ℕ) (documents : ℕ) (met : List ℕ) (lane : WholeLane) (count : ℕ) (term : Presented) → IsFront H documents met lane count term
+    → All (IsEntryIn met) (take count lane.entries) → client.lane_of documents met term ≡ shown_lane lane.coefficient lane.entries count
+front_lane H documents met lane count term is are =
+    let entries = ap (λ (p : Prefix). map (named met) p.entries) is.front ∙ entries_back met (take count lane.entries) are in
+    ap (λ (c : ℕ). let l : ShownLane = record { coefficient = c; total = term.entry.f; shown = map (named met) term.prefix.entries } in l) is.weighs
+    ∙ ap₂ (λ (n : ℕ) (es : List Entry). let l : ShownLane = record { coefficient = lane.coefficient; total = n; shown = es } in l) is.size entries
+
+-- the lanes that a check makes of them are those of the cut
+pub front_lanes : (H : List ℕ → List ℕ) (documents : ℕ) (met : List ℕ) (lanes : List WholeLane) (cut : List ℕ) (terms : List Presented) → AreFronts H documents met lanes cut terms
+    → AreIn met (shown lanes cut) → map (client.lane_of documents met) terms ≡ shown lanes cut
+front_lanes H documents met [] cut [] fronts are = refl
+front_lanes H documents met [] cut (term ∷ terms) fronts are = absurd fronts
+front_lanes H documents met (lane ∷ lanes) [] terms fronts are = absurd fronts
+front_lanes H documents met (lane ∷ lanes) (count ∷ cut) [] fronts are = absurd fronts
+front_lanes H documents met (lane ∷ lanes) (count ∷ cut) (term ∷ terms) fronts are =
+    let here : ShownLane = shown_lane lane.coefficient lane.entries count in
+    ap₂ (λ x xs. x ∷ xs) (front_lane H documents met lane count term fronts.0 (first_in met here (shown lanes cut) are))
+    (front_lanes H documents met lanes cut terms fronts.1 (later_in met here (shown lanes cut) are))
+
+-- ---- the leaves that they show
+
+shown_from : (met : List ℕ) (leaves : List (List ℕ)) (at : ℕ) (es : List Entry) → All (IsEntryIn met) es
+    → ((i : ℕ) (d : Entry) → i < length es → get_or leaves (at + i) [] ≡ leaf_bytes (get_or es i d))
+    → shown_list at met (map (placed met) es) ≡ map (λ (p : ℕ). let s : Shown = (p, get_or leaves p []) in s) (range_with_len at (length es))
+shown_from met leaves at [] are same = refl
+shown_from met leaves at (e ∷ es) are same =
+    let none : at + 0 ≡ at = omega arith in
+    let here : leaf_bytes (named met (placed met e)) ≡ get_or leaves at [] =
+    ap leaf_bytes (entry_back met e (All-head (IsEntryIn met) e es are)) ∙ sym (same 0 e (omega arith)) ∙ ap (λ (i : ℕ). get_or leaves i []) none in
+    ap₂ (λ (x : Shown) (xs : List Shown). x ∷ xs) (ap (λ (bytes : List ℕ). let s : Shown = (at, bytes) in s) here)
+    (shown_from met leaves (at + 1) es (All-tail (IsEntryIn met) e es are) (λ i d inside.
+    let next : (at + 1) + i ≡ at + suc i = omega arith in
+    ap (λ (k : ℕ). get_or leaves k []) next ∙ same (suc i) d (omega (arith, inside))))
+
+-- what a front rebuilds to
+front_root : (H : List ℕ → List ℕ) (documents n : ℕ) (met : List ℕ) (lane : WholeLane) (count : ℕ) (term : Presented) → IsFront H documents met lane count term
+    → IsList n lane.entries → count ≤ length lane.entries → All (IsEntryIn met) (take count lane.entries) → list_digest H whole_lists met term ≡ Some term.entry.root
+front_root H documents n met lane count term is own within are =
+    let es : List Entry = take count lane.entries in
+    let leaves : List (List ℕ) = map leaf_bytes lane.entries in
+    let size : length leaves ≡ length lane.entries = length-map lane.entries leaf_bytes in
+    let many : length es ≡ count = length-take-le count lane.entries within in
+    let digests : List (List ℕ) = elided_digests H leaves (range_with_len 0 count) in
+    let shows : shown_list 0 met (map (placed met) es) ≡ shown_with leaves (range_with_len 0 count) =
+    shown_from met leaves 0 es are (λ i d inside.
+    let low : i < count = omega (arith, inside, many) in
+    let from : 0 + i ≡ i = omega arith in
+    ap (λ (k : ℕ). get_or leaves k []) from ∙ get_or-map leaf_bytes lane.entries i d [] (omega (arith, low, within)) ∙ ap leaf_bytes (sym (get_or-take count lane.entries i d low)))
+    ∙ ap (λ (k : ℕ). shown_with leaves (range_with_len 0 k)) many in
+    ap (λ (p : Prefix). rebuilt H term.entry.f (shown_list 0 met p.entries) p.digests) is.front
+    ∙ ap₂ (λ (k : ℕ) (s : List Shown). rebuilt H k s digests) (is.size ∙ sym size) shows
+    ∙ elided-rebuilds H leaves (range_with_len 0 count) (omega (arith, size, own.some))
+    (within-increasing (length leaves) (range_with_len 0 count) (range_rises count) (range_below count (length leaves) (omega (arith, size, within))))
+    ∙ ap Some (sym is.root)
+
+-- the places that it names are those of distinct documents
+front_names : (n : ℕ) (met : List ℕ) (entries : List Entry) (count : ℕ) → IsList n entries → count ≤ length entries → All (IsEntryIn met) (take count entries)
+    → AreNames (length met) (indexes_of (map (placed met) (take count entries)))
+front_names n met entries count own within are =
+    let es : List Entry = take count entries in
+    let put : Entry → ℕ = λ e. place met e.doc in
+    let many : length es ≡ count = length-take-le count entries within in
+    let one : length (map (placed met) es) ≡ length es = length-map es (placed met) in
+    let all : length (indexes_of (map (placed met) es)) ≡ length es = length-map (map (placed met) es) (λ (e : Entry). e.doc) ∙ one in
+    let none : Entry = record { doc = 0; impact = 0 } in
+    let at : (i d : ℕ) → i < length es → get_or (indexes_of (map (placed met) es)) i d ≡ put (get_or es i none) = λ i d inside.
+    get_or-map (λ (e : Entry). e.doc) (map (placed met) es) i none d (omega (arith, inside, one))
+    ∙ ap (λ (e : Entry). e.doc) (get_or-map (placed met) es i none none inside) in
+    record {
+      inside = λ i d inside.
+          let low : i < length es = omega (arith, inside, all) in
+          omega (arith, at i d low, (are i none low).inside);
+      once = differing_once (indexes_of (map (placed met) es)) (λ i j less inside same.
+          let low : j < length es = omega (arith, inside, all) in
+          let also : i < length es = omega (arith, less, low) in
+          let places : put (get_or es i none) ≡ put (get_or es j none) = sym (at i 0 also) ∙ same ∙ at j 0 low in
+          let docs : (get_or es i none).doc ≡ (get_or es j none).doc = sym (are i none also).back ∙ ap (λ (k : ℕ). get_or met k 0) places ∙ (are j none low).back in
+          let first : get_or es i none ≡ get_or entries i none = get_or-take count entries i none (omega (arith, also, many)) in
+          let second : get_or es j none ≡ get_or entries j none = get_or-take count entries j none (omega (arith, low, many)) in
+          own.once i j none less (omega (arith, low, many, within)) (ap (λ (e : Entry). e.doc) (sym first) ∙ docs ∙ ap (λ (e : Entry). e.doc) second));
+    }
+
+front_right : (H : List ℕ → List ℕ) (documents n : ℕ) (met : List ℕ) (lane : WholeLane) (count : ℕ) (term : Presented) → IsFront H documents met lane count term
+    → IsList n lane.entries → count ≤ length lane.entries → All (IsEntryIn met) (take count lane.entries) → IsListRight H whole_lists met term
+front_right H documents n met lane count term is own within are = record {
+  names = subst (λ (p : Prefix). AreNames (length met) (indexes_of p.entries)) (sym is.front) (front_names n met lane.entries count own within are);
+  root = front_root H documents n met lane count term is own within are;
+}
+
+-- the check accepts them
+pub fronts_right : (H : List ℕ → List ℕ) (documents n : ℕ) (met : List ℕ) (lanes : List WholeLane) (cut : List ℕ) (terms : List Presented) → AreFronts H documents met lanes cut terms
+    → All (HasList n) lanes → IsCut lanes cut → AreIn met (shown lanes cut) → All (IsListRight H whole_lists met) terms
+fronts_right H documents n met [] cut [] fronts lists is are = λ k d inside. absurd (omega (arith, inside))
+fronts_right H documents n met [] cut (term ∷ terms) fronts lists is are = absurd fronts
+fronts_right H documents n met (lane ∷ lanes) [] terms fronts lists is are = absurd fronts
+fronts_right H documents n met (lane ∷ lanes) (count ∷ cut) [] fronts lists is are = absurd fronts
+fronts_right H documents n met (lane ∷ lanes) (count ∷ cut) (term ∷ terms) fronts lists is are =
+    let here : ShownLane = shown_lane lane.coefficient lane.entries count in
+    let within : count ≤ length lane.entries = (is.each 0 lane (omega arith)).1 in
+    All-cons (IsListRight H whole_lists met) term terms
+    (front_right H documents n met lane count term fronts.0 (All-head (HasList n) lane lanes lists) within (first_in met here (shown lanes cut) are))
+    (fronts_right H documents n met lanes cut terms fronts.1 (All-tail (HasList n) lane lanes lists) (tail_cut lane lanes count cut is) (later_in met here (shown lanes cut) are))

@@ -1,0 +1,153 @@
+-- What a check sees of the documents and rows of an honest proof, which it accepts.
+use Rattle.std.proofs.Common.{◌≡◌, ◌<◌, ℕ, true, nat_eq, List, [], ◌∷◌, length, map, get_or, Option, None, Some, refl, sym, ap, ap₂, subst, ◌∙◌, arith}
+use Rattle.std.specs.List.{All}
+use Rattle.std.proofs.lemmas.Bool.{eqb-true, eq-eqb}
+use Rattle.std.proofs.lemmas.List.{length-map, get_or-map}
+use Rattle.std.proofs.lemmas.List.Elements.{All-head, All-tail}
+use Rattle.std.proofs.lemmas.List.Folds.{Any-from_list_any, list_any_at}
+use Rattle.ats_dict.specs.declared.header.Header.{Header}
+use Rattle.ats_commit.specs.Archive.{whole_lists, archive_of}
+use Rattle.ats_records.specs.declared.record.Slot.{Slot}
+use Rattle.ats_commit.specs.Trees.{dictionary_of}
+use Rattle.ats_bound.specs.declared.bracket.Bracket.{Bracket}
+use Rattle.ats_bound.specs.Cut.{ShownLane, IsMet, bracket, threshold}
+use Rattle.ats_bound.specs.Settled.{ArePicks, IsSettled}
+use Rattle.ats_bound.specs.Schedule.{Bounding, WholeLane, AreBracketsOf, IsCut, has_bracket, shown}
+use Rattle.ats_bound.proofs.Chain.{chosen_are_picks, chosen_is_settled}
+use Rattle.ats_bound.proofs.One.{are_brackets, one_bracketing}
+use Rattle.ats_bound.proofs.Shown.{scheduled_is_cut}
+use Rattle.ats_proof.specs.Value.{Prefix, Proof, ShownEntry, Documents, algorithm_of}
+use Rattle.ats_client.specs.Groups.{AreAllMet, AreListsRight, AreRowsRight, IsAnswerSettled, brackets_of}
+use Rattle.ats_client.specs.Presented.{Presented, presented, presented_from}
+use Rattle.ats_client.specs.Presented as client
+use Rattle.ats_client.specs.Bracketing.{bounds_of}
+use Rattle.ats_client.proofs.Bracketing.{lists_alone}
+use Rattle.ats_client.specs.Accepts.{Accepts}
+use Rattle.ats_client.proofs.Kept.{accepts_all}
+use Rattle.ats_commit.specs.Root.{root_of}
+use Rattle.ats_records.specs.declared.record.Algorithm.TheVariants.{Tra, Tnra}
+use Rattle.ats_prover.specs.Terms.{place, shown_entry, slot_of}
+use Rattle.ats_prover.specs.Lanes.{lanes_of}
+use Rattle.ats_prover.specs.Honest.{IsHonest, prefixes}
+use Rattle.ats_prover.proofs.Places.{place_at}
+use Rattle.ats_prover.proofs.MetDocuments.{met_rises}
+use Rattle.ats_prover.proofs.Whole.{docs_of}
+use Rattle.ats_accepts.proofs.AcceptedTerms.{honest_dictionary, honest_opened, honest_slots, needed_shown}
+use Rattle.ats_accepts.proofs.AcceptedLists.{AreIn, AreFronts, front_lanes, fronts_right, show_terms}
+use Rattle.ats_prover.proofs.Present.{lanes_have_lists}
+
+-- ---- the documents of brackets
+
+-- a document that is named stands among them
+named_in : (lanes : List ShownLane) (brackets : List Bracket) → AreBracketsOf lanes brackets → AreIn (docs_of brackets) lanes
+named_in lanes brackets are doc is =
+    let docs = docs_of brackets in
+    let found = Any-from_list_any (λ (b : Bracket). nat_eq b.doc doc) brackets (are.met doc ∙ is) in
+    let inside : found.0 < length docs = omega (arith, found.2, length-map brackets (λ (b : Bracket). b.doc)) in
+    let at : get_or docs found.0 0 ≡ doc = get_or-map (λ (b : Bracket). b.doc) brackets found.0 found.1 0 found.2 ∙ ap (λ (b : Bracket). b.doc) found.3 ∙ eqb-true found.1.doc doc found.4 in
+    let own : place docs doc ≡ found.0 = ap (place docs) (sym at) ∙ place_at docs found.0 (met_rises lanes brackets are) inside in
+    record {
+      inside = omega (arith, own, inside);
+      back = ap (λ (k : ℕ). get_or docs k 0) own ∙ at;
+    }
+
+-- each of them is named
+all_named : (lanes : List ShownLane) (brackets : List Bracket) → AreBracketsOf lanes brackets → AreAllMet lanes (docs_of brackets)
+all_named lanes brackets are i inside =
+    let none : Bracket = record { doc = 0; lo = 0; hi = 0 } in
+    let here : i < length brackets = omega (arith, inside, length-map brackets (λ (b : Bracket). b.doc)) in
+    let doc = (get_or brackets i none).doc in
+    let has : has_bracket doc brackets ≡ true = list_any_at (λ (b : Bracket). nat_eq b.doc doc) brackets i none here (eq-eqb doc doc refl) in
+    subst (IsMet lanes) (sym (get_or-map (λ (b : Bracket). b.doc) brackets i none 0 here)) (sym (are.met doc) ∙ has)
+
+-- their brackets are these
+brackets_again : (lanes : List ShownLane) (brackets : List Bracket) → All (λ (b : Bracket). b ≡ bracket lanes b.doc) brackets → brackets_of bracket lanes (docs_of brackets) ≡ brackets
+brackets_again lanes [] each = refl
+brackets_again lanes (b ∷ brackets) each =
+    let Is : Bracket → Type 0 = λ (b : Bracket). b ≡ bracket lanes b.doc in
+    ap₂ (λ x xs. x ∷ xs) (sym (All-head Is b brackets each)) (brackets_again lanes brackets (All-tail Is b brackets each))
+
+-- ---- the parts of an honest proof
+
+module _ (H : List ℕ → List ℕ) (texts : List (List ℕ)) (query : List (List ℕ × ℕ)) (r : ℕ) (proof : Proof) (honest : IsHonest H (archive_of texts) query r Tnra proof) where
+  abbrev lanes : List WholeLane
+  lanes = lanes_of texts query
+
+  abbrev cut_lanes : List ShownLane
+  cut_lanes = shown lanes honest.cut
+
+  is_cut : IsCut lanes honest.cut
+  is_cut = scheduled_is_cut lanes honest.first.turns honest.cut (λ i d inside. (lanes_have_lists texts query i d inside).some) honest.first.scheduled
+
+  are_in : AreIn proof.met cut_lanes
+  are_in = subst (λ (met : List ℕ). AreIn met cut_lanes) (sym honest.met) (named_in cut_lanes honest.brackets honest.bounds)
+
+  abbrev dict : List ShownEntry
+  dict = map (shown_entry (dictionary_of H (archive_of texts))) honest.positions
+
+  abbrev slots : List Slot
+  slots = map (slot_of honest.positions) honest.spots
+
+  abbrev fronts : List Prefix
+  fronts = prefixes H whole_lists proof.met lanes honest.cut
+
+  presented_are : presented query proof ≡ presented_from dict 0 query slots fronts
+  presented_are =
+      ap (λ (d : List ShownEntry). presented_from d 0 query proof.slots proof.lists) honest.dict
+      ∙ ap₂ (λ (s : List Slot) (l : List Prefix). presented_from dict 0 query s l) honest.slots honest.lists
+
+  -- the present terms show the fronts of their lists, as far as the cut says
+  pub honest_presented : AreFronts H (length texts) proof.met lanes honest.cut (presented query proof)
+  honest_presented = subst (AreFronts H (length texts) proof.met lanes honest.cut) (sym presented_are)
+      (show_terms H texts proof.met honest.positions 0 query honest.spots honest.needed.rise honest.found
+      (needed_shown honest.spots honest.positions honest.needed) honest.cut is_cut.size)
+
+  documents : proof.header.documents ≡ length texts
+  documents = ap (λ (h : Header). h.documents) honest.header
+
+  -- the lanes that a check sees are those of the cut
+  pub honest_lanes : client.lanes_of query proof ≡ cut_lanes
+  honest_lanes =
+      ap (λ (n : ℕ). map (client.lane_of n proof.met) (presented query proof)) documents
+      ∙ front_lanes H (length texts) proof.met lanes honest.cut (presented query proof) honest_presented are_in
+
+  pub honest_lists : AreListsRight H query proof
+  honest_lists = fronts_right H (length texts) (length texts) proof.met lanes honest.cut (presented query proof) honest_presented (lanes_have_lists texts query) is_cut are_in
+
+  pub honest_met : AreAllMet (client.lanes_of query proof) proof.met
+  honest_met = subst (λ (ls : List ShownLane). AreAllMet ls proof.met) (sym honest_lanes)
+      (subst (AreAllMet cut_lanes) (sym honest.met) (all_named cut_lanes honest.brackets honest.bounds))
+
+  -- the chosen answer is settled, since some answer is
+  settled : IsSettled honest.brackets proof.answer (threshold cut_lanes) r
+  settled =
+      let can = honest.first.settled in
+      let same : can.brackets ≡ honest.brackets = one_bracketing bracket cut_lanes can.brackets honest.brackets can.bounded honest.bounds in
+      chosen_is_settled honest.brackets (threshold cut_lanes) r can.answer proof.answer (are_brackets bracket cut_lanes honest.brackets (λ doc. omega arith) honest.bounds)
+      (subst (λ (bs : List Bracket). ArePicks bs can.answer) same can.inside)
+      (subst (λ (bs : List Bracket). IsSettled bs can.answer (threshold cut_lanes) r) same can.settled) honest.answer
+
+  pub honest_rows : AreRowsRight proof.met proof.answer
+  honest_rows = record {
+    inside =
+        let size : length honest.brackets ≡ length proof.met = sym (ap (λ (ids : List ℕ). length ids) honest.met ∙ length-map honest.brackets (λ (b : Bracket). b.doc)) in
+        subst (λ (n : ℕ). All (λ i. i < n) proof.answer) size (chosen_are_picks honest.brackets r proof.answer honest.answer);
+    once = settled.once;
+  }
+
+  -- it shows lists alone
+  pub honest_walk : algorithm_of proof ≡ Tnra
+  honest_walk = ap (λ (docs : Option Documents). elim docs [ None ↦ Tnra | Some d ↦ Tra ]) honest.docs
+
+  pub honest_settled : IsAnswerSettled (bounds_of proof) (client.lanes_of query proof) proof.met proof.answer r
+  honest_settled =
+      let same : brackets_of bracket cut_lanes proof.met ≡ honest.brackets = ap (brackets_of bracket cut_lanes) honest.met ∙ brackets_again cut_lanes honest.brackets honest.bounds.each in
+      subst (λ (bounds : Bounding). IsAnswerSettled bounds (client.lanes_of query proof) proof.met proof.answer r) (sym (lists_alone proof honest_walk))
+      (subst (λ (ls : List ShownLane). IsAnswerSettled bracket ls proof.met proof.answer r) (sym honest_lanes)
+      (subst (λ (bs : List Bracket). IsSettled bs proof.answer (threshold cut_lanes) r) (sym same) settled))
+
+  -- all rules hold of it
+  pub honest_accepted : Accepts H (root_of H (archive_of texts)) query r proof
+  honest_accepted =
+      accepts_all H (root_of H (archive_of texts)) query r proof honest_walk (honest_opened H texts query r proof honest) (honest_dictionary H texts query r proof honest)
+      (honest_slots H texts query r proof honest) honest_lists honest_met honest_rows honest_settled

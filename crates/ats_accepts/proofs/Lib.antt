@@ -1,0 +1,5 @@
+mod ShownPlaces
+mod AcceptedTerms
+mod AcceptedLists
+mod AcceptedRows
+pub mod Accepted

@@ -1,0 +1,69 @@
+-- Index bytes say one archive.
+use Rattle.std.proofs.Common.{◌≡◌, ◌<◌, ◌≤◌, ◌^◌, ◌∙◌, ℕ, List, [], ◌∷◌, ◌++◌, length, take, drop, refl, sym, ap, ap₂, arith, append_assoc}
+use Rattle.std.specs.List.{flat_map}
+use Rattle.std.proofs.lemmas.List.Elements.{All-tail}
+use Rattle.ats_impact.specs.Limits.{AllShort, AreWithin}
+use Rattle.ats_lists.specs.Lists.{lists_of}
+use Rattle.ats_commit.specs.Archive.{Layout, Archive}
+use Rattle.ats_commit.specs.Root.{root_of}
+use Rattle.ats_commit.proofs.Layouts.{same_layout}
+use Rattle.ats_index.specs.Spelling.{IsSpelling, front_bytes, text_bytes, lists_bytes}
+use Rattle.ats_index.proofs.Reading.{front_number, front_rest, text_number, text_first, text_rest}
+use Rattle.ats_index.proofs.Loading.{texts_first}
+
+-- bytes that begin with a text tell it, and what stands behind it
+text_tells : (bytes text other a b : List ℕ) → length text < 2 ^ 32 → length other < 2 ^ 32
+    → bytes ≡ text_bytes text ++ a → bytes ≡ text_bytes other ++ b → (text ≡ other) × (a ≡ b)
+text_tells bytes text other a b short short' is is' =
+    let size : length text ≡ length other = sym (text_number bytes text a short is) ∙ text_number bytes other b short' is' in (
+      sym (text_first bytes text a short is) ∙ ap (λ n. take n (drop 4 bytes)) size ∙ text_first bytes other b short' is',
+      sym (text_rest bytes text a short is) ∙ ap (λ n. drop n (drop 4 bytes)) size ∙ text_rest bytes other b short' is',
+    )
+
+-- bytes that begin with a number of short texts tell them
+texts_tell : (texts others : List (List ℕ)) (a b : List ℕ) → length texts ≡ length others → AllShort texts → AllShort others
+    → flat_map text_bytes texts ++ a ≡ flat_map text_bytes others ++ b → texts ≡ others
+texts_tell [] [] a b count short short' same = refl
+texts_tell [] (other ∷ others) a b count short short' same = absurd (omega (arith, count))
+texts_tell (text ∷ texts) [] a b count short short' same = absurd (omega (arith, count))
+texts_tell (text ∷ texts) (other ∷ others) a b count short short' same =
+    let Short : List ℕ → Type 0 = λ some. length some ≤ 2 ^ 20 in
+    let behind : List ℕ = flat_map text_bytes texts ++ a in
+    let behind' : List ℕ = flat_map text_bytes others ++ b in
+    let joined : text_bytes text ++ behind ≡ text_bytes other ++ behind' =
+    sym (append_assoc (text_bytes text) (flat_map text_bytes texts) a) ∙ same ∙ append_assoc (text_bytes other) (flat_map text_bytes others) b in
+    let head = text_tells (text_bytes text ++ behind) text other behind behind' (omega (arith, short 0 [] (omega arith))) (omega (arith, short' 0 [] (omega arith))) refl joined in
+    ap₂ (λ one more. one ∷ more) head.0 (texts_tell texts others a b (omega (arith, count)) (All-tail Short text texts short) (All-tail Short other others short') head.1)
+
+-- what stands behind the texts
+abbrev behind_texts : (List ℕ → List ℕ) → Archive → List ℕ
+behind_texts H archive = lists_bytes (lists_of archive.texts) ++ root_of H archive
+
+-- the front, the texts, and what stands behind them
+front_first : (H : List ℕ → List ℕ) (bytes : List ℕ) (archive : Archive) → IsSpelling H bytes archive
+    → bytes ≡ front_bytes (length archive.texts) ++ (flat_map text_bytes archive.texts ++ behind_texts H archive)
+front_first H bytes archive spelling =
+    spelling.same ∙ texts_first H archive ∙ append_assoc (front_bytes (length archive.texts)) (flat_map text_bytes archive.texts) (behind_texts H archive)
+
+-- a collection's number of texts stands in 4 bytes
+count_small : (texts : List (List ℕ)) → AreWithin texts → length texts < 2 ^ 32
+count_small texts within = omega (arith, within.few)
+
+-- no two archives have the same index bytes
+pub one_archive : (H : List ℕ → List ℕ) (bytes : List ℕ) (archive other : Archive) → IsSpelling H bytes archive → IsSpelling H bytes other → archive ≡ other
+one_archive H bytes archive other first second =
+    let texts : List (List ℕ) = archive.texts in
+    let others : List (List ℕ) = other.texts in
+    let rest : List ℕ = flat_map text_bytes texts ++ behind_texts H archive in
+    let rest' : List ℕ = flat_map text_bytes others ++ behind_texts H other in
+    let few = count_small texts first.within in
+    let few' = count_small others second.within in
+    let is = front_first H bytes archive first in
+    let is' = front_first H bytes other second in
+    let count : length texts ≡ length others =
+    sym (front_number bytes (length texts) rest few is) ∙ front_number bytes (length others) rest' few' is' in
+    let same : rest ≡ rest' = sym (front_rest bytes (length texts) rest few is) ∙ front_rest bytes (length others) rest' few' is' in
+    let Made : List (List ℕ) → Layout → Archive = λ (t : List (List ℕ)) (l : Layout). record { texts = t; layout = l } in
+    ap₂ Made
+    (texts_tell texts others (behind_texts H archive) (behind_texts H other) count first.within.short second.within.short same)
+    (same_layout archive.layout other.layout)
