@@ -1,6 +1,6 @@
 use crate::{
-    Bytes, Failed, GatherFault, MemShelf, MemSink, OutOfMemory, Shelf, Sink, gather, store,
-    write_all,
+    Bytes, Caller, Door, Failed, GatherFault, Link, MemCaller, MemDoor, MemLink, MemShelf, MemSink,
+    OutOfMemory, Shelf, Sink, gather, send_all, store, write_all,
 };
 use std::test::Fail;
 
@@ -11,6 +11,8 @@ fn values_cross_threads(rt: HostRuntime) {
     is_shared(&Bytes::new(rt.alloc()));
     is_shared(&MemShelf::new(rt.alloc()));
     is_shared(&MemSink::new(rt.alloc()));
+    is_shared(&MemCaller::new(rt.alloc()));
+    is_shared(&MemDoor::new(rt.alloc()));
     is_shared(&GatherFault::TooLong);
     is_shared(&Failed);
     is_shared(&OutOfMemory);
@@ -80,5 +82,53 @@ fn bytes_are_written(rt: HostRuntime) -> Result<(), Fail> {
     assert_eq!(rt; write_all(&mut sink, b""), Ok(()));
     assert_eq!(rt; write_all(&mut sink, b" red hen"), Err(Failed));
     assert_eq!(rt; sink.bytes(), b"red fox re".as_slice());
+    Ok(())
+}
+
+#[test]
+fn links_exchange_bytes(rt: HostRuntime) -> Result<(), Fail> {
+    let mut link = MemLink::new(rt.alloc(), Bytes::of(rt.alloc(), b"blue hen")?);
+    link.piece(5);
+    link.fail_at(6)?;
+    let mut buf = [0; 6];
+    assert_eq!(rt; link.read_some(&mut buf), Ok(5));
+    assert_eq!(rt; send_all(&mut link, b"red fox"), Ok(()));
+    assert_eq!(rt; link.read_some(&mut buf), Ok(3));
+    assert_eq!(rt; link.read_some(&mut buf), Ok(0));
+    assert_eq!(rt; &buf[..3], b"hen".as_slice());
+    assert_eq!(rt; send_all(&mut link, b"!"), Err(Failed));
+    assert_eq!(rt; link.written(), b"red fox".as_slice());
+    Ok(())
+}
+
+#[test]
+fn callers_hand_out_links_in_order(rt: HostRuntime) -> Result<(), Fail> {
+    let mut caller = MemCaller::new(rt.alloc());
+    caller.add(MemLink::new(rt.alloc(), Bytes::of(rt.alloc(), b"red")?))?;
+    caller.add(MemLink::new(rt.alloc(), Bytes::of(rt.alloc(), b"blue")?))?;
+    caller.fail_at(2)?;
+    let mut link = caller.call("here").ok().ok_or("no link")?;
+    let mut buf = [0; 9];
+    assert_eq!(rt; link.read_some(&mut buf), Ok(3));
+    caller.give_back(link);
+    assert!(rt; caller.call("there").is_err());
+    assert!(rt; caller.call("there").is_ok());
+    assert!(rt; caller.call("there").is_err());
+    assert!(rt; caller.given_back(0).is_some());
+    assert!(rt; caller.given_back(1).is_none());
+    Ok(())
+}
+
+#[test]
+fn doors_count_broken_links(rt: HostRuntime) -> Result<(), Fail> {
+    let mut door = MemDoor::new(rt.alloc());
+    door.add(MemLink::new(rt.alloc(), Bytes::new(rt.alloc())))?;
+    door.listen("here").ok().ok_or("not open")?;
+    let mut link = door.accept().ok().ok_or("no link")?;
+    link.fail_at(1)?;
+    assert_eq!(rt; link.write_some(b"red"), Err(Failed));
+    door.give_back(link);
+    assert!(rt; door.accept().is_err());
+    assert!(rt; door.given_back(0).is_some());
     Ok(())
 }

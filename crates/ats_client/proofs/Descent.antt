@@ -1,8 +1,9 @@
--- The descent: from the root to the header, the dictionary and the lists, what a proof shows is the archive's own but for
--- a collision.
+-- The descent: from the root to the header, the dictionary, the lists and the met documents, what a proof shows is the
+-- archive's own but for a collision.
 use Rattle.std.proofs.Common.{◌≡◌, ◌+◌, ◌<◌, ◌≤◌, ◌^◌, ℕ, List, [], ◌∷◌, ◌++◌, length, map, get_or, slice_get, Option, Some, refl, sym, ◌∙◌, ap, subst, arith}
 use Rattle.std.specs.List.{All, flat_map}
 use Rattle.std.specs.List.Sorted.{IsStrictlyIncreasing}
+use Rattle.std.specs.Option.{ForSome}
 use Rattle.std.proofs.lemmas.Option.{get_or_from_slice_get, slice_get_within}
 use Rattle.std.proofs.lemmas.Simd.{map-map}
 use Rattle.ats_terms.specs.Terms.{IsTerm}
@@ -36,13 +37,13 @@ use Rattle.ats_commit.proofs.PrefixLemmas.{prefix-binds}
 use Rattle.ats_proof.specs.Value.{ShownEntry, Proof, layout_of, present_in}
 use Rattle.ats_proof.specs.Ranges.{AreDigests, IsShownInRange, IsInRange}
 use Rattle.ats_proof.specs.Runs.{shown_entry, shown_list}
-use Rattle.ats_client.specs.Accepts.{Accepts}
 use Rattle.ats_client.specs.Groups as groups
 use Rattle.ats_client.specs.Presented.{Presented, presented, entry_at}
 use Rattle.ats_client.specs.Slots as slots
-use Rattle.ats_client.specs.Strings.{hashed_header, in_tree, strings_in, list_strings, strings_of, extract, AreLeavesOf, IsOwnList, IsOwn, IsBound}
-use Rattle.ats_client.proofs.Kept as kept
-use Rattle.ats_client.proofs.DescentTrees.{Binds, binds-both, binds-moved, binds-weaker, binds-one, binds-all}
+use Rattle.ats_client.specs.Strings.{hashed_header, in_tree, strings_in, list_strings, documents_strings, strings_of, extract, AreLeavesOf, IsOwnList, AreOwnDocuments, IsOwn, IsBound}
+use Rattle.ats_client.specs.Rooted.{AreRooted}
+use Rattle.ats_client.proofs.DescentDocuments.{all-documents-bind}
+use Rattle.ats_client.proofs.DescentTrees.{Binds, binds-both, binds-weaker, binds-one, binds-all, tree-binds}
 use Rattle.ats_client.proofs.HeadlineTerms.{HoldsPresent, each_presented}
 use Rattle.ats_client.proofs.Leaves.{leaf_own, present_leaf}
 use Rattle.ats_client.proofs.Presents.{at_place, entry_there}
@@ -78,14 +79,6 @@ header-binds H sized archive query layout header are is root =
     in let tag : ℕ = header_tag archive.layout
     in binds-one H (ours H archive query) (hashed_header layout header) (tag ∷ header_of H archive) (IsHeaderOf H archive header) refl root
     (λ same. own_header H sized archive header are is (tail_same tag (header_tag layout) (header_of H archive) bytes same))
-
--- ---- the section of one tree
-
--- the strings of one tree show what they show among the strings there
-tree-binds : (H : List ℕ → List ℕ) (tree : Tree) (own : TreePlace → Option (List ℕ)) (there : Node → Option (List ℕ)) (ss : List (Hashed Node)) (A : Type 0)
-    → ((node : Node) → own (in_tree tree node) ≡ there node) → Binds H there ss A → Binds H own (map (moved (in_tree tree)) ss) A
-tree-binds H tree own there ss A same bound =
-    binds-moved H (in_tree tree) own ss A (subst (λ (f : Node → Option (List ℕ)). Binds H f ss A) (λ i node. sym (same node) i) bound)
 
 -- ---- the dictionary
 
@@ -127,9 +120,9 @@ entry-own H archive query dict one are ranges own asked =
     (subst (λ (e : DictEntry). slice_get leaves asked.shown.position ≡ Some (dict_leaf_bytes e.term e.f e.root)) asked.entry leaf)
 
 pub list-binds : (H : List ℕ → List ℕ) → ((m : List ℕ) → length (H m) ≡ 32) → (archive : Archive) (query : List (List ℕ × ℕ)) (layout : Layout) (met : List ℕ) (one : Presented)
-    → one.entry.term ≡ asked_term query one.number → AreDigests one.prefix.digests → groups.IsListRight H layout met one → IsEntryOf H archive one.entry
+    → one.entry.term ≡ asked_term query one.number → AreDigests one.prefix.digests → groups.IsListRooted H layout met one → IsEntryOf H archive one.entry
     → Binds H (ours H archive query) (list_strings H layout met one) (IsOwnList archive.texts query met one)
-list-binds H sized archive query layout met one same digests right own =
+list-binds H sized archive query layout met one same digests rooted own =
     let entries : List Entry = list archive.texts (asked_term query one.number)
     in let shown : List Shown = shown_list 0 met one.prefix.entries
     in let hashed : List (Hashed Node) = prefix_strings H layout one.entry.f shown one.prefix.digests
@@ -140,7 +133,7 @@ list-binds H sized archive query layout met one same digests right own =
     subst (λ term. list_root H layout (list archive.texts term) ≡ one.entry.root) same
     (subst (λ l. list_root H l (list archive.texts one.entry.term) ≡ one.entry.root) layouts (sym own.root))
     in let bound : Binds H (list_string H layout entries) hashed Shows =
-    prefix-binds H sized layout entries one.entry.f shown one.prefix.digests one.entry.root (rises-list 0 met one.prefix.entries) digests right.root size root
+    prefix-binds H sized layout entries one.entry.f shown one.prefix.digests one.entry.root (rises-list 0 met one.prefix.entries) digests rooted size root
     in tree-binds H (ListOf one.number) (ours H archive query) (list_string H archive.layout entries) hashed Shows (λ node. refl)
     (subst (λ l. Binds H (list_string H l entries) hashed Shows) (sym layouts) bound)
 
@@ -175,40 +168,44 @@ asked-terms query proof is right range size =
     each_presented (IsAsked query proof.dict) proof.dict 0 query proof.slots proof.lists size range.fronts (pair-asked query proof is right)
 
 pub lists-bind : (H : List ℕ → List ℕ) → ((m : List ℕ) → length (H m) ≡ 32) → (archive : Archive) (query : List (List ℕ × ℕ)) (proof : Proof) → AreTexts archive.texts
-    → IsInRange proof → All (IsAsked query proof.dict) (presented query proof) → groups.AreListsRight H query proof
+    → IsInRange proof → All (IsAsked query proof.dict) (presented query proof) → All (groups.IsListRooted H (layout_of proof) proof.met) (presented query proof)
     → AreLeavesOf (dict_leaves (dictionary_of H archive)) (map shown_entry proof.dict)
     → Binds H (ours H archive query) (flat_map (list_strings H (layout_of proof) proof.met) (presented query proof))
     (All (IsOwnList archive.texts query proof.met) (presented query proof))
-lists-bind H sized archive query proof are range asked right own =
+lists-bind H sized archive query proof are range asked rooted own =
     binds-all H (ours H archive query) (list_strings H (layout_of proof) proof.met) (IsOwnList archive.texts query proof.met) (presented query proof)
     (λ k d low.
     let one : Presented = get_or (presented query proof) k d
     in let is : IsAsked query proof.dict one = asked k d low
-    in list-binds H sized archive query (layout_of proof) proof.met one is.same is.sized (right k d low)
+    in list-binds H sized archive query (layout_of proof) proof.met one is.same is.sized (rooted k d low)
     (entry-own H archive query proof.dict one are range.terms.each own is))
 
 -- ---- the whole proof
 
-pub whole-binds : (H : List ℕ → List ℕ) → ((m : List ℕ) → length (H m) ≡ 32) → (archive : Archive) (query : List (List ℕ × ℕ)) (r : ℕ) (proof : Proof) → AreTexts archive.texts
-    → IsQuery query → IsInRange proof → present_in proof.slots ≡ length proof.lists → Accepts H (root_of H archive) query r proof → IsBound H archive query proof
-whole-binds H sized archive query r proof are is range size accepts =
+-- where each section rebuilds to the root that is told for it
+pub whole-binds : (H : List ℕ → List ℕ) → ((m : List ℕ) → length (H m) ≡ 32) → (archive : Archive) (query : List (List ℕ × ℕ)) (proof : Proof) → AreTexts archive.texts
+    → IsQuery query → IsInRange proof → present_in proof.slots ≡ length proof.lists → AreRooted H (root_of H archive) query proof → IsBound H archive query proof
+whole-binds H sized archive query proof are is range size rooted =
     let own : TreePlace → Option (List ℕ) = ours H archive query
     in let layout : Layout = layout_of proof
     in let top : List (Hashed TreePlace) = hashed_header layout proof.header ∷ []
     in let terms : List (Hashed TreePlace) = strings_in H Dictionary proof.header.dict_leaves (map shown_entry proof.dict) proof.dict_digests
     in let fronts : List (Hashed TreePlace) = flat_map (list_strings H layout proof.met) (presented query proof)
+    in let documents : List (Hashed TreePlace) = documents_strings H proof.header proof.met proof.docs
     in let Numbers : Type 0 = IsHeaderOf H archive proof.header
     in let Terms : Type 0 = AreLeavesOf (dict_leaves (dictionary_of H archive)) (map shown_entry proof.dict)
     in let Fronts : Type 0 = All (IsOwnList archive.texts query proof.met) (presented query proof)
-    in let under : List ℕ = root_of H archive
-    in let asked = asked-terms query proof is (kept.slots H under query r proof accepts) range size
-    in binds-weaker H own (strings_of H query proof) (Numbers × (Terms × Fronts)) (IsOwn H archive query proof)
-    (λ all. record { layout = same_layout layout archive.layout; numbers = all.0; terms = all.1.0; fronts = all.1.1 })
-    (binds-both H own top (terms ++ fronts) Numbers (Terms × Fronts)
-    (header-binds H sized archive query layout proof.header are range.front (kept.opened H under query r proof accepts).commits)
-    (λ numbers. binds-both H own terms fronts Terms Fronts
-    (dictionary-binds H sized archive query proof range (kept.dictionary H under query r proof accepts) numbers)
-    (λ own_terms. lists-bind H sized archive query proof are range asked (kept.lists H under query r proof accepts) own_terms)))
+    in let Documents : Type 0 = ForSome proof.docs (AreOwnDocuments H archive.texts proof.met)
+    in let asked = asked-terms query proof is rooted.slots range size
+    in binds-weaker H own (strings_of H query proof) (Numbers × (Terms × (Fronts × Documents))) (IsOwn H archive query proof)
+    (λ all. record { layout = same_layout layout archive.layout; numbers = all.0; terms = all.1.0; fronts = all.1.1.0; documents = all.1.1.1 })
+    (binds-both H own top (terms ++ (fronts ++ documents)) Numbers (Terms × (Fronts × Documents))
+    (header-binds H sized archive query layout proof.header are range.front rooted.header)
+    (λ numbers. binds-both H own terms (fronts ++ documents) Terms (Fronts × Documents)
+    (dictionary-binds H sized archive query proof range rooted.dictionary numbers)
+    (λ own_terms. binds-both H own fronts documents Fronts Documents
+    (lists-bind H sized archive query proof are range asked rooted.lists own_terms)
+    (λ own_lists. all-documents-bind H sized archive query proof.header proof.met proof.docs are range.ids.rise range.shown rooted.documents rooted.terms numbers))))
 
 -- the first difference is then the first collision
 pub whole-extracts : (H : List ℕ → List ℕ) (archive : Archive) (query : List (List ℕ × ℕ)) (proof : Proof) → IsBound H archive query proof

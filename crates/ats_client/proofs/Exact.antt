@@ -15,13 +15,10 @@ use Rattle.ats_client.specs.declared.refusal.Refusal.TheVariants.{OtherRoot, Slo
 use Rattle.ats_client.specs.Presented.{Presented}
 use Rattle.ats_client.specs.Indexes.{AreNames, IsOut, IsAgain}
 use Rattle.ats_client.specs.Groups.{IsOther, IsOpened, IsOpeningFault, IsDictionary, IsDictFault, AreSlotsRight, IsSlotsFault, IsListRooted, IsEntryFault, IsListRootFault, AreAllMet, IsMetFault, AreRowsRight, IsRowsFault, IsAnswerSettled, IsSettledFault, indexes_of}
+use Rattle.ats_client.proofs.FirstOf.{all_middle}
 
-not_other : (digest : Option (List ℕ)) (root : List ℕ) → IsOther digest root → digest ≡ Some root → ⊥
+pub not_other : (digest : Option (List ℕ)) (root : List ℕ) → IsOther digest root → digest ≡ Some root → ⊥
 not_other digest root other is = let rebuilt = other.rebuilt in other.differs (cc)
-
-pub all_middle : {X : Type 0} (P : X → Type 0) (before : List X) (x : X) (after : List X) → All P (before ++ x ∷ after) → P x
-all_middle P [] x after all = All-head P x after all
-all_middle P (y ∷ ys) x after all = all_middle P ys x after (All-tail P y (ys ++ x ∷ after) all)
 
 pub not_out : (met : ℕ) (indexes : List ℕ) (place : ℕ) → IsOut met indexes place → AreNames met indexes → ⊥
 not_out met indexes place fault names =

@@ -65,7 +65,7 @@ pub top_or_collides : (H : List ℕ → List ℕ) → ((m : List ℕ) → length
     → IsQuery query → IsInRange proof → length proof.lists ≡ present_in proof.slots → Accepts H root query r proof → IsTopOrCollides H root query r proof
 top_or_collides H sized root query r proof asked range size accepts archive are same =
     let under : Accepts H (root_of H archive) query r proof = subst (λ (digest : List ℕ). Accepts H digest query r proof) (sym same) accepts in
-    let bound : IsBound H archive query proof = whole-binds H sized archive query r proof are asked range (sym size) under in
+    let bound : IsBound H archive query proof = whole-binds H sized archive query proof are asked range (sym size) (kept.rooted H (root_of H archive) query r proof under) in
     let found : extract H archive query proof ≡ first_difference (ours H archive query) (strings_of H query proof) = whole-extracts H archive query proof bound in
     elim (holds_or_some (IsOwn H archive query proof) (λ c. H c.theirs ≡ H c.ours) (first_difference (ours H archive query) (strings_of H query proof)) bound) [
       | inl own ↦ inl (own_rows_right H archive query r root proof are asked range size accepts own)

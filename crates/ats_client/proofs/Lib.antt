@@ -11,8 +11,12 @@ pub mod Bounding
 pub mod Rules
 pub mod Bracketing
 pub mod Kept
+pub mod FirstOf
 pub mod Exact
 pub mod OneListFault
+pub mod Least
+pub mod Shows
+pub mod OneDocumentFault
 pub mod OneRefusal
 pub mod OneRejection
 pub mod HeadlineTerms
@@ -23,4 +27,5 @@ pub mod AnswerRows
 pub mod VerifiedBytes
 pub mod Leaves
 pub mod DescentTrees
+pub mod DescentDocuments
 pub mod Descent

@@ -5,29 +5,12 @@ use Rattle.ats_proof.specs.Value.{Proof, layout_of}
 use Rattle.ats_commit.specs.Archive.{Layout}
 use Rattle.ats_client.specs.declared.refusal.Refusal.{Refusal}
 use Rattle.ats_client.specs.declared.refusal.Refusal.TheVariants.{IndexOut, Repeated, ListMisfit, ListRoot}
-use Rattle.ats_client.specs.Presented.{Presented}
+use Rattle.ats_client.specs.Presented.{Presented, presented}
 use Rattle.ats_client.specs.Indexes.{AreNames, IsOut, IsAgain}
 use Rattle.ats_client.specs.Groups.{IsListRight, IsListFault, IsEntryFault, IsListRootFault, AreListsRight, IsListsFault, indexes_of, list_rules}
-use Rattle.ats_client.proofs.Exact.{all_middle, not_out, not_again, not_entries, not_rooted}
+use Rattle.ats_client.proofs.Exact.{not_out, not_again, not_entries, not_rooted}
+use Rattle.ats_client.proofs.FirstOf.{one_front, not_first_of, one_first_of}
 use Rattle.ats_client.proofs.Rules.{AreExact, not_kept, one_first}
-
--- two fronts of a list that keep a rule, each before an element with which it is broken, whatever follows, are the same
-one_front : {X : Type 0} (Keeps : List X → Type 0) (before other : List X) (x y : X) (after rest : List X) → before ++ x ∷ after ≡ other ++ y ∷ rest
-    → Keeps before → Keeps other → ((more : List X) → Keeps (before ++ x ∷ more) → ⊥) → ((more : List X) → Keeps (other ++ y ∷ more) → ⊥)
-    → (before ≡ other) × (x ≡ y)
-one_front Keeps [] [] x y after rest same kept held breaks ends = (refl, cc)
-one_front Keeps [] (z ∷ other) x y after rest same kept held breaks ends =
-    let first : z ≡ x = cc in
-    absurd (breaks other (subst (λ w. Keeps (w ∷ other)) first held))
-one_front Keeps (z ∷ before) [] x y after rest same kept held breaks ends =
-    let first : z ≡ y = cc in
-    absurd (ends before (subst (λ w. Keeps (w ∷ before)) first kept))
-one_front Keeps (z ∷ before) (w ∷ other) x y after rest same kept held breaks ends =
-    let first : z ≡ w = cc in
-    let later : before ++ x ∷ after ≡ other ++ y ∷ rest = cc in
-    let one = one_front (λ xs. Keeps (z ∷ xs)) before other x y after rest later kept (subst (λ v. Keeps (v ∷ other)) (sym first) held) breaks
-    (λ more keeps. ends more (subst (λ v. Keeps (v ∷ (other ++ y ∷ more))) first keeps)) in
-    (ap₂ (λ v xs. v ∷ xs) first one.0, one.1)
 
 -- ---- indexes
 
@@ -108,16 +91,9 @@ not_list H layout met one refusal fault right = not_kept (list_rules H layout me
 
 pub not_lists : (H : List ℕ → List ℕ) (query : List (List ℕ × ℕ)) (proof : Proof) (refusal : Refusal) → IsListsFault H query proof refusal → AreListsRight H query proof → ⊥
 not_lists H query proof refusal fault right =
-    not_list H (layout_of proof) proof.met fault.one refusal fault.fault
-    (all_middle (IsListRight H (layout_of proof) proof.met) fault.before fault.one fault.after (subst (λ l. All (IsListRight H (layout_of proof) proof.met) l) fault.stands right))
-
-list_breaks : (H : List ℕ → List ℕ) (query : List (List ℕ × ℕ)) (proof : Proof) (refusal : Refusal) (fault : IsListsFault H query proof refusal)
-    (more : List Presented) → All (IsListRight H (layout_of proof) proof.met) (fault.before ++ fault.one ∷ more) → ⊥
-list_breaks H query proof refusal fault more right =
-    not_list H (layout_of proof) proof.met fault.one refusal fault.fault (all_middle (IsListRight H (layout_of proof) proof.met) fault.before fault.one more right)
+    not_first_of (IsListRight H (layout_of proof) proof.met) (IsListFault H (layout_of proof) proof.met) (presented query proof) refusal (not_list H (layout_of proof) proof.met) fault right
 
 pub one_lists : (H : List ℕ → List ℕ) (query : List (List ℕ × ℕ)) (proof : Proof) (a b : Refusal) → IsListsFault H query proof a → IsListsFault H query proof b → a ≡ b
 one_lists H query proof a b is also =
-    let same = one_front (All (IsListRight H (layout_of proof) proof.met)) is.before also.before is.one also.one is.after also.after (sym is.stands ∙ also.stands) is.right also.right
-    (list_breaks H query proof a is) (list_breaks H query proof b also) in
-    one_first (list_rules H (layout_of proof) proof.met is.one) a b (list_exact H (layout_of proof) proof.met is.one) is.fault (subst (λ (one : Presented). IsListFault H (layout_of proof) proof.met one b) (sym same.1) also.fault)
+    one_first_of (IsListRight H (layout_of proof) proof.met) (IsListFault H (layout_of proof) proof.met) (presented query proof) a b (not_list H (layout_of proof) proof.met)
+    (λ one a b. one_first (list_rules H (layout_of proof) proof.met one) a b (list_exact H (layout_of proof) proof.met one)) is also

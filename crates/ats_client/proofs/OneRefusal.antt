@@ -1,7 +1,6 @@
 -- A proof has one first refusal at most, and none where it is accepted.
 use Rattle.std.proofs.Common.{◌≡◌, ◌∙◌, ◌<◌, ℕ, List, true, Result, Ok, Err, refl, sym, ap, inl, inr}
 use Rattle.std.specs.Result.{is_ok, IfErr}
-use Rattle.std.proofs.lemmas.Bool.{cases_order}
 use Rattle.ats_bound.specs.Cut.{ShownLane, IsMet}
 use Rattle.ats_bound.specs.Schedule.{Bounding}
 use Rattle.ats_proof.specs.Value.{Proof}
@@ -12,16 +11,9 @@ use Rattle.ats_client.specs.Presented.{lanes_of}
 use Rattle.ats_client.specs.Groups.{IsOpeningFault, IsDictFault, IsSlotsFault, IsSlotRight, IsMetFault, IsRowsFault, IsSettledFault, met_at}
 use Rattle.ats_client.specs.Accepts.{rules, Accepts, IsFirstRefusal}
 use Rattle.ats_client.proofs.Exact.{not_opened, not_dictionary, not_slots, not_met, not_rows, not_settled}
+use Rattle.ats_client.proofs.Least.{one_least}
 use Rattle.ats_client.proofs.OneListFault.{not_lists, one_out, one_again, out_or_again, one_lists}
 use Rattle.ats_client.proofs.Rules.{AreExact, not_kept, one_first}
-
--- the first number that breaks a rule is one
-one_least : (P : ℕ → Type 0) (m n : ℕ) → (P m → ⊥) → (P n → ⊥) → ((i : ℕ) → i < m → P i) → ((i : ℕ) → i < n → P i) → m ≡ n
-one_least P m n breaks ends before earlier = elim (cases_order m n) [
-  | inl same ↦ same
-  | inr (inl less) ↦ absurd (breaks (earlier m less))
-  | inr (inr more) ↦ absurd (ends (before n more))
-]
 
 one_opening : (H : List ℕ → List ℕ) (root : List ℕ) (query : List (List ℕ × ℕ)) (proof : Proof) (a b : Refusal)
     → IsOpeningFault H root query proof a → IsOpeningFault H root query proof b → a ≡ b

@@ -16,7 +16,7 @@ use Rattle.ats_proof.specs.Value.{ShownEntry, Proof, layout_of}
 use Rattle.ats_proof.specs.Runs.{shown_entry, shown_list}
 use Rattle.ats_client.specs.declared.refusal.Refusal.{Refusal}
 use Rattle.ats_client.specs.declared.refusal.Refusal.TheVariants.{OtherRoot, SlotCount, DictMisfit, DictRoot, SlotWrong, IndexOut, Repeated, ListMisfit, ListRoot, Unmet, AnswerOut, AnswerRepeated, NotSettled}
-use Rattle.ats_client.specs.Rules.{Group, IsFirstFault}
+use Rattle.ats_client.specs.Rules.{Group, IsFirstFault, IsFirstOf}
 use Rattle.ats_client.specs.Presented.{Presented, presented}
 use Rattle.ats_client.specs.Slots.{Shown, entry_shown, ShowsTerm}
 use Rattle.ats_client.specs.Indexes.{AreNames, IsOut, IsAgain}
@@ -123,13 +123,9 @@ abbrev pub IsListFault : (List ℕ → List ℕ) → Layout → List ℕ → Pre
 IsListFault H layout met one refusal = IsFirstFault (list_rules H layout met one) refusal
 
 -- the first failure of the present terms, term by term
-pub record IsListsFault (H : List ℕ → List ℕ) (query : List (List ℕ × ℕ)) (proof : Proof) (refusal : Refusal) : Type 0 where
-  pub before : List Presented
-  pub one : Presented
-  pub after : List Presented
-  pub stands : presented query proof ≡ before ++ one ∷ after
-  pub right : All (IsListRight H (layout_of proof) proof.met) before
-  pub fault : IsListFault H (layout_of proof) proof.met one refusal
+abbrev pub IsListsFault : (List ℕ → List ℕ) → List (List ℕ × ℕ) → Proof → Refusal → Type 0
+IsListsFault H query proof refusal =
+    IsFirstOf (IsListRight H (layout_of proof) proof.met) (IsListFault H (layout_of proof) proof.met) (presented query proof) refusal
 
 -- ---- the met documents
 

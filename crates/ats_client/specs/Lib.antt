@@ -3,6 +3,7 @@ pub mod Slots
 pub mod Indexes
 pub mod Rules
 pub mod Groups
+pub mod Documents
 pub mod Bracketing
 pub mod Accepts
 pub mod Marked
@@ -11,6 +12,7 @@ pub mod Seen
 pub mod Noting
 pub mod Lists
 pub mod Bounds
+pub mod Rooted
 pub mod Strings
 pub mod Headline
 pub mod Bytes

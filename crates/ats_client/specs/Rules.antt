@@ -1,5 +1,6 @@
 -- Groups of rules that are tried one after another: when all are kept, and else the first failure.
-use Rattle.std.specs.Prelude.{◌⊎◌, List, [], ◌∷◌}
+use Rattle.std.specs.Prelude.{◌≡◌, ◌⊎◌, List, [], ◌∷◌, ◌++◌}
+use Rattle.std.specs.List.{All}
 
 -- when a group of rules is kept, and how it fails
 pub record Group (F : Type 0) : Type 1 where
@@ -14,3 +15,12 @@ AreKept (group ∷ groups) = group.kept × AreKept groups
 abbrev pub IsFirstFault : {F : Type 0} → List (Group F) → F → Type 0
 IsFirstFault [] fault = ⊥
 IsFirstFault (group ∷ groups) fault = group.fault fault ⊎ (group.kept × IsFirstFault groups fault)
+
+-- the failure of the first of some elements that does not keep its rules
+pub record IsFirstOf {X F : Type 0} (Keeps : X → Type 0) (Fails : X → F → Type 0) (xs : List X) (told : F) : Type 0 where
+  pub before : List X
+  pub one : X
+  pub after : List X
+  pub stands : xs ≡ before ++ one ∷ after
+  pub right : All Keeps before
+  pub fault : Fails one told

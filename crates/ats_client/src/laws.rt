@@ -1,6 +1,6 @@
 //! What an accepted proof says of an archive, and that a refusal is one, as contracts of functions that do nothing.
 
-ghost use Rattle.std.specs.Prelude.{◌≡◌, ℕ, List};
+ghost use Rattle.std.specs.Prelude.{◌≡◌, ◌⊎◌, ℕ, List};
 ghost use Rattle.ats_tree.specs.Differences.{first_difference};
 ghost use Rattle.ats_terms.specs.Query.{IsQuery};
 ghost use Rattle.ats_commit.specs.Archive.{Archive};
@@ -14,9 +14,22 @@ ghost use Rattle.ats_client.specs.declared.refusal.Refusal.{Refusal};
 ghost use Rattle.ats_client.specs.Accepts.{Accepts, IsFirstRefusal};
 ghost use Rattle.ats_client.specs.Bytes.{IsAcceptedBytes, IsRejectedBytes};
 ghost use Rattle.ats_client.specs.Strings.{strings_of, extract, IsOwn, IsBound};
+ghost use Rattle.ats_client.specs.Documents.{IsDocsTree, IsDocsFault, AreDocumentsRight, IsDocumentsFault};
+ghost use Rattle.ats_client.specs.Rooted.{AreRooted};
 ghost use Rattle.ats_client.specs.Headline.{AreRight, IsTopOrCollides};
 
 use ats_hash::HashKind;
+
+/// Where the sections of a proof, by either algorithm, rebuild to the roots that are told for them, from the root
+/// of an archive down, all that they show is the archive's own, or the first string of the proof that differs
+/// from the archive's has an equal digest; `extract` finds that string.
+pub fn rebuilt_sections_are_bound<H: HashKind>()
+    ensures bound { (archive : Archive) (query : List (List ℕ × ℕ)) (bytes : List ℕ) (proof : Proof) → AreTexts archive.texts → IsQuery query
+        → IsProof bytes proof → AreRooted H.hash (root_of H.hash archive) query proof → IsBound H.hash archive query proof }
+    ensures extract { (archive : Archive) (query : List (List ℕ × ℕ)) (bytes : List ℕ) (proof : Proof) → AreTexts archive.texts → IsQuery query
+        → IsProof bytes proof → AreRooted H.hash (root_of H.hash archive) query proof
+        → extract H.hash archive query proof ≡ first_difference (ours H.hash archive query) (strings_of H.hash query proof) }
+{}
 
 /// What an accepted proof shows is the own of each archive with the root, or the first string of the proof that
 /// differs from the archive's has an equal digest; `extract` finds that string.
@@ -48,6 +61,20 @@ pub fn proofs_have_one_refusal<H: HashKind>()
         → IsFirstRefusal H.hash root query r proof a → IsFirstRefusal H.hash root query r proof b → a ≡ b }
     ensures none { (root : List ℕ) (query : List (List ℕ × ℕ)) (r : ℕ) (proof : Proof) (refusal : Refusal)
         → Accepts H.hash root query r proof → IsFirstRefusal H.hash root query r proof refusal → ⊥ }
+{}
+
+/// What is shown of the met documents keeps its rules or has one first failure, and not both: the documents tree,
+/// and then the documents one after another, each with its tree and its slots.
+pub fn documents_have_one_fault<H: HashKind>()
+    ensures tree_one { (proof : Proof) (a b : Refusal) → IsDocsFault H.hash proof a → IsDocsFault H.hash proof b → a ≡ b }
+    ensures tree_none { (proof : Proof) (refusal : Refusal) → IsDocsTree H.hash proof → IsDocsFault H.hash proof refusal → ⊥ }
+    ensures tree_some { (proof : Proof) → IsDocsTree H.hash proof ⊎ ((refusal : Refusal) × IsDocsFault H.hash proof refusal) }
+    ensures one { (query : List (List ℕ × ℕ)) (proof : Proof) (a b : Refusal)
+        → IsDocumentsFault H.hash query proof a → IsDocumentsFault H.hash query proof b → a ≡ b }
+    ensures none { (query : List (List ℕ × ℕ)) (proof : Proof) (refusal : Refusal)
+        → AreDocumentsRight H.hash query proof → IsDocumentsFault H.hash query proof refusal → ⊥ }
+    ensures some { (query : List (List ℕ × ℕ)) (proof : Proof)
+        → AreDocumentsRight H.hash query proof ⊎ ((refusal : Refusal) × IsDocumentsFault H.hash query proof refusal) }
 {}
 
 /// Bytes are rejected in one way at most, and in none where they are accepted.

@@ -40,8 +40,9 @@ pub use answer::row;
 pub use checking::check;
 pub use fault::{Rejection, VerifyFault};
 pub use laws::{
-    accepted_answers_are_top, bytes_have_one_rejection, own_leaves_make_rows_right,
-    proofs_have_one_refusal, shown_leaves_are_bound,
+    accepted_answers_are_top, bytes_have_one_rejection, documents_have_one_fault,
+    own_leaves_make_rows_right, proofs_have_one_refusal, rebuilt_sections_are_bound,
+    shown_leaves_are_bound,
 };
 pub use refusal::Refusal;
 pub use verifying::verify;

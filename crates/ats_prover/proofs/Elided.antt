@@ -197,6 +197,16 @@ dictionary_few H leaves positions short few =
       | inr shows ↦ omega (arith, all, shows.2, count)
     ]
 
+-- no leaves of a list need more digests than the list has leaves
+pub documents_few : (H : List ℕ → List ℕ) (leaves : List (List ℕ)) (positions : List ℕ) → length leaves ≤ 65536
+    → length (elided_digests H leaves positions) ≤ 65536
+documents_few H leaves positions few =
+    let os = places 0 (length leaves) (shown_with leaves positions) in
+    let size = length-places 0 (length leaves) (shown_with leaves positions) in
+    let low : length os ≤ 2 ^ 16 = omega (arith, few, size) in
+    let all = elided_need H (tree_of os) (tree_of leaves) ∙ ap need (of-within 16 os low) in
+    omega (arith, all, need_holes 16 os low, holes-few os, size, few)
+
 -- the first leaves of a list need fewer digests than the list has leaves
 pub prefix_few : (H : List ℕ → List ℕ) (leaves : List (List ℕ)) (k : ℕ) → length leaves ≤ 65536 → 1 ≤ length leaves → 1 ≤ k
     → length (elided_digests H leaves (range_with_len 0 k)) ≤ 65535

@@ -6,9 +6,13 @@ pub mod Elided
 pub mod Needed
 pub mod Fronts
 pub mod Present
+pub mod StandingTerms
 pub mod Coming
+pub mod ComingDocuments
 pub mod MetDocuments
 pub mod Ranges
+pub mod Items
+pub mod MetLeaves
 pub mod Sections
 pub mod Whole
 pub mod Positions
@@ -19,4 +23,5 @@ pub mod Short
 pub mod Standing
 pub mod Exists
 pub mod LookedUp
+pub mod Lookups
 pub mod Archives

@@ -10,10 +10,10 @@ use Rattle.ats_lists.specs.Lists.{IsList}
 use Rattle.ats_lists.specs.declared.entry.Entry.{Entry}
 use Rattle.ats_bound.specs.declared.bracket.Bracket.{Bracket}
 use Rattle.ats_bound.specs.Cut.{ShownLane, names}
-use Rattle.ats_bound.specs.Schedule.{WholeLane, AreBracketsOf, has_bracket, shown}
+use Rattle.ats_bound.specs.Schedule.{WholeLane, AreBracketsBy, Bounding, has_bracket, shown}
 
 -- the documents of brackets that rise
-pub met_rises : (lanes : List ShownLane) (brackets : List Bracket) → AreBracketsOf lanes brackets → IsStrictlyIncreasing (map (λ (b : Bracket). b.doc) brackets)
+pub met_rises : {bounds : Bounding} (lanes : List ShownLane) (brackets : List Bracket) → AreBracketsBy bounds lanes brackets → IsStrictlyIncreasing (map (λ (b : Bracket). b.doc) brackets)
 met_rises lanes brackets are k inside =
     let docs : Bracket → ℕ = λ b. b.doc in
     let size = length-map brackets docs in
@@ -45,8 +45,8 @@ shown_below doc n (lane ∷ lanes) (count ∷ cut) all is =
     cases_or false b is = inr is
 
 -- met documents are documents
-pub met_below : (n : ℕ) (lanes : List WholeLane) (cut : List ℕ) (brackets : List Bracket) → All (λ (lane : WholeLane). All (λ (e : Entry). e.doc < n) lane.entries) lanes
-    → AreBracketsOf (shown lanes cut) brackets → All (λ d. d < n) (map (λ (b : Bracket). b.doc) brackets)
+pub met_below : {bounds : Bounding} (n : ℕ) (lanes : List WholeLane) (cut : List ℕ) (brackets : List Bracket) → All (λ (lane : WholeLane). All (λ (e : Entry). e.doc < n) lane.entries) lanes
+    → AreBracketsBy bounds (shown lanes cut) brackets → All (λ d. d < n) (map (λ (b : Bracket). b.doc) brackets)
 met_below n lanes cut brackets all are k d inside =
     let docs : Bracket → ℕ = λ b. b.doc in
     let none : Bracket = record { doc = 0; lo = 0; hi = 0 } in
@@ -69,3 +69,13 @@ rising_few n (x ∷ xs) rise below =
 
 pub lists_below : (lanes : List WholeLane) → All (λ (lane : WholeLane). IsList 65536 lane.entries) lanes → All (λ (lane : WholeLane). All (λ (e : Entry). e.doc < 65536) lane.entries) lanes
 lists_below lanes all k d inside = (all k d inside).documents
+
+-- where a document is met there is a list
+pub lists_some : {bounds : Bounding} (lanes : List WholeLane) (cut : List ℕ) (brackets : List Bracket) → AreBracketsBy bounds (shown lanes cut) brackets → 1 ≤ length brackets → 1 ≤ length lanes
+lists_some [] cut brackets are some =
+    let none : Bracket = record { doc = 0; lo = 0; hi = 0 } in
+    let doc = (get_or brackets 0 none).doc in
+    let has : has_bracket doc brackets ≡ true = list_any_at (λ (b : Bracket). nat_eq b.doc doc) brackets 0 none (omega (arith, some)) (eq-eqb doc doc refl) in
+    let clash : false ≡ true = sym (are.met doc) ∙ has in
+    absurd (cc)
+lists_some (lane ∷ lanes) cut brackets are some = omega arith

@@ -8,7 +8,7 @@ use Rattle.std.proofs.lemmas.Bool.{cases_lt}
 use Rattle.std.proofs.lemmas.List.{flat_map_more}
 use Rattle.std.proofs.lemmas.List.Folds.{concat-append}
 use Rattle.ats_records.specs.Written.{Written, after, joined}
-use Rattle.ats_prover.specs.Writing.{put}
+use Rattle.ats_prover.specs.Writing.{IsStarted, put}
 
 joined_twice : (kept : Option (List ℕ)) (a b : List ℕ) → joined (joined kept a) b ≡ joined kept (a ++ b)
 joined_twice None a b = refl
@@ -44,9 +44,16 @@ put_more spell w front xs i x d bytes inside is same =
 three_more : (a b c d : List (List ℕ)) → a ++ (b ++ c ++ d) ≡ a ++ b ++ c ++ d
 three_more a b c d = sym (append_assoc a (b ++ c) d) ∙ ap (λ (xs : List (List ℕ)). xs ++ d) (sym (append_assoc a b c))
 
--- all parts of a proof, of which one is empty
-pub put_all : (w : Written) (a b c d e f g : List (List ℕ)) → put (put (put w a) (b ++ c ++ d)) (e ++ f ++ g) ≡ put w (a ++ b ++ c ++ d ++ e ++ f ++ [] ++ g)
-put_all w a b c d e f g =
+four_more : (a b c d e : List (List ℕ)) → a ++ (b ++ c ++ d ++ e) ≡ a ++ b ++ c ++ d ++ e
+four_more a b c d e = sym (append_assoc a (b ++ c ++ d) e) ∙ ap (λ (xs : List (List ℕ)). xs ++ e) (three_more a b c d)
+
+-- all parts of a proof
+pub put_all : (w : Written) (a b c d e f g h : List (List ℕ)) → put (put (put w a) (b ++ c ++ d)) (e ++ f ++ g ++ h) ≡ put w (a ++ b ++ c ++ d ++ e ++ f ++ g ++ h)
+put_all w a b c d e f g h =
     let left : List (List ℕ) = a ++ b ++ c ++ d in
-    ap (λ (v : Written). put v (e ++ f ++ g)) (put_put w a (b ++ c ++ d) ∙ ap (put w) (three_more a b c d))
-    ∙ put_put w left (e ++ f ++ g) ∙ ap (put w) (three_more left e f g ∙ ap (λ (xs : List (List ℕ)). xs ++ g) (sym (append-nil (left ++ e ++ f))))
+    ap (λ (v : Written). put v (e ++ f ++ g ++ h)) (put_put w a (b ++ c ++ d) ∙ ap (put w) (three_more a b c d))
+    ∙ put_put w left (e ++ f ++ g ++ h) ∙ ap (put w) (four_more left e f g h)
+
+-- nothing behind bytes that were asked for
+pub started : (v w : Written) (bytes : List ℕ) → w ≡ after v bytes → IsStarted w
+started v w bytes is = ap (λ (x : Written). after x []) is ∙ after_twice v bytes [] ∙ ap (after v) (append-nil bytes) ∙ sym is

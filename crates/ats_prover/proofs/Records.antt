@@ -6,12 +6,15 @@ use Rattle.std.proofs.Math.Nat.{mod-lt, div-lt_iff_lt-mul, pow-succ'}
 use Rattle.ats_dict.specs.Entry.{DictEntry, dict_leaf_bytes}
 use Rattle.ats_dict.specs.Header.{header_bytes}
 use Rattle.ats_dict.specs.declared.header.Header.{Header}
-use Rattle.ats_records.specs.declared.record.Algorithm.TheVariants.{Tnra}
+use Rattle.ats_doctree.specs.Sentinels.{leaf_bytes}
+use Rattle.ats_doctree.specs.declared.doc_leaf.DocLeaf.{DocLeaf}
+use Rattle.ats_records.specs.declared.record.Algorithm.{Algorithm}
+use Rattle.ats_records.specs.declared.record.Algorithm.TheVariants.{Tra, Tnra}
 use Rattle.ats_records.specs.declared.record.Slot.{Slot}
-use Rattle.ats_records.specs.Records.{front_record, dict_leaf_record, slot_record, entry_record, kind_byte}
-use Rattle.std.specs.Prelude.{None}
+use Rattle.ats_records.specs.Records.{algorithm_byte, front_record, dict_leaf_record, doc_leaf_record, slot_record, entry_record, kind_byte, term_leaf_record}
+use Rattle.std.specs.Prelude.{Option, Some, None}
 use Rattle.ats_proof.specs.Parts.{spelled}
-use Rattle.ats_proof.specs.Value.{front_fields, header_fields, entry_fields, slot_fields, posting_fields}
+use Rattle.ats_proof.specs.Value.{Documents, doc_fields, front_fields, header_fields, entry_fields, number_of_algorithm, slot_fields, posting_fields, term_fields}
 use Rattle.ats_proof.proofs.Encoding.{be_2, be_4}
 use Rattle.ats_proof.proofs.Numbers.{AreBytes, number-spelled}
 
@@ -57,15 +60,37 @@ pub posting_is : (index impact : ℕ) → index < 2 ^ 32 → impact < 2 ^ 16
     → entry_record index impact ≡ concat (posting_fields (record { doc = index; impact = impact }))
 posting_is index impact few small = ap₂ (λ (xs ys : List ℕ). xs ++ ys) (spelled_4 index few) (spelled_2 impact small)
 
-pub front_is : (h : Header) (n : ℕ) → h.documents < 2 ^ 32 → h.dict_leaves < 2 ^ 32 → n < 2 ^ 16
-    → front_record Tnra h n ≡ concat (front_fields None ++ header_fields h ++ spelled 2 n ∷ [])
+pub doc_is : (leaf : DocLeaf) → leaf.leaves < 2 ^ 32 → doc_leaf_record leaf ≡ concat (doc_fields leaf)
+doc_is leaf few = ap₂ (λ (xs ys : List ℕ). xs ++ ys) (spelled_4 leaf.leaves few) (sym (append-nil leaf.root))
+
+pub term_is : (p : ℕ) (term : List ℕ) (impact : ℕ) → p < 2 ^ 32 → impact < 2 ^ 16 → term_leaf_record p term impact ≡ concat (term_fields (record { position = p; term = (term, impact) }))
+unfolding leaf_bytes
+term_is p term impact few small =
+    let leaf : length term ∷ (term ++ to_be_bytes w16 impact) ≡ spelled 1 (length term) ++ (term ++ (spelled 2 impact ++ [])) =
+    ap₂ (λ (n : List ℕ) (xs : List ℕ). n ++ (term ++ xs)) (sym (spelled_1 (length term))) (spelled_2 impact small ∙ sym (append-nil (spelled 2 impact))) in
+    ap₂ (λ (xs ys : List ℕ). xs ++ ys) (spelled_4 p few) leaf
+
+-- the header and the number of terms
+header_is : (h : Header) (n : ℕ) → h.documents < 2 ^ 32 → h.dict_leaves < 2 ^ 32 → n < 2 ^ 16
+    → header_bytes h.documents h.dict_leaves h.dict_root h.docs_root h.texts_root ++ to_be_bytes w16 n ≡ concat (header_fields h ++ spelled 2 n ∷ [])
 unfolding header_bytes
-front_is h n documents leaves few =
+header_is h n documents leaves few =
     let three : List ℕ = (h.dict_root ++ h.docs_root) ++ h.texts_root in
     let tail : three ++ to_be_bytes w16 n ≡ h.dict_root ++ (h.docs_root ++ (h.texts_root ++ spelled 2 n)) =
     append_assoc (h.dict_root ++ h.docs_root) h.texts_root (to_be_bytes w16 n)
     ∙ append_assoc h.dict_root h.docs_root (h.texts_root ++ to_be_bytes w16 n)
     ∙ ap (λ (xs : List ℕ). h.dict_root ++ (h.docs_root ++ (h.texts_root ++ xs))) (spelled_2 n few) in
-    let Front : List ℕ → List ℕ → List ℕ → List ℕ = λ (d e xs : List ℕ). 65 ∷ 84 ∷ 83 ∷ 80 ∷ 1 ∷ 2 ∷ 1 ∷ (d ++ (e ++ xs)) in
+    let Front : List ℕ → List ℕ → List ℕ → List ℕ = λ (d e xs : List ℕ). 1 ∷ (d ++ (e ++ xs)) in
     ap (Front (to_be_bytes w32 h.documents) (to_be_bytes w32 h.dict_leaves)) tail
     ∙ ap₂ (λ (d e : List ℕ). Front d e (h.dict_root ++ (h.docs_root ++ (h.texts_root ++ spelled 2 n)))) (spelled_4 h.documents documents) (spelled_4 h.dict_leaves leaves)
+
+-- documents stand in the proofs of an algorithm, or do not
+abbrev pub IsKindOf : Algorithm → Option Documents → Type 0
+IsKindOf algorithm docs = algorithm_byte algorithm ≡ number_of_algorithm docs
+
+pub front_is : (algorithm : Algorithm) (docs : Option Documents) (h : Header) (n : ℕ) → IsKindOf algorithm docs → h.documents < 2 ^ 32 → h.dict_leaves < 2 ^ 32 → n < 2 ^ 16
+    → front_record algorithm h n ≡ concat (front_fields docs ++ header_fields h ++ spelled 2 n ∷ [])
+front_is Tnra None h n kind documents leaves few = ap (λ (xs : List ℕ). 65 ∷ 84 ∷ 83 ∷ 80 ∷ 1 ∷ 2 ∷ xs) (header_is h n documents leaves few)
+front_is Tra (Some docs) h n kind documents leaves few = ap (λ (xs : List ℕ). 65 ∷ 84 ∷ 83 ∷ 80 ∷ 1 ∷ 1 ∷ xs) (header_is h n documents leaves few)
+front_is Tnra (Some docs) h n kind documents leaves few = absurd (omega (arith, kind))
+front_is Tra None h n kind documents leaves few = absurd (omega (arith, kind))

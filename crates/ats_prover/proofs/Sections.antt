@@ -11,7 +11,7 @@ use Rattle.ats_prover.specs.Terms.{slot_of}
 use Rattle.ats_prover.specs.Documents.{AreHonestSections, HasDocuments, IsHonestSection, IsTermSpot, document_leaf}
 use Rattle.ats_prover.proofs.Spots.{spots_each}
 
-section_each : (H : List ℕ → List ℕ) (texts : List (List ℕ)) (terms : List (List ℕ × ℕ)) (met : List ℕ) (sections : List TermsSection)
+pub section_each : (H : List ℕ → List ℕ) (texts : List (List ℕ)) (terms : List (List ℕ × ℕ)) (met : List ℕ) (sections : List TermsSection)
     → AreHonestSections H texts terms met sections → length sections ≡ length met
 section_each H texts terms [] [] are = refl
 section_each H texts terms [] (section ∷ sections) are = absurd are

@@ -1,5 +1,5 @@
 -- The honest proof, put together.
-use Rattle.std.proofs.Common.{◌≡◌, ◌^◌, ◌<◌, ◌≤◌, ◌++◌, ℕ, zero, suc, Bool, true, cond, nat_lt, List, [], ◌∷◌, length, map, take, get_or, None, refl, sym, ap, ap₂, subst, ◌∙◌, arith, append-nil}
+use Rattle.std.proofs.Common.{◌≡◌, ◌^◌, ◌<◌, ◌≤◌, ◌++◌, ℕ, zero, suc, Bool, true, cond, nat_lt, List, [], ◌∷◌, length, map, take, get_or, Option, Some, None, refl, sym, ap, ap₂, subst, ◌∙◌, arith, append-nil}
 use Rattle.std.specs.List.{All, concat, count_by, flat_map, list_any, range_with_len}
 use Rattle.std.specs.Str.{bytes_eq}
 use Rattle.std.proofs.lemmas.List.{length-map, get_or-map, length-take-le}
@@ -19,7 +19,7 @@ use Rattle.ats_lists.specs.declared.entry.Entry.{Entry}
 use Rattle.ats_lists.proofs.VocabularyLemmas.{vocabulary_has, postings_frequency}
 use Rattle.ats_dict.specs.Entry.{DictEntry}
 use Rattle.ats_dict.specs.Dictionary.{IsDictionary, low, dict_leaves}
-use Rattle.ats_dict.specs.Found.{StandsAt}
+use Rattle.ats_dict.specs.Found.{IsSpot, StandsAt}
 use Rattle.ats_dict.specs.Header.{IsHeader}
 use Rattle.ats_dict.specs.declared.spot.Spot.{Spot}
 use Rattle.ats_dict.specs.declared.spot.Spot.TheVariants.{At, Between}
@@ -31,20 +31,21 @@ use Rattle.ats_commit.proofs.DictionaryLemmas.{dictionary_terms}
 use Rattle.ats_index.specs.Parts.{header_parts}
 use Rattle.ats_bound.specs.declared.bracket.Bracket.{Bracket}
 use Rattle.ats_bound.specs.Chosen.{IsChosen}
-use Rattle.ats_bound.specs.Schedule.{WholeLane, AreWholeLanes, AreBracketsOf, IsFirstSettled, shown}
+use Rattle.ats_bound.specs.Schedule.{WholeLane, AreWholeLanes, AreBracketsBy, IsFirstSettledBy, shown}
 use Rattle.ats_bound.proofs.Shown.{have_entries, scheduled_is_cut}
 use Rattle.ats_dict.specs.declared.header.Header.{Header}
 use Rattle.ats_records.specs.Records.{front_record}
 use Rattle.ats_records.specs.Written.{Written, after, writing}
 use Rattle.ats_records.specs.declared.record.Algorithm.{Algorithm}
-use Rattle.ats_records.specs.declared.record.Algorithm.TheVariants.{Tnra}
+use Rattle.ats_records.specs.declared.record.Algorithm.TheVariants.{Tra, Tnra}
 use Rattle.ats_proof.specs.Parts.{counted, spelled}
-use Rattle.ats_proof.specs.Value.{Proof, AreDocumentsOf, fields_of, front_fields, header_fields, entry_fields, digest_fields, slot_fields, id_fields, prefix_fields, kind_of_slot, present_in}
-use Rattle.ats_prover.specs.Writing.{IsWritten, put}
+use Rattle.ats_proof.specs.Value.{Documents, Proof, AreDocumentsOf, documents_fields, fields_of, front_fields, header_fields, entry_fields, digest_fields, slot_fields, id_fields, prefix_fields, kind_of_slot, number_of_algorithm, present_in}
+use Rattle.ats_prover.specs.Writing.{AreInOrder, IsWritten, put}
 use Rattle.ats_prover.proofs.Putting.{put_all}
-use Rattle.ats_prover.proofs.Records.{front_is}
+use Rattle.ats_prover.proofs.Records.{IsKindOf, front_is}
 use Rattle.ats_prover.specs.Terms.{AreSpots, AreNeeded, shown_entry, slot_of}
-use Rattle.ats_prover.specs.Lanes.{lane_of, lanes_of, present}
+use Rattle.ats_prover.specs.Documents.{HasDocuments}
+use Rattle.ats_prover.specs.Lanes.{bounding, lane_of, lanes_of, present}
 use Rattle.ats_prover.specs.Honest.{IsHonest, IsProved, IsTooLong, length_of, placed, prefix_of, prefixes}
 use Rattle.ats_prover.proofs.Elided.{dictionary_few, prefix_few}
 use Rattle.ats_prover.proofs.Spots.{spot_each}
@@ -53,11 +54,11 @@ use Rattle.ats_prover.proofs.Fronts.{prefix_each, range_below}
 use Rattle.ats_prover.proofs.MetDocuments.{met_rises, met_below, rising_few, lists_below}
 use Rattle.ats_prover.proofs.Coming.{IsGoodPrefix, IsInRange, come_proof}
 use Rattle.ats_prover.proofs.Sections.{are_documents}
-use Rattle.ats_prover.proofs.Ranges.{elided_sized, good_entries, good_ids, good_slots, positions_below, positions_some}
+use Rattle.ats_prover.proofs.Ranges.{elided_sized, good_entries, good_ids, good_slots, positions_below, some_needed}
 
 -- ---- as many lists as present slots
 
-present_term : (H : List ℕ → List ℕ) (texts : List (List ℕ)) (term : List ℕ) (p : ℕ) → StandsAt (dictionary_of H (archive_of texts)) term (suc p) → nat_lt 0 (frequency term texts) ≡ true
+pub present_term : (H : List ℕ → List ℕ) (texts : List (List ℕ)) (term : List ℕ) (p : ℕ) → StandsAt (dictionary_of H (archive_of texts)) term (suc p) → nat_lt 0 (frequency term texts) ≡ true
 present_term H texts term p is =
     let entries = dictionary_of H (archive_of texts) in
     let terms : List (List ℕ) = map (λ (e : DictEntry). e.term) entries in
@@ -142,7 +143,7 @@ small_rows brackets r picks few is = subst (All (λ n. n ≤ 0xffff_ffff)) (sym 
 -- ---- all together
 
 -- what a walk and the dictionary give to a proof
-pub record HasParts (H : List ℕ → List ℕ) (texts : List (List ℕ)) (query : List (List ℕ × ℕ)) (r : ℕ) (spots : List Spot) (positions cut : List ℕ) (brackets : List Bracket) (picks : List ℕ) : Type 0 where
+pub record HasParts (H : List ℕ → List ℕ) (texts : List (List ℕ)) (query : List (List ℕ × ℕ)) (r : ℕ) (algorithm : Algorithm) (spots : List Spot) (positions cut : List ℕ) (brackets : List Bracket) (docs : Option Documents) (picks : List ℕ) : Type 0 where
   pub sized : (bytes : List ℕ) → length (H bytes) ≡ 32
   pub dictionary : IsDictionary (dictionary_of H (archive_of texts))
   pub front : IsHeader (header_parts H (archive_of texts)).documents (header_parts H (archive_of texts)).dict_leaves (header_parts H (archive_of texts)).dict_root (header_parts H (archive_of texts)).docs_root (header_parts H (archive_of texts)).texts_root
@@ -152,29 +153,31 @@ pub record HasParts (H : List ℕ → List ℕ) (texts : List (List ℕ)) (query
   pub positions_few : length positions ≤ 64
   pub whole : AreWholeLanes (lanes_of texts query)
   pub lists : All (λ (lane : WholeLane). IsList 65536 lane.entries) (lanes_of texts query)
-  pub first : IsFirstSettled (lanes_of texts query) r cut
-  pub bounds : AreBracketsOf (shown (lanes_of texts query) cut) brackets
+  pub first : IsFirstSettledBy (bounding algorithm (lanes_of texts query)) (lanes_of texts query) r cut
+  pub bounds : AreBracketsBy (bounding algorithm (lanes_of texts query)) (shown (lanes_of texts query) cut) brackets
+  pub documents : HasDocuments algorithm H texts (present texts query) (map (λ (b : Bracket). b.doc) brackets) docs
+  pub documents_come : AreInOrder (length (map (λ (b : Bracket). b.doc) brackets)) (length (present texts query)) docs
   pub chosen : IsChosen brackets r picks
   pub rows : length picks ≤ 1000
 
 abbrev pub docs_of : List Bracket → List ℕ
 docs_of brackets = map (λ (b : Bracket). b.doc) brackets
 
-abbrev pub proof_of : (List ℕ → List ℕ) → List (List ℕ) → List (List ℕ × ℕ) → List Spot → List ℕ → List ℕ → List Bracket → List ℕ → Proof
-proof_of H texts query spots positions cut brackets picks = record {
+abbrev pub proof_of : (List ℕ → List ℕ) → List (List ℕ) → List (List ℕ × ℕ) → List Spot → List ℕ → List ℕ → List Bracket → Option Documents → List ℕ → Proof
+proof_of H texts query spots positions cut brackets docs picks = record {
   header = header_parts H (archive_of texts);
   dict = map (shown_entry (dictionary_of H (archive_of texts))) positions;
   dict_digests = elided_digests H (dict_leaves (dictionary_of H (archive_of texts))) positions;
   slots = map (slot_of positions) spots;
   met = docs_of brackets;
   lists = prefixes H whole_lists (docs_of brackets) (lanes_of texts query) cut;
-  docs = None;
+  docs = docs;
   answer = picks;
 }
 
-pub is_honest : (H : List ℕ → List ℕ) (texts : List (List ℕ)) (query : List (List ℕ × ℕ)) (r : ℕ) (spots : List Spot) (positions cut : List ℕ) (brackets : List Bracket) (picks : List ℕ)
-    → HasParts H texts query r spots positions cut brackets picks → IsHonest H (archive_of texts) query r Tnra (proof_of H texts query spots positions cut brackets picks)
-is_honest H texts query r spots positions cut brackets picks parts = record {
+pub is_honest : (H : List ℕ → List ℕ) (texts : List (List ℕ)) (query : List (List ℕ × ℕ)) (r : ℕ) (algorithm : Algorithm) (spots : List Spot) (positions cut : List ℕ) (brackets : List Bracket) (docs : Option Documents) (picks : List ℕ)
+    → HasParts H texts query r algorithm spots positions cut brackets docs picks → IsHonest H (archive_of texts) query r algorithm (proof_of H texts query spots positions cut brackets docs picks)
+is_honest H texts query r algorithm spots positions cut brackets docs picks parts = record {
   spots = spots;
   found = parts.found;
   positions = positions;
@@ -190,77 +193,85 @@ is_honest H texts query r spots positions cut brackets picks parts = record {
   slots = refl;
   met = refl;
   lists = refl;
-  docs = refl;
+  docs = parts.documents;
   answer = parts.chosen;
 }
 
-pub lists_each : (H : List ℕ → List ℕ) (texts : List (List ℕ)) (query : List (List ℕ × ℕ)) (r : ℕ) (spots : List Spot) (positions cut : List ℕ) (brackets : List Bracket) (picks : List ℕ)
-    → HasParts H texts query r spots positions cut brackets picks → length (prefixes H whole_lists (docs_of brackets) (lanes_of texts query) cut) ≡ present_in (map (slot_of positions) spots)
-lists_each H texts query r spots positions cut brackets picks parts =
+pub lists_each : (H : List ℕ → List ℕ) (texts : List (List ℕ)) (query : List (List ℕ × ℕ)) (r : ℕ) (algorithm : Algorithm) (spots : List Spot) (positions cut : List ℕ) (brackets : List Bracket) (docs : Option Documents) (picks : List ℕ)
+    → HasParts H texts query r algorithm spots positions cut brackets docs picks → length (prefixes H whole_lists (docs_of brackets) (lanes_of texts query) cut) ≡ present_in (map (slot_of positions) spots)
+lists_each H texts query r algorithm spots positions cut brackets docs picks parts =
     let is_cut = scheduled_is_cut (lanes_of texts query) parts.first.turns cut (have_entries (lanes_of texts query) parts.whole) parts.first.scheduled in
     prefix_each H (docs_of brackets) (lanes_of texts query) cut is_cut.size ∙ lanes_each H texts query positions spots parts.found
 
-pub is_in_range : (H : List ℕ → List ℕ) (texts : List (List ℕ)) (query : List (List ℕ × ℕ)) (r : ℕ) (spots : List Spot) (positions cut : List ℕ) (brackets : List Bracket) (picks : List ℕ)
-    → HasParts H texts query r spots positions cut brackets picks → IsInRange (proof_of H texts query spots positions cut brackets picks)
-is_in_range H texts query r spots positions cut brackets picks parts =
+pub is_in_range : (H : List ℕ → List ℕ) (texts : List (List ℕ)) (query : List (List ℕ × ℕ)) (r : ℕ) (algorithm : Algorithm) (spots : List Spot) (positions cut : List ℕ) (brackets : List Bracket) (docs : Option Documents) (picks : List ℕ)
+    → HasParts H texts query r algorithm spots positions cut brackets docs picks → IsInRange (proof_of H texts query spots positions cut brackets docs picks)
+is_in_range H texts query r algorithm spots positions cut brackets docs picks parts =
     let entries = dictionary_of H (archive_of texts) in
     let lanes = lanes_of texts query in
     let leaves = dict_leaves entries in
-    let docs = docs_of brackets in
+    let ids = docs_of brackets in
     let is_cut = scheduled_is_cut lanes parts.first.turns cut (have_entries lanes parts.whole) parts.first.scheduled in
     let rises = met_rises (shown lanes cut) brackets parts.bounds in
     let below = met_below 65536 lanes cut brackets (lists_below lanes parts.lists) parts.bounds in
-    let few : length docs ≤ 65536 = rising_few 65536 docs rises below in
+    let few : length ids ≤ 65536 = rising_few 65536 ids rises below in
     let terms : length (map (slot_of positions) spots) ≡ length query = length-map spots (slot_of positions) ∙ spot_each entries query spots parts.found in
     let shown_size = length-map positions (shown_entry entries) in
     let inside = positions_below entries query spots positions parts.found parts.needed in record {
       front = parts.front;
       terms = (omega (arith, terms, parts.is_query.some), omega (arith, terms, parts.is_query.few));
-      leaves = (omega (arith, shown_size, positions_some entries query spots positions parts.is_query.some parts.found parts.needed), omega (arith, shown_size, parts.positions_few));
+      leaves = (omega (arith, shown_size, some_needed (IsSpot entries) query spots positions parts.is_query.some parts.found parts.needed), omega (arith, shown_size, parts.positions_few));
       entries = good_entries entries positions 0 parts.dictionary parts.needed.rise (λ k d less. omega arith) inside;
       others = record {
         few = omega (arith, dictionary_few H leaves positions (omega (arith, length-dict_leaves entries, parts.dictionary.few)) parts.positions_few);
         each = elided_sized H parts.sized (tree_of_places (length leaves) (shown_with leaves positions)) (tree_of leaves);
       };
       places = good_slots entries positions query spots parts.dictionary parts.positions_few parts.is_query.rises parts.found;
-      ids = (few, good_ids docs 0 rises (λ k d less. omega arith) below);
-      prefix_each = lists_each H texts query r spots positions cut brackets picks parts;
-      fronts = good_prefixes H parts.sized docs lanes cut few parts.lists is_cut.each;
+      ids = (few, good_ids ids 0 rises (λ k d less. omega arith) below);
+      prefix_each = lists_each H texts query r algorithm spots positions cut brackets docs picks parts;
+      fronts = good_prefixes H parts.sized ids lanes cut few parts.lists is_cut.each;
       rows = (parts.rows, small_rows brackets r picks (omega (arith, few, length-map brackets (λ (b : Bracket). b.doc))) parts.chosen);
-      alone = refl;
+      documents = subst (λ (n : ℕ). AreInOrder (length ids) n docs) (sym (prefix_each H ids lanes cut is_cut.size ∙ length-map (present texts query) (lane_of texts))) parts.documents_come;
     }
 
 -- the parts of the honest proof were asked for, one behind another
-pub written : (H : List ℕ → List ℕ) (texts : List (List ℕ)) (query : List (List ℕ × ℕ)) (r : ℕ) (spots : List Spot) (positions cut : List ℕ) (brackets : List Bracket) (picks : List ℕ) (w x y z : Written)
-    → HasParts H texts query r spots positions cut brackets picks
-    → x ≡ put w (front_fields None ++ header_fields (header_parts H (archive_of texts)) ++ spelled 2 (length (map (slot_of positions) spots)) ∷ [])
+pub written : (H : List ℕ → List ℕ) (texts : List (List ℕ)) (query : List (List ℕ × ℕ)) (r : ℕ) (algorithm : Algorithm) (spots : List Spot) (positions cut : List ℕ) (brackets : List Bracket) (docs : Option Documents) (picks : List ℕ) (w x y z : Written)
+    → HasParts H texts query r algorithm spots positions cut brackets docs picks
+    → x ≡ put w (front_fields docs ++ header_fields (header_parts H (archive_of texts)) ++ spelled 2 (length (map (slot_of positions) spots)) ∷ [])
     → y ≡ put x (counted 2 entry_fields (map (shown_entry (dictionary_of H (archive_of texts))) positions) ++ counted 2 digest_fields (elided_digests H (dict_leaves (dictionary_of H (archive_of texts))) positions)
     ++ flat_map slot_fields (map (slot_of positions) spots))
-    → z ≡ put y (counted 4 id_fields (docs_of brackets) ++ flat_map prefix_fields (prefixes H whole_lists (docs_of brackets) (lanes_of texts query) cut) ++ counted 2 id_fields picks)
-    → length_of (proof_of H texts query spots positions cut brackets picks) ≤ 2 ^ 26
-    → IsWritten H (archive_of texts) query r Tnra w z
-written H texts query r spots positions cut brackets picks w x y z parts front terms walk short =
-    let proof = proof_of H texts query spots positions cut brackets picks in
-    let a : List (List ℕ) = front_fields None ++ header_fields (header_parts H (archive_of texts)) ++ spelled 2 (length (map (slot_of positions) spots)) ∷ [] in
+    → z ≡ put y (counted 4 id_fields (docs_of brackets) ++ flat_map prefix_fields (prefixes H whole_lists (docs_of brackets) (lanes_of texts query) cut) ++ documents_fields docs ++ counted 2 id_fields picks)
+    → (algorithm ≡ Tnra → length_of (proof_of H texts query spots positions cut brackets docs picks) ≤ 2 ^ 26)
+    → IsWritten H (archive_of texts) query r algorithm w z
+written H texts query r algorithm spots positions cut brackets docs picks w x y z parts front terms walk short =
+    let proof = proof_of H texts query spots positions cut brackets docs picks in
+    let a : List (List ℕ) = front_fields docs ++ header_fields (header_parts H (archive_of texts)) ++ spelled 2 (length (map (slot_of positions) spots)) ∷ [] in
     let b : List (List ℕ) = counted 2 entry_fields (map (shown_entry (dictionary_of H (archive_of texts))) positions) in
     let c : List (List ℕ) = counted 2 digest_fields (elided_digests H (dict_leaves (dictionary_of H (archive_of texts))) positions) in
     let d : List (List ℕ) = flat_map slot_fields (map (slot_of positions) spots) in
     let e : List (List ℕ) = counted 4 id_fields (docs_of brackets) in
     let f : List (List ℕ) = flat_map prefix_fields (prefixes H whole_lists (docs_of brackets) (lanes_of texts query) cut) in
-    let g : List (List ℕ) = counted 2 id_fields picks in record {
+    let g : List (List ℕ) = documents_fields docs in
+    let h : List (List ℕ) = counted 2 id_fields picks in record {
       proof = proof;
-      honest = is_honest H texts query r spots positions cut brackets picks parts;
-      come = come_proof proof (is_in_range H texts query r spots positions cut brackets picks parts);
-      prefix_each = lists_each H texts query r spots positions cut brackets picks parts;
-      asked = walk ∙ ap (λ (v : Written). put v (e ++ f ++ g)) (terms ∙ ap (λ (v : Written). put v (b ++ c ++ d)) front) ∙ put_all w a b c d e f g;
-      short = λ _. short;
+      honest = is_honest H texts query r algorithm spots positions cut brackets docs picks parts;
+      come = come_proof proof (is_in_range H texts query r algorithm spots positions cut brackets docs picks parts);
+      prefix_each = lists_each H texts query r algorithm spots positions cut brackets docs picks parts;
+      asked = walk ∙ ap (λ (v : Written). put v (e ++ f ++ g ++ h)) (terms ∙ ap (λ (v : Written). put v (b ++ c ++ d)) front) ∙ put_all w a b c d e f g h;
+      short = short;
     }
 
+-- whose proofs documents stand in
+pub kind_of_documents : (H : List ℕ → List ℕ) (texts : List (List ℕ)) (terms : List (List ℕ × ℕ)) (met : List ℕ) (algorithm : Algorithm) (docs : Option Documents)
+    → HasDocuments algorithm H texts terms met docs → IsKindOf algorithm docs
+kind_of_documents H texts terms met Tnra docs are = ap number_of_algorithm (sym are)
+kind_of_documents H texts terms met Tra None are = absurd are
+kind_of_documents H texts terms met Tra (Some docs) are = refl
+
 -- the first record is the first fields
-pub front_put : (algorithm : Algorithm) (h own : Header) (n m : ℕ) (w : Written) → algorithm ≡ Tnra → h ≡ own → n ≡ m → own.documents < 2 ^ 32 → own.dict_leaves < 2 ^ 32 → m < 2 ^ 16
-    → after w (front_record algorithm h n) ≡ put w (front_fields None ++ header_fields own ++ spelled 2 m ∷ [])
-front_put algorithm h own n m w tnra header number documents leaves few =
-    ap (after w) (ap (λ (x : Algorithm). front_record x h n) tnra ∙ ap₂ (λ (x : Header) (k : ℕ). front_record Tnra x k) header number ∙ front_is own m documents leaves few)
+pub front_put : (algorithm : Algorithm) (docs : Option Documents) (h own : Header) (n m : ℕ) (w : Written) → IsKindOf algorithm docs → h ≡ own → n ≡ m → own.documents < 2 ^ 32 → own.dict_leaves < 2 ^ 32 → m < 2 ^ 16
+    → after w (front_record algorithm h n) ≡ put w (front_fields docs ++ header_fields own ++ spelled 2 m ∷ [])
+front_put algorithm docs h own n m w kind header number documents leaves few =
+    ap (after w) (ap₂ (λ (x : Header) (k : ℕ). front_record algorithm x k) header number ∙ front_is algorithm docs own m kind documents leaves few)
 
 -- an index is built in the one layout
 pub as_built : (archive : Archive) → archive ≡ archive_of archive.texts

@@ -1,19 +1,70 @@
 -- Fields that are asked of a writer.
-use Rattle.std.specs.Prelude.{◌≡◌, ◌≤◌, ◌^◌, ℕ, List, length}
-use Rattle.std.specs.List.{concat}
-use Rattle.ats_commit.specs.Archive.{Archive}
+use Rattle.std.specs.Prelude.{◌≡◌, ◌≤◌, ◌^◌, ◌++◌, ◌==◌, ℕ, List, [], length, Option}
+use Rattle.std.specs.List.{All, concat, flat_map}
+use Rattle.ats_commit.specs.Archive.{Archive, whole_lists}
+use Rattle.ats_bound.specs.Schedule.{WholeLane}
 use Rattle.ats_records.specs.Written.{Written, after}
 use Rattle.ats_records.specs.declared.record.Algorithm.{Algorithm}
 use Rattle.ats_records.specs.declared.record.Algorithm.TheVariants.{Tnra}
-use Rattle.ats_grammar.specs.Table.{End}
+use Rattle.ats_grammar.specs.Table.{Table, End}
 use Rattle.ats_grammar.specs.Front.{Come}
 use Rattle.ats_grammar.specs.Grammar as grammar
-use Rattle.ats_proof.specs.Value.{Proof, fields_of, present_in}
-use Rattle.ats_prover.specs.Honest.{IsHonest, length_of}
+use Rattle.ats_proof.specs.Parts.{counted}
+use Rattle.ats_proof.specs.Value.{Documents, Proof, TermsSection, documents_fields, fields_of, id_fields, number_of_algorithm, prefix_fields, present_in, section_fields}
+use Rattle.ats_prover.specs.Documents.{AreHonestSections, HasDocuments, IsHonestSection}
+use Rattle.ats_prover.specs.Honest.{IsHonest, length_of, prefixes}
 
 -- the bytes of these fields were asked for, one field behind another
 abbrev pub put : Written → List (List ℕ) → Written
 put written fields = after written (concat fields)
+
+-- nothing more that is asked for changes nothing, as where something was asked for before
+abbrev pub IsStarted : Written → Type 0
+IsStarted written = put written [] ≡ written
+
+-- the fields of a terms section with so many slots come in the grammar's order
+abbrev pub ComesIn : ℕ → TermsSection → Type 0
+ComesIn slots section = (rest : Table) → Come (section_fields section) (grammar.term_section slots rest) rest
+
+-- so do those of what is shown of so many met documents
+abbrev pub AreInOrder : (met slots : ℕ) → Option Documents → Type 0
+AreInOrder met slots docs = Come (documents_fields docs) (grammar.documents (number_of_algorithm docs == 1) met slots) grammar.answer
+
+-- the fields of an honest terms section were asked for
+pub record IsSectionWritten (H : List ℕ → List ℕ) (items terms : List (List ℕ × ℕ)) (before now : Written) : Type 0 where
+  pub section : TermsSection
+  pub honest : IsHonestSection H items terms section
+  pub come : ComesIn (length terms) section
+  pub asked : now ≡ put before (section_fields section)
+
+-- those of a section for each met document
+pub record AreSectionsWritten (H : List ℕ → List ℕ) (texts : List (List ℕ)) (terms : List (List ℕ × ℕ)) (met : List ℕ) (before now : Written) : Type 0 where
+  pub sections : List TermsSection
+  pub honest : AreHonestSections H texts terms met sections
+  pub come : All (ComesIn (length terms)) sections
+  pub asked : now ≡ put before (flat_map section_fields sections)
+
+-- those of all that is shown of the met documents
+pub record AreDocumentsWritten (algorithm : Algorithm) (H : List ℕ → List ℕ) (texts : List (List ℕ)) (terms : List (List ℕ × ℕ)) (met : List ℕ) (before now : Written) : Type 0 where
+  pub docs : Option Documents
+  pub honest : HasDocuments algorithm H texts terms met docs
+  pub come : AreInOrder (length met) (length terms) docs
+  pub asked : now ≡ put before (documents_fields docs)
+
+-- those of the met documents, the fronts of the lists, what is shown of the documents, and the answer
+pub record IsWalkWritten
+    (algorithm : Algorithm)
+    (H : List ℕ → List ℕ)
+    (texts : List (List ℕ))
+    (terms : List (List ℕ × ℕ))
+    (lanes : List WholeLane)
+    (met cut picks : List ℕ)
+    (before now : Written)
+    : Type 0 where
+  pub docs : Option Documents
+  pub honest : HasDocuments algorithm H texts terms met docs
+  pub come : AreInOrder (length met) (length terms) docs
+  pub asked : now ≡ put before (counted 4 id_fields met ++ flat_map prefix_fields (prefixes H whole_lists met lanes cut) ++ documents_fields docs ++ counted 2 id_fields picks)
 
 -- all fields of the honest proof were asked for, and they come in the grammar's order
 pub record IsWritten (H : List ℕ → List ℕ) (archive : Archive) (query : List (List ℕ × ℕ)) (r : ℕ) (algorithm : Algorithm) (before now : Written) : Type 0 where

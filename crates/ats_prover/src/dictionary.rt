@@ -11,9 +11,10 @@ ghost use Rattle.ats_prover.specs.Terms.{AreNeeded, AreSpots, lower, needs, plac
 ghost use Rattle.ats_prover.specs.Writing.{put};
 
 use crate::fault::OutOfMemory;
+use crate::shown::{write_digests, write_slots};
 use ats_dict::{Dictionary, Spot};
 use ats_hash::{Hash32, Steps};
-use ats_records::{ProofWriter, Slot};
+use ats_records::ProofWriter;
 use ats_terms::Query;
 use ats_tree::{Digests, Leaves, elided};
 use std::alloc::Global;
@@ -37,59 +38,6 @@ pub(crate) fn spots(
     Ok(spots)
 }
 
-// The positions that the terms need, term by term.
-fn all_needed(alloc: Global, spots: &[Spot]) -> Result<Vec<u32>, OutOfMemory>
-    requires low { All (λ spot. lower spot ≤ 2 ^ 24) spots.now }
-    ensures { IfOk result (λ positions. positions.items ≡ flat_map needs spots.now) }
-{
-    let mut positions = Vec::new(alloc);
-    for spot in spots {
-        match spot {
-            Spot::At(p) => positions.push(*p)?,
-            Spot::Between(p) => {
-                positions.push(*p)?;
-                positions.push(*p + 1)?;
-            }
-        }
-    }
-    Ok(positions)
-}
-
-/// The positions of the leaves that show where the terms stand.
-pub(crate) fn positions(alloc: Global, spots: &[Spot]) -> Result<Vec<u32>, OutOfMemory>
-    requires low { All (λ spot. lower spot ≤ 2 ^ 24) spots.now }
-    ensures needed { IfOk result (λ positions. AreNeeded spots.now positions.items) }
-    ensures few { IfOk result (λ positions. length positions.items ≤ 2 * length spots.now) }
-{
-    let mut positions = all_needed(alloc, spots)?;
-    positions.sort_unstable();
-    positions.dedup();
-    Ok(positions)
-}
-
-/// How many of some rising numbers are below this one.
-pub(crate) fn place(numbers: &[u32], number: u32) -> usize
-    requires { IsStrictlyIncreasing numbers.now }
-    ensures place { result ≡ place numbers.now number }
-    ensures within { result ≤ length numbers.now }
-{
-    numbers.partition_point(|n| *n < number)
-}
-
-/// Digests behind their number.
-pub(crate) fn write_digests(writer: &mut ProofWriter, digests: &Digests) -> Result<(), OutOfMemory>
-    requires few { length digests.now ≤ 65535 }
-    requires room { writer.old.asked ≤ 2 ^ 60 }
-    ensures fields { OnOk result (writer.new ≡ put writer.old (counted 2 digest_fields digests.now)) }
-    ensures size { OnOk result (writer.new.asked ≤ writer.old.asked + 2 ^ 22) }
-{
-    writer.count16(digests.len() as u16)?;
-    for digest in digests.as_slice() {
-        writer.digest(digest)?;
-    }
-    Ok(())
-}
-
 // The leaves at these positions, behind their number.
 fn write_leaves(
     writer: &mut ProofWriter,
@@ -108,24 +56,6 @@ fn write_leaves(
         writer.dict_leaf(*p, &dictionary.leaf(*p))?;
     }
     Ok(())
-}
-
-// Where the shown leaves show a term.
-fn slot(positions: &[u32], spot: &Spot) -> Slot
-    requires rise { IsStrictlyIncreasing positions.now }
-    requires few { length positions.now ≤ 64 }
-    ensures { result ≡ slot_of positions.now spot.now }
-{
-    match spot {
-        Spot::At(p) => Slot {
-            present: true,
-            index: place(positions, *p) as u16,
-        },
-        Spot::Between(p) => Slot {
-            present: false,
-            index: place(positions, *p) as u16,
-        },
-    }
 }
 
 // The leaves at these positions, and the digests that the tree needs besides them.
@@ -170,8 +100,5 @@ pub(crate) fn write_terms<H: Hash32>(
     ensures size { OnOk result (writer.new.asked ≤ writer.old.asked + 2 ^ 24) }
 {
     write_section::<H>(alloc, writer, dictionary, positions)?;
-    for spot in spots {
-        writer.slot(slot(positions, spot))?;
-    }
-    Ok(())
+    write_slots(writer, positions, spots)
 }

@@ -16,8 +16,8 @@ ghost use Rattle.ats_prover.specs.Honest.{placed, prefix_of, prefixes};
 ghost use Rattle.ats_prover.specs.Writing.{put};
 
 use crate::answer::write_met;
-use crate::dictionary::{place, write_digests};
 use crate::fault::OutOfMemory;
+use crate::shown::{place, write_digests};
 use ats_bound::Lane;
 use ats_hash::{Hash32, Steps};
 use ats_lists::{Entry, ListLeaves};

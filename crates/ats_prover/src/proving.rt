@@ -1,25 +1,28 @@
 //! The proof of a query's best documents.
 
-ghost use Rattle.std.specs.Prelude.{◌≡◌, ◌≤◌, ◌+◌, ◌^◌, ◌++◌, ℕ, List, length, map, IfOk, IfErr, OnOk};
-ghost use Rattle.std.specs.List.{All, flat_map};
+ghost use Rattle.std.specs.Prelude.{◌≡◌, ◌≤◌, ◌<◌, ◌^◌, ℕ, List, length, map, IfOk, IfErr, OnOk};
+ghost use Rattle.std.specs.List.{All};
 ghost use Rattle.ats_lists.specs.Lists.{IsList};
+ghost use Rattle.ats_lists.specs.declared.entry.Entry.{Entry as Posting};
 ghost use Rattle.ats_bound.specs.declared.bracket.Bracket.{Bracket as Bounds};
-ghost use Rattle.ats_bound.specs.Schedule.{AreBracketsOf, AreWholeLanes, shown, whole_lanes};
+ghost use Rattle.ats_bound.specs.Schedule.{AreBracketsBy, AreWholeLanes, shown, whole_lanes};
 ghost use Rattle.ats_bound.specs.Schedule.{IsCut};
-ghost use Rattle.ats_proof.specs.Parts.{counted};
-ghost use Rattle.ats_proof.specs.Value.{id_fields, prefix_fields};
 ghost use Rattle.ats_records.specs.declared.record.Algorithm.TheVariants.{Tnra};
-ghost use Rattle.ats_commit.specs.Archive.{whole_lists};
 ghost use Rattle.ats_proof.specs.Value.{Proof};
 ghost use Rattle.ats_prover.specs.declared.fault.ProveFault.TheVariants.{OutOfMemory as MemoryWanted};
-ghost use Rattle.ats_prover.specs.Honest.{IsHonest, IsProved, IsFault, IsAnswerWithin, length_of, prefixes};
-ghost use Rattle.ats_prover.specs.Writing.{IsWritten, put};
+ghost use Rattle.ats_prover.specs.Lanes.{bounding};
+ghost use Rattle.ats_prover.specs.Honest.{IsHonest, IsProved, IsFault, IsAnswerWithin, length_of};
+ghost use Rattle.ats_prover.specs.Writing.{IsWalkWritten, IsWritten};
 
 use crate::answer::{documents, write_answer};
-use crate::dictionary::{positions, spots, write_terms};
+use crate::dictionary::{spots, write_terms};
+use crate::documents::write_documents;
 use crate::fault::{OutOfMemory, ProveFault};
 use crate::lanes::lanes;
 use crate::prefixes::write_lists;
+use crate::present_terms::PresentTerms;
+use crate::shown::positions;
+use crate::walking::walk;
 use ats_base::Bytes;
 use ats_bound::{Lane, Walk};
 use ats_hash::Hash32;
@@ -27,29 +30,33 @@ use ats_impact::Top;
 use ats_index::Index;
 use ats_records::{Algorithm, ProofWriter, records_are_joined};
 use ats_terms::Query;
-use ats_tnra::walk;
 use ats_tree::Leaves;
 use std::alloc::Global;
 
-// What a proof shows of where the walk ended: the met documents, the fronts of the lists, and the answer.
+// What a proof shows of where the walk ended: the met documents, the fronts of the lists, what is shown of
+// the documents, and the answer.
 fn write_walk<H: Hash32>(
     alloc: Global,
     writer: &mut ProofWriter,
+    index: &Index<H>,
+    present: &PresentTerms<'_>,
     lanes: &[Lane<'_>],
     walk: &Walk,
+    algorithm: Algorithm,
 ) -> Result<(), OutOfMemory>
     requires lanes { AreWholeLanes (whole_lanes lanes.now) }
+    requires terms { length present.now ≡ length lanes.now }
     requires lists { All (λ lane. IsList 65536 lane.entries) (whole_lanes lanes.now) }
+    requires within { All (λ lane. All (λ (e : Posting). e.doc < length index.now.texts) lane.entries) (whole_lanes lanes.now) }
     requires cut { IsCut (whole_lanes lanes.now) walk.now.cut }
-    requires brackets { AreBracketsOf (shown (whole_lanes lanes.now) walk.now.cut) walk.now.brackets }
+    requires brackets { AreBracketsBy (bounding algorithm (whole_lanes lanes.now)) (shown (whole_lanes lanes.now) walk.now.cut) walk.now.brackets }
     requires rows { length walk.now.picks ≤ 1000 }
-    requires room { writer.old.asked ≤ 2 ^ 57 }
-    ensures fields { OnOk result (writer.new ≡ put writer.old (counted 4 id_fields (map (λ (b : Bounds). b.doc) walk.now.brackets)
-        ++ flat_map prefix_fields (prefixes H.hash whole_lists (map (λ (b : Bounds). b.doc) walk.now.brackets) (whole_lanes lanes.now) walk.now.cut)
-        ++ counted 2 id_fields walk.now.picks)) }
+    requires room { writer.old.asked ≤ 2 ^ 55 }
+    ensures { OnOk result (IsWalkWritten algorithm H.hash index.now.texts present.now (whole_lanes lanes.now) (map (λ (b : Bounds). b.doc) walk.now.brackets) walk.now.cut walk.now.picks writer.old writer.new) }
 {
     let met = documents(alloc, walk.brackets.as_slice())?;
     write_lists::<H>(alloc, writer, &met, lanes, walk.cut.as_slice())?;
+    write_documents(alloc, writer, index, present, &met, algorithm)?;
     write_answer(writer, walk.picks.as_slice())
 }
 
@@ -62,7 +69,6 @@ fn write_proof<H: Hash32>(
     top: Top,
     algorithm: Algorithm,
 ) -> Result<(), OutOfMemory>
-    requires algorithm { algorithm ≡ Tnra }
     requires room { writer.old.asked ≡ 0 }
     ensures { OnOk result (IsWritten H.hash index.now query.now top algorithm writer.old writer.new) }
 {
@@ -75,9 +81,10 @@ fn write_proof<H: Hash32>(
     let positions = positions(alloc, &spots)?;
     writer.front(algorithm, index.header(), query.len() as u16)?;
     write_terms::<H>(alloc, writer, index.dictionary(), &positions, &spots)?;
+    let present = PresentTerms::of(alloc, query, &spots)?;
     let lanes = lanes(alloc, index, query, &spots)?;
-    let end = walk(alloc, &lanes, top)?;
-    write_walk::<H>(alloc, writer, &lanes, &end)
+    let end = walk(alloc, index, &present, &lanes, top, algorithm)?;
+    write_walk(alloc, writer, index, &present, &lanes, &end, algorithm)
 }
 
 const MAX_PROOF: u64 = 1 << 26;
@@ -90,11 +97,10 @@ pub fn prove<H: Hash32>(
     top: Top,
     algorithm: Algorithm,
 ) -> Result<Bytes, ProveFault>
-    requires { algorithm ≡ Tnra }
     ensures ok { IfOk result (IsProved H.hash index.now query.now top algorithm) }
     ensures err { IfErr result (IsFault H.hash index.now query.now top algorithm (2 ^ 26)) }
     ensures size { (proof : Proof) → IsHonest H.hash index.now query.now top algorithm proof → IsAnswerWithin (2 ^ 26) (length_of proof) result }
-    ensures fits { IfErr result (λ fault. fault ≡ MemoryWanted) }
+    ensures fits { algorithm ≡ Tnra → IfErr result (λ fault. fault ≡ MemoryWanted) }
 {
     prove_within(alloc, index, query, top, algorithm, MAX_PROOF)
 }
@@ -108,13 +114,12 @@ pub fn prove_within<H: Hash32>(
     algorithm: Algorithm,
     limit: u64,
 ) -> Result<Bytes, ProveFault>
-    requires algorithm { algorithm ≡ Tnra }
     requires limit { limit ≤ 2 ^ 26 }
     ensures ok { IfOk result (IsProved H.hash index.now query.now top algorithm) }
     ensures within { IfOk result (λ bytes. length bytes ≤ limit) }
     ensures err { IfErr result (IsFault H.hash index.now query.now top algorithm limit) }
     ensures size { (proof : Proof) → IsHonest H.hash index.now query.now top algorithm proof → IsAnswerWithin limit (length_of proof) result }
-    ensures fits { limit ≡ 2 ^ 26 → IfErr result (λ fault. fault ≡ MemoryWanted) }
+    ensures fits { limit ≡ 2 ^ 26 → algorithm ≡ Tnra → IfErr result (λ fault. fault ≡ MemoryWanted) }
 {
     records_are_joined();
     let mut writer = ProofWriter::new(alloc, limit);

@@ -21,10 +21,20 @@ fn index_of(alloc: Global, all: &[&str]) -> Result<Index<Sha>, Fail> {
 
 const EXAMPLE: [&str; 3] = ["red fox", "red red hen", "blue hen"];
 
-fn proof_of(alloc: Global, all: &[&str], query: &str, r: u32) -> Result<Bytes, Fail> {
+fn proof_by(
+    alloc: Global,
+    all: &[&str],
+    query: &str,
+    r: u32,
+    algorithm: Algorithm,
+) -> Result<Bytes, Fail> {
     let index = index_of(alloc, all)?;
     let query = Query::read(alloc, query)?;
-    Ok(prove(alloc, &index, &query, Top::new(r)?, Algorithm::Tnra)?)
+    Ok(prove(alloc, &index, &query, Top::new(r)?, algorithm)?)
+}
+
+fn proof_of(alloc: Global, all: &[&str], query: &str, r: u32) -> Result<Bytes, Fail> {
+    proof_by(alloc, all, query, r, Algorithm::Tnra)
 }
 
 // Whether these bytes stand from this place on.
@@ -118,6 +128,38 @@ fn a_limit_refuses_longer_proofs(rt: HostRuntime) -> Result<(), Fail> {
     assert_eq!(rt; short, Some(ProveFault::ProofTooLong { length: 365 }));
     let whole = prove_within(rt.alloc(), &index, &query, top, Algorithm::Tnra, 365)?;
     assert_eq!(rt; whole.len(), 365);
+    Ok(())
+}
+
+// Random access: the length, and how many documents are met.
+#[test]
+fn proofs_with_documents(rt: HostRuntime) -> Result<(), Fail> {
+    let cases: [(&[&str], &str, u32, usize, u32); 5] = [
+        (&["!!"], "red", 1, 245, 0),
+        (&EXAMPLE, "red hen", 1, 751, 3),
+        (&EXAMPLE, "red hen", 2, 755, 3),
+        (&EXAMPLE, "red hen hen", 1, 649, 2),
+        (&EXAMPLE, "fox red", 1, 652, 2),
+    ];
+    for (all, query, r, length, met) in cases {
+        let proof = proof_by(rt.alloc(), all, query, r, Algorithm::Tra)?;
+        assert_eq!(rt; proof.len(), length, "{query}");
+        let view = ProofView::read(proof.as_slice())?;
+        assert_eq!(rt; view.algorithm(), Algorithm::Tra);
+        assert_eq!(rt; view.met(), met);
+    }
+    Ok(())
+}
+
+#[test]
+fn a_limit_refuses_longer_proofs_with_documents(rt: HostRuntime) -> Result<(), Fail> {
+    let index = index_of(rt.alloc(), &EXAMPLE)?;
+    let query = Query::read(rt.alloc(), "red hen")?;
+    let top = Top::new(1)?;
+    let short = prove_within(rt.alloc(), &index, &query, top, Algorithm::Tra, 750).err();
+    assert_eq!(rt; short, Some(ProveFault::ProofTooLong { length: 751 }));
+    let whole = prove_within(rt.alloc(), &index, &query, top, Algorithm::Tra, 751)?;
+    assert_eq!(rt; whole.len(), 751);
     Ok(())
 }
 

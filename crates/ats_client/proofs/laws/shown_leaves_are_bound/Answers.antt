@@ -1,11 +1,14 @@
 use Rattle.std.proofs.Common.{sym}
+use Rattle.ats_commit.specs.Root.{root_of}
 use Rattle.ats_proof.proofs.InRange.{in_range}
 use Rattle.ats_client.proofs.Descent.{whole-binds, whole-extracts}
+use Rattle.ats_client.proofs.Kept.{rooted}
 use Rattle.ats_client.proofs.laws.shown_leaves_are_bound.Goals as goal
 
 pub returns-clause-bound : goal.returns-clause-bound
 returns-clause-bound g c archive query r bytes proof are asked is accepts =
-    whole-binds g.H.HashKind.hash g.H.HashKind.sized archive query r proof are asked (in_range bytes proof is) (sym is.prefix_each) accepts
+    whole-binds g.H.HashKind.hash g.H.HashKind.sized archive query proof are asked (in_range bytes proof is) (sym is.prefix_each)
+    (rooted g.H.HashKind.hash (root_of g.H.HashKind.hash archive) query r proof accepts)
 
 pub returns-clause-extract : goal.returns-clause-extract
 returns-clause-extract g c archive query r bytes proof are asked is accepts =

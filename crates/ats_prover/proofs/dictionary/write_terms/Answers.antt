@@ -1,37 +1,22 @@
-use Rattle.std.proofs.Common.{◌<◌, ◌++◌, ℕ, List, length, map, sym, ap, ◌∙◌, arith, append-nil}
-use Rattle.std.proofs.lemmas.List.{length-map, get_or-map}
+use Rattle.std.proofs.Common.{◌++◌, List, ℕ, map, ap, ◌∙◌}
+use Rattle.std.specs.List.{flat_map}
+use Rattle.std.proofs.lemmas.Result.{on_ok_weaker}
 use Rattle.ats_tree.specs.Elided.{elided_digests}
-use Rattle.ats_records.specs.Written.{Written, after}
-use Rattle.ats_records.specs.Records.{slot_record}
 use Rattle.ats_dict.specs.Dictionary.{dict_leaves}
-use Rattle.ats_dict.specs.declared.spot.Spot.TheVariants.{At}
+use Rattle.ats_records.specs.Written.{Written}
 use Rattle.ats_proof.specs.Parts.{counted}
 use Rattle.ats_proof.specs.Value.{digest_fields, entry_fields, slot_fields}
 use Rattle.ats_prover.specs.Terms.{shown_entry, slot_of}
 use Rattle.ats_prover.specs.Writing.{put}
-use Rattle.ats_prover.proofs.Records.{slot_is}
-use Rattle.ats_prover.proofs.Putting.{put_more}
+use Rattle.ats_prover.proofs.Putting.{put_put, started}
 use Rattle.ats_prover.proofs.dictionary.write_terms.Goals as goal
 
-pub loop-spot-init : goal.loop-spot-init
-loop-spot-init g c =
-    let section : List (List ℕ) = counted 2 entry_fields (map (shown_entry c.args.dictionary.now) c.args.positions.now)
-    ++ counted 2 digest_fields (elided_digests g.H.HashKind.hash (dict_leaves c.args.dictionary.now) c.args.positions.now) in record {
-      fields = c.in_ok-write_section.ensures.fields ∙ ap (put c.args.writer.now) (sym (append-nil section));
-      size = omega (arith, c.in_ok-write_section.ensures.size);
-    }
+pub write_slots-requires-clause-started : goal.write_slots-requires-clause-started
+write_slots-requires-clause-started g c = started c.args.writer.now c.write_section.new.writer _ c.in_ok-write_section.ensures.fields
 
-pub loop-spot-preserved : goal.loop-spot-preserved
-loop-spot-preserved g c =
+pub returns-clause-fields : goal.returns-clause-fields
+returns-clause-fields g c =
     let section : List (List ℕ) = counted 2 entry_fields (map (shown_entry c.args.dictionary.now) c.args.positions.now)
     ++ counted 2 digest_fields (elided_digests g.H.HashKind.hash (dict_leaves c.args.dictionary.now) c.args.positions.now) in
-    let i = c.loop-spot.spot-index in
-    let positions = c.args.positions.now in
-    let spots = c.args.spots.now in
-    let inside : i < length spots = omega (arith, c.loop-spot-test.true) in record {
-      fields = c.in_ok-slot.ensures.ok ∙ ap (λ (w : Written). after w (slot_record c.slot.result)) c.loop-spot.invariant.fields
-          ∙ put_more slot_fields c.args.writer.now section (map (slot_of positions) spots) i c.slot.result (slot_of positions (At 0)) (slot_record c.slot.result)
-          (omega (arith, inside, length-map spots (slot_of positions)))
-          (c.slot.ensures ∙ sym (get_or-map (slot_of positions) spots i _ (slot_of positions (At 0)) inside)) (slot_is c.slot.result (omega (arith, c.slot.type_inv)));
-      size = omega (arith, c.in_ok-slot.ensures.size, c.loop-spot.invariant.size);
-    }
+    let slots : List (List ℕ) = flat_map slot_fields (map (slot_of c.args.positions.now) c.args.spots.now) in
+    on_ok_weaker c.write_slots.result (λ is. is ∙ ap (λ (w : Written). put w slots) c.in_ok-write_section.ensures.fields ∙ put_put c.args.writer.now section slots) c.write_slots.ensures.fields

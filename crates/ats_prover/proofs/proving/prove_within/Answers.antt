@@ -1,7 +1,10 @@
-use Rattle.std.proofs.Common.{[], length, subst, arith}
+use Rattle.std.proofs.Common.{◌≡◌, ℕ, List, [], length, sym, ap, subst, arith}
+use Rattle.std.specs.List.{concat}
 use Rattle.ats_records.specs.Written.{Written, writing}
+use Rattle.ats_proof.specs.Value.{fields_of}
 use Rattle.ats_prover.specs.Honest.{length_of}
 use Rattle.ats_prover.specs.Writing.{IsWritten}
+use Rattle.ats_prover.proofs.Whole.{all_asked, is_proved}
 use Rattle.ats_prover.proofs.Sizes.{asked_beyond, asked_within, is_asked}
 use Rattle.ats_prover.proofs.proving.prove_within.Given
 use Rattle.ats_prover.proofs.proving.prove_within.Goals as goal
@@ -27,7 +30,20 @@ returns-in-Err-clause-size g c proof honest =
 
 -- the honest proof would have more than 2^26 bytes
 pub returns-in-Err-clause-fits : goal.returns-in-Err-clause-fits
-returns-in-Err-clause-fits g c whole =
+returns-in-Err-clause-fits g c whole tnra =
     let is = written g c in
     let size = returns-in-Err-clause-size g c is.proof is.honest in
-    absurd (omega (arith, size.1, is.short c.requires.algorithm, whole))
+    absurd (omega (arith, size.1, is.short tnra, whole))
+
+pub returns-in-Ok-clause-ok : goal.returns-in-Ok-clause-ok
+returns-in-Ok-clause-ok g c =
+    let H = g.H.HashKind.hash in
+    let w : Written = c.write_proof.new.writer in
+    let is : IsWritten H c.args.index.now c.args.query.now c.args.top c.args.algorithm (writing c.args.limit []) w =
+    subst (λ (v : Written). IsWritten H c.args.index.now c.args.query.now c.args.top c.args.algorithm v w) c.new-writer.ensures.made c.in_ok-write_proof.ensures in
+    let bytes : List ℕ = concat (fields_of is.proof) in
+    let asked = all_asked c.records_are_joined.ensures H c.args.index.now c.args.query.now c.args.top c.args.algorithm c.args.limit w is in
+    let under : w.limit ≡ c.args.limit = ap (λ (v : Written). v.limit) asked in
+    let same : c.in-Ok.bytes ≡ bytes = c.in-Ok.ensures.whole bytes (subst (λ (n : ℕ). w ≡ writing n bytes) (sym under) asked) in
+    is_proved H c.args.index.now c.args.query.now c.args.top c.args.algorithm c.args.limit w c.in-Ok.bytes is same
+    (omega (arith, c.in-Ok.ensures.number, c.in-Ok.ensures.within, under, c.requires.limit))

@@ -8,26 +8,31 @@ use Rattle.ats_tree.specs.Elided.{elided_digests}
 use Rattle.ats_dict.specs.Entry.{DictEntry}
 use Rattle.ats_dict.specs.Dictionary.{IsDictionary, dict_leaves}
 use Rattle.ats_dict.specs.declared.spot.Spot.{Spot}
-use Rattle.ats_commit.specs.Archive.{whole_lists, Archive, archive_of}
+use Rattle.ats_commit.specs.Archive.{Archive, archive_of}
 use Rattle.ats_commit.specs.Trees.{dictionary_of}
 use Rattle.ats_commit.proofs.HeaderLemmas.{header_in_range}
 use Rattle.ats_index.specs.Parts.{header_parts}
-use Rattle.ats_bound.specs.Schedule.{WholeLane, AreBracketsOf, IsFirstSettled, shown, whole_lanes}
+use Rattle.ats_bound.specs.Schedule.{WholeLane, AreBracketsBy, IsFirstSettledBy, shown, whole_lane, whole_lanes}
+use Rattle.ats_bound.specs.declared.lane.Lane.{Lane}
+use Rattle.ats_lists.specs.declared.entry.Entry.{Entry}
 use Rattle.ats_bound.specs.Schedule.{IsCut}
 use Rattle.ats_records.specs.Written.{Written}
 use Rattle.ats_proof.specs.Parts.{counted}
-use Rattle.ats_proof.specs.Value.{digest_fields, entry_fields, id_fields, prefix_fields, slot_fields}
+use Rattle.ats_proof.specs.Value.{digest_fields, entry_fields, slot_fields}
 use Rattle.ats_prover.specs.Terms.{AreNeeded, AreSpots, shown_entry, slot_of}
-use Rattle.ats_prover.specs.Lanes.{lanes_of}
-use Rattle.ats_prover.specs.Honest.{prefixes}
-use Rattle.ats_prover.specs.Writing.{IsWritten, put}
+use Rattle.ats_prover.specs.Lanes.{bounding, lane_of, lanes_of, present}
+use Rattle.ats_prover.specs.Present.{standing}
+use Rattle.ats_prover.specs.Honest.{IsHonest}
+use Rattle.ats_prover.specs.Writing.{IsWalkWritten, IsWritten, put}
 use Rattle.ats_records.specs.declared.record.Algorithm.{Algorithm}
 use Rattle.ats_records.specs.declared.record.Algorithm.TheVariants.{Tnra}
 use Rattle.ats_prover.proofs.Spots.{spot_each}
 use Rattle.ats_prover.proofs.Ranges.{positions_below}
 use Rattle.ats_prover.proofs.Short.{honest_short}
 use Rattle.ats_bound.proofs.Shown.{have_entries, scheduled_is_cut}
-use Rattle.ats_prover.proofs.Whole.{HasParts, as_built, docs_of, front_put, is_honest, written}
+use Rattle.ats_prover.proofs.Whole.{HasParts, as_built, docs_of, front_put, is_honest, kind_of_documents, proof_of, written}
+use Rattle.ats_prover.proofs.StandingTerms.{standing_present}
+use Rattle.ats_prover.proofs.Present.{lanes_have_lists}
 use Rattle.ats_prover.proofs.proving.write_proof.Goals as goal
 
 pub write_terms-requires-clause-within : goal.write_terms-requires-clause-within
@@ -41,13 +46,53 @@ write_terms-requires-clause-within g c =
     let size : length c.dictionary-3.result.now ≡ length entries = ap (λ (es : List DictEntry). length es) c.dictionary-3.ensures in
     λ k d inside. omega (arith, subst (λ (ps : List ℕ). All (λ p. p < length entries + 2) ps) (sym c.deref-2.ensures.value) below k d inside, size)
 
+pub of-requires : goal.of-requires
+of-requires g c =
+    let entries = dictionary_of g.H.HashKind.hash c.args.index.now in
+    let found : AreSpots entries c.args.query.now c.in_ok-spots.spots.items =
+    subst (λ (es : List DictEntry). AreSpots es c.args.query.now c.in_ok-spots.spots.items) c.dictionary-2.ensures c.in_ok-spots.ensures.spots in
+    ap (λ (ss : List Spot). length ss) c.deref-4.ensures.value ∙ spot_each entries c.args.query.now c.in_ok-spots.spots.items found
+
+-- the lists of the lanes that are lent, at the lanes themselves
+own_lanes : (H : List ℕ → List ℕ) (texts : List (List ℕ)) (query present : List (List ℕ × ℕ)) (spots lent : List Spot) (given items : List Lane) → AreSpots (dictionary_of H (archive_of texts)) query spots
+    → lent ≡ spots → present ≡ standing query lent → given ≡ items → whole_lanes items ≡ lanes_of texts query → whole_lanes given ≡ map (lane_of texts) present
+own_lanes H texts query present spots lent given items found same is lends lanes =
+    ap whole_lanes lends ∙ lanes ∙ ap (map (lane_of texts)) (sym (is ∙ ap (standing query) same ∙ standing_present H texts query spots found))
+
+-- the spots that are found in the dictionary that is lent stand in that of the texts
+found_in : (H : List ℕ → List ℕ) (archive : Archive) (query : List (List ℕ × ℕ)) (lent : List DictEntry) (spots : List Spot) → lent ≡ dictionary_of H archive → AreSpots lent query spots
+    → AreSpots (dictionary_of H (archive_of archive.texts)) query spots
+found_in H archive query lent spots same = subst (λ (es : List DictEntry). AreSpots es query spots) (same ∙ ap (dictionary_of H) (as_built archive))
+
+pub walk-requires-clause-own : goal.walk-requires-clause-own
+walk-requires-clause-own g c =
+    let texts = c.args.index.now.texts in
+    own_lanes g.H.HashKind.hash texts c.args.query.now c.in_ok-present.present c.in_ok-spots.spots.items c.deref-4.result.now c.deref-6.result.now c.in_ok-lanes.lanes.items
+    (found_in g.H.HashKind.hash c.args.index.now c.args.query.now c.dictionary-2.result.now c.in_ok-spots.spots.items c.dictionary-2.ensures c.in_ok-spots.ensures.spots)
+    c.deref-4.ensures.value c.in_ok-present.ensures c.deref-6.ensures.value c.in_ok-lanes.ensures.lanes
+
 pub write_walk-requires-clause-cut : goal.write_walk-requires-clause-cut
 write_walk-requires-clause-cut g c =
     let lanes = lanes_of c.args.index.now.texts c.args.query.now in
-    let same : whole_lanes c.deref-5.result.now ≡ lanes = ap whole_lanes c.deref-5.ensures.value ∙ c.in_ok-lanes.ensures.lanes in
-    let last : whole_lanes c.deref-6.result.now ≡ lanes = ap whole_lanes c.deref-6.ensures.value ∙ c.in_ok-lanes.ensures.lanes in
-    let first = subst (λ (ls : List WholeLane). IsFirstSettled ls c.args.top c.in_ok-end.end.cut) same c.in_ok-end.ensures.cut in
+    let same : whole_lanes c.deref-6.result.now ≡ lanes = ap whole_lanes c.deref-6.ensures.value ∙ c.in_ok-lanes.ensures.lanes in
+    let last : whole_lanes c.deref-7.result.now ≡ lanes = ap whole_lanes c.deref-7.ensures.value ∙ c.in_ok-lanes.ensures.lanes in
+    let first = subst (λ (ls : List WholeLane). IsFirstSettledBy (bounding c.args.algorithm ls) ls c.args.top c.in_ok-end.end.cut) same c.in_ok-end.ensures.cut in
     subst (λ (ls : List WholeLane). IsCut ls c.in_ok-end.end.cut) (sym last) (scheduled_is_cut lanes first.turns c.in_ok-end.end.cut (have_entries lanes c.in_ok-lanes.ensures.whole) first.scheduled)
+
+pub write_walk-requires-clause-terms : goal.write_walk-requires-clause-terms
+write_walk-requires-clause-terms g c =
+    let texts = c.args.index.now.texts in
+    let own = own_lanes g.H.HashKind.hash texts c.args.query.now c.in_ok-present.present c.in_ok-spots.spots.items c.deref-4.result.now c.deref-7.result.now c.in_ok-lanes.lanes.items
+    (found_in g.H.HashKind.hash c.args.index.now c.args.query.now c.dictionary-2.result.now c.in_ok-spots.spots.items c.dictionary-2.ensures c.in_ok-spots.ensures.spots)
+    c.deref-4.ensures.value c.in_ok-present.ensures c.deref-7.ensures.value c.in_ok-lanes.ensures.lanes in
+    omega (arith, ap (λ (ls : List WholeLane). length ls) own, length-map c.deref-7.result.now whole_lane, length-map c.in_ok-present.present (lane_of texts))
+
+pub write_walk-requires-clause-within : goal.write_walk-requires-clause-within
+write_walk-requires-clause-within g c =
+    let texts = c.args.index.now.texts in
+    let lanes = lanes_of texts c.args.query.now in
+    let last : whole_lanes c.deref-7.result.now ≡ lanes = ap whole_lanes c.deref-7.ensures.value ∙ c.in_ok-lanes.ensures.lanes in
+    subst (All (λ (lane : WholeLane). All (λ (e : Entry). e.doc < length texts) lane.entries)) (sym last) (λ k d inside. (lanes_have_lists texts c.args.query.now k d inside).documents)
 
 pub returns : goal.returns
 returns g c =
@@ -56,51 +101,60 @@ returns g c =
     let texts = archive.texts in
     let built : archive ≡ archive_of texts = as_built archive in
     let query = c.args.query.now in
+    let algorithm = c.args.algorithm in
     let entries = dictionary_of H (archive_of texts) in
-    let own : dictionary_of H archive ≡ entries = ap (dictionary_of H) built in
+    let same : dictionary_of H archive ≡ entries = ap (dictionary_of H) built in
     let lanes = lanes_of texts query in
     let spots = c.in_ok-spots.spots.items in
     let positions = c.in_ok-positions.positions.items in
     let cut = c.in_ok-end.end.cut in
     let brackets = c.in_ok-end.end.brackets in
     let picks = c.in_ok-end.end.picks in
-    let found : AreSpots entries query spots = subst (λ (es : List DictEntry). AreSpots es query spots) (c.dictionary-2.ensures ∙ own) c.in_ok-spots.ensures.spots in
-    let dictionary : IsDictionary entries = subst IsDictionary (c.dictionary.ensures ∙ own) c.len.ensures.kept in
-    let whole : whole_lanes c.deref-5.result.now ≡ lanes = ap whole_lanes c.deref-5.ensures.value ∙ c.in_ok-lanes.ensures.lanes in
-    let last : whole_lanes c.deref-6.result.now ≡ lanes = ap whole_lanes c.deref-6.ensures.value ∙ c.in_ok-lanes.ensures.lanes in
+    let found : AreSpots entries query spots = found_in H archive query c.dictionary-2.result.now spots c.dictionary-2.ensures c.in_ok-spots.ensures.spots in
+    let dictionary : IsDictionary entries = subst IsDictionary (c.dictionary.ensures ∙ same) c.len.ensures.kept in
+    let whole : whole_lanes c.deref-6.result.now ≡ lanes = ap whole_lanes c.deref-6.ensures.value ∙ c.in_ok-lanes.ensures.lanes in
+    let last : whole_lanes c.deref-7.result.now ≡ lanes = ap whole_lanes c.deref-7.ensures.value ∙ c.in_ok-lanes.ensures.lanes in
+    let terms_are : c.in_ok-present.present ≡ present texts query = c.in_ok-present.ensures ∙ ap (standing query) c.deref-4.ensures.value ∙ standing_present H texts query spots found in
     let total : total_terms texts ≤ 2 ^ 24 = omega (arith, c.total.ensures.value, c.total.ensures.few, ap total_terms c.collection-2.ensures.same) in
     let range = header_in_range H g.H.HashKind.sized (archive_of texts) (subst AreWithin c.collection.ensures.same c.documents.ensures.within) total in
-    let parts : HasParts H texts query c.args.top spots positions cut brackets picks = record {
+    let positions_few : length positions ≤ 64 = omega (arith, c.in_ok-positions.ensures.few, c.in_ok-spots.ensures.few, ap (λ (ss : List Spot). length ss) c.deref.ensures.value) in
+    let first = subst (λ (ls : List WholeLane). IsFirstSettledBy (bounding algorithm ls) ls c.args.top cut) whole c.in_ok-end.ensures.cut in
+    let bounds = subst (λ (ls : List WholeLane). AreBracketsBy (bounding algorithm ls) (shown ls cut) brackets) whole c.in_ok-end.ensures.brackets in
+    let rows : length picks ≤ 1000 = omega (arith, c.in_ok-end.ensures.rows, c.get.ensures.value, c.get.ensures.few) in
+    let number : c.len-2.result ≡ length (map (slot_of positions) spots) =
+    c.len-2.ensures.value ∙ sym (length-map spots (slot_of positions) ∙ spot_each entries query spots found) in
+    let Terms : List DictEntry → List ℕ → List Spot → Written = λ (es : List DictEntry) (ps : List ℕ) (ss : List Spot).
+    put c.front.new.self (counted 2 entry_fields (map (shown_entry es) ps) ++ counted 2 digest_fields (elided_digests H (dict_leaves es) ps) ++ flat_map slot_fields (map (slot_of ps) ss)) in
+    let terms : c.write_terms.new.writer ≡ Terms entries positions spots = c.in_ok-write_terms.ensures.fields
+    ∙ ap (λ (es : List DictEntry). Terms es c.deref-2.result.now c.deref-3.result.now) (c.dictionary-3.ensures ∙ same)
+    ∙ ap₂ (λ (ps : List ℕ) (ss : List Spot). Terms entries ps ss) c.deref-2.ensures.value c.deref-3.ensures.value in
+    on_ok_weaker c.write_walk.result (λ is.
+    let own = subst (λ (ls : List WholeLane). IsWalkWritten algorithm H texts (present texts query) ls (docs_of brackets) cut picks c.write_terms.new.writer c.write_walk.new.writer) last
+    (subst (λ (ts : List (List ℕ × ℕ)). IsWalkWritten algorithm H texts ts (whole_lanes c.deref-7.result.now) (docs_of brackets) cut picks c.write_terms.new.writer c.write_walk.new.writer) terms_are is) in
+    let parts : HasParts H texts query c.args.top algorithm spots positions cut brackets own.docs picks = record {
       sized = g.H.HashKind.sized;
       dictionary = dictionary;
       front = range;
       is_query = c.len-2.ensures.query;
       found = found;
       needed = subst (λ (ss : List Spot). AreNeeded ss positions) c.deref.ensures.value c.in_ok-positions.ensures.needed;
-      positions_few = omega (arith, c.in_ok-positions.ensures.few, c.in_ok-spots.ensures.few, ap (λ (ss : List Spot). length ss) c.deref.ensures.value);
+      positions_few = positions_few;
       whole = c.in_ok-lanes.ensures.whole;
       lists = c.in_ok-lanes.ensures.lists;
-      first = subst (λ (ls : List WholeLane). IsFirstSettled ls c.args.top cut) whole c.in_ok-end.ensures.cut;
-      bounds = subst (λ (ls : List WholeLane). AreBracketsOf (shown ls cut) brackets) whole c.in_ok-end.ensures.brackets;
+      first = first;
+      bounds = bounds;
+      documents = own.honest;
+      documents_come = own.come;
       chosen = c.in_ok-end.ensures.picks;
-      rows = omega (arith, c.in_ok-end.ensures.settled.most, c.get.ensures.value, c.get.ensures.few);
+      rows = rows;
     } in
-    let short = honest_short H g.H.HashKind.sized texts query c.args.top _ c.header.ensures.texts c.len-2.ensures.query.few (omega (arith, c.get.ensures.value, c.get.ensures.few))
-    (is_honest H texts query c.args.top spots positions cut brackets picks parts) in
-    let number : c.len-2.result ≡ length (map (slot_of positions) spots) =
-    c.len-2.ensures.value ∙ sym (length-map spots (slot_of positions) ∙ spot_each entries query spots found) in
     let front = c.in_ok-front.ensures.ok
-    ∙ front_put c.args.algorithm c.header.result.now (header_parts H (archive_of texts)) c.len-2.result (length (map (slot_of positions) spots)) c.args.writer.now c.requires.algorithm (c.header.ensures.parts ∙ ap (header_parts H) built) number
+    ∙ front_put algorithm own.docs c.header.result.now (header_parts H (archive_of texts)) c.len-2.result (length (map (slot_of positions) spots)) c.args.writer.now
+    (kind_of_documents H texts (present texts query) (docs_of brackets) algorithm own.docs own.honest) (c.header.ensures.parts ∙ ap (header_parts H) built) number
     (omega (arith, range.numbers.few)) (omega (arith, range.numbers.terms)) (omega (arith, number, c.len-2.ensures.value, c.len-2.ensures.query.few)) in
-    let Terms : List DictEntry → List ℕ → List Spot → Written = λ (es : List DictEntry) (ps : List ℕ) (ss : List Spot).
-    put c.front.new.self (counted 2 entry_fields (map (shown_entry es) ps) ++ counted 2 digest_fields (elided_digests H (dict_leaves es) ps) ++ flat_map slot_fields (map (slot_of ps) ss)) in
-    let terms : c.write_terms.new.writer ≡ Terms entries positions spots = c.in_ok-write_terms.ensures.fields
-    ∙ ap (λ (es : List DictEntry). Terms es c.deref-2.result.now c.deref-3.result.now) (c.dictionary-3.ensures ∙ own)
-    ∙ ap₂ (λ (ps : List ℕ) (ss : List Spot). Terms entries ps ss) c.deref-2.ensures.value c.deref-3.ensures.value in
-    let Walk : List WholeLane → Written = λ (ls : List WholeLane).
-    put c.write_terms.new.writer (counted 4 id_fields (docs_of brackets) ++ flat_map prefix_fields (prefixes H whole_lists (docs_of brackets) ls cut) ++ counted 2 id_fields picks) in
-    on_ok_weaker c.write_walk.result (λ is.
-    subst (λ (a : Algorithm). IsWritten H archive query c.args.top a c.args.writer.now c.write_walk.new.writer) (sym c.requires.algorithm)
-    (subst (λ (a : Archive). IsWritten H a query c.args.top Tnra c.args.writer.now c.write_walk.new.writer) (sym built)
-    (written H texts query c.args.top spots positions cut brackets picks c.args.writer.now c.front.new.self c.write_terms.new.writer c.write_walk.new.writer parts front terms
-    (is ∙ ap Walk last) short))) c.write_walk.ensures.fields
+    let proof = proof_of H texts query spots positions cut brackets own.docs picks in
+    let honest = is_honest H texts query c.args.top algorithm spots positions cut brackets own.docs picks parts in
+    let short = λ (tnra : algorithm ≡ Tnra). honest_short H g.H.HashKind.sized texts query c.args.top proof c.header.ensures.texts c.len-2.ensures.query.few (omega (arith, c.get.ensures.value, c.get.ensures.few))
+    (subst (λ (a : Algorithm). IsHonest H (archive_of texts) query c.args.top a proof) tnra honest) in
+    subst (λ (a : Archive). IsWritten H a query c.args.top algorithm c.args.writer.now c.write_walk.new.writer) (sym built)
+    (written H texts query c.args.top algorithm spots positions cut brackets own.docs picks c.args.writer.now c.front.new.self c.write_terms.new.writer c.write_walk.new.writer parts front terms own.asked short)) c.write_walk.ensures

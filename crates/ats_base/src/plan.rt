@@ -1,0 +1,82 @@
+// How an object in memory counts its calls and its faults.
+ghost use Rattle.std.specs.Prelude.{◌≡◌, ◌≤◌, ◌<◌, ◌↔◌, IsTrue, OnOk, OnErr};
+ghost use Rattle.ats_base.specs.Memory.{Device, new_device, called, failed, fails_next, failing_at};
+
+use crate::bytes::OutOfMemory;
+use std::alloc::Global;
+use std::marker::Model;
+
+/// The calls that are to fail, the most bytes that one call moves, and how many failed.
+#[derive(Drop)]
+pub(crate) struct Plan {
+    calls: u64,
+    fails: Vec<u64>,
+    piece: usize,
+    faults: u64,
+}
+
+impl Model for Plan {
+    ghost Value = { Device };
+
+    ghost view = { λ p. record { calls = p.calls; fails = p.fails.items; piece = p.piece; faults = p.faults } };
+
+    ghost invariant = { λ p. 0 < p.piece };
+}
+
+impl Plan {
+    pub(crate) fn new(alloc: Global) -> Self
+        ensures { result ≡ new_device }
+    {
+        Plan {
+            calls: 0,
+            fails: Vec::new(alloc),
+            piece: usize::MAX,
+            faults: 0,
+        }
+    }
+
+    /// Counts a call, and says whether it is to fail.
+    pub(crate) fn next_fails(&mut self) -> bool
+        ensures counts { self.new ≡ called self.old }
+        ensures planned { result ≡ fails_next self.old }
+    {
+        self.calls = self.calls.saturating_add(1);
+        let call = self.calls;
+        self.fails.iter().any(|fails| *fails == call)
+    }
+
+    pub(crate) fn fail(&mut self)
+        ensures value { self.new ≡ failed self.old }
+        ensures later { self.old.faults ≤ self.new.faults }
+    {
+        self.faults = self.faults.saturating_add(1);
+    }
+
+    pub(crate) fn has_failed(&self) -> bool
+        ensures { IsTrue result ↔ (0 < self.now.faults) }
+    {
+        self.faults > 0
+    }
+
+    pub(crate) fn fail_at(&mut self, call: u64) -> Result<(), OutOfMemory>
+        ensures ok { OnOk result (self.new ≡ failing_at self.old call) }
+        ensures err { OnErr result (self.new ≡ self.old) }
+    {
+        self.fails.push(call)?;
+        Ok(())
+    }
+
+    pub(crate) fn set_piece(&mut self, n: usize)
+        requires { 1 ≤ n }
+        ensures { self.new ≡ record self.old { piece = n } }
+    {
+        self.piece = n;
+    }
+
+    pub(crate) fn piece(&self) -> usize
+        ensures value { result ≡ self.now.piece }
+        ensures some { 1 ≤ result }
+    {
+        self.piece
+    }
+}

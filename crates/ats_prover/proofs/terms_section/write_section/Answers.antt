@@ -1,0 +1,38 @@
+use Rattle.std.proofs.Common.{◌<◌, ◌≤◌, ◌+◌, ◌++◌, ℕ, List, length, map, sym, ap, ap₂, subst, ◌∙◌, arith}
+use Rattle.std.specs.List.{All, flat_map}
+use Rattle.std.proofs.lemmas.Result.{on_ok_weaker}
+use Rattle.ats_tree.specs.Elided.{elided_digests}
+use Rattle.ats_dict.specs.declared.spot.Spot.{Spot}
+use Rattle.ats_doctree.specs.Sentinels.{terms_leaves}
+use Rattle.ats_proof.specs.Parts.{counted}
+use Rattle.ats_proof.specs.Value.{digest_fields, slot_fields, term_fields}
+use Rattle.ats_records.specs.Written.{Written}
+use Rattle.ats_prover.specs.Documents.{IsTermSpot, shown_term}
+use Rattle.ats_prover.specs.Terms.{AreNeeded, slot_of}
+use Rattle.ats_prover.specs.Writing.{put}
+use Rattle.ats_prover.proofs.Items.{lower_item, written_section}
+use Rattle.ats_prover.proofs.Ranges.{all_below}
+use Rattle.ats_prover.proofs.terms_section.write_section.Goals as goal
+
+-- the positions as they are lent
+pub write_shown-requires-clause-within : goal.write_shown-requires-clause-within
+write_shown-requires-clause-within g c =
+    let items = c.args.terms.now in
+    let needed : AreNeeded c.in_ok-spots.spots.items c.in_ok-positions.positions.items =
+    subst (λ (ss : List Spot). AreNeeded ss c.in_ok-positions.positions.items) c.deref.ensures.value c.in_ok-positions.ensures.needed in
+    subst (λ (ps : List ℕ). All (λ p. p < length items + 2) ps) (sym c.deref-2.ensures.value)
+    (all_below (IsTermSpot items) (length items) (lower_item items) c.args.present.now c.in_ok-spots.spots.items c.in_ok-positions.positions.items c.in_ok-spots.ensures.spots needed)
+
+pub returns-clause-written : goal.returns-clause-written
+returns-clause-written g c =
+    let H = g.H.HashKind.hash in
+    let items = c.args.terms.now in
+    let spots = c.in_ok-spots.spots.items in
+    let positions = c.in_ok-positions.positions.items in
+    let needed : AreNeeded spots positions = subst (λ (ss : List Spot). AreNeeded ss positions) c.deref.ensures.value c.in_ok-positions.ensures.needed in
+    let few : length positions ≤ 64 = omega (arith, c.in_ok-positions.ensures.few, c.in_ok-spots.ensures.few, ap (λ (ss : List Spot). length ss) c.deref.ensures.value) in
+    let Fields : List ℕ → List Spot → Written = λ (ps : List ℕ) (ss : List Spot).
+    put c.args.writer.now (counted 2 term_fields (map (shown_term items) ps) ++ counted 2 digest_fields (elided_digests H (terms_leaves items) ps) ++ flat_map slot_fields (map (slot_of ps) ss)) in
+    on_ok_weaker c.write_shown.result (λ is.
+    written_section H g.H.HashKind.sized items c.args.present.now spots positions c.args.writer.now c.write_shown.new.writer c.len-2.ensures.kept c.requires.some c.len.ensures.rise
+    c.in_ok-spots.ensures.spots needed few (is ∙ ap₂ Fields c.deref-2.ensures.value c.deref-3.ensures.value)) c.write_shown.ensures.fields

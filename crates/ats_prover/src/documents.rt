@@ -1,0 +1,125 @@
+//! What a proof shows of the met documents, where their scores are looked up.
+
+ghost use Rattle.std.specs.Prelude.{◌≡◌, ◌+◌, ◌≤◌, ◌<◌, ◌^◌, ◌++◌, ℕ, length, map, OnOk};
+ghost use Rattle.std.specs.List.{All, flat_map};
+ghost use Rattle.std.specs.List.Sorted.{IsStrictlyIncreasing};
+ghost use Rattle.ats_tree.specs.Elided.{elided_digests};
+ghost use Rattle.ats_commit.specs.Trees.{documents_of};
+ghost use Rattle.ats_doctree.specs.declared.doc_leaf.DocLeaf.{DocLeaf as Leaf};
+ghost use Rattle.ats_proof.specs.Parts.{counted};
+ghost use Rattle.ats_proof.specs.Value.{digest_fields, doc_fields};
+ghost use Rattle.ats_prover.specs.Documents.{document_leaf};
+ghost use Rattle.ats_prover.specs.Writing.{AreDocumentsWritten, AreSectionsWritten, IsStarted, put};
+
+use crate::fault::OutOfMemory;
+use crate::present_terms::PresentTerms;
+use crate::shown::write_each_digest;
+use crate::terms_section::write_section;
+use ats_commit::DocLeaves;
+use ats_hash::{Hash32, HashKind, Steps};
+use ats_index::Index;
+use ats_records::{Algorithm, ProofWriter};
+use ats_tree::{Digests, Leaves, elided};
+use std::alloc::Global;
+
+// The leaf of each met document.
+fn write_leaves<H: HashKind>(
+    writer: &mut ProofWriter,
+    index: &Index<H>,
+    met: &[u32],
+) -> Result<(), OutOfMemory>
+    requires within { All (λ doc. doc < length index.now.texts) met.now }
+    requires few { length met.now ≤ 65536 }
+    requires started { IsStarted writer.old }
+    requires room { writer.old.asked ≤ 2 ^ 60 }
+    ensures fields { OnOk result (writer.new ≡ put writer.old (flat_map doc_fields (map (document_leaf H.hash index.now.texts) met.now))) }
+    ensures small { OnOk result (All (λ (leaf : Leaf). leaf.leaves < 2 ^ 32) (map (document_leaf H.hash index.now.texts) met.now)) }
+    ensures size { OnOk result (writer.new.asked ≤ writer.old.asked + 2 ^ 22) }
+{
+    for doc in met {
+        // The tree of a document has at most 2^20 + 2 leaves.
+        prove!(index.doc_terms(*doc).len() >= 2);
+        writer.doc_leaf(index.doc_leaf(*doc))?;
+    }
+    Ok(())
+}
+
+// The leaf of each met document, and the digests that the tree of all documents needs besides them.
+fn write_tree<H: Hash32>(
+    alloc: Global,
+    writer: &mut ProofWriter,
+    index: &Index<H>,
+    met: &[u32],
+) -> Result<(), OutOfMemory>
+    requires rise { IsStrictlyIncreasing met.now }
+    requires within { All (λ doc. doc < length index.now.texts) met.now }
+    requires few { length met.now ≤ 65536 }
+    requires started { IsStarted writer.old }
+    requires room { writer.old.asked ≤ 2 ^ 59 }
+    ensures fields { OnOk result (writer.new ≡ put writer.old (flat_map doc_fields (map (document_leaf H.hash index.now.texts) met.now)
+        ++ counted 4 digest_fields (elided_digests H.hash (documents_of H.hash index.now.texts) met.now))) }
+    ensures small { OnOk result (All (λ (leaf : Leaf). leaf.leaves < 2 ^ 32) (map (document_leaf H.hash index.now.texts) met.now)) }
+    ensures few { OnOk result (length index.now.texts ≤ 65536) }
+    ensures size { OnOk result (writer.new.asked ≤ writer.old.asked + 2 ^ 23) }
+{
+    // A collection has a document.
+    prove!(index.collection().documents() >= 1);
+    let leaves = DocLeaves {
+        leaves: index.doc_leaves(),
+    };
+    let mut digests = Digests::new(alloc);
+    elided::<H, _>(&leaves, met, &mut digests, &mut Steps::new(alloc))?;
+    write_leaves(writer, index, met)?;
+    writer.count32(digests.len() as u32)?;
+    write_each_digest(writer, &digests)
+}
+
+// Where the present terms stand in each met document.
+fn write_sections<H: Hash32>(
+    alloc: Global,
+    writer: &mut ProofWriter,
+    index: &Index<H>,
+    present: &PresentTerms<'_>,
+    met: &[u32],
+) -> Result<(), OutOfMemory>
+    requires within { All (λ doc. doc < length index.now.texts) met.now }
+    requires some { 1 ≤ length met.now → 1 ≤ length present.now }
+    requires few { length met.now ≤ 65536 }
+    requires started { IsStarted writer.old }
+    requires room { writer.old.asked ≤ 2 ^ 57 }
+    ensures written { OnOk result (AreSectionsWritten H.hash index.now.texts present.now met.now writer.old writer.new) }
+    ensures size { OnOk result (writer.new.asked ≤ writer.old.asked + 2 ^ 39) }
+{
+    for doc in met {
+        write_section::<H>(alloc, writer, index.doc_terms(*doc), present)?;
+    }
+    Ok(())
+}
+
+/// The leaves of the met documents, the digests that the tree of all documents needs besides them, and
+/// where the present terms stand in each; nothing where scores are not looked up.
+pub(crate) fn write_documents<H: Hash32>(
+    alloc: Global,
+    writer: &mut ProofWriter,
+    index: &Index<H>,
+    present: &PresentTerms<'_>,
+    met: &[u32],
+    algorithm: Algorithm,
+) -> Result<(), OutOfMemory>
+    requires rise { IsStrictlyIncreasing met.now }
+    requires within { All (λ doc. doc < length index.now.texts) met.now }
+    requires some { 1 ≤ length met.now → 1 ≤ length present.now }
+    requires few { length met.now ≤ 65536 }
+    requires started { IsStarted writer.old }
+    requires room { writer.old.asked ≤ 2 ^ 56 }
+    ensures written { OnOk result (AreDocumentsWritten algorithm H.hash index.now.texts present.now met.now writer.old writer.new) }
+    ensures size { OnOk result (writer.new.asked ≤ writer.old.asked + 2 ^ 40) }
+{
+    match algorithm {
+        Algorithm::Tra => {
+            write_tree(alloc, writer, index, met)?;
+            write_sections(alloc, writer, index, present, met)
+        }
+        Algorithm::Tnra => Ok(()),
+    }
+}

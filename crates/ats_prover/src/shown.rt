@@ -1,0 +1,120 @@
+//! Which leaves show where terms stand, and what is written of a tree of terms besides its leaves.
+
+ghost use Rattle.std.specs.Prelude.{◌≡◌, ◌+◌, ◌≤◌, ◌*◌, ◌^◌, ◌∷◌, ℕ, length, map, IfOk, OnOk};
+ghost use Rattle.std.specs.List.{All, flat_map};
+ghost use Rattle.std.specs.List.Sorted.{IsStrictlyIncreasing};
+ghost use Rattle.ats_proof.specs.Parts.{counted};
+ghost use Rattle.ats_proof.specs.Value.{digest_fields, slot_fields};
+ghost use Rattle.ats_prover.specs.Terms.{AreNeeded, lower, needs, place, slot_of};
+ghost use Rattle.ats_prover.specs.Writing.{IsStarted, put};
+
+use crate::fault::OutOfMemory;
+use ats_dict::Spot;
+use ats_records::{ProofWriter, Slot};
+use ats_tree::Digests;
+use std::alloc::Global;
+
+// The positions that the terms need, term by term.
+fn all_needed(alloc: Global, spots: &[Spot]) -> Result<Vec<u32>, OutOfMemory>
+    requires low { All (λ spot. lower spot ≤ 2 ^ 24) spots.now }
+    ensures { IfOk result (λ positions. positions.items ≡ flat_map needs spots.now) }
+{
+    let mut positions = Vec::new(alloc);
+    for spot in spots {
+        match spot {
+            Spot::At(p) => positions.push(*p)?,
+            Spot::Between(p) => {
+                positions.push(*p)?;
+                positions.push(*p + 1)?;
+            }
+        }
+    }
+    Ok(positions)
+}
+
+/// The positions of the leaves that show where the terms stand.
+pub(crate) fn positions(alloc: Global, spots: &[Spot]) -> Result<Vec<u32>, OutOfMemory>
+    requires low { All (λ spot. lower spot ≤ 2 ^ 24) spots.now }
+    ensures needed { IfOk result (λ positions. AreNeeded spots.now positions.items) }
+    ensures few { IfOk result (λ positions. length positions.items ≤ 2 * length spots.now) }
+{
+    let mut positions = all_needed(alloc, spots)?;
+    positions.sort_unstable();
+    positions.dedup();
+    Ok(positions)
+}
+
+/// How many of some rising numbers are below this one.
+pub(crate) fn place(numbers: &[u32], number: u32) -> usize
+    requires { IsStrictlyIncreasing numbers.now }
+    ensures place { result ≡ place numbers.now number }
+    ensures within { result ≤ length numbers.now }
+{
+    numbers.partition_point(|n| *n < number)
+}
+
+/// Digests, one behind another.
+pub(crate) fn write_each_digest(
+    writer: &mut ProofWriter,
+    digests: &Digests,
+) -> Result<(), OutOfMemory>
+    requires started { IsStarted writer.old }
+    requires few { length digests.now ≤ 65536 }
+    requires room { writer.old.asked ≤ 2 ^ 61 }
+    ensures fields { OnOk result (writer.new ≡ put writer.old (flat_map digest_fields digests.now)) }
+    ensures size { OnOk result (writer.new.asked ≤ writer.old.asked + 2 ^ 21) }
+{
+    for digest in digests.as_slice() {
+        writer.digest(digest)?;
+    }
+    Ok(())
+}
+
+/// Digests behind their number, in 2 bytes.
+pub(crate) fn write_digests(writer: &mut ProofWriter, digests: &Digests) -> Result<(), OutOfMemory>
+    requires few { length digests.now ≤ 65535 }
+    requires room { writer.old.asked ≤ 2 ^ 60 }
+    ensures fields { OnOk result (writer.new ≡ put writer.old (counted 2 digest_fields digests.now)) }
+    ensures size { OnOk result (writer.new.asked ≤ writer.old.asked + 2 ^ 22) }
+{
+    writer.count16(digests.len() as u16)?;
+    write_each_digest(writer, digests)
+}
+
+// Where the shown leaves show a term.
+fn slot(positions: &[u32], spot: &Spot) -> Slot
+    requires rise { IsStrictlyIncreasing positions.now }
+    requires few { length positions.now ≤ 64 }
+    ensures { result ≡ slot_of positions.now spot.now }
+{
+    match spot {
+        Spot::At(own) => Slot {
+            present: true,
+            index: place(positions, *own) as u16,
+        },
+        Spot::Between(lower) => Slot {
+            present: false,
+            index: place(positions, *lower) as u16,
+        },
+    }
+}
+
+/// A slot for each term.
+pub(crate) fn write_slots(
+    writer: &mut ProofWriter,
+    positions: &[u32],
+    spots: &[Spot],
+) -> Result<(), OutOfMemory>
+    requires rise { IsStrictlyIncreasing positions.now }
+    requires few { length positions.now ≤ 64 }
+    requires terms { length spots.now ≤ 32 }
+    requires started { IsStarted writer.old }
+    requires room { writer.old.asked ≤ 2 ^ 60 }
+    ensures fields { OnOk result (writer.new ≡ put writer.old (flat_map slot_fields (map (slot_of positions.now) spots.now))) }
+    ensures size { OnOk result (writer.new.asked ≤ writer.old.asked + 2 ^ 7) }
+{
+    for spot in spots {
+        writer.slot(slot(positions, spot))?;
+    }
+    Ok(())
+}

@@ -1,0 +1,26 @@
+ghost use Rattle.std.specs.Prelude.{◌↔◌};
+ghost use Rattle.ats_wire.specs.Requests.{Question};
+ghost use Rattle.ats_wire.specs.Replies.{IsShort};
+ghost use Rattle.ats_wire.specs.declared.reply.Reply.{Reply};
+
+use crate::request::Request;
+use ats_base::Bytes;
+use std::alloc::Global;
+
+/// What a server replies: the bytes of a proof, or the code that says why there is none.
+#[derive(Drop)]
+pub enum Reply {
+    Proof(Bytes),
+    Code(u8),
+}
+
+/// Answers requests. It has one relation between what is asked and what it replies, and its calls keep it.
+pub trait Answerer {
+    ghost gives: { Self → Question → Reply → Type 0 };
+
+    /// Want of memory is a code of its own.
+    fn answer(&mut self, alloc: Global, request: &Request<'_>) -> Reply
+        ensures gives { gives self.old (record { algorithm = request.now.algorithm; top = request.now.top; query = request.now.query.now }) result }
+        ensures short { IsShort result }
+        ensures kept { (question : Question) (reply : Reply) → (gives self.new question reply ↔ gives self.old question reply) };
+}

@@ -1,0 +1,18 @@
+use crate::memory::OutOfMemory;
+use std::alloc::Global;
+
+/// The most bytes of a request's frame behind its length.
+pub(crate) const MAX_FRAME: usize = 4096;
+
+/// Room for one frame. It is taken once, and serves any number of connections one after another.
+#[derive(Drop)]
+pub struct FrameRoom {
+    pub(crate) bytes: Box<[u8; MAX_FRAME]>,
+}
+
+impl FrameRoom {
+    pub fn new(alloc: Global) -> Result<FrameRoom, OutOfMemory> {
+        let bytes = Box::new(alloc, [0; MAX_FRAME])?;
+        Ok(FrameRoom { bytes })
+    }
+}

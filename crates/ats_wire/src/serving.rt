@@ -1,0 +1,129 @@
+ghost use Rattle.std.specs.Prelude.{◌≡◌, ◌≤◌, ◌<◌, ◌^◌, ◌↔◌, ◌∷◌, [], ℕ, List, length, take, OnOk, OnErr, IfOk, IfErr, MatchResult};
+ghost use Rattle.ats_wire.specs.Requests.{Question, framed};
+ghost use Rattle.ats_wire.specs.Replies.{Answers, IsShort, reply_bytes};
+ghost use Rattle.ats_wire.specs.Moving.{Moves};
+ghost use Rattle.ats_wire.specs.Connections.{IsFrameLength, EndsReading, IsReplied, IsCutReply, IsServed};
+ghost use Rattle.ats_wire.specs.declared.reply.Reply.{Reply};
+
+use crate::receiving::{Filling, fill};
+use crate::reply::{Answerer, Reply};
+use crate::request::Request;
+use crate::room::{FrameRoom, MAX_FRAME};
+use crate::sending::send_reply;
+use ats_base::{Failed, Link};
+use byteorder::{BigEndian, ByteOrder};
+use std::alloc::Global;
+
+const MAX_REQUESTS: u32 = 65536;
+
+// The fewest bytes of a request's frame behind its length.
+const MIN_FRAME: u32 = 6;
+
+/// How a connection ended.
+#[derive(Clone, Copy, Debug, PartialEq, Eq)]
+pub enum ConnectionEnd {
+    /// The input ended between two frames.
+    Ended,
+    /// The input ended in a frame of which `left` bytes came, those of its length included.
+    CutFrame { left: u32 },
+    /// A frame's length is not in 6 to 4,096. Nothing behind the length is read.
+    BadFrame { length: u32 },
+    /// 65,536 requests were answered. Nothing behind them is read.
+    RequestLimit,
+    ReadFault,
+    WriteFault,
+}
+
+/// How many replies were written whole, and how the connection ended.
+#[derive(Clone, Copy, Debug, PartialEq, Eq)]
+pub struct Served {
+    pub requests: u32,
+    pub end: ConnectionEnd,
+}
+
+// Reads a frame's body to the front of the room, and says how long it is.
+fn read_frame<L: Link>(link: &mut L, room: &mut [u8]) -> Result<usize, ConnectionEnd>
+    requires { length room.old ≡ 4096 }
+    ensures frame { IfOk result (λ n. IsFrameLength n × Moves (L.told link.old) (L.told link.new) (framed (take n room.new)) [] 0) }
+    ensures end { IfErr result (λ end. (tail : List ℕ) × Moves (L.told link.old) (L.told link.new) tail [] 1 × EndsReading (L.told link.old) (L.told link.new) tail end) }
+{
+    let mut head = [0; 4];
+    match fill(link, &mut head) {
+        Filling::Whole => {}
+        Filling::Ended(0) => return Err(ConnectionEnd::Ended),
+        Filling::Ended(came) => return Err(ConnectionEnd::CutFrame { left: came as u32 }),
+        Filling::Broken => return Err(ConnectionEnd::ReadFault),
+    }
+    let length = BigEndian::read_u32(&head);
+    if length < MIN_FRAME || length as usize > MAX_FRAME {
+        return Err(ConnectionEnd::BadFrame { length });
+    }
+    match fill(link, &mut room[..length as usize]) {
+        Filling::Whole => Ok(length as usize),
+        Filling::Ended(came) => Err(ConnectionEnd::CutFrame {
+            left: came as u32 + 4,
+        }),
+        Filling::Broken => Err(ConnectionEnd::ReadFault),
+    }
+}
+
+// The reply to a frame with this body.
+fn reply_to<A: Answerer>(alloc: Global, answerer: &mut A, body: &[u8]) -> Reply
+    requires { IsFrameLength (length body.now) }
+    ensures answers { Answers (A.gives answerer.old) body.now result }
+    ensures short { IsShort result }
+    ensures kept { (question : Question) (reply : Reply) → (A.gives answerer.new question reply ↔ A.gives answerer.old question reply) }
+{
+    match Request::read(body) {
+        Ok(request) => answerer.answer(alloc, &request),
+        Err(code) => Reply::Code(code),
+    }
+}
+
+// Answers the frame whose body stands at the front of the room.
+fn answer_frame<L: Link, A: Answerer>(
+    alloc: Global,
+    link: &mut L,
+    answerer: &mut A,
+    room: &mut [u8],
+    size: usize,
+) -> Result<(), Failed>
+    requires room { length room.old ≡ 4096 }
+    requires frame { IsFrameLength size }
+    ensures all { OnOk result (IsReplied (A.gives answerer.old) (L.told link.old) (L.told link.new) (take size room.old)) }
+    ensures part { OnErr result (IsCutReply (A.gives answerer.old) (L.told link.old) (L.told link.new) (take size room.old)) }
+    ensures kept { (question : Question) (reply : Reply) → (A.gives answerer.new question reply ↔ A.gives answerer.old question reply) }
+{
+    let reply = reply_to(alloc, answerer, &room[..size]);
+    send_reply(link, room, &reply)
+}
+
+/// Reads frames and answers each, until the connection ends. Each turn reads or writes a byte or more, or is the last.
+pub fn serve_connection<L: Link, A: Answerer>(
+    alloc: Global,
+    link: &mut L,
+    answerer: &mut A,
+    room: &mut FrameRoom,
+) -> Served
+    ensures served { IsServed (A.gives answerer.old) (L.told link.old) (L.told link.new) result }
+    ensures kept { (question : Question) (reply : Reply) → (A.gives answerer.new question reply ↔ A.gives answerer.old question reply) }
+{
+    let mut requests: u32 = 0;
+    'turns: while requests < MAX_REQUESTS {
+        let size = match read_frame(link, &mut room.bytes[..]) {
+            Ok(size) => size,
+            Err(end) => return Served { requests, end },
+        };
+        if answer_frame(alloc, link, answerer, &mut room.bytes[..], size).is_err() {
+            return Served {
+                requests,
+                end: ConnectionEnd::WriteFault,
+            };
+        }
+        requests += 1;
+    }
+    Served {
+        requests,
+        end: ConnectionEnd::RequestLimit,
+    }
+}
