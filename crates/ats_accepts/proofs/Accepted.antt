@@ -1,22 +1,29 @@
 -- That the honest proof over any archive is accepted.
-use Rattle.std.proofs.Common.{ℕ, List, subst}
+use Rattle.std.proofs.Common.{◌≡◌, ◌≤◌, ℕ, List, length, subst, ap, arith}
+use Rattle.ats_dict.specs.declared.header.Header.{Header}
 use Rattle.ats_commit.specs.Archive.{Archive}
 use Rattle.ats_commit.specs.Root.{root_of}
 use Rattle.ats_commit.proofs.Layouts.{each_archive}
-use Rattle.ats_records.specs.declared.record.Algorithm.TheVariants.{Tnra}
+use Rattle.ats_records.specs.declared.record.Algorithm.{Algorithm}
+use Rattle.ats_records.specs.declared.record.Algorithm.TheVariants.{Tra}
 use Rattle.ats_proof.specs.Value.{Proof, IsProof}
+use Rattle.ats_proof.proofs.InRange.{in_range}
 use Rattle.ats_proof.proofs.Unique.{one_value}
 use Rattle.ats_client.specs.Accepts.{Accepts}
 use Rattle.ats_prover.specs.Honest.{IsHonest, IsProved}
 use Rattle.ats_accepts.proofs.AcceptedRows.{honest_accepted}
 
-pub archive_accepted : (H : List ℕ → List ℕ) (archive : Archive) (query : List (List ℕ × ℕ)) (r : ℕ) (proof : Proof)
-    → IsHonest H archive query r Tnra proof → Accepts H (root_of H archive) query r proof
-archive_accepted H archive query r proof =
-    each_archive (λ a. IsHonest H a query r Tnra proof → Accepts H (root_of H a) query r proof) (λ texts. honest_accepted H texts query r proof) archive
+pub either_accepted : (H : List ℕ → List ℕ) (archive : Archive) (query : List (List ℕ × ℕ)) (r : ℕ) (algorithm : Algorithm) (proof : Proof)
+    → (algorithm ≡ Tra → 1 ≤ length archive.texts) → IsHonest H archive query r algorithm proof → Accepts H (root_of H archive) query r proof
+either_accepted H archive query r algorithm proof =
+    each_archive (λ a. (algorithm ≡ Tra → 1 ≤ length a.texts) → IsHonest H a query r algorithm proof → Accepts H (root_of H a) query r proof)
+    (λ texts. honest_accepted H texts query r algorithm proof) archive
 
--- the check accepts what the bytes of an honest proof spell
-pub proved_accepted : (H : List ℕ → List ℕ) (archive : Archive) (query : List (List ℕ × ℕ)) (r : ℕ) (bytes : List ℕ) → IsProved H archive query r Tnra bytes
-    → (proof : Proof) → IsProof bytes proof → Accepts H (root_of H archive) query r proof
-proved_accepted H archive query r bytes is proof says =
-    subst (Accepts H (root_of H archive) query r) (one_value bytes is.proof proof is.spells says) (archive_accepted H archive query r is.proof is.honest)
+-- the check accepts what the bytes of an honest proof spell, for their header tells of a document
+pub proved_accepted : (H : List ℕ → List ℕ) (archive : Archive) (query : List (List ℕ × ℕ)) (r : ℕ) (algorithm : Algorithm) (bytes : List ℕ)
+    → IsProved H archive query r algorithm bytes → (proof : Proof) → IsProof bytes proof → Accepts H (root_of H archive) query r proof
+proved_accepted H archive query r algorithm bytes is proof says =
+    let documents : is.proof.header.documents ≡ length archive.texts = ap (λ (h : Header). h.documents) is.honest.header in
+    let range = in_range bytes is.proof is.spells in
+    let some : 1 ≤ length archive.texts = omega (arith, documents, range.front.numbers.some) in
+    subst (Accepts H (root_of H archive) query r) (one_value bytes is.proof proof is.spells says) (either_accepted H archive query r algorithm is.proof (λ tra. some) is.honest)

@@ -37,7 +37,8 @@ use Rattle.ats_prover.specs.Lanes.{lane_of, lanes_of}
 use Rattle.ats_prover.specs.Honest.{placed, prefix_of, prefixes}
 use Rattle.ats_prover.proofs.Present.{HasList, with_lane, with_none}
 use Rattle.ats_prover.proofs.Fronts.{range_below, range_rises}
-use Rattle.ats_accepts.proofs.AcceptedTerms.{IsOwnEntry, AreShown, honest_entry, honest_present, shown_first, shown_rest}
+use Rattle.ats_accepts.proofs.AcceptedSlots.{AreShown, shown_first, shown_rest}
+use Rattle.ats_accepts.proofs.AcceptedTerms.{IsOwnEntry, honest_entry, honest_present}
 
 -- ---- the lists of the present terms
 

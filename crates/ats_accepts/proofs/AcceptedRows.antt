@@ -1,8 +1,9 @@
 -- What a check sees of the documents and rows of an honest proof, which it accepts.
-use Rattle.std.proofs.Common.{◌≡◌, ◌<◌, ℕ, true, nat_eq, List, [], ◌∷◌, length, map, get_or, Option, None, Some, refl, sym, ap, ap₂, subst, ◌∙◌, arith}
+use Rattle.std.proofs.Common.{◌≡◌, ◌+◌, ◌<◌, ◌≤◌, ℕ, true, nat_eq, List, [], ◌∷◌, length, map, get_or, refl, sym, ap, ap₂, subst, ◌∙◌, arith}
 use Rattle.std.specs.List.{All}
+use Rattle.std.specs.List.Sorted.{IsStrictlyIncreasing}
 use Rattle.std.proofs.lemmas.Bool.{eqb-true, eq-eqb}
-use Rattle.std.proofs.lemmas.List.{length-map, get_or-map}
+use Rattle.std.proofs.lemmas.List.{length-map, get_or-map, get_or_default}
 use Rattle.std.proofs.lemmas.List.Elements.{All-head, All-tail}
 use Rattle.std.proofs.lemmas.List.Folds.{Any-from_list_any, list_any_at}
 use Rattle.ats_dict.specs.declared.header.Header.{Header}
@@ -10,36 +11,45 @@ use Rattle.ats_commit.specs.Archive.{whole_lists, archive_of}
 use Rattle.ats_records.specs.declared.record.Slot.{Slot}
 use Rattle.ats_commit.specs.Trees.{dictionary_of}
 use Rattle.ats_bound.specs.declared.bracket.Bracket.{Bracket}
-use Rattle.ats_bound.specs.Cut.{ShownLane, IsMet, bracket, threshold}
+use Rattle.ats_bound.specs.Cut.{ShownLane, IsMet, threshold}
 use Rattle.ats_bound.specs.Settled.{ArePicks, IsSettled}
-use Rattle.ats_bound.specs.Schedule.{Bounding, WholeLane, AreBracketsOf, IsCut, has_bracket, shown}
+use Rattle.ats_bound.specs.Schedule.{Bounding, WholeLane, AreBracketsBy, IsCut, has_bracket, shown}
 use Rattle.ats_bound.proofs.Chain.{chosen_are_picks, chosen_is_settled}
 use Rattle.ats_bound.proofs.One.{are_brackets, one_bracketing}
 use Rattle.ats_bound.proofs.Shown.{scheduled_is_cut}
-use Rattle.ats_proof.specs.Value.{Prefix, Proof, ShownEntry, Documents, algorithm_of}
+use Rattle.ats_proof.specs.Value.{Prefix, Proof, ShownEntry}
 use Rattle.ats_client.specs.Groups.{AreAllMet, AreListsRight, AreRowsRight, IsAnswerSettled, brackets_of}
 use Rattle.ats_client.specs.Presented.{Presented, presented, presented_from}
 use Rattle.ats_client.specs.Presented as client
 use Rattle.ats_client.specs.Bracketing.{bounds_of}
-use Rattle.ats_client.proofs.Bracketing.{lists_alone}
+use Rattle.ats_client.specs.Documents.{AreDocumentsRight, IsDocsTree, present_from, present_numbers}
 use Rattle.ats_client.specs.Accepts.{Accepts}
-use Rattle.ats_client.proofs.Kept.{accepts_all}
+use Rattle.ats_client.proofs.Kept.{accepts_each}
 use Rattle.ats_commit.specs.Root.{root_of}
+use Rattle.ats_commit.specs.Ours.{asked_term}
+use Rattle.ats_records.specs.declared.record.Algorithm.{Algorithm}
 use Rattle.ats_records.specs.declared.record.Algorithm.TheVariants.{Tra, Tnra}
-use Rattle.ats_prover.specs.Terms.{place, shown_entry, slot_of}
-use Rattle.ats_prover.specs.Lanes.{lanes_of}
+use Rattle.ats_prover.specs.Terms.{has, place, shown_entry, slot_of}
+use Rattle.ats_prover.specs.Lanes.{bounding, lanes_of, present}
 use Rattle.ats_prover.specs.Honest.{IsHonest, prefixes}
 use Rattle.ats_prover.proofs.Places.{place_at}
-use Rattle.ats_prover.proofs.MetDocuments.{met_rises}
+use Rattle.ats_prover.proofs.MetDocuments.{met_below, met_rises}
+use Rattle.ats_prover.proofs.Spots.{spot_each}
+use Rattle.ats_prover.proofs.StandingTerms.{standing_present}
 use Rattle.ats_prover.proofs.Whole.{docs_of}
-use Rattle.ats_accepts.proofs.AcceptedTerms.{honest_dictionary, honest_opened, honest_slots, needed_shown}
+use Rattle.ats_bound.proofs.Members.{has_contained}
+use Rattle.ats_accepts.proofs.AcceptedSlots.{needed_shown}
+use Rattle.ats_accepts.proofs.AcceptedTerms.{honest_dictionary, honest_opened, honest_slots}
+use Rattle.ats_accepts.proofs.AcceptedSections.{numbers_ask}
+use Rattle.ats_accepts.proofs.AcceptedDocuments.{honest_documents, honest_tree}
+use Rattle.ats_accepts.proofs.AcceptedImpacts.{honest_bounds}
 use Rattle.ats_accepts.proofs.AcceptedLists.{AreIn, AreFronts, front_lanes, fronts_right, show_terms}
 use Rattle.ats_prover.proofs.Present.{lanes_have_lists}
 
 -- ---- the documents of brackets
 
 -- a document that is named stands among them
-named_in : (lanes : List ShownLane) (brackets : List Bracket) → AreBracketsOf lanes brackets → AreIn (docs_of brackets) lanes
+named_in : {bounds : Bounding} (lanes : List ShownLane) (brackets : List Bracket) → AreBracketsBy bounds lanes brackets → AreIn (docs_of brackets) lanes
 named_in lanes brackets are doc is =
     let docs = docs_of brackets in
     let found = Any-from_list_any (λ (b : Bracket). nat_eq b.doc doc) brackets (are.met doc ∙ is) in
@@ -52,7 +62,7 @@ named_in lanes brackets are doc is =
     }
 
 -- each of them is named
-all_named : (lanes : List ShownLane) (brackets : List Bracket) → AreBracketsOf lanes brackets → AreAllMet lanes (docs_of brackets)
+all_named : {bounds : Bounding} (lanes : List ShownLane) (brackets : List Bracket) → AreBracketsBy bounds lanes brackets → AreAllMet lanes (docs_of brackets)
 all_named lanes brackets are i inside =
     let none : Bracket = record { doc = 0; lo = 0; hi = 0 } in
     let here : i < length brackets = omega (arith, inside, length-map brackets (λ (b : Bracket). b.doc)) in
@@ -60,16 +70,25 @@ all_named lanes brackets are i inside =
     let has : has_bracket doc brackets ≡ true = list_any_at (λ (b : Bracket). nat_eq b.doc doc) brackets i none here (eq-eqb doc doc refl) in
     subst (IsMet lanes) (sym (get_or-map (λ (b : Bracket). b.doc) brackets i none 0 here)) (sym (are.met doc) ∙ has)
 
--- their brackets are these
-brackets_again : (lanes : List ShownLane) (brackets : List Bracket) → All (λ (b : Bracket). b ≡ bracket lanes b.doc) brackets → brackets_of bracket lanes (docs_of brackets) ≡ brackets
-brackets_again lanes [] each = refl
-brackets_again lanes (b ∷ brackets) each =
-    let Is : Bracket → Type 0 = λ (b : Bracket). b ≡ bracket lanes b.doc in
-    ap₂ (λ x xs. x ∷ xs) (sym (All-head Is b brackets each)) (brackets_again lanes brackets (All-tail Is b brackets each))
+-- their brackets are these, where the check forms the same
+brackets_again : (bounds formed : Bounding) (lanes : List ShownLane) (brackets : List Bracket) → All (λ (b : Bracket). b ≡ bounds lanes b.doc) brackets
+    → All (λ (b : Bracket). formed lanes b.doc ≡ bounds lanes b.doc) brackets → brackets_of formed lanes (docs_of brackets) ≡ brackets
+brackets_again bounds formed lanes [] each same = refl
+brackets_again bounds formed lanes (b ∷ brackets) each same =
+    let Is : Bracket → Type 0 = λ (b : Bracket). b ≡ bounds lanes b.doc in
+    let Same : Bracket → Type 0 = λ (b : Bracket). formed lanes b.doc ≡ bounds lanes b.doc in
+    ap₂ (λ x xs. x ∷ xs) (All-head Same b brackets same ∙ sym (All-head Is b brackets each))
+    (brackets_again bounds formed lanes brackets (All-tail Is b brackets each) (All-tail Same b brackets same))
+
+-- no lower end is above its upper end
+proper : (algorithm : Algorithm) (whole : List WholeLane) (lanes : List ShownLane) (doc : ℕ) → (bounding algorithm whole lanes doc).lo ≤ (bounding algorithm whole lanes doc).hi
+proper Tnra whole lanes doc = omega arith
+proper Tra whole lanes doc = omega arith
 
 -- ---- the parts of an honest proof
 
-module _ (H : List ℕ → List ℕ) (texts : List (List ℕ)) (query : List (List ℕ × ℕ)) (r : ℕ) (proof : Proof) (honest : IsHonest H (archive_of texts) query r Tnra proof) where
+module _ (H : List ℕ → List ℕ) (texts : List (List ℕ)) (query : List (List ℕ × ℕ)) (r : ℕ) (algorithm : Algorithm) (proof : Proof)
+    (some : algorithm ≡ Tra → 1 ≤ length texts) (honest : IsHonest H (archive_of texts) query r algorithm proof) where
   abbrev lanes : List WholeLane
   lanes = lanes_of texts query
 
@@ -118,12 +137,46 @@ module _ (H : List ℕ → List ℕ) (texts : List (List ℕ)) (query : List (Li
   honest_met = subst (λ (ls : List ShownLane). AreAllMet ls proof.met) (sym honest_lanes)
       (subst (AreAllMet cut_lanes) (sym honest.met) (all_named cut_lanes honest.brackets honest.bounds))
 
+  -- ---- the met documents
+
+  abbrev terms : List (List ℕ × ℕ)
+  terms = present texts query
+
+  met_increases : IsStrictlyIncreasing proof.met
+  met_increases = subst IsStrictlyIncreasing (sym honest.met) (met_rises cut_lanes honest.brackets honest.bounds)
+
+  met_low : All (λ doc. doc < length texts) proof.met
+  met_low = subst (All (λ doc. doc < length texts)) (sym honest.met)
+      (met_below (length texts) lanes honest.cut honest.brackets (λ i d inside. (lanes_have_lists texts query i d inside).documents) honest.bounds)
+
+  -- the numbers of the present terms ask for them
+  named : map (asked_term query) (present_numbers proof) ≡ map (λ (pair : List ℕ × ℕ). pair.0) terms
+  named =
+      let entries = dictionary_of H (archive_of texts) in
+      ap (λ (s : List Slot). map (asked_term query) (present_from 0 s)) honest.slots
+      ∙ numbers_ask (asked_term query) honest.positions 0 query honest.spots (spot_each entries query honest.spots honest.found)
+      (λ i d inside.
+      let from : 0 + i ≡ i = omega arith in
+      ap (asked_term query) from ∙ ap (λ (pair : List ℕ × ℕ). pair.0) (get_or_default query i ([], 0) d inside))
+      ∙ ap (map (λ (pair : List ℕ × ℕ). pair.0)) (standing_present H texts query honest.spots honest.found)
+
+  pub tree_accepted : IsDocsTree H proof
+  tree_accepted = honest_tree H texts terms algorithm proof.met proof.docs proof.header honest.header honest.docs some met_increases met_low
+
+  pub documents_accepted : AreDocumentsRight H query proof
+  documents_accepted = honest_documents H texts terms query (present_numbers proof) named algorithm proof.met proof.docs honest.docs
+
+  -- ---- the answer
+
+  abbrev bounds : Bounding
+  bounds = bounding algorithm lanes
+
   -- the chosen answer is settled, since some answer is
   settled : IsSettled honest.brackets proof.answer (threshold cut_lanes) r
   settled =
       let can = honest.first.settled in
-      let same : can.brackets ≡ honest.brackets = one_bracketing bracket cut_lanes can.brackets honest.brackets can.bounded honest.bounds in
-      chosen_is_settled honest.brackets (threshold cut_lanes) r can.answer proof.answer (are_brackets bracket cut_lanes honest.brackets (λ doc. omega arith) honest.bounds)
+      let same : can.brackets ≡ honest.brackets = one_bracketing bounds cut_lanes can.brackets honest.brackets can.bounded honest.bounds in
+      chosen_is_settled honest.brackets (threshold cut_lanes) r can.answer proof.answer (are_brackets bounds cut_lanes honest.brackets (proper algorithm lanes cut_lanes) honest.bounds)
       (subst (λ (bs : List Bracket). ArePicks bs can.answer) same can.inside)
       (subst (λ (bs : List Bracket). IsSettled bs can.answer (threshold cut_lanes) r) same can.settled) honest.answer
 
@@ -135,19 +188,24 @@ module _ (H : List ℕ → List ℕ) (texts : List (List ℕ)) (query : List (Li
     once = settled.once;
   }
 
-  -- it shows lists alone
-  pub honest_walk : algorithm_of proof ≡ Tnra
-  honest_walk = ap (λ (docs : Option Documents). elim docs [ None ↦ Tnra | Some d ↦ Tra ]) honest.docs
+  -- the check forms the brackets of the proof's algorithm
+  formed : All (λ (b : Bracket). bounds_of proof cut_lanes b.doc ≡ bounds cut_lanes b.doc) honest.brackets
+  formed k d inside =
+      let b : Bracket = get_or honest.brackets k d in
+      let size = length-map honest.brackets (λ (b : Bracket). b.doc) in
+      let here : has b.doc (docs_of honest.brackets) ≡ true =
+      has_contained b.doc (docs_of honest.brackets) (k, omega (arith, inside, size), get_or-map (λ (b : Bracket). b.doc) honest.brackets k d b.doc inside) in
+      honest_bounds H texts terms algorithm proof.met proof.docs honest.docs met_low cut_lanes b.doc (ap (λ (met : List ℕ). has b.doc met) honest.met ∙ here)
 
   pub honest_settled : IsAnswerSettled (bounds_of proof) (client.lanes_of query proof) proof.met proof.answer r
   honest_settled =
-      let same : brackets_of bracket cut_lanes proof.met ≡ honest.brackets = ap (brackets_of bracket cut_lanes) honest.met ∙ brackets_again cut_lanes honest.brackets honest.bounds.each in
-      subst (λ (bounds : Bounding). IsAnswerSettled bounds (client.lanes_of query proof) proof.met proof.answer r) (sym (lists_alone proof honest_walk))
-      (subst (λ (ls : List ShownLane). IsAnswerSettled bracket ls proof.met proof.answer r) (sym honest_lanes)
-      (subst (λ (bs : List Bracket). IsSettled bs proof.answer (threshold cut_lanes) r) (sym same) settled))
+      let same : brackets_of (bounds_of proof) cut_lanes proof.met ≡ honest.brackets =
+      ap (brackets_of (bounds_of proof) cut_lanes) honest.met ∙ brackets_again bounds (bounds_of proof) cut_lanes honest.brackets honest.bounds.each formed in
+      subst (λ (ls : List ShownLane). IsAnswerSettled (bounds_of proof) ls proof.met proof.answer r) (sym honest_lanes)
+      (subst (λ (bs : List Bracket). IsSettled bs proof.answer (threshold cut_lanes) r) (sym same) settled)
 
   -- all rules hold of it
   pub honest_accepted : Accepts H (root_of H (archive_of texts)) query r proof
   honest_accepted =
-      accepts_all H (root_of H (archive_of texts)) query r proof honest_walk (honest_opened H texts query r proof honest) (honest_dictionary H texts query r proof honest)
-      (honest_slots H texts query r proof honest) honest_lists honest_met honest_rows honest_settled
+      accepts_each H (root_of H (archive_of texts)) query r proof (honest_opened H texts query r algorithm proof honest) (honest_dictionary H texts query r algorithm proof honest)
+      (honest_slots H texts query r algorithm proof honest) honest_lists honest_met tree_accepted documents_accepted honest_rows honest_settled

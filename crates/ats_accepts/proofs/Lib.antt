@@ -1,5 +1,10 @@
 mod ShownPlaces
+mod ShownTrees
+mod AcceptedSlots
 mod AcceptedTerms
 mod AcceptedLists
+mod AcceptedSections
+mod AcceptedDocuments
+mod AcceptedImpacts
 mod AcceptedRows
 pub mod Accepted

@@ -53,3 +53,9 @@ next_place positions p rise stands next =
       ]
       | inr past ↦ absurd (omega (arith, here.there, there.there, never_falls positions rise j i 0 past here.within))
     ]
+
+pub made_at_place : {X : Type 0} (f : ℕ → X) (positions : List ℕ) (p : ℕ) (d : X) → IsStrictlyIncreasing positions → has p positions ≡ true
+    → get_or (map f positions) (place positions p) d ≡ f p
+made_at_place f positions p d rise stands =
+    let is = at_place positions p rise stands in
+    get_or-map f positions (place positions p) 0 d is.within ∙ ap f is.there

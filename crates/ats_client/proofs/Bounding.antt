@@ -74,11 +74,11 @@ module _ (bounds : Bounding) (lanes : List ShownLane) (met : List ℕ) (marks : 
   bracket_is : (i : ℕ) → i < length met → bracket_at brackets i ≡ bounds lanes (met_at met i)
   bracket_is i inside = get_or-map (bounds lanes) met i 0 (record { doc = 0; lo = 0; hi = 0 }) inside
 
-  hi_at : (i : ℕ) → i < length met → (bracket_at brackets i).hi ≡ upper threshold (mark_at marks i)
-  hi_at i inside = ap (λ (b : Bracket). b.hi) (bracket_is i inside) ∙ upper_is i inside
+  upper_at : (i : ℕ) → i < length met → (bracket_at brackets i).hi ≡ upper threshold (mark_at marks i)
+  upper_at i inside = ap (λ (b : Bracket). b.hi) (bracket_is i inside) ∙ upper_is i inside
 
-  lo_at : (i : ℕ) → i < length met → (bracket_at brackets i).lo ≡ (mark_at marks i).lo
-  lo_at i inside = ap (λ (b : Bracket). b.lo) (bracket_is i inside) ∙ sym (are.each i inside).least
+  lower_at : (i : ℕ) → i < length met → (bracket_at brackets i).lo ≡ (mark_at marks i).lo
+  lower_at i inside = ap (λ (b : Bracket). b.lo) (bracket_is i inside) ∙ sym (are.each i inside).least
 
   module _ (answer : List ℕ) (right : AreRowsRight met answer) (noted : AreNoted answer marks) (small : threshold < 2 ^ 48) where
     abbrev n : ℕ
@@ -87,14 +87,14 @@ module _ (bounds : Bounding) (lanes : List ShownLane) (met : List ℕ) (marks : 
     low : (k : ℕ) → k < n → get_or answer k 0 < length met
     low k inside = right.inside k 0 inside
 
-    row_hi : (k : ℕ) → k < n → (row brackets answer k).hi ≡ upper threshold (row_mark marks answer k)
-    row_hi k inside = hi_at (get_or answer k 0) (low k inside)
+    row_upper : (k : ℕ) → k < n → (row brackets answer k).hi ≡ upper threshold (row_mark marks answer k)
+    row_upper k inside = upper_at (get_or answer k 0) (low k inside)
 
-    row_lo : (k : ℕ) → k < n → (row brackets answer k).lo ≡ (row_mark marks answer k).lo
-    row_lo k inside = lo_at (get_or answer k 0) (low k inside)
+    row_lower : (k : ℕ) → k < n → (row brackets answer k).lo ≡ (row_mark marks answer k).lo
+    row_lower k inside = lower_at (get_or answer k 0) (low k inside)
 
-    last_lo : 0 < n → (last_row brackets answer).lo ≡ lower_before marks answer n
-    last_lo some = row_lo (n - 1) (omega (arith, some)) ∙ sym (last_is marks answer n some)
+    last_lower : 0 < n → (last_row brackets answer).lo ≡ lower_before marks answer n
+    last_lower some = row_lower (n - 1) (omega (arith, some)) ∙ sym (last_is marks answer n some)
 
     count : length brackets ≡ length met
     count = length-map met (bounds lanes)
@@ -121,14 +121,14 @@ module _ (bounds : Bounding) (lanes : List ShownLane) (met : List ℕ) (marks : 
       ];
       falling = λ k inside.
           let next : upper threshold (row_mark marks answer (suc k)) ≤ (row_mark marks answer k).lo = falling (suc k) (omega (arith, inside)) in
-          let hi : (row brackets answer (suc k)).hi ≡ upper threshold (row_mark marks answer (suc k)) = row_hi (suc k) (omega (arith, inside)) in
-          let le : (row brackets answer (suc k)).hi ≤ (row brackets answer k).lo = omega (arith, next, hi, row_lo k (omega (arith, inside))) in
+          let hi : (row brackets answer (suc k)).hi ≡ upper threshold (row_mark marks answer (suc k)) = row_upper (suc k) (omega (arith, inside)) in
+          let le : (row brackets answer (suc k)).hi ≤ (row brackets answer k).lo = omega (arith, next, hi, row_lower k (omega (arith, inside))) in
           subst (λ (j : ℕ). (row brackets answer j).hi ≤ (row brackets answer k).lo) (sym (add-one k)) le;
       rest = λ i outside some.
           let inside : i < length met = omega (arith, outside.0, count) in
           let free : (mark_at marks i).row ≡ false = free_if i inside outside.1 in
-          omega (arith, rest i (omega (arith, inside, are.size)) free, hi_at i inside, last_lo some);
-      unmet = λ some _. omega (arith, unmet, rests, last_lo some);
+          omega (arith, rest i (omega (arith, inside, are.size)) free, upper_at i inside, last_lower some);
+      unmet = λ some _. omega (arith, unmet, rests, last_lower some);
     }
 
     none_before : n ≤ 0 → lower_before marks answer n ≡ 2 ^ 64 - 1
@@ -149,13 +149,13 @@ module _ (bounds : Bounding) (lanes : List ShownLane) (met : List ℕ) (marks : 
       says_falling (suc k) inside =
           let next : (row brackets answer (suc k)).hi ≤ (row brackets answer k).lo =
           subst (λ (j : ℕ). (row brackets answer j).hi ≤ (row brackets answer k).lo) (add-one k) (settled.falling k (omega (arith, inside))) in
-          omega (arith, next, row_hi (suc k) inside, row_lo k (omega (arith, inside)))
+          omega (arith, next, row_upper (suc k) inside, row_lower k (omega (arith, inside)))
 
       pub says_unmet : threshold ≤ lower_before marks answer n
       says_unmet = elim (cases_lt 0 n) [
         | inl some ↦
             elim (cases_lt 0 threshold) [
-              | inl more ↦ omega (arith, settled.unmet some (omega (arith, more, rests)), rests, last_lo some)
+              | inl more ↦ omega (arith, settled.unmet some (omega (arith, more, rests)), rests, last_lower some)
               | inr none ↦ omega (arith, none)
             ]
         | inr none ↦ omega (arith, none_before none, small)
@@ -166,6 +166,6 @@ module _ (bounds : Bounding) (lanes : List ShownLane) (met : List ℕ) (marks : 
           let inside : i < length met = omega (arith, in_marks, are.size) in
           elim (cases_lt 0 n) [
             | inl some ↦
-                omega (arith, settled.rest i (omega (arith, inside, count), outside_if i inside free) some, hi_at i inside, last_lo some)
+                omega (arith, settled.rest i (omega (arith, inside, count), outside_if i inside free) some, upper_at i inside, last_lower some)
             | inr none ↦ omega (arith, none_before none, high i inside)
           ]

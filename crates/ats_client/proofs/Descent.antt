@@ -8,12 +8,11 @@ use Rattle.std.proofs.lemmas.Option.{get_or_from_slice_get, slice_get_within}
 use Rattle.std.proofs.lemmas.Simd.{map-map}
 use Rattle.ats_terms.specs.Terms.{IsTerm}
 use Rattle.ats_terms.specs.Query.{IsQuery}
-use Rattle.ats_tree.specs.Differences.{Hashed, moved, first_difference}
+use Rattle.ats_tree.specs.Differences.{Hashed, first_difference}
 use Rattle.ats_tree.specs.Nodes.{Node}
 use Rattle.ats_tree.specs.Shown.{Shown}
 use Rattle.ats_tree.specs.Strings.{node_string, node_strings}
 use Rattle.ats_tree.specs.Part.{RisesFrom}
-use Rattle.ats_tree.specs.declared.hashed.Tree.{Tree}
 use Rattle.ats_tree.specs.declared.hashed.Tree.TheVariants.{Dictionary, List as ListOf}
 use Rattle.ats_tree.proofs.Bound.{bound_to}
 use Rattle.ats_tree.proofs.Differences.{difference-collides}
@@ -40,7 +39,7 @@ use Rattle.ats_proof.specs.Runs.{shown_entry, shown_list}
 use Rattle.ats_client.specs.Groups as groups
 use Rattle.ats_client.specs.Presented.{Presented, presented, entry_at}
 use Rattle.ats_client.specs.Slots as slots
-use Rattle.ats_client.specs.Strings.{hashed_header, in_tree, strings_in, list_strings, documents_strings, strings_of, extract, AreLeavesOf, IsOwnList, AreOwnDocuments, IsOwn, IsBound}
+use Rattle.ats_client.specs.Strings.{hashed_header, strings_in, list_strings, documents_strings, strings_of, extract, AreLeavesOf, IsOwnList, AreOwnDocuments, IsOwn, IsBound}
 use Rattle.ats_client.specs.Rooted.{AreRooted}
 use Rattle.ats_client.proofs.DescentDocuments.{all-documents-bind}
 use Rattle.ats_client.proofs.DescentTrees.{Binds, binds-both, binds-weaker, binds-one, binds-all, tree-binds}

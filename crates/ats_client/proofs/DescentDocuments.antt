@@ -4,12 +4,11 @@ use Rattle.std.proofs.Common.{◌≡◌, ◌∙◌, ◌+◌, ◌<◌, ◌≤◌,
 use Rattle.std.specs.List.{All, flat_map}
 use Rattle.std.specs.List.Sorted.{IsStrictlyIncreasing}
 use Rattle.std.specs.Option.{ForSome}
-use Rattle.std.proofs.lemmas.Bool.{cond-true, lt-leb}
+use Rattle.std.proofs.lemmas.Bool.{cond-true}
 use Rattle.std.proofs.lemmas.Bool.Decides.{nat_tests}
 use Rattle.std.proofs.lemmas.List.{length-map}
 use Rattle.std.proofs.lemmas.List.Elements.{All-nil, All-cons, All-head, All-tail}
 use Rattle.std.proofs.lemmas.Simd.{map-map}
-use Rattle.ats_tree.specs.Nodes.{Node}
 use Rattle.ats_tree.specs.Shown.{Shown}
 use Rattle.ats_tree.specs.Strings.{node_string, node_strings}
 use Rattle.ats_tree.specs.Part.{RisesFrom}

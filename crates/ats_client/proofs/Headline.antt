@@ -10,28 +10,27 @@ use Rattle.ats_commit.specs.Own.{AreTexts}
 use Rattle.ats_commit.specs.Root.{root_of}
 use Rattle.ats_commit.specs.Ours.{TreePlace, ours}
 use Rattle.ats_tree.specs.Differences.{Difference, first_difference}
-use Rattle.ats_bound.specs.Cut.{bracket}
-use Rattle.ats_bound.specs.Schedule.{Bounding}
 use Rattle.ats_bound.specs.Ranked.{AreScores, cut_of}
-use Rattle.ats_proof.specs.Value.{Proof, layout_of, present_in}
+use Rattle.ats_proof.specs.Value.{Proof, AreDocumentsOf, layout_of, present_in}
 use Rattle.ats_proof.specs.Ranges.{IsInRange}
 use Rattle.ats_client.specs.Presented.{Presented, presented, lane_of, lanes_of}
-use Rattle.ats_client.specs.Groups.{IsListRight, IsAnswerSettled, met_at}
+use Rattle.ats_client.specs.Groups.{IsListRight}
 use Rattle.ats_client.specs.Bracketing.{bounds_of}
 use Rattle.ats_client.specs.Accepts.{Accepts}
-use Rattle.ats_client.specs.Rows.{row_of, rows_of}
+use Rattle.ats_client.specs.Rows.{rows_of}
 use Rattle.ats_client.specs.Strings.{strings_of, extract, IsOwn, IsBound}
 use Rattle.ats_client.specs.Headline.{AreRight, IsTopOrCollides}
-use Rattle.ats_client.proofs.Bracketing.{lists_alone}
+use Rattle.ats_client.proofs.Bracketing.{own_doc}
 use Rattle.ats_client.proofs.Kept as kept
 use Rattle.ats_client.proofs.Descent.{whole-binds, whole-extracts}
+use Rattle.ats_client.proofs.HeadlineBrackets.{brackets_hold}
 use Rattle.ats_client.proofs.HeadlineRows.{NamesMet, settled_rows_right}
 use Rattle.ats_client.proofs.OwnLanes.{AllOf, each_own, own_lanes, lanes_cut, each_cut, score_own}
 
 pub own_rows_right : (H : List ℕ → List ℕ) (archive : Archive) (query : List (List ℕ × ℕ)) (r : ℕ) (root : List ℕ) (proof : Proof) → AreTexts archive.texts → IsQuery query → IsInRange proof
-    → length proof.lists ≡ present_in proof.slots → Accepts H root query r proof → IsOwn H archive query proof
+    → length proof.lists ≡ present_in proof.slots → AreDocumentsOf proof proof.docs → Accepts H root query r proof → IsOwn H archive query proof
     → AreRight archive.texts query r (rows_of query proof)
-own_rows_right H archive query r root proof are asked range size accepts own =
+own_rows_right H archive query r root proof are asked range size parts accepts own =
     let texts : List (List ℕ) = archive.texts in
     let layout : Layout = layout_of proof in
     let slots = kept.slots H root query r proof accepts in
@@ -48,13 +47,14 @@ own_rows_right H archive query r root proof are asked range size accepts own =
       each = each_cut H layout texts query documents met are own.numbers.number range.ids.small terms all;
       sums = λ doc low. score_own H archive query proof are asked range own.terms slots opened.slots doc low;
     } in
-    let alone : bounds_of proof ≡ bracket = lists_alone proof accepts.walk in
-    let settled : IsAnswerSettled bracket (lanes_of query proof) met proof.answer r =
-    subst (λ (bounds : Bounding). IsAnswerSettled bounds (lanes_of query proof) met proof.answer r) alone (kept.settled H root query r proof accepts) in
-    subst (λ (bounds : Bounding). AreRight texts query r (map (λ index. row_of (bounds (lanes_of query proof) (met_at met index))) proof.answer)) (sym alone)
-    (settled_rows_right texts query r documents met proof.answer terms (own_lanes texts query proof) same scores range.ids.rise
+    let cut : lanes_of query proof ≡ cut_of (own_lanes texts query proof) = same in
+    settled_rows_right texts query r (bounds_of proof) documents met proof.answer terms (own_lanes texts query proof)
+    (own_doc met proof.docs (lanes_of query proof))
+    (λ i low. brackets_hold H archive query proof are asked range (sym size) slots opened.slots own (kept.documents H root query r proof accepts) parts proof.docs refl
+    (length texts) (λ doc. score texts query (get_or texts doc [])) scores cut i low (kept.met H root query r proof accepts i low))
+    same scores range.ids.rise
     (All-weaker (IsListRight H layout met) (NamesMet met) (λ one right. right.names) terms lists)
-    (kept.met H root query r proof accepts) (kept.rows H root query r proof accepts) settled)
+    (kept.met H root query r proof accepts) (kept.rows H root query r proof accepts) (kept.settled H root query r proof accepts)
 
 holds_or_some : (P : Type 0) (Q : Difference TreePlace → Type 0) (difference : Option (Difference TreePlace)) → MatchOption difference P Q → P ⊎ IsSome difference
 holds_or_some P Q None holds = inl holds
@@ -62,12 +62,12 @@ holds_or_some P Q (Some c) holds = inr refl
 
 -- the headline
 pub top_or_collides : (H : List ℕ → List ℕ) → ((m : List ℕ) → length (H m) ≡ 32) → (root : List ℕ) (query : List (List ℕ × ℕ)) (r : ℕ) (proof : Proof)
-    → IsQuery query → IsInRange proof → length proof.lists ≡ present_in proof.slots → Accepts H root query r proof → IsTopOrCollides H root query r proof
-top_or_collides H sized root query r proof asked range size accepts archive are same =
+    → IsQuery query → IsInRange proof → length proof.lists ≡ present_in proof.slots → AreDocumentsOf proof proof.docs → Accepts H root query r proof → IsTopOrCollides H root query r proof
+top_or_collides H sized root query r proof asked range size parts accepts archive are same =
     let under : Accepts H (root_of H archive) query r proof = subst (λ (digest : List ℕ). Accepts H digest query r proof) (sym same) accepts in
     let bound : IsBound H archive query proof = whole-binds H sized archive query proof are asked range (sym size) (kept.rooted H (root_of H archive) query r proof under) in
     let found : extract H archive query proof ≡ first_difference (ours H archive query) (strings_of H query proof) = whole-extracts H archive query proof bound in
     elim (holds_or_some (IsOwn H archive query proof) (λ c. H c.theirs ≡ H c.ours) (first_difference (ours H archive query) (strings_of H query proof)) bound) [
-      | inl own ↦ inl (own_rows_right H archive query r root proof are asked range size accepts own)
+      | inl own ↦ inl (own_rows_right H archive query r root proof are asked range size parts accepts own)
       | inr some ↦ inr (subst (λ (difference : Option (Difference TreePlace)). IsSome difference) (sym found) some)
     ]

@@ -13,11 +13,11 @@ use Rattle.ats_impact.specs.Score.{score}
 use Rattle.ats_impact.specs.declared.rank.Row.{Row}
 use Rattle.ats_lists.specs.declared.entry.Entry.{Entry}
 use Rattle.ats_bound.specs.declared.bracket.Bracket.{Bracket}
-use Rattle.ats_bound.specs.Cut.{ShownLane, IsMet, names, bracket, threshold}
+use Rattle.ats_bound.specs.Cut.{ShownLane, IsMet, names, threshold}
+use Rattle.ats_bound.specs.Schedule.{Bounding}
 use Rattle.ats_bound.specs.Settled.{AreDistinct, IsSettled, ArePicks}
 use Rattle.ats_bound.specs.Ranked.{CutLane, AreScores, HoldsScore, AreOfMet, answer_of, cut_of, docs_of}
 use Rattle.ats_bound.proofs.Places.{times_same, times_other, stands, position_of}
-use Rattle.ats_bound.proofs.Scores.{bracket_holds}
 use Rattle.ats_bound.proofs.Ranking.{settled_is_top}
 use Rattle.ats_proof.specs.Runs.{named}
 use Rattle.ats_client.specs.Presented.{Presented, lane_of}
@@ -79,16 +79,21 @@ lanes_met documents met doc (one ∷ terms) all seen =
           lanes_met documents met doc terms (All-tail (NamesMet met) one terms all) later
     ]
 
-met_docs : (lanes : List ShownLane) (met : List ℕ) → docs_of (brackets_of bracket lanes met) ≡ met
-met_docs lanes met = map-map (λ (b : Bracket). b.doc) (bracket lanes) met ∙ map-id met
+-- brackets by lanes and documents are those of their documents
+abbrev pub AreOf : Bounding → List ShownLane → Type 0
+AreOf bounds lanes = (doc : ℕ) → (bounds lanes doc).doc ≡ doc
+
+met_docs : (bounds : Bounding) (lanes : List ShownLane) (met : List ℕ) → AreOf bounds lanes → docs_of (brackets_of bounds lanes met) ≡ met
+met_docs bounds lanes met own_doc = map-map (λ (b : Bracket). b.doc) (bounds lanes) met ∙ (λ i. map (λ doc. own_doc doc i) met) ∙ map-id met
 
 -- the brackets of the met documents are those of the documents that entries name
-of_met : (documents : ℕ) (met : List ℕ) (terms : List Presented) (own : List CutLane) → map (lane_of documents met) terms ≡ cut_of own
+of_met : (bounds : Bounding) (documents : ℕ) (met : List ℕ) (terms : List Presented) (own : List CutLane) → AreOf bounds (map (lane_of documents met) terms)
+    → map (lane_of documents met) terms ≡ cut_of own
     → IsStrictlyIncreasing met → All (NamesMet met) terms → AreAllMet (map (lane_of documents met) terms) met
-    → AreOfMet own (brackets_of bracket (map (lane_of documents met) terms) met)
-of_met documents met terms own same rises named_met all =
+    → AreOfMet own (brackets_of bounds (map (lane_of documents met) terms) met)
+of_met bounds documents met terms own own_doc same rises named_met all =
     let lanes : List ShownLane = map (lane_of documents met) terms in
-    let docs : docs_of (brackets_of bracket lanes met) ≡ met = met_docs lanes met in
+    let docs : docs_of (brackets_of bounds lanes met) ≡ met = met_docs bounds lanes met own_doc in
     record {
       distinct = subst AreDistinct (sym docs) (rising_distinct met rises);
       met = λ doc. (
@@ -101,65 +106,62 @@ of_met documents met terms own same rises named_met all =
 
 -- ---- brackets and rows
 
-module _ (n r : ℕ) (score_of : ℕ → ℕ) (lanes : List ShownLane) (own : List CutLane) (met answer : List ℕ) (same : lanes ≡ cut_of own)
-    (scores : AreScores n score_of own) (all : AreAllMet lanes met) (rows : AreRowsRight met answer) where
-  bracket_scores : (i : ℕ) → i < length met → HoldsScore score_of (bracket lanes (met_at met i))
-  bracket_scores i low =
-      subst (λ ls. HoldsScore score_of (bracket ls (met_at met i))) (sym same)
-      (bracket_holds n score_of own (met_at met i) scores (subst (λ ls. IsMet ls (met_at met i)) same (all i low)))
-
+module _ (n r : ℕ) (score_of : ℕ → ℕ) (bounds : Bounding) (lanes : List ShownLane) (own : List CutLane) (met answer : List ℕ) (same : lanes ≡ cut_of own)
+    (scores : AreScores n score_of own) (holds : (i : ℕ) → i < length met → HoldsScore score_of (bounds lanes (met_at met i))) (rows : AreRowsRight met answer) where
   -- each bracket holds its score
-  all_hold : All (HoldsScore score_of) (brackets_of bracket lanes met)
-  all_hold = All-map (HoldsScore score_of) (bracket lanes) met (λ i d low.
+  all_hold : All (HoldsScore score_of) (brackets_of bounds lanes met)
+  all_hold = All-map (HoldsScore score_of) (bounds lanes) met (λ i d low.
       let is : get_or met i d ≡ met_at met i = get_or_default met i d 0 low in
-      subst (λ (m : ℕ). HoldsScore score_of (bracket lanes m)) (sym is) (bracket_scores i low))
+      subst (λ (m : ℕ). HoldsScore score_of (bounds lanes m)) (sym is) (holds i low))
 
-  picks : ArePicks (brackets_of bracket lanes met) answer
-  picks k d low = omega (arith, rows.inside k d low, length-map met (bracket lanes))
+  picks : ArePicks (brackets_of bounds lanes met) answer
+  picks k d low = omega (arith, rows.inside k d low, length-map met (bounds lanes))
 
-  row_docs : (indexes : List ℕ) → All (λ i. i < length met) indexes → map (met_at met) indexes ≡ answer_of (brackets_of bracket lanes met) indexes
+  row_docs : (indexes : List ℕ) → All (λ i. i < length met) indexes → map (λ i. (bounds lanes (met_at met i)).doc) indexes ≡ answer_of (brackets_of bounds lanes met) indexes
   row_docs [] inside = refl
   row_docs (i ∷ indexes) inside =
       let none : Bracket = record { doc = 0; lo = 0; hi = 0 } in
       let low : i < length met = All-head (λ i. i < length met) i indexes inside in
-      let is : get_or (brackets_of bracket lanes met) i none ≡ bracket lanes (met_at met i) = get_or-map (bracket lanes) met i 0 none low in
+      let is : get_or (brackets_of bounds lanes met) i none ≡ bounds lanes (met_at met i) = get_or-map (bounds lanes) met i 0 none low in
       ap₂ (λ (d : ℕ) (ds : List ℕ). d ∷ ds) (ap (λ (b : Bracket). b.doc) (sym is)) (row_docs indexes (All-tail (λ i. i < length met) i indexes inside))
 
   abbrev rows_made : List Row
-  rows_made = map (λ index. row_of (bracket lanes (met_at met index))) answer
+  rows_made = map (λ index. row_of (bounds lanes (met_at met index))) answer
 
-  rows_docs : map (λ (row : Row). row.doc) rows_made ≡ answer_of (brackets_of bracket lanes met) answer
-  rows_docs = map-map (λ (row : Row). row.doc) (λ index. row_of (bracket lanes (met_at met index))) answer ∙ row_docs answer rows.inside
+  rows_docs : map (λ (row : Row). row.doc) rows_made ≡ answer_of (brackets_of bounds lanes met) answer
+  rows_docs = map-map (λ (row : Row). row.doc) (λ index. row_of (bounds lanes (met_at met index))) answer ∙ row_docs answer rows.inside
 
   -- a settled answer is a top answer
-  pub rows_top : AreOfMet own (brackets_of bracket lanes met) → IsAnswerSettled bracket lanes met answer r → IsTopBy n score_of r (map (λ (row : Row). row.doc) rows_made)
+  pub rows_top : AreOfMet own (brackets_of bounds lanes met) → IsAnswerSettled bounds lanes met answer r → IsTopBy n score_of r (map (λ (row : Row). row.doc) rows_made)
   rows_top of settled =
-      let rests : IsSettled (brackets_of bracket lanes met) answer (threshold (cut_of own)) r =
-      subst (λ ls. IsSettled (brackets_of bracket lanes met) answer (threshold ls) r) same settled in
+      let rests : IsSettled (brackets_of bounds lanes met) answer (threshold (cut_of own)) r =
+      subst (λ ls. IsSettled (brackets_of bounds lanes met) answer (threshold ls) r) same settled in
       subst (λ ds. IsTopBy n score_of r ds) (sym rows_docs)
-      (settled_is_top n r score_of own (brackets_of bracket lanes met) answer scores of all_hold picks rests)
+      (settled_is_top n r score_of own (brackets_of bounds lanes met) answer scores of all_hold picks rests)
 
   -- each row holds the score of its document
   pub rows_hold : All (λ (row : Row). (row.lower ≤ score_of row.doc) × (score_of row.doc ≤ row.upper)) rows_made
   rows_hold = All-map (λ (row : Row). (row.lower ≤ score_of row.doc) × (score_of row.doc ≤ row.upper))
-      (λ index. row_of (bracket lanes (met_at met index))) answer (λ k d low.
-      let holds : HoldsScore score_of (bracket lanes (met_at met (get_or answer k d))) = bracket_scores (get_or answer k d) (rows.inside k d low) in
-      (holds.lower, holds.upper))
+      (λ index. row_of (bounds lanes (met_at met index))) answer (λ k d low.
+      let held : HoldsScore score_of (bounds lanes (met_at met (get_or answer k d))) = holds (get_or answer k d) (rows.inside k d low) in
+      (held.lower, held.upper))
 
--- what a settled answer tells is right for the texts
-pub settled_rows_right : (texts : List (List ℕ)) (query : List (List ℕ × ℕ)) (r documents : ℕ) (met answer : List ℕ) (terms : List Presented) (own : List CutLane)
+-- what a settled answer tells is right for the texts, where each bracket holds its score
+pub settled_rows_right : (texts : List (List ℕ)) (query : List (List ℕ × ℕ)) (r : ℕ) (bounds : Bounding) (documents : ℕ) (met answer : List ℕ) (terms : List Presented) (own : List CutLane)
+    → AreOf bounds (map (lane_of documents met) terms)
+    → ((i : ℕ) → i < length met → HoldsScore (λ doc. score texts query (get_or texts doc [])) (bounds (map (lane_of documents met) terms) (met_at met i)))
     → map (lane_of documents met) terms ≡ cut_of own → AreScores (length texts) (λ doc. score texts query (get_or texts doc [])) own
     → IsStrictlyIncreasing met → All (NamesMet met) terms → AreAllMet (map (lane_of documents met) terms) met → AreRowsRight met answer
-    → IsAnswerSettled bracket (map (lane_of documents met) terms) met answer r
-    → AreRight texts query r (map (λ index. row_of (bracket (map (lane_of documents met) terms) (met_at met index))) answer)
-settled_rows_right texts query r documents met answer terms own same scores rises named_met all rows settled =
+    → IsAnswerSettled bounds (map (lane_of documents met) terms) met answer r
+    → AreRight texts query r (map (λ index. row_of (bounds (map (lane_of documents met) terms) (met_at met index))) answer)
+settled_rows_right texts query r bounds documents met answer terms own own_doc holds same scores rises named_met all rows settled =
     let lanes : List ShownLane = map (lane_of documents met) terms in
     let score_of : ℕ → ℕ = λ doc. score texts query (get_or texts doc []) in
-    let made : List Row = map (λ index. row_of (bracket lanes (met_at met index))) answer in
-    let of : AreOfMet own (brackets_of bracket lanes met) = of_met documents met terms own same rises named_met all in
+    let made : List Row = map (λ index. row_of (bounds lanes (met_at met index))) answer in
+    let of : AreOfMet own (brackets_of bounds lanes met) = of_met bounds documents met terms own own_doc same rises named_met all in
     record {
-      top = rows_top (length texts) r score_of lanes own met answer same scores all rows of settled;
+      top = rows_top (length texts) r score_of bounds lanes own met answer same scores holds rows of settled;
       bounds = All-weaker (λ (row : Row). (row.lower ≤ score_of row.doc) × (score_of row.doc ≤ row.upper)) (HoldsRow texts query)
-          (λ row holds. record { least = holds.0; most = holds.1 }) made
-          (rows_hold (length texts) r score_of lanes own met answer same scores all rows);
+          (λ row held. record { least = held.0; most = held.1 }) made
+          (rows_hold (length texts) r score_of bounds lanes own met answer same scores holds rows);
     }

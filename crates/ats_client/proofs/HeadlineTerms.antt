@@ -30,13 +30,13 @@ first P dict n pair query slot slots prefix each present range =
     let here : n + 0 ≡ n = omega arith in
     subst (λ m. P (present_one dict m pair slot prefix)) here (each 0 pair slot prefix refl refl present range)
 
-kind_absent : (slot : Slot) (slots : List Slot) (n : ℕ) → slot.present ≡ false → present_in (slot ∷ slots) ≡ n → present_in slots ≡ n
+pub kind_absent : (slot : Slot) (slots : List Slot) (n : ℕ) → slot.present ≡ false → present_in (slot ∷ slots) ≡ n → present_in slots ≡ n
 kind_absent slot slots n absent all =
     let front = sum_by-cons kind_of_slot slot slots in
     let kind : kind_of_slot slot ≡ 0 = ap (λ b. cond b 1 0) absent in
     omega (arith, front, kind, all)
 
-kind_present : (slot : Slot) (slots : List Slot) (n : ℕ) → slot.present ≡ true → present_in (slot ∷ slots) ≡ n → 1 + present_in slots ≡ n
+pub kind_present : (slot : Slot) (slots : List Slot) (n : ℕ) → slot.present ≡ true → present_in (slot ∷ slots) ≡ n → 1 + present_in slots ≡ n
 kind_present slot slots n present all =
     let front = sum_by-cons kind_of_slot slot slots in
     let kind : kind_of_slot slot ≡ 1 = ap (λ b. cond b 1 0) present in

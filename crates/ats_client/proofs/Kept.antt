@@ -1,5 +1,5 @@
 -- The rules that an accepted proof keeps, by name.
-use Rattle.std.proofs.Common.{◌≡◌, ℕ, List, Option, Some, None}
+use Rattle.std.proofs.Common.{◌≡◌, ℕ, List, Option, Some, None, inl, inr}
 use Rattle.std.specs.List.{All}
 use Rattle.std.proofs.lemmas.List.Elements.{All-nil, All-weaker}
 use Rattle.ats_dict.specs.declared.header.Header.{Header}
@@ -8,22 +8,60 @@ use Rattle.ats_records.specs.declared.record.Algorithm.TheVariants.{Tra, Tnra}
 use Rattle.ats_proof.specs.Value.{Documents, Proof, algorithm_of, layout_of}
 use Rattle.ats_client.specs.Presented.{presented, lanes_of}
 use Rattle.ats_client.specs.Bracketing.{bounds_of}
-use Rattle.ats_client.specs.Groups.{IsOpened, IsDictionary, AreSlotsRight, IsListRight, IsListRooted, AreListsRight, AreAllMet, AreRowsRight, IsAnswerSettled}
-use Rattle.ats_client.specs.Documents.{AreDocsRooted, IsTermsTree, documents_in}
+use Rattle.ats_client.specs.Groups.{IsOpened, IsDictionary, AreSlotsRight, IsListRight, IsListRooted, AreListsRight, AreAllMet, IsMetFault, AreRowsRight, IsRowsFault, IsAnswerSettled}
+use Rattle.ats_client.specs.Documents.{AreDocsRooted, IsTermsTree, documents_in, met_documents, present_numbers, IsDocumentRight, IsDocsTree, IsDocsFault, AreDocumentsRight, IsDocumentsFault}
 use Rattle.ats_client.specs.Rooted.{AreRooted}
-use Rattle.ats_client.specs.Accepts.{Accepts}
+use Rattle.ats_client.specs.Accepts.{Accepts, IsFirstRefusal}
+use Rattle.ats_client.specs.declared.refusal.Refusal.{Refusal}
+use Rattle.ats_client.specs.declared.refusal.Refusal.TheVariants.{NotSettled}
 
--- a proof of lists alone shows no documents
-none_shown : (H : List ℕ → List ℕ) (header : Header) (met : List ℕ) (docs : Option Documents) → (let walk : Algorithm = elim docs [ None ↦ Tnra | Some docs ↦ Tra ] in walk) ≡ Tnra
-    → AreDocsRooted H header met docs × All (IsTermsTree H) (documents_in met docs)
-none_shown H header met None is = (tt, All-nil (IsTermsTree H))
-none_shown H header met (Some docs) is = absurd (cc)
+-- a proof of lists alone keeps the rules of the documents
+none_shown : (H : List ℕ → List ℕ) (query : List (List ℕ × ℕ)) (numbers : List ℕ) (header : Header) (met : List ℕ) (docs : Option Documents)
+    → (let walk : Algorithm = elim docs [ None ↦ Tnra | Some docs ↦ Tra ] in walk) ≡ Tnra
+    → AreDocsRooted H header met docs × All (IsDocumentRight H query numbers) (documents_in met docs)
+none_shown H query numbers header met None is = (tt, All-nil (IsDocumentRight H query numbers))
+none_shown H query numbers header met (Some docs) is = absurd (cc)
 
 module _ (H : List ℕ → List ℕ) (root : List ℕ) (query : List (List ℕ × ℕ)) (r : ℕ) (proof : Proof) where
+  pub accepts_each : IsOpened H root query proof → IsDictionary H proof → AreSlotsRight query proof → AreListsRight H query proof
+      → AreAllMet (lanes_of query proof) proof.met → IsDocsTree H proof → AreDocumentsRight H query proof → AreRowsRight proof.met proof.answer
+      → IsAnswerSettled (bounds_of proof) (lanes_of query proof) proof.met proof.answer r → Accepts H root query r proof
+  accepts_each opened dictionary slots lists met tree documents rows settled =
+      record { kept = (opened, (dictionary, (slots, (lists, (met, (tree, (documents, (rows, (settled, tt))))))))) }
+
+  -- of a proof of lists alone
   pub accepts_all : algorithm_of proof ≡ Tnra → IsOpened H root query proof → IsDictionary H proof → AreSlotsRight query proof → AreListsRight H query proof
       → AreAllMet (lanes_of query proof) proof.met → AreRowsRight proof.met proof.answer → IsAnswerSettled (bounds_of proof) (lanes_of query proof) proof.met proof.answer r
       → Accepts H root query r proof
-  accepts_all walk opened dictionary slots lists met rows settled = record { walk = walk; kept = (opened, (dictionary, (slots, (lists, (met, (rows, (settled, tt))))))) }
+  accepts_all walk opened dictionary slots lists met rows settled =
+      let none = none_shown H query (present_numbers proof) proof.header proof.met proof.docs walk in
+      accepts_each opened dictionary slots lists met none.0 none.1 rows settled
+
+  -- ---- the first refusal, where all groups before are kept
+
+  module _ (opened : IsOpened H root query proof) (dictionary : IsDictionary H proof) (slots : AreSlotsRight query proof) (lists : AreListsRight H query proof) where
+    pub fails_met : (refusal : Refusal) → IsMetFault (lanes_of query proof) proof.met refusal → IsFirstRefusal H root query r proof refusal
+    fails_met refusal fault = record { first = inr (opened, inr (dictionary, inr (slots, inr (lists, inl fault)))) }
+
+    module _ (met : AreAllMet (lanes_of query proof) proof.met) where
+      pub fails_tree : (refusal : Refusal) → IsDocsFault H proof refusal → IsFirstRefusal H root query r proof refusal
+      fails_tree refusal fault = record { first = inr (opened, inr (dictionary, inr (slots, inr (lists, inr (met, inl fault))))) }
+
+      module _ (tree : IsDocsTree H proof) where
+        pub fails_documents : (refusal : Refusal) → IsDocumentsFault H query proof refusal → IsFirstRefusal H root query r proof refusal
+        fails_documents refusal fault = record { first = inr (opened, inr (dictionary, inr (slots, inr (lists, inr (met, inr (tree, inl fault)))))) }
+
+        module _ (documents : AreDocumentsRight H query proof) where
+          pub fails_rows : (refusal : Refusal) → IsRowsFault proof.met proof.answer refusal → IsFirstRefusal H root query r proof refusal
+          fails_rows refusal fault =
+              record { first = inr (opened, inr (dictionary, inr (slots, inr (lists, inr (met, inr (tree, inr (documents, inl fault))))))) }
+
+          pub fails_settled : AreRowsRight proof.met proof.answer → (IsAnswerSettled (bounds_of proof) (lanes_of query proof) proof.met proof.answer r → ⊥)
+              → IsFirstRefusal H root query r proof NotSettled
+          fails_settled rows open_yet =
+              record { first = inr (opened, inr (dictionary, inr (slots, inr (lists, inr (met, inr (tree, inr (documents, inr (rows, inl open_yet)))))))) }
+
+  -- ---- the groups of an accepted proof
 
   module _ (accepts : Accepts H root query r proof) where
     pub opened : IsOpened H root query proof
@@ -41,21 +79,25 @@ module _ (H : List ℕ → List ℕ) (root : List ℕ) (query : List (List ℕ �
     pub met : AreAllMet (lanes_of query proof) proof.met
     met = accepts.kept.1.1.1.1.0
 
+    pub tree : IsDocsTree H proof
+    tree = accepts.kept.1.1.1.1.1.0
+
+    pub documents : AreDocumentsRight H query proof
+    documents = accepts.kept.1.1.1.1.1.1.0
+
     pub rows : AreRowsRight proof.met proof.answer
-    rows = accepts.kept.1.1.1.1.1.0
+    rows = accepts.kept.1.1.1.1.1.1.1.0
 
     pub settled : IsAnswerSettled (bounds_of proof) (lanes_of query proof) proof.met proof.answer r
-    settled = accepts.kept.1.1.1.1.1.1.0
+    settled = accepts.kept.1.1.1.1.1.1.1.1.0
 
     -- each section rebuilds to the root that is told for it
     pub rooted : AreRooted H root query proof
-    rooted =
-        let none = none_shown H proof.header proof.met proof.docs accepts.walk in
-        record {
-          header = opened.commits;
-          dictionary = dictionary;
-          slots = slots;
-          lists = All-weaker (IsListRight H (layout_of proof) proof.met) (IsListRooted H (layout_of proof) proof.met) (λ one right. right.root) (presented query proof) lists;
-          documents = none.0;
-          terms = none.1;
-        }
+    rooted = record {
+      header = opened.commits;
+      dictionary = dictionary;
+      slots = slots;
+      lists = All-weaker (IsListRight H (layout_of proof) proof.met) (IsListRooted H (layout_of proof) proof.met) (λ one right. right.root) (presented query proof) lists;
+      documents = tree;
+      terms = All-weaker (IsDocumentRight H query (present_numbers proof)) (IsTermsTree H) (λ one right. right.tree) (met_documents proof) documents;
+    }

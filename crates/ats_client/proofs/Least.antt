@@ -1,5 +1,5 @@
 -- The first number that breaks a rule.
-use Rattle.std.proofs.Common.{◌≡◌, ◌⊎◌, ◌<◌, ◌+◌, ℕ, zero, suc, below_more, inl, inr, arith}
+use Rattle.std.proofs.Common.{◌≡◌, ◌⊎◌, ◌<◌, ℕ, zero, suc, below_more, inl, inr, arith}
 use Rattle.std.proofs.lemmas.Bool.{cases_order}
 
 -- there is one at most

@@ -9,6 +9,7 @@ pub mod Passing
 pub mod Noting
 pub mod Bounding
 pub mod Rules
+pub mod Faults
 pub mod Bracketing
 pub mod Kept
 pub mod FirstOf
@@ -22,10 +23,17 @@ pub mod OneRejection
 pub mod HeadlineTerms
 pub mod HeadlineRows
 pub mod OwnLanes
+pub mod OwnImpacts
+pub mod HeadlineBrackets
 pub mod Headline
 pub mod AnswerRows
 pub mod VerifiedBytes
 pub mod Leaves
+pub mod Firsts
+pub mod Looked
+pub mod Scored
+pub mod PresentNumbers
+pub mod Tried
 pub mod DescentTrees
 pub mod DescentDocuments
 pub mod Descent

@@ -1,13 +1,12 @@
 -- The groups of rules of the met documents: each is kept or fails first in one way.
-use Rattle.std.proofs.Common.{◌≡◌, ◌⊎◌, ◌∙◌, ◌<◌, ◌+◌, ℕ, zero, suc, List, length, map, get_or, Option, Some, None, refl, sym, ap, ap₂, subst, below_more, inl, inr, arith}
-use Rattle.std.specs.List.{All}
+use Rattle.std.proofs.Common.{◌≡◌, ◌⊎◌, ◌∙◌, ℕ, List, length, map, get_or, Option, Some, None, refl, sym, ap, ap₂, inl, inr}
 use Rattle.ats_dict.specs.declared.header.Header.{Header}
 use Rattle.ats_commit.specs.Ours.{asked_term}
-use Rattle.ats_proof.specs.Value.{TermsSection, Documents, Proof}
+use Rattle.ats_proof.specs.Value.{Documents, Proof}
 use Rattle.ats_client.specs.declared.refusal.Refusal.{Refusal}
 use Rattle.ats_client.specs.declared.refusal.Refusal.TheVariants.{DocsMisfit, DocsRoot, TermsMisfit, TermsRoot, TermSlot}
 use Rattle.ats_client.specs.Groups.{IsOther, slot_at}
-use Rattle.ats_client.specs.Documents.{MetDocument, met_documents, docs_digest, AreDocsRooted, IsDocsRootFault, terms_digest, IsTermsTree, IsTermsFault, term_shown, present_numbers, IsTermSlotRight, AreTermSlotsRight, IsWrongTermSlot, IsTermSlotsFault, document_rules, IsDocumentRight, AreDocumentsRight, IsDocumentsFault}
+use Rattle.ats_client.specs.Documents.{MetDocument, met_documents, docs_digest, AreDocsRooted, IsDocsRootFault, terms_digest, IsTermsTree, IsTermsFault, term_shown, present_numbers, IsTermSlotRight, AreTermSlotsRight, IsTermSlotsFault, document_rules, IsDocumentRight, AreDocumentsRight, IsDocumentsFault}
 use Rattle.ats_client.specs.Rules.{IsFirstFault}
 use Rattle.ats_client.proofs.Exact.{not_other}
 use Rattle.ats_client.proofs.FirstOf.{not_first_of, one_first_of, kept_or_first_of}

@@ -1,5 +1,5 @@
 -- A proof has one first refusal at most, and none where it is accepted.
-use Rattle.std.proofs.Common.{◌≡◌, ◌∙◌, ◌<◌, ℕ, List, true, Result, Ok, Err, refl, sym, ap, inl, inr}
+use Rattle.std.proofs.Common.{◌≡◌, ◌∙◌, ℕ, List, true, Result, Ok, Err, refl, sym, ap}
 use Rattle.std.specs.Result.{is_ok, IfErr}
 use Rattle.ats_bound.specs.Cut.{ShownLane, IsMet}
 use Rattle.ats_bound.specs.Schedule.{Bounding}
@@ -13,6 +13,7 @@ use Rattle.ats_client.specs.Accepts.{rules, Accepts, IsFirstRefusal}
 use Rattle.ats_client.proofs.Exact.{not_opened, not_dictionary, not_slots, not_met, not_rows, not_settled}
 use Rattle.ats_client.proofs.Least.{one_least}
 use Rattle.ats_client.proofs.OneListFault.{not_lists, one_out, one_again, out_or_again, one_lists}
+use Rattle.ats_client.proofs.OneDocumentFault.{not_docs, one_docs, not_documents, one_documents}
 use Rattle.ats_client.proofs.Rules.{AreExact, not_kept, one_first}
 
 one_opening : (H : List ℕ → List ℕ) (root : List ℕ) (query : List (List ℕ × ℕ)) (proof : Proof) (a b : Refusal)
@@ -72,8 +73,14 @@ exact H root query r proof =
             (
               record { breaks = not_met lanes proof.met; one = one_unmet lanes proof.met },
               (
-                record { breaks = not_rows proof.met proof.answer; one = one_row proof.met proof.answer },
-                (record { breaks = not_settled (bounds_of proof) lanes proof.met proof.answer r; one = one_settled (bounds_of proof) lanes proof.met proof.answer r }, tt),
+                record { breaks = not_docs H proof.header proof.met proof.docs; one = one_docs H proof.header proof.met proof.docs },
+                (
+                  record { breaks = not_documents H query proof; one = one_documents H query proof },
+                  (
+                    record { breaks = not_rows proof.met proof.answer; one = one_row proof.met proof.answer },
+                    (record { breaks = not_settled (bounds_of proof) lanes proof.met proof.answer r; one = one_settled (bounds_of proof) lanes proof.met proof.answer r }, tt),
+                  ),
+                ),
               ),
             ),
           ),

@@ -1,41 +1,28 @@
 -- Bytes are rejected in one way at most, and in none where they are accepted.
-use Rattle.std.proofs.Common.{◌≡◌, ◌∙◌, ℕ, List, sym, ap, subst, refl}
-use Rattle.ats_records.specs.declared.record.Algorithm.TheVariants as algorithm
+use Rattle.std.proofs.Common.{◌≡◌, ℕ, List, ap, subst}
 use Rattle.ats_grammar.specs.Grammar.{proof_format}
 use Rattle.ats_grammar.proofs.Fronts.{no_fault, one_fault}
-use Rattle.ats_proof.specs.Value.{Proof, IsProof, algorithm_of, fields_of}
+use Rattle.ats_proof.specs.Value.{Proof, fields_of}
 use Rattle.ats_proof.proofs.Unique.{one_value}
 use Rattle.ats_client.specs.Accepts.{Accepts, IsFirstRefusal}
 use Rattle.ats_client.specs.Bytes.{IsAcceptedBytes, IsRejectedBytes}
 use Rattle.ats_client.specs.declared.fault.Rejection.{Rejection}
-use Rattle.ats_client.specs.declared.fault.Rejection.TheVariants.{Shape, Tra, Check}
+use Rattle.ats_client.specs.declared.fault.Rejection.TheVariants.{Shape, Check}
 use Rattle.ats_client.proofs.OneRefusal.{not_both, one_refusal}
 
 module _ (H : List ℕ → List ℕ) (root : List ℕ) (query : List (List ℕ × ℕ)) (r : ℕ) (bytes : List ℕ) where
-  -- a proof is by one algorithm
-  not_both_walks : (a b : Proof) → IsProof bytes a → IsProof bytes b → algorithm_of a ≡ algorithm.Tnra → algorithm_of b ≡ algorithm.Tra → ⊥
-  not_both_walks a b first second lists documents =
-      let both : algorithm.Tnra ≡ algorithm.Tra = sym lists ∙ ap algorithm_of (one_value bytes a b first second) ∙ documents in
-      cc
-
   -- a proof has no fault
   pub one_rejection : (a b : Rejection) → IsRejectedBytes H root query r bytes a → IsRejectedBytes H root query r bytes b → a ≡ b
   one_rejection (Shape a) (Shape b) is also = ap Shape (one_fault proof_format bytes a b is also)
-  one_rejection (Shape a) Tra is also = absurd (no_fault proof_format bytes a (fields_of also.0) is also.1.spells)
   one_rejection (Shape a) (Check b) is also = absurd (no_fault proof_format bytes a (fields_of also.0) is also.1.spells)
-  one_rejection Tra (Shape b) is also = absurd (no_fault proof_format bytes b (fields_of is.0) also is.1.spells)
-  one_rejection Tra Tra is also = refl
-  one_rejection Tra (Check b) is also = absurd (not_both_walks also.0 is.0 also.1 is.1 also.2.walk is.2)
   one_rejection (Check a) (Shape b) is also = absurd (no_fault proof_format bytes b (fields_of is.0) also is.1.spells)
-  one_rejection (Check a) Tra is also = absurd (not_both_walks is.0 also.0 is.1 also.1 is.2.walk also.2)
   one_rejection (Check a) (Check b) is also =
       let same = one_value bytes also.0 is.0 also.1 is.1 in
       ap Check (one_refusal H root query r is.0 a b is.2 (subst (λ (p : Proof). IsFirstRefusal H root query r p b) same also.2))
 
-  -- an accepted proof has no fault, is by the walk of lists alone, and keeps all rules
+  -- an accepted proof has no fault, and keeps all rules
   pub accepted_kept : (proof : Proof) (rejection : Rejection) → IsAcceptedBytes H root query r bytes proof → IsRejectedBytes H root query r bytes rejection → ⊥
   accepted_kept proof (Shape fault) is rejected = no_fault proof_format bytes fault (fields_of proof) rejected is.says.spells
-  accepted_kept proof Tra is rejected = not_both_walks proof rejected.0 is.says rejected.1 is.accepts.walk rejected.2
   accepted_kept proof (Check refusal) is rejected =
       let same = one_value bytes proof rejected.0 is.says rejected.1 in
       not_both H root query r rejected.0 refusal (subst (Accepts H root query r) same is.accepts) rejected.2

@@ -3,7 +3,7 @@ use Rattle.std.proofs.Common.{◌≡◌, ◌<◌, ◌≤◌, ◌+◌, ◌*◌, �
 use Rattle.std.specs.List.{All}
 use Rattle.std.specs.List.Sorted.{IsStrictlyIncreasing}
 use Rattle.std.proofs.lemmas.List.Elements.{All-append, All-cons, All-nil}
-use Rattle.std.proofs.lemmas.List.{append-nil, flat_map_more, get_or-replicate, length-replicate, map-append}
+use Rattle.std.proofs.lemmas.List.{append-nil, flat_map_more, get_or-replicate, length-replicate, length-append, map-append}
 use Rattle.std.proofs.lemmas.List.Sums.{sum_by-cons, sum_by-append}
 use Rattle.std.proofs.Math.ListN.{drop_of_length-le}
 use Rattle.ats_bound.specs.declared.work.Mark.{Mark}
@@ -13,6 +13,8 @@ use Rattle.ats_bound.proofs.Scores.{held_or_missing}
 use Rattle.ats_proof.specs.Value.{Proof, Prefix, present_in, layout_of}
 use Rattle.ats_commit.specs.Archive.{Layout}
 use Rattle.ats_client.specs.declared.refusal.Refusal.{Refusal}
+use Rattle.ats_client.specs.declared.present_terms.PresentTerm.{PresentTerm}
+use Rattle.ats_client.specs.PresentTerms.{kept_term, kept_terms}
 use Rattle.ats_client.specs.Presented.{Presented, presented, presented_from, lanes_of}
 use Rattle.ats_client.specs.Indexes.{AreNames}
 use Rattle.ats_client.specs.Groups.{IsListRight, IsListFault, IsListsFault, indexes_of, met_at}
@@ -22,7 +24,7 @@ use Rattle.ats_client.proofs.Lanes.{gain_all, held_all, has_all, rests_all}
 use Rattle.ats_client.proofs.Marks.{notes_turn}
 
 -- the terms below a number are tried, and what is noted is of those that are present
-pub record IsPassed (H : List ℕ → List ℕ) (query : List (List ℕ × ℕ)) (proof : Proof) (i : ℕ) (left : List Prefix) (threshold : ℕ) (marks : List Mark) : Type 0 where
+pub record IsPassed (H : List ℕ → List ℕ) (query : List (List ℕ × ℕ)) (proof : Proof) (i : ℕ) (left : List Prefix) (terms : List PresentTerm) (threshold : ℕ) (marks : List Mark) : Type 0 where
   pub before : List Presented
   pub stands : presented query proof ≡ before ++ presented_from proof.dict i (drop i query) (drop i proof.slots) left
   pub right : All (IsListRight H (layout_of proof) proof.met) before
@@ -30,6 +32,8 @@ pub record IsPassed (H : List ℕ → List ℕ) (query : List (List ℕ × ℕ))
   pub rests : threshold ≡ threshold_of (map (index_lane proof.header.documents) before)
   pub enough : present_in (drop i proof.slots) ≡ length left
   pub small : threshold ≤ i * 2 ^ 33
+  pub kept : terms ≡ map (kept_term proof.header.documents) before
+  pub few : length terms ≤ i
 
 noted_first : (i : ℕ) (mark : Mark) → mark ≡ zero_mark → IsNoted [] 1 [] i mark
 noted_first i mark is = subst (λ m. IsNoted [] 1 [] i m) (sym is) (record {
@@ -43,9 +47,9 @@ noted_first i mark is = subst (λ m. IsNoted [] 1 [] i m) (sym is) (record {
   free = refl;
 })
 
-pub begins : (H : List ℕ → List ℕ) (query : List (List ℕ × ℕ)) (proof : Proof) (left : List Prefix) (marks : List Mark) → left ≡ proof.lists
-    → present_in proof.slots ≡ length left → marks ≡ replicate (length proof.met) zero_mark → IsPassed H query proof 0 left 0 marks
-begins H query proof left marks all enough zeros = record {
+pub begins : (H : List ℕ → List ℕ) (query : List (List ℕ × ℕ)) (proof : Proof) (left : List Prefix) (terms : List PresentTerm) (marks : List Mark) → left ≡ proof.lists
+    → present_in proof.slots ≡ length left → marks ≡ replicate (length proof.met) zero_mark → terms ≡ [] → IsPassed H query proof 0 left terms 0 marks
+begins H query proof left terms marks all enough zeros none = record {
   before = [];
   stands = ap (λ (l : List Prefix). presented_from proof.dict 0 query proof.slots l) (sym all);
   right = All-nil (IsListRight H (layout_of proof) proof.met);
@@ -57,14 +61,17 @@ begins H query proof left marks all enough zeros = record {
   rests = refl;
   enough = enough;
   small = omega arith;
+  kept = none;
+  few = omega (arith, ap (λ (ts : List PresentTerm). length ts) none);
 }
 
-pub passes_absent : (H : List ℕ → List ℕ) (query : List (List ℕ × ℕ)) (proof : Proof) (i : ℕ) (left after : List Prefix) (threshold : ℕ) (marks : List Mark)
-    → IsPassed H query proof i left threshold marks
+pub passes_absent : (H : List ℕ → List ℕ) (query : List (List ℕ × ℕ)) (proof : Proof) (i : ℕ) (left after : List Prefix) (terms : List PresentTerm) (threshold : ℕ) (marks : List Mark)
+    → IsPassed H query proof i left terms threshold marks
     → presented_from proof.dict i (drop i query) (drop i proof.slots) left ≡ presented_from proof.dict (i + 1) (drop (i + 1) query) (drop (i + 1) proof.slots) after
-    → present_in (drop (i + 1) proof.slots) ≡ length after → IsPassed H query proof (i + 1) after threshold marks
-passes_absent H query proof i left after threshold marks p step enough =
+    → present_in (drop (i + 1) proof.slots) ≡ length after → IsPassed H query proof (i + 1) after terms threshold marks
+passes_absent H query proof i left after terms threshold marks p step enough =
     let small = p.small in
+    let few = p.few in
     record {
       before = p.before;
       stands = p.stands ∙ ap (λ (l : List Presented). p.before ++ l) step;
@@ -73,18 +80,21 @@ passes_absent H query proof i left after threshold marks p step enough =
       rests = p.rests;
       enough = enough;
       small = omega arith;
+      kept = p.kept;
+      few = omega (arith, few);
     }
 
-pub passes_present : (H : List ℕ → List ℕ) (query : List (List ℕ × ℕ)) (proof : Proof) (i : ℕ) (left after : List Prefix) (threshold most : ℕ) (one : Presented) (marks next : List Mark)
-    → IsPassed H query proof i left threshold marks
+pub passes_present : (H : List ℕ → List ℕ) (query : List (List ℕ × ℕ)) (proof : Proof) (i : ℕ) (left after : List Prefix) (terms terms' : List PresentTerm) (threshold most : ℕ) (one : Presented) (marks next : List Mark)
+    → IsPassed H query proof i left terms threshold marks
     → presented_from proof.dict i (drop i query) (drop i proof.slots) left ≡ one ∷ presented_from proof.dict (i + 1) (drop (i + 1) query) (drop (i + 1) proof.slots) after
     → IsListRight H (layout_of proof) proof.met one
     → ((notes : List Note) → AreNotes (length proof.met) notes (i + 1) [] marks → AreNotes (length proof.met) (notes ++ lane_notes (index_lane proof.header.documents one)) (i + 2) [] next)
-    → most ≡ rest (index_lane proof.header.documents one) → most ≤ 2 ^ 33
-    → present_in (drop (i + 1) proof.slots) ≡ length after → IsPassed H query proof (i + 1) after (threshold + most) next
-passes_present H query proof i left after threshold most one marks next p step right noted is few enough =
+    → most ≡ rest (index_lane proof.header.documents one) → most ≤ 2 ^ 33 → terms' ≡ terms ++ kept_term proof.header.documents one ∷ []
+    → present_in (drop (i + 1) proof.slots) ≡ length after → IsPassed H query proof (i + 1) after terms' (threshold + most) next
+passes_present H query proof i left after terms terms' threshold most one marks next p step right noted is little more enough =
     let n : ℕ = proof.header.documents in
     let small = p.small in
+    let few = p.few in
     let rests = p.rests in
     let number : i + 2 ≡ i + 1 + 1 = omega arith in
     let notes : notes_of n p.before ++ lane_notes (index_lane n one) ≡ notes_of n (p.before ++ one ∷ []) =
@@ -101,12 +111,14 @@ passes_present H query proof i left after threshold most one marks next p step r
       rests = omega (arith, rests, is, lanes, last);
       enough = enough;
       small = omega arith;
+      kept = more ∙ ap (λ (ts : List PresentTerm). ts ++ kept_term n one ∷ []) p.kept ∙ sym (map-append (kept_term n) p.before (one ∷ []));
+      few = omega (arith, few, ap (λ (ts : List PresentTerm). length ts) more, length-append terms (kept_term n one ∷ []));
     }
 
-pub fails : (H : List ℕ → List ℕ) (query : List (List ℕ × ℕ)) (proof : Proof) (i : ℕ) (left : List Prefix) (threshold : ℕ) (one : Presented) (later : List Presented) (marks : List Mark) (refusal : Refusal)
-    → IsPassed H query proof i left threshold marks → presented_from proof.dict i (drop i query) (drop i proof.slots) left ≡ one ∷ later
+pub fails : (H : List ℕ → List ℕ) (query : List (List ℕ × ℕ)) (proof : Proof) (i : ℕ) (left : List Prefix) (terms : List PresentTerm) (threshold : ℕ) (one : Presented) (later : List Presented) (marks : List Mark) (refusal : Refusal)
+    → IsPassed H query proof i left terms threshold marks → presented_from proof.dict i (drop i query) (drop i proof.slots) left ≡ one ∷ later
     → IsListFault H (layout_of proof) proof.met one refusal → IsListsFault H query proof refusal
-fails H query proof i left threshold one later marks refusal p step fault = record {
+fails H query proof i left terms threshold one later marks refusal p step fault = record {
   before = p.before;
   one = one;
   after = later;
@@ -116,17 +128,18 @@ fails H query proof i left threshold one later marks refusal p step fault = reco
 }
 
 -- all terms are tried
-pub record IsDone (H : List ℕ → List ℕ) (query : List (List ℕ × ℕ)) (proof : Proof) (threshold : ℕ) (marks : List Mark) : Type 0 where
+pub record IsDone (H : List ℕ → List ℕ) (query : List (List ℕ × ℕ)) (proof : Proof) (terms : List PresentTerm) (threshold : ℕ) (marks : List Mark) : Type 0 where
   pub right : All (IsListRight H (layout_of proof) proof.met) (presented query proof)
   pub list : ℕ
   pub notes : AreNotes (length proof.met) (notes_of proof.header.documents (presented query proof)) list [] marks
   pub few : list ≤ 33
   pub rests : threshold ≡ threshold_of (map (index_lane proof.header.documents) (presented query proof))
   pub small : threshold ≤ 33 * 2 ^ 33
+  pub kept : terms ≡ kept_terms query proof
 
-pub done : (H : List ℕ → List ℕ) (query : List (List ℕ × ℕ)) (proof : Proof) (i : ℕ) (left : List Prefix) (threshold : ℕ) (marks : List Mark)
-    → IsPassed H query proof i left threshold marks → length query ≤ i → i ≤ 32 → IsDone H query proof threshold marks
-done H query proof i left threshold marks p all few =
+pub done : (H : List ℕ → List ℕ) (query : List (List ℕ × ℕ)) (proof : Proof) (i : ℕ) (left : List Prefix) (terms : List PresentTerm) (threshold : ℕ) (marks : List Mark)
+    → IsPassed H query proof i left terms threshold marks → length query ≤ i → i ≤ 32 → IsDone H query proof terms threshold marks
+done H query proof i left terms threshold marks p all few =
     let n : ℕ = proof.header.documents in
     let nothing : drop i query ≡ [] = drop_of_length-le query all in
     let same : presented query proof ≡ p.before =
@@ -139,6 +152,7 @@ done H query proof i left threshold marks p all few =
       few = omega arith;
       rests = p.rests ∙ ap (λ l. threshold_of (map (index_lane n) l)) (sym same);
       small = omega arith;
+      kept = p.kept ∙ ap (map (kept_term n)) (sym same);
     }
 
 -- ---- what the marks then say
@@ -146,12 +160,12 @@ done H query proof i left threshold marks p all few =
 named_of : (H : List ℕ → List ℕ) (layout : Layout) (met : List ℕ) (terms : List Presented) → All (IsListRight H layout met) terms → All (λ (one : Presented). AreNames (length met) (indexes_of one.prefix.entries)) terms
 named_of H layout met terms all k d low = (all k d low).names
 
-pub marks_done : (H : List ℕ → List ℕ) (query : List (List ℕ × ℕ)) (proof : Proof) (threshold : ℕ) (marks : List Mark) → IsStrictlyIncreasing proof.met
-    → IsDone H query proof threshold marks → AreMarks bracket (lanes_of query proof) proof.met marks
-marks_done H query proof threshold marks rises d =
+pub marks_done : (H : List ℕ → List ℕ) (query : List (List ℕ × ℕ)) (proof : Proof) (terms : List PresentTerm) (threshold : ℕ) (marks : List Mark) → IsStrictlyIncreasing proof.met
+    → IsDone H query proof terms threshold marks → AreMarks bracket (lanes_of query proof) proof.met marks
+marks_done H query proof terms threshold marks rises d =
     let n : ℕ = proof.header.documents in
-    let terms : List Presented = presented query proof in
-    let all = named_of H (layout_of proof) proof.met terms d.right in
+    let ones : List Presented = presented query proof in
+    let all = named_of H (layout_of proof) proof.met ones d.right in
     let notes = d.notes in
     let few = d.few in
     record {
@@ -161,22 +175,22 @@ marks_done H query proof threshold marks rises d =
           let lo = is.small_lower in
           let early = is.early in
           let doc : ℕ = met_at proof.met i in
-          let least : (mark_at marks i).lo ≡ lower (lanes_of query proof) doc = is.least ∙ gain_all n proof.met rises i low terms all in
-          let held_is : (mark_at marks i).held ≡ held (lanes_of query proof) doc = is.held ∙ held_all n proof.met rises i low terms all in
+          let least : (mark_at marks i).lo ≡ lower (lanes_of query proof) doc = is.least ∙ gain_all n proof.met rises i low ones all in
+          let held_is : (mark_at marks i).held ≡ held (lanes_of query proof) doc = is.held ∙ held_all n proof.met rises i low ones all in
           record {
             least = least;
             within = omega (arith, held_is, held_or_missing (lanes_of query proof) doc);
             most = omega (arith, least, held_is, held_or_missing (lanes_of query proof) doc);
-            named = is.met ∙ has_all n proof.met rises i low terms all;
+            named = is.met ∙ has_all n proof.met rises i low ones all;
             small = omega arith;
           };
     }
 
-pub free_done : (H : List ℕ → List ℕ) (query : List (List ℕ × ℕ)) (proof : Proof) (threshold : ℕ) (marks : List Mark) → IsDone H query proof threshold marks → AreNoted [] marks
-free_done H query proof threshold marks d i low =
+pub free_done : (H : List ℕ → List ℕ) (query : List (List ℕ × ℕ)) (proof : Proof) (terms : List PresentTerm) (threshold : ℕ) (marks : List Mark) → IsDone H query proof terms threshold marks → AreNoted [] marks
+free_done H query proof terms threshold marks d i low =
     let notes = d.notes in
     let size = notes.size in
     (notes.each i (omega (arith, low, size))).free
 
-pub rests_done : (H : List ℕ → List ℕ) (query : List (List ℕ × ℕ)) (proof : Proof) (threshold : ℕ) (marks : List Mark) → IsDone H query proof threshold marks → threshold ≡ threshold_of (lanes_of query proof)
-rests_done H query proof threshold marks d = d.rests ∙ rests_all proof.header.documents proof.met (presented query proof)
+pub rests_done : (H : List ℕ → List ℕ) (query : List (List ℕ × ℕ)) (proof : Proof) (terms : List PresentTerm) (threshold : ℕ) (marks : List Mark) → IsDone H query proof terms threshold marks → threshold ≡ threshold_of (lanes_of query proof)
+rests_done H query proof terms threshold marks d = d.rests ∙ rests_all proof.header.documents proof.met (presented query proof)

@@ -7,7 +7,7 @@ use Rattle.ats_client.specs.Accepts.{Accepts}
 use Rattle.ats_client.specs.Headline.{IsTopOrCollides}
 use Rattle.ats_client.specs.Rows.{rows_of}
 use Rattle.ats_client.specs.Bytes.{AreVerifiedRows, IsVerifyFault, IsProofFault}
-use Rattle.ats_client.specs.declared.fault.Rejection.TheVariants.{Shape, Tra, Check}
+use Rattle.ats_client.specs.declared.fault.Rejection.TheVariants.{Shape, Check}
 use Rattle.ats_client.specs.declared.fault.VerifyFault.{VerifyFault}
 use Rattle.ats_client.specs.declared.fault.VerifyFault.TheVariants.{Rejected, OutOfMemory}
 
@@ -24,7 +24,6 @@ module _ (H : List ℕ → List ℕ) (root : List ℕ) (query : List (List ℕ �
 
   fault_of_bytes : (fault : VerifyFault) → IsProofFault H root query r proof fault → IsVerifyFault H root query r bytes fault
   fault_of_bytes (Rejected (Shape shape)) is = absurd is
-  fault_of_bytes (Rejected Tra) is = absurd is
   fault_of_bytes (Rejected (Check refusal)) is = (proof, says, is)
   fault_of_bytes OutOfMemory is = tt
 

@@ -1,14 +1,14 @@
 -- When a proof is accepted, and else by which rule it is refused.
-use Rattle.std.specs.Prelude.{◌≡◌, ℕ, List, [], ◌∷◌}
-use Rattle.ats_records.specs.declared.record.Algorithm.TheVariants.{Tnra}
-use Rattle.ats_proof.specs.Value.{Proof, algorithm_of}
+use Rattle.std.specs.Prelude.{ℕ, List, [], ◌∷◌}
+use Rattle.ats_proof.specs.Value.{Proof}
 use Rattle.ats_client.specs.declared.refusal.Refusal.{Refusal}
 use Rattle.ats_client.specs.Presented.{lanes_of}
 use Rattle.ats_client.specs.Bracketing.{bounds_of}
 use Rattle.ats_client.specs.Rules.{Group, AreKept, IsFirstFault}
+use Rattle.ats_client.specs.Documents.{IsDocsTree, IsDocsFault, AreDocumentsRight, IsDocumentsFault}
 use Rattle.ats_client.specs.Groups.{IsOpened, IsOpeningFault, IsDictionary, IsDictFault, AreSlotsRight, IsSlotsFault, AreListsRight, IsListsFault, AreAllMet, IsMetFault, AreRowsRight, IsRowsFault, IsAnswerSettled, IsSettledFault}
 
--- the rules of a proof, in their order
+-- the rules of a proof, in their order; a proof of lists alone keeps those of the documents
 abbrev pub rules : (List ℕ → List ℕ) → List ℕ → List (List ℕ × ℕ) → ℕ → Proof → List (Group Refusal)
 rules H root query r proof =
     record { kept = IsOpened H root query proof; fault = IsOpeningFault H root query proof }
@@ -16,6 +16,8 @@ rules H root query r proof =
     ∷ record { kept = AreSlotsRight query proof; fault = IsSlotsFault query proof }
     ∷ record { kept = AreListsRight H query proof; fault = IsListsFault H query proof }
     ∷ record { kept = AreAllMet (lanes_of query proof) proof.met; fault = IsMetFault (lanes_of query proof) proof.met }
+    ∷ record { kept = IsDocsTree H proof; fault = IsDocsFault H proof }
+    ∷ record { kept = AreDocumentsRight H query proof; fault = IsDocumentsFault H query proof }
     ∷ record { kept = AreRowsRight proof.met proof.answer; fault = IsRowsFault proof.met proof.answer }
     ∷ record {
       kept = IsAnswerSettled (bounds_of proof) (lanes_of query proof) proof.met proof.answer r;
@@ -23,12 +25,10 @@ rules H root query r proof =
     }
     ∷ []
 
--- all rules are kept. Of a proof that shows documents too this is not said: such a proof is not checked.
+-- all rules are kept
 pub record Accepts (H : List ℕ → List ℕ) (root : List ℕ) (query : List (List ℕ × ℕ)) (r : ℕ) (proof : Proof) : Type 0 where
-  pub walk : algorithm_of proof ≡ Tnra
   pub kept : AreKept (rules H root query r proof)
 
 -- the first rule that is not kept
 pub record IsFirstRefusal (H : List ℕ → List ℕ) (root : List ℕ) (query : List (List ℕ × ℕ)) (r : ℕ) (proof : Proof) (refusal : Refusal) : Type 0 where
-  pub walk : algorithm_of proof ≡ Tnra
   pub first : IsFirstFault (rules H root query r proof) refusal

@@ -1,15 +1,14 @@
 -- When bytes are accepted as a proof, with the rows of its answer, and else why they are not.
 use Rattle.std.specs.Prelude.{◌≡◌, ℕ, List}
 use Rattle.ats_impact.specs.declared.rank.Row.{Row}
-use Rattle.ats_records.specs.declared.record.Algorithm.TheVariants as algorithm
 use Rattle.ats_grammar.specs.Front.{IsBad}
 use Rattle.ats_grammar.specs.Grammar.{proof_format}
-use Rattle.ats_proof.specs.Value.{Proof, IsProof, algorithm_of}
+use Rattle.ats_proof.specs.Value.{Proof, IsProof}
 use Rattle.ats_client.specs.Accepts.{Accepts, IsFirstRefusal}
 use Rattle.ats_client.specs.Headline.{IsTopOrCollides}
 use Rattle.ats_client.specs.Rows.{rows_of}
 use Rattle.ats_client.specs.declared.fault.Rejection.{Rejection}
-use Rattle.ats_client.specs.declared.fault.Rejection.TheVariants.{Shape, Tra, Check}
+use Rattle.ats_client.specs.declared.fault.Rejection.TheVariants.{Shape, Check}
 use Rattle.ats_client.specs.declared.fault.VerifyFault.{VerifyFault}
 use Rattle.ats_client.specs.declared.fault.VerifyFault.TheVariants.{Rejected, OutOfMemory}
 
@@ -25,10 +24,9 @@ pub record AreVerifiedRows (H : List ℕ → List ℕ) (root : List ℕ) (query 
   pub headline : IsTopOrCollides H root query r proof
   pub answer : rows ≡ rows_of query proof
 
--- the bytes are refused so under the root for the query: by their shape, then the algorithm, then the rules
+-- the bytes are refused so under the root for the query: by their shape, then by the rules
 abbrev pub IsRejectedBytes : (List ℕ → List ℕ) → List ℕ → List (List ℕ × ℕ) → ℕ → List ℕ → Rejection → Type 0
 IsRejectedBytes H root query r bytes (Shape fault) = IsBad proof_format bytes fault
-IsRejectedBytes H root query r bytes Tra = (proof : Proof) × IsProof bytes proof × (algorithm_of proof ≡ algorithm.Tra)
 IsRejectedBytes H root query r bytes (Check refusal) = (proof : Proof) × IsProof bytes proof × IsFirstRefusal H root query r proof refusal
 
 -- why no rows were answered; want of memory is free
@@ -39,6 +37,5 @@ IsVerifyFault H root query r bytes OutOfMemory = Unit {0}
 -- of a proof in hand: the first rule that it does not keep
 abbrev pub IsProofFault : (List ℕ → List ℕ) → List ℕ → List (List ℕ × ℕ) → ℕ → Proof → VerifyFault → Type 0
 IsProofFault H root query r proof (Rejected (Shape fault)) = ⊥
-IsProofFault H root query r proof (Rejected Tra) = ⊥
 IsProofFault H root query r proof (Rejected (Check refusal)) = IsFirstRefusal H root query r proof refusal
 IsProofFault H root query r proof OutOfMemory = Unit {0}

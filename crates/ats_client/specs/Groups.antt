@@ -1,5 +1,5 @@
 -- The rules of a proof, group by group: when a group is kept, and else its first failure.
-use Rattle.std.specs.Prelude.{◌≡◌, ◌≢◌, ◌<◌, ◌∷◌, ◌++◌, ℕ, List, [], length, map, slice_index_or, Option, Some, None, false}
+use Rattle.std.specs.Prelude.{◌≡◌, ◌≢◌, ◌<◌, ◌∷◌, ℕ, List, [], length, map, slice_index_or, Option, Some, None, false}
 use Rattle.std.specs.List.{All}
 use Rattle.ats_tree.specs.Rebuild.{rebuilt}
 use Rattle.ats_lists.specs.declared.entry.Entry.{Entry}

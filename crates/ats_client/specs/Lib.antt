@@ -9,6 +9,8 @@ pub mod Accepts
 pub mod Marked
 pub mod Rows
 pub mod Seen
+pub mod SeenTerms
+pub mod PresentTerms
 pub mod Noting
 pub mod Lists
 pub mod Bounds

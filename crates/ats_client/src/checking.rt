@@ -1,11 +1,8 @@
 //! The check of a whole proof.
 
 ghost use Rattle.std.specs.Prelude.{◌≡◌, ◌≤◌, ◌+◌, ◌^◌, ℕ, List, length, IsOk, OnOk, IfOk, IfErr};
-ghost use Rattle.ats_records.specs.declared.record.Algorithm.{Algorithm};
-ghost use Rattle.ats_records.specs.declared.record.Algorithm.TheVariants.{Tnra};
 ghost use Rattle.ats_terms.specs.Query.{IsQuery};
 ghost use Rattle.ats_bound.specs.Cut.{threshold as threshold_of};
-ghost use Rattle.ats_proof.specs.Value.{algorithm_of};
 ghost use Rattle.ats_proof.specs.Views.{proof_of};
 ghost use Rattle.ats_client.specs.Presented.{lanes_of};
 ghost use Rattle.ats_client.specs.Bracketing.{bounds_of};
@@ -14,9 +11,11 @@ ghost use Rattle.ats_client.specs.Marked.{AreMarks};
 ghost use Rattle.ats_client.specs.Rows.{IsLeft};
 ghost use Rattle.ats_client.specs.Headline.{IsTopOrCollides};
 
+use crate::documents::{documents, documents_tree};
 use crate::lists::lists;
 use crate::met::met;
 use crate::opening::{dictionary, opened};
+use crate::present_terms::PresentTerms;
 use crate::refusal::Refusal;
 use crate::rows::rows;
 use crate::settled::settled;
@@ -36,7 +35,6 @@ fn checked<'a, H: Hash32>(
     work: &mut Work,
     steps: &mut Steps,
 ) -> Result<u64, Refusal>
-    requires algorithm { algorithm_of (proof_of proof.now) ≡ Tnra }
     requires work { length (proof_of proof.now).met ≤ work.old.room }
     requires count { steps.old ≤ 2 ^ 62 }
     ensures accepts { OnOk result (Accepts H.hash root.now query.now top (proof_of proof.now)) }
@@ -50,8 +48,11 @@ fn checked<'a, H: Hash32>(
     opened::<H>(root, query, proof, steps)?;
     dictionary::<H>(proof, steps)?;
     slots(query, proof, steps)?;
-    let threshold = lists::<H>(query, proof, work, steps)?;
+    let mut terms = PresentTerms::none();
+    let threshold = lists::<H>(query, proof, &mut terms, work, steps)?;
     met(proof, work, steps)?;
+    documents_tree::<H>(proof, steps)?;
+    documents::<H>(query, proof, &terms, threshold, work, steps)?;
     rows(proof, work, steps)?;
     if !settled(proof, work, threshold, top, steps) {
         return Err(Refusal::NotSettled);
@@ -60,7 +61,7 @@ fn checked<'a, H: Hash32>(
 }
 
 /// Tries whether a proof shows that its answer is right: the best `top` documents for the query in the
-/// collection that the root commits to. It answers what any document that no entry names can score, at
+/// archive that the root commits to. It answers what any document that no entry names can score, at
 /// most, or the first rule that the proof does not keep.
 ///
 /// The marks are begun anew; what stood there before does not matter. After a refusal they are any.
@@ -72,7 +73,6 @@ pub fn check<'a, H: Hash32>(
     work: &mut Work,
     steps: &mut Steps,
 ) -> Result<u64, Refusal>
-    requires algorithm { algorithm_of (proof_of proof.now) ≡ Tnra }
     requires work { length (proof_of proof.now).met ≤ work.old.room }
     requires count { steps.old ≤ 2 ^ 62 }
     ensures accepts { OnOk result (Accepts H.hash root.now query.now top (proof_of proof.now)) }

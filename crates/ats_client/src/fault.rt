@@ -7,13 +7,11 @@ ghost use Rattle.ats_client.specs.declared.fault.VerifyFault.TheVariants.{Reject
 use crate::refusal::Refusal;
 use ats_proof::ShapeFault;
 
-/// What is wrong with bytes as a proof: their shape, their algorithm, or the first rule that the proof does not keep.
+/// What is wrong with bytes as a proof: their shape, or the first rule that the proof does not keep.
 #[derive(Clone, Copy, Debug, PartialEq, Eq)]
 pub enum Rejection {
     /// The bytes spell no proof.
     Shape(ShapeFault),
-    /// They spell a proof by random access, which is not checked.
-    Tra,
     /// The first rule that the proof does not keep.
     Check(Refusal),
 }

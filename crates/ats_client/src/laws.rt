@@ -31,7 +31,7 @@ pub fn rebuilt_sections_are_bound<H: HashKind>()
         → extract H.hash archive query proof ≡ first_difference (ours H.hash archive query) (strings_of H.hash query proof) }
 {}
 
-/// What an accepted proof shows is the own of each archive with the root, or the first string of the proof that
+/// What an accepted proof shows belongs to every archive with the root, or the first string of the proof that
 /// differs from the archive's has an equal digest; `extract` finds that string.
 pub fn shown_leaves_are_bound<H: HashKind>()
     ensures bound { (archive : Archive) (query : List (List ℕ × ℕ)) (r : ℕ) (bytes : List ℕ) (proof : Proof) → AreTexts archive.texts → IsQuery query

@@ -1,9 +1,10 @@
-//! The check of a proof: whoever holds the root of a collection learns whether an answer is right.
+//! The check of a proof: whoever holds the root of an archive learns whether an answer is right.
 //!
 //! [`verify`] goes from the bytes of a proof to the rows of its answer, or to the first thing that is wrong
-//! with them. A proof shows parts of the dictionary and of the lists of a query's terms. [`check`] rebuilds
-//! each part up to the root, and from what the lists show it tries whether the answer is settled; [`row`]
-//! then tells each document of the answer with its bounds. These two take no memory.
+//! with them. A proof shows parts of the dictionary and of the lists of a query's terms, and by random access
+//! also of the met documents. [`check`] rebuilds each part up to the root, and from what the lists and the
+//! documents show it tries whether the answer is settled; [`row`] then tells each document of the answer with
+//! its bounds. These two take no memory.
 //! The room stands on the proof that `ats_proof` sees in its bytes, on the trees of `ats_tree`, and on the
 //! cuts and settled answers of `ats_bound`. It promises that a proof is accepted exactly where all rules of
 //! `specs/Accepts.antt` hold, else refused by the first that fails, and that an accepted answer is a top
@@ -14,6 +15,8 @@
 
 mod answer;
 mod checking;
+mod document;
+mod documents;
 mod fault;
 mod laws;
 mod leaf;
@@ -25,12 +28,14 @@ mod marks_tests;
 mod met;
 mod opening;
 mod present;
+mod present_terms;
 mod presenting;
 mod refusal;
 mod rows;
 mod section;
 mod settled;
 mod slots;
+mod term;
 #[cfg(test)]
 mod tests;
 mod verifying;

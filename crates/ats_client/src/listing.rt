@@ -8,6 +8,7 @@ ghost use Rattle.ats_proof.specs.Views.{proof_of};
 ghost use Rattle.ats_client.specs.Groups.{IsListRight, IsListFault, IsListRootFault, list_digest};
 ghost use Rattle.ats_client.specs.Noting.{Note, AreNotes, index_lane, lane_notes};
 ghost use Rattle.ats_client.specs.Lists.{prefix_of, presented_of};
+ghost use Rattle.ats_client.specs.PresentTerms.{kept_term};
 
 use crate::marking::{entries, rest_impact, weighed};
 use crate::opening::rebuilt;
@@ -15,7 +16,6 @@ use crate::present::Present;
 use crate::refusal::Refusal;
 use ats_bound::Work;
 use ats_hash::{Hash32, Steps};
-use ats_impact::idf;
 use ats_proof::ProofView;
 
 // Tries that the prefix is the front of the list that its term's leaf names.
@@ -41,15 +41,18 @@ fn rooted<'a, H: Hash32>(
     Ok(())
 }
 
-/// Tries the prefix of a present term, and notes its entries. It answers what the entries outside the
+/// Tries the prefix of a present term with this coefficient, and notes its entries. It answers what the entries outside the
 /// prefix can add to a score, at most.
 pub(crate) fn list<'a, H: Hash32>(
     one: &Present<'a>,
+    coefficient: u32,
     proof: &ProofView<'a>,
     work: &mut Work,
     steps: &mut Steps,
 ) -> Result<u64, Refusal>
     requires number { one.now.number < 32 }
+    requires coefficient { coefficient ≡ (kept_term (proof_of proof.now).header.documents (presented_of one.now)).coefficient }
+    requires small { coefficient ≤ 2 ^ 17 }
     requires notes { (notes : List Note) × AreNotes (length (proof_of proof.now).met) notes (one.now.number + 1) [] work.old.marks }
     requires room { steps.old ≤ 2 ^ 62 + 2 ^ 45 }
     ensures fault { IfErr result (IsListFault H.hash (layout_of (proof_of proof.now)) (proof_of proof.now).met (presented_of one.now)) }
@@ -61,7 +64,6 @@ pub(crate) fn list<'a, H: Hash32>(
     ensures room { work.new.room ≡ work.old.room }
     ensures cost { steps.new ≤ steps.old + 2 ^ 36 }
 {
-    let coefficient = u32::from(one.weight) * idf(proof.header().documents, one.entry.f);
     let impact = rest_impact(&one.list, one.entry.f, steps);
     let rest = weighed(coefficient, impact);
     entries(one, proof.met(), coefficient, rest, work, steps)?;

@@ -4,10 +4,12 @@ ghost use Rattle.std.specs.Prelude.{◌≡◌, ◌<◌, ◌≤◌, ◌+◌, ◌^
 ghost use Rattle.ats_bound.specs.Cut.{bracket, threshold as threshold_of};
 ghost use Rattle.ats_proof.specs.Views.{proof_of};
 ghost use Rattle.ats_client.specs.Presented.{lanes_of};
+ghost use Rattle.ats_client.specs.PresentTerms.{kept_terms};
 ghost use Rattle.ats_client.specs.Groups.{AreSlotsRight, AreListsRight, IsListsFault};
 ghost use Rattle.ats_client.specs.Marked.{AreMarks, AreNoted};
 
 use crate::listing::list;
+use crate::present_terms::PresentTerms;
 use crate::presenting::present;
 use crate::refusal::Refusal;
 use crate::walk::Walk;
@@ -16,20 +18,23 @@ use ats_hash::{Hash32, Steps};
 use ats_proof::ProofView;
 use ats_terms::Query;
 
-/// Tries the prefixes of all present terms, and makes the marks of the met documents. It answers what a
-/// document that is not met can score, at most.
+/// Tries the prefixes of all present terms, makes the marks of the met documents, and keeps the terms. It
+/// answers what a document that is not met can score, at most.
 pub(crate) fn lists<'a, H: Hash32>(
     query: &Query,
     proof: &ProofView<'a>,
+    terms: &mut PresentTerms,
     work: &mut Work,
     steps: &mut Steps,
 ) -> Result<u64, Refusal>
     requires each { length (proof_of proof.now).slots ≡ length query.now }
     requires right { AreSlotsRight query.now (proof_of proof.now) }
+    requires none { terms.old ≡ [] }
     requires work { length (proof_of proof.now).met ≤ work.old.room }
     requires room { steps.old ≤ 2 ^ 62 + 2 ^ 42 }
     ensures fault { IfErr result (IsListsFault H.hash query.now (proof_of proof.now)) }
     ensures right { OnOk result (AreListsRight H.hash query.now (proof_of proof.now)) }
+    ensures terms { OnOk result (terms.new ≡ kept_terms query.now (proof_of proof.now)) }
     ensures marks { OnOk result (AreMarks bracket (lanes_of query.now (proof_of proof.now)) (proof_of proof.now).met work.new.marks) }
     ensures free { OnOk result (AreNoted [] work.new.marks) }
     ensures threshold { IfOk result (λ threshold. threshold ≡ threshold_of (lanes_of query.now (proof_of proof.now))) }
@@ -40,10 +45,13 @@ pub(crate) fn lists<'a, H: Hash32>(
     work.begin(proof.met(), steps);
     let mut walk = Walk::over(proof.dict());
     let mut left = proof.lists();
+    let documents = proof.header().documents;
     let mut threshold = 0;
     for i in 0..query.len() {
         if let Some(one) = present(query, proof, i as u32, &mut walk, &mut left, steps) {
-            threshold += list::<H>(&one, proof, work, steps)?;
+            let term = one.kept(documents);
+            threshold += list::<H>(&one, term.coefficient, proof, work, steps)?;
+            terms.push(term);
         }
     }
     Ok(threshold)

@@ -51,7 +51,7 @@ fn read_row(
 pub(crate) fn rows(proof: &ProofView<'_>, work: &mut Work, steps: &mut Steps) -> Result<(), Refusal>
     requires size { length work.old.marks ≡ length (proof_of proof.now).met }
     requires fresh { AreNoted [] work.old.marks }
-    requires count { steps.old ≤ 2 ^ 62 + 2 ^ 50 }
+    requires count { steps.old ≤ 2 ^ 62 + 2 ^ 56 }
     ensures right { OnOk result (AreRowsRight (proof_of proof.now).met (proof_of proof.now).answer) }
     ensures noted { OnOk result (AreNoted (proof_of proof.now).answer work.new.marks) }
     ensures fault { IfErr result (λ refusal. IsRowsFault (proof_of proof.now).met (proof_of proof.now).answer refusal) }

@@ -88,7 +88,7 @@ pub(crate) fn settled(
     requires small { threshold < 2 ^ 48 }
     requires rows { AreRowsRight (proof_of proof.now).met (proof_of proof.now).answer }
     requires noted { AreNoted (proof_of proof.now).answer work.now.marks }
-    requires count { steps.old ≤ 2 ^ 62 + 2 ^ 50 }
+    requires count { steps.old ≤ 2 ^ 62 + 2 ^ 56 }
     ensures settled { (bounds : Bounding) (lanes : List ShownLane) → AreMarks bounds lanes (proof_of proof.now).met work.now.marks → threshold ≡ threshold_of lanes
         → (IsTrue result ↔ IsAnswerSettled bounds lanes (proof_of proof.now).met (proof_of proof.now).answer top) }
     ensures least { steps.old ≤ steps.new }

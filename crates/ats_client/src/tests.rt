@@ -1,9 +1,9 @@
 use super::*;
-use crate::tests::examples::{FOX_RED, RED_HEN, ROOT, ZEBRA, ZEBRA_FAR};
+use crate::tests::examples::{FOX_RED, RED_HEN, RED_HEN_LOOKED_UP, ROOT, ZEBRA, ZEBRA_FAR};
 use ats_bound::Work;
 use ats_hash::{Sha, Steps};
 use ats_impact::{Row, Top};
-use ats_proof::{Algorithm, ProofView};
+use ats_proof::ProofView;
 use ats_terms::Query;
 use std::alloc::{AllocError, Global};
 use std::test::*;
@@ -19,9 +19,6 @@ fn outcome_under(
     rows: u32,
 ) -> Result<(Result<u64, Refusal>, u64), Fail> {
     let proof = ProofView::read(bytes).map_err(|_| "it is a proof")?;
-    if proof.algorithm() != Algorithm::Tnra {
-        return Err(Fail::from("it shows lists alone"));
-    }
     let query = Query::read(alloc, query)?;
     let top = Top::new(rows)?;
     let mut work = Work::with_room(alloc, proof.met())?;
@@ -42,8 +39,8 @@ fn outcome(
 // The first row of an accepted proof.
 fn first_row(alloc: Global, bytes: &[u8], query: &str) -> Result<Row, Fail> {
     let proof = ProofView::read(bytes).map_err(|_| "it is a proof")?;
-    if proof.algorithm() != Algorithm::Tnra || proof.answers() == 0 {
-        return Err(Fail::from("it shows lists alone, and has a row"));
+    if proof.answers() == 0 {
+        return Err(Fail::from("it has a row"));
     }
     let query = Query::read(alloc, query)?;
     let top = Top::new(1)?;
@@ -62,6 +59,7 @@ fn honest_proofs_are_accepted(rt: HostRuntime) -> Result<(), Fail> {
     assert_eq!(rt; outcome(alloc, &RED_HEN, "red hen", 1)?, Ok(0));
     assert_eq!(rt; outcome(alloc, &FOX_RED, "fox red", 1)?, Ok(7638));
     assert_eq!(rt; outcome(alloc, &ZEBRA, "zebra", 1)?, Ok(0));
+    assert_eq!(rt; outcome(alloc, &RED_HEN_LOOKED_UP, "red hen", 1)?, Ok(6378));
     Ok(())
 }
 
@@ -71,6 +69,8 @@ fn rows_have_their_bounds(rt: HostRuntime) -> Result<(), Fail> {
     assert_eq!(rt; (whole.doc, whole.lower, whole.upper), (1, 13014, 13014));
     let cut = first_row(rt.alloc(), &FOX_RED, "fox red")?;
     assert_eq!(rt; (cut.doc, cut.lower, cut.upper), (0, 12756, 20394));
+    let known = first_row(rt.alloc(), &RED_HEN_LOOKED_UP, "red hen")?;
+    assert_eq!(rt; (known.doc, known.lower, known.upper), (1, 13014, 13014));
     Ok(())
 }
 
@@ -78,6 +78,8 @@ fn rows_have_their_bounds(rt: HostRuntime) -> Result<(), Fail> {
 fn steps_are_few_for_the_items(rt: HostRuntime) -> Result<(), Fail> {
     let (_, steps) = outcome_under(rt.alloc(), &ROOT, &RED_HEN, "red hen", 1)?;
     assert!(rt; steps <= 8 * 15 + 64);
+    let (_, steps) = outcome_under(rt.alloc(), &ROOT, &RED_HEN_LOOKED_UP, "red hen", 1)?;
+    assert!(rt; steps <= 8 * 35 + 64);
     Ok(())
 }
 
@@ -206,6 +208,48 @@ fn other_answers_are_refused(rt: HostRuntime) -> Result<(), Fail> {
     assert_eq!(rt;
         outcome(alloc, &twice, "red hen", 2)?,
         Err(Refusal::AnswerRepeated { row: 1 })
+    );
+    Ok(())
+}
+
+// A digest of the documents section more.
+fn with_a_digest_more(alloc: Global) -> Result<Vec<u8>, AllocError> {
+    let mut bytes = Vec::from_slice(alloc, &RED_HEN_LOOKED_UP[..493])?;
+    bytes.extend_from_slice(&[0, 0, 0, 1])?;
+    bytes.extend_from_slice(&[7; 32])?;
+    bytes.extend_from_slice(&RED_HEN_LOOKED_UP[497..])?;
+    Ok(bytes)
+}
+
+// What is answered where one byte is another one.
+fn changed(alloc: Global, at: usize, byte: u8) -> Result<Result<u64, Refusal>, Fail> {
+    let mut bytes = RED_HEN_LOOKED_UP;
+    if at < 751 {
+        bytes[at] = byte;
+    }
+    outcome(alloc, &bytes, "red hen", 1)
+}
+
+#[test]
+fn other_documents_are_refused(rt: HostRuntime) -> Result<(), Fail> {
+    let alloc = rt.alloc();
+    let more = with_a_digest_more(alloc)?;
+    assert_eq!(rt;
+        outcome(alloc, &more, "red hen", 1)?,
+        Err(Refusal::DocsMisfit)
+    );
+    assert_eq!(rt; changed(alloc, 390, 7)?, Err(Refusal::DocsRoot));
+    assert_eq!(rt;
+        changed(alloc, 606, 9)?,
+        Err(Refusal::TermsMisfit { doc: 1 })
+    );
+    assert_eq!(rt;
+        changed(alloc, 602, 0x81)?,
+        Err(Refusal::TermsRoot { doc: 1 })
+    );
+    assert_eq!(rt;
+        changed(alloc, 585, 1)?,
+        Err(Refusal::TermSlot { doc: 0, term: 0 })
     );
     Ok(())
 }

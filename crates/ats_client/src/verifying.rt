@@ -1,8 +1,6 @@
 //! The check of bytes, up to the rows of the answer.
 
 ghost use Rattle.std.specs.Prelude.{◌≡◌, ℕ, List, OnOk, IfOk, IfErr};
-ghost use Rattle.ats_records.specs.declared.record.Algorithm.TheVariants.{Tnra};
-ghost use Rattle.ats_proof.specs.Value.{algorithm_of};
 ghost use Rattle.ats_proof.specs.Views.{proof_of, bytes_of};
 ghost use Rattle.ats_client.specs.Accepts.{Accepts};
 ghost use Rattle.ats_client.specs.Headline.{IsTopOrCollides};
@@ -11,11 +9,11 @@ ghost use Rattle.ats_client.specs.Bytes.{AreVerifiedRows, IsVerifyFault, IsProof
 
 use crate::answer::row;
 use crate::checking::check;
-use crate::fault::{Rejection, VerifyFault};
+use crate::fault::VerifyFault;
 use ats_bound::Work;
 use ats_hash::{Hash32, Steps};
 use ats_impact::{OutOfMemory, Rows, Top};
-use ats_proof::{Algorithm, ProofView};
+use ats_proof::ProofView;
 use ats_terms::Query;
 use std::alloc::Global;
 
@@ -45,7 +43,6 @@ fn checked_rows<H: Hash32>(
     top: Top,
     proof: &ProofView<'_>,
 ) -> Result<Rows, VerifyFault>
-    requires { algorithm_of (proof_of proof.now) ≡ Tnra }
     ensures accepts { OnOk result (Accepts H.hash root.now query.now top (proof_of proof.now)) }
     ensures headline { OnOk result (IsTopOrCollides H.hash root.now query.now top (proof_of proof.now)) }
     ensures rows { IfOk result (λ rows. rows ≡ rows_of query.now (proof_of proof.now)) }
@@ -59,7 +56,7 @@ fn checked_rows<H: Hash32>(
 }
 
 /// Tries whether bytes are a proof that their answer is right: the best `top` documents for the query in
-/// the collection that the root commits to. It answers the rows of the answer, or the first thing that is
+/// the archive that the root commits to. It answers the rows of the answer, or the first thing that is
 /// wrong with the bytes.
 pub fn verify<H: Hash32>(
     alloc: Global,
@@ -72,8 +69,5 @@ pub fn verify<H: Hash32>(
     ensures fault { IfErr result (IsVerifyFault H.hash root.now query.now top bytes.now) }
 {
     let proof = ProofView::read(bytes)?;
-    match proof.algorithm() {
-        Algorithm::Tra => Err(VerifyFault::Rejected(Rejection::Tra)),
-        Algorithm::Tnra => checked_rows::<H>(alloc, root, query, top, &proof),
-    }
+    checked_rows::<H>(alloc, root, query, top, &proof)
 }

@@ -52,7 +52,7 @@ impl<S: Section> Walk<S> {
 
     /// Whether the slot shows the term.
     pub(crate) fn shows(&mut self, term: &[u8], slot: Slot, steps: &mut Steps) -> bool
-        requires room { steps.old ≤ 2 ^ 62 + 2 ^ 50 }
+        requires room { steps.old ≤ 2 ^ 62 + 2 ^ 60 }
         ensures same { self.new.all ≡ self.old.all }
         ensures shows { IsTrue result ↔ ShowsTerm (map S.shown (S.leaves self.old.all)) term.now slot }
         ensures cost { steps.new ≤ steps.old + 2 ^ 17 }

@@ -17,7 +17,7 @@ pub record Archive : Type 0 where
 abbrev pub archive_of : List (List ℕ) → Archive
 archive_of texts = record { texts = texts; layout = whole_lists }
 
--- the byte before the header, whose digest together is the root
+-- the byte in front of the header where the root is made
 abbrev pub header_tag : Layout → ℕ
 header_tag whole_lists = 2
 

@@ -37,7 +37,7 @@ abbrev pub own_header : (List ℕ → List ℕ) → Archive → Node → Option 
 own_header H archive (by_path []) = Some (header_tag archive.layout ∷ header_of H archive)
 own_header H archive (by_path (turn ∷ path)) = None
 
--- a list's strings are those of its layout
+-- the string at a node of one of the archive's trees; a list is hashed by its layout
 abbrev pub own_string : (List ℕ → List ℕ) → Archive → List (List ℕ × ℕ) → Tree → Node → Option (List ℕ)
 own_string H archive query Header node = own_header H archive node
 own_string H archive query (ListOf term) node = list_string H archive.layout (list archive.texts (asked_term query term)) node

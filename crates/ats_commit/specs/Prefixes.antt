@@ -19,7 +19,7 @@ list_string H whole_lists entries node = node_string H (map leaf_bytes entries) 
 abbrev pub prefix_root : (List ℕ → List ℕ) → Layout → ℕ → List Shown → List (List ℕ) → Option (List ℕ)
 prefix_root H whole_lists total shown digests = rebuilt H total shown digests
 
--- the strings that are hashed for it, in their order
+-- the strings that are hashed for that root, in their order
 abbrev pub prefix_strings : (List ℕ → List ℕ) → Layout → ℕ → List Shown → List (List ℕ) → List (Hashed Node)
 prefix_strings H whole_lists total shown digests = node_strings H total shown digests
 

@@ -31,10 +31,10 @@ HasHeaderInRange H archive =
 abbrev pub root_of : (List ℕ → List ℕ) → Archive → List ℕ
 root_of H archive = H (header_tag archive.layout ∷ header_of H archive)
 
--- the bytes of these numbers and roots under the tag of a layout
+-- a header's bytes under the tag of a layout
 abbrev pub header_string : Layout → Header → List ℕ
 header_string layout h = header_tag layout ∷ header_bytes h.documents h.dict_leaves h.dict_root h.docs_root h.texts_root
 
--- the root that they stand for
+-- the root that a header stands for in a layout
 abbrev pub header_root : (List ℕ → List ℕ) → Layout → Header → List ℕ
 header_root H layout h = H (header_string layout h)

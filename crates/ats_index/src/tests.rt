@@ -62,6 +62,7 @@ fn parts_of_three_texts(rt: HostRuntime) -> Result<(), Fail> {
     assert_eq!(rt; index.dictionary().leaf(1).term, b"blue".as_slice());
     assert_eq!(rt; index.doc_terms(1).len(), 4);
     assert_eq!(rt; index.doc_leaf(1).leaves, 4);
+    assert_eq!(rt; index.doc_leaves().len(), 3);
     Ok(())
 }
 

@@ -31,7 +31,7 @@ pub fn honest_proofs_are_one<H: HashKind>()
 {}
 
 /// No honest proof of lists alone has more bytes than a proof may have: 2^26, for a query of at most 32 terms
-/// over a collection, and at most 1,000 rows.
+/// over an archive, and at most 1,000 rows.
 pub fn honest_proofs_are_short<H: HashKind>()
     ensures { (archive : Archive) (query : List (List ℕ × ℕ)) (r : ℕ) (proof : Proof) → AreTexts archive.texts → length query ≤ 32 → r ≤ 1000
         → IsHonest H.hash archive query r Tnra proof → length_of proof ≤ 2 ^ 26 }

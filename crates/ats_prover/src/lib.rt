@@ -3,8 +3,8 @@
 //! A proof shows where the query's terms stand in the dictionary, the fronts of their lists up to where
 //! the walk ends, and the chosen answer, with the digests that bind all of it to the root.
 //! By random access it also shows where the terms stand in each met document.
-//! The room stands on `ats_index` for the collection, on `ats_tnra` and `ats_tra` for the walks, and on
-//! `ats_records` and `ats_proof` for the bytes. The contracts promise that a query over a collection has one
+//! The room stands on `ats_index` for the archive, on `ats_tnra` and `ats_tra` for the walks, and on
+//! `ats_records` and `ats_proof` for the bytes. The contracts promise that a query over an archive has one
 //! honest proof by each algorithm, no more and no fewer, which shows exactly the leaves that its terms need and
 //! exactly the entries of the first settled cut. They promise that the bytes spell it, and that short of want of
 //! memory it is refused exactly where it is longer than the limit. By lists alone it never has more than 2^26

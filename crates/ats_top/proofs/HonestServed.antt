@@ -1,12 +1,12 @@
 -- A file that is an honest proof is served by `verify`.
 use Rattle.std.proofs.Common.{◌≡◌, ◌^◌, ℕ, List, Option, Some, ap₂}
 use Rattle.std.specs.Prelude.{option_map, option_and_then}
-use Rattle.ats_records.specs.declared.record.Algorithm.TheVariants.{Tnra}
+use Rattle.ats_records.specs.declared.record.Algorithm.{Algorithm}
 use Rattle.ats_terms.specs.Query.{IsQueryOf}
 use Rattle.ats_commit.specs.Archive.{Archive}
 use Rattle.ats_commit.specs.Root.{root_of}
 use Rattle.ats_prover.specs.Honest.{IsProved}
-use Rattle.ats_accepts.proofs.Accepted.{archive_accepted}
+use Rattle.ats_accepts.proofs.Accepted.{proved_accepted}
 use Rattle.ats_top.specs.Words.{Command, Verify, number_of, root_word, verify_words, command_of}
 use Rattle.ats_top.specs.Read.{Files, IsFile}
 use Rattle.ats_top.specs.Refusals.{IsRowCount}
@@ -23,11 +23,11 @@ verify_said : (root digest r query name : List ℕ) (rows : ℕ) → root_word r
     → command_of (verify_words root r query name) ≡ Some (Verify (record { root = digest; r = rows; query = query; proof = name }))
 verify_said root digest r query name rows is_root is_rows = ap₂ (said_by query name) is_root is_rows
 
-pub honest_served : (H : List ℕ → List ℕ) (archive : Archive) (asked : List (List ℕ × ℕ)) (rows : ℕ) (bytes : List ℕ) (files : Files) (root r query name : List ℕ)
-    → IsProved H archive asked rows Tnra bytes → IsFile files name (2 ^ 26) bytes → root_word root ≡ Some (root_of H archive)
+pub honest_served : (H : List ℕ → List ℕ) (archive : Archive) (asked : List (List ℕ × ℕ)) (rows : ℕ) (algorithm : Algorithm) (bytes : List ℕ) (files : Files) (root r query name : List ℕ)
+    → IsProved H archive asked rows algorithm bytes → IsFile files name (2 ^ 26) bytes → root_word root ≡ Some (root_of H archive)
     → number_of r ≡ Some rows → IsRowCount rows → IsQueryOf query asked
     → Said (verify_words root r query name) (IsServed H files)
-honest_served H archive asked rows bytes files root r query name proved file is_root is_rows within is_query =
+honest_served H archive asked rows algorithm bytes files root r query name proved file is_root is_rows within is_query =
     let proof = proved.proof in (
       Verify (record { root = root_of H archive; r = rows; query = query; proof = name }),
       verify_said root (root_of H archive) r query name rows is_root is_rows,
@@ -39,7 +39,7 @@ honest_served H archive asked rows bytes files root r query name proved file is_
           bytes = bytes;
           file = file;
           proof = proof;
-          accepted = record { says = proved.spells; accepts = archive_accepted H archive asked rows proof proved.honest };
+          accepted = record { says = proved.spells; accepts = proved_accepted H archive asked rows algorithm bytes proved proof proved.spells };
         },
       ),
     )

@@ -152,7 +152,7 @@ spelled_size : (bytes : List ℕ) (proof : Proof) → IsProof bytes proof → le
 spelled_size bytes proof is = ap length is.spells.whole.parts ∙ ap length (append-nil (concat (fields_of proof)))
 
 -- the honest proof is one, so where one was stored none is too long
-too_long_kept : (H : List ℕ → List ℕ) (files : Files) (words : ProveWords) (bytes : List ℕ) (size : ℕ) → IsTold files → IsProofFor H files words bytes
+pub too_long_kept : (H : List ℕ → List ℕ) (files : Files) (words : ProveWords) (bytes : List ℕ) (size : ℕ) → IsTold files → IsProofFor H files words bytes
     → IsProofTooLong H files words size → ⊥
 too_long_kept H files words bytes size told stored long =
     let same = one_file files words.index stored.index.bytes long.index.bytes (2 ^ 29) (2 ^ 29) told stored.index.file long.index.file in

@@ -1,6 +1,5 @@
 -- The honest proof that the words of `prove` ask for.
-use Rattle.std.specs.Prelude.{◌≡◌, ◌≤◌, ◌^◌, ℕ, List, length}
-use Rattle.ats_records.specs.declared.record.Algorithm.TheVariants.{Tnra}
+use Rattle.std.specs.Prelude.{◌≤◌, ◌^◌, ℕ, List, length}
 use Rattle.ats_commit.specs.Archive.{Archive}
 use Rattle.ats_terms.specs.Query.{IsQueryOf}
 use Rattle.ats_prover.specs.Honest.{IsProved, IsTooLong}
@@ -13,7 +12,6 @@ pub record IsProofFor (H : List ℕ → List ℕ) (files : Files) (words : Prove
   pub query : List (List ℕ × ℕ)
   pub index : HasIndex H files words.index archive
   pub asked : IsQueryOf words.query query
-  pub walk : words.algorithm ≡ Tnra
   pub proved : IsProved H archive query words.r words.algorithm bytes
   pub short : length bytes ≤ 2 ^ 26
 
@@ -23,5 +21,4 @@ pub record IsProofTooLong (H : List ℕ → List ℕ) (files : Files) (words : P
   pub query : List (List ℕ × ℕ)
   pub index : HasIndex H files words.index archive
   pub asked : IsQueryOf words.query query
-  pub walk : words.algorithm ≡ Tnra
   pub long : IsTooLong H archive query words.r words.algorithm (2 ^ 26) size

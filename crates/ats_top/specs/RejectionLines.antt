@@ -5,7 +5,7 @@ use Rattle.ats_grammar.specs.declared.fault.ShapeKind.TheVariants.{Long, Cut, Ma
 use Rattle.ats_client.specs.declared.refusal.Refusal.{Refusal}
 use Rattle.ats_client.specs.declared.refusal.Refusal.TheVariants.{OtherRoot, SlotCount, DictMisfit, DictRoot, SlotWrong, IndexOut, Repeated, ListMisfit, ListRoot, Unmet, DocsMisfit, DocsRoot, TermsMisfit, TermsRoot, TermSlot, AnswerOut, AnswerRepeated, NotSettled}
 use Rattle.ats_client.specs.declared.fault.Rejection.{Rejection}
-use Rattle.ats_client.specs.declared.fault.Rejection.TheVariants.{Shape, Tra, Check}
+use Rattle.ats_client.specs.declared.fault.Rejection.TheVariants.{Shape, Check}
 
 abbrev pub kind_word : ShapeKind → List ℕ
 kind_word Long = codes "long"
@@ -39,5 +39,4 @@ refusal_words NotSettled = codes "not-settled"
 
 abbrev pub line_of_rejection : Rejection → List ℕ
 line_of_rejection (Shape fault) = codes "refused: shape " ++ (kind_word fault.kind ++ (codes " " ++ (decimal fault.at ++ codes "\n")))
-line_of_rejection Tra = codes "refused: tra\n"
 line_of_rejection (Check refusal) = codes "refused: " ++ (refusal_words refusal ++ codes "\n")

@@ -1,14 +1,14 @@
 //! What holds of the commands together, as contracts of functions that do nothing.
 
-ghost use Rattle.std.specs.Prelude.{◌≡◌, ◌^◌, ℕ, List, Some};
+ghost use Rattle.std.specs.Prelude.{◌≡◌, ◌≤◌, ◌^◌, ℕ, List, length, codes, Some};
 ghost use Rattle.ats_base.specs.Outside.{Holds};
 ghost use Rattle.ats_terms.specs.Query.{IsQueryOf};
 ghost use Rattle.ats_commit.specs.Archive.{Archive};
 ghost use Rattle.ats_commit.specs.Root.{root_of};
-ghost use Rattle.ats_records.specs.declared.record.Algorithm.TheVariants.{Tnra};
+ghost use Rattle.ats_records.specs.declared.record.Algorithm.{Algorithm};
 ghost use Rattle.ats_index.specs.Spelling.{IsSpelling};
 ghost use Rattle.ats_prover.specs.Honest.{IsProved};
-ghost use Rattle.ats_top.specs.Words.{Command, number_of, root_word, root_words, prove_words, verify_words};
+ghost use Rattle.ats_top.specs.Words.{Command, number_of, algorithm_of, root_word, root_words, prove_words, verify_words};
 ghost use Rattle.ats_top.specs.Read.{Files, IsFile, IsTold};
 ghost use Rattle.ats_top.specs.Refusals.{IsRowCount, AsksRanking, IsRefused};
 ghost use Rattle.ats_top.specs.Rejected.{IsRejected};
@@ -19,23 +19,28 @@ ghost use Rattle.ats_top.specs.Run.{Said};
 
 use ats_hash::HashKind;
 
-/// Where a file is the honest proof of a query over an archive by lists alone, `verify` serves it under the
+/// Where a file is the honest proof of a query over an archive, by either algorithm, `verify` serves it under the
 /// word of the archive's root, for the same query and number of rows.
 pub fn honest_proofs_are_served<H: HashKind>()
-    ensures { (archive : Archive) (asked : List (List ℕ × ℕ)) (rows : ℕ) (bytes : List ℕ) (files : Files) (root r query name : List ℕ)
-        → IsProved H.hash archive asked rows Tnra bytes → IsFile files name (2 ^ 26) bytes → root_word root ≡ Some (root_of H.hash archive)
+    ensures { (archive : Archive) (asked : List (List ℕ × ℕ)) (rows : ℕ) (algorithm : Algorithm) (bytes : List ℕ) (files : Files) (root r query name : List ℕ)
+        → IsProved H.hash archive asked rows algorithm bytes → IsFile files name (2 ^ 26) bytes → root_word root ≡ Some (root_of H.hash archive)
         → number_of r ≡ Some rows → IsRowCount rows → IsQueryOf query asked
         → Said (verify_words root r query name) (IsServed H.hash files) }
 {}
 
-/// Where a file holds the index bytes of an archive, which `build` stores, `root` serves it. So does `prove`, for a
-/// query and a number of rows within the limits: no proof that they ask for is too long.
+/// Where a file holds the index bytes of an archive, which `build` stores, `root` serves it. So does `prove` by lists
+/// alone, for a query and a number of rows within the limits: no proof that they ask for is too long. By either
+/// algorithm `prove` serves it wherever the honest proof has no more bytes than a proof may have.
 pub fn built_indexes_are_served<H: HashKind>()
     ensures root { (archive : Archive) (bytes : List ℕ) (files : Files) (name : List ℕ) → IsSpelling H.hash bytes archive → Holds files name bytes
         → Said (root_words name) (IsServed H.hash files) }
     ensures prove { (archive : Archive) (bytes : List ℕ) (files : Files) (name : List ℕ) → IsSpelling H.hash bytes archive → Holds files name bytes
         → (rows : ℕ) (r query proof : List ℕ) → number_of r ≡ Some rows → AsksRanking rows query
-        → Said (prove_words name r query proof) (IsServed H.hash files) }
+        → Said (prove_words name (codes "tnra") r query proof) (IsServed H.hash files) }
+    ensures either { (archive : Archive) (bytes : List ℕ) (files : Files) (name : List ℕ) → IsTold files → IsSpelling H.hash bytes archive → Holds files name bytes
+        → (algorithm : Algorithm) (asked : List (List ℕ × ℕ)) (rows : ℕ) (honest : List ℕ) → IsProved H.hash archive asked rows algorithm honest → length honest ≤ 2 ^ 26
+        → (word r query proof : List ℕ) → algorithm_of word ≡ Some algorithm → number_of r ≡ Some rows → IsRowCount rows → IsQueryOf query asked
+        → Said (prove_words name word r query proof) (IsServed H.hash files) }
 {}
 
 /// Where the shelf tells its files, the proof of a command is refused in one way at most, and in none where the

@@ -56,7 +56,6 @@ pub(crate) fn rejection_line(alloc: Global, rejection: Rejection) -> Result<Stri
             let kind = kind_word(kind);
             format!(in alloc; "refused: shape {kind} {at}\n")
         }
-        Rejection::Tra => format!(in alloc; "refused: tra\n"),
         Rejection::Check(refusal) => {
             let words = refusal_words(alloc, refusal)?;
             format!(in alloc; "refused: {words}\n")

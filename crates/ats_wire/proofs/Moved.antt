@@ -1,5 +1,5 @@
 -- What goes over a link in parts goes over it as a whole.
-use Rattle.std.proofs.Common.{◌≡◌, ◌≤◌, ◌<◌, ◌+◌, ◌-◌, sym, ◌∙◌, ◌++◌, ℕ, List, [], ◌∷◌, length, take, drop, subst, Result, Ok, Err, OnOk, OnErr, append_assoc, add-one, ap, arith, length-append}
+use Rattle.std.proofs.Common.{◌≡◌, ◌≤◌, ◌<◌, ◌+◌, ◌-◌, sym, ◌∙◌, ◌++◌, ℕ, List, [], ◌∷◌, length, take, drop, subst, Result, Ok, Err, OnErr, append_assoc, add-one, ap, arith, length-append}
 use Rattle.std.proofs.lemmas.List.{length-take-le, take-append-le, take-append-drop}
 use Rattle.std.proofs.Math.Seq.{take-append-add}
 use borrow.Rule.Slice.PartMut.{put_mid, post_of}
@@ -75,13 +75,6 @@ frame_joined piece head bytes kind front is =
 pub on_err_any : {T E P : Type 0} (result : Result T E) → P → OnErr result P
 on_err_any (Ok done) holds = tt
 on_err_any (Err fault) holds = holds
-
--- the last part of what was to be sent was sent
-pub sent_rest : {T E : Type 0} (result : Result T E) (before mid now : LinkTold) (piece rest whole : List ℕ)
-    → piece ++ rest ≡ whole → Moves before mid [] piece 0 → OnOk result (Moves mid now [] rest 0) → OnOk result (Moves before now [] whole 0)
-sent_rest (Ok done) before mid now piece rest whole is first second =
-    subst (λ (x : List ℕ). Moves before now [] x 0) is (moves_then before mid now [] piece [] rest 0 first second)
-sent_rest (Err fault) before mid now piece rest whole is first second = tt
 
 -- the last part of what was to be sent was cut off
 pub cut_rest : {T E : Type 0} (result : Result T E) (before mid now : LinkTold) (piece rest whole : List ℕ)

@@ -1,9 +1,11 @@
 -- A body that is found to begin as a request spells one.
-use Rattle.std.proofs.Common.{◌≡◌, ◌≤◌, ◌<◌, ◌-◌, ◌∙◌, ℕ, zero, suc, List, [], ◌∷◌, ◌++◌, length, get_or, take, drop, take_all, length-drop, refl, sym, ap, arith}
+use Rattle.std.proofs.Common.{◌⊎◌, inl, inr, ◌≡◌, ◌≤◌, ◌<◌, ◌-◌, ◌∙◌, ℕ, zero, suc, List, [], ◌∷◌, ◌++◌, length, get_or, take, drop, take_all, length-drop, refl, sym, ap, arith}
 use Rattle.std.specs.Int.{to_be_bytes, w16}
 use Rattle.byteorder.specs.Endian.{big_number}
 use Rattle.ats_records.specs.declared.record.Algorithm.{Algorithm}
-use Rattle.ats_wire.specs.Requests.{request_body, algorithm_byte}
+use Rattle.ats_records.specs.declared.record.Algorithm.TheVariants.{Tra, Tnra}
+use Rattle.byteorder.specs.Numbers.{big_number-reads_back}
+use Rattle.ats_wire.specs.Requests.{Question, Spells, Asks, IsRefused, request_body, algorithm_byte}
 use Rattle.ats_wire.proofs.Numbers.{number_2}
 
 two_small : (a b : ℕ) → a < 256 → b < 256 → (i : ℕ) → get_or (a ∷ b ∷ []) i 0 < 256
@@ -38,3 +40,33 @@ is_spelled (a ∷ b ∷ c ∷ d ∷ e ∷ f ∷ query) algorithm rows long room 
 -- the range from a place to the end
 pub to_end : (k : ℕ) (bytes : List ℕ) → take (length bytes - k) (drop k bytes) ≡ drop k bytes
 to_end k bytes = take_all (length bytes - k) (drop k bytes) (omega (arith, length-drop k bytes))
+
+same_algorithm : (one other : Algorithm) → algorithm_byte one ≡ algorithm_byte other → one ≡ other
+same_algorithm Tra Tra is = refl
+same_algorithm Tra Tnra is = absurd (cc)
+same_algorithm Tnra Tra is = absurd (cc)
+same_algorithm Tnra Tnra is = refl
+
+rows_back : (body : List ℕ) (algorithm : Algorithm) (rows : ℕ) (query : List ℕ) → Spells body algorithm rows query → big_number 2 (drop 2 body) ≡ rows
+rows_back body algorithm rows query spells =
+    ap (λ (xs : List ℕ). big_number 2 (drop 2 xs)) spells.is ∙ big_number-reads_back 2 rows (to_be_bytes w16 (length query) ++ query) spells.small
+
+-- a body spells one request at most
+pub spelled_once : (body : List ℕ) (one other : Algorithm) (rows more : ℕ) (query words : List ℕ)
+    → Spells body one rows query → Spells body other more words → (one ≡ other) × (rows ≡ more) × (query ≡ words)
+spelled_once body one other rows more query words first second = (
+  same_algorithm one other (sym (ap (λ (xs : List ℕ). get_or xs 1 0) first.is) ∙ ap (λ (xs : List ℕ). get_or xs 1 0) second.is),
+  sym (rows_back body one rows query first) ∙ rows_back body other more words second,
+  sym (ap (λ (xs : List ℕ). drop 6 xs) first.is) ∙ ap (λ (xs : List ℕ). drop 6 xs) second.is,
+)
+
+out_of_range : (top rows : ℕ) → top ≡ rows → 1 ≤ top → top ≤ 1000 → (rows ≡ 0) ⊎ (1000 < rows) → ⊥
+out_of_range top rows same some few (inl none) = omega arith
+out_of_range top rows same some few (inr many) = omega arith
+
+-- what asks a question is refused by no code
+pub not_refused : (body : List ℕ) (question : Question) (code : ℕ) → Asks body question → IsRefused body code → ⊥
+not_refused body question code asks (inl (one, none)) = none question.algorithm question.top question.query asks.spells
+not_refused body question code asks (inr (four, (algorithm, rows, query, spells, out))) =
+    let same = spelled_once body question.algorithm algorithm question.top rows question.query query asks.spells spells in
+    out_of_range question.top rows same.1 asks.some asks.few out

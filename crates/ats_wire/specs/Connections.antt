@@ -1,5 +1,5 @@
 -- A whole connection: the frames that were read, the replies that were written, and how it ended.
-use Rattle.std.specs.Prelude.{◌≡◌, ◌⊎◌, ◌<◌, ◌≤◌, ℕ, List, [], ◌++◌, length, take}
+use Rattle.std.specs.Prelude.{◌≡◌, ◌⊎◌, ◌<◌, ◌≤◌, ◌^◌, ℕ, List, [], ◌++◌, length, take}
 use Rattle.std.specs.Int.{to_be_bytes, w32}
 use Rattle.std.specs.List.{All, flat_map}
 use Rattle.ats_base.specs.Outside.{Rose}
@@ -67,3 +67,10 @@ pub record IsServed (gives : Question → Reply → Type 0) (before now : LinkTo
   pub count : served.requests ≡ length turns
   pub moved : Moves before now (frames turns ++ tail) (replies turns ++ part) 1
   pub ends : Ends gives before now served.requests tail part served.end
+
+-- an end by no fault, with a length that has 4 bytes
+abbrev pub IsClean : ConnectionEnd → Type 0
+IsClean (BadFrame n) = n < 2 ^ 32
+IsClean ReadFault = ⊥
+IsClean WriteFault = ⊥
+IsClean end = Unit {0}

@@ -1,3 +1,4 @@
+pub mod Asking
 pub mod Requests
 pub mod Replies
 pub mod Moving

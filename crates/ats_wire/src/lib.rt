@@ -1,9 +1,16 @@
-//! The frames of requests and replies, and a connection served.
+//! The frames of requests and replies, a connection served, and one question asked.
 //!
-//! It stands on the links of `ats_base`, and on the number of rows and the algorithms of proofs. A server reads frames from a link
-//! and writes one reply to each, made by an [`Answerer`].
+//! A request says how many of the best documents for which query are wanted, by a proof of which algorithm; a reply is the bytes of
+//! a proof, or the code that says why there is none. A server reads frames from a link and writes one reply to each, made by an
+//! [`Answerer`]; a client writes one request and reads one reply.
+//!
+//! It stands on the links of `ats_base`, on the number of rows and on the algorithms of proofs. The contract promises what was read
+//! and written where the link tells it, and why each end and each fault comes. Which proof is right is not known here. In what
+//! pieces bytes are read and written may be changed without asking anyone upstairs; the bytes of the frames may not.
 #![tactic(auto)]
 
+mod asking;
+mod laws;
 mod memory;
 mod receiving;
 mod reply;
@@ -11,7 +18,11 @@ mod request;
 mod room;
 mod sending;
 mod serving;
+#[cfg(test)]
+mod tests;
 
+pub use asking::{AskFault, ask_once};
+pub use laws::{connections_end_in_one_way, replies_say_one_thing, requests_say_one_thing};
 pub use memory::OutOfMemory;
 pub use reply::{Answerer, Reply};
 pub use request::Request;

@@ -11,7 +11,7 @@ const NO_REQUEST: u8 = 1;
 
 const ROWS_OUT: u8 = 4;
 
-const VERSION: u8 = 1;
+pub(crate) const VERSION: u8 = 1;
 
 /// What a client asks: the proof of how many of the best documents for a query, and by which algorithm. Whether the query has
 /// terms, and not too many, is not tried here.

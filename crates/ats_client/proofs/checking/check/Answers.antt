@@ -1,9 +1,10 @@
 use Rattle.std.proofs.Common.{◌≡◌, ℕ, List, length, drop, Result, Ok, Err}
 use Rattle.std.specs.Result.{OnOk}
 use Rattle.ats_proof.specs.Value.{Proof, present_in}
-use Rattle.ats_proof.specs.Reading.{prefix_size, prefix_in, lists_place}
+use Rattle.ats_proof.specs.Reading.{prefix_size, prefix_in, lists_place, is_tra}
 use Rattle.ats_proof.specs.Views.{proof_of}
 use Rattle.ats_proof.proofs.Runs.{length-parts}
+use Rattle.ats_proof.proofs.Whole.{documents_whole}
 use Rattle.ats_client.specs.declared.refusal.Refusal.{Refusal}
 use Rattle.ats_client.proofs.OneRefusal.{accepted}
 use Rattle.ats_client.proofs.Headline.{top_or_collides}
@@ -22,5 +23,5 @@ returns-clause-headline g c =
     let bytes : List ℕ = c.args.proof.now.bytes.now in
     let size : length proof.lists ≡ present_in proof.slots = length-parts prefix_size prefix_in (present_in proof.slots) (drop (lists_place bytes) bytes) in
     on_both _ _ _ c.checked.result
-    (λ accepts asked. top_or_collides g.H.HashKind.hash g.H.HashKind.sized c.args.root.now c.args.query.now c.args.top proof asked c.args.proof.now.in_range size accepts)
+    (λ accepts asked. top_or_collides g.H.HashKind.hash g.H.HashKind.sized c.args.root.now c.args.query.now c.args.top proof asked c.args.proof.now.in_range size (documents_whole (is_tra bytes) bytes) accepts)
     c.checked.ensures.accepts c.checked.ensures.asked

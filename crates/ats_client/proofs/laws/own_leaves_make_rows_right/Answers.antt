@@ -5,4 +5,4 @@ use Rattle.ats_client.proofs.laws.own_leaves_make_rows_right.Goals as goal
 
 pub returns : goal.returns
 returns g c archive query r bytes proof are asked is accepts own =
-    own_rows_right g.H.HashKind.hash archive query r (root_of g.H.HashKind.hash archive) proof are asked (in_range bytes proof is) is.prefix_each accepts own
+    own_rows_right g.H.HashKind.hash archive query r (root_of g.H.HashKind.hash archive) proof are asked (in_range bytes proof is) is.prefix_each is.documents accepts own

@@ -1,6 +1,5 @@
-use Rattle.std.proofs.Common.{◌≡◌, ◌+◌, ◌*◌, ◌∙◌, ℕ, ◌++◌, List, [], length, map, ap, ap₂, subst}
+use Rattle.std.proofs.Common.{◌≡◌, ◌+◌, ◌*◌, ◌∙◌, ℕ, ◌++◌, List, [], length, map, ap₂, subst}
 use Rattle.ats_impact.specs.Numbers.{idf}
-use Rattle.ats_dict.specs.declared.header.Header.{Header}
 use Rattle.ats_bound.specs.Cut.{rest}
 use Rattle.ats_proof.specs.Views.{proof_of}
 use Rattle.ats_client.specs.Presented.{Presented}
@@ -20,12 +19,11 @@ pub returns-clause-notes : goal.returns-clause-notes
 returns-clause-notes g c =
     let one : Presented = presented_of c.args.one.now in
     let documents = (proof_of c.args.proof.now).header.documents in
-    let coefficient : c.from.result * c.idf.result ≡ one.weight * idf documents one.entry.f =
-    ap₂ (λ a b. a * b) c.from.ensures (c.idf.ensures.value ∙ ap (λ (h : Header). idf h.documents one.entry.f) c.header.ensures) in
+    let coefficient : c.args.coefficient ≡ one.weight * idf documents one.entry.f = c.requires.coefficient in
     let most : c.weighed-rest.result ≡ rest (index_lane documents one) = c.weighed-rest.ensures.value ∙ ap₂ (λ a b. a * b) coefficient c.rest_impact-impact.ensures.value in
     let notes = subst (λ (met : ℕ). (notes : List Note) → AreNotes met notes (c.args.one.now.number + 1) [] c.args.work.now.marks
-    → AreNotes met (notes ++ map (note (c.from.result * c.idf.result) c.weighed-rest.result) one.prefix.entries) (c.args.one.now.number + 1) (indexes_of one.prefix.entries) c.entries.new.work.marks)
+    → AreNotes met (notes ++ map (note c.args.coefficient c.weighed-rest.result) one.prefix.entries) (c.args.one.now.number + 1) (indexes_of one.prefix.entries) c.entries.new.work.marks)
     c.met.ensures c.in_ok-entries.ensures.notes in
     λ (before : List Note) (from : AreNotes (length (proof_of c.args.proof.now).met) before (c.args.one.now.number + 1) [] c.args.work.now.marks).
-    list_noted (length (proof_of c.args.proof.now).met) before c.args.one.now.number documents (c.from.result * c.idf.result) c.weighed-rest.result one c.entries.new.work.marks
+    list_noted (length (proof_of c.args.proof.now).met) before c.args.one.now.number documents c.args.coefficient c.weighed-rest.result one c.entries.new.work.marks
     coefficient most (notes before from)

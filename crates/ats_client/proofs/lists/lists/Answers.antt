@@ -1,4 +1,4 @@
-use Rattle.std.proofs.Common.{◌≡◌, ◌+◌, ◌++◌, ◌∙◌, ℕ, List, [], length, drop, replicate, sym, ap, subst, arith}
+use Rattle.std.proofs.Common.{◌≡◌, ◌+◌, ◌++◌, ◌∙◌, ℕ, List, [], ◌∷◌, length, drop, replicate, sym, ap, subst, arith}
 use Rattle.ats_bound.specs.Work.{Marked, zero_mark}
 use Rattle.ats_proof.specs.Value.{Prefix, present_in}
 use Rattle.ats_proof.specs.Reading.{prefix_size, prefix_in, slots_in, lists_place}
@@ -6,7 +6,10 @@ use Rattle.ats_proof.specs.Views.{proof_of}
 use Rattle.ats_proof.proofs.Runs.{length-parts}
 use Rattle.ats_client.specs.Lists.{prefixes_left, presented_of}
 use Rattle.ats_client.specs.Seen.{entries_left}
+use Rattle.ats_dict.specs.declared.header.Header.{Header}
+use Rattle.ats_client.specs.declared.present_terms.PresentTerm.{PresentTerm}
 use Rattle.ats_client.specs.Presented.{Presented}
+use Rattle.ats_client.specs.PresentTerms.{kept_term}
 use Rattle.ats_client.specs.Noting.{Note, AreNotes, index_lane, lane_notes, notes_of}
 use Rattle.ats_client.proofs.Passing.{begins, passes_absent, passes_present, done, marks_done, free_done, rests_done, IsPassed}
 use Rattle.ats_client.proofs.lists.lists.Goals as goal
@@ -22,7 +25,7 @@ loop-i-init g c =
     let enough : present_in proof.slots ≡ length (prefixes_left c.lists-left.result) = sym (ap (λ (l : List Prefix). length l) all ∙ size) in
     let zeros : c.begin.new.self.marks ≡ replicate (length proof.met) zero_mark = ap (λ (w : Marked). w.marks) c.begin.ensures.marks ∙ ap (λ (n : ℕ). replicate n zero_mark) c.met.ensures in
     record {
-      passed = begins g.H.HashKind.hash c.args.query.now proof (prefixes_left c.lists-left.result) c.begin.new.self.marks all enough zeros;
+      passed = begins g.H.HashKind.hash c.args.query.now proof (prefixes_left c.lists-left.result) c.args.terms.now c.begin.new.self.marks all enough zeros c.requires.none;
       dict = ap entries_left c.over-walk.ensures ∙ c.dict.ensures.entries;
       room = ap (λ (w : Marked). w.room) c.begin.ensures.marks;
       cost = omega (arith, c.begin.ensures.steps, c.met.type_inv);
@@ -48,20 +51,24 @@ loop-i-preserved g c =
           let one : Presented = presented_of w.in-Some.one in
           let noted = subst (λ (k : ℕ). (notes : List Note) → AreNotes (length proof.met) notes (k + 1) [] c.loop-i.work.marks
           → AreNotes (length proof.met) (notes ++ lane_notes (index_lane proof.header.documents one)) (k + 2) [] w.list.new.work.marks) w.in-Some.ensures.number w.in_ok-threshold.ensures.notes in
-          let passed = passes_present H query proof i left after c.loop-i.threshold w.in_ok-threshold.field-0 one c.loop-i.work.marks w.list.new.work.marks p
-          w.in-Some.ensures.some w.in_ok-threshold.ensures.right noted w.in_ok-threshold.ensures.rest w.in_ok-threshold.ensures.small w.in-Some.ensures.enough in
+          let more = w.push.ensures ∙ ap (λ (t : PresentTerm). c.loop-i.terms ++ t ∷ [])
+          (w.kept-term.ensures.term ∙ ap (λ (h : Header). kept_term h.documents one) c.header-documents.ensures) in
+          let passed = passes_present H query proof i left after c.loop-i.terms w.push.new.self c.loop-i.threshold w.in_ok-threshold.field-0 one c.loop-i.work.marks w.list.new.work.marks p
+          w.in-Some.ensures.some w.in_ok-threshold.ensures.right noted w.in_ok-threshold.ensures.rest w.in_ok-threshold.ensures.small more w.in-Some.ensures.enough in
           record {
-            passed = subst (λ (n : ℕ). IsPassed H query proof (i + 1) after n c.match-present.work.marks) (sym w.threshold-is)
-                (subst (λ (m : Marked). IsPassed H query proof (i + 1) after (c.loop-i.threshold + w.in_ok-threshold.field-0) m.marks) (sym w.work-is) passed);
+            passed = subst (λ (n : ℕ). IsPassed H query proof (i + 1) after c.match-present.terms n c.match-present.work.marks) (sym w.threshold-is)
+                (subst (λ (ts : List PresentTerm). IsPassed H query proof (i + 1) after ts (c.loop-i.threshold + w.in_ok-threshold.field-0) c.match-present.work.marks) (sym w.terms-is)
+                (subst (λ (m : Marked). IsPassed H query proof (i + 1) after w.push.new.self (c.loop-i.threshold + w.in_ok-threshold.field-0) m.marks) (sym w.work-is) passed));
             dict = ap entries_left w.in-Some.ensures.dict ∙ c.loop-i.invariant.dict;
             room = ap (λ (m : Marked). m.room) w.work-is ∙ w.in_ok-threshold.ensures.room ∙ c.loop-i.invariant.room;
             cost = omega (arith, w.steps-is, w.in_ok-threshold.ensures.cost, w.in-Some.ensures.cost, c.loop-i.invariant.cost);
           }
       | in_default w ↦
-          let passed = passes_absent H query proof i left after c.loop-i.threshold c.loop-i.work.marks p w.in_default.ensures.none w.in_default.ensures.enough in
+          let passed = passes_absent H query proof i left after c.loop-i.terms c.loop-i.threshold c.loop-i.work.marks p w.in_default.ensures.none w.in_default.ensures.enough in
           record {
-            passed = subst (λ (n : ℕ). IsPassed H query proof (i + 1) after n c.match-present.work.marks) (sym w.threshold-is)
-                (subst (λ (m : Marked). IsPassed H query proof (i + 1) after c.loop-i.threshold m.marks) (sym w.work-is) passed);
+            passed = subst (λ (n : ℕ). IsPassed H query proof (i + 1) after c.match-present.terms n c.match-present.work.marks) (sym w.threshold-is)
+                (subst (λ (ts : List PresentTerm). IsPassed H query proof (i + 1) after ts c.loop-i.threshold c.match-present.work.marks) (sym w.terms-is)
+                (subst (λ (m : Marked). IsPassed H query proof (i + 1) after c.loop-i.terms c.loop-i.threshold m.marks) (sym w.work-is) passed));
             dict = ap entries_left w.in_default.ensures.dict ∙ c.loop-i.invariant.dict;
             room = ap (λ (m : Marked). m.room) w.work-is ∙ c.loop-i.invariant.room;
             cost = omega (arith, w.steps-is, w.in_default.ensures.cost, c.loop-i.invariant.cost);
@@ -70,23 +77,23 @@ loop-i-preserved g c =
 
 pub returns-clause-right : goal.returns-clause-right
 returns-clause-right g c =
-    (done g.H.HashKind.hash c.args.query.now (proof_of c.args.proof.now) c.loop-i.i (prefixes_left c.loop-i.left) c.loop-i.threshold c.loop-i.work.marks c.loop-i.invariant.passed
+    (done g.H.HashKind.hash c.args.query.now (proof_of c.args.proof.now) c.loop-i.i (prefixes_left c.loop-i.left) c.loop-i.terms c.loop-i.threshold c.loop-i.work.marks c.loop-i.invariant.passed
     (omega (arith, c.len-i-end.ensures.value)) (omega (arith, c.len-i-end.ensures.value, c.len-i-end.ensures.query.few))).right
 
 pub returns-clause-marks : goal.returns-clause-marks
 returns-clause-marks g c =
-    marks_done g.H.HashKind.hash c.args.query.now (proof_of c.args.proof.now) c.loop-i.threshold c.loop-i.work.marks c.args.proof.now.in_range.ids.rise
-    (done g.H.HashKind.hash c.args.query.now (proof_of c.args.proof.now) c.loop-i.i (prefixes_left c.loop-i.left) c.loop-i.threshold c.loop-i.work.marks c.loop-i.invariant.passed
+    marks_done g.H.HashKind.hash c.args.query.now (proof_of c.args.proof.now) c.loop-i.terms c.loop-i.threshold c.loop-i.work.marks c.args.proof.now.in_range.ids.rise
+    (done g.H.HashKind.hash c.args.query.now (proof_of c.args.proof.now) c.loop-i.i (prefixes_left c.loop-i.left) c.loop-i.terms c.loop-i.threshold c.loop-i.work.marks c.loop-i.invariant.passed
     (omega (arith, c.len-i-end.ensures.value)) (omega (arith, c.len-i-end.ensures.value, c.len-i-end.ensures.query.few)))
 
 pub returns-clause-free : goal.returns-clause-free
 returns-clause-free g c =
-    free_done g.H.HashKind.hash c.args.query.now (proof_of c.args.proof.now) c.loop-i.threshold c.loop-i.work.marks
-    (done g.H.HashKind.hash c.args.query.now (proof_of c.args.proof.now) c.loop-i.i (prefixes_left c.loop-i.left) c.loop-i.threshold c.loop-i.work.marks c.loop-i.invariant.passed
+    free_done g.H.HashKind.hash c.args.query.now (proof_of c.args.proof.now) c.loop-i.terms c.loop-i.threshold c.loop-i.work.marks
+    (done g.H.HashKind.hash c.args.query.now (proof_of c.args.proof.now) c.loop-i.i (prefixes_left c.loop-i.left) c.loop-i.terms c.loop-i.threshold c.loop-i.work.marks c.loop-i.invariant.passed
     (omega (arith, c.len-i-end.ensures.value)) (omega (arith, c.len-i-end.ensures.value, c.len-i-end.ensures.query.few)))
 
 pub returns-clause-threshold : goal.returns-clause-threshold
 returns-clause-threshold g c =
-    rests_done g.H.HashKind.hash c.args.query.now (proof_of c.args.proof.now) c.loop-i.threshold c.loop-i.work.marks
-    (done g.H.HashKind.hash c.args.query.now (proof_of c.args.proof.now) c.loop-i.i (prefixes_left c.loop-i.left) c.loop-i.threshold c.loop-i.work.marks c.loop-i.invariant.passed
+    rests_done g.H.HashKind.hash c.args.query.now (proof_of c.args.proof.now) c.loop-i.terms c.loop-i.threshold c.loop-i.work.marks
+    (done g.H.HashKind.hash c.args.query.now (proof_of c.args.proof.now) c.loop-i.i (prefixes_left c.loop-i.left) c.loop-i.terms c.loop-i.threshold c.loop-i.work.marks c.loop-i.invariant.passed
     (omega (arith, c.len-i-end.ensures.value)) (omega (arith, c.len-i-end.ensures.value, c.len-i-end.ensures.query.few)))

@@ -17,7 +17,6 @@ returns-clause-stop g c =
       query = _;
       index = c.in_ok-loaded.ensures.ok;
       asked = c.in_ok-asked.ensures.ok;
-      walk = c.requires;
       proved = rw c.in_ok-rows.ensures.ok at c.in_ok-bytes.ensures.ok;
       short = c.in_ok-bytes.ensures.within;
     } in

@@ -1,0 +1,105 @@
+use Rattle.std.proofs.Common.{◌≡◌, ◌∙◌, ◌<◌, ℕ, List, length, drop, get_or, slice_get, Some, None, refl, sym, ap, subst, arith}
+use Rattle.std.specs.List.{All}
+use Rattle.std.proofs.lemmas.Option.{slice_get-get_or}
+use Rattle.std.proofs.lemmas.Result.{err_from_is_err_and}
+use Rattle.ats_bound.specs.Lookup.{looked_score}
+use Rattle.ats_proof.specs.SeenDocs.{documents_of, ids_of, doc_leaves_of, sections_of, section_of}
+use Rattle.ats_proof.specs.Value.{TermsSection, Documents, Proof, present_in}
+use Rattle.ats_proof.specs.Views.{proof_of}
+use Rattle.ats_client.specs.declared.present_terms.PresentTerm.{PresentTerm}
+use Rattle.ats_client.specs.declared.refusal.Refusal.{Refusal}
+use Rattle.ats_client.specs.Bracketing.{impact_shown}
+use Rattle.ats_client.specs.Documents.{present_numbers, IsDocumentRight, document_rules, IsDocumentsFault}
+use Rattle.ats_client.specs.PresentTerms.{numbers_of, bare_lanes}
+use Rattle.ats_client.specs.Rules.{IsFirstFault}
+use Rattle.ats_client.specs.SeenTerms.{document_of}
+use Rattle.ats_client.proofs.Faults.{passed_on}
+use Rattle.ats_client.proofs.PresentNumbers.{kept_numbers, kept_count, kept_within}
+use Rattle.ats_client.proofs.Presents.{at_front, at_place}
+use Rattle.ats_client.proofs.Tried.{begins, fails, tries, first_at, all_right, all_marks}
+use Rattle.ats_client.proofs.documents.each.Goals as goal
+
+-- a document stands among those that are left
+no_document : (j : ℕ) (met ids : List ℕ) → ids ≡ drop j met → j < length met → None ≡ slice_get ids 0 → ⊥
+no_document j met ids is low none =
+    let more = at_front met j _ (slice_get-get_or met j 0 low) in
+    let some : slice_get ids 0 ≡ Some (get_or met j 0) = ap (λ l. slice_get l 0) (is ∙ more) in
+    cc
+
+pub loop-index-init : goal.loop-index-init
+loop-index-init g c = record {
+  tried = begins g.H.HashKind.hash c.args.query.now (proof_of c.args.proof.now) (documents_of c.args.docs) (ids_of c.args.docs) (doc_leaves_of c.args.docs) (sections_of c.args.docs)
+      c.args.work.now.marks c.requires.met refl refl c.requires.marks c.requires.free;
+  room = refl;
+  cost = omega arith;
+}
+
+pub unreachable-requires : goal.unreachable-requires
+unreachable-requires g c =
+    let proof : Proof = proof_of c.args.proof.now in
+    let t = c.loop-index.invariant.tried in
+    no_document c.loop-index.index proof.met (ids_of c.loop-index.left) t.ids_left (omega (arith, c.loop-index-test.true, c.met-index-end.ensures)) c.in_default.ensures.doc
+
+pub document-requires-clause-each : goal.document-requires-clause-each
+document-requires-clause-each g c =
+    let query = c.args.query.now in
+    let proof : Proof = proof_of c.args.proof.now in
+    let docs : Documents = documents_of c.args.docs in
+    let t = c.loop-index.invariant.tried in
+    let section : TermsSection = section_of c.in-Some.doc in
+    let at = first_at g.H.HashKind.hash query proof docs docs.sections (sections_of c.loop-index.left) c.loop-index.index section t.sections_left c.in-Some.ensures.section in
+    let slots : length section.slots ≡ present_in proof.slots =
+    at_place (λ (s : TermsSection). length s.slots ≡ present_in proof.slots) docs.sections c.loop-index.index section c.requires.parts.slot_each at in
+    slots ∙ sym (kept_count query proof c.requires.slots) ∙ ap (λ (terms : List PresentTerm). length terms) (sym c.requires.terms)
+
+pub document-requires-clause-numbers : goal.document-requires-clause-numbers
+document-requires-clause-numbers g c =
+    subst (All (λ (term : PresentTerm). term.number < length c.args.query.now)) (sym c.requires.terms) (kept_within c.args.query.now (proof_of c.args.proof.now) c.requires.slots)
+
+pub document-requires-clause-room : goal.document-requires-clause-room
+document-requires-clause-room g c =
+    omega (arith, c.requires.room, c.loop-index.invariant.cost, c.next.ensures.cost, c.loop-index-test.true, c.met-index-end.ensures, c.args.proof.now.in_range.ids.few)
+
+pub returns-in_err-score-clause-fault : goal.returns-in_err-score-clause-fault
+returns-in_err-score-clause-fault g c =
+    let H = g.H.HashKind.hash in
+    let query = c.args.query.now in
+    let proof : Proof = proof_of c.args.proof.now in
+    let one = document_of c.in-Some.doc in
+    let refusal : Refusal = c.in_err-score.field-0.0 in
+    let numbers : numbers_of c.args.terms.now ≡ present_numbers proof = ap numbers_of c.requires.terms ∙ kept_numbers query proof c.requires.slots in
+    let first = subst (λ (ns : List ℕ). IsFirstFault (document_rules H query ns one) refusal) numbers c.in_err-score.ensures.fault in
+    let fault = fails H query proof (documents_of c.args.docs) c.loop-index.index (ids_of c.loop-index.left) (doc_leaves_of c.loop-index.left) (sections_of c.loop-index.left)
+    c.loop-index.work.marks one.doc one.leaf one.section refusal c.requires.docs c.loop-index.invariant.tried c.in-Some.ensures.doc c.in-Some.ensures.leaf c.in-Some.ensures.section first in
+    let told = err_from_is_err_and c.from_residual.result c.from_residual.ensures.1 in
+    passed_on (IsDocumentsFault H query proof) _ told.0 _ told.1 told.2 fault
+
+pub loop-index-preserved : goal.loop-index-preserved
+loop-index-preserved g c =
+    let H = g.H.HashKind.hash in
+    let query = c.args.query.now in
+    let proof : Proof = proof_of c.args.proof.now in
+    let j : ℕ = c.loop-index.index in
+    let one = document_of c.in-Some.doc in
+    let numbers : numbers_of c.args.terms.now ≡ present_numbers proof = ap numbers_of c.requires.terms ∙ kept_numbers query proof c.requires.slots in
+    let right = subst (λ (ns : List ℕ). IsDocumentRight H query ns one) numbers c.in_ok-score.ensures.right in
+    let scores = subst (λ (terms : List PresentTerm). c.in_ok-score.score ≡ looked_score (λ i other. impact_shown one.section i) (bare_lanes terms) one.doc) c.requires.terms c.in_ok-score.ensures.score in
+    record {
+      tried = tries H query proof (documents_of c.args.docs) j (ids_of c.loop-index.left) (ids_of c.next.new.self) (doc_leaves_of c.loop-index.left) (doc_leaves_of c.next.new.self)
+          (sections_of c.loop-index.left) (sections_of c.next.new.self) c.loop-index.work.marks c.noted.new.work.marks one.doc one.leaf one.section c.in_ok-score.score c.args.threshold
+          c.args.proof.now.in_range.ids.rise c.loop-index.invariant.tried c.in-Some.ensures.doc c.in-Some.ensures.leaf c.in-Some.ensures.section
+          c.in-Some.ensures.passed_ids c.in-Some.ensures.passed_leaves c.in-Some.ensures.passed_sections right scores c.in_ok-score.ensures.small c.requires.threshold
+          c.noted.ensures.marks;
+      room = c.noted.ensures.room ∙ c.loop-index.invariant.room;
+      cost = omega (arith, c.noted.ensures.cost, c.document.ensures.cost, c.next.ensures.cost, c.loop-index.invariant.cost);
+    }
+
+pub returns-clause-right : goal.returns-clause-right
+returns-clause-right g c =
+    all_right g.H.HashKind.hash c.args.query.now (proof_of c.args.proof.now) (documents_of c.args.docs) c.loop-index.index (ids_of c.loop-index.left) (doc_leaves_of c.loop-index.left)
+    (sections_of c.loop-index.left) c.loop-index.work.marks c.requires.docs (omega (arith, c.loop-index-test.false, c.met-index-end.ensures)) c.loop-index.invariant.tried
+
+pub returns-clause-marks : goal.returns-clause-marks
+returns-clause-marks g c =
+    all_marks g.H.HashKind.hash c.args.query.now (proof_of c.args.proof.now) (documents_of c.args.docs) c.loop-index.index (ids_of c.loop-index.left) (doc_leaves_of c.loop-index.left)
+    (sections_of c.loop-index.left) c.loop-index.work.marks c.requires.docs (omega (arith, c.loop-index-test.false, c.met-index-end.ensures)) c.loop-index.invariant.tried

@@ -1,0 +1,132 @@
+//! What is shown of the met documents: their leaves in the documents tree, and the terms of each.
+
+ghost use Rattle.std.specs.Prelude.{◌≡◌, ◌<◌, ◌≤◌, ◌+◌, ◌^◌, List, [], Some, length, slice_set, OnOk, IfErr};
+ghost use Rattle.ats_bound.specs.Cut.{bracket, threshold as threshold_of};
+ghost use Rattle.ats_bound.specs.Work.{mark_at};
+ghost use Rattle.ats_proof.specs.SeenDocs.{documents_of, ids_of};
+ghost use Rattle.ats_proof.specs.Value.{AreDocuments, present_in};
+ghost use Rattle.ats_proof.specs.Views.{proof_of};
+ghost use Rattle.ats_client.specs.Bracketing.{bounds_of};
+ghost use Rattle.ats_client.specs.Documents.{IsDocsTree, IsDocsFault, AreDocumentsRight, IsDocumentsFault};
+ghost use Rattle.ats_client.specs.Marked.{AreMarks, AreNoted};
+ghost use Rattle.ats_client.specs.Presented.{lanes_of};
+ghost use Rattle.ats_client.specs.PresentTerms.{kept_terms};
+
+use crate::document::document;
+use crate::opening::rebuilt;
+use crate::present_terms::PresentTerms;
+use crate::refusal::Refusal;
+use ats_bound::{Mark, Work};
+use ats_hash::{Hash32, Steps};
+use ats_proof::{DocsView, ProofView};
+use ats_terms::Query;
+
+/// Tries that the leaves of the met documents are part of the header's documents tree.
+pub(crate) fn documents_tree<H: Hash32>(
+    proof: &ProofView<'_>,
+    steps: &mut Steps,
+) -> Result<(), Refusal>
+    requires room { steps.old ≤ 2 ^ 63 }
+    ensures kept { OnOk result (IsDocsTree H.hash (proof_of proof.now)) }
+    ensures fault { IfErr result (IsDocsFault H.hash (proof_of proof.now)) }
+    ensures cost { steps.new ≤ steps.old + 2 ^ 34 }
+{
+    let Some(docs) = proof.docs() else {
+        return Ok(());
+    };
+    let header = proof.header();
+    let mut section = docs.revealed(proof);
+    let Some(digest) = rebuilt::<H, _>(header.documents, &mut section, steps) else {
+        return Err(Refusal::DocsMisfit);
+    };
+    if digest != header.docs_root {
+        return Err(Refusal::DocsRoot);
+    }
+    Ok(())
+}
+
+// Notes what a met document scores in its mark. All of the threshold is held, so that this is what it scores
+// at most too.
+fn noted(work: &mut Work, index: u32, score: u64, threshold: u64, steps: &mut Steps)
+    requires inside { index < length work.old.marks }
+    requires room { steps.old ≤ 2 ^ 63 }
+    ensures marks { work.new.marks ≡ slice_set work.old.marks index
+        (record { lo = score; held = threshold; list = (mark_at work.old.marks index).list; row = (mark_at work.old.marks index).row }) }
+    ensures room { work.new.room ≡ work.old.room }
+    ensures cost { steps.new ≤ steps.old + 2 }
+{
+    let mark = work.get(index, steps);
+    let mark = Mark {
+        lo: score,
+        held: threshold,
+        list: mark.list,
+        row: mark.row,
+    };
+    work.put(index, mark, steps);
+}
+
+// Tries the met documents of a proof that shows them, one after another.
+fn each<'a, H: Hash32>(
+    docs: DocsView<'a>,
+    query: &Query,
+    proof: &ProofView<'a>,
+    terms: &PresentTerms,
+    threshold: u64,
+    work: &mut Work,
+    steps: &mut Steps,
+) -> Result<(), Refusal>
+    requires docs { (proof_of proof.now).docs ≡ Some (documents_of docs) }
+    requires met { ids_of docs ≡ (proof_of proof.now).met }
+    requires parts { AreDocuments (length (proof_of proof.now).met) (present_in (proof_of proof.now).slots) (documents_of docs) }
+    requires slots { length (proof_of proof.now).slots ≡ length query.now }
+    requires terms { terms.now ≡ kept_terms query.now (proof_of proof.now) }
+    requires marks { AreMarks bracket (lanes_of query.now (proof_of proof.now)) (proof_of proof.now).met work.old.marks }
+    requires free { AreNoted [] work.old.marks }
+    requires threshold { threshold ≡ threshold_of (lanes_of query.now (proof_of proof.now)) }
+    requires room { steps.old ≤ 2 ^ 62 + 2 ^ 50 }
+    ensures right { OnOk result (AreDocumentsRight H.hash query.now (proof_of proof.now)) }
+    ensures marks { OnOk result (AreMarks (bounds_of (proof_of proof.now)) (lanes_of query.now (proof_of proof.now)) (proof_of proof.now).met work.new.marks) }
+    ensures free { OnOk result (AreNoted [] work.new.marks) }
+    ensures fault { IfErr result (IsDocumentsFault H.hash query.now (proof_of proof.now)) }
+    ensures room { work.new.room ≡ work.old.room }
+    ensures cost { steps.new ≤ steps.old + 2 ^ 52 }
+{
+    let mut left = docs;
+    for index in 0..proof.met() {
+        let Some(doc) = left.next(steps) else {
+            unreachable!()
+        };
+        let score = document::<H>(&doc, query, terms, steps)?;
+        noted(work, index, score, threshold, steps);
+    }
+    Ok(())
+}
+
+/// Tries what is shown of the met documents, one after another, and notes their scores in their marks. Where
+/// the proof shows none, the marks stay as they are.
+pub(crate) fn documents<H: Hash32>(
+    query: &Query,
+    proof: &ProofView<'_>,
+    terms: &PresentTerms,
+    threshold: u64,
+    work: &mut Work,
+    steps: &mut Steps,
+) -> Result<(), Refusal>
+    requires slots { length (proof_of proof.now).slots ≡ length query.now }
+    requires terms { terms.now ≡ kept_terms query.now (proof_of proof.now) }
+    requires marks { AreMarks bracket (lanes_of query.now (proof_of proof.now)) (proof_of proof.now).met work.old.marks }
+    requires free { AreNoted [] work.old.marks }
+    requires threshold { threshold ≡ threshold_of (lanes_of query.now (proof_of proof.now)) }
+    requires room { steps.old ≤ 2 ^ 62 + 2 ^ 50 }
+    ensures right { OnOk result (AreDocumentsRight H.hash query.now (proof_of proof.now)) }
+    ensures marks { OnOk result (AreMarks (bounds_of (proof_of proof.now)) (lanes_of query.now (proof_of proof.now)) (proof_of proof.now).met work.new.marks) }
+    ensures free { OnOk result (AreNoted [] work.new.marks) }
+    ensures fault { IfErr result (IsDocumentsFault H.hash query.now (proof_of proof.now)) }
+    ensures room { work.new.room ≡ work.old.room }
+    ensures cost { steps.new ≤ steps.old + 2 ^ 52 }
+{
+    match proof.docs() {
+        Some(docs) => each::<H>(docs, query, proof, terms, threshold, work, steps),
+        None => Ok(()),
+    }
+}

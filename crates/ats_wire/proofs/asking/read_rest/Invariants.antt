@@ -1,0 +1,13 @@
+use Rattle.std.proofs.Common.{[], length, ◌-◌, ◌≤◌}
+use Rattle.ats_wire.specs.Moving.{Moves}
+use Rattle.ats_wire.proofs.asking.read_rest.Given as goal
+
+-- these bytes came
+abbrev pub invariant-pieces : goal.invariant-pieces
+invariant-pieces g l = record {
+  few : length l.bytes ≤ l.size;
+  moved : Moves (g.L.Link.told l.fn.link) (g.L.Link.told l.link) l.bytes [] 0;
+}
+
+abbrev pub decreases-pieces : goal.decreases-pieces
+decreases-pieces g l = l.size - length l.bytes
