@@ -18,7 +18,8 @@ use Rattle.ats_dict.specs.Entry.{DictEntry}
 use Rattle.ats_dict.specs.Dictionary.{dict_leaves, entry_at, low, term_at}
 use Rattle.ats_dict.specs.Found.{IsSpot, StandsAt}
 use Rattle.ats_dict.proofs.Sentinels.{entry_at-suc, get_or-dict_leaves, length-dict_leaves}
-use Rattle.ats_commit.specs.Archive.{whole_lists, archive_of}
+use Rattle.ats_lists.specs.Layout.{whole_lists}
+use Rattle.ats_commit.specs.Archive.{archive_of}
 use Rattle.ats_commit.specs.Trees.{dict_entry, dictionary_of}
 use Rattle.ats_commit.specs.Ours.{asked_term}
 use Rattle.ats_commit.specs.Root.{header_root, root_of}

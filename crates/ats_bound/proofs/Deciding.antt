@@ -108,16 +108,16 @@ decided_settled brackets threshold r picks chosen = rw chosen.first (decided_fir
 pub decided_can_settle : (bounds : Bounding) (lanes : List WholeLane) (r : ℕ) (cut : List ℕ)
     → ((doc : ℕ) → IsNarrow (threshold (shown lanes cut)) doc (bounds (shown lanes cut) doc)) → IsDecided (CanSettleBy bounds lanes r cut)
 decided_can_settle bounds lanes r cut narrow =
-    let limit : ℕ = threshold (shown lanes cut) in
+    let threshold_here : ℕ = threshold (shown lanes cut) in
     let made = brackets_exist bounds (shown lanes cut) (λ doc. (narrow doc).of) in
     let brackets : List Bracket = made.0 in
     let chosen = chosen_exists brackets r in
     let inside : ArePicks brackets chosen.0 = chosen_are_picks brackets r chosen.0 chosen.1 in
-    elim (decided_settled brackets limit r chosen.0 chosen.1) [
+    elim (decided_settled brackets threshold_here r chosen.0 chosen.1) [
       | inl settled ↦ inl (record { brackets = brackets; bounded = made.1; answer = chosen.0; inside = inside; settled = settled })
       | inr not ↦ inr (λ can.
           let is : can.brackets ≡ brackets = one_bracketing bounds (shown lanes cut) can.brackets brackets can.bounded made.1 in
-          not (chosen_is_settled brackets limit r can.answer chosen.0 (are_brackets bounds (shown lanes cut) brackets (λ doc. (narrow doc).proper) made.1)
+          not (chosen_is_settled brackets threshold_here r can.answer chosen.0 (are_brackets bounds (shown lanes cut) brackets (λ doc. (narrow doc).proper) made.1)
           (subst (λ (bs : List Bracket). ArePicks bs can.answer) is can.inside)
-          (subst (λ (bs : List Bracket). IsSettled bs can.answer limit r) is can.settled) chosen.1))
+          (subst (λ (bs : List Bracket). IsSettled bs can.answer threshold_here r) is can.settled) chosen.1))
     ]

@@ -4,7 +4,7 @@ use Rattle.std.specs.List.{sum_by}
 use Rattle.std.proofs.lemmas.Bool.{cases_lt}
 use Rattle.std.proofs.lemmas.List.{get_or_default}
 use Rattle.ats_bound.specs.declared.bracket.Bracket.{Bracket}
-use Rattle.ats_bound.specs.Cut.{ShownLane, bracket, lower, missing, rest, threshold}
+use Rattle.ats_bound.specs.Cut.{ShownLane, bracket, lo_of, missing, rest, threshold}
 use Rattle.ats_bound.specs.Settled.{bracket_at}
 use Rattle.ats_bound.specs.Narrow.{AreNarrow}
 use Rattle.ats_bound.specs.Schedule.{WholeLane, Bounding, AreWholeLanes, CanSettleBy, IsCut, IsFirstSettledBy, IsNextLane, first_cut, shown}
@@ -119,7 +119,7 @@ first_settled_exists bounds lanes r narrow whole =
 
 -- brackets from the shown entries alone are narrow
 pub brackets_are_narrow : AreNarrow bracket
-brackets_are_narrow lanes doc = is_narrow (threshold lanes) doc (lower lanes doc) (missing lanes doc) (omega (arith, held_or_missing lanes doc))
+brackets_are_narrow lanes doc = is_narrow (threshold lanes) doc (lo_of lanes doc) (missing lanes doc) (omega (arith, held_or_missing lanes doc))
 
 -- so are those of scores that are looked up
 pub looked_up_are_narrow : (table : Table) → AreNarrow (looked_up table)

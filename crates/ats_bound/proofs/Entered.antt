@@ -7,7 +7,7 @@ use Rattle.std.proofs.lemmas.List.{get_or-take, get_or_default}
 use Rattle.std.proofs.lemmas.List.Folds.{list_any_more, list_any_none}
 use Rattle.std.proofs.lemmas.List.Sums.{sum_by-cons, sum_by-set, sum_by_more}
 use Rattle.ats_lists.specs.declared.entry.Entry.{Entry}
-use Rattle.ats_bound.specs.Cut.{ShownLane, lane_of, lower, names, shown_impact}
+use Rattle.ats_bound.specs.Cut.{ShownLane, lane_of, lo_of, names, shown_impact}
 use Rattle.ats_bound.specs.Front.{Stage, entry_on, lane_on, named_by}
 use Rattle.ats_bound.specs.Schedule.{IsWholeLane, WholeLane, shown}
 use Rattle.ats_bound.proofs.Lanes.{unnamed, unnamed_has_none}
@@ -17,8 +17,8 @@ use Rattle.ats_bound.proofs.Shown.{get_or-shown, length-shown, no_shown, shown-s
 -- what the lanes say after one entry more, which names a document, adds to its score and has the digit of its list
 pub record Enters (all after : List ShownLane) (doc gain digit : ℕ) : Type 0 where
   pub any : (q : ℕ) → list_any (names q) after ≡ (list_any (names q) all || nat_eq doc q)
-  pub others : (q : ℕ) → q ≢ doc → (lower after q ≡ lower all q) × (named_by after q ≡ named_by all q)
-  pub lo : lower after doc ≡ lower all doc + gain
+  pub others : (q : ℕ) → q ≢ doc → (lo_of after q ≡ lo_of all q) × (named_by after q ≡ named_by all q)
+  pub lo : lo_of after doc ≡ lo_of all doc + gain
   pub named : named_by after doc ≡ named_by all doc + digit
 
 or_swap : (a b c : Bool) → ((a || b) || c) ≡ ((a || c) || b)
@@ -54,7 +54,7 @@ named-set doc (x ∷ all) (suc i) y d inside =
     let later = named-set doc all i y d (omega (arith, inside)) in
     omega (arith, later, digit_of (names doc (get_or all i d)) i, digit_of (names doc y) i)
 
-pub none_named : (all : List ShownLane) (doc : ℕ) → list_any (names doc) all ≡ false → (lower all doc ≡ 0) × (named_by all doc ≡ 0)
+pub none_named : (all : List ShownLane) (doc : ℕ) → list_any (names doc) all ≡ false → (lo_of all doc ≡ 0) × (named_by all doc ≡ 0)
 none_named [] doc out = (refl, refl)
 none_named (lane ∷ all) doc out = elim (cases_Bool (names doc lane)) [
   | inl here ↦ let clash : true ≡ false = rw here at out in absurd (cc)
@@ -113,7 +113,7 @@ module _ (lanes : List WholeLane) (cut : List ℕ) (i : ℕ) (whole : IsWholeLan
   impact_next : (q : ℕ) → shown_impact q next ≡ shown_impact q before + cond (nat_eq entry.doc q) entry.impact 0
   impact_next q = sum_by_more (λ (x : Entry). cond (nat_eq x.doc q) x.impact 0) lane.entries k (record { doc = 0; impact = 0 }) room
 
-  lower_next : (q : ℕ) → lower (set all i next) q + lane.coefficient * shown_impact q before ≡ lower all q + lane.coefficient * shown_impact q next
+  lower_next : (q : ℕ) → lo_of (set all i next) q + lane.coefficient * shown_impact q before ≡ lo_of all q + lane.coefficient * shown_impact q next
   lower_next q =
       let step = sum_by-set (λ (l : ShownLane). l.coefficient * shown_impact q l) all i next no_shown there in
       rw here at step

@@ -6,7 +6,7 @@ use Rattle.std.proofs.lemmas.List.{get_or_append_left, get_or_default}
 use Rattle.std.proofs.lemmas.List.Folds.{list_any-append, list_any_at, list_any_none}
 use Rattle.std.proofs.Math.Seq.{get_or-append_seam, map-set_same}
 use Rattle.ats_bound.specs.declared.known.Met.{Met}
-use Rattle.ats_bound.specs.Cut.{ShownLane, lower, names}
+use Rattle.ats_bound.specs.Cut.{ShownLane, lo_of, names}
 use Rattle.ats_bound.specs.Front.{named_by}
 use Rattle.ats_bound.specs.Known.{AreKnown, IsKnown, IsUnmet, Meets, met_at, more_of}
 use Rattle.ats_bound.proofs.Entered.{Enters, none_named, or_none}
@@ -62,7 +62,7 @@ module _ (all after : List ShownLane) (met : List Met) (doc gain digit : ℕ) (k
           | inl same ↦
               let was : IsKnown all m = known.each slot inside in
               let is : IsKnown after more = record {
-                lo = ap (λ n. n + gain) was.lo ∙ ap (λ n. lower all n + gain) is_doc ∙ sym enters.lo ∙ ap (lower after) (sym is_doc);
+                lo = ap (λ n. n + gain) was.lo ∙ ap (λ n. lo_of all n + gain) is_doc ∙ sym enters.lo ∙ ap (lo_of after) (sym is_doc);
                 named = ap (λ n. n + digit) was.named ∙ ap (λ n. named_by all n + digit) is_doc ∙ sym enters.named ∙ ap (named_by after) (sym is_doc);
                 few = omega (arith, was.few, little, some);
               } in

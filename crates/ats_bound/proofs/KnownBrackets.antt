@@ -13,7 +13,7 @@ use Rattle.ats_impact.specs.Rank.{times}
 use Rattle.ats_bound.specs.declared.bracket.Bracket.{Bracket}
 use Rattle.ats_bound.specs.declared.known.Met.{Met}
 use Rattle.ats_bound.specs.Best.{count_at_least}
-use Rattle.ats_bound.specs.Cut.{ShownLane, bracket, lower}
+use Rattle.ats_bound.specs.Cut.{ShownLane, bracket, lo_of}
 use Rattle.ats_bound.specs.Known.{AreKnown, AreOnce, IsKnown, lows, met_at}
 use Rattle.ats_bound.specs.Placed.{doc_cmp}
 use Rattle.ats_bound.specs.Schedule.{AreBracketsOf, has_bracket}
@@ -141,7 +141,7 @@ module _ (f : Bracket → ℕ) (bounds : ℕ → Bracket) where
 count_lows : (t : ℕ) (lanes : List ShownLane) (met : List Met) → ((slot : ℕ) → slot < length met → IsKnown lanes (met_at met slot)) → count_by (λ (b : Bracket). leb t b.lo) (brackets_of lanes met) ≡ count_at_least t (lows met)
 count_lows t lanes [] each = refl
 count_lows t lanes (m ∷ met) each =
-    let here : m.lo ≡ lower lanes m.doc = (each 0 (omega arith)).lo in
+    let here : m.lo ≡ lo_of lanes m.doc = (each 0 (omega arith)).lo in
     let later = count_lows t lanes met (λ slot inside. each (suc slot) (omega (arith, inside))) in
     omega (
       arith,

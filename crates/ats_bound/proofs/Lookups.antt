@@ -34,7 +34,7 @@ lookup_holds n score lanes table doc are agrees met =
     looked_is_whole 0 table lanes doc (λ j low. ap (λ k. table k doc) (omega arith) ∙ agrees j doc (omega (arith, low, size))) in
     let is : score doc ≡ whole_score lanes doc = are.sums doc (met_below n score lanes doc are met) in
     record {
-      lower = omega (arith, looked, is);
-      upper = omega (arith, looked, is);
+      lo = omega (arith, looked, is);
+      hi = omega (arith, looked, is);
       scores = (bracket_holds n score lanes doc are met).scores;
     }

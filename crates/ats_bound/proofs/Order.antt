@@ -15,9 +15,9 @@ use Rattle.ats_bound.specs.Placed.{IsPlaced, placed_cmp}
 use Rattle.ats_bound.proofs.Places.{few_places}
 
 -- there are no more brackets than documents
-pub few_documents : (limit : ℕ) (brackets : List Bracket) (k : ℕ) → k ≤ length brackets → HaveDistinctDocs brackets
-    → All (λ b. b.doc < limit) (take k brackets) → k ≤ limit
-few_documents limit brackets k inside distinct low =
+pub few_documents : (documents : ℕ) (brackets : List Bracket) (k : ℕ) → k ≤ length brackets → HaveDistinctDocs brackets
+    → All (λ b. b.doc < documents) (take k brackets) → k ≤ documents
+few_documents documents brackets k inside distinct low =
     let doc : Bracket → ℕ = λ b. b.doc in
     let none : Bracket = record { doc = 0; lo = 0; hi = 0 } in
     let size : length (map doc (take k brackets)) ≡ length (take k brackets) = length-map (take k brackets) doc in
@@ -27,7 +27,7 @@ few_documents limit brackets k inside distinct low =
       arith,
       size,
       length-take k brackets,
-      few_places limit (map doc (take k brackets))
+      few_places documents (map doc (take k brackets))
           (λ j d within. let there : j < length (take k brackets) = omega (arith, size, within) in rw (get_or-map doc (take k brackets) j none d there) (low j none there)) once,
     )
   where

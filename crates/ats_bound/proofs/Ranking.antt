@@ -121,9 +121,9 @@ module _ (n r : ℕ) (score : ℕ → ℕ) (lanes : List CutLane) (brackets : Li
       rw (row_is (k + 1) next, row_is k here)
       (omega (
         arith,
-        (holds (get_or picks (k + 1) 0) (pick_low (k + 1) next)).upper,
+        (holds (get_or picks (k + 1) 0) (pick_low (k + 1) next)).hi,
         settled.falling k next,
-        (holds (get_or picks k 0) (pick_low k here)).lower,
+        (holds (get_or picks k 0) (pick_low k here)).lo,
       ))
 
   whole : (length answer ≡ r) ⊎ ((doc : ℕ) → doc < n → times doc answer ≡ 0 → score doc ≡ 0)
@@ -143,7 +143,7 @@ module _ (n r : ℕ) (score : ℕ → ℕ) (lanes : List CutLane) (brackets : Li
   last_holds some =
       let low : length picks - 1 < length picks = omega (arith, some) in
       let at : get_or answer (length answer - 1) 0 ≡ doc_of (get_or picks (length picks - 1) 0) = ap (λ m. get_or answer (m - 1) 0) size ∙ row_is (length picks - 1) low in
-      rw at (holds (get_or picks (length picks - 1) 0) (pick_low (length picks - 1) low)).lower
+      rw at (holds (get_or picks (length picks - 1) 0) (pick_low (length picks - 1) low)).lo
 
   rest : (doc : ℕ) → doc < n → times doc answer ≡ 0 → 0 < length answer → score doc ≤ score (get_or answer (length answer - 1) 0)
   rest doc low out some =
@@ -151,7 +151,7 @@ module _ (n r : ℕ) (score : ℕ → ℕ) (lanes : List CutLane) (brackets : Li
       elim (cases_Bool (list_any (names doc) (cut_of lanes))) [
         | inl met ↦
             let found = place_of doc met in
-            let upper : score (doc_of found.0) ≤ (bracket_at brackets found.0).hi = (holds found.0 found.1).upper in
+            let upper : score (doc_of found.0) ≤ (bracket_at brackets found.0).hi = (holds found.0 found.1).hi in
             omega (
               arith,
               rw found.2 at upper,

@@ -200,29 +200,29 @@ pub tells_settled : (stage : Stage) (rows : ℕ) (scores : List (ℕ × ℕ)) (k
     → (IsTrue answer ↔ PassesQuickTest (exact_brackets scores) (threshold (shown_on stage)) rows)
     → (bounds : Bounding) → AreBracketsBy bounds (shown_on stage) (exact_brackets scores) → TellsSettled bounds stage.lanes rows stage.cut answer
 tells_settled stage rows scores kept answer are quick bounds of =
-    let limit : ℕ = threshold (shown_on stage) in
+    let threshold_here : ℕ = threshold (shown_on stage) in
     record {
       chosen = λ brackets picks others chosen.
           let same : exact_brackets scores ≡ brackets = one_bracketing bounds (shown_on stage) (exact_brackets scores) brackets of others in
-          let both = exact_settled (exact_brackets scores) rows limit picks are.some (scored_proper scores) (even_brackets scores) (rw same chosen) in
+          let both = exact_settled (exact_brackets scores) rows threshold_here picks are.some (scored_proper scores) (even_brackets scores) (rw same chosen) in
           rw (← same) ((λ t. both.0 (quick.0 t)), (λ settled. quick.1 (both.1 settled)));
       any = λ can.
           let same : can.brackets ≡ exact_brackets scores = one_bracketing bounds (shown_on stage) can.brackets (exact_brackets scores) can.bounded of in
           let inside : ArePicks (exact_brackets scores) can.answer = subst (λ (bs : List Bracket). ArePicks bs can.answer) same can.inside in
-          let settled : IsSettled (exact_brackets scores) can.answer limit rows = subst (λ (bs : List Bracket). IsSettled bs can.answer limit rows) same can.settled in
-          quick.1 (settled_passes (exact_brackets scores) can.answer limit rows (scored_proper scores) inside settled);
+          let settled : IsSettled (exact_brackets scores) can.answer threshold_here rows = subst (λ (bs : List Bracket). IsSettled bs can.answer threshold_here rows) same can.settled in
+          quick.1 (settled_passes (exact_brackets scores) can.answer threshold_here rows (scored_proper scores) inside settled);
     }
 
 -- where the threshold is not 0, the least of the greatest scores tells
-pub least_answers : (stage : Stage) (rows : ℕ) (scores : List (ℕ × ℕ)) (kept : List ℕ) (limit least : ℕ) → AreScored stage rows scores kept
-    → ((all : List ℕ) (t : ℕ) → AreBest kept all → 1 ≤ t → (t ≤ least) ↔ (length kept ≤ count_at_least t all)) → (limit ≡ 0 → ⊥)
-    → IsTrue (leb limit least) ↔ PassesQuickTest (exact_brackets scores) limit rows
-least_answers stage rows scores kept limit least are tells more =
-    let both = tells (values_of scores) limit are.best (omega (arith, more)) in
-    let lows : count_by (λ (b : Bracket). leb limit b.lo) (exact_brackets scores) ≡ count_at_least limit (values_of scores) =
-    count_lows limit (exact_brackets scores) ∙ ap (count_at_least limit) (lows_are scores) in (
-      λ holds. inr (omega (arith, both.0 (leb-true limit least holds), lows, are.size)),
-      λ passes. elim passes [ inl none ↦ absurd (more none) | inr many ↦ le-leb limit least (both.1 (omega (arith, many, lows, are.size))) ],
+pub least_answers : (stage : Stage) (rows : ℕ) (scores : List (ℕ × ℕ)) (kept : List ℕ) (threshold least : ℕ) → AreScored stage rows scores kept
+    → ((all : List ℕ) (t : ℕ) → AreBest kept all → 1 ≤ t → (t ≤ least) ↔ (length kept ≤ count_at_least t all)) → (threshold ≡ 0 → ⊥)
+    → IsTrue (leb threshold least) ↔ PassesQuickTest (exact_brackets scores) threshold rows
+least_answers stage rows scores kept threshold least are tells more =
+    let both = tells (values_of scores) threshold are.best (omega (arith, more)) in
+    let lows : count_by (λ (b : Bracket). leb threshold b.lo) (exact_brackets scores) ≡ count_at_least threshold (values_of scores) =
+    count_lows threshold (exact_brackets scores) ∙ ap (count_at_least threshold) (lows_are scores) in (
+      λ holds. inr (omega (arith, both.0 (leb-true threshold least holds), lows, are.size)),
+      λ passes. elim passes [ inl none ↦ absurd (more none) | inr many ↦ le-leb threshold least (both.1 (omega (arith, many, lows, are.size))) ],
     )
 
 pub zero_answers : (rows threshold : ℕ) (brackets : List Bracket) → threshold ≡ 0 → (answer : Bool) → IsTrue answer → IsTrue answer ↔ PassesQuickTest brackets threshold rows

@@ -93,8 +93,8 @@ module _ (stage : Stage) (rows : ℕ) (met : List Met) (best : List ℕ) (run : 
   abbrev all : List ShownLane
   all = shown_on stage
 
-  abbrev limit : ℕ
-  limit = threshold (shown_on stage)
+  abbrev threshold_here : ℕ
+  threshold_here = threshold (shown_on stage)
 
   -- what is reached by r brackets or more is at most the least of the best
   reach_least : (brackets : List Bracket) (t : ℕ) → AreBracketsOf all brackets → 1 ≤ t → (t ≤ least) ↔ (rows ≤ count_by (λ (b : Bracket). leb t b.lo) brackets)
@@ -103,16 +103,16 @@ module _ (stage : Stage) (rows : ℕ) (met : List Met) (best : List ℕ) (run : 
       let same = counts_agree t all met brackets run.known are in
       (λ le. omega (arith, both.0 le, same, run.size), λ many. both.1 (omega (arith, many, same, run.size)))
 
-  pub passes_where_low : (brackets : List Bracket) → limit ≤ least → (limit ≡ 0 → ⊥) → AreBracketsOf all brackets → PassesQuickTest brackets limit rows
-  passes_where_low brackets low more are = inr ((reach_least brackets limit are (omega (arith, more))).0 low)
+  pub passes_where_low : (brackets : List Bracket) → threshold_here ≤ least → (threshold_here ≡ 0 → ⊥) → AreBracketsOf all brackets → PassesQuickTest brackets threshold_here rows
+  passes_where_low brackets low more are = inr ((reach_least brackets threshold_here are (omega (arith, more))).0 low)
 
-  pub none_where_high : least < limit → CanSettleBy bracket stage.lanes rows stage.cut → ⊥
-  none_where_high high can = elim (settled_passes can.brackets can.answer limit rows (proper_of all can.brackets can.bounded) can.inside can.settled) [
+  pub none_where_high : least < threshold_here → CanSettleBy bracket stage.lanes rows stage.cut → ⊥
+  none_where_high high can = elim (settled_passes can.brackets can.answer threshold_here rows (proper_of all can.brackets can.bounded) can.inside can.settled) [
     | inl zero ↦ omega (arith, zero, high)
-    | inr many ↦ omega (arith, (reach_least can.brackets limit can.bounded (omega (arith, high))).1 many, high)
+    | inr many ↦ omega (arith, (reach_least can.brackets threshold_here can.bounded (omega (arith, high))).1 many, high)
   ]
 
-  module _ (more : limit ≡ 0 → ⊥) (can : CanSettleBy bracket stage.lanes rows stage.cut) where
+  module _ (more : threshold_here ≡ 0 → ⊥) (can : CanSettleBy bracket stage.lanes rows stage.cut) where
     proper : AreBrackets can.brackets
     proper = proper_of all can.brackets can.bounded
 
@@ -120,31 +120,31 @@ module _ (stage : Stage) (rows : ℕ) (met : List Met) (best : List ℕ) (run : 
     low_of_last = (last_row can.brackets can.answer).lo
 
     last_low : low_of_last ≤ least
-    last_low = (reach_least can.brackets low_of_last can.bounded (last_some can.brackets can.answer limit rows proper can.inside can.settled (omega (arith, more)) (omega (arith, run.some)))).1
-        (many_reach can.brackets can.answer limit rows proper can.inside can.settled (omega (arith, more)) (omega (arith, run.some)))
+    last_low = (reach_least can.brackets low_of_last can.bounded (last_some can.brackets can.answer threshold_here rows proper can.inside can.settled (omega (arith, more)) (omega (arith, run.some)))).1
+        (many_reach can.brackets can.answer threshold_here rows proper can.inside can.settled (omega (arith, more)) (omega (arith, run.some)))
 
     last_high : 1 ≤ least → least ≤ low_of_last
     last_high positive = elim (cases_lt low_of_last least) [
       | inr le ↦ le
       | inl less ↦
-          let few = few_go_above can.brackets can.answer limit rows proper can.inside can.settled (omega (arith, more)) (omega (arith, run.some)) least less in
+          let few = few_go_above can.brackets can.answer threshold_here rows proper can.inside can.settled (omega (arith, more)) (omega (arith, run.some)) least less in
           absurd (omega (arith, few, (reach_least can.brackets least can.bounded positive).0 (omega arith)))
     ]
 
     no_around : (i : ℕ) → i < length can.brackets → IsAround least (bracket_at can.brackets i) → ⊥
     no_around i inside around =
         let high : least ≤ low_of_last = last_high (omega (arith, around.0)) in
-        elim (found can.brackets can.answer limit rows proper can.inside can.settled (omega (arith, more)) (omega (arith, run.some)) i inside) [
+        elim (found can.brackets can.answer threshold_here rows proper can.inside can.settled (omega (arith, more)) (omega (arith, run.some)) i inside) [
           | inr out ↦ omega (arith, out, last_low, around.1)
           | inl here ↦
-              let row_high = above_least can.brackets can.answer limit rows proper can.inside can.settled (omega (arith, more)) (omega (arith, run.some)) here.0 here.1 in
+              let row_high = above_least can.brackets can.answer threshold_here rows proper can.inside can.settled (omega (arith, more)) (omega (arith, run.some)) here.0 here.1 in
               omega (arith, rw here.2 at row_high, high, around.0)
         ]
 
     no_overlapping : (i j : ℕ) → i < length can.brackets → j < length can.brackets → DoOverlap least (bracket_at can.brackets i) (bracket_at can.brackets j) → ⊥
     no_overlapping i j low also over =
         let differ : i ≡ j → ⊥ = λ same. over.0 (ap (λ n. (bracket_at can.brackets n).doc) same) in
-        let both = no_overlap can.brackets can.answer limit rows proper can.inside can.settled (omega (arith, more)) (omega (arith, run.some)) i j low also differ over.1 over.2 in
+        let both = no_overlap can.brackets can.answer threshold_here rows proper can.inside can.settled (omega (arith, more)) (omega (arith, run.some)) i j low also differ over.1 over.2 in
         elim over.3 [
           | inl first ↦ omega (arith, both.0, last_low, first)
           | inr second ↦ omega (arith, both.1, last_low, second)
@@ -188,7 +188,7 @@ pub tells_exactly : (stage : Stage) (rows : ℕ) (brackets : List Bracket) (pick
     → (IsTrue told ↔ IsSettled brackets picks (threshold (shown_on stage)) rows) → TellsSettled bracket stage.lanes rows stage.cut told
 tells_exactly stage rows brackets picks told bounded chosen is =
     let all : List ShownLane = shown_on stage in
-    let limit : ℕ = threshold all in
+    let threshold_here : ℕ = threshold all in
     record {
       chosen = λ others answer are first.
           let same : others ≡ brackets = one_bracketing bracket all others brackets are bounded in
@@ -197,6 +197,6 @@ tells_exactly stage rows brackets picks told bounded chosen is =
       any = λ can.
           let same : can.brackets ≡ brackets = one_bracketing bracket all can.brackets brackets can.bounded bounded in
           let inside : ArePicks brackets can.answer = subst (λ (bs : List Bracket). ArePicks bs can.answer) same can.inside in
-          let settled : IsSettled brackets can.answer limit rows = subst (λ (bs : List Bracket). IsSettled bs can.answer limit rows) same can.settled in
-          is.1 (chosen_is_settled brackets limit rows can.answer picks (proper_of all brackets bounded) inside settled chosen);
+          let settled : IsSettled brackets can.answer threshold_here rows = subst (λ (bs : List Bracket). IsSettled bs can.answer threshold_here rows) same can.settled in
+          is.1 (chosen_is_settled brackets threshold_here rows can.answer picks (proper_of all brackets bounded) inside settled chosen);
     }

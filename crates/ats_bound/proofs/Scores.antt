@@ -5,7 +5,7 @@ use Rattle.std.proofs.Math.Nat.{mul-le-mul_left, mul-add}
 use Rattle.std.proofs.lemmas.Bool.{cases_Bool}
 use Rattle.std.proofs.lemmas.List.Elements.{All-head, All-tail}
 use Rattle.std.proofs.lemmas.List.Sums.{sum_by-cons}
-use Rattle.ats_bound.specs.Cut.{ShownLane, IsMet, names, rest, rest_impact, shown_impact, lower, missing, held, threshold, bracket}
+use Rattle.ats_bound.specs.Cut.{ShownLane, IsMet, names, rest, rest_impact, shown_impact, lo_of, missing, held, threshold, bracket}
 use Rattle.ats_bound.specs.Ranked.{CutLane, IsCutLane, AreScores, HoldsScore, cut_of, impact_in, whole_score}
 use Rattle.ats_bound.proofs.Lanes.{cut, shown_within, shown_none, shown_some, shown_below, whole_within}
 
@@ -24,7 +24,7 @@ scaled c x y b true le = omega (arith, mul-le-mul_left {m = x} {n = y} c (omega 
 scaled c x y b false le = omega (arith, mul-le-mul_left {m = x} {n = y + b} c le, mul-add c y b)
 
 module _ (n doc : ℕ) where
-  pub lower_within : (lanes : List CutLane) → All (IsCutLane n) lanes → lower (cut_of lanes) doc ≤ whole_score lanes doc
+  pub lower_within : (lanes : List CutLane) → All (IsCutLane n) lanes → lo_of (cut_of lanes) doc ≤ whole_score lanes doc
   lower_within [] each = omega arith
   lower_within (lane ∷ lanes) each =
       let is : IsCutLane n lane = All-head (IsCutLane n) lane lanes each in
@@ -37,7 +37,7 @@ module _ (n doc : ℕ) where
       )
 
   pub upper_within : (lanes : List CutLane) → All (IsCutLane n) lanes
-      → whole_score lanes doc ≤ lower (cut_of lanes) doc + missing (cut_of lanes) doc
+      → whole_score lanes doc ≤ lo_of (cut_of lanes) doc + missing (cut_of lanes) doc
   upper_within [] each = omega arith
   upper_within (lane ∷ lanes) each =
       let is : IsCutLane n lane = All-head (IsCutLane n) lane lanes each in
@@ -73,7 +73,7 @@ module _ (n doc : ℕ) where
       ]
 
   pub met_some : (lanes : List CutLane) → All (IsCutLane n) lanes → list_any (names doc) (cut_of lanes) ≡ true
-      → (doc < n) × (0 < lower (cut_of lanes) doc)
+      → (doc < n) × (0 < lo_of (cut_of lanes) doc)
   met_some [] each seen = absurd (cc)
   met_some (lane ∷ lanes) each seen =
       let is : IsCutLane n lane = All-head (IsCutLane n) lane lanes each in
@@ -104,10 +104,10 @@ pub bracket_holds : (n : ℕ) (score : ℕ → ℕ) (lanes : List CutLane) (doc 
 bracket_holds n score lanes doc are met =
     let found = met_some n doc lanes are.each met in
     let is : score doc ≡ whole_score lanes doc = are.sums doc found.0 in
-    let low : lower (cut_of lanes) doc ≤ score doc = omega (arith, is, lower_within n doc lanes are.each) in
+    let low : lo_of (cut_of lanes) doc ≤ score doc = omega (arith, is, lower_within n doc lanes are.each) in
     record {
-      lower = low;
-      upper = omega (arith, is, upper_within n doc lanes are.each);
+      lo = low;
+      hi = omega (arith, is, upper_within n doc lanes are.each);
       scores = omega (arith, low, found.1);
     }
 

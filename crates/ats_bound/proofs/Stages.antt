@@ -13,12 +13,12 @@ use Rattle.ats_bound.proofs.Shown.{cut_after, length-shown, open_more, shown-set
 pub stage_size : (stage : Stage) → IsStage stage → length (shown_on stage) ≡ length stage.lanes
 stage_size stage is = length-shown stage.lanes stage.cut is.cut.size
 
-pub rests_size : (stage : Stage) (rests : List ℕ) (limit : ℕ) → AreRests stage rests limit → length rests ≡ length stage.lanes
-rests_size stage rests limit are = ap length are.each ∙ length-map (shown_on stage) rest ∙ stage_size stage are.stands
+pub rests_size : (stage : Stage) (rests : List ℕ) (threshold : ℕ) → AreRests stage rests threshold → length rests ≡ length stage.lanes
+rests_size stage rests threshold are = ap length are.each ∙ length-map (shown_on stage) rest ∙ stage_size stage are.stands
 
 -- the rest at a place is that of the list there
-pub rest_on : (stage : Stage) (rests : List ℕ) (limit i : ℕ) (d : ShownLane) → AreRests stage rests limit → i < length stage.lanes → get_or rests i 0 ≡ rest (get_or (shown_on stage) i d)
-rest_on stage rests limit i d are inside =
+pub rest_on : (stage : Stage) (rests : List ℕ) (threshold i : ℕ) (d : ShownLane) → AreRests stage rests threshold → i < length stage.lanes → get_or rests i 0 ≡ rest (get_or (shown_on stage) i d)
+rest_on stage rests threshold i d are inside =
     let there : i < length (shown_on stage) = omega (arith, inside, stage_size stage are.stands) in
     ap (λ (rs : List ℕ). get_or rs i 0) are.each ∙ get_or-map rest (shown_on stage) i d 0 there
 
@@ -30,18 +30,18 @@ pub whole_on : (stage : Stage) (i : ℕ) → IsStage stage → i < length stage.
 whole_on stage i is inside = is.whole.each i (record { coefficient = 0; entries = [] }) inside
 
 -- rests have this sum
-pub rests_are : (stage : Stage) (rests : List ℕ) (limit : ℕ) → IsStage stage → rests ≡ map rest (shown_on stage) → limit ≡ sum rests → AreRests stage rests limit
-rests_are stage rests limit stands each is = record {
+pub rests_are : (stage : Stage) (rests : List ℕ) (threshold : ℕ) → IsStage stage → rests ≡ map rest (shown_on stage) → threshold ≡ sum rests → AreRests stage rests threshold
+rests_are stage rests threshold stands each is = record {
   stands = stands;
   each = each;
   sum = is ∙ ap sum each ∙ sum-map rest (shown_on stage);
 }
 
 -- the stage after one entry more of a list, with its rests
-pub rests_after : (stage : Stage) (rests : List ℕ) (limit i amount after_limit : ℕ) → AreRests stage rests limit → i < length stage.lanes → IsOpen stage.lanes stage.cut i
-    → amount ≡ rest (lane_of (lane_on stage i).coefficient (lane_on stage i).entries (get_or stage.cut i 0 + 1)) → after_limit ≡ sum (set rests i amount)
-    → AreRests (record { lanes = stage.lanes; cut = set stage.cut i (get_or stage.cut i 0 + 1) }) (set rests i amount) after_limit
-rests_after stage rests limit i amount after_limit are inside more is sum_is =
+pub rests_after : (stage : Stage) (rests : List ℕ) (threshold i amount threshold_after : ℕ) → AreRests stage rests threshold → i < length stage.lanes → IsOpen stage.lanes stage.cut i
+    → amount ≡ rest (lane_of (lane_on stage i).coefficient (lane_on stage i).entries (get_or stage.cut i 0 + 1)) → threshold_after ≡ sum (set rests i amount)
+    → AreRests (record { lanes = stage.lanes; cut = set stage.cut i (get_or stage.cut i 0 + 1) }) (set rests i amount) threshold_after
+rests_after stage rests threshold i amount threshold_after are inside more is sum_is =
     let lanes : List WholeLane = stage.lanes in
     let cut : List ℕ = stage.cut in
     let next : ℕ = get_or cut i 0 + 1 in
@@ -49,7 +49,7 @@ rests_after stage rests limit i amount after_limit are inside more is sum_is =
     let lane : ShownLane = lane_of (lane_on stage i).coefficient (lane_on stage i).entries next in
     let stands : IsStage stage = are.stands in
     let shown_is : shown lanes (set cut i next) ≡ set (shown lanes cut) i lane = shown-set lanes cut i next (record { coefficient = 0; entries = [] }) inside (omega (arith, inside, stands.cut.size)) in
-    rests_are after (set rests i amount) after_limit (record { whole = stands.whole; cut = cut_after lanes cut i stands.cut inside more })
+    rests_are after (set rests i amount) threshold_after (record { whole = stands.whole; cut = cut_after lanes cut i stands.cut inside more })
     (ap (λ (rs : List ℕ). set rs i amount) are.each ∙ ap (set (map rest (shown lanes cut)) i) is ∙ sym (map-set rest (shown lanes cut) i lane) ∙ ap (map rest) (sym shown_is))
     sum_is
 

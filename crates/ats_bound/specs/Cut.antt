@@ -44,8 +44,8 @@ abbrev pub shown_impact : ℕ → ShownLane → ℕ
 shown_impact doc lane = sum_by (λ (entry : Entry). if entry.doc == doc then entry.impact else 0) lane.shown
 
 -- what the shown entries say that the document scores at least
-abbrev pub lower : List ShownLane → ℕ → ℕ
-lower lanes doc = sum_by (λ lane. lane.coefficient * shown_impact doc lane) lanes
+abbrev pub lo_of : List ShownLane → ℕ → ℕ
+lo_of lanes doc = sum_by (λ lane. lane.coefficient * shown_impact doc lane) lanes
 
 -- what the lanes that do not name the document can add, at most
 abbrev pub missing : List ShownLane → ℕ → ℕ
@@ -57,4 +57,4 @@ held lanes doc = sum_by (λ lane. if names doc lane then rest lane else 0) lanes
 
 -- the bracket of a met document, from all shown entries
 abbrev pub bracket : List ShownLane → ℕ → Bracket
-bracket lanes doc = record { doc = doc; lo = lower lanes doc; hi = lower lanes doc + missing lanes doc }
+bracket lanes doc = record { doc = doc; lo = lo_of lanes doc; hi = lo_of lanes doc + missing lanes doc }

@@ -4,7 +4,7 @@ use Rattle.std.specs.List.{list_any}
 use Rattle.std.specs.declared.option.Option.{Option}
 use Rattle.std.specs.declared.option.Option.TheVariants.{Some}
 use Rattle.ats_bound.specs.declared.known.Met.{Met}
-use Rattle.ats_bound.specs.Cut.{ShownLane, lower, names}
+use Rattle.ats_bound.specs.Cut.{ShownLane, lo_of, names}
 use Rattle.ats_bound.specs.Front.{named_by}
 
 -- the document in a slot, with what is known of it
@@ -22,7 +22,7 @@ pub record AreSlots (met : List Met) (slots : ℕ → Option ℕ) : Type 0 where
 
 -- what the shown entries say of one document
 pub record IsKnown (lanes : List ShownLane) (met : Met) : Type 0 where
-  pub lo : met.lo ≡ lower lanes met.doc
+  pub lo : met.lo ≡ lo_of lanes met.doc
   pub named : met.named ≡ named_by lanes met.doc
   -- each lane that names it adds no more than the greatest coefficient times the greatest impact
   pub few : met.lo ≤ 34935 * 65535 * met.named

@@ -40,8 +40,8 @@ pub record AreScores (n : ℕ) (score : ℕ → ℕ) (lanes : List CutLane) : Ty
 
 -- the score of the bracket's document lies in it, and is above 0
 pub record HoldsScore (score : ℕ → ℕ) (bracket : Bracket) : Type 0 where
-  pub lower : bracket.lo ≤ score bracket.doc
-  pub upper : score bracket.doc ≤ bracket.hi
+  pub lo : bracket.lo ≤ score bracket.doc
+  pub hi : score bracket.doc ≤ bracket.hi
   pub scores : 0 < score bracket.doc
 
 -- the documents of brackets

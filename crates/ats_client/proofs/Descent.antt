@@ -23,7 +23,8 @@ use Rattle.ats_dict.specs.Dictionary.{dict_leaves}
 use Rattle.ats_dict.specs.Entry.{DictEntry, dict_leaf_bytes}
 use Rattle.ats_dict.specs.Header.{header_bytes, IsHeader}
 use Rattle.ats_dict.specs.declared.header.Header.{Header}
-use Rattle.ats_commit.specs.Archive.{Layout, Archive, header_tag, list_root}
+use Rattle.ats_lists.specs.Layout.{Layout}
+use Rattle.ats_commit.specs.Archive.{Archive, header_tag, list_root}
 use Rattle.ats_commit.specs.Prefixes.{list_string, prefix_strings}
 use Rattle.ats_commit.specs.Trees.{dictionary_of}
 use Rattle.ats_commit.specs.Root.{header_of, header_root, root_of}

@@ -8,7 +8,7 @@ use Rattle.ats_bound.proofs.Places.{times-cons}
 use Rattle.ats_bound.specs.Cut.{ShownLane}
 use Rattle.ats_bound.specs.Schedule.{Bounding}
 use Rattle.ats_proof.specs.Value.{Proof}
-use Rattle.ats_commit.specs.Archive.{Layout}
+use Rattle.ats_lists.specs.Layout.{Layout}
 use Rattle.ats_client.specs.declared.refusal.Refusal.{Refusal}
 use Rattle.ats_client.specs.declared.refusal.Refusal.TheVariants.{OtherRoot, SlotCount, DictMisfit, DictRoot, SlotWrong, IndexOut, Repeated, ListMisfit, ListRoot, Unmet, AnswerOut, AnswerRepeated, NotSettled}
 use Rattle.ats_client.specs.Presented.{Presented}

@@ -5,7 +5,8 @@ use Rattle.std.specs.Prelude.{IsSome, MatchOption}
 use Rattle.std.proofs.lemmas.List.Elements.{All-weaker}
 use Rattle.ats_terms.specs.Query.{IsQuery}
 use Rattle.ats_impact.specs.Score.{score}
-use Rattle.ats_commit.specs.Archive.{Layout, Archive}
+use Rattle.ats_lists.specs.Layout.{Layout}
+use Rattle.ats_commit.specs.Archive.{Archive}
 use Rattle.ats_commit.specs.Own.{AreTexts}
 use Rattle.ats_commit.specs.Root.{root_of}
 use Rattle.ats_commit.specs.Ours.{TreePlace, ours}

@@ -144,7 +144,7 @@ module _ (n r : ℕ) (score_of : ℕ → ℕ) (bounds : Bounding) (lanes : List 
   rows_hold = All-map (λ (row : Row). (row.lower ≤ score_of row.doc) × (score_of row.doc ≤ row.upper))
       (λ index. row_of (bounds lanes (met_at met index))) answer (λ k d low.
       let held : HoldsScore score_of (bounds lanes (met_at met (get_or answer k d))) = holds (get_or answer k d) (rows.inside k d low) in
-      (held.lower, held.upper))
+      (held.lo, held.hi))
 
 -- what a settled answer tells is right for the texts, where each bracket holds its score
 pub settled_rows_right : (texts : List (List ℕ)) (query : List (List ℕ × ℕ)) (r : ℕ) (bounds : Bounding) (documents : ℕ) (met answer : List ℕ) (terms : List Presented) (own : List CutLane)

@@ -13,7 +13,7 @@ use Rattle.std.proofs.lemmas.List.Sums.{sum_by-cons, sum_by-append}
 use Rattle.ats_impact.specs.Numbers.{idf}
 use Rattle.ats_impact.specs.Rank.{times}
 use Rattle.ats_lists.specs.declared.entry.Entry.{Entry}
-use Rattle.ats_bound.specs.Cut.{ShownLane, rest, threshold, names, shown_impact, lower, held}
+use Rattle.ats_bound.specs.Cut.{ShownLane, rest, threshold, names, shown_impact, lo_of, held}
 use Rattle.ats_bound.proofs.Places.{times-cons}
 use Rattle.ats_proof.specs.Runs.{named}
 use Rattle.ats_client.specs.Indexes.{AreNames}
@@ -126,7 +126,7 @@ has_all documents met rises i low (one ∷ terms) all =
     (has_all documents met rises i low terms later)
 
 pub gain_all : (documents : ℕ) (met : List ℕ) → IsStrictlyIncreasing met → (i : ℕ) → i < length met → (terms : List Presented) → AreAllNamed met terms
-    → gain_of i (notes_of documents terms) ≡ lower (map (lane_of documents met) terms) (met_at met i)
+    → gain_of i (notes_of documents terms) ≡ lo_of (map (lane_of documents met) terms) (met_at met i)
 gain_all documents met rises i low [] all = refl
 gain_all documents met rises i low (one ∷ terms) all =
     let here = All-head (λ (one : Presented). AreNames (length met) (indexes_of one.prefix.entries)) one terms all in

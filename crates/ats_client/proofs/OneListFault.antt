@@ -1,7 +1,7 @@
 -- Indexes break their rule first at one place at most, and the present terms have one first failure at most.
 use Rattle.std.proofs.Common.{◌≡◌, ◌∙◌, ℕ, List, ◌∷◌, ◌++◌, length, refl, sym, ap, ap₂, arith}
 use Rattle.ats_proof.specs.Value.{Proof, layout_of}
-use Rattle.ats_commit.specs.Archive.{Layout}
+use Rattle.ats_lists.specs.Layout.{Layout}
 use Rattle.ats_client.specs.declared.refusal.Refusal.{Refusal}
 use Rattle.ats_client.specs.declared.refusal.Refusal.TheVariants.{IndexOut, Repeated, ListMisfit, ListRoot}
 use Rattle.ats_client.specs.Presented.{Presented, presented}

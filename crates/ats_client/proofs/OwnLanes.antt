@@ -20,7 +20,8 @@ use Rattle.ats_lists.proofs.WholeLemmas.{list_keeps, list_frequency}
 use Rattle.ats_dict.specs.Entry.{dict_leaf_bytes}
 use Rattle.ats_dict.specs.Dictionary.{dict_leaves}
 use Rattle.ats_records.specs.declared.record.Slot.{Slot}
-use Rattle.ats_commit.specs.Archive.{Layout, Archive}
+use Rattle.ats_lists.specs.Layout.{Layout}
+use Rattle.ats_commit.specs.Archive.{Archive}
 use Rattle.ats_commit.specs.Trees.{dictionary_of}
 use Rattle.ats_commit.specs.Ours.{asked_term}
 use Rattle.ats_commit.specs.Own.{AreTexts, IsEntryOf, AreNeighbours}

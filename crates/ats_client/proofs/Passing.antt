@@ -8,10 +8,10 @@ use Rattle.std.proofs.lemmas.List.Sums.{sum_by-cons, sum_by-append}
 use Rattle.std.proofs.Math.ListN.{drop_of_length-le}
 use Rattle.ats_bound.specs.declared.work.Mark.{Mark}
 use Rattle.ats_bound.specs.Work.{mark_at, zero_mark}
-use Rattle.ats_bound.specs.Cut.{rest, threshold as threshold_of, lower, held, bracket}
+use Rattle.ats_bound.specs.Cut.{rest, threshold as threshold_of, lo_of, held, bracket}
 use Rattle.ats_bound.proofs.Scores.{held_or_missing}
 use Rattle.ats_proof.specs.Value.{Proof, Prefix, present_in, layout_of}
-use Rattle.ats_commit.specs.Archive.{Layout}
+use Rattle.ats_lists.specs.Layout.{Layout}
 use Rattle.ats_client.specs.declared.refusal.Refusal.{Refusal}
 use Rattle.ats_client.specs.declared.present_terms.PresentTerm.{PresentTerm}
 use Rattle.ats_client.specs.PresentTerms.{kept_term, kept_terms}
@@ -175,7 +175,7 @@ marks_done H query proof terms threshold marks rises d =
           let lo = is.small_lower in
           let early = is.early in
           let doc : ℕ = met_at proof.met i in
-          let least : (mark_at marks i).lo ≡ lower (lanes_of query proof) doc = is.least ∙ gain_all n proof.met rises i low ones all in
+          let least : (mark_at marks i).lo ≡ lo_of (lanes_of query proof) doc = is.least ∙ gain_all n proof.met rises i low ones all in
           let held_is : (mark_at marks i).held ≡ held (lanes_of query proof) doc = is.held ∙ held_all n proof.met rises i low ones all in
           record {
             least = least;

@@ -3,7 +3,7 @@ use Rattle.std.specs.Prelude.{◌≡◌, ◌≢◌, ◌<◌, ◌∷◌, ℕ, Lis
 use Rattle.std.specs.List.{All}
 use Rattle.ats_tree.specs.Rebuild.{rebuilt}
 use Rattle.ats_lists.specs.declared.entry.Entry.{Entry}
-use Rattle.ats_commit.specs.Archive.{Layout}
+use Rattle.ats_lists.specs.Layout.{Layout}
 use Rattle.ats_commit.specs.Ours.{asked_term}
 use Rattle.ats_commit.specs.Prefixes.{prefix_root}
 use Rattle.ats_commit.specs.Root.{header_root}

@@ -10,7 +10,8 @@ use Rattle.ats_lists.proofs.WholeLemmas.{list_frequency}
 use Rattle.ats_dict.specs.Entry.{DictEntry}
 use Rattle.ats_dict.specs.Dictionary.{dict_leaves}
 use Rattle.ats_dict.proofs.Sentinels.{length-dict_leaves}
-use Rattle.ats_commit.specs.Archive.{Layout, Archive, list_root}
+use Rattle.ats_lists.specs.Layout.{Layout}
+use Rattle.ats_commit.specs.Archive.{Archive, list_root}
 use Rattle.ats_commit.specs.Trees.{dict_entry, dictionary_of}
 
 terms_made : (H : List ℕ → List ℕ) (layout : Layout) (made : List ℕ → List Entry) (words : List (List ℕ))

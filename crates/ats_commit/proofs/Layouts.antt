@@ -1,6 +1,7 @@
 -- What all layouts have in common.
 use Rattle.std.proofs.Common.{◌≡◌, ℕ, List, refl, subst}
-use Rattle.ats_commit.specs.Archive.{Layout, whole_lists, Archive, archive_of}
+use Rattle.ats_lists.specs.Layout.{Layout, whole_lists}
+use Rattle.ats_commit.specs.Archive.{Archive, archive_of}
 
 -- there is one
 pub same_layout : (a b : Layout) → a ≡ b

@@ -13,7 +13,8 @@ use Rattle.ats_lists.specs.Leaf.{leaf_bytes}
 use Rattle.ats_lists.specs.Lists.{list}
 use Rattle.ats_lists.proofs.WholeLemmas.{list_frequency}
 use Rattle.ats_lists.specs.declared.entry.Entry.{Entry}
-use Rattle.ats_commit.specs.Archive.{Layout, whole_lists, Archive}
+use Rattle.ats_lists.specs.Layout.{Layout, whole_lists}
+use Rattle.ats_commit.specs.Archive.{Archive}
 use Rattle.ats_commit.specs.Prefixes.{list_string}
 use Rattle.ats_commit.specs.Ours.{asked_term, own_leaves, own_string}
 

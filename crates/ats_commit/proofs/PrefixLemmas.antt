@@ -9,7 +9,8 @@ use Rattle.ats_tree.proofs.Bound.{bound_to}
 use Rattle.ats_tree.proofs.Differences.{Collides}
 use Rattle.ats_lists.specs.Leaf.{leaf_bytes}
 use Rattle.ats_lists.specs.declared.entry.Entry.{Entry}
-use Rattle.ats_commit.specs.Archive.{Layout, whole_lists, list_root}
+use Rattle.ats_lists.specs.Layout.{Layout, whole_lists}
+use Rattle.ats_commit.specs.Archive.{list_root}
 use Rattle.ats_commit.specs.Prefixes.{list_string, prefix_root, prefix_strings}
 
 -- shown leaves that rebuild the root of a list are the list's, but for a collision

@@ -1,12 +1,9 @@
 -- What a root commits to.
 use Rattle.std.specs.Prelude.{ℕ, List, map}
 use Rattle.ats_tree.specs.Tree.{mth}
+use Rattle.ats_lists.specs.Layout.{Layout, whole_lists}
 use Rattle.ats_lists.specs.Leaf.{leaf_bytes}
 use Rattle.ats_lists.specs.declared.entry.Entry.{Entry}
-
--- how lists stand in trees: each list is one tree
-pub data Layout : Type 0 where
-  whole_lists : Layout
 
 -- the texts of a collection, and the layout of their trees
 pub record Archive : Type 0 where

@@ -9,7 +9,7 @@ use Rattle.ats_tree.specs.Shown.{Shown}
 use Rattle.ats_tree.specs.Strings.{node_string, node_strings}
 use Rattle.ats_lists.specs.Leaf.{leaf_bytes}
 use Rattle.ats_lists.specs.declared.entry.Entry.{Entry}
-use Rattle.ats_commit.specs.Archive.{Layout, whole_lists}
+use Rattle.ats_lists.specs.Layout.{Layout, whole_lists}
 
 -- the string that is hashed at a node of a list, if there is one
 abbrev pub list_string : (List ℕ → List ℕ) → Layout → List Entry → Node → Option (List ℕ)

@@ -4,7 +4,8 @@ use Rattle.ats_tree.specs.Tree.{mth}
 use Rattle.ats_dict.specs.Dictionary.{dict_leaves}
 use Rattle.ats_dict.specs.Header.{header_bytes, IsHeader}
 use Rattle.ats_dict.specs.declared.header.Header.{Header}
-use Rattle.ats_commit.specs.Archive.{Layout, Archive, header_tag}
+use Rattle.ats_lists.specs.Layout.{Layout}
+use Rattle.ats_commit.specs.Archive.{Archive, header_tag}
 use Rattle.ats_commit.specs.Trees.{dictionary_of, documents_of}
 
 -- the numbers of documents and of dictionary leaves, and the roots of the dictionary, the documents and the texts

@@ -8,7 +8,8 @@ use Rattle.ats_doctree.specs.DocumentLeaf.{doc_leaf_bytes}
 use Rattle.ats_doctree.specs.Impacts.{text_terms}
 use Rattle.ats_doctree.specs.Sentinels.{terms_leaves}
 use Rattle.ats_doctree.specs.declared.doc_leaf.DocLeaf.{DocLeaf}
-use Rattle.ats_commit.specs.Archive.{Layout, Archive, list_root}
+use Rattle.ats_lists.specs.Layout.{Layout}
+use Rattle.ats_commit.specs.Archive.{Archive, list_root}
 
 -- the entry of a term's list: the term, how many entries the list has, and its root
 abbrev pub dict_entry : (List ℕ → List ℕ) → Layout → List ℕ × List Entry → DictEntry

@@ -1,7 +1,7 @@
 //! The root of an archive.
 
 ghost use Rattle.std.specs.Prelude.{◌≡◌, ◌+◌, ◌<◌, ◌^◌};
-ghost use Rattle.ats_commit.specs.Archive.{whole_lists};
+ghost use Rattle.ats_lists.specs.Layout.{whole_lists};
 ghost use Rattle.ats_commit.specs.Root.{header_root};
 
 use ats_dict::Header;

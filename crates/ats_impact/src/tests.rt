@@ -1,5 +1,6 @@
 use crate::{
     Collection, CollectionFault, OutOfMemory, ROut, Row, Rows, Texts, Top, idf, impact, rank_plain,
+    trial_query, trial_texts,
 };
 use ats_terms::Query;
 use std::alloc::{AllocError, Global};
@@ -76,6 +77,24 @@ fn ranks_by_score_and_then_by_document(rt: HostRuntime) -> Result<(), Fail> {
     assert_eq!(rt; rows.as_slice(), expected.as_slice());
     let rows = rank_plain(alloc, &collection, &query, Top::new(1)?)?;
     assert_eq!(rt; rows.len(), 1);
+    Ok(())
+}
+
+#[test]
+fn draws_the_texts_and_queries_of_trials(rt: HostRuntime) -> Result<(), Fail> {
+    let alloc = rt.alloc();
+    let texts = trial_texts(alloc, 0)?;
+    assert_eq!(rt; texts.len(), 2000);
+    assert!(rt; texts.get(0).starts_with("w342 w221 w111 "));
+    assert!(rt; texts.get(1999).ends_with(" w53 w241 w92 w77"));
+    let first = trial_query(alloc, 0, 0)?;
+    assert_eq!(rt; first.len(), 3);
+    assert_eq!(rt; first.term(0), b"w234".as_slice());
+    assert_eq!(rt; first.term(1), b"w42".as_slice());
+    assert_eq!(rt; first.term(2), b"w757".as_slice());
+    let last = trial_query(alloc, 999_999_999, 19)?;
+    assert_eq!(rt; last.len(), 3);
+    assert_eq!(rt; last.term(0), b"w117".as_slice());
     Ok(())
 }
 

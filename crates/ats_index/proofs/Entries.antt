@@ -10,7 +10,8 @@ use Rattle.ats_terms.specs.Query.{byte_cmp}
 use Rattle.ats_lists.specs.declared.entry.Entry.{Entry}
 use Rattle.ats_dict.specs.Dictionary.{IsBelow, IsAboveLast}
 use Rattle.ats_dict.specs.Entry.{DictEntry}
-use Rattle.ats_commit.specs.Archive.{Layout, list_root}
+use Rattle.ats_lists.specs.Layout.{Layout}
+use Rattle.ats_commit.specs.Archive.{list_root}
 use Rattle.ats_commit.specs.Trees.{dict_entry}
 
 -- what is above all terms is above the last one's

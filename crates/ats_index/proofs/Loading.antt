@@ -4,7 +4,8 @@ use Rattle.std.specs.Prelude.{not, unwrap_or}
 use Rattle.std.specs.Str.{bytes_eq}
 use Rattle.std.proofs.lemmas.Slice.Eq.{bytes_eq-Decides}
 use Rattle.ats_lists.specs.Lists.{lists_of}
-use Rattle.ats_commit.specs.Archive.{Layout, whole_lists, Archive, archive_of}
+use Rattle.ats_lists.specs.Layout.{Layout, whole_lists}
+use Rattle.ats_commit.specs.Archive.{Archive, archive_of}
 use Rattle.ats_commit.specs.Root.{root_of}
 use Rattle.ats_commit.proofs.Layouts.{same_layout}
 use Rattle.ats_index.specs.Spelling.{texts_bytes, lists_bytes, index_bytes}

@@ -4,7 +4,8 @@ use Rattle.std.specs.List.{flat_map}
 use Rattle.std.proofs.lemmas.List.Elements.{All-tail}
 use Rattle.ats_impact.specs.Limits.{AllShort, AreWithin}
 use Rattle.ats_lists.specs.Lists.{lists_of}
-use Rattle.ats_commit.specs.Archive.{Layout, Archive}
+use Rattle.ats_lists.specs.Layout.{Layout}
+use Rattle.ats_commit.specs.Archive.{Archive}
 use Rattle.ats_commit.specs.Root.{root_of}
 use Rattle.ats_commit.proofs.Layouts.{same_layout}
 use Rattle.ats_index.specs.Spelling.{IsSpelling, front_bytes, text_bytes, lists_bytes}

@@ -1,7 +1,8 @@
 //! The dictionary of some lists.
 
 ghost use Rattle.std.specs.Prelude.{◌≡◌, ◌<◌, ◌≤◌, length, map, IfOk};
-ghost use Rattle.ats_commit.specs.Archive.{whole_lists, list_root};
+ghost use Rattle.ats_lists.specs.Layout.{whole_lists};
+ghost use Rattle.ats_commit.specs.Archive.{list_root};
 ghost use Rattle.ats_commit.specs.Trees.{dict_entry};
 
 use crate::memory::OutOfMemory;

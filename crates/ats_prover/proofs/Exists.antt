@@ -18,7 +18,8 @@ use Rattle.ats_dict.specs.Dictionary.{dict_leaves}
 use Rattle.ats_dict.specs.declared.spot.Spot.{Spot}
 use Rattle.ats_doctree.specs.Impacts.{doc_terms}
 use Rattle.ats_doctree.specs.Sentinels.{terms_leaves}
-use Rattle.ats_commit.specs.Archive.{whole_lists, archive_of}
+use Rattle.ats_lists.specs.Layout.{whole_lists}
+use Rattle.ats_commit.specs.Archive.{archive_of}
 use Rattle.ats_commit.specs.Own.{AreTexts}
 use Rattle.ats_commit.specs.Trees.{dictionary_of, documents_of}
 use Rattle.ats_index.specs.Parts.{header_parts}

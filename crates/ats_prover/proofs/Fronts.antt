@@ -6,7 +6,7 @@ use Rattle.std.proofs.lemmas.List.FromFn.{length-range_with_len, get_or-range_wi
 use Rattle.std.proofs.lemmas.List.Elements.{All-take}
 use Rattle.ats_lists.specs.declared.entry.Entry.{Entry}
 use Rattle.ats_lists.specs.Lists.{IsList}
-use Rattle.ats_commit.specs.Archive.{whole_lists}
+use Rattle.ats_lists.specs.Layout.{whole_lists}
 use Rattle.ats_bound.specs.Schedule.{WholeLane, whole_lane, whole_lanes}
 use Rattle.ats_bound.specs.declared.lane.Lane.{Lane}
 use Rattle.ats_records.specs.Written.{Written}

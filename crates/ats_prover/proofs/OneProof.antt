@@ -16,7 +16,8 @@ use Rattle.ats_dict.specs.Entry.{DictEntry}
 use Rattle.ats_dict.specs.Dictionary.{IsBelow, byte_cmp, dict_leaves, low, term_at}
 use Rattle.ats_dict.specs.Found.{IsSpot, LiesBetween, StandsAt}
 use Rattle.ats_dict.proofs.Sentinels.{entry_at-suc}
-use Rattle.ats_commit.specs.Archive.{whole_lists, archive_of}
+use Rattle.ats_lists.specs.Layout.{whole_lists}
+use Rattle.ats_commit.specs.Archive.{archive_of}
 use Rattle.ats_commit.specs.Trees.{dictionary_of}
 use Rattle.ats_commit.proofs.DictionaryLemmas.{dictionary_terms}
 use Rattle.ats_bound.specs.declared.bracket.Bracket.{Bracket}

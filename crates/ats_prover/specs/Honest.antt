@@ -5,7 +5,8 @@ use Rattle.ats_tree.specs.Elided.{elided_digests}
 use Rattle.ats_lists.specs.declared.entry.Entry.{Entry}
 use Rattle.ats_dict.specs.declared.spot.Spot.{Spot}
 use Rattle.ats_dict.specs.Dictionary.{dict_leaves}
-use Rattle.ats_commit.specs.Archive.{Layout, Archive}
+use Rattle.ats_lists.specs.Layout.{Layout}
+use Rattle.ats_commit.specs.Archive.{Archive}
 use Rattle.ats_commit.specs.Prefixes.{prefix_digests}
 use Rattle.ats_commit.specs.Trees.{dictionary_of}
 use Rattle.ats_index.specs.Parts.{header_parts}

@@ -1,7 +1,8 @@
 -- Fields that are asked of a writer.
 use Rattle.std.specs.Prelude.{◌≡◌, ◌≤◌, ◌^◌, ◌++◌, ◌==◌, ℕ, List, [], length, Option}
 use Rattle.std.specs.List.{All, concat, flat_map}
-use Rattle.ats_commit.specs.Archive.{Archive, whole_lists}
+use Rattle.ats_lists.specs.Layout.{whole_lists}
+use Rattle.ats_commit.specs.Archive.{Archive}
 use Rattle.ats_bound.specs.Schedule.{WholeLane}
 use Rattle.ats_records.specs.Written.{Written, after}
 use Rattle.ats_records.specs.declared.record.Algorithm.{Algorithm}

@@ -6,7 +6,7 @@ ghost use Rattle.std.specs.List.Sorted.{IsStrictlyIncreasing};
 ghost use Rattle.ats_tree.specs.Elided.{elided_digests};
 ghost use Rattle.ats_lists.specs.Leaf.{leaf_bytes};
 ghost use Rattle.ats_lists.specs.Lists.{IsList};
-ghost use Rattle.ats_commit.specs.Archive.{whole_lists};
+ghost use Rattle.ats_lists.specs.Layout.{whole_lists};
 ghost use Rattle.ats_bound.specs.Schedule.{whole_lanes};
 ghost use Rattle.ats_bound.specs.Schedule.{IsCut};
 ghost use Rattle.ats_bound.specs.Schedule.{AreWholeLanes};

@@ -1,5 +1,5 @@
 use Rattle.std.proofs.Common.{[], arith}
-use Rattle.ats_commit.specs.Archive.{whole_lists}
+use Rattle.ats_lists.specs.Layout.{whole_lists}
 use Rattle.ats_index.proofs.Entries.{next_above, next_entry}
 use Rattle.ats_index.proofs.dictionary.dictionary_of.Goals as goal
 

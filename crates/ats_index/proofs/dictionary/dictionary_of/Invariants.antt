@@ -1,5 +1,5 @@
 use Rattle.std.proofs.Common.{◌≡◌, take, map}
-use Rattle.ats_commit.specs.Archive.{whole_lists}
+use Rattle.ats_lists.specs.Layout.{whole_lists}
 use Rattle.ats_commit.specs.Trees.{dict_entry}
 use Rattle.ats_index.proofs.dictionary.dictionary_of.Given as goal
 

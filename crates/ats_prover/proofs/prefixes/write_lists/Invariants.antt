@@ -1,6 +1,6 @@
 use Rattle.std.proofs.Common.{◌≡◌, ◌≤◌, ◌+◌, ◌*◌, ◌^◌, ◌++◌, take}
 use Rattle.std.specs.List.{flat_map}
-use Rattle.ats_commit.specs.Archive.{whole_lists}
+use Rattle.ats_lists.specs.Layout.{whole_lists}
 use Rattle.ats_bound.specs.Schedule.{whole_lanes}
 use Rattle.ats_proof.specs.Parts.{counted}
 use Rattle.ats_proof.specs.Value.{id_fields, prefix_fields}

@@ -4,7 +4,7 @@ use Rattle.std.specs.List.Sorted.{IsStrictlyIncreasing}
 use Rattle.std.proofs.lemmas.Result.{on_ok_weaker}
 use Rattle.std.proofs.lemmas.List.{length-map}
 use Rattle.ats_lists.specs.Lists.{IsList}
-use Rattle.ats_commit.specs.Archive.{whole_lists}
+use Rattle.ats_lists.specs.Layout.{whole_lists}
 use Rattle.ats_bound.specs.declared.bracket.Bracket.{Bracket}
 use Rattle.ats_bound.specs.Schedule.{AreBracketsBy, Bounding, WholeLane, whole_lane, whole_lanes, shown}
 use Rattle.ats_records.specs.Written.{Written}

@@ -1,6 +1,6 @@
 use Rattle.std.proofs.Common.{◌≡◌, ℕ, List, true, refl, sym, subst}
 use Rattle.ats_bound.specs.declared.walk.Walk.{Walk}
-use Rattle.ats_bound.specs.Cut.{ShownLane, bracket, lower, missing, threshold}
+use Rattle.ats_bound.specs.Cut.{ShownLane, bracket, lo_of, missing, threshold}
 use Rattle.ats_bound.specs.QuickTest.{TellsSettled}
 use Rattle.ats_bound.specs.Running.{Standing}
 use Rattle.ats_bound.specs.Schedule.{AreWholeLanes, CanSettleBy, IsCut, IsNextLane, WholeLane, shown, whole_lanes}
@@ -73,4 +73,4 @@ returns c =
     let none : threshold all ≡ 0 = subst (λ (ls : List WholeLane). threshold (shown ls walk.cut) ≡ 0) c.loop-lane.invariant.lanes c.in_default.ensures in
     let stand : IsStand bracket lanes c.args.top walk.cut end = stand_of lanes c.args.top walk end c.loop-lane.invariant.lanes c.loop-lane.invariant.rows c.in_ok-finish-2.ensures in
     end_at bracket lanes c.args.top walk.cut end c.loop-lane.invariant.reached stand
-    (whole_settled bracket lanes c.args.top walk.cut end (λ doc. is_narrow (threshold all) doc (lower all doc) (missing all doc) (missing_within all doc)) stand none)
+    (whole_settled bracket lanes c.args.top walk.cut end (λ doc. is_narrow (threshold all) doc (lo_of all doc) (missing all doc) (missing_within all doc)) stand none)

@@ -10,13 +10,13 @@ use Rattle.ats_bound.proofs.scored.Scored.settled.Goals as goal
 
 pub returns-then-threshold-eq0-clause-tells : goal.returns-then-threshold-eq0-clause-tells
 returns-then-threshold-eq0-clause-tells c =
-    let limit : ℕ = c.threshold-threshold.result in
+    let threshold_here : ℕ = c.threshold-threshold.result in
     let scores : List (ℕ × ℕ) = c.self.inside.scores.entries in
-    let holds : nat_eq limit 0 ≡ true = same_doc limit 0 c.if-threshold-eq0.true in
+    let holds : nat_eq threshold_here 0 ≡ true = same_doc threshold_here 0 c.if-threshold-eq0.true in
     let none : threshold (shown_on c.self.inside.front) ≡ 0 = sym c.threshold-threshold.ensures ∙ c.if-threshold-eq0.true in
     rw (← c.self.view_is) (
-    tells_settled c.self.inside.front c.self.inside.top scores c.self.inside.best (nat_eq limit 0) c.self.invariant
-    (zero_answers c.self.inside.top (threshold (shown_on c.self.inside.front)) (exact_brackets scores) none (nat_eq limit 0) holds)
+    tells_settled c.self.inside.front c.self.inside.top scores c.self.inside.best (nat_eq threshold_here 0) c.self.invariant
+    (zero_answers c.self.inside.top (threshold (shown_on c.self.inside.front)) (exact_brackets scores) none (nat_eq threshold_here 0) holds)
     )
 
 pub returns-else-threshold-eq0-clause-quick : goal.returns-else-threshold-eq0-clause-quick
@@ -28,10 +28,10 @@ returns-else-threshold-eq0-clause-quick c =
 
 pub returns-else-threshold-eq0-clause-tells : goal.returns-else-threshold-eq0-clause-tells
 returns-else-threshold-eq0-clause-tells c =
-    let limit : ℕ = c.threshold-threshold.result in
+    let threshold_here : ℕ = c.threshold-threshold.result in
     let scores : List (ℕ × ℕ) = c.self.inside.scores.entries in
-    let quick : IsTrue (leb limit c.least.result) ↔ PassesQuickTest (exact_brackets scores) limit c.self.inside.top =
-    least_answers c.self.inside.front c.self.inside.top scores c.self.inside.best limit c.least.result c.self.invariant c.least.ensures c.if-threshold-eq0.false in
+    let quick : IsTrue (leb threshold_here c.least.result) ↔ PassesQuickTest (exact_brackets scores) threshold_here c.self.inside.top =
+    least_answers c.self.inside.front c.self.inside.top scores c.self.inside.best threshold_here c.least.result c.self.invariant c.least.ensures c.if-threshold-eq0.false in
     rw (← c.self.view_is) (
-    tells_settled c.self.inside.front c.self.inside.top scores c.self.inside.best (leb limit c.least.result) c.self.invariant (rw (← c.threshold-threshold.ensures) quick)
+    tells_settled c.self.inside.front c.self.inside.top scores c.self.inside.best (leb threshold_here c.least.result) c.self.invariant (rw (← c.threshold-threshold.ensures) quick)
     )

@@ -1,0 +1,5 @@
+-- How lists stand in trees.
+
+-- each list is one tree
+pub data Layout : Type 0 where
+  whole_lists : Layout
