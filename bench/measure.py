@@ -48,8 +48,8 @@ def bench_program() -> str:
     return shutil.copy(room / "out" / "ats_bench", HOME / "out" / "ats_bench")
 
 
-def run(command: list[str]) -> Run:
-    """One run, which must end with status 0."""
+def run(command: list[str], wanted: int = 0) -> Run:
+    """One run, which must end with the wanted status."""
     with tempfile.TemporaryFile("w+", encoding="utf-8") as printed:
         start = time.perf_counter()
         process = subprocess.Popen(command, stdout=printed)
@@ -63,7 +63,7 @@ def run(command: list[str]) -> Run:
         text = printed.read()
     if seconds >= LIMIT:
         raise TooSlow
-    if process.returncode != 0:
+    if process.returncode != wanted:
         sys.exit(f"{command[:2]} ended with status {process.returncode}: {text.strip()}")
     return Run(seconds, text, used.ru_maxrss * 1024)
 

@@ -19,11 +19,17 @@ either_accepted H archive query r algorithm proof =
     each_archive (λ a. (algorithm ≡ Tra → 1 ≤ length a.texts) → IsHonest H a query r algorithm proof → Accepts H (root_of H a) query r proof)
     (λ texts. honest_accepted H texts query r algorithm proof) archive
 
--- the check accepts what the bytes of an honest proof spell, for their header tells of a document
+-- a header in bytes tells of a document
+pub has_documents : (H : List ℕ → List ℕ) (archive : Archive) (query : List (List ℕ × ℕ)) (r : ℕ) (algorithm : Algorithm) (bytes : List ℕ)
+    → IsProved H archive query r algorithm bytes → 1 ≤ length archive.texts
+has_documents H archive query r algorithm bytes is =
+    let documents : is.proof.header.documents ≡ length archive.texts = ap (λ (h : Header). h.documents) is.honest.header in
+    let range = in_range bytes is.proof is.spells in
+    omega (arith, documents, range.front.numbers.some)
+
+-- the check accepts what the bytes of an honest proof spell
 pub proved_accepted : (H : List ℕ → List ℕ) (archive : Archive) (query : List (List ℕ × ℕ)) (r : ℕ) (algorithm : Algorithm) (bytes : List ℕ)
     → IsProved H archive query r algorithm bytes → (proof : Proof) → IsProof bytes proof → Accepts H (root_of H archive) query r proof
 proved_accepted H archive query r algorithm bytes is proof says =
-    let documents : is.proof.header.documents ≡ length archive.texts = ap (λ (h : Header). h.documents) is.honest.header in
-    let range = in_range bytes is.proof is.spells in
-    let some : 1 ≤ length archive.texts = omega (arith, documents, range.front.numbers.some) in
-    subst (Accepts H (root_of H archive) query r) (one_value bytes is.proof proof is.spells says) (either_accepted H archive query r algorithm is.proof (λ tra. some) is.honest)
+    subst (Accepts H (root_of H archive) query r) (one_value bytes is.proof proof is.spells says)
+    (either_accepted H archive query r algorithm is.proof (λ tra. has_documents H archive query r algorithm bytes is) is.honest)

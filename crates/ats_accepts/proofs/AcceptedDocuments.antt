@@ -7,7 +7,7 @@ use Rattle.std.proofs.lemmas.List.Elements.{All-nil, All-cons}
 use Rattle.ats_tree.specs.Tree.{mth}
 use Rattle.ats_tree.specs.Shown.{Shown}
 use Rattle.ats_tree.specs.Rebuild.{rebuilt}
-use Rattle.ats_tree.specs.Elided.{elided_digests}
+use Rattle.ats_tree.specs.Elided.{elided_digests, shown_with}
 use Rattle.ats_dict.specs.declared.header.Header.{Header}
 use Rattle.ats_doctree.specs.Impacts.{doc_terms, text_terms}
 use Rattle.ats_doctree.specs.Sentinels.{terms_leaves}
@@ -23,7 +23,7 @@ use Rattle.ats_proof.specs.Runs.{shown_docs}
 use Rattle.ats_client.specs.Documents.{AreDocsRooted, IsDocumentRight, documents_from, documents_in}
 use Rattle.ats_prover.specs.Documents.{AreHonestSections, HasDocuments, document_leaf}
 use Rattle.ats_prover.proofs.MetLeaves.{documents_each}
-use Rattle.ats_accepts.proofs.ShownTrees.{shown_rebuilds}
+use Rattle.ats_accepts.proofs.ShownTrees.{leaves_shown, positions_rebuild}
 use Rattle.ats_accepts.proofs.AcceptedSections.{section_rebuilds, section_shows}
 
 module _ (H : List ℕ → List ℕ) (texts : List (List ℕ)) where
@@ -39,16 +39,23 @@ module _ (H : List ℕ → List ℕ) (texts : List (List ℕ)) where
   document_at : (doc : ℕ) → doc < length texts → get_or (documents_of H texts) doc [] ≡ leaf_of (document_leaf H texts doc)
   document_at doc inside = get_or-map (λ (text : List ℕ). documents_leaf H (terms_leaves (text_terms texts text))) texts doc [] [] inside
 
+  -- they are those at the documents' numbers
+  pub documents_shown : (met : List ℕ) → All (λ doc. doc < length texts) met
+      → shown_docs met (map (document_leaf H texts) met) ≡ shown_with (documents_of H texts) met
+  documents_shown met low =
+      let size = documents_each H texts in
+      docs_shown met ∙ leaves_shown (documents_of H texts) own_leaf met
+      (λ doc inside. ap (λ (bytes : List ℕ). let leaf : Shown = (doc, bytes) in leaf) (sym (document_at doc (omega (arith, inside, size)))))
+      (λ k d inside. omega (arith, low k d inside, size))
+
   -- they rebuild to its root
   documents_rebuild : (met : List ℕ) → 1 ≤ length texts → IsStrictlyIncreasing met → All (λ doc. doc < length texts) met
       → rebuilt H (length texts) (shown_docs met (map (document_leaf H texts) met)) (elided_digests H (documents_of H texts) met) ≡ Some (mth H (documents_of H texts))
   documents_rebuild met some rise low =
       let leaves = documents_of H texts in
       let size = documents_each H texts in
-      ap₂ (λ (n : ℕ) (shown : List Shown). rebuilt H n shown (elided_digests H leaves met)) (sym size) (docs_shown met)
-      ∙ shown_rebuilds H leaves own_leaf met (omega (arith, size, some))
-      (λ doc inside. ap (λ (bytes : List ℕ). let leaf : Shown = (doc, bytes) in leaf) (sym (document_at doc (omega (arith, inside, size)))))
-      rise (λ k d inside. omega (arith, low k d inside, size))
+      ap₂ (λ (n : ℕ) (shown : List Shown). rebuilt H n shown (elided_digests H leaves met)) (sym size) (documents_shown met low)
+      ∙ positions_rebuild H leaves met (omega (arith, size, some)) rise (λ k d inside. omega (arith, low k d inside, size))
 
   module _ (terms : List (List ℕ × ℕ)) where
     pub honest_tree : (algorithm : Algorithm) (met : List ℕ) (docs : Option Documents) (header : Header) → header ≡ header_parts H (archive_of texts)

@@ -50,7 +50,7 @@ or_later : (a b : Bool) → b ≡ true → (a || b) ≡ true
 or_later true b is = refl
 or_later false b is = is
 
-tail_cut : (lane : WholeLane) (lanes : List WholeLane) (count : ℕ) (cut : List ℕ) → IsCut (lane ∷ lanes) (count ∷ cut) → IsCut lanes cut
+pub tail_cut : (lane : WholeLane) (lanes : List WholeLane) (count : ℕ) (cut : List ℕ) → IsCut (lane ∷ lanes) (count ∷ cut) → IsCut lanes cut
 tail_cut lane lanes count cut is = record {
   size = omega (arith, is.size);
   each = λ i d inside. is.each (suc i) d (omega (arith, inside));
@@ -70,12 +70,12 @@ AreIn met lanes = (doc : ℕ) → list_any (names doc) lanes ≡ true → IsIn m
 abbrev pub IsEntryIn : List ℕ → Entry → Type 0
 IsEntryIn met entry = IsIn met entry.doc
 
-first_in : (met : List ℕ) (lane : ShownLane) (lanes : List ShownLane) → AreIn met (lane ∷ lanes) → All (IsEntryIn met) lane.shown
+pub first_in : (met : List ℕ) (lane : ShownLane) (lanes : List ShownLane) → AreIn met (lane ∷ lanes) → All (IsEntryIn met) lane.shown
 first_in met lane lanes are k d inside =
     let doc = (get_or lane.shown k d).doc in
     are doc (or_first (names doc lane) (list_any (names doc) lanes) (list_any_at (λ (e : Entry). nat_eq e.doc doc) lane.shown k d inside (eq-eqb doc doc refl)))
 
-later_in : (met : List ℕ) (lane : ShownLane) (lanes : List ShownLane) → AreIn met (lane ∷ lanes) → AreIn met lanes
+pub later_in : (met : List ℕ) (lane : ShownLane) (lanes : List ShownLane) → AreIn met (lane ∷ lanes) → AreIn met lanes
 later_in met lane lanes are doc is = are doc (or_later (names doc lane) (list_any (names doc) lanes) is)
 
 -- an entry is named again by its place
@@ -198,23 +198,30 @@ shown_from met leaves at (e ∷ es) are same =
     let next : (at + 1) + i ≡ at + suc i = omega arith in
     ap (λ (k : ℕ). get_or leaves k []) next ∙ same (suc i) d (omega (arith, inside))))
 
+-- its leaves are the first of the list
+pub front_shown : (H : List ℕ → List ℕ) (documents : ℕ) (met : List ℕ) (lane : WholeLane) (count : ℕ) (term : Presented) → IsFront H documents met lane count term
+    → count ≤ length lane.entries → All (IsEntryIn met) (take count lane.entries)
+    → shown_list 0 met term.prefix.entries ≡ shown_with (map leaf_bytes lane.entries) (range_with_len 0 count)
+front_shown H documents met lane count term is within are =
+    let es : List Entry = take count lane.entries in
+    let leaves : List (List ℕ) = map leaf_bytes lane.entries in
+    let many : length es ≡ count = length-take-le count lane.entries within in
+    ap (λ (p : Prefix). shown_list 0 met p.entries) is.front
+    ∙ shown_from met leaves 0 es are (λ i d inside.
+    let low : i < count = omega (arith, inside, many) in
+    let from : 0 + i ≡ i = omega arith in
+    ap (λ (k : ℕ). get_or leaves k []) from ∙ get_or-map leaf_bytes lane.entries i d [] (omega (arith, low, within)) ∙ ap leaf_bytes (sym (get_or-take count lane.entries i d low)))
+    ∙ ap (λ (k : ℕ). shown_with leaves (range_with_len 0 k)) many
+
 -- what a front rebuilds to
 front_root : (H : List ℕ → List ℕ) (documents n : ℕ) (met : List ℕ) (lane : WholeLane) (count : ℕ) (term : Presented) → IsFront H documents met lane count term
     → IsList n lane.entries → count ≤ length lane.entries → All (IsEntryIn met) (take count lane.entries) → list_digest H whole_lists met term ≡ Some term.entry.root
 front_root H documents n met lane count term is own within are =
-    let es : List Entry = take count lane.entries in
     let leaves : List (List ℕ) = map leaf_bytes lane.entries in
     let size : length leaves ≡ length lane.entries = length-map lane.entries leaf_bytes in
-    let many : length es ≡ count = length-take-le count lane.entries within in
     let digests : List (List ℕ) = elided_digests H leaves (range_with_len 0 count) in
-    let shows : shown_list 0 met (map (placed met) es) ≡ shown_with leaves (range_with_len 0 count) =
-    shown_from met leaves 0 es are (λ i d inside.
-    let low : i < count = omega (arith, inside, many) in
-    let from : 0 + i ≡ i = omega arith in
-    ap (λ (k : ℕ). get_or leaves k []) from ∙ get_or-map leaf_bytes lane.entries i d [] (omega (arith, low, within)) ∙ ap leaf_bytes (sym (get_or-take count lane.entries i d low)))
-    ∙ ap (λ (k : ℕ). shown_with leaves (range_with_len 0 k)) many in
-    ap (λ (p : Prefix). rebuilt H term.entry.f (shown_list 0 met p.entries) p.digests) is.front
-    ∙ ap₂ (λ (k : ℕ) (s : List Shown). rebuilt H k s digests) (is.size ∙ sym size) shows
+    ap (λ (p : Prefix). rebuilt H term.entry.f (shown_list 0 met term.prefix.entries) p.digests) is.front
+    ∙ ap₂ (λ (k : ℕ) (s : List Shown). rebuilt H k s digests) (is.size ∙ sym size) (front_shown H documents met lane count term is within are)
     ∙ elided-rebuilds H leaves (range_with_len 0 count) (omega (arith, size, own.some))
     (within-increasing (length leaves) (range_with_len 0 count) (range_rises count) (range_below count (length leaves) (omega (arith, size, within))))
     ∙ ap Some (sym is.root)

@@ -96,10 +96,10 @@ module _ (H : List ℕ → List ℕ) (texts : List (List ℕ)) (query : List (Li
   abbrev cut_lanes : List ShownLane
   cut_lanes = shown lanes honest.cut
 
-  is_cut : IsCut lanes honest.cut
+  pub is_cut : IsCut lanes honest.cut
   is_cut = scheduled_is_cut lanes honest.first.turns honest.cut (λ i d inside. (lanes_have_lists texts query i d inside).some) honest.first.scheduled
 
-  are_in : AreIn proof.met cut_lanes
+  pub are_in : AreIn proof.met cut_lanes
   are_in = subst (λ (met : List ℕ). AreIn met cut_lanes) (sym honest.met) (named_in cut_lanes honest.brackets honest.bounds)
 
   abbrev dict : List ShownEntry
@@ -146,7 +146,7 @@ module _ (H : List ℕ → List ℕ) (texts : List (List ℕ)) (query : List (Li
   met_increases : IsStrictlyIncreasing proof.met
   met_increases = subst IsStrictlyIncreasing (sym honest.met) (met_rises cut_lanes honest.brackets honest.bounds)
 
-  met_low : All (λ doc. doc < length texts) proof.met
+  pub met_low : All (λ doc. doc < length texts) proof.met
   met_low = subst (All (λ doc. doc < length texts)) (sym honest.met)
       (met_below (length texts) lanes honest.cut honest.brackets (λ i d inside. (lanes_have_lists texts query i d inside).documents) honest.bounds)
 

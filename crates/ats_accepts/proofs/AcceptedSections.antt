@@ -1,11 +1,12 @@
 -- The check accepts what an honest proof shows of the terms of a document.
 use Rattle.std.proofs.Common.{◌≡◌, ◌+◌, ◌<◌, ℕ, suc, List, [], ◌∷◌, length, map, get_or, Some, refl, sym, ap, ap₂, subst, ◌∙◌, arith}
+use Rattle.std.specs.List.{All}
 use Rattle.std.proofs.lemmas.List.{length-map, get_or-map}
 use Rattle.std.proofs.lemmas.Simd.{map-map}
 use Rattle.ats_tree.specs.Tree.{mth}
 use Rattle.ats_tree.specs.Shown.{Shown}
 use Rattle.ats_tree.specs.Rebuild.{rebuilt}
-use Rattle.ats_tree.specs.Elided.{elided_digests}
+use Rattle.ats_tree.specs.Elided.{shown_with}
 use Rattle.ats_dict.specs.declared.spot.Spot.{Spot}
 use Rattle.ats_dict.specs.declared.spot.Spot.TheVariants.{At, Between}
 use Rattle.ats_doctree.specs.Sentinels.{term_at, terms_leaves}
@@ -23,7 +24,7 @@ use Rattle.ats_prover.specs.Present.{standing}
 use Rattle.ats_prover.specs.Documents.{IsHonestSection, IsTermSpot, shown_term}
 use Rattle.ats_prover.proofs.Items.{lower_item}
 use Rattle.ats_prover.proofs.Ranges.{all_below}
-use Rattle.ats_accepts.proofs.ShownTrees.{shown_rebuilds}
+use Rattle.ats_accepts.proofs.ShownTrees.{leaves_shown, positions_rebuild}
 use Rattle.ats_accepts.proofs.AcceptedSlots.{LiesBy, leaf_at, slots_show}
 
 -- ---- the numbers of the terms that stand
@@ -56,18 +57,26 @@ module _ (H : List ℕ → List ℕ) (items terms : List (List ℕ × ℕ)) (sec
   abbrev leaves : List (List ℕ)
   leaves = terms_leaves items
 
+  positions_low : All (λ p. p < length leaves) honest.positions
+  positions_low k d inside =
+      omega (arith, all_below (IsTermSpot items) (length items) (lower_item items) terms honest.spots honest.positions honest.found honest.needed k d inside, length-terms_leaves items)
+
+  -- its leaves are those at the needed positions
+  pub section_shown : map runs.shown_term section.leaves ≡ shown_with leaves honest.positions
+  section_shown =
+      let size = length-terms_leaves items in
+      let positions = honest.positions in
+      let made : ℕ → Shown = λ p. runs.shown_term (shown_term items p) in
+      ap (λ (shown : List ShownTerm). map runs.shown_term shown) honest.leaves ∙ map-map runs.shown_term (shown_term items) positions
+      ∙ leaves_shown leaves made positions
+      (λ p inside. ap (λ (bytes : List ℕ). let leaf : Shown = (p, bytes) in leaf) (sym (get_or-terms_leaves items p (omega (arith, inside, size)))))
+      positions_low
+
   -- it rebuilds to the root of the document's terms
   pub section_rebuilds : rebuilt H (length leaves) (map runs.shown_term section.leaves) section.digests ≡ Some (mth H leaves)
   section_rebuilds =
-      let size = length-terms_leaves items in
-      let positions = honest.positions in
-      let below = all_below (IsTermSpot items) (length items) (lower_item items) terms honest.spots positions honest.found honest.needed in
-      let made : ℕ → Shown = λ p. runs.shown_term (shown_term items p) in
-      ap₂ (λ (shown : List ShownTerm) (digests : List (List ℕ)). rebuilt H (length leaves) (map runs.shown_term shown) digests) honest.leaves honest.digests
-      ∙ ap (λ (shown : List Shown). rebuilt H (length leaves) shown (elided_digests H leaves positions)) (map-map runs.shown_term (shown_term items) positions)
-      ∙ shown_rebuilds H leaves made positions (omega (arith, size))
-      (λ p inside. ap (λ (bytes : List ℕ). let leaf : Shown = (p, bytes) in leaf) (sym (get_or-terms_leaves items p (omega (arith, inside, size)))))
-      honest.needed.rise (λ k d inside. omega (arith, below k d inside, size))
+      ap₂ (λ (shown : List Shown) (digests : List (List ℕ)). rebuilt H (length leaves) shown digests) section_shown honest.digests
+      ∙ positions_rebuild H leaves honest.positions (omega (arith, length-terms_leaves items)) honest.needed.rise positions_low
 
   -- its slots show the terms that these numbers ask for
   pub section_shows : (query : List (List ℕ × ℕ)) (numbers : List ℕ) → map (asked_term query) numbers ≡ map (λ (pair : List ℕ × ℕ). pair.0) terms → AreTermSlotsRight query numbers section

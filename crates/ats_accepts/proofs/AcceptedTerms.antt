@@ -7,6 +7,7 @@ use Rattle.std.proofs.lemmas.Simd.{map-map}
 use Rattle.ats_tree.specs.Tree.{mth}
 use Rattle.ats_tree.specs.Shown.{Shown}
 use Rattle.ats_tree.specs.Rebuild.{rebuilt}
+use Rattle.ats_tree.specs.Elided.{shown_with}
 use Rattle.ats_impact.specs.Score.{frequency}
 use Rattle.ats_lists.specs.Leaf.{leaf_bytes}
 use Rattle.ats_lists.specs.Lists.{list, lists_of}
@@ -40,7 +41,7 @@ use Rattle.ats_prover.proofs.Ranges.{positions_below}
 use Rattle.ats_prover.proofs.Present.{list_at, standing_term}
 use Rattle.ats_prover.proofs.Whole.{lanes_each}
 use Rattle.ats_accepts.proofs.ShownPlaces.{made_at_place}
-use Rattle.ats_accepts.proofs.ShownTrees.{shown_rebuilds}
+use Rattle.ats_accepts.proofs.ShownTrees.{leaves_shown, positions_rebuild}
 use Rattle.ats_accepts.proofs.AcceptedSlots.{IsShown, LiesBy, leaf_at, slots_show}
 
 -- the header is the archive's, and each term has a slot
@@ -53,6 +54,21 @@ honest_opened H texts query r algorithm proof honest = record {
 
 -- ---- the dictionary
 
+-- its leaves are those at the needed positions
+pub dictionary_shown : (H : List ℕ → List ℕ) (texts : List (List ℕ)) (query : List (List ℕ × ℕ)) (r : ℕ) (algorithm : Algorithm) (proof : Proof)
+    → (honest : IsHonest H (archive_of texts) query r algorithm proof)
+    → map runs.shown_entry proof.dict ≡ shown_with (dict_leaves (dictionary_of H (archive_of texts))) honest.positions
+dictionary_shown H texts query r algorithm proof honest =
+    let entries = dictionary_of H (archive_of texts) in
+    let positions = honest.positions in
+    let size = length-dict_leaves entries in
+    let below = positions_below entries query honest.spots positions honest.found honest.needed in
+    let made : ℕ → Shown = λ p. runs.shown_entry (shown_entry entries p) in
+    ap (λ (shown : List ShownEntry). map runs.shown_entry shown) honest.dict ∙ map-map runs.shown_entry (shown_entry entries) positions
+    ∙ leaves_shown (dict_leaves entries) made positions
+    (λ p inside. ap (λ (bytes : List ℕ). let leaf : Shown = (p, bytes) in leaf) (sym (get_or-dict_leaves entries p (omega (arith, inside, size)))))
+    (λ k d inside. omega (arith, below k d inside, size))
+
 pub honest_dictionary : (H : List ℕ → List ℕ) (texts : List (List ℕ)) (query : List (List ℕ × ℕ)) (r : ℕ) (algorithm : Algorithm) (proof : Proof)
     → IsHonest H (archive_of texts) query r algorithm proof → IsDictionary H proof
 honest_dictionary H texts query r algorithm proof honest =
@@ -61,13 +77,10 @@ honest_dictionary H texts query r algorithm proof honest =
     let positions = honest.positions in
     let size = length-dict_leaves entries in
     let below = positions_below entries query honest.spots positions honest.found honest.needed in
-    let made : ℕ → Shown = λ p. runs.shown_entry (shown_entry entries p) in
     ap₂ (λ n (shown : List Shown). rebuilt H n shown proof.dict_digests) (ap (λ (h : Header). h.dict_leaves) honest.header)
-    (ap (λ (shown : List ShownEntry). map runs.shown_entry shown) honest.dict ∙ map-map runs.shown_entry (shown_entry entries) positions)
-    ∙ ap (λ (digests : List (List ℕ)). rebuilt H (length leaves) (map made positions) digests) honest.dict_digests
-    ∙ shown_rebuilds H leaves made positions (omega (arith, size))
-    (λ p inside. ap (λ (bytes : List ℕ). let leaf : Shown = (p, bytes) in leaf) (sym (get_or-dict_leaves entries p (omega (arith, inside, size)))))
-    honest.needed.rise (λ k d inside. omega (arith, below k d inside, size))
+    (dictionary_shown H texts query r algorithm proof honest)
+    ∙ ap (λ (digests : List (List ℕ)). rebuilt H (length leaves) (shown_with leaves positions) digests) honest.dict_digests
+    ∙ positions_rebuild H leaves positions (omega (arith, size)) honest.needed.rise (λ k d inside. omega (arith, below k d inside, size))
     ∙ ap (λ (h : Header). Some h.dict_root) (sym honest.header)
 
 -- ---- the slots

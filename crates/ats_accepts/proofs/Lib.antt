@@ -8,3 +8,4 @@ mod AcceptedDocuments
 mod AcceptedImpacts
 mod AcceptedRows
 pub mod Accepted
+pub mod HonestStrings

@@ -1,12 +1,15 @@
-//! What holds of honest proofs and the check together, as the contract of a function that does nothing.
+//! What holds of honest proofs and the check together, as contracts of functions that do nothing.
 
-ghost use Rattle.std.specs.Prelude.{◌≡◌, ◌≤◌, ℕ, List, length};
+ghost use Rattle.std.specs.Prelude.{◌≡◌, ◌≤◌, ℕ, List, All, None, length};
+ghost use Rattle.ats_tree.specs.Differences.{IsOurs};
 ghost use Rattle.ats_commit.specs.Archive.{Archive};
+ghost use Rattle.ats_commit.specs.Ours.{ours};
 ghost use Rattle.ats_commit.specs.Root.{root_of};
 ghost use Rattle.ats_records.specs.declared.record.Algorithm.{Algorithm};
 ghost use Rattle.ats_records.specs.declared.record.Algorithm.TheVariants.{Tra};
 ghost use Rattle.ats_proof.specs.Value.{Proof, IsProof};
 ghost use Rattle.ats_client.specs.Accepts.{Accepts};
+ghost use Rattle.ats_client.specs.Strings.{strings_of, extract};
 ghost use Rattle.ats_prover.specs.Honest.{IsHonest, IsProved};
 
 use ats_hash::HashKind;
@@ -19,4 +22,15 @@ pub fn honest_proofs_are_accepted<H: HashKind>()
         → IsHonest H.hash archive query r algorithm proof → Accepts H.hash (root_of H.hash archive) query r proof }
     ensures bytes { (archive : Archive) (query : List (List ℕ × ℕ)) (r : ℕ) (algorithm : Algorithm) (bytes : List ℕ)
         → IsProved H.hash archive query r algorithm bytes → (proof : Proof) → IsProof bytes proof → Accepts H.hash (root_of H.hash archive) query r proof }
+{}
+
+/// What is hashed from an honest proof by either algorithm is the archive's own, so that no string of the proof
+/// clashes with one of the archive. So it is with whatever proof the bytes of an honest one spell.
+pub fn honest_proofs_have_no_clash<H: HashKind>()
+    ensures ours { (archive : Archive) (query : List (List ℕ × ℕ)) (r : ℕ) (algorithm : Algorithm) (proof : Proof) → (algorithm ≡ Tra → 1 ≤ length archive.texts)
+        → IsHonest H.hash archive query r algorithm proof → All (IsOurs (ours H.hash archive query)) (strings_of H.hash query proof) }
+    ensures none { (archive : Archive) (query : List (List ℕ × ℕ)) (r : ℕ) (algorithm : Algorithm) (proof : Proof) → (algorithm ≡ Tra → 1 ≤ length archive.texts)
+        → IsHonest H.hash archive query r algorithm proof → extract H.hash archive query proof ≡ None }
+    ensures bytes { (archive : Archive) (query : List (List ℕ × ℕ)) (r : ℕ) (algorithm : Algorithm) (bytes : List ℕ)
+        → IsProved H.hash archive query r algorithm bytes → (proof : Proof) → IsProof bytes proof → extract H.hash archive query proof ≡ None }
 {}

@@ -2,19 +2,24 @@
 //!
 //! `nodes COUNT` hashes so many inner nodes of a tree, each of 65 bytes with its tag, and prints how many digests
 //! were counted; `read ENTRIES TIMES` writes a proof that shows so many entries of lists, reads it so many times, and
-//! prints how many items were read in all; `walk ALGORITHM ROWS TEXTS QUERIES` walks for each query of a file over
+//! prints how many items were read in all; `digest ENTRIES TIMES` hashes the bytes of that proof so many times, and
+//! prints how many digests were counted; `walk ALGORITHM ROWS TEXTS QUERIES` walks for each query of a file over
 //! the texts of another, both a line each, and prints for each the rows, the entries that are shown, the documents
-//! among them, and the microseconds of the walk and of one pass over these entries; `digest ENTRIES TIMES` hashes the bytes of that proof so many times, and
-//! prints how many digests were counted. The program promises nothing that the rooms
-//! below it do not promise. Each kind of work may change as a script needs it.
+//! among them, and the microseconds of the walk and of one pass over these entries; `check ROWS QUERY PROOF TIMES`
+//! checks the proof of a file so many times, and prints how many steps were counted; `strings SIZES TIMES` hashes a
+//! string for each byte of a file, which is its size, so many times over, and prints how many digests were counted.
+//! The program promises nothing that the rooms below it do not promise. Each kind of work may change as a script
+//! needs it.
 #![tactic(auto)]
 
 ghost use Rattle.std.specs.Prelude.{◌≡◌, ◌+◌, ◌<◌, ◌^◌};
 
+mod checking;
 mod reading;
 mod walking;
 
 use ats_hash::{Hash32, Sha, Steps};
+use checking::{check_proof, hash_strings};
 use reading::{hash_proof, read_proof};
 use std::alloc::Global;
 use std::process::ExitCode;
@@ -64,6 +69,16 @@ fn work(rt: &HostRuntime, words: &[String]) -> Option<u64> {
         }
         [job, entries, times] if job.as_str() == "digest" => {
             hash_proof(alloc, number(entries)?, number(times)?)
+        }
+        [job, rows, query, proof, times] if job.as_str() == "check" => check_proof(
+            rt,
+            number(rows)?,
+            query.as_str(),
+            proof.as_str(),
+            number(times)?,
+        ),
+        [job, sizes, times] if job.as_str() == "strings" => {
+            hash_strings(rt, sizes.as_str(), number(times)?)
         }
         _ => None,
     }

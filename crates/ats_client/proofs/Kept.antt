@@ -11,6 +11,7 @@ use Rattle.ats_client.specs.Bracketing.{bounds_of}
 use Rattle.ats_client.specs.Groups.{IsOpened, IsDictionary, AreSlotsRight, IsListRight, IsListRooted, AreListsRight, AreAllMet, IsMetFault, AreRowsRight, IsRowsFault, IsAnswerSettled}
 use Rattle.ats_client.specs.Documents.{AreDocsRooted, IsTermsTree, documents_in, met_documents, present_numbers, IsDocumentRight, IsDocsTree, IsDocsFault, AreDocumentsRight, IsDocumentsFault}
 use Rattle.ats_client.specs.Rooted.{AreRooted}
+use Rattle.ats_client.specs.Sections.{AreRebuilt}
 use Rattle.ats_client.specs.Accepts.{Accepts, IsFirstRefusal}
 use Rattle.ats_client.specs.declared.refusal.Refusal.{Refusal}
 use Rattle.ats_client.specs.declared.refusal.Refusal.TheVariants.{NotSettled}
@@ -98,6 +99,16 @@ module _ (H : List ℕ → List ℕ) (root : List ℕ) (query : List (List ℕ �
       dictionary = dictionary;
       slots = slots;
       lists = All-weaker (IsListRight H (layout_of proof) proof.met) (IsListRooted H (layout_of proof) proof.met) (λ one right. right.root) (presented query proof) lists;
+      documents = tree;
+      terms = All-weaker (IsDocumentRight H query (present_numbers proof)) (IsTermsTree H) (λ one right. right.tree) (met_documents proof) documents;
+    }
+
+    pub rebuilt : AreRebuilt H query proof
+    rebuilt = record {
+      count = opened.slots;
+      dictionary = dictionary;
+      slots = slots;
+      lists = lists;
       documents = tree;
       terms = All-weaker (IsDocumentRight H query (present_numbers proof)) (IsTermsTree H) (λ one right. right.tree) (met_documents proof) documents;
     }

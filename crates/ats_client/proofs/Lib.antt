@@ -37,3 +37,4 @@ pub mod Tried
 pub mod DescentTrees
 pub mod DescentDocuments
 pub mod Descent
+pub mod Sections

@@ -25,6 +25,22 @@ use Rattle.ats_client.specs.Rules.{IsFirstFault, IsFirstOf}
 use Rattle.ats_client.proofs.Scored.{section_scores, mark_scored}
 use Rattle.ats_client.proofs.Walks.{first_left}
 
+abbrev pub made : ℕ → DocLeaf → TermsSection → MetDocument
+made id leaf section = record { doc = id; leaf = leaf; section = section }
+
+pub front_document : (ids : List ℕ) (leaves : List DocLeaf) (sections : List TermsSection) (id : ℕ) (leaf : DocLeaf) (section : TermsSection)
+    → Some id ≡ slice_get ids 0 → Some leaf ≡ slice_get leaves 0 → Some section ≡ slice_get sections 0
+    → documents_from ids leaves sections ≡ made id leaf section ∷ documents_from (drop 1 ids) (drop 1 leaves) (drop 1 sections)
+front_document [] leaves sections id leaf section here is shown = absurd (cc)
+front_document (i ∷ ids) [] sections id leaf section here is shown = absurd (cc)
+front_document (i ∷ ids) (l ∷ leaves) [] id leaf section here is shown = absurd (cc)
+front_document (i ∷ ids) (l ∷ leaves) (s ∷ sections) id leaf section here is shown =
+    let same_id : i ≡ id = cc in
+    let same_leaf : l ≡ leaf = cc in
+    let same_section : s ≡ section = cc in
+    let rest : List MetDocument = documents_from ids leaves sections in
+    ap (λ d. made d l s ∷ rest) same_id ∙ ap (λ (l : DocLeaf). made id l s ∷ rest) same_leaf ∙ ap (λ (s : TermsSection). made id leaf s ∷ rest) same_section
+
 module _ (H : List ℕ → List ℕ) (query : List (List ℕ × ℕ)) (proof : Proof) (docs : Documents) where
   abbrev lanes : List ShownLane
   lanes = lanes_of query proof
@@ -63,22 +79,6 @@ module _ (H : List ℕ → List ℕ) (query : List (List ℕ × ℕ)) (proof : P
   }
 
   -- ---- one document more
-
-  abbrev made : ℕ → DocLeaf → TermsSection → MetDocument
-  made id leaf section = record { doc = id; leaf = leaf; section = section }
-
-  front_document : (ids : List ℕ) (leaves : List DocLeaf) (sections : List TermsSection) (id : ℕ) (leaf : DocLeaf) (section : TermsSection)
-      → Some id ≡ slice_get ids 0 → Some leaf ≡ slice_get leaves 0 → Some section ≡ slice_get sections 0
-      → documents_from ids leaves sections ≡ made id leaf section ∷ documents_from (drop 1 ids) (drop 1 leaves) (drop 1 sections)
-  front_document [] leaves sections id leaf section here is shown = absurd (cc)
-  front_document (i ∷ ids) [] sections id leaf section here is shown = absurd (cc)
-  front_document (i ∷ ids) (l ∷ leaves) [] id leaf section here is shown = absurd (cc)
-  front_document (i ∷ ids) (l ∷ leaves) (s ∷ sections) id leaf section here is shown =
-      let same_id : i ≡ id = cc in
-      let same_leaf : l ≡ leaf = cc in
-      let same_section : s ≡ section = cc in
-      let rest : List MetDocument = documents_from ids leaves sections in
-      ap (λ d. made d l s ∷ rest) same_id ∙ ap (λ (l : DocLeaf). made id l s ∷ rest) same_leaf ∙ ap (λ (s : TermsSection). made id leaf s ∷ rest) same_section
 
   -- what is first of those left stands at the place
   pub first_at : {X : Type 0} (xs left : List X) (j : ℕ) (x : X) → left ≡ drop j xs → Some x ≡ slice_get left 0 → slice_get xs j ≡ Some x

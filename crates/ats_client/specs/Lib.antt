@@ -18,3 +18,4 @@ pub mod Rooted
 pub mod Strings
 pub mod Headline
 pub mod Bytes
+pub mod Sections

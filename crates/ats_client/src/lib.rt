@@ -15,6 +15,7 @@
 
 mod answer;
 mod checking;
+mod clashing;
 mod document;
 mod documents;
 mod fault;
@@ -26,6 +27,7 @@ mod marking;
 #[cfg(test)]
 mod marks_tests;
 mod met;
+mod one_tree;
 mod opening;
 mod present;
 mod present_terms;
@@ -43,6 +45,7 @@ mod walk;
 
 pub use answer::row;
 pub use checking::check;
+pub use clashing::{Clash, first_clash};
 pub use fault::{Rejection, VerifyFault};
 pub use laws::{
     accepted_answers_are_top, bytes_have_one_rejection, documents_have_one_fault,
@@ -50,4 +53,4 @@ pub use laws::{
     shown_leaves_are_bound,
 };
 pub use refusal::Refusal;
-pub use verifying::verify;
+pub use verifying::{check_rows, verify};

@@ -35,8 +35,9 @@ fn answer_rows(
     Ok(rows)
 }
 
-// The rows of a proof that is accepted. The memory for the marks is taken before the check.
-fn checked_rows<H: Hash32>(
+/// The rows of the answer of a proof in hand, or the first rule that it does not keep. The memory for the marks is
+/// taken before the check.
+pub fn check_rows<H: Hash32>(
     alloc: Global,
     root: &[u8; 32],
     query: &Query,
@@ -69,5 +70,5 @@ pub fn verify<H: Hash32>(
     ensures fault { IfErr result (IsVerifyFault H.hash root.now query.now top bytes.now) }
 {
     let proof = ProofView::read(bytes)?;
-    checked_rows::<H>(alloc, root, query, top, &proof)
+    check_rows::<H>(alloc, root, query, top, &proof)
 }

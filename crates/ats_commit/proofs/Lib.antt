@@ -5,6 +5,6 @@ pub mod Layouts
 pub mod PrefixLemmas
 pub mod OwnHeader
 pub mod OwnLeaves
-pub mod OwnStrings
+pub mod OwnPlaces
 pub mod Enclosed
 pub mod OwnDocuments

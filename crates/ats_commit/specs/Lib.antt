@@ -3,4 +3,5 @@ pub mod Prefixes
 pub mod Trees
 pub mod Root
 pub mod Ours
+pub mod Places
 pub mod Own

@@ -6,22 +6,25 @@
 //! root of its list, and the documents tree binds each document to the root of its terms.
 //! The room stands on `ats_lists`, `ats_doctree` and `ats_dict`, which make the leaves of those trees, and
 //! says from plain definitions over the archive what they are together. The contracts promise the root of a
-//! header in one step, and the leaves of the documents and texts trees byte by byte. The laws say what the
+//! header in one step, and the leaves of the documents and texts trees byte by byte. [`OwnStrings`] is the
+//! contract of whoever has an archive and tells the strings of its trees. The laws say what the
 //! definitions mean. How leaves are lent may change without asking; the bytes may not.
 #![tactic(auto)]
 
-pub use commitment::root_of_header;
+pub use commitment::{root_of_header, string_of_header};
 pub use documents::DocLeaves;
 pub use laws::{
     dictionary_has_all_terms, documents_have_all_texts, headers_are_in_range,
     list_prefixes_are_bound, own_headers_are_read, own_leaves_tell_documents,
     own_leaves_tell_lists, own_strings_stand_in_trees, roots_bind_headers,
 };
+pub use own_strings::OwnStrings;
 pub use texts::TextLeaves;
 
 mod commitment;
 mod documents;
 mod laws;
+mod own_strings;
 #[cfg(test)]
 mod tests;
 mod texts;

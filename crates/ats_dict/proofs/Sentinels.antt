@@ -1,5 +1,5 @@
 -- The entries of all leaves, by their positions.
-use Rattle.std.proofs.Common.{◌≡◌, ◌<◌, ◌≤◌, ◌+◌, ℕ, zero, suc, List, [], ◌∷◌, length, get_or, refl, sym, ap, subst, ◌∙◌, arith, length-append, inl, inr}
+use Rattle.std.proofs.Common.{◌≡◌, ◌<◌, ◌≤◌, ◌+◌, ℕ, zero, suc, List, [], ◌∷◌, ◌++◌, length, get_or, refl, sym, ap, subst, ◌∙◌, arith, append_assoc, length-append, inl, inr}
 use Rattle.std.proofs.lemmas.Bool.{cases_lt}
 use Rattle.std.proofs.lemmas.Bool.Decides.{nat_tests}
 use Rattle.std.proofs.lemmas.List.{get_or_append_left, get_or_at, get_or_default, map-append, length-map, get_or-map}
@@ -7,7 +7,8 @@ use Rattle.std.specs.Prelude.{map}
 use Rattle.std.proofs.Common.{nat_cmp, Less}
 use Rattle.std.specs.Ordering.{ordering_then}
 use Rattle.std.specs.Cmp.Lexicographic.{slice_cmp}
-use Rattle.ats_dict.specs.Entry.{DictEntry}
+use Rattle.std.specs.Int.{to_be_bytes, w32}
+use Rattle.ats_dict.specs.Entry.{DictEntry, dict_leaf_bytes}
 use Rattle.ats_dict.specs.Dictionary.{IsBelow, IsDictionary, low, high, with_sentinels, entry_at, term_at, leaf_of, dict_leaves}
 
 -- the leaf of an entry stands one position past it, behind the low sentinel
@@ -34,6 +35,15 @@ length-dict_leaves entries =
 pub get_or-dict_leaves : (entries : List DictEntry) (p : ℕ) → p < length entries + 2 → get_or (dict_leaves entries) p [] ≡ leaf_of (entry_at entries p)
 get_or-dict_leaves entries p inside =
     ap (λ xs. get_or xs p []) (dict_leaves-map entries) ∙ get_or-map leaf_of (with_sentinels entries) p low [] (omega (arith, length-with_sentinels entries))
+
+-- the leaf at a position, in the parts in which an entry is packed
+pub leaf_of_parts : (entries : List DictEntry) (p : ℕ) (entry : DictEntry) (front back : List ℕ) → p < length entries + 2
+    → entry_at entries p ≡ entry → front ≡ length entry.term ∷ entry.term → back ≡ to_be_bytes w32 entry.f ++ entry.root
+    → front ++ back ≡ get_or (dict_leaves entries) p []
+unfolding dict_leaf_bytes
+leaf_of_parts entries p entry front back inside at is behind =
+    ap (λ xs. front ++ xs) behind ∙ sym (append_assoc front (to_be_bytes w32 entry.f) entry.root)
+    ∙ ap (λ (xs : List ℕ). xs ++ to_be_bytes w32 entry.f ++ entry.root) is ∙ ap leaf_of (sym at) ∙ sym (get_or-dict_leaves entries p inside)
 
 -- the low sentinel is below each term that is not empty
 pub low_below : (term : List ℕ) → 1 ≤ length term → IsBelow [] term

@@ -9,7 +9,7 @@ ghost use Rattle.ats_dict.specs.Found.{IsSpot};
 use crate::pieces::put;
 use crate::spot::Spot;
 use ats_hash::{Hash32, Steps};
-use ats_tree::Leaves;
+use ats_tree::{HashedString, Leaves, ShortLeaves};
 use std::alloc::Global;
 use std::cmp::Ordering;
 use std::marker::Model;
@@ -151,6 +151,7 @@ impl Dictionary {
         requires { p < length self.now + 2 }
         ensures entry { entry_at self.now p ≡ record { term = drop 1 result.front.now; f = result.f; root = result.list_root } }
         ensures front { result.front.now ≡ length (drop 1 result.front.now) ∷ drop 1 result.front.now }
+        ensures few { length result.front.now ≤ 65 }
     {
         if p == 0 {
             return sentinel(&[0]);
@@ -217,5 +218,12 @@ impl Leaves for Dictionary {
     fn leaf_digest<H: Hash32>(&self, i: u32, steps: &mut Steps) -> [u8; 32] {
         let parts = self.parts(i);
         H::digest2(0, parts.front, &back(parts.f, &parts.list_root), steps)
+    }
+}
+
+impl ShortLeaves for Dictionary {
+    fn leaf_string(&self, i: u32) -> HashedString {
+        let parts = self.parts(i);
+        HashedString::tagged(0, parts.front, &back(parts.f, &parts.list_root))
     }
 }

@@ -1,13 +1,14 @@
 -- The terms of all leaves, by their positions.
-use Rattle.std.proofs.Common.{◌≡◌, ◌<◌, ◌≤◌, ◌+◌, ℕ, zero, suc, List, [], ◌∷◌, length, get_or, refl, sym, ap, subst, ◌∙◌, arith, length-append, inl, inr, nat_cmp, Less}
+use Rattle.std.proofs.Common.{◌≡◌, ◌<◌, ◌≤◌, ◌+◌, ℕ, zero, suc, List, [], ◌∷◌, ◌++◌, length, get_or, refl, sym, ap, subst, ◌∙◌, arith, length-append, inl, inr, nat_cmp, Less}
 use Rattle.std.proofs.lemmas.Bool.{cases_lt}
 use Rattle.std.proofs.lemmas.Bool.Decides.{nat_tests}
 use Rattle.std.proofs.lemmas.List.{get_or_append_left, get_or_at, get_or_default, length-map, get_or-map}
+use Rattle.std.specs.Int.{to_be_bytes, w16}
 use Rattle.std.specs.Ordering.{ordering_then}
 use Rattle.std.specs.Cmp.Lexicographic.{slice_cmp}
 use Rattle.ats_terms.proofs.Order.{rises_less}
 use Rattle.ats_doctree.specs.Impacts.{AreImpacts}
-use Rattle.ats_doctree.specs.Sentinels.{IsBelow, low, high, with_sentinels, item_at, term_at, leaf_bytes, terms_leaves}
+use Rattle.ats_doctree.specs.Sentinels.{IsBelow, low, high, with_sentinels, item_at, term_at, impact_at, leaf_bytes, terms_leaves}
 
 -- the leaf of a term stands one position past it, behind the low sentinel
 pub item_at-suc : (items : List (List ℕ × ℕ)) (i : ℕ) (d : List ℕ × ℕ) → i < length items → item_at items (suc i) ≡ get_or items i d
@@ -27,6 +28,13 @@ length-terms_leaves items = length-map (with_sentinels items) leaf_bytes ∙ len
 -- the leaf at a position
 pub get_or-terms_leaves : (items : List (List ℕ × ℕ)) (p : ℕ) → p < length items + 2 → get_or (terms_leaves items) p [] ≡ leaf_bytes (item_at items p)
 get_or-terms_leaves items p inside = get_or-map leaf_bytes (with_sentinels items) p low [] (omega (arith, length-with_sentinels items))
+
+-- the same, in the parts of which it is put together
+pub leaf_of_parts : (items : List (List ℕ × ℕ)) (p : ℕ) (term back : List ℕ) (impact : ℕ) → p < length items + 2 → term ≡ term_at items p
+    → impact ≡ impact_at items p → back ≡ to_be_bytes w16 impact → length term ∷ term ++ back ≡ get_or (terms_leaves items) p []
+unfolding leaf_bytes
+leaf_of_parts items p term back impact inside name number bytes =
+    rw (bytes, name, number) (sym (get_or-terms_leaves items p inside))
 
 -- the low sentinel is below each term that is not empty
 pub low_below : (term : List ℕ) → 1 ≤ length term → IsBelow [] term

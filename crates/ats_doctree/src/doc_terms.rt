@@ -10,7 +10,7 @@ use crate::spot::Spot;
 use ats_hash::{Hash32, Steps};
 use ats_impact::{Collection, impact};
 use ats_terms::TermCounts;
-use ats_tree::Leaves;
+use ats_tree::{HashedString, Leaves, ShortLeaves};
 use std::alloc::Global;
 use std::cmp::Ordering;
 use std::marker::Model;
@@ -144,5 +144,14 @@ impl Leaves for DocTerms {
         put_term(&mut block, term);
         let front = &block[..term.len() + 1];
         H::digest2(0, front, &self.impact(i).to_be_bytes(), steps)
+    }
+}
+
+impl ShortLeaves for DocTerms {
+    fn leaf_string(&self, i: u32) -> HashedString {
+        let term = self.term(i);
+        let mut string = HashedString::tagged(0, &[term.len() as u8], term);
+        string.push(&self.impact(i).to_be_bytes());
+        string
     }
 }

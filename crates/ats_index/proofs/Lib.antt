@@ -4,6 +4,11 @@ pub mod Writing
 pub mod Reading
 pub mod Loading
 pub mod OneArchive
+pub mod CommonPrefix
+pub mod ComparingLemmas
+pub mod OnePlace
+pub mod ReadingTexts
 pub mod TermBytes
 pub mod Vocabulary
 pub mod Size
+pub mod StringLemmas

@@ -9,11 +9,12 @@ use Rattle.ats_commit.specs.Archive.{Archive}
 use Rattle.ats_commit.specs.Root.{root_of}
 use Rattle.ats_commit.proofs.Layouts.{same_layout}
 use Rattle.ats_index.specs.Spelling.{IsSpelling, front_bytes, text_bytes, lists_bytes}
+use Rattle.ats_index.specs.LoadFaults.{BeginWith}
 use Rattle.ats_index.proofs.Reading.{front_number, front_rest, text_number, text_first, text_rest}
 use Rattle.ats_index.proofs.Loading.{texts_first}
 
 -- bytes that begin with a text tell it, and what stands behind it
-text_tells : (bytes text other a b : List ℕ) → length text < 2 ^ 32 → length other < 2 ^ 32
+pub text_tells : (bytes text other a b : List ℕ) → length text < 2 ^ 32 → length other < 2 ^ 32
     → bytes ≡ text_bytes text ++ a → bytes ≡ text_bytes other ++ b → (text ≡ other) × (a ≡ b)
 text_tells bytes text other a b short short' is is' =
     let size : length text ≡ length other = sym (text_number bytes text a short is) ∙ text_number bytes other b short' is' in (
@@ -40,31 +41,42 @@ texts_tell (text ∷ texts) (other ∷ others) a b count short short' same =
 abbrev behind_texts : (List ℕ → List ℕ) → Archive → List ℕ
 behind_texts H archive = lists_bytes (lists_of archive.texts) ++ root_of H archive
 
--- the front, the texts, and what stands behind them
-front_first : (H : List ℕ → List ℕ) (bytes : List ℕ) (archive : Archive) → IsSpelling H bytes archive
-    → bytes ≡ front_bytes (length archive.texts) ++ (flat_map text_bytes archive.texts ++ behind_texts H archive)
-front_first H bytes archive spelling =
-    spelling.same ∙ texts_first H archive ∙ append_assoc (front_bytes (length archive.texts)) (flat_map text_bytes archive.texts) (behind_texts H archive)
+-- the bytes of an index begin with its texts
+pub spelled_begins : (H : List ℕ → List ℕ) (bytes : List ℕ) (archive : Archive) → IsSpelling H bytes archive → BeginWith bytes archive.texts
+spelled_begins H bytes archive spelling = record {
+  utf8 = spelling.utf8;
+  within = spelling.within;
+  rest = behind_texts H archive;
+  same = spelling.same ∙ texts_first H archive;
+}
 
 -- a collection's number of texts stands in 4 bytes
 count_small : (texts : List (List ℕ)) → AreWithin texts → length texts < 2 ^ 32
 count_small texts within = omega (arith, within.few)
 
--- no two archives have the same index bytes
-pub one_archive : (H : List ℕ → List ℕ) (bytes : List ℕ) (archive other : Archive) → IsSpelling H bytes archive → IsSpelling H bytes other → archive ≡ other
-one_archive H bytes archive other first second =
-    let texts : List (List ℕ) = archive.texts in
-    let others : List (List ℕ) = other.texts in
-    let rest : List ℕ = flat_map text_bytes texts ++ behind_texts H archive in
-    let rest' : List ℕ = flat_map text_bytes others ++ behind_texts H other in
+-- the front, the texts, and what stands behind them
+pub front_first : (bytes : List ℕ) (texts : List (List ℕ)) (begins : BeginWith bytes texts)
+    → bytes ≡ front_bytes (length texts) ++ (flat_map text_bytes texts ++ begins.rest)
+front_first bytes texts begins = begins.same ∙ append_assoc (front_bytes (length texts)) (flat_map text_bytes texts) begins.rest
+
+-- bytes begin with one collection at most
+pub one_beginning : (bytes : List ℕ) (texts others : List (List ℕ)) → BeginWith bytes texts → BeginWith bytes others → texts ≡ others
+one_beginning bytes texts others first second =
+    let rest : List ℕ = flat_map text_bytes texts ++ first.rest in
+    let rest' : List ℕ = flat_map text_bytes others ++ second.rest in
     let few = count_small texts first.within in
     let few' = count_small others second.within in
-    let is = front_first H bytes archive first in
-    let is' = front_first H bytes other second in
+    let is = front_first bytes texts first in
+    let is' = front_first bytes others second in
     let count : length texts ≡ length others =
     sym (front_number bytes (length texts) rest few is) ∙ front_number bytes (length others) rest' few' is' in
     let same : rest ≡ rest' = sym (front_rest bytes (length texts) rest few is) ∙ front_rest bytes (length others) rest' few' is' in
+    texts_tell texts others first.rest second.rest count first.within.short second.within.short same
+
+-- no two archives have the same index bytes
+pub one_archive : (H : List ℕ → List ℕ) (bytes : List ℕ) (archive other : Archive) → IsSpelling H bytes archive → IsSpelling H bytes other → archive ≡ other
+one_archive H bytes archive other first second =
     let Made : List (List ℕ) → Layout → Archive = λ (t : List (List ℕ)) (l : Layout). record { texts = t; layout = l } in
     ap₂ Made
-    (texts_tell texts others (behind_texts H archive) (behind_texts H other) count first.within.short second.within.short same)
+    (one_beginning bytes archive.texts other.texts (spelled_begins H bytes archive first) (spelled_begins H bytes other second))
     (same_layout archive.layout other.layout)

@@ -1,6 +1,6 @@
 //! The index of an archive.
 
-ghost use Rattle.std.specs.Prelude.{◌≡◌, ◌<◌, ◌≤◌, length, IfOk};
+ghost use Rattle.std.specs.Prelude.{◌≡◌, ◌<◌, ◌≤◌, [], ℕ, List, length, IfOk, OnOk, MatchOption};
 ghost use Rattle.ats_lists.specs.Lists.{lists_of};
 ghost use Rattle.ats_doctree.specs.Impacts.{doc_terms};
 ghost use Rattle.ats_commit.specs.Archive.{archive_of};
@@ -8,9 +8,11 @@ ghost use Rattle.ats_commit.specs.Trees.{dictionary_of};
 ghost use Rattle.ats_commit.specs.Root.{root_of};
 ghost use Rattle.ats_commit.specs.Own.{AreTexts};
 ghost use Rattle.ats_index.specs.Parts.{all_leaves, header_parts, leaf_of_terms};
-ghost use Rattle.ats_index.specs.Spelling.{IsSpelling};
+ghost use Rattle.ats_index.specs.Spelling.{IsSpelling, index_bytes};
+ghost use Rattle.ats_index.specs.LoadFaults.{IsDifference};
 
 use crate::build::header_of;
+use crate::compare::{Comparer, Takes};
 use crate::dictionary::dictionary_of;
 use crate::documents::{DocumentParts, counted};
 use crate::memory::OutOfMemory;
@@ -107,6 +109,13 @@ impl<H: HashKind> Index<H> {
         &self.leaves[doc as usize]
     }
 
+    // A counter for the calls that count their steps, where nobody asks for the number.
+    pub(crate) fn steps(&self) -> Steps
+        ensures { result ≡ 0 }
+    {
+        Steps::new(self.alloc)
+    }
+
     /// The leaves of all documents in the documents tree, in the order of documents: 1 to 65,536.
     pub fn doc_leaves(&self) -> &[DocLeaf]
         ensures leaves { result.now ≡ all_leaves H.hash self.now.texts }
@@ -122,10 +131,29 @@ impl<H: HashKind> Index<H> {
         ensures { IfOk result (λ bytes. IsSpelling H.hash bytes self.now) }
     {
         let mut bytes = Bytes::new(self.alloc);
-        put_texts(&mut bytes, &self.collection)?;
-        put_lists(&mut bytes, &self.lists)?;
-        bytes.extend(&self.root)?;
+        self.put(&mut bytes)?;
         Ok(bytes)
+    }
+
+    // Puts the bytes of the index.
+    fn put<W: Takes>(&self, to: &mut W) -> Result<(), OutOfMemory>
+        ensures bytes { (about : List ℕ) → W.has to.old about [] → OnOk result (W.has to.new about (index_bytes H.hash self.now)) }
+        ensures texts { AreTexts self.now.texts }
+    {
+        put_texts(to, &self.collection)?;
+        put_lists(to, &self.lists)?;
+        to.put(&self.root)?;
+        Ok(())
+    }
+
+    /// Where these bytes differ first from those of the index, if they do. The latter are not kept: they are compared
+    /// while they are spelled.
+    pub(crate) fn difference(&self, bytes: &[u8]) -> Result<Option<u64>, OutOfMemory>
+        ensures { IfOk result (λ found. MatchOption found (bytes.now ≡ index_bytes H.hash self.now) (IsDifference bytes.now (index_bytes H.hash self.now))) }
+    {
+        let mut comparer = Comparer::new(bytes);
+        self.put(&mut comparer)?;
+        Ok(comparer.difference())
     }
 }
 

@@ -3,12 +3,20 @@
 ghost use Rattle.std.specs.Prelude.{◌≡◌, ◌≤◌, ◌^◌, ℕ, List, length};
 ghost use Rattle.ats_commit.specs.Archive.{Archive};
 ghost use Rattle.ats_index.specs.Spelling.{IsSpelling};
+ghost use Rattle.ats_index.specs.LoadFaults.{IsLoadFault};
+ghost use Rattle.ats_index.specs.declared.load.LoadFault.TheVariants.{BadIndex};
 
 use ats_hash::HashKind;
 
 /// Index bytes say one archive: no two have the same.
 pub fn index_bytes_say_one_archive<H: HashKind>()
     ensures { (bytes : List ℕ) (archive other : Archive) → IsSpelling H.hash bytes archive → IsSpelling H.hash bytes other → archive ≡ other }
+{}
+
+/// Bytes are a bad index at one place at most, and those of an archive's index are none.
+pub fn bad_indexes_have_one_place<H: HashKind>()
+    ensures one { (bytes : List ℕ) (at other : ℕ) → IsLoadFault H.hash bytes (BadIndex at) → IsLoadFault H.hash bytes (BadIndex other) → at ≡ other }
+    ensures none { (bytes : List ℕ) (at : ℕ) (archive : Archive) → IsLoadFault H.hash bytes (BadIndex at) → ¬ IsSpelling H.hash bytes archive }
 {}
 
 /// An index has at most 2^29 bytes, which is the most that a file of an index may have. Its texts take at most

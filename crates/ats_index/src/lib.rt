@@ -4,12 +4,14 @@
 //! The room stands on `ats_lists`, `ats_dict` and `ats_doctree`, whose parts it makes from one count of each
 //! document's terms, and on `ats_commit`, which says what they are together. The contracts promise that an
 //! index is seen as its archive alone, that each part is that archive's under the hash function, that its
-//! bytes are one spelling, that bytes are the spelling of one archive at most, and that bytes are loaded
-//! exactly where they are the spelling of some archive. How the parts are made and kept may change
-//! without asking; the bytes may not.
+//! bytes are one spelling, that bytes are the spelling of one archive at most, that bytes are loaded exactly
+//! where they are the spelling of some archive, or else refused at one place: that of the first bad field up to
+//! the last text, or of the first difference from the index of the texts; and that the string at each place of
+//! its trees is the archive's own. How the parts are made and kept may change without asking; the bytes may not.
 #![tactic(auto)]
 
 mod build;
+mod compare;
 mod dictionary;
 mod documents;
 mod index;
@@ -17,11 +19,12 @@ mod laws;
 mod load;
 mod memory;
 mod read;
+mod strings;
 #[cfg(test)]
 mod tests;
 mod write;
 
 pub use index::Index;
-pub use laws::{index_bytes_are_few, index_bytes_say_one_archive};
+pub use laws::{bad_indexes_have_one_place, index_bytes_are_few, index_bytes_say_one_archive};
 pub use load::LoadFault;
 pub use memory::OutOfMemory;

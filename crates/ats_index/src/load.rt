@@ -15,7 +15,9 @@ use std::alloc::Global;
 /// Why bytes are no index.
 #[derive(Clone, Copy, Debug, PartialEq, Eq)]
 pub enum LoadFault {
-    /// The bytes are the index of no archive. The place is 0.
+    /// The bytes are the index of no archive. Up to the last text, the place is the start of the first field that
+    /// is bad: cut off, another magic or version, a number of texts or a length beyond the limits, or no UTF-8.
+    /// Where all of these are good, it is how many bytes are those of the texts' index, from the front on.
     BadIndex { at: u64 },
     /// Memory was wanted and not there.
     OutOfMemory,
@@ -34,25 +36,25 @@ impl From<OutOfMemory> for LoadFault {
 
 impl<H: Hash32> Index<H> {
     /// The index that these bytes are. Its lists and trees are made anew from the texts, and the bytes must
-    /// be theirs.
+    /// be theirs. No field is believed before its bytes are there.
     pub fn load(alloc: Global, bytes: &[u8]) -> Result<Self, LoadFault>
         ensures ok { IfOk result (IsSpelling H.hash bytes.now) }
         ensures only { (archive : Archive) → IsSpelling H.hash bytes.now archive → IfOk result (λ index. index ≡ archive) }
         ensures fault { IfErr result (IsLoadFault H.hash bytes.now) }
     {
         let texts = match read_texts(alloc, bytes)? {
-            Some(texts) => texts,
-            None => return Err(LoadFault::BadIndex { at: 0 }),
+            Ok(texts) => texts,
+            Err(at) => return Err(LoadFault::BadIndex { at }),
         };
         let collection = match Collection::new(alloc, texts) {
             Ok(collection) => collection,
             Err(CollectionFault::OutOfMemory) => return Err(LoadFault::OutOfMemory),
-            Err(_) => return Err(LoadFault::BadIndex { at: 0 }),
+            Err(_) => unreachable!(),
         };
         let index = Index::<H>::build(alloc, collection)?;
-        if index.bytes()?.as_slice() != bytes {
-            return Err(LoadFault::BadIndex { at: 0 });
+        match index.difference(bytes)? {
+            Some(at) => Err(LoadFault::BadIndex { at }),
+            None => Ok(index),
         }
-        Ok(index)
     }
 }

@@ -1,10 +1,11 @@
 //! The texts of an index's bytes.
 
-ghost use Rattle.std.specs.Prelude.{◌≡◌, ◌≢◌, ◌++◌, ◌<◌, ◌^◌, ℕ, List, Some, length, IfOk, IfSome, IfNone};
-ghost use Rattle.std.specs.List.{All};
+ghost use Rattle.std.specs.Prelude.{◌≡◌, ◌≢◌, ◌++◌, ◌≤◌, ◌^◌, ℕ, List, drop, length, IfOk, IfErr, IfSome, IfNone, MatchResult};
+ghost use Rattle.std.specs.Int.{to_be_bytes, w32};
 ghost use Rattle.std.specs.Str.{IsUtf8};
-ghost use Rattle.ats_impact.specs.Limits.{AreWithin};
-ghost use Rattle.ats_index.specs.Spelling.{front_bytes, text_bytes, texts_bytes};
+ghost use Rattle.ats_index.specs.Spelling.{front_bytes};
+ghost use Rattle.ats_index.specs.FirstPart.{IsFirstBad};
+ghost use Rattle.ats_index.specs.LoadFaults.{BeginWith};
 
 use crate::memory::OutOfMemory;
 use crate::write::{MAGIC, VERSION};
@@ -12,55 +13,87 @@ use ats_impact::Texts;
 use byteorder::{BigEndian, ByteOrder};
 use std::alloc::Global;
 
-// The number of texts, and what stands behind it.
-fn front(bytes: &[u8]) -> Option<(u32, &[u8])>
-    ensures some { IfSome result (λ found. (documents : ℕ) (rest : List ℕ) → documents < 2 ^ 32 → bytes.now ≡ front_bytes documents ++ rest → (found.0 ≡ documents) × (found.1.now ≡ rest)) }
-    ensures none { IfNone result ((documents : ℕ) (rest : List ℕ) → documents < 2 ^ 32 → bytes.now ≢ front_bytes documents ++ rest) }
-{
-    if bytes.len() < 9 || bytes[..4] != MAGIC[..] || bytes[4] != VERSION {
-        return None;
-    }
-    let behind = &bytes[5..];
-    Some((BigEndian::read_u32(behind), &behind[4..]))
-}
+const MAX_DOCUMENTS: u32 = 65536;
 
-// The text in front, and what stands behind it.
-fn front_text(bytes: &[u8]) -> Option<(&str, &[u8])>
-    ensures utf8 { IfSome result (λ found. IsUtf8 found.0.now) }
-    ensures some { IfSome result (λ found. (text rest : List ℕ) → length text < 2 ^ 32 → bytes.now ≡ text_bytes text ++ rest → (found.0.now ≡ text) × (found.1.now ≡ rest)) }
-    ensures none { IfNone result ((text rest : List ℕ) → IsUtf8 text → length text < 2 ^ 32 → bytes.now ≢ text_bytes text ++ rest) }
+const MAX_TEXT: u32 = 1 << 20;
+
+const MAX_ALL: u32 = 1 << 24;
+
+// The number of 4 bytes in front, if it is there and in this range.
+fn number(bytes: &[u8], low: u32, high: u32) -> Option<u32>
+    ensures low { IfSome result (λ n. low ≤ n) }
+    ensures high { IfSome result (λ n. n ≤ high) }
+    ensures same { IfSome result (λ n. bytes.now ≡ to_be_bytes w32 n ++ drop 4 bytes.now) }
+    ensures none { IfNone result ((n : ℕ) (rest : List ℕ) → low ≤ n → n ≤ high → bytes.now ≢ to_be_bytes w32 n ++ rest) }
 {
     if bytes.len() < 4 {
         return None;
     }
-    let len = BigEndian::read_u32(bytes) as usize;
-    let behind = &bytes[4..];
-    if behind.len() < len {
+    let n = BigEndian::read_u32(bytes);
+    if n < low || high < n {
         return None;
     }
-    match str::from_utf8(&behind[..len]) {
-        Ok(text) => Some((text, &behind[len..])),
+    Some(n)
+}
+
+// The text of this length in front, and what stands behind it, if it is there and a text.
+fn text_of(bytes: &[u8], size: usize) -> Option<(&str, &[u8])>
+    ensures utf8 { IfSome result (λ found. IsUtf8 found.0.now) }
+    ensures long { IfSome result (λ found. length found.0.now ≡ size) }
+    ensures same { IfSome result (λ found. bytes.now ≡ found.0.now ++ found.1.now) }
+    ensures none { IfNone result ((text rest : List ℕ) → length text ≡ size → IsUtf8 text → bytes.now ≢ text ++ rest) }
+{
+    if bytes.len() < size {
+        return None;
+    }
+    match str::from_utf8(&bytes[..size]) {
+        Ok(text) => Some((text, &bytes[size..])),
         Err(_) => None,
     }
 }
 
-/// The texts that an index's bytes begin with, if they begin with texts.
-pub(crate) fn read_texts(alloc: Global, bytes: &[u8]) -> Result<Option<Texts>, OutOfMemory>
-    ensures { IfOk result (λ found. (texts : List (List ℕ)) (rest : List ℕ) → All IsUtf8 texts → AreWithin texts
-        → bytes.now ≡ texts_bytes texts ++ rest → found ≡ Some texts) }
+// The number of texts and what stands behind it, or the place of the first bad field.
+fn front(bytes: &[u8]) -> Result<(u32, &[u8]), u64>
+    ensures some { IfOk result (λ found. 1 ≤ found.0) }
+    ensures few { IfOk result (λ found. found.0 ≤ 65536) }
+    ensures same { IfOk result (λ found. bytes.now ≡ front_bytes found.0 ++ found.1.now) }
+    ensures bad { IfErr result (IsFirstBad bytes.now) }
 {
-    let mut texts = Texts::new(alloc);
-    let (documents, mut rest) = match front(bytes) {
-        Some(found) => found,
-        None => return Ok(None),
+    let Some(versioned) = bytes.strip_prefix(&MAGIC) else {
+        return Err(0);
     };
+    let Some(counted) = versioned.strip_prefix(&[VERSION]) else {
+        return Err(4);
+    };
+    let Some(documents) = number(counted, 1, MAX_DOCUMENTS) else {
+        return Err(5);
+    };
+    Ok((documents, &counted[4..]))
+}
+
+/// The texts that an index's bytes begin with, or the place of the first bad field up to the last of them. No
+/// memory is taken for a length before as many bytes are found there.
+pub(crate) fn read_texts(alloc: Global, bytes: &[u8]) -> Result<Result<Texts, u64>, OutOfMemory>
+    ensures { IfOk result (λ found. MatchResult found (BeginWith bytes.now) (IsFirstBad bytes.now)) }
+{
+    let (documents, mut rest) = match front(bytes) {
+        Ok(found) => found,
+        Err(at) => return Ok(Err(at)),
+    };
+    let mut texts = Texts::new(alloc);
+    let mut all: u32 = 0;
     for _document in 0..documents {
-        let (text, behind) = match front_text(rest) {
-            Some(found) => found,
-            None => return Ok(None),
+        let at = (bytes.len() - rest.len()) as u64;
+        let room = MAX_TEXT.min(MAX_ALL - all);
+        let Some(size) = number(rest, 0, room) else {
+            return Ok(Err(at));
+        };
+        let Some((text, behind)) = text_of(&rest[4..], size as usize) else {
+            return Ok(Err(at + 4));
         };
         texts.push(text)?;
+        all += size;
         rest = behind;
     }
-    Ok(Some(texts))
+    Ok(Ok(texts))
 }

@@ -77,27 +77,59 @@ fn loads_its_own_bytes(rt: HostRuntime) -> Result<(), Fail> {
     Ok(())
 }
 
-// No index is loaded from these bytes.
-fn refuses<R: Abort + Alloc<A = Global>>(rt: &R, bytes: &[u8]) {
+// No index is loaded from these bytes, for what stands at this place.
+fn refuses<R: Abort + Alloc<A = Global>>(rt: &R, bytes: &[u8], at: u64) {
     let fault = Index::<Sha>::load(rt.alloc(), bytes).err();
-    assert_eq!(rt; fault, Some(LoadFault::BadIndex { at: 0 }));
+    assert_eq!(rt; fault, Some(LoadFault::BadIndex { at }));
+}
+
+// The example with other bytes from a place on.
+fn refuses_changed<R: Abort + Alloc<A = Global>>(rt: &R, from: usize, changed: &[u8], at: u64) {
+    let mut bytes = EXAMPLE;
+    for (byte, other) in bytes.iter_mut().skip(from).zip(changed) {
+        *byte = *other;
+    }
+    refuses(rt, &bytes, at);
 }
 
 #[test]
 fn refuses_changed_bytes(rt: HostRuntime) -> Result<(), Fail> {
-    let bytes = EXAMPLE;
-    refuses(&rt, &bytes[..151]);
-    refuses(&rt, &bytes[..47]);
-    refuses(&rt, &[]);
+    refuses(&rt, &EXAMPLE[..151], 151);
+    refuses(&rt, &EXAMPLE[..47], 47);
+    refuses(&rt, &[], 0);
     let mut longer = [0; 153];
     longer[..152].copy_from_slice(&EXAMPLE);
-    refuses(&rt, &longer);
-    let mut impact = EXAMPLE;
-    impact[113] = 0xfa;
-    refuses(&rt, &impact);
-    let mut version = EXAMPLE;
-    version[4] = 2;
-    refuses(&rt, &version);
+    refuses(&rt, &longer, 152);
+    refuses_changed(&rt, 113, &[0xfa], 113);
+    refuses_changed(&rt, 4, &[2], 4);
+    // the last byte of the root
+    refuses_changed(&rt, 151, &[0x91], 151);
+    Ok(())
+}
+
+// Fields that are cut off or beyond their limits, before anything is made of the texts.
+#[test]
+fn refuses_bad_fields(rt: HostRuntime) -> Result<(), Fail> {
+    refuses(&rt, &EXAMPLE[..3], 0);
+    refuses(&rt, &EXAMPLE[..4], 4);
+    refuses(&rt, &EXAMPLE[..5], 5);
+    refuses(&rt, &EXAMPLE[..8], 5);
+    refuses(&rt, &EXAMPLE[..9], 9);
+    refuses(&rt, &EXAMPLE[..12], 9);
+    refuses(&rt, &EXAMPLE[..13], 13);
+    refuses(&rt, &EXAMPLE[..19], 13);
+    refuses(&rt, &EXAMPLE[..20], 20);
+    refuses(&rt, &EXAMPLE[..46], 39);
+    refuses_changed(&rt, 3, b"i", 0);
+    // no text, too many, and one more than there are
+    refuses_changed(&rt, 5, &[0, 0, 0, 0], 5);
+    refuses_changed(&rt, 5, &[0, 1, 0, 1], 5);
+    refuses_changed(&rt, 5, &[0, 1, 0, 0], 55);
+    // the second text's length, and a byte of it that begins no character
+    refuses_changed(&rt, 20, &[0xff, 0xff, 0xff, 0xff], 20);
+    refuses_changed(&rt, 20, &[0, 0x10, 0, 1], 20);
+    refuses_changed(&rt, 20, &[0, 0x10, 0, 0], 24);
+    refuses_changed(&rt, 25, &[0xff], 24);
     Ok(())
 }
 

@@ -1,13 +1,13 @@
 //! An index as bytes.
 
-ghost use Rattle.std.specs.Prelude.{◌≡◌, ◌++◌, ◌<◌, ◌≤◌, ◌^◌, length, OnOk};
+ghost use Rattle.std.specs.Prelude.{◌≡◌, ◌++◌, ◌<◌, ◌≤◌, ◌^◌, ℕ, List, length, OnOk};
 ghost use Rattle.std.specs.Int.{to_be_bytes, w32};
 ghost use Rattle.std.specs.List.{flat_map};
 ghost use Rattle.ats_lists.specs.Leaf.{leaf_bytes};
 ghost use Rattle.ats_index.specs.Spelling.{list_bytes, lists_bytes, text_bytes, texts_bytes};
 
+use crate::compare::Takes;
 use crate::memory::OutOfMemory;
-use ats_base::Bytes;
 use ats_impact::Collection;
 use ats_lists::{Entry, Lists};
 
@@ -17,60 +17,60 @@ pub(crate) const VERSION: u8 = 1;
 
 // Puts a text behind its length.
 #[tactic(auto, unfolding(crate::specs::Spelling::text_bytes))]
-fn put_text(bytes: &mut Bytes, text: &[u8]) -> Result<(), OutOfMemory>
+fn put_text<W: Takes>(to: &mut W, text: &[u8]) -> Result<(), OutOfMemory>
     requires { length text.now < 2 ^ 32 }
-    ensures { OnOk result (bytes.new ≡ bytes.old ++ text_bytes text.now) }
+    ensures { (about front : List ℕ) → W.has to.old about front → OnOk result (W.has to.new about (front ++ text_bytes text.now)) }
 {
-    bytes.extend(&(text.len() as u32).to_be_bytes())?;
-    bytes.extend(text)?;
+    to.put(&(text.len() as u32).to_be_bytes())?;
+    to.put(text)?;
     Ok(())
 }
 
-/// Puts the texts of a collection behind the bytes, with what stands in front of them.
-pub(crate) fn put_texts(bytes: &mut Bytes, collection: &Collection) -> Result<(), OutOfMemory>
-    ensures { OnOk result (bytes.new ≡ bytes.old ++ texts_bytes collection.now) }
+/// Puts the texts of a collection behind what was put, with what stands in front of them.
+pub(crate) fn put_texts<W: Takes>(to: &mut W, collection: &Collection) -> Result<(), OutOfMemory>
+    ensures { (about front : List ℕ) → W.has to.old about front → OnOk result (W.has to.new about (front ++ texts_bytes collection.now)) }
 {
     let documents = collection.documents();
-    bytes.extend(&MAGIC)?;
-    bytes.push(VERSION)?;
-    bytes.extend(&documents.to_be_bytes())?;
+    to.put(&MAGIC)?;
+    to.put(&[VERSION])?;
+    to.put(&documents.to_be_bytes())?;
     for doc in 0..documents {
-        put_text(bytes, collection.text(doc).as_bytes())?;
+        put_text(to, collection.text(doc).as_bytes())?;
     }
     Ok(())
 }
 
 // Puts the entries of a list.
-fn put_entries(bytes: &mut Bytes, entries: &[Entry]) -> Result<(), OutOfMemory>
-    ensures { OnOk result (bytes.new ≡ bytes.old ++ flat_map leaf_bytes entries.now) }
+fn put_entries<W: Takes>(to: &mut W, entries: &[Entry]) -> Result<(), OutOfMemory>
+    ensures { (about front : List ℕ) → W.has to.old about front → OnOk result (W.has to.new about (front ++ flat_map leaf_bytes entries.now)) }
 {
     for entry in entries {
-        bytes.extend(&entry.doc.to_be_bytes())?;
-        bytes.extend(&entry.impact.to_be_bytes())?;
+        to.put(&entry.doc.to_be_bytes())?;
+        to.put(&entry.impact.to_be_bytes())?;
     }
     Ok(())
 }
 
 // Puts a list behind its term.
 #[tactic(auto, unfolding(crate::specs::Spelling::list_bytes))]
-fn put_list(bytes: &mut Bytes, term: &[u8], entries: &[Entry]) -> Result<(), OutOfMemory>
+fn put_list<W: Takes>(to: &mut W, term: &[u8], entries: &[Entry]) -> Result<(), OutOfMemory>
     requires term { length term.now ≤ 64 }
     requires few { length entries.now ≤ 65536 }
-    ensures { OnOk result (bytes.new ≡ bytes.old ++ list_bytes (term.now, entries.now)) }
+    ensures { (about front : List ℕ) → W.has to.old about front → OnOk result (W.has to.new about (front ++ list_bytes (term.now, entries.now))) }
 {
-    bytes.push(term.len() as u8)?;
-    bytes.extend(term)?;
-    bytes.extend(&(entries.len() as u32).to_be_bytes())?;
-    put_entries(bytes, entries)
+    to.put(&[term.len() as u8])?;
+    to.put(term)?;
+    to.put(&(entries.len() as u32).to_be_bytes())?;
+    put_entries(to, entries)
 }
 
-/// Puts the lists behind the bytes.
-pub(crate) fn put_lists(bytes: &mut Bytes, lists: &Lists) -> Result<(), OutOfMemory>
-    ensures { OnOk result (bytes.new ≡ bytes.old ++ lists_bytes lists.now) }
+/// Puts the lists behind what was put.
+pub(crate) fn put_lists<W: Takes>(to: &mut W, lists: &Lists) -> Result<(), OutOfMemory>
+    ensures { (about front : List ℕ) → W.has to.old about front → OnOk result (W.has to.new about (front ++ lists_bytes lists.now)) }
 {
-    bytes.extend(&lists.len().to_be_bytes())?;
+    to.put(&lists.len().to_be_bytes())?;
     for i in 0..lists.len() {
-        put_list(bytes, lists.term(i), lists.list(i))?;
+        put_list(to, lists.term(i), lists.list(i))?;
     }
     Ok(())
 }

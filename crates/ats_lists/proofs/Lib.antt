@@ -6,3 +6,4 @@ pub mod MapLemmas
 pub mod DocumentLemmas
 pub mod WholeLemmas
 pub mod Finding
+pub mod ListedLemmas

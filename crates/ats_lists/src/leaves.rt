@@ -5,7 +5,7 @@ ghost use Rattle.ats_lists.specs.Leaf.{leaf_bytes};
 
 use crate::entry::Entry;
 use ats_hash::{Hash32, Steps};
-use ats_tree::Leaves;
+use ats_tree::{HashedString, Leaves, ShortLeaves};
 
 /// The leaves of the tree of a list: for each entry the document in 4 bytes, then the impact in 2 bytes,
 /// high byte first.
@@ -30,5 +30,12 @@ impl Leaves for ListLeaves<'_> {
             &entry.impact.to_be_bytes(),
             steps,
         )
+    }
+}
+
+impl ShortLeaves for ListLeaves<'_> {
+    fn leaf_string(&self, i: u32) -> HashedString {
+        let entry = self.entries[i as usize];
+        HashedString::tagged(0, &entry.doc.to_be_bytes(), &entry.impact.to_be_bytes())
     }
 }

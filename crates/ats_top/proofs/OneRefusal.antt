@@ -9,7 +9,10 @@ use Rattle.ats_impact.specs.declared.collection.CollectionFault.{CollectionFault
 use Rattle.ats_impact.specs.declared.collection.CollectionFault.TheVariants as collection
 use Rattle.ats_commit.specs.Archive.{Archive}
 use Rattle.ats_index.specs.Spelling.{IsSpelling}
+use Rattle.ats_index.specs.LoadFaults.{IsLoadFault}
+use Rattle.ats_index.specs.declared.load.LoadFault.TheVariants as index
 use Rattle.ats_index.proofs.OneArchive.{one_archive}
+use Rattle.ats_index.proofs.OnePlace.{one_place}
 use Rattle.ats_prover.specs.Honest.{IsHonest, length_of}
 use Rattle.ats_prover.proofs.Archives.{archive_one}
 use Rattle.ats_top.specs.Input.{AreJsonTexts, IsFirstJsonFault}
@@ -152,21 +155,24 @@ module _ (files : Files) (name : List ℕ) where
     one_collection_refusal a b is also = one_collection_cause a b (collection_cause a is) (collection_cause b also)
 
   module _ (H : List ℕ → List ℕ) where
-    -- an index is refused for its length, or as the index of no collection, which is told at its front
+    -- an index is refused for its length, or as the index of no archive, at the place that its bytes have
     abbrev IndexCause : InputRefusal → Type 0
     IndexCause refusal = ((refusal ≡ FileTooLong (2 ^ 29)) × IsLonger files name (2 ^ 29))
-        ⊎ ((refusal ≡ BadIndex 0) × ((bytes : List ℕ) × IsFile files name (2 ^ 29) bytes))
+        ⊎ ((at : ℕ) × (refusal ≡ BadIndex at) × ((bytes : List ℕ) × IsFile files name (2 ^ 29) bytes × IsLoadFault H bytes (index.BadIndex at)))
 
     index_cause : (refusal : InputRefusal) → IsIndexRefused H files name refusal → IndexCause refusal
     index_cause (FileTooLong limit) refused = inl (ap FileTooLong refused.0, subst (IsLonger files name) refused.0 refused.1)
-    index_cause (BadIndex at) (bytes, file, fault) = inr (ap BadIndex fault.0, (bytes, file))
+    index_cause (BadIndex at) refused = inr (at, refl, refused)
     index_cause _ refused = absurd refused
 
     one_index_cause : IsTold files → (a b : InputRefusal) → IndexCause a → IndexCause b → a ≡ b
     one_index_cause told a b (inl is) (inl also) = is.0 ∙ sym also.0
-    one_index_cause told a b (inl is) (inr (also, (bytes, file))) = absurd (not_longer files name bytes (2 ^ 29) told file is.1)
-    one_index_cause told a b (inr (is, (bytes, file))) (inl also) = absurd (not_longer files name bytes (2 ^ 29) told file also.1)
-    one_index_cause told a b (inr is) (inr also) = is.0 ∙ sym also.0
+    one_index_cause told a b (inl is) (inr (at, same, (bytes, file, fault))) = absurd (not_longer files name bytes (2 ^ 29) told file is.1)
+    one_index_cause told a b (inr (at, same, (bytes, file, fault))) (inl also) = absurd (not_longer files name bytes (2 ^ 29) told file also.1)
+    one_index_cause told a b (inr (at, same, (bytes, file, fault))) (inr (other, same', (bytes', file', fault'))) =
+        let bytes_are : bytes' ≡ bytes = one_file files name bytes' bytes (2 ^ 29) (2 ^ 29) told file' file in
+        let alike : IsLoadFault H bytes (index.BadIndex other) = subst (λ (some : List ℕ). IsLoadFault H some (index.BadIndex other)) bytes_are fault' in
+        same ∙ ap BadIndex (one_place H bytes at other fault alike) ∙ sym same'
 
     one_index_refusal : IsTold files → (a b : InputRefusal) → IsIndexRefused H files name a → IsIndexRefused H files name b → a ≡ b
     one_index_refusal told a b is also = one_index_cause told a b (index_cause a is) (index_cause b also)

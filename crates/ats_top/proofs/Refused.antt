@@ -13,6 +13,7 @@ use Rattle.ats_impact.specs.declared.collection.CollectionFault.TheVariants as c
 use Rattle.ats_commit.specs.Archive.{Archive}
 use Rattle.ats_index.specs.Spelling.{IsSpelling}
 use Rattle.ats_index.proofs.OneArchive.{one_archive}
+use Rattle.ats_index.proofs.OnePlace.{no_place}
 use Rattle.ats_proof.specs.Value.{Proof, IsProof, fields_of}
 use Rattle.ats_prover.specs.Honest.{IsHonest, length_of}
 use Rattle.ats_prover.proofs.Archives.{archive_one}
@@ -116,7 +117,7 @@ index_kept H files name archive told has (FileTooLong limit) refused =
     not_longer files name has.bytes (2 ^ 29) told has.file (subst (IsLonger files name) refused.0 refused.1)
 index_kept H files name archive told has (BadIndex at) (bytes, file, fault) =
     let same = one_file files name has.bytes bytes (2 ^ 29) (2 ^ 29) told has.file file in
-    fault.1 archive (subst (λ b. IsSpelling H b archive) same has.spelling)
+    no_place H bytes at archive fault (subst (λ b. IsSpelling H b archive) same has.spelling)
 index_kept H files name archive told has _ refused = refused
 
 -- rows and a query within the limits are not refused, nor what is tried after them, if that is not

@@ -65,7 +65,7 @@ IsCollectionRefused files name (TextTooLong doc) = AreTextsRefused files name (c
 IsCollectionRefused files name (AllTooLong bytes) = AreTextsRefused files name (collection.AllTooLong bytes)
 IsCollectionRefused files name _ = ⊥
 
--- the named file as an index: its length, and that it is the index of no archive
+-- the named file as an index: its length, and the place where it is the index of no archive
 abbrev pub IsIndexRefused : (List ℕ → List ℕ) → Files → List ℕ → InputRefusal → Type 0
 IsIndexRefused H files name (FileTooLong limit) = (limit ≡ 2 ^ 29) × IsLonger files name limit
 IsIndexRefused H files name (BadIndex at) = (bytes : List ℕ) × IsFile files name (2 ^ 29) bytes × IsLoadFault H bytes (index.BadIndex at)

@@ -42,7 +42,7 @@ digit-is b k less =
     ]
 
 -- the number of a path that is cut from a number is the lowest digits of that number
-number_of-path_of : (depth turns : ℕ) → number_of (path_of depth turns) ≡ turns % 2 ^ depth
+pub number_of-path_of : (depth turns : ℕ) → number_of (path_of depth turns) ≡ turns % 2 ^ depth
 number_of-path_of zero turns = sym (mod-one turns)
 number_of-path_of (suc depth) turns =
     let digit : cond (nat_eq (bit_at turns depth) 1) (2 ^ length (path_of depth turns)) 0 ≡ bit_at turns depth * 2 ^ depth =
@@ -54,7 +54,7 @@ number_of-path_of (suc depth) turns =
     in rw (digit, number_of-path_of depth turns, twice) (sym low)
 
 -- paths of one length with one number are one path
-same_path : (p q : Path) → length p ≡ length q → number_of p ≡ number_of q → p ≡ q
+pub same_path : (p q : Path) → length p ≡ length q → number_of p ≡ number_of q → p ≡ q
 same_path [] [] len num = refl
 same_path [] (b ∷ q) len num = absurd (omega arith)
 same_path (a ∷ p) [] len num = absurd (omega arith)

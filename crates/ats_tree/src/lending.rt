@@ -1,9 +1,10 @@
 //! What the recursion over a tree takes leaves and digests from.
 
-ghost use Rattle.std.specs.Prelude.{◌≡◌, ℕ, ◌+◌, ◌^◌, ◌<◌, List, ◌∷◌, length, drop, All, slice_get};
+ghost use Rattle.std.specs.Prelude.{◌≡◌, ℕ, ◌+◌, ◌^◌, ◌<◌, ◌≤◌, List, ◌∷◌, length, drop, All, slice_get};
 ghost use Rattle.std.proofs.Common.{◌∙◌};
 ghost use Rattle.ats_tree.specs.Shown.{Shown, first_position, first_leaf};
 
+use crate::hashed_string::HashedString;
 use crate::revealing::Revealed;
 use ats_hash::{Hash32, Steps};
 use std::marker::PhantomData;
@@ -24,6 +25,12 @@ pub(crate) trait Feed {
     fn first_position(&self) -> Option<u32>
         ensures first { result ≡ first_position (leaves self.now) }
         ensures sized { All (λ d. length d ≡ 32) (others self.now) };
+
+    /// The first leaf left, under its tag.
+    fn first_string(&self) -> HashedString
+        requires left { 0 < length (leaves self.now) }
+        requires short { length (first_leaf (leaves self.now)) ≤ 127 }
+        ensures { result ≡ 0 ∷ first_leaf (leaves self.now) };
 
     /// Removes the first leaf left, and answers its digest.
     fn take_leaf<H: Hash32>(&mut self, steps: &mut Steps) -> [u8; 32]
@@ -65,6 +72,10 @@ impl<'a, R: Revealed<'a>> Feed for Lent<'a, '_, R> {
 
     fn first_position(&self) -> Option<u32> {
         self.revealed.position()
+    }
+
+    fn first_string(&self) -> HashedString {
+        HashedString::tagged(0, self.revealed.leaf_front(), self.revealed.leaf_back())
     }
 
     fn take_leaf<H: Hash32>(&mut self, steps: &mut Steps) -> [u8; 32] {

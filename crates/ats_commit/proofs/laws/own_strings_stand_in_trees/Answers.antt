@@ -1,4 +1,4 @@
-use Rattle.ats_commit.proofs.OwnStrings.{own_within, none_in_list, none_past}
+use Rattle.ats_commit.proofs.OwnPlaces.{own_within, none_in_list, none_past}
 use Rattle.ats_commit.proofs.laws.own_strings_stand_in_trees.Goals as goal
 
 pub returns-clause-within : goal.returns-clause-within

@@ -1,19 +1,14 @@
-use Rattle.std.proofs.Common.{◌≡◌, ◌-◌, ℕ, List, true, false, length, take, drop, refl, sym, ◌∙◌, arith}
-use Rattle.ats_index.proofs.Reading.{to_end, front_room, front_magic, front_version, front_number, front_rest}
+use Rattle.std.proofs.Common.{◌∷◌, []}
+use Rattle.std.specs.Prelude.{codes}
+use Rattle.std.proofs.lemmas.Bool.Decides.{Decides-eqb}
+use Rattle.std.proofs.lemmas.Slice.Eq.{strip_prefix_is}
+use Rattle.ats_index.proofs.Reading.{to_end}
+use Rattle.ats_index.proofs.ReadingTexts.{front_stands}
 use Rattle.ats_index.proofs.read.front.Goals as goal
-use Rattle.ats_index.proofs.read.front.Goals.{then-bytes-lt9-via-then-bytes-lt9, then-bytes-lt9-via-else-bytes-lt9+then-ne, then-bytes-lt9-via-else-bytes-lt9+else-ne+then-bytes-ne-VERSION}
 
-pub returns-then-bytes-lt9-clause-none : goal.returns-then-bytes-lt9-clause-none
-returns-then-bytes-lt9-clause-none c documents rest few is = elim c.then-bytes-lt9.branch [
-  | then-bytes-lt9-via-then-bytes-lt9 w ↦ omega (arith, w.if-bytes-lt9.true, front_room c.args.bytes.now documents rest few is)
-  | then-bytes-lt9-via-else-bytes-lt9+then-ne w ↦ let same : w.ne.result ≡ false = w.ne.ensures ∙ rw (front_magic c.args.bytes.now documents rest few is) refl in
-      let clash : false ≡ true = sym same ∙ w.if-ne.true in cc
-  | then-bytes-lt9-via-else-bytes-lt9+else-ne+then-bytes-ne-VERSION w ↦ w.if-bytes-ne-VERSION.true (front_version c.args.bytes.now documents rest few is)
-]
-
-pub returns-clause-some : goal.returns-clause-some
-returns-clause-some c documents rest few is =
-    let bytes : List ℕ = c.args.bytes.now in (
-      c.read_u32.ensures ∙ rw (to_end 5 bytes) (front_number bytes documents rest few is),
-      rw (to_end 4 (take (length bytes - 5) (drop 5 bytes)), to_end 5 bytes) (front_rest bytes documents rest few is),
-    )
+pub returns-clause-same : goal.returns-clause-same
+returns-clause-same c =
+    let magic = rw c.in-Some.is at (strip_prefix_is Decides-eqb c.args.bytes.now (codes "ATSI") c.strip_prefix.result c.strip_prefix.ensures.cases) in
+    let version = rw c.in-Some-strip_prefix.is at (strip_prefix_is Decides-eqb c.in-Some.versioned.now (1 ∷ []) c.strip_prefix-2.result c.strip_prefix-2.ensures.cases) in
+    rw (to_end 4 c.in-Some-strip_prefix.counted.now)
+    (front_stands c.args.bytes.now c.in-Some.versioned.now c.in-Some-strip_prefix.counted.now _ c.in-Some-number.documents magic version c.in-Some-number.ensures.same)

@@ -1,30 +1,80 @@
-use Rattle.std.proofs.Common.{◌+◌, ◌<◌, ◌^◌, ℕ, List, [], ◌∷◌, ◌++◌, length, get_or, drop, sym, ap₂, ◌∙◌, arith, add-one}
+use Rattle.std.proofs.Common.{◌≡◌, ◌≤◌, ◌^◌, ◌++◌, ◌+◌, ◌∷◌, [], List, ℕ, length, sym, ap, ◌∙◌, arith, length-append}
+use Rattle.std.specs.Prelude.{sum_by}
 use Rattle.std.specs.List.{flat_map}
-use Rattle.std.proofs.Math.Seq.{take-suc}
-use Rattle.ats_impact.specs.Limits.{AreWithin}
-use Rattle.ats_index.specs.Spelling.{text_bytes}
-use Rattle.ats_index.proofs.Reading.{next_text}
+use Rattle.std.specs.Str.{IsUtf8}
+use Rattle.std.proofs.lemmas.List.Elements.{All-push}
+use Rattle.std.proofs.lemmas.List.Sums.{sum_by-append, sum_by-cons}
+use Rattle.ats_index.specs.Spelling.{front_bytes, text_bytes}
+use Rattle.ats_index.proofs.Reading.{to_end}
+use Rattle.ats_index.proofs.ReadingTexts.{length_bad, bytes_bad, text_read}
 use Rattle.ats_index.proofs.read.read_texts.Goals as goal
 
-short_text : (texts : List (List ℕ)) (i : ℕ) → AreWithin texts → i < length texts → length (get_or texts i []) < 2 ^ 32
-short_text texts i within inside = omega (arith, within.short i [] inside)
+pub returns-in_default : goal.returns-in_default
+returns-in_default c =
+    let so_far = c.loop-document.invariant in
+    length_bad c.args.bytes.now c.in-Ok.found.0 c.loop-document.texts c.loop-document.rest.now so_far.same
+    (record {
+      some = c.in-Ok.ensures.some;
+      few = c.in-Ok.ensures.few;
+      more = omega (arith, so_far.count, c.loop-document-test.true);
+      utf8 = so_far.utf8;
+      short = so_far.short;
+      small = omega (arith, so_far.sum, so_far.small);
+    })
+    (λ size more room. c.in_default.ensures.none size more (omega arith) (omega (arith, room.short, room.small, so_far.sum, so_far.small, c.min-room.ensures)))
 
-pub returns-in-None-front_text : goal.returns-in-None-front_text
-returns-in-None-front_text c texts rest utf8 within is =
-    let i : ℕ = c.loop-document._document in
-    let so_far = c.loop-document.invariant texts rest utf8 within is in
-    let inside : i < length texts = omega (arith, so_far.0, c.loop-document-test.true) in
-    absurd (c.in-None-front_text.ensures.none (get_or texts i []) (flat_map text_bytes (drop (i + 1) texts) ++ rest) (utf8 i [] inside) (short_text texts i within inside)
-    (next_text texts c.loop-document.rest.now rest i inside so_far.2))
+pub returns-in_default-text_of : goal.returns-in_default-text_of
+returns-in_default-text_of c =
+    let so_far = c.loop-document.invariant in
+    let rest : List ℕ = c.loop-document.rest.now in
+    bytes_bad c.args.bytes.now c.in-Ok.found.0 c.loop-document.texts rest so_far.same c.in-Some.size
+    (record {
+      some = c.in-Ok.ensures.some;
+      few = c.in-Ok.ensures.few;
+      more = omega (arith, so_far.count, c.loop-document-test.true);
+      utf8 = so_far.utf8;
+      short = so_far.short;
+      small = omega (arith, so_far.sum, so_far.small);
+    })
+    (record {
+      short = omega (arith, c.in-Some.ensures.high, c.min-room.ensures);
+      small = omega (arith, c.in-Some.ensures.high, c.min-room.ensures, so_far.sum, so_far.small);
+    })
+    c.in-Some.ensures.same
+    (λ text more long utf8 same. c.in_default-text_of.ensures.none text more long utf8 (to_end 4 rest ∙ same))
 
 pub loop-document-preserved : goal.loop-document-preserved
-loop-document-preserved c texts behind utf8 within is =
-    let i : ℕ = c.loop-document._document in
-    let so_far = c.loop-document.invariant texts behind utf8 within is in
-    let inside : i < length texts = omega (arith, so_far.0, c.loop-document-test.true) in
-    let found = c.in-Some-front_text.ensures.some (get_or texts i []) (flat_map text_bytes (drop (i + 1) texts) ++ behind) (short_text texts i within inside)
-    (next_text texts c.loop-document.rest.now behind i inside so_far.2) in (
-      so_far.0,
-      c.in_ok-push.ensures ∙ ap₂ (λ (xs : List (List ℕ)) (x : List ℕ). xs ++ x ∷ []) so_far.1 found.0 ∙ sym (rw add-one (take-suc texts i [] inside)),
-      found.1,
-    )
+loop-document-preserved c =
+    let so_far = c.loop-document.invariant in
+    let Length : List ℕ → ℕ = λ (t : List ℕ). length t in
+    let texts : List (List ℕ) = c.loop-document.texts in
+    let text : List ℕ = c.in-Some-text_of.text.now in
+    let rest : List ℕ = c.loop-document.rest.now in
+    let more : c.loop-document.all + c.in-Some.size ≡ sum_by Length (texts ++ text ∷ []) =
+    omega (arith, so_far.sum, c.in-Some-text_of.ensures.long, sum_by-append Length texts (text ∷ []), sum_by-cons Length text []) in
+    rw c.in_ok-push.ensures
+    (record {
+      same = text_read c.args.bytes.now c.in-Ok.found.0 texts rest so_far.same c.in-Some.size text c.in-Some-text_of.behind.now
+          c.in-Some-text_of.ensures.long c.in-Some.ensures.same (sym (to_end 4 rest) ∙ c.in-Some-text_of.ensures.same);
+      count = length-append texts (text ∷ []) ∙ omega (arith, so_far.count);
+      utf8 = All-push IsUtf8 texts text so_far.utf8 c.in-Some-text_of.ensures.utf8;
+      short = All-push (λ (t : List ℕ). length t ≤ 2 ^ 20) texts text so_far.short (omega (arith, c.in-Some-text_of.ensures.long, c.in-Some.ensures.high, c.min-room.ensures));
+      sum = more;
+      small = omega (arith, c.in-Some.ensures.high, c.min-room.ensures, so_far.small);
+    })
+
+pub returns : goal.returns
+returns c =
+    let so_far = c.loop-document.invariant in
+    let count : c.in-Ok.found.0 ≡ length c.loop-document.texts = omega (arith, so_far.count, c.loop-document-test.false) in
+    record {
+      utf8 = so_far.utf8;
+      within = record {
+        some = omega (arith, count, c.in-Ok.ensures.some);
+        few = omega (arith, count, c.in-Ok.ensures.few);
+        short = so_far.short;
+        small = omega (arith, so_far.sum, so_far.small);
+      };
+      rest = c.loop-document.rest.now;
+      same = so_far.same ∙ ap (λ n. (front_bytes n ++ flat_map text_bytes c.loop-document.texts) ++ c.loop-document.rest.now) count;
+    }

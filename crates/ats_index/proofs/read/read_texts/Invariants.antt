@@ -1,11 +1,18 @@
-use Rattle.std.proofs.Common.{◌≡◌, ◌++◌, ℕ, List, length, take, drop}
+use Rattle.std.proofs.Common.{◌≡◌, ◌≤◌, ◌^◌, ◌++◌, length}
+use Rattle.std.specs.Prelude.{sum_by}
 use Rattle.std.specs.List.{All, flat_map}
 use Rattle.std.specs.Str.{IsUtf8}
-use Rattle.ats_impact.specs.Limits.{AreWithin}
-use Rattle.ats_index.specs.Spelling.{text_bytes, texts_bytes}
+use Rattle.ats_impact.specs.Limits.{AllShort}
+use Rattle.ats_index.specs.Spelling.{front_bytes, text_bytes}
 use Rattle.ats_index.proofs.read.read_texts.Given as goal
 
--- where the bytes begin with texts, the first of them are read, and the others are left
+-- the texts so far stand in front of the rest, and are within the limits
 abbrev pub invariant-loop-document : goal.invariant-loop-document
-invariant-loop-document l = (all : List (List ℕ)) (behind : List ℕ) → All IsUtf8 all → AreWithin all → l.bytes ≡ texts_bytes all ++ behind
-    → (l.documents ≡ length all) × (l.texts ≡ take l._document all) × (l.rest ≡ flat_map text_bytes (drop l._document all) ++ behind)
+invariant-loop-document l = record {
+  same : l.bytes ≡ (front_bytes l.documents ++ flat_map text_bytes l.texts) ++ l.rest;
+  count : length l.texts ≡ l._document;
+  utf8 : All IsUtf8 l.texts;
+  short : AllShort l.texts;
+  sum : l.all ≡ sum_by length l.texts;
+  small : l.all ≤ 2 ^ 24;
+}

@@ -1,9 +1,9 @@
-use Rattle.std.proofs.Common.{◌≡◌, ◌≢◌, ◌∙◌, ◌+◌, ◌-◌, ◌<◌, ◌≤◌, ℕ, List, suc, ap, sym, arith, length, get_or}
-use Rattle.std.proofs.lemmas.List.{length-map, get_or-map}
+use Rattle.std.proofs.Common.{◌≡◌, ◌≢◌, ◌∙◌, ◌+◌, ◌-◌, ◌<◌, ◌≤◌, ℕ, List, suc, ap, sym, subst, arith, length, get_or}
+use Rattle.std.proofs.lemmas.List.{length-map, length-drop, get_or-map}
 use Rattle.ats_dict.specs.declared.dictionary.Stored.{Stored}
 use Rattle.ats_dict.specs.Entry.{DictEntry}
 use Rattle.ats_dict.specs.Dictionary.{high, entry_at}
-use Rattle.ats_dict.specs.Packed.{entry_of, entries_of}
+use Rattle.ats_dict.specs.Packed.{ArePacked, front_of, entry_of, entries_of}
 use Rattle.ats_dict.proofs.Sentinels.{entry_at-suc, entry_at-last}
 use Rattle.ats_dict.proofs.dictionary.Dictionary.parts.Goals as goal
 
@@ -22,6 +22,16 @@ at_end : (fronts : List ℕ) (all : List Stored) (entries : List DictEntry) (p :
     → p < length entries + 2 → length all ≤ p - 1 → entry_at entries p ≡ high
 at_end fronts all entries p same past within end = entry_at-last entries p (omega (arith, inside fronts all entries same))
 
+-- what is packed for an entry
+front_few : (fronts : List ℕ) (all : List Stored) (i : ℕ) (stored : Stored) → ArePacked fronts all → i < length all → stored ≡ get_or all i stored
+    → length (front_of fronts stored) ≤ 65
+front_few fronts all i stored are inside is =
+    let entry = entry_of fronts stored in
+    let here : get_or (entries_of fronts all) i entry ≡ entry = get_or-map (entry_of fronts) all i stored entry inside ∙ ap (entry_of fronts) (sym is) in
+    let kept = are.dictionary.each i entry (omega (arith, inside, length-map all (entry_of fronts))) in
+    let few : length entry.term ≤ 64 = subst (λ (e : DictEntry). length e.term ≤ 64) here kept.term.few in
+    omega (arith, few, length-drop 1 (front_of fronts stored))
+
 pub returns-then-p-eq0-clause-entry : goal.returns-then-p-eq0-clause-entry
 returns-then-p-eq0-clause-entry c =
     rw (c.sentinel.ensures.front, c.sentinel.ensures.number, c.sentinel.ensures.root) (ap (entry_at c.args.self.now) c.if-p-eq0.true)
@@ -38,3 +48,10 @@ returns-in-None-clause-entry c =
     rw (c.sentinel-in-None.ensures.front, c.sentinel-in-None.ensures.number, c.sentinel-in-None.ensures.root)
     (at_end c.self.inside.fronts.items c.self.inside.entries.items c.args.self.now c.args.p c.self.view_is c.if-p-eq0.false c.requires
     (rw c.deref.ensures.value at c.in-None.ensures.lookup.3))
+
+pub returns-in-Some-clause-few : goal.returns-in-Some-clause-few
+returns-in-Some-clause-few c =
+    let stored = c.in-Some.stored.now in
+    let found = rw c.deref.ensures.value at c.in-Some.ensures.lookup.3 in
+    rw c.deref-in-Some.ensures.value
+    (front_few c.self.inside.fronts.items c.self.inside.entries.items (c.args.p - 1) stored c.self.invariant found.0 (found.1 stored))

@@ -1,4 +1,4 @@
-use Rattle.ats_client.proofs.verifying.checked_rows.Goals as goal
+use Rattle.ats_client.proofs.verifying.check_rows.Goals as goal
 
 pub returns-clause-rows : goal.returns-clause-rows
 returns-clause-rows g c = c.in_ok-rows.ensures.rows c.args.query.now c.in_ok-threshold.ensures.left

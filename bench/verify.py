@@ -1,0 +1,161 @@
+"""Times the check of proofs by both algorithms, beside hashing strings of the same sizes.
+
+usage: python3 bench/verify.py
+
+Prints, for queries of few and of many matches over 16 MiB of text, the bytes of the proof by each algorithm
+and number of rows; for ten rows also what one check takes, and that over the time of the digests that it
+makes. Ends with status 0 where that ratio is as wanted for each long proof by `tra`, and else with 1.
+"""
+
+import sys
+import tempfile
+from pathlib import Path
+from typing import NamedTuple
+
+import corpora
+import measure
+
+SHAPE = corpora.SHAPES["notes"]
+MIB = 16
+ALGORITHMS = ("tnra", "tra")
+ROWS = (1, 10, 100, 1000)
+TIMED_ROWS = 10
+
+WANTED = 1.5  # of a check to its digests, for proofs by `tra` that are long
+LONG = 300_000  # bytes
+WORK = 3_000_000  # digests that are made in one run
+
+# Words by their place in the order of frequency.
+QUERIES = {
+    "the most frequent word": (0,),
+    "the most frequent word and a rare one": (0, 9999),
+    "the eighth word and the ninth": (7, 8),
+    "the two most frequent words": (0, 1),
+    "the five most frequent words": (0, 1, 2, 3, 4),
+}
+
+
+class Fields:
+    """The fields of a proof, one after another."""
+
+    def __init__(self, proof: bytes) -> None:
+        self.proof, self.at = proof, 0
+
+    def number(self, size: int) -> int:
+        self.at += size
+        return int.from_bytes(self.proof[self.at - size : self.at], "big")
+
+    def tree(self, leaves: list[int], count: int) -> list[int]:
+        """Passes the digests, whose number has `count` bytes. Answers the sizes of the leaves and inner nodes."""
+        digests = self.number(count)
+        self.at += 32 * digests
+        return leaves + [64] * (len(leaves) + digests - 1)
+
+    def leaf(self, behind: int) -> int:
+        """Passes a leaf of a term, with its position. Answers its size."""
+        self.at += 4
+        term = self.number(1)
+        self.at += term + behind
+        return 1 + term + behind
+
+    def slots(self, terms: int) -> int:
+        """Passes slots, and answers how many terms are present."""
+        kinds = [self.number(3) >> 16 for _ in range(terms)]
+        return sum(kinds)
+
+    def run(self, count: int, size: int) -> list[int]:
+        self.at += count * size
+        return [size] * count
+
+
+def strings(proof: bytes) -> list[int]:
+    """The sizes of the strings that a check hashes, without their tags."""
+    fields = Fields(proof)
+    algorithm = fields.number(6) & 0xFF
+    found = fields.run(1, 105)
+    terms = fields.number(2)
+    found += fields.tree([fields.leaf(36) for _ in range(fields.number(2))], 2)
+    present = fields.slots(terms)
+    met = fields.number(4)
+    fields.run(met, 4)
+    for _ in range(present):
+        found += fields.tree(fields.run(fields.number(4), 6), 2)
+    if algorithm == 1:
+        found += fields.tree(fields.run(met, 36), 4)
+        for _ in range(met):
+            found += fields.tree([fields.leaf(2) for _ in range(fields.number(2))], 2)
+            fields.slots(present)
+    fields.run(fields.number(2), 4)
+    assert fields.at == len(proof)
+    return found
+
+
+class Proved(NamedTuple):
+    """A proof in its file, and the query and the number of rows that it answers."""
+
+    path: Path
+    query: str
+    rows: int
+
+    def size(self) -> int:
+        return self.path.stat().st_size
+
+
+def prove(program: str, index: Path, algorithm: str, rows: int, query: str) -> Proved:
+    path = index.with_name("proof")
+    measure.run([program, "prove", str(index), algorithm, str(rows), query, str(path)])
+    return Proved(path, query, rows)
+
+
+def seconds(bench: str, words: list[str], times: int) -> float:
+    """Of one time: what is done before the first is in both runs, and drops out."""
+    some = measure.best([bench, *words, str(times)]).seconds
+    none = measure.best([bench, *words, "0"]).seconds
+    return (some - none) / times
+
+
+def ratio(bench: str, proved: Proved) -> float:
+    """Prints what one check takes. Answers that over what its digests take."""
+    sizes = strings(proved.path.read_bytes())
+    listed = proved.path.with_name("sizes")
+    listed.write_bytes(bytes(sizes))
+    times = max(WORK // len(sizes), 1)
+    check = seconds(bench, ["check", str(proved.rows), proved.query, str(proved.path)], times)
+    hashed = seconds(bench, ["strings", str(listed)], times)
+    print(f"    one check {check * 1e3:.3f} ms, its {len(sizes)} digests {hashed * 1e3:.3f} ms")
+    return check / hashed
+
+
+def measured(program: str, bench: str, index: Path, name: str, query: str) -> bool:
+    """One query, by both algorithms and each number of rows."""
+    met = True
+    for algorithm in ALGORITHMS:
+        for rows in ROWS:
+            proved = prove(program, index, algorithm, rows, query)
+            print(f"{name}, {algorithm}, {rows} rows: {proved.size():,} bytes")
+            if rows != TIMED_ROWS:
+                continue
+            over = ratio(bench, proved)
+            if algorithm == "tra" and proved.size() >= LONG:
+                met &= measure.judge("    check / digests", over, WANTED)
+            else:
+                print(f"    check / digests: {over:.2f}")
+    return met
+
+
+def main() -> int:
+    program, bench = measure.program(), measure.bench_program()
+    words = corpora.vocabulary(SHAPE.vocabulary)
+    met = True
+    with tempfile.TemporaryDirectory() as folder:
+        collection, index = Path(folder) / "collection", Path(folder) / "index"
+        documents = corpora.write(str(collection), SHAPE, MIB * corpora.MIB)
+        measure.run([program, "build", str(collection), str(index)])
+        print(f"{MIB} MiB of {SHAPE.says}, {documents} documents; best of {measure.RUNS} runs each")
+        for name, places in QUERIES.items():
+            met &= measured(program, bench, index, name, " ".join(words[k] for k in places))
+    return 0 if met else 1
+
+
+if __name__ == "__main__":
+    sys.exit(main())

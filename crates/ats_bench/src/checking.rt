@@ -1,0 +1,77 @@
+// The check of a proof, again and again, and hashing strings of the same sizes.
+ghost use Rattle.std.specs.Prelude.{◌≡◌, ◌+◌, ◌≤◌, length};
+ghost use Rattle.ats_proof.specs.Views.{proof_of};
+
+use ats_bound::Work;
+use ats_client::check;
+use ats_commit::root_of_header;
+use ats_hash::{Hash32, Sha, Steps};
+use ats_impact::Top;
+use ats_proof::ProofView;
+use ats_terms::Query;
+use std::alloc::Global;
+use std::fs;
+
+// The steps of one check, nothing where the proof is refused.
+fn check_once(
+    alloc: Global,
+    root: &[u8; 32],
+    query: &Query,
+    top: Top,
+    proof: &ProofView<'_>,
+    work: &mut Work,
+) -> Option<u64>
+    requires { length (proof_of proof.now).met ≤ work.old.room }
+    ensures { work.new.room ≡ work.old.room }
+{
+    let mut steps = Steps::new(alloc);
+    check::<Sha>(root, query, top, proof, work, &mut steps).ok()?;
+    Some(steps.count())
+}
+
+/// Checks the proof of a file so many times under its own header's root, and answers how many steps were counted.
+pub(crate) fn check_proof(
+    rt: &HostRuntime,
+    rows: u32,
+    query: &str,
+    proof: &str,
+    times: u32,
+) -> Option<u64> {
+    let top = Top::new(rows).ok()?;
+    let query = Query::read(rt.alloc(), query).ok()?;
+    let bytes = fs::read(rt, proof).ok()?;
+    let proof = ProofView::read(&bytes).ok()?;
+    let root = root_of_header::<Sha>(&proof.header(), &mut Steps::new(rt.alloc()));
+    let mut work = Work::with_room(rt.alloc(), proof.met()).ok()?;
+    let mut steps: u64 = 0;
+    for _time in 0..times {
+        let more = check_once(rt.alloc(), &root, &query, top, &proof, &mut work)?;
+        steps = steps.wrapping_add(more);
+    }
+    Some(steps)
+}
+
+// Hashes a string of each size, in two pieces as a node is.
+fn hash_each(sizes: &[u8], steps: &mut Steps)
+    requires { steps.old ≡ 0 }
+{
+    let bytes = [0u8; 256];
+    for i in 0..sizes.len() {
+        let (string, _) = bytes.split_at(sizes[i] as usize);
+        let (front, back) = string.split_at(string.len() / 2);
+        Sha::digest2(0, front, back, steps);
+    }
+}
+
+/// Hashes strings so many times over, and answers how many digests were counted. Each byte of the file is
+/// the size of a string.
+pub(crate) fn hash_strings(rt: &HostRuntime, sizes: &str, times: u32) -> Option<u64> {
+    let sizes = fs::read(rt, sizes).ok()?;
+    let mut digests: u64 = 0;
+    for _time in 0..times {
+        let mut steps = Steps::new(rt.alloc());
+        hash_each(&sizes, &mut steps);
+        digests = digests.wrapping_add(steps.count());
+    }
+    Some(digests)
+}

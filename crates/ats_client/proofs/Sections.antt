@@ -1,0 +1,253 @@
+-- The first collision of a proof's strings from those of its sections, and what the sections of a proof that rebuilds keep.
+use Rattle.std.proofs.Common.{◌≡◌, ◌≢◌, ◌<◌, ◌≤◌, ◌+◌, ◌∙◌, ℕ, List, [], ◌∷◌, ◌++◌, length, map, drop, Bool, true, false, Option, Some, None, slice_get, refl, sym, ap, ap₂, subst, arith, IfSome}
+use Rattle.std.specs.List.{All, flat_map}
+use Rattle.std.specs.Option.{option_map, option_or, IsSome}
+use Rattle.std.specs.Int.{to_be_bytes, w16, w32}
+use Rattle.std.proofs.lemmas.List.{length-append}
+use Rattle.std.proofs.lemmas.List.Elements.{All-nil, All-cons, All-head, All-tail, All-map, All-weaker}
+use Rattle.ats_tree.specs.Differences.{Hashed, moved, Difference, collision_or, first_collision}
+use Rattle.ats_tree.specs.Nodes.{Node, by_path}
+use Rattle.ats_tree.specs.Paths.{Path}
+use Rattle.ats_tree.specs.Rebuild.{rebuilt}
+use Rattle.ats_tree.specs.Shown as tree
+use Rattle.ats_tree.specs.Strings.{string_at, node_string, node_strings}
+use Rattle.ats_tree.specs.Tree as trees
+use Rattle.ats_tree.specs.Clashes as nodes
+use Rattle.ats_tree.specs.declared.clashing.Clash as found
+use Rattle.ats_tree.specs.declared.hashed.Tree.{Tree}
+use Rattle.ats_tree.specs.declared.hashed.Tree.TheVariants.{Header, Dictionary, List as ListOf, Documents as DocumentsTree, Terms}
+use Rattle.ats_tree.proofs.Clashes.{collision-append, collision-moved, collides-is, collides-not}
+use Rattle.ats_lists.specs.declared.entry.Entry.{Entry}
+use Rattle.ats_lists.specs.Leaf.{leaf_bytes}
+use Rattle.ats_dict.specs.Entry.{dict_leaf_bytes}
+use Rattle.ats_dict.specs.declared.header.Header.{Header as Numbers}
+use Rattle.ats_doctree.specs.declared.doc_leaf.DocLeaf.{DocLeaf}
+use Rattle.ats_doctree.specs.DocumentLeaf.{doc_leaf_bytes}
+use Rattle.ats_doctree.specs.Sentinels as terms
+use Rattle.ats_lists.specs.Layout.{Layout, whole_lists}
+use Rattle.ats_commit.specs.Archive.{Archive}
+use Rattle.ats_commit.specs.Ours.{TreePlace, own_leaves, own_header, own_string, ours}
+use Rattle.ats_commit.specs.Places.{IsOfQuery}
+use Rattle.ats_commit.specs.Prefixes.{list_string}
+use Rattle.ats_proof.specs.Value.{ShownEntry, ShownTerm, TermsSection, Documents, Proof, layout_of}
+use Rattle.ats_proof.specs.Ranges.{IsShownInRange, IsTermInRange, IsDocLeafInRange}
+use Rattle.ats_proof.specs.Runs.{shown_entry, shown_term, shown_docs, shown_list, named}
+use Rattle.ats_client.specs.Documents.{MetDocument, documents_from, AreDocsRooted, IsTermsTree}
+use Rattle.ats_client.specs.Presented.{presented}
+use Rattle.ats_client.specs.Strings.{hashed_header, in_tree, strings_in, list_strings, terms_strings, documents_strings, extract}
+
+-- ---- strings of an archive's own have a tag
+
+abbrev pub IsTagged : Option (List ℕ) → Type 0
+IsTagged o = IfSome o (λ own. 0 < length own)
+
+string-tagged : (H : List ℕ → List ℕ) (t : trees.Tree (List ℕ)) (path : Path) → IsTagged (string_at H t path)
+string-tagged H trees.empty path = tt
+string-tagged H (trees.leaf d) [] = omega arith
+string-tagged H (trees.leaf d) (turn ∷ path) = tt
+string-tagged H (trees.node l r) [] = omega arith
+string-tagged H (trees.node l r) (false ∷ path) = string-tagged H l path
+string-tagged H (trees.node l r) (true ∷ path) = string-tagged H r path
+
+node-tagged : (H : List ℕ → List ℕ) (leaves : List (List ℕ)) (node : Node) → IsTagged (node_string H leaves node)
+node-tagged H leaves (by_path path) = string-tagged H (trees.tree_of leaves) path
+
+list-tagged : (H : List ℕ → List ℕ) (layout : Layout) (entries : List Entry) (node : Node) → IsTagged (list_string H layout entries node)
+list-tagged H whole_lists entries node = node-tagged H (map leaf_bytes entries) node
+
+header-tagged : (H : List ℕ → List ℕ) (archive : Archive) (node : Node) → IsTagged (own_header H archive node)
+header-tagged H archive (by_path []) = omega arith
+header-tagged H archive (by_path (turn ∷ path)) = tt
+
+own-tagged : (H : List ℕ → List ℕ) (archive : Archive) (query : List (List ℕ × ℕ)) (tree : Tree) (node : Node) → IsTagged (own_string H archive query tree node)
+own-tagged H archive query Header node = header-tagged H archive node
+own-tagged H archive query Dictionary node = node-tagged H (own_leaves H archive query Dictionary) node
+own-tagged H archive query (ListOf term) node = list-tagged H archive.layout _ node
+own-tagged H archive query DocumentsTree node = node-tagged H (own_leaves H archive query DocumentsTree) node
+own-tagged H archive query (Terms doc) node = node-tagged H (own_leaves H archive query (Terms doc)) node
+
+pub ours-tagged : (H : List ℕ → List ℕ) (archive : Archive) (query : List (List ℕ × ℕ)) (place : TreePlace) → IsTagged (ours H archive query place)
+ours-tagged H archive query place = own-tagged H archive query place.tree place.node
+
+-- ---- which trees a query has
+
+pub of_query : (query : List (List ℕ × ℕ)) (tree : Tree) → ((term : ℕ) → tree ≡ ListOf term → term < length query) → IsOfQuery query tree
+of_query query Header asked = tt
+of_query query Dictionary asked = tt
+of_query query (ListOf term) asked = asked term refl
+of_query query DocumentsTree asked = tt
+of_query query (Terms doc) asked = tt
+
+pub query_has : (query : List (List ℕ × ℕ)) (tree : Tree) → IsOfQuery query tree → (term : ℕ) → tree ≡ ListOf term → term < length query
+query_has query Header is term same = absurd (cc)
+query_has query Dictionary is term same = absurd (cc)
+query_has query (ListOf t) is term same = let e : t ≡ term = cc in subst (λ (k : ℕ). k < length query) e is
+query_has query DocumentsTree is term same = absurd (cc)
+query_has query (Terms doc) is term same = absurd (cc)
+
+-- ---- one tree
+
+pub some_is : (o : Option (List ℕ)) (x : List ℕ) → o ≡ Some x → IsSome o
+some_is None x is = absurd (cc)
+some_is (Some y) x is = refl
+
+pub rebuilds_by : (H : List ℕ → List ℕ) (n n' : ℕ) (shown shown' : List tree.Shown) (ds ds' : List (List ℕ)) (root : List ℕ) → n ≡ n' → shown ≡ shown' → ds ≡ ds'
+    → rebuilt H n' shown' ds' ≡ Some root → IsSome (rebuilt H n shown ds)
+rebuilds_by H n n' shown shown' ds ds' root is_n is_shown is_ds is =
+    some_is (rebuilt H n shown ds) root (ap (λ k. rebuilt H k shown ds) is_n ∙ ap₂ (λ a b. rebuilt H n' a b) is_shown is_ds ∙ is)
+
+-- the collision that is found in one tree, as one of the whole proof
+abbrev pub placed_in : Tree → Difference Node → Difference TreePlace
+placed_in tree c = record { place = in_tree tree c.place; ours = c.ours; theirs = c.theirs }
+
+pub in_one_tree : (H : List ℕ → List ℕ) (own : TreePlace → Option (List ℕ)) (tree : Tree) (ss : List (Hashed Node)) (found : Option (Difference Node))
+    → found ≡ first_collision H (λ node. own (in_tree tree node)) ss
+    → option_map (placed_in tree) found ≡ first_collision H own (map (moved (in_tree tree)) ss)
+in_one_tree H own tree ss found is = ap (option_map (placed_in tree)) is ∙ sym (collision-moved H (in_tree tree) own ss)
+
+-- ---- the header
+
+pub header_found : (H : List ℕ → List ℕ) (place : TreePlace) (o : Option (List ℕ)) (own text theirs : List ℕ) → Some own ≡ o → theirs ≡ text
+    → (own ≢ theirs) × (H own ≡ H theirs)
+    → Some (let c : Difference TreePlace = record { place = place; ours = own; theirs = theirs } in c)
+    ≡ collision_or H o (let s : Hashed TreePlace = record { place = place; text = text } in s) None
+header_found H place o own text theirs there same both =
+    collides-is H own (let s : Hashed TreePlace = record { place = place; text = theirs } in s) None both.0 both.1
+    ∙ ap₂ (λ (p : Option (List ℕ)) (t : List ℕ). collision_or H p (let s : Hashed TreePlace = record { place = place; text = t } in s) None) there same
+
+pub header_not : (H : List ℕ → List ℕ) (place : TreePlace) (o : Option (List ℕ)) (own text theirs : List ℕ) → Some own ≡ o → theirs ≡ text
+    → ((own ≢ theirs) × (H own ≡ H theirs) → ⊥)
+    → None ≡ collision_or H o (let s : Hashed TreePlace = record { place = place; text = text } in s) None
+header_not H place o own text theirs there same none =
+    collides-not H own (let s : Hashed TreePlace = record { place = place; text = theirs } in s) None none
+    ∙ ap₂ (λ (p : Option (List ℕ)) (t : List ℕ). collision_or H p (let s : Hashed TreePlace = record { place = place; text = t } in s) None) there same
+
+pub header_absent : (H : List ℕ → List ℕ) (o : Option (List ℕ)) (s : Hashed TreePlace) → None ≡ o → None ≡ collision_or H o s None
+header_absent H o s none = ap (λ (p : Option (List ℕ)). collision_or H p s None) none
+
+-- ---- the whole proof
+
+pub extract-parts : (H : List ℕ → List ℕ) (archive : Archive) (query : List (List ℕ × ℕ)) (proof : Proof)
+    (header dictionary lists documents : Option (Difference TreePlace))
+    → header ≡ first_collision H (ours H archive query) (hashed_header (layout_of proof) proof.header ∷ [])
+    → dictionary ≡ first_collision H (ours H archive query) (strings_in H Dictionary proof.header.dict_leaves (map shown_entry proof.dict) proof.dict_digests)
+    → lists ≡ first_collision H (ours H archive query) (flat_map (list_strings H (layout_of proof) proof.met) (presented query proof))
+    → documents ≡ first_collision H (ours H archive query) (documents_strings H proof.header proof.met proof.docs)
+    → option_or header (option_or dictionary (option_or lists documents)) ≡ extract H archive query proof
+extract-parts H archive query proof header dictionary lists documents in_header in_dictionary in_lists in_documents =
+    let own : TreePlace → Option (List ℕ) = ours H archive query
+    in let a : List (Hashed TreePlace) = hashed_header (layout_of proof) proof.header ∷ []
+    in let b : List (Hashed TreePlace) = strings_in H Dictionary proof.header.dict_leaves (map shown_entry proof.dict) proof.dict_digests
+    in let c : List (Hashed TreePlace) = flat_map (list_strings H (layout_of proof) proof.met) (presented query proof)
+    in let d : List (Hashed TreePlace) = documents_strings H proof.header proof.met proof.docs
+    in ap₂ option_or in_header (ap₂ option_or in_dictionary (ap₂ option_or in_lists in_documents))
+    ∙ sym (
+    collision-append H own a (b ++ (c ++ d))
+    ∙ ap (option_or (first_collision H own a)) (collision-append H own b (c ++ d) ∙ ap (option_or (first_collision H own b)) (collision-append H own c d))
+    )
+
+-- ---- the lengths of shown leaves
+
+abbrev pub IsShort : tree.Shown → Type 0
+IsShort s = length s.1 ≤ 127
+
+entry-short : (e : ShownEntry) → IsShownInRange e → IsShort (shown_entry e)
+unfolding dict_leaf_bytes
+entry-short e range =
+    let number : List ℕ = to_be_bytes w32 e.entry.f
+    in let four : length number ≡ 4 = refl
+    in omega (arith, range.few, range.sized, length-append (e.entry.term ++ number) e.entry.root, length-append e.entry.term number)
+
+pub dictionary-short : (dict : List ShownEntry) → All IsShownInRange dict → All (λ (s : tree.Shown). length s.1 ≤ 127) (map shown_entry dict)
+dictionary-short [] ranges = All-nil _
+dictionary-short (e ∷ dict) ranges =
+    All-cons (λ (s : tree.Shown). length s.1 ≤ 127) (shown_entry e) (map shown_entry dict) (entry-short e (All-head IsShownInRange e dict ranges))
+    (dictionary-short dict (All-tail IsShownInRange e dict ranges))
+
+term-short : (t : ShownTerm) → IsTermInRange t → IsShort (shown_term t)
+unfolding terms.leaf_bytes
+term-short t range =
+    let two : length (to_be_bytes w16 t.term.1) ≡ 2 = refl
+    in omega (arith, range.few, length-append t.term.0 (to_be_bytes w16 t.term.1))
+
+pub terms-short : (leaves : List ShownTerm) → All IsTermInRange leaves → All (λ (s : tree.Shown). length s.1 ≤ 127) (map shown_term leaves)
+terms-short [] ranges = All-nil _
+terms-short (t ∷ leaves) ranges =
+    All-cons (λ (s : tree.Shown). length s.1 ≤ 127) (shown_term t) (map shown_term leaves) (term-short t (All-head IsTermInRange t leaves ranges))
+    (terms-short leaves (All-tail IsTermInRange t leaves ranges))
+
+pub documents-short : (met : List ℕ) (leaves : List DocLeaf) → All IsDocLeafInRange leaves → All (λ (s : tree.Shown). length s.1 ≤ 127) (shown_docs met leaves)
+documents-short [] leaves ranges = All-nil _
+documents-short (id ∷ met) [] ranges = All-nil _
+documents-short (id ∷ met) (leaf ∷ leaves) ranges =
+    let first : tree.Shown = (id, doc_leaf_bytes leaf.leaves leaf.root)
+    in let range : IsDocLeafInRange leaf = All-head IsDocLeafInRange leaf leaves ranges
+    in let four : length (to_be_bytes w32 leaf.leaves) ≡ 4 = refl
+    in All-cons (λ (s : tree.Shown). length s.1 ≤ 127) first (shown_docs met leaves)
+    (omega (arith, range.sized, length-append (to_be_bytes w32 leaf.leaves) leaf.root))
+    (documents-short met leaves (All-tail IsDocLeafInRange leaf leaves ranges))
+
+pub list-short : (at : ℕ) (met : List ℕ) (entries : List Entry) → All (λ (s : tree.Shown). length s.1 ≤ 127) (shown_list at met entries)
+list-short at met [] = All-nil _
+list-short at met (e ∷ entries) =
+    let first : tree.Shown = (at, leaf_bytes (named met e))
+    in All-cons (λ (s : tree.Shown). length s.1 ≤ 127) first (shown_list (at + 1) met entries) (omega arith) (list-short (at + 1) met entries)
+
+-- ---- the parts that are left to be looked through
+
+-- strings of which the first part has no collision
+pub none_first : (H : List ℕ → List ℕ) (own : TreePlace → Option (List ℕ)) (a b : List (Hashed TreePlace)) → None ≡ first_collision H own a
+    → first_collision H own (a ++ b) ≡ first_collision H own b
+none_first H own a b none = collision-append H own a b ∙ ap (λ c. option_or c (first_collision H own b)) (sym none)
+
+-- strings of which the first part has one
+pub one_first : (H : List ℕ → List ℕ) (own : TreePlace → Option (List ℕ)) (a b : List (Hashed TreePlace)) (c : Difference TreePlace) → Some c ≡ first_collision H own a
+    → Some c ≡ first_collision H own (a ++ b)
+one_first H own a b c one = sym (collision-append H own a b ∙ ap (λ d. option_or d (first_collision H own b)) (sym one))
+
+-- of parts one after another
+module _ {X : Type 0} (H : List ℕ → List ℕ) (own : TreePlace → Option (List ℕ)) (f : X → List (Hashed TreePlace)) where
+  -- the first one has a collision
+  pub found_here : (xs : List X) (x : X) (rest : List X) (c : Difference TreePlace) → xs ≡ x ∷ rest → Some c ≡ first_collision H own (f x)
+      → Some c ≡ first_collision H own (flat_map f xs)
+  found_here xs x rest c is one = one_first H own (f x) (flat_map f rest) c one ∙ ap (λ (ys : List X). first_collision H own (flat_map f ys)) (sym is)
+
+  -- it has none
+  pub not_here : (xs : List X) (x : X) (rest : List X) → xs ≡ x ∷ rest → None ≡ first_collision H own (f x)
+      → first_collision H own (flat_map f xs) ≡ first_collision H own (flat_map f rest)
+  not_here xs x rest is none = ap (λ (ys : List X). first_collision H own (flat_map f ys)) is ∙ none_first H own (f x) (flat_map f rest) none
+
+-- what holds of all elements holds of all but the first
+pub later_all : {X : Type 0} (P : X → Type 0) (xs : List X) → All P xs → All P (drop 1 xs)
+later_all P [] all = all
+later_all P (x ∷ xs) all = All-tail P x xs all
+
+-- ---- the met documents, where they are shown
+
+module _ (H : List ℕ → List ℕ) (own : TreePlace → Option (List ℕ)) (header : Numbers) (met : List ℕ) (shown : Option Documents) (docs : Documents) (n : ℕ)
+    (leaves : List tree.Shown) (ds : List (List ℕ)) (is : shown ≡ Some docs) (is_n : n ≡ header.documents) (is_leaves : leaves ≡ shown_docs met docs.leaves) (is_ds : ds ≡ docs.digests) where
+  abbrev top : List (Hashed TreePlace)
+  top = strings_in H DocumentsTree header.documents (shown_docs met docs.leaves) docs.digests
+
+  abbrev below : List (Hashed TreePlace)
+  below = flat_map (terms_strings H) (documents_from met docs.leaves docs.sections)
+
+  top_is : strings_in H DocumentsTree n leaves ds ≡ top
+  top_is = ap (λ k. strings_in H DocumentsTree k leaves ds) is_n ∙ ap₂ (λ a b. strings_in H DocumentsTree header.documents a b) is_leaves is_ds
+
+  whole_is : top ++ below ≡ documents_strings H header met shown
+  whole_is = ap (documents_strings H header met) (sym is)
+
+  pub documents_found : (c : Difference TreePlace) → Some c ≡ first_collision H own (strings_in H DocumentsTree n leaves ds)
+      → Some c ≡ first_collision H own (documents_strings H header met shown)
+  documents_found c one = one_first H own top below c (one ∙ ap (first_collision H own) top_is) ∙ ap (first_collision H own) whole_is
+
+  pub documents_later : (later : Option (Difference TreePlace)) → None ≡ first_collision H own (strings_in H DocumentsTree n leaves ds)
+      → later ≡ first_collision H own below → later ≡ first_collision H own (documents_strings H header met shown)
+  documents_later later none found =
+      found ∙ sym (none_first H own top below (none ∙ ap (first_collision H own) top_is)) ∙ ap (first_collision H own) whole_is
+
+  pub documents_rebuild : AreDocsRooted H header met shown → IsSome (rebuilt H n leaves ds)
+  documents_rebuild rooted =
+      let root : rebuilt H header.documents (shown_docs met docs.leaves) docs.digests ≡ Some header.docs_root = subst (AreDocsRooted H header met) is rooted
+      in rebuilds_by H n header.documents leaves (shown_docs met docs.leaves) ds docs.digests header.docs_root is_n is_leaves is_ds root

@@ -1,0 +1,89 @@
+use Rattle.std.proofs.Common.{◌≡◌, ◌+◌, ◌<◌, ◌∙◌, ℕ, List, [], ◌∷◌, length, drop, Option, Some, None, refl, sym, ap, subst, arith}
+use Rattle.std.specs.List.{All, flat_map}
+use Rattle.std.specs.Option.{option_map}
+use Rattle.std.proofs.lemmas.List.Elements.{All-head, All-tail}
+use Rattle.std.proofs.Math.ListN.{drop_of_length-le}
+use Rattle.ats_tree.specs.Differences.{Hashed, Difference, first_collision}
+use Rattle.ats_commit.specs.Ours.{TreePlace, ours}
+use Rattle.ats_proof.specs.Value.{Prefix, Proof, present_in, layout_of}
+use Rattle.ats_proof.specs.Reading.{prefix_size, prefix_in, slots_in, lists_place}
+use Rattle.ats_proof.specs.Views.{proof_of}
+use Rattle.ats_proof.proofs.Runs.{length-parts}
+use Rattle.ats_client.specs.Groups.{IsListRight}
+use Rattle.ats_client.specs.Lists.{prefixes_left, presented_of}
+use Rattle.ats_client.specs.Presented.{Presented, presented, presented_from}
+use Rattle.ats_client.specs.Sections.{difference_of}
+use Rattle.ats_client.specs.Seen.{entries_left}
+use Rattle.ats_client.specs.Strings.{list_strings}
+use Rattle.ats_client.proofs.Sections.{found_here, not_here}
+use Rattle.ats_client.proofs.clashing.lists.Goals as goal
+use Rattle.ats_client.proofs.clashing.lists.Goals.{in-Some+in_default-list, in_default}
+
+pub loop-i-init : goal.loop-i-init
+unfolding prefixes_left entries_left
+loop-i-init g c =
+    let H = g.H.HashKind.hash in
+    let query = c.args.query.now in
+    let proof : Proof = proof_of c.args.proof.now in
+    let bytes = c.args.proof.now.bytes.now in
+    let all : prefixes_left c.lists-left.result ≡ proof.lists = c.lists-left.ensures in
+    let size : length proof.lists ≡ present_in proof.slots = length-parts prefix_size prefix_in (present_in (slots_in bytes)) (drop (lists_place bytes) bytes) in
+    let here : presented query proof ≡ presented_from proof.dict 0 query proof.slots (prefixes_left c.lists-left.result) =
+    ap (λ (l : List Prefix). presented_from proof.dict 0 query proof.slots l) (sym all) in
+    record {
+      looked = ap (λ (ones : List Presented). first_collision H (ours H (g.O.OwnStrings.archive c.args.own.now) query) (flat_map (list_strings H (layout_of proof) proof.met) ones)) here;
+      right = subst (All (IsListRight H (layout_of proof) proof.met)) here c.requires.right;
+      enough = sym (ap (λ (l : List Prefix). length l) all ∙ size);
+      dict = ap entries_left c.over-walk.ensures ∙ c.dict.ensures.entries;
+      cost = omega arith;
+    }
+
+pub list-requires-clause-right : goal.list-requires-clause-right
+list-requires-clause-right g c =
+    let proof : Proof = proof_of c.args.proof.now in
+    let i : ℕ = c.loop-i.i in
+    let after : List Presented = presented_from proof.dict (i + 1) (drop (i + 1) c.args.query.now) (drop (i + 1) proof.slots) (prefixes_left c.present.new.left) in
+    All-head (IsListRight g.H.HashKind.hash (layout_of proof) proof.met) (presented_of c.in-Some.one) after
+    (subst (All (IsListRight g.H.HashKind.hash (layout_of proof) proof.met)) c.in-Some.ensures.some c.loop-i.invariant.right)
+
+pub returns-in-Some-list-clause-clash : goal.returns-in-Some-list-clause-clash
+returns-in-Some-list-clause-clash g c =
+    let H = g.H.HashKind.hash in
+    let query = c.args.query.now in
+    let proof : Proof = proof_of c.args.proof.now in
+    let i : ℕ = c.loop-i.i in
+    let left : List Presented = presented_from proof.dict i (drop i query) (drop i proof.slots) (prefixes_left c.loop-i.left) in
+    let after : List Presented = presented_from proof.dict (i + 1) (drop (i + 1) query) (drop (i + 1) proof.slots) (prefixes_left c.present.new.left) in
+    found_here H (ours H (g.O.OwnStrings.archive c.args.own.now) query) (list_strings H (layout_of proof) proof.met) left (presented_of c.in-Some.one) after
+    (difference_of c.in-Some-list.clash) c.in-Some.ensures.some c.in-Some-list.ensures.clash
+    ∙ sym c.loop-i.invariant.looked
+
+pub loop-i-preserved : goal.loop-i-preserved
+loop-i-preserved g c =
+    let H = g.H.HashKind.hash in
+    let query = c.args.query.now in
+    let proof : Proof = proof_of c.args.proof.now in
+    let i : ℕ = c.loop-i.i in
+    let left : List Presented = presented_from proof.dict i (drop i query) (drop i proof.slots) (prefixes_left c.loop-i.left) in
+    let after : List Presented = presented_from proof.dict (i + 1) (drop (i + 1) query) (drop (i + 1) proof.slots) (prefixes_left c.present.new.left) in
+    elim c.match-present.branch [
+      | in-Some+in_default-list w ↦ record {
+        looked = c.loop-i.invariant.looked
+            ∙ not_here H (ours H (g.O.OwnStrings.archive c.args.own.now) query) (list_strings H (layout_of proof) proof.met) left (presented_of w.in-Some.one) after
+            w.in-Some.ensures.some w.in_default-list.ensures.clash;
+        right = All-tail (IsListRight H (layout_of proof) proof.met) (presented_of w.in-Some.one) after
+            (subst (All (IsListRight H (layout_of proof) proof.met)) w.in-Some.ensures.some c.loop-i.invariant.right);
+        enough = w.in-Some.ensures.enough;
+        dict = ap entries_left w.in-Some.ensures.dict ∙ c.loop-i.invariant.dict;
+        cost = omega (arith, w.steps-is, w.list.ensures.cost, w.in-Some.ensures.cost, c.loop-i.invariant.cost);
+      }
+      | in_default w ↦ record {
+        looked = c.loop-i.invariant.looked
+            ∙ ap (λ (ones : List Presented). first_collision H (ours H (g.O.OwnStrings.archive c.args.own.now) query) (flat_map (list_strings H (layout_of proof) proof.met) ones))
+            w.in_default.ensures.none;
+        right = subst (All (IsListRight H (layout_of proof) proof.met)) w.in_default.ensures.none c.loop-i.invariant.right;
+        enough = w.in_default.ensures.enough;
+        dict = ap entries_left w.in_default.ensures.dict ∙ c.loop-i.invariant.dict;
+        cost = omega (arith, w.steps-is, w.in_default.ensures.cost, c.loop-i.invariant.cost);
+      }
+    ]

@@ -1,0 +1,28 @@
+-- When the sections of a proof rebuild, and the two strings that are told of them.
+use Rattle.std.specs.Prelude.{◌≡◌, ◌<◌, ◌^◌, ℕ, List, length}
+use Rattle.std.specs.List.{All}
+use Rattle.ats_tree.specs.Differences.{Difference}
+use Rattle.ats_commit.specs.Ours.{TreePlace}
+use Rattle.ats_commit.specs.Places.{tree_place}
+use Rattle.ats_proof.specs.Value.{Proof}
+use Rattle.ats_client.specs.Documents.{IsDocsTree, IsTermsTree, met_documents}
+use Rattle.ats_client.specs.Groups.{IsDictionary, AreSlotsRight, AreListsRight}
+use Rattle.ats_client.specs.declared.clashing.Clash.{Clash}
+
+-- there is a slot for each term of the query, which shows it; the dictionary and the documents rebuild to roots of the
+-- header, each list to the root of its term's shown leaf, and each document's terms to the root of its shown leaf
+pub record AreRebuilt (H : List ℕ → List ℕ) (query : List (List ℕ × ℕ)) (proof : Proof) : Type 0 where
+  pub count : length proof.slots ≡ length query
+  pub dictionary : IsDictionary H proof
+  pub slots : AreSlotsRight query proof
+  pub lists : AreListsRight H query proof
+  pub documents : IsDocsTree H proof
+  pub terms : All (IsTermsTree H) (met_documents proof)
+
+-- the two strings at one place that a clash tells
+abbrev pub difference_of : Clash → Difference TreePlace
+difference_of clash = record { place = tree_place clash.place; ours = clash.ours; theirs = clash.theirs }
+
+-- no turn is told beyond the depth of the place
+abbrev pub HasPlace : Clash → Type 0
+HasPlace clash = clash.place.turns < 2 ^ clash.place.depth

@@ -1,0 +1,305 @@
+//! The first string of a proof where an archive's own is another one with an equal digest.
+
+ghost use Rattle.std.specs.Prelude.{◌≡◌, ℕ, ◌+◌, ◌*◌, ◌^◌, ◌<◌, ◌≤◌, List, [], ◌∷◌, length, map, All, IsSome, IfSome, IfOk, option_map};
+ghost use Rattle.std.specs.List.{flat_map};
+ghost use Rattle.ats_tree.specs.Differences.{first_collision};
+ghost use Rattle.ats_tree.specs.Rebuild.{rebuilt};
+ghost use Rattle.ats_commit.specs.Ours.{ours};
+ghost use Rattle.ats_commit.specs.Places.{IsOfQuery};
+ghost use Rattle.ats_proof.specs.Ranges.{IsSectionInRange, AreDocumentsInRange};
+ghost use Rattle.ats_proof.specs.Runs.{shown_entry};
+ghost use Rattle.ats_proof.specs.SeenDocs.{documents_of, ids_of};
+ghost use Rattle.ats_proof.specs.Value.{layout_of};
+ghost use Rattle.ats_proof.specs.Views.{proof_of};
+ghost use Rattle.ats_client.specs.Documents.{IsDocsTree, IsTermsTree, documents_from, met_documents};
+ghost use Rattle.ats_client.specs.Groups.{IsDictionary, AreSlotsRight, IsListRight, AreListsRight};
+ghost use Rattle.ats_client.specs.Lists.{presented_of};
+ghost use Rattle.ats_client.specs.Presented.{presented};
+ghost use Rattle.ats_client.specs.Sections.{AreRebuilt, difference_of, HasPlace};
+ghost use Rattle.ats_client.specs.SeenTerms.{document_of};
+ghost use Rattle.ats_client.specs.Strings.{hashed_header, strings_in, list_strings, terms_strings, documents_strings, extract};
+
+use crate::one_tree::OneTree;
+use crate::present::Present;
+use crate::presenting::present;
+use crate::walk::Walk;
+use ats_commit::{OwnStrings, root_of_header, string_of_header};
+use ats_hash::{Hash32, Steps};
+use ats_impact::OutOfMemory;
+use ats_proof::{DocView, DocsView, ProofView};
+use ats_terms::Query;
+use ats_tree::{HashedString, Place, Revealed, Tree, collides};
+use std::alloc::Global;
+use std::marker::PhantomData;
+
+/// Two different strings with equal digests at one place: the archive's own, and the one that a proof has hashed.
+#[derive(Clone, Copy, Debug, PartialEq, Eq)]
+pub struct Clash {
+    /// The tree, and the turns from its root. Digits of the turns above the depth are 0.
+    pub place: Place,
+    /// The archive's own string.
+    pub ours: HashedString,
+    /// The string that rebuilding the proof hashes.
+    pub theirs: HashedString,
+}
+
+/// The first clash between an archive's own strings and those that rebuilding a proof hashes: the header's
+/// string comes first, then those of the dictionary, of each shown list in the order of terms, of the documents
+/// tree, and of each met document's terms. It takes no memory.
+pub fn first_clash<'a, H: Hash32, O: OwnStrings<H>>(
+    alloc: Global,
+    own: &O,
+    query: &Query,
+    proof: &ProofView<'a>,
+) -> Result<Option<Clash>, OutOfMemory>
+    requires { AreRebuilt H.hash query.now (proof_of proof.now) }
+    ensures clash { IfOk result (λ clash. option_map difference_of clash ≡ extract H.hash (O.archive own.now) query.now (proof_of proof.now)) }
+    ensures place { IfOk result (λ clash. IfSome clash HasPlace) }
+{
+    let mut steps = Steps::new(alloc);
+    Ok(in_proof::<H, O>(own, query, proof, &mut steps))
+}
+
+// The first clash, section by section.
+fn in_proof<'a, H: Hash32, O: OwnStrings<H>>(
+    own: &O,
+    query: &Query,
+    proof: &ProofView<'a>,
+    steps: &mut Steps,
+) -> Option<Clash>
+    requires rebuilt { AreRebuilt H.hash query.now (proof_of proof.now) }
+    requires room { steps.old ≤ 2 ^ 32 }
+    ensures clash { option_map difference_of result ≡ extract H.hash (O.archive own.now) query.now (proof_of proof.now) }
+    ensures place { IfSome result HasPlace }
+{
+    if let Some(clash) = header::<H, O>(own, query, proof, steps) {
+        return Some(clash);
+    }
+    if let Some(clash) = dictionary::<H, O>(own, query, proof, steps) {
+        return Some(clash);
+    }
+    if let Some(clash) = lists::<H, O>(own, query, proof, steps) {
+        return Some(clash);
+    }
+    documents::<H, O>(own, query, proof, steps)
+}
+
+// The header's string.
+fn header<'a, H: Hash32, O: OwnStrings<H>>(
+    own: &O,
+    query: &Query,
+    proof: &ProofView<'a>,
+    steps: &mut Steps,
+) -> Option<Clash>
+    requires room { steps.old ≤ 2 ^ 63 }
+    ensures clash { option_map difference_of result
+        ≡ first_collision H.hash (ours H.hash (O.archive own.now) query.now) (hashed_header (layout_of (proof_of proof.now)) (proof_of proof.now).header ∷ []) }
+    ensures place { IfSome result HasPlace }
+    ensures cost { steps.new ≤ steps.old + 2 }
+{
+    let place = Place {
+        tree: Tree::Header,
+        depth: 0,
+        turns: 0,
+    };
+    let header = proof.header();
+    let theirs = string_of_header(&header);
+    let digest = root_of_header::<H>(&header, steps);
+    match own.hashed_string(&place, query) {
+        Some(ours) if collides::<H>(&ours, &theirs, &digest, steps) => Some(Clash {
+            place,
+            ours,
+            theirs,
+        }),
+        _ => None,
+    }
+}
+
+// The strings of one tree, which rebuilds.
+fn in_tree<'a, H: Hash32, O: OwnStrings<H>, R: Revealed<'a>>(
+    own: &O,
+    query: &Query,
+    tree: Tree,
+    leaves: u32,
+    revealed: &mut R,
+    steps: &mut Steps,
+) -> Option<Clash>
+    requires asked { IsOfQuery query.now tree }
+    requires rebuilds { IsSome (rebuilt H.hash leaves (R.shown revealed.old) (R.digests revealed.old)) }
+    requires short { All (λ s. length s.1 ≤ 127) (R.shown revealed.old) }
+    requires room { steps.old ≤ 2 ^ 63 }
+    ensures clash { option_map difference_of result
+        ≡ first_collision H.hash (ours H.hash (O.archive own.now) query.now) (strings_in H.hash tree leaves (R.shown revealed.old) (R.digests revealed.old)) }
+    ensures place { IfSome result HasPlace }
+    ensures cost { steps.new ≤ steps.old + 2 ^ 35 }
+{
+    let nodes: OneTree<'_, H, O> = OneTree {
+        own,
+        query,
+        tree,
+        kind: PhantomData,
+    };
+    match ats_tree::first_clash::<H, R, _>(leaves, revealed, &nodes, steps) {
+        Some(clash) => Some(Clash {
+            place: Place {
+                tree,
+                depth: clash.depth,
+                turns: clash.turns,
+            },
+            ours: clash.ours,
+            theirs: clash.theirs,
+        }),
+        None => None,
+    }
+}
+
+// The strings of the dictionary section.
+fn dictionary<'a, H: Hash32, O: OwnStrings<H>>(
+    own: &O,
+    query: &Query,
+    proof: &ProofView<'a>,
+    steps: &mut Steps,
+) -> Option<Clash>
+    requires kept { IsDictionary H.hash (proof_of proof.now) }
+    requires room { steps.old ≤ 2 ^ 63 }
+    ensures clash { option_map difference_of result ≡ first_collision H.hash (ours H.hash (O.archive own.now) query.now)
+        (strings_in H.hash Tree.Dictionary (proof_of proof.now).header.dict_leaves (map shown_entry (proof_of proof.now).dict) (proof_of proof.now).dict_digests) }
+    ensures place { IfSome result HasPlace }
+    ensures cost { steps.new ≤ steps.old + 2 ^ 35 }
+{
+    let leaves = proof.header().dict_leaves;
+    let mut section = proof.dict();
+    in_tree::<H, O, _>(own, query, Tree::Dictionary, leaves, &mut section, steps)
+}
+
+// The strings of the prefix of a present term.
+#[tactic(auto, unfolding(crate::specs::Lists::prefix_of))]
+fn list<'a, H: Hash32, O: OwnStrings<H>>(
+    own: &O,
+    query: &Query,
+    proof: &ProofView<'a>,
+    one: &Present<'a>,
+    steps: &mut Steps,
+) -> Option<Clash>
+    requires number { one.now.number < length query.now }
+    requires few { one.now.number < 32 }
+    requires right { IsListRight H.hash (layout_of (proof_of proof.now)) (proof_of proof.now).met (presented_of one.now) }
+    requires room { steps.old ≤ 2 ^ 63 }
+    ensures clash { option_map difference_of result ≡ first_collision H.hash (ours H.hash (O.archive own.now) query.now)
+        (list_strings H.hash (layout_of (proof_of proof.now)) (proof_of proof.now).met (presented_of one.now)) }
+    ensures place { IfSome result HasPlace }
+    ensures cost { steps.new ≤ steps.old + 2 ^ 35 }
+{
+    let tree = Tree::List {
+        term: one.number as u8,
+    };
+    let mut section = one.list.revealed(proof);
+    in_tree::<H, O, _>(own, query, tree, one.entry.f, &mut section, steps)
+}
+
+// The strings of the prefixes of all present terms.
+fn lists<'a, H: Hash32, O: OwnStrings<H>>(
+    own: &O,
+    query: &Query,
+    proof: &ProofView<'a>,
+    steps: &mut Steps,
+) -> Option<Clash>
+    requires each { length (proof_of proof.now).slots ≡ length query.now }
+    requires slots { AreSlotsRight query.now (proof_of proof.now) }
+    requires right { AreListsRight H.hash query.now (proof_of proof.now) }
+    requires room { steps.old ≤ 2 ^ 62 }
+    ensures clash { option_map difference_of result ≡ first_collision H.hash (ours H.hash (O.archive own.now) query.now)
+        (flat_map (list_strings H.hash (layout_of (proof_of proof.now)) (proof_of proof.now).met) (presented query.now (proof_of proof.now))) }
+    ensures place { IfSome result HasPlace }
+    ensures cost { steps.new ≤ steps.old + 2 ^ 41 }
+{
+    let mut walk = Walk::over(proof.dict());
+    let mut left = proof.lists();
+    for i in 0..query.len() {
+        if let Some(one) = present(query, proof, i as u32, &mut walk, &mut left, steps) {
+            if let Some(clash) = list::<H, O>(own, query, proof, &one, steps) {
+                return Some(clash);
+            }
+        }
+    }
+    None
+}
+
+// The strings of what is shown of the met documents.
+fn documents<'a, H: Hash32, O: OwnStrings<H>>(
+    own: &O,
+    query: &Query,
+    proof: &ProofView<'a>,
+    steps: &mut Steps,
+) -> Option<Clash>
+    requires tree { IsDocsTree H.hash (proof_of proof.now) }
+    requires terms { All (IsTermsTree H.hash) (met_documents (proof_of proof.now)) }
+    requires room { steps.old ≤ 2 ^ 62 }
+    ensures clash { option_map difference_of result ≡ first_collision H.hash (ours H.hash (O.archive own.now) query.now)
+        (documents_strings H.hash (proof_of proof.now).header (proof_of proof.now).met (proof_of proof.now).docs) }
+    ensures place { IfSome result HasPlace }
+{
+    let docs = proof.docs()?;
+    let leaves = proof.header().documents;
+    let mut section = docs.revealed(proof);
+    if let Some(clash) = in_tree::<H, O, _>(
+        own,
+        query,
+        Tree::Documents,
+        leaves,
+        &mut section,
+        steps,
+    ) {
+        return Some(clash);
+    }
+    each::<H, O>(docs, own, query, proof, steps)
+}
+
+// The strings of what is shown of the terms of each met document.
+fn each<'a, H: Hash32, O: OwnStrings<H>>(
+    docs: DocsView<'a>,
+    own: &O,
+    query: &Query,
+    proof: &ProofView<'a>,
+    steps: &mut Steps,
+) -> Option<Clash>
+    requires met { ids_of docs ≡ (proof_of proof.now).met }
+    requires range { AreDocumentsInRange (documents_of docs) }
+    requires right { All (IsTermsTree H.hash) (documents_from (proof_of proof.now).met (documents_of docs).leaves (documents_of docs).sections) }
+    requires room { steps.old ≤ 2 ^ 62 + 2 ^ 50 }
+    ensures clash { option_map difference_of result ≡ first_collision H.hash (ours H.hash (O.archive own.now) query.now)
+        (flat_map (terms_strings H.hash) (documents_from (proof_of proof.now).met (documents_of docs.entry).leaves (documents_of docs.entry).sections)) }
+    ensures place { IfSome result HasPlace }
+{
+    let mut left = docs;
+    for _index in 0..proof.met() {
+        let Some(doc) = left.next(steps) else {
+            return None;
+        };
+        if let Some(clash) = terms::<H, O>(&doc, own, query, steps) {
+            return Some(clash);
+        }
+    }
+    None
+}
+
+// The strings of what is shown of one document's terms.
+fn terms<'a, H: Hash32, O: OwnStrings<H>>(
+    doc: &DocView<'a>,
+    own: &O,
+    query: &Query,
+    steps: &mut Steps,
+) -> Option<Clash>
+    requires range { IsSectionInRange (document_of doc.now).section }
+    requires right { IsTermsTree H.hash (document_of doc.now) }
+    requires room { steps.old ≤ 2 ^ 63 }
+    ensures clash { option_map difference_of result
+        ≡ first_collision H.hash (ours H.hash (O.archive own.now) query.now) (terms_strings H.hash (document_of doc.now)) }
+    ensures place { IfSome result HasPlace }
+    ensures cost { steps.new ≤ steps.old + 2 ^ 35 }
+{
+    let tree = Tree::Terms { doc: doc.doc() };
+    let leaves = doc.leaf().leaves;
+    let mut section = doc.terms();
+    in_tree::<H, O, _>(own, query, tree, leaves, &mut section, steps)
+}

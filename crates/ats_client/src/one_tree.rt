@@ -1,0 +1,36 @@
+//! The strings of one tree of an archive.
+
+ghost use Rattle.std.specs.Prelude.{◌≡◌, ℕ, ◌<◌, length};
+ghost use Rattle.ats_tree.specs.declared.hashed.Tree.TheVariants.{List as ListOf};
+
+use ats_commit::OwnStrings;
+use ats_hash::Hash32;
+use ats_terms::Query;
+use ats_tree::{HashedString, OwnNodes, Place, Tree};
+use std::marker::PhantomData;
+
+/// One tree of an archive, by the nodes of which its strings are told.
+#[derive(Drop)]
+pub(crate) struct OneTree<'r, H, O> {
+    pub(crate) own: &'r O,
+    pub(crate) query: &'r Query,
+    pub(crate) tree: Tree,
+    pub(crate) kind: PhantomData<H>,
+    pub ghost asked: { (term : ℕ) → tree ≡ ListOf term → term < length query.now },
+}
+
+impl<H: Hash32, O: OwnStrings<H>> OwnNodes for OneTree<'_, H, O> {
+    ghost use Rattle.ats_client.specs.Strings.{in_tree};
+    ghost use Rattle.ats_commit.specs.Ours.{ours};
+
+    ghost ours = { λ s node. ours H.hash (O.archive s.own.now) s.query.now (in_tree s.tree node) };
+
+    fn at(&self, depth: u8, turns: u32) -> Option<HashedString> {
+        let place = Place {
+            tree: self.tree,
+            depth,
+            turns,
+        };
+        self.own.hashed_string(&place, self.query)
+    }
+}

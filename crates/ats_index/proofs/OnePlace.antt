@@ -1,0 +1,314 @@
+-- Bytes have one place of fault at most, and an archive's index has none.
+use Rattle.std.proofs.Common.{◌≡◌, ◌≢◌, ◌⊎◌, inl, inr, ◌<◌, ◌≤◌, ◌^◌, ◌∙◌, ℕ, List, [], ◌∷◌, ◌++◌, length, drop, refl, sym, ap, ap₂, subst, arith, append_assoc, length-append}
+use Rattle.std.specs.Prelude.{codes, sum_by, nat_eq}
+use Rattle.std.specs.Int.{to_be_bytes, w32}
+use Rattle.std.specs.List.{All, flat_map, common_prefix_len}
+use Rattle.std.specs.Str.{IsUtf8}
+use Rattle.std.proofs.lemmas.List.Elements.{All-head, All-tail}
+use Rattle.std.proofs.lemmas.List.Sums.{sum_by-append, sum_by-cons}
+use Rattle.byteorder.specs.Endian.{big_number}
+use Rattle.byteorder.specs.Numbers.{big_number-reads_back}
+use Rattle.ats_impact.specs.Limits.{AllShort}
+use Rattle.ats_commit.specs.Archive.{Archive, archive_of}
+use Rattle.ats_index.specs.Spelling.{IsSpelling, front_bytes, text_bytes, index_bytes}
+use Rattle.ats_index.specs.FirstPart.{Field, Magic, Version, Documents, TextLength, TextBytes, IsRoom, AreFirst, IsReached, IsGood, front_of}
+use Rattle.ats_index.specs.LoadFaults.{BeginWith, IsLoadFault}
+use Rattle.ats_index.specs.declared.load.LoadFault.TheVariants.{BadIndex}
+use Rattle.ats_index.proofs.Reading.{front_number, front_rest}
+use Rattle.ats_index.proofs.Loading.{same_archive}
+use Rattle.ats_index.proofs.OneArchive.{text_tells, front_first, one_beginning, spelled_begins}
+
+-- ---- two runs of texts in the same bytes
+
+-- the first run has one text more at least, which stands behind the second
+record Longer (texts others : List (List ℕ)) (behind : List ℕ) : Type 0 where
+  text : List ℕ
+  more : List (List ℕ)
+  rest : List ℕ
+  are : texts ≡ others ++ text ∷ more
+  next : behind ≡ text_bytes text ++ rest
+
+-- they are the same, or one of them is longer
+abbrev Meet : List (List ℕ) → List (List ℕ) → List ℕ → List ℕ → Type 0
+Meet texts others a b = ((texts ≡ others) × (a ≡ b)) ⊎ (Longer texts others b ⊎ Longer others texts a)
+
+longer_by : (text : List ℕ) (texts others : List (List ℕ)) (other b : List ℕ) → text ≡ other → Longer texts others b → Longer (text ∷ texts) (other ∷ others) b
+longer_by text texts others other b same longer = record {
+  text = longer.text;
+  more = longer.more;
+  rest = longer.rest;
+  are = ap₂ (λ one some. one ∷ some) same longer.are;
+  next = longer.next;
+}
+
+meet_by : (text other : List ℕ) (texts others : List (List ℕ)) (a b : List ℕ) → text ≡ other → Meet texts others a b → Meet (text ∷ texts) (other ∷ others) a b
+meet_by text other texts others a b same (inl is) = inl (ap₂ (λ one some. one ∷ some) same is.0, is.1)
+meet_by text other texts others a b same (inr (inl longer)) = inr (inl (longer_by text texts others other b same longer))
+meet_by text other texts others a b same (inr (inr longer)) = inr (inr (longer_by other others texts text a (sym same) longer))
+
+meet : (texts others : List (List ℕ)) (a b : List ℕ) → AllShort texts → AllShort others → flat_map text_bytes texts ++ a ≡ flat_map text_bytes others ++ b
+    → Meet texts others a b
+meet [] [] a b short short' same = inl (refl, same)
+meet (text ∷ texts) [] a b short short' same =
+    inr (inl (record { text = text; more = texts; rest = flat_map text_bytes texts ++ a; are = refl; next = sym same ∙ append_assoc (text_bytes text) (flat_map text_bytes texts) a }))
+meet [] (other ∷ others) a b short short' same =
+    inr (inr (record { text = other; more = others; rest = flat_map text_bytes others ++ b; are = refl; next = same ∙ append_assoc (text_bytes other) (flat_map text_bytes others) b }))
+meet (text ∷ texts) (other ∷ others) a b short short' same =
+    let Short : List ℕ → Type 0 = λ some. length some ≤ 2 ^ 20 in
+    let behind : List ℕ = flat_map text_bytes texts ++ a in
+    let behind' : List ℕ = flat_map text_bytes others ++ b in
+    let joined : text_bytes text ++ behind ≡ text_bytes other ++ behind' =
+    sym (append_assoc (text_bytes text) (flat_map text_bytes texts) a) ∙ same ∙ append_assoc (text_bytes other) (flat_map text_bytes others) b in
+    let head = text_tells (text_bytes text ++ behind) text other behind behind' (omega (arith, short 0 [] (omega arith))) (omega (arith, short' 0 [] (omega arith))) refl joined in
+    meet_by text other texts others a b head.0
+    (meet texts others a b (All-tail Short text texts short) (All-tail Short other others short') head.1)
+
+-- ---- a text more is good
+
+-- each is a text within the limits, and so are all together
+record AreGood (texts : List (List ℕ)) : Type 0 where
+  utf8 : All IsUtf8 texts
+  short : AllShort texts
+  small : sum_by length texts ≤ 2 ^ 24
+
+middle : (P : List ℕ → Type 0) (others : List (List ℕ)) (text : List ℕ) (more : List (List ℕ)) → All P (others ++ text ∷ more) → P text
+middle P [] text more all = All-head P text more all
+middle P (other ∷ others) text more all = middle P others text more (All-tail P other (others ++ text ∷ more) all)
+
+module _ (texts others : List (List ℕ)) (behind : List ℕ) (good : AreGood texts) (longer : Longer texts others behind) where
+  more_utf8 : IsUtf8 longer.text
+  more_utf8 = middle IsUtf8 others longer.text longer.more (subst (All IsUtf8) longer.are good.utf8)
+
+  more_short : length longer.text ≤ 2 ^ 20
+  more_short = middle (λ (text : List ℕ). length text ≤ 2 ^ 20) others longer.text longer.more (subst AllShort longer.are good.short)
+
+  more_room : IsRoom others (length longer.text)
+  more_room =
+      let Length : List ℕ → ℕ = λ (text : List ℕ). length text in
+      record {
+        short = more_short;
+        small = omega (
+          arith,
+          good.small,
+          ap (sum_by Length) longer.are,
+          sum_by-append Length others (longer.text ∷ longer.more),
+          sum_by-cons Length longer.text longer.more,
+        );
+      }
+
+  more_next : behind ≡ to_be_bytes w32 (length longer.text) ++ (longer.text ++ longer.rest)
+  unfolding text_bytes
+  more_next = longer.next
+
+-- no good field stands here
+abbrev NoneGood : Field → List ℕ → Type 0
+NoneGood field behind = (good rest : List ℕ) → IsGood field good → behind ≢ good ++ rest
+
+-- numbers that stand at one place are one, and so is what stands behind them
+numbers_tell : (m n : ℕ) (a b : List ℕ) → m < 2 ^ 32 → n < 2 ^ 32 → to_be_bytes w32 m ++ a ≡ to_be_bytes w32 n ++ b → (m ≡ n) × (a ≡ b)
+numbers_tell m n a b small small' same = (
+  sym (big_number-reads_back 4 m a small) ∙ ap (big_number 4) same ∙ big_number-reads_back 4 n b small',
+  ap (drop 4) same,
+)
+
+-- where one run of texts is longer, the field behind the other is good
+length_stands : (texts others : List (List ℕ)) (n : ℕ) (b : List ℕ) → AreGood texts → Longer texts others b → NoneGood (TextLength n others) b → ⊥
+length_stands texts others n b good longer bad =
+    bad (to_be_bytes w32 (length longer.text)) (longer.text ++ longer.rest) (length longer.text, more_room texts others b good longer, refl) (more_next texts others b good longer)
+
+bytes_stand : (texts others : List (List ℕ)) (n size : ℕ) (b : List ℕ) → AreGood texts → IsRoom others size → Longer texts others (to_be_bytes w32 size ++ b)
+    → NoneGood (TextBytes n others size) b → ⊥
+bytes_stand texts others n size b good room longer bad =
+    let tail : List ℕ = to_be_bytes w32 size ++ b in
+    let told = numbers_tell size (length longer.text) b (longer.text ++ longer.rest) (omega (arith, room.short)) (omega (arith, more_short texts others tail good longer))
+    (more_next texts others tail good longer) in
+    bad longer.text longer.rest (sym told.0, more_utf8 texts others tail good longer) told.1
+
+-- ---- a field that is bad, and texts behind it or with it
+
+-- bytes that are a front and then texts, as far as these are good: a field of the front is not bad
+abbrev IsEarly : Field → Type 0
+IsEarly Magic = Unit {0}
+IsEarly Version = Unit {0}
+IsEarly Documents = Unit {0}
+IsEarly _ = ⊥
+
+early_good : (field : Field) (b : List ℕ) (n : ℕ) (rest : List ℕ) → IsEarly field → 1 ≤ n → n ≤ 65536 → NoneGood field b → front_of field ++ b ≡ front_bytes n ++ rest → ⊥
+unfolding front_bytes
+early_good Magic b n rest early some few bad same = bad (codes "ATSI") (1 ∷ to_be_bytes w32 n ++ rest) refl same
+early_good Version b n rest early some few bad same = bad (1 ∷ []) (to_be_bytes w32 n ++ rest) refl (ap (drop 4) same)
+early_good Documents b n rest early some few bad same = bad (to_be_bytes w32 n) rest (n, some, few, refl) (ap (drop 5) same)
+early_good (TextLength m texts) b n rest early some few bad same = early
+early_good (TextBytes m texts size) b n rest early some few bad same = early
+
+-- what stands behind the front
+abbrev behind_front : Field → List ℕ → List ℕ
+behind_front (TextLength n texts) b = flat_map text_bytes texts ++ b
+behind_front (TextBytes n texts size) b = flat_map text_bytes texts ++ (to_be_bytes w32 size ++ b)
+behind_front _ b = b
+
+late_length : (n : ℕ) (texts : List (List ℕ)) (b : List ℕ) → front_of (TextLength n texts) ++ b ≡ front_bytes n ++ (flat_map text_bytes texts ++ b)
+late_length n texts b = append_assoc (front_bytes n) (flat_map text_bytes texts) b
+
+late_bytes : (n : ℕ) (texts : List (List ℕ)) (size : ℕ) (b : List ℕ)
+    → front_of (TextBytes n texts size) ++ b ≡ front_bytes n ++ (flat_map text_bytes texts ++ (to_be_bytes w32 size ++ b))
+late_bytes n texts size b =
+    append_assoc (front_bytes n ++ flat_map text_bytes texts) (to_be_bytes w32 size) b
+    ∙ append_assoc (front_bytes n) (flat_map text_bytes texts) (to_be_bytes w32 size ++ b)
+
+are_good : (n : ℕ) (texts : List (List ℕ)) → AreFirst n texts → AreGood texts
+are_good n texts first = record { utf8 = first.utf8; short = first.short; small = first.small }
+
+-- fronts with numbers of texts within the limits tell what stands behind them
+fronts_tell : (m n : ℕ) (a b : List ℕ) → m ≤ 65536 → n ≤ 65536 → front_bytes m ++ a ≡ front_bytes n ++ b → (m ≡ n) × (a ≡ b)
+fronts_tell m n a b few few' same =
+    let bytes : List ℕ = front_bytes m ++ a in (
+      sym (front_number bytes m a (omega arith) refl) ∙ front_number bytes n b (omega arith) same,
+      sym (front_rest bytes m a (omega arith) refl) ∙ front_rest bytes n b (omega arith) same,
+    )
+
+-- the bytes up to the last of some texts
+abbrev up_to : ℕ → List (List ℕ) → List ℕ
+up_to n texts = front_bytes n ++ flat_map text_bytes texts
+
+module _ (n m : ℕ) (texts others : List (List ℕ)) (first : AreFirst n texts) (second : AreFirst m others) where
+  good : AreGood texts
+  good = are_good n texts first
+
+  good' : AreGood others
+  good' = are_good m others second
+
+  told : (a b : List ℕ) → front_bytes n ++ (flat_map text_bytes texts ++ a) ≡ front_bytes m ++ (flat_map text_bytes others ++ b) → (n ≡ m) × Meet texts others a b
+  told a b same =
+      let fronts = fronts_tell n m (flat_map text_bytes texts ++ a) (flat_map text_bytes others ++ b) first.few second.few same in
+      (fronts.0, meet texts others a b first.short second.short fronts.1)
+
+  of_lengths : (a b : List ℕ) → NoneGood (TextLength n texts) a → NoneGood (TextLength m others) b → (n ≡ m) × Meet texts others a b
+      → length (up_to n texts) ≡ length (up_to m others)
+  of_lengths a b bad bad' (same, inl is) = ap₂ (λ k some. length (up_to k some)) same is.0
+  of_lengths a b bad bad' (same, inr (inl longer)) = absurd (length_stands texts others m b good longer bad')
+  of_lengths a b bad bad' (same, inr (inr longer)) = absurd (length_stands others texts n a good' longer bad)
+
+  -- of a length and the bytes behind it one is good
+  mixed : (size : ℕ) (a b : List ℕ) → IsRoom others size → NoneGood (TextLength n texts) a → NoneGood (TextBytes m others size) b
+      → (n ≡ m) × Meet texts others a (to_be_bytes w32 size ++ b) → ⊥
+  mixed size a b room bad bad' (same, inl is) =
+      bad (to_be_bytes w32 size) b (size, subst (λ (some : List (List ℕ)). IsRoom some size) (sym is.0) room, refl) is.1
+  mixed size a b room bad bad' (same, inr (inl longer)) = bytes_stand texts others m size b good room longer bad'
+  mixed size a b room bad bad' (same, inr (inr longer)) = length_stands others texts n a good' longer bad
+
+  of_bytes : (size size' : ℕ) (a b : List ℕ) → IsRoom texts size → IsRoom others size' → NoneGood (TextBytes n texts size) a → NoneGood (TextBytes m others size') b
+      → (n ≡ m) × Meet texts others (to_be_bytes w32 size ++ a) (to_be_bytes w32 size' ++ b)
+      → length (up_to n texts ++ to_be_bytes w32 size) ≡ length (up_to m others ++ to_be_bytes w32 size')
+  of_bytes size size' a b room room' bad bad' (same, inl is) =
+      let alike : length (up_to n texts) ≡ length (up_to m others) = ap₂ (λ k some. length (up_to k some)) same is.0 in
+      omega (arith, alike, length-append (up_to n texts) (to_be_bytes w32 size), length-append (up_to m others) (to_be_bytes w32 size'))
+  of_bytes size size' a b room room' bad bad' (same, inr (inl longer)) = absurd (bytes_stand texts others m size' b good room' longer bad')
+  of_bytes size size' a b room room' bad bad' (same, inr (inr longer)) = absurd (bytes_stand others texts n size a good' room longer bad)
+
+-- a field of the front that is bad, and one behind the front
+early_late : (field : Field) (n : ℕ) (texts : List (List ℕ)) (a b : List ℕ) → IsEarly field → AreFirst n texts → NoneGood field a
+    → front_of field ++ a ≡ front_bytes n ++ b → ⊥
+early_late field n texts a b early first bad same = early_good field a n b early first.some first.few bad same
+
+-- two first bad fields of the same bytes start at one place
+one_field : (f g : Field) (a b : List ℕ) → IsReached f → IsReached g → NoneGood f a → NoneGood g b → front_of f ++ a ≡ front_of g ++ b
+    → length (front_of f) ≡ length (front_of g)
+one_field Magic Magic a b reached reached' bad bad' same = refl
+one_field Magic Version a b reached reached' bad bad' same = absurd (bad (codes "ATSI") b refl same)
+one_field Magic Documents a b reached reached' bad bad' same = absurd (bad (codes "ATSI") (1 ∷ b) refl same)
+one_field Magic (TextLength m others) a b reached reached' bad bad' same =
+    absurd (early_late Magic m others a (flat_map text_bytes others ++ b) tt reached' bad (same ∙ late_length m others b))
+one_field Magic (TextBytes m others size) a b reached reached' bad bad' same =
+    absurd (early_late Magic m others a (flat_map text_bytes others ++ (to_be_bytes w32 size ++ b)) tt reached'.0 bad (same ∙ late_bytes m others size b))
+one_field Version Magic a b reached reached' bad bad' same = absurd (bad' (codes "ATSI") a refl (sym same))
+one_field Version Version a b reached reached' bad bad' same = refl
+one_field Version Documents a b reached reached' bad bad' same = absurd (bad (1 ∷ []) b refl (ap (drop 4) same))
+one_field Version (TextLength m others) a b reached reached' bad bad' same =
+    absurd (early_late Version m others a (flat_map text_bytes others ++ b) tt reached' bad (same ∙ late_length m others b))
+one_field Version (TextBytes m others size) a b reached reached' bad bad' same =
+    absurd (early_late Version m others a (flat_map text_bytes others ++ (to_be_bytes w32 size ++ b)) tt reached'.0 bad (same ∙ late_bytes m others size b))
+one_field Documents Magic a b reached reached' bad bad' same = absurd (bad' (codes "ATSI") (1 ∷ a) refl (sym same))
+one_field Documents Version a b reached reached' bad bad' same = absurd (bad' (1 ∷ []) a refl (ap (drop 4) (sym same)))
+one_field Documents Documents a b reached reached' bad bad' same = refl
+one_field Documents (TextLength m others) a b reached reached' bad bad' same =
+    absurd (early_late Documents m others a (flat_map text_bytes others ++ b) tt reached' bad (same ∙ late_length m others b))
+one_field Documents (TextBytes m others size) a b reached reached' bad bad' same =
+    absurd (early_late Documents m others a (flat_map text_bytes others ++ (to_be_bytes w32 size ++ b)) tt reached'.0 bad (same ∙ late_bytes m others size b))
+one_field (TextLength n texts) (TextLength m others) a b reached reached' bad bad' same =
+    of_lengths n m texts others reached reached' a b bad bad'
+    (told n m texts others reached reached' a b (sym (late_length n texts a) ∙ same ∙ late_length m others b))
+one_field (TextLength n texts) (TextBytes m others size) a b reached reached' bad bad' same =
+    absurd (mixed n m texts others reached reached'.0 size a b reached'.1 bad bad'
+    (told n m texts others reached reached'.0 a (to_be_bytes w32 size ++ b) (sym (late_length n texts a) ∙ same ∙ late_bytes m others size b)))
+one_field (TextBytes n texts size) (TextLength m others) a b reached reached' bad bad' same =
+    absurd (mixed m n others texts reached' reached.0 size b a reached.1 bad' bad
+    (told m n others texts reached' reached.0 b (to_be_bytes w32 size ++ a) (sym (late_length m others b) ∙ sym same ∙ late_bytes n texts size a)))
+one_field (TextBytes n texts size) (TextBytes m others size') a b reached reached' bad bad' same =
+    of_bytes n m texts others reached.0 reached'.0 size size' a b reached.1 reached'.1 bad bad'
+    (told n m texts others reached.0 reached'.0 (to_be_bytes w32 size ++ a) (to_be_bytes w32 size' ++ b)
+    (sym (late_bytes n texts size a) ∙ same ∙ late_bytes m others size' b))
+one_field (TextLength n texts) Magic a b reached reached' bad bad' same =
+    absurd (early_late Magic n texts b (flat_map text_bytes texts ++ a) tt reached bad' (sym same ∙ late_length n texts a))
+one_field (TextBytes n texts size) Magic a b reached reached' bad bad' same =
+    absurd (early_late Magic n texts b (flat_map text_bytes texts ++ (to_be_bytes w32 size ++ a)) tt reached.0 bad' (sym same ∙ late_bytes n texts size a))
+one_field (TextLength n texts) Version a b reached reached' bad bad' same =
+    absurd (early_late Version n texts b (flat_map text_bytes texts ++ a) tt reached bad' (sym same ∙ late_length n texts a))
+one_field (TextBytes n texts size) Version a b reached reached' bad bad' same =
+    absurd (early_late Version n texts b (flat_map text_bytes texts ++ (to_be_bytes w32 size ++ a)) tt reached.0 bad' (sym same ∙ late_bytes n texts size a))
+one_field (TextLength n texts) Documents a b reached reached' bad bad' same =
+    absurd (early_late Documents n texts b (flat_map text_bytes texts ++ a) tt reached bad' (sym same ∙ late_length n texts a))
+one_field (TextBytes n texts size) Documents a b reached reached' bad bad' same =
+    absurd (early_late Documents n texts b (flat_map text_bytes texts ++ (to_be_bytes w32 size ++ a)) tt reached.0 bad' (sym same ∙ late_bytes n texts size a))
+
+-- ---- a field that is bad, and a collection
+
+-- bytes that begin with a collection have no bad field
+module _ (bytes : List ℕ) (others : List (List ℕ)) (begins : BeginWith bytes others) where
+  all_good : AreGood others
+  all_good = record { utf8 = begins.utf8; short = begins.within.short; small = begins.within.small }
+
+  met : (n : ℕ) (texts : List (List ℕ)) (a : List ℕ) → AreFirst n texts → bytes ≡ front_bytes n ++ (flat_map text_bytes texts ++ a) → Longer others texts a
+  met n texts a first is =
+      let fronts = fronts_tell n (length others) (flat_map text_bytes texts ++ a) (flat_map text_bytes others ++ begins.rest) first.few begins.within.few
+      (sym is ∙ front_first bytes others begins) in
+      shorter n texts a first fronts.0 (meet texts others a begins.rest first.short begins.within.short fronts.1)
+    where
+      shorter : (n : ℕ) (texts : List (List ℕ)) (a : List ℕ) → AreFirst n texts → n ≡ length others → Meet texts others a begins.rest → Longer others texts a
+      shorter n texts a first count (inl is) = absurd (omega (arith, first.more, count, ap (λ (some : List (List ℕ)). length some) is.0))
+      shorter n texts a first count (inr (inl longer)) =
+          absurd (omega (arith, first.more, count, ap (λ (some : List (List ℕ)). length some) longer.are, length-append others (longer.text ∷ longer.more)))
+      shorter n texts a first count (inr (inr longer)) = longer
+
+  none_early : (field : Field) (a : List ℕ) → IsEarly field → NoneGood field a → bytes ≡ front_of field ++ a → ⊥
+  none_early field a early bad is =
+      early_good field a (length others) (flat_map text_bytes others ++ begins.rest) early begins.within.some begins.within.few bad (sym is ∙ front_first bytes others begins)
+
+  none_bad : (field : Field) (a : List ℕ) → IsReached field → NoneGood field a → bytes ≡ front_of field ++ a → ⊥
+  none_bad Magic a reached bad is = none_early Magic a tt bad is
+  none_bad Version a reached bad is = none_early Version a tt bad is
+  none_bad Documents a reached bad is = none_early Documents a tt bad is
+  none_bad (TextLength n texts) a reached bad is = length_stands others texts n a all_good (met n texts a reached (is ∙ late_length n texts a)) bad
+  none_bad (TextBytes n texts size) a reached bad is =
+      bytes_stand others texts n size a all_good reached.1 (met n texts (to_be_bytes w32 size ++ a) reached.0 (is ∙ late_bytes n texts size a)) bad
+
+-- ---- the laws
+
+module _ (H : List ℕ → List ℕ) (bytes : List ℕ) where
+  -- the same bytes have one place
+  pub one_place : (at other : ℕ) → IsLoadFault H bytes (BadIndex at) → IsLoadFault H bytes (BadIndex other) → at ≡ other
+  one_place at other (inl is) (inl also) =
+      is.place ∙ one_field is.field also.field is.behind also.behind is.reached also.reached is.bad also.bad (sym is.same ∙ also.same) ∙ sym also.place
+  one_place at other (inl is) (inr also) = absurd (none_bad bytes also.texts also.begins is.field is.behind is.reached is.bad is.same)
+  one_place at other (inr is) (inl also) = absurd (none_bad bytes is.texts is.begins also.field also.behind also.reached also.bad also.same)
+  one_place at other (inr is) (inr also) =
+      let texts : is.texts ≡ also.texts = one_beginning bytes is.texts also.texts is.begins also.begins in
+      is.differs.prefix ∙ ap (λ some. common_prefix_len nat_eq bytes (index_bytes H (archive_of some))) texts ∙ sym also.differs.prefix
+
+  -- an archive's index has none
+  pub no_place : (at : ℕ) (archive : Archive) → IsLoadFault H bytes (BadIndex at) → IsSpelling H bytes archive → ⊥
+  no_place at archive (inl is) spelling =
+      none_bad bytes archive.texts (spelled_begins H bytes archive spelling) is.field is.behind is.reached is.bad is.same
+  no_place at archive (inr is) spelling =
+      let texts : is.texts ≡ archive.texts = one_beginning bytes is.texts archive.texts is.begins (spelled_begins H bytes archive spelling) in
+      is.differs.other (spelling.same ∙ sym (ap (index_bytes H) (same_archive archive texts)))

@@ -1,0 +1,32 @@
+-- The strings of the list that is found under a term.
+use Rattle.std.proofs.Common.{◌≡◌, ◌<◌, ℕ, List, [], length, map, get_or, None, refl, sym, ap, ◌∙◌}
+use Rattle.std.specs.List.{All}
+use Rattle.ats_tree.specs.Nodes.{Node, by_path}
+use Rattle.ats_tree.specs.Strings.{node_string}
+use Rattle.ats_tree.proofs.TurnLemmas.{string-none}
+use Rattle.ats_lists.specs.Leaf.{leaf_bytes}
+use Rattle.ats_lists.specs.Lists.{list, lists_of}
+use Rattle.ats_lists.specs.declared.entry.Entry.{Entry}
+use Rattle.ats_lists.proofs.ListedLemmas.{listed, unlisted}
+use Rattle.ats_lists.specs.Layout.{Layout, whole_lists}
+use Rattle.ats_commit.specs.Archive.{Archive}
+use Rattle.ats_commit.specs.Prefixes.{list_string}
+
+module _ (H : List ℕ → List ℕ) (archive : Archive) (term : List ℕ) where
+  whole : (layout : Layout) (entries : List Entry) (node : Node) → list_string H layout entries node ≡ node_string H (map leaf_bytes entries) node
+  whole whole_lists entries node = refl
+
+  -- the list that is found under a term
+  pub list_found : (i : ℕ) (entries : List Entry) (node : Node) → i < length (lists_of archive.texts)
+      → (get_or (lists_of archive.texts) i ([], [])).0 ≡ term → entries ≡ (get_or (lists_of archive.texts) i ([], [])).1
+      → node_string H (map leaf_bytes entries) node ≡ list_string H archive.layout (list archive.texts term) node
+  list_found i entries node inside same is =
+      ap (λ (all : List Entry). node_string H (map leaf_bytes all) node) (is ∙ listed archive.texts term i ([], []) inside same)
+      ∙ sym (whole archive.layout (list archive.texts term) node)
+
+  -- a term under which there is none
+  pub list_absent : (node : Node) → All (λ l. l.0 ≡ term → ⊥) (lists_of archive.texts)
+      → list_string H archive.layout (list archive.texts term) node ≡ None
+  list_absent (by_path path) none =
+      ap (λ (all : List Entry). list_string H archive.layout all (by_path path)) (unlisted archive.texts term none)
+      ∙ whole archive.layout [] (by_path path) ∙ string-none H [] path refl

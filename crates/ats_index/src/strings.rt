@@ -1,0 +1,105 @@
+//! The strings of an index's own trees, by their places.
+
+ghost use Rattle.std.specs.Prelude.{◌≡◌, ◌≤◌, []};
+ghost use Rattle.ats_tree.specs.Nodes.{by_path};
+ghost use Rattle.ats_tree.specs.Paths.{path_of};
+ghost use Rattle.ats_tree.specs.declared.hashed.Tree.TheVariants.{Header as HeaderTree, Documents as DocumentsTree, Terms as TermsTree};
+ghost use Rattle.ats_lists.specs.Lists.{list};
+ghost use Rattle.ats_commit.specs.Prefixes.{list_string};
+ghost use Rattle.ats_commit.specs.Ours.{own_string, ours};
+ghost use Rattle.ats_commit.specs.Places.{tree_place, IsOfQuery};
+
+use crate::index::Index;
+use ats_commit::{DocLeaves, OwnStrings, string_of_header};
+use ats_hash::Hash32;
+use ats_lists::ListLeaves;
+use ats_terms::Query;
+use ats_tree::{HashedString, Place, Tree, string_at};
+
+impl<H: Hash32> Index<H> {
+    /// The string that stands at a place in the archive's own trees. There is none where the path leaves the
+    /// tree, where no text has the term, and where the document's number is past the last. It takes no
+    /// memory.
+    pub fn hashed_string(&self, place: &Place, query: &Query) -> Option<HashedString>
+        requires shallow { place.now.depth ≤ 32 }
+        requires asked { IsOfQuery query.now place.now.tree }
+        ensures { result ≡ ours H.hash self.now query.now (tree_place place.now) }
+    {
+        match place.tree {
+            Tree::Header => self.header_string(place),
+            Tree::Dictionary => {
+                string_at::<H, _>(
+                    self.dictionary(),
+                    place.depth,
+                    place.turns,
+                    &mut self.steps(),
+                )
+            }
+            Tree::List { term } => self.list_string(query.term(term as usize), place),
+            Tree::Documents => self.documents_string(place),
+            Tree::Terms { doc } => self.terms_string(doc, place),
+        }
+    }
+
+    // The header is one string.
+    fn header_string(&self, place: &Place) -> Option<HashedString>
+        ensures { result ≡ own_string H.hash self.now [] HeaderTree (by_path (path_of place.now.depth place.now.turns)) }
+    {
+        if place.depth > 0 {
+            return None;
+        }
+        Some(string_of_header(self.header()))
+    }
+
+    // A string of the tree of a term's list.
+    fn list_string(&self, term: &[u8], place: &Place) -> Option<HashedString>
+        requires { place.now.depth ≤ 32 }
+        ensures { result ≡ list_string H.hash self.now.layout (list self.now.texts term.now) (by_path (path_of place.now.depth place.now.turns)) }
+    {
+        let lists = self.lists();
+        match lists.find(term) {
+            Some(i) => {
+                let leaves = ListLeaves {
+                    entries: lists.list(i),
+                };
+                string_at::<H, _>(&leaves, place.depth, place.turns, &mut self.steps())
+            }
+            None => None,
+        }
+    }
+
+    // A string of the tree of all documents.
+    fn documents_string(&self, place: &Place) -> Option<HashedString>
+        requires { place.now.depth ≤ 32 }
+        ensures { result ≡ own_string H.hash self.now [] DocumentsTree (by_path (path_of place.now.depth place.now.turns)) }
+    {
+        let leaves = DocLeaves {
+            leaves: self.doc_leaves(),
+        };
+        string_at::<H, _>(&leaves, place.depth, place.turns, &mut self.steps())
+    }
+
+    // A string of the tree of a document's terms.
+    fn terms_string(&self, doc: u32, place: &Place) -> Option<HashedString>
+        requires { place.now.depth ≤ 32 }
+        ensures { result ≡ own_string H.hash self.now [] (TermsTree doc) (by_path (path_of place.now.depth place.now.turns)) }
+    {
+        if doc >= self.collection().documents() {
+            return None;
+        }
+        string_at::<H, _>(
+            self.doc_terms(doc),
+            place.depth,
+            place.turns,
+            &mut self.steps(),
+        )
+    }
+}
+
+impl<H: Hash32> OwnStrings<H> for Index<H> {
+    ghost archive = { λ archive. archive };
+
+    fn hashed_string(&self, place: &Place, query: &Query) -> Option<HashedString> {
+        Index::<H>::hashed_string(self, place, query)
+    }
+}

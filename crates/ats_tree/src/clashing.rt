@@ -1,0 +1,187 @@
+//! The first string that rebuilding a tree hashes where ours is another one with an equal digest.
+
+ghost use Rattle.std.specs.Prelude.{◌≡◌, ℕ, ◌+◌, ◌*◌, ◌^◌, ◌<◌, ◌≤◌, ◌≢◌, ◌↔◌, List, ◌∷◌, ◌++◌, length, All, Option, IsTrue, IsSome, IfSome, option_map};
+ghost use Rattle.ats_tree.specs.Clashes.{difference_of, part_strings, IsPlaced};
+ghost use Rattle.ats_tree.specs.Differences.{collision_or, first_collision};
+ghost use Rattle.ats_tree.specs.Nodes.{Node, by_path};
+ghost use Rattle.ats_tree.specs.Part.{RisesFrom, IsPart};
+ghost use Rattle.ats_tree.specs.Paths.{path_of};
+ghost use Rattle.ats_tree.specs.Rebuild.{need, rebuilt};
+ghost use Rattle.ats_tree.specs.Shown.{places};
+ghost use Rattle.ats_tree.specs.Strings.{node_strings};
+ghost use Rattle.ats_tree.specs.Tree.{tree_of};
+
+use crate::cut::cut_of;
+use crate::hashed_string::HashedString;
+use crate::lending::{Feed, Lent};
+use crate::own::OwnNodes;
+use crate::revealing::Revealed;
+use ats_hash::{Hash32, Steps};
+use std::marker::PhantomData;
+
+/// Two different strings with equal digests, at one node of a tree.
+#[derive(Clone, Copy, Debug, PartialEq, Eq)]
+pub struct Clash {
+    /// How many turns lead from the root to the node, at most 32.
+    pub depth: u8,
+    /// The turns: the `depth` lowest binary digits, highest first, 0 for left and 1 for right. The other digits are 0.
+    pub turns: u32,
+    /// Our own string at the node.
+    pub ours: HashedString,
+    /// The string that rebuilding hashes there.
+    pub theirs: HashedString,
+}
+
+/// The digest of a part of a tree, and the first clash in it.
+#[derive(Clone, Copy)]
+struct Compared {
+    digest: [u8; 32],
+    clash: Option<Clash>,
+}
+
+/// The first clash between our own strings and those that rebuilding the tree of `n` leaves hashes: a node
+/// comes before its left part, and that before its right part. Where strings are equal nothing of ours is hashed.
+pub fn first_clash<'a, H: Hash32, R: Revealed<'a>, O: OwnNodes>(
+    n: u32,
+    revealed: &mut R,
+    own: &O,
+    steps: &mut Steps,
+) -> Option<Clash>
+    requires rebuilds { IsSome (rebuilt H.hash n (R.shown revealed.old) (R.digests revealed.old)) }
+    requires short { All (λ s. length s.1 ≤ 127) (R.shown revealed.old) }
+    requires room { steps.old ≤ 2 ^ 63 }
+    ensures clash { option_map difference_of result
+        ≡ first_collision H.hash (O.ours own.now) (node_strings H.hash n (R.shown revealed.old) (R.digests revealed.old)) }
+    ensures place { IfSome result (λ c. c.turns < 2 ^ c.depth) }
+    ensures cost { steps.new ≤ steps.old + 5 * n }
+{
+    let _first = revealed.position();
+    let mut lent = Lent {
+        revealed,
+        lends: PhantomData,
+    };
+    let compared = part::<H, _, O>(0, n, 0, 0, &mut lent, own, steps);
+    let Lent {
+        revealed: _,
+        lends: _,
+    } = lent;
+    compared.clash
+}
+
+/// The same of the `n` leaves from position `from` on, with their digest. The turns lead to the root of this part.
+fn part<H: Hash32, F: Feed, O: OwnNodes>(
+    from: u32,
+    n: u32,
+    depth: u8,
+    turns: u32,
+    feed: &mut F,
+    own: &O,
+    steps: &mut Steps,
+) -> Compared
+    requires some { 1 ≤ n }
+    requires ends { from + n < 2 ^ 32 }
+    requires placed { IsPlaced n depth turns }
+    requires rising { RisesFrom from (F.leaves feed.old) }
+    requires enough { need (tree_of (places from n (F.leaves feed.old))) ≤ length (F.others feed.old) }
+    requires short { All (λ s. length s.1 ≤ 127) (F.leaves feed.old) }
+    requires room { steps.old + 5 * n < 2 ^ 64 }
+    ensures whole { IsPart H.hash from n (F.leaves feed.old) (F.others feed.old) result.digest (F.leaves feed.new) (F.others feed.new) }
+    ensures still { F.kept feed.old feed.new }
+    ensures clash { option_map difference_of result.clash ≡ first_collision H.hash (O.ours own.now)
+        (part_strings H.hash (path_of depth turns) (tree_of (places from n (F.leaves feed.old))) (F.others feed.old)) }
+    ensures place { IfSome result.clash (λ c. c.turns < 2 ^ c.depth) }
+    ensures cost { steps.new + 2 ≤ steps.old + 5 * n }
+{
+    match feed.first_position() {
+        Some(at) if at < from + n => {
+            if n == 1 {
+                let theirs = feed.first_string();
+                let digest = feed.take_leaf::<H>(steps);
+                let clash = clash_or::<H, O>(own, depth, turns, theirs, &digest, None, steps);
+                Compared { digest, clash }
+            } else {
+                let k = cut_of(n);
+                let left = part::<H, F, O>(from, k, depth + 1, 2 * turns, feed, own, steps);
+                let right = part::<H, F, O>(
+                    from + k,
+                    n - k,
+                    depth + 1,
+                    2 * turns + 1,
+                    feed,
+                    own,
+                    steps,
+                );
+                let theirs = HashedString::tagged(1, &left.digest, &right.digest);
+                let digest = H::digest2(1, &left.digest, &right.digest, steps);
+                let later = left.clash.or(right.clash);
+                let clash = clash_or::<H, O>(own, depth, turns, theirs, &digest, later, steps);
+                Compared { digest, clash }
+            }
+        }
+        _ => {
+            let Some(digest) = feed.take_digest(steps) else {
+                unreachable!()
+            };
+            Compared {
+                digest,
+                clash: None,
+            }
+        }
+    }
+}
+
+/// The clash of a string with ours at its node, where ours is there, another one and of this digest, which
+/// is the string's; else `later`.
+fn clash_or<H: Hash32, O: OwnNodes>(
+    own: &O,
+    depth: u8,
+    turns: u32,
+    theirs: HashedString,
+    digest: &[u8; 32],
+    later: Option<Clash>,
+    steps: &mut Steps,
+) -> Option<Clash>
+    requires deep { depth ≤ 32 }
+    requires inside { turns < 2 ^ depth }
+    requires digest { digest.now ≡ H.hash theirs }
+    requires places { IfSome later (λ c. c.turns < 2 ^ c.depth) }
+    requires room { steps.old + 1 < 2 ^ 64 }
+    ensures clash { option_map difference_of result ≡ collision_or H.hash (O.ours own.now (by_path (path_of depth turns)))
+        (record { place = by_path (path_of depth turns); text = theirs }) (option_map difference_of later) }
+    ensures place { IfSome result (λ c. c.turns < 2 ^ c.depth) }
+    ensures cost { steps.new ≤ steps.old + 1 }
+{
+    match own.at(depth, turns) {
+        Some(ours) if collides::<H>(&ours, &theirs, digest, steps) => Some(Clash {
+            depth,
+            turns,
+            ours,
+            theirs,
+        }),
+        _ => later,
+    }
+}
+
+/// Whether our string is another one than theirs with the same digest, which is given. Where the strings are
+/// equal nothing is hashed.
+pub fn collides<H: Hash32>(
+    ours: &HashedString,
+    theirs: &HashedString,
+    digest: &[u8; 32],
+    steps: &mut Steps,
+) -> bool
+    requires tagged { 0 < length ours.now }
+    requires digest { digest.now ≡ H.hash theirs.now }
+    requires room { steps.old + 1 < 2 ^ 64 }
+    ensures collides { IsTrue result ↔ ((ours.now ≢ theirs.now) × (H.hash ours.now ≡ H.hash theirs.now)) }
+    ensures cost { steps.new ≤ steps.old + 1 }
+{
+    let ours = ours.bytes();
+    if ours == theirs.bytes() {
+        return false;
+    }
+    match ours {
+        [tag, rest @ ..] => H::digest2(*tag, rest, &[], steps) == *digest,
+        [] => unreachable!(),
+    }
+}
