@@ -31,6 +31,14 @@ fn with(alloc: Global, start: &[u8], times: usize, more: &[u8]) -> Result<Bytes,
     Ok(bytes)
 }
 
+/// `NAME HEX`: the file becomes these bytes.
+pub(crate) fn bytes(alloc: Global, shelf: &mut MemShelf, line: &str) -> Result<(), Fault> {
+    let (name, digits) = two(line)?;
+    let bytes = hex::decode(alloc, digits).map_err(|_| Fault::Unread)?;
+    shelf.put(name, &bytes)?;
+    Ok(())
+}
+
 /// `NAME FROM TO HEX`: puts these bytes in place of those of the file from one place to another.
 pub(crate) fn patch(alloc: Global, shelf: &mut MemShelf, line: &str) -> Result<(), Fault> {
     let (name, from, rest) = three(line)?;

@@ -1,8 +1,8 @@
 //! Plays the cases of the commands, which are kept as data, and prints how many passed.
 //!
-//! The cases stand in the documents of `data/`: what is said to the program, and then what it prints, its status and the
-//! files that it leaves. `cases.md` says how one is written; `QUERIES.md` is a page for newcomers, which is played as it
-//! stands. The room stands on `ats_top` for the commands, on `ats_base` for files in memory, and on `ats_hash` for a
+//! The cases stand in the documents of `data/`: what is said to the program, and then what it prints, its status, the
+//! files that it leaves, and what it writes over links. `cases.md` says how one is written; `QUERIES.md` is a page for newcomers, which is played as it
+//! stands. The room stands on `ats_top` for the commands, on `ats_base` for files and links in memory, and on `ats_hash` for a
 //! second hash function. It promises nothing but its count: a case counts as passed only where all is as its document
 //! says. Each case that differs is printed. The words in which a case is written may change with the documents.
 #![tactic(auto)]

@@ -45,7 +45,7 @@ impl Player {
 
     /// Counts the last command, if there is one that is not counted.
     pub(crate) fn settle(&mut self) -> Result<(), Fault> {
-        match self.stage.shown.take() {
+        match self.stage.take_shown(self.alloc) {
             Some(shown) => self.tally.count(self.alloc, &shown),
             None => Ok(()),
         }
@@ -90,7 +90,7 @@ impl Player {
         match verb {
             "status" => self.want_status(rest),
             "part" => self.shown()?.want(rest),
-            "holds" | "size" | "none" => self.want_file(verb, rest),
+            "holds" | "size" | "none" | "wrote" => self.want_file(verb, rest),
             _ => self.prepare(verb, rest),
         }
     }
@@ -105,9 +105,10 @@ impl Player {
         let fits = match verb {
             "holds" => files::holds(&self.stage.shelf, &self.notes, rest)?,
             "size" => files::has_size(&self.stage.shelf, rest)?,
+            "wrote" => self.stage.wrote(rest)?,
             _ => self.stage.shelf.bytes_of(rest).is_none(),
         };
-        self.shown()?.note_file(fits);
+        self.shown()?.note_fit(fits);
         Ok(())
     }
 
@@ -127,6 +128,8 @@ impl Player {
                 self.stage.sink_fails = Some(number(rest)? as u64);
                 Ok(())
             }
+            "link" => self.stage.add_link(self.alloc, rest),
+            "end-fails" => self.stage.fail_end_at(number(rest)? as u64),
             _ => self.prepare_file(verb, rest),
         }
     }
@@ -136,6 +139,7 @@ impl Player {
         match verb {
             "note" => put_text(&mut self.notes, rest),
             "file" => put_text(shelf, rest),
+            "bytes" => files::bytes(alloc, shelf, rest),
             "put" => files::copy(shelf, &self.notes, rest),
             "keep" => files::copy(&mut self.notes, shelf, rest),
             "add" => files::add(alloc, shelf, rest),

@@ -17,7 +17,7 @@ pub(crate) struct Shown {
 }
 
 impl Shown {
-    /// A command that is to be done, to print nothing, and to leave the files that its case names.
+    /// A command that is to be done, to print nothing, and to leave the files and links that its case names.
     pub(crate) fn new(
         alloc: Global,
         said: &str,
@@ -44,14 +44,14 @@ impl Shown {
         Ok(())
     }
 
-    /// Notes whether a file is as it is wanted.
-    pub(crate) fn note_file(&mut self, fits: bool) {
+    /// Notes whether a file, or what a link wrote, is as it is wanted.
+    pub(crate) fn note_fit(&mut self, fits: bool) {
         if !fits {
             self.misfits = self.misfits.saturating_add(1);
         }
     }
 
-    /// Whether the status, what was printed and the files are as wanted.
+    /// Whether the status, what was printed, the files and the links are as wanted.
     pub(crate) fn is_as_wanted(&self) -> bool
         ensures status { result ≡ true → self.now.status ≡ self.now.wanted_status }
         ensures printed { result ≡ true → self.now.printed ≡ self.now.wanted }
@@ -69,7 +69,7 @@ impl Shown {
         let wanted = str::from_utf8(self.wanted.as_slice()).unwrap_or("(no text)");
         let (said, misfits) = (&self.said, self.misfits);
         format!(in alloc;
-            "differs: {said}\nstatus {status}, wanted {wanted_status}; {misfits} files differ; printed:\n{printed}wanted:\n{wanted}"
+            "differs: {said}\nstatus {status}, wanted {wanted_status}; {misfits} files or links differ; printed:\n{printed}wanted:\n{wanted}"
         )
     }
 }

@@ -4,7 +4,8 @@
 //! with them. A proof shows parts of the dictionary and of the lists of a query's terms, and by random access
 //! also of the met documents. [`check`] rebuilds each part up to the root, and from what the lists and the
 //! documents show it tries whether the answer is settled; [`row`] then tells each document of the answer with
-//! its bounds. These two take no memory.
+//! its bounds. These two take no memory. [`first_clash`] finds, for whoever has the archive's own strings, the
+//! first place where one of them is another string than the proof's with an equal digest.
 //! The room stands on the proof that `ats_proof` sees in its bytes, on the trees of `ats_tree`, and on the
 //! cuts and settled answers of `ats_bound`. It promises that a proof is accepted exactly where all rules of
 //! `specs/Accepts.antt` hold, else refused by the first that fails, and that an accepted answer is a top

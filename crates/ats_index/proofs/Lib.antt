@@ -8,6 +8,7 @@ pub mod CommonPrefix
 pub mod ComparingLemmas
 pub mod OnePlace
 pub mod ReadingTexts
+pub mod SomePlace
 pub mod TermBytes
 pub mod Vocabulary
 pub mod Size

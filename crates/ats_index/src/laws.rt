@@ -1,6 +1,7 @@
 //! What holds of an index's bytes, as contracts of functions that do nothing.
 
-ghost use Rattle.std.specs.Prelude.{◌≡◌, ◌≤◌, ◌^◌, ℕ, List, length};
+ghost use Rattle.std.specs.Prelude.{◌≡◌, ◌<◌, ◌≤◌, ◌^◌, ◌⊎◌, ℕ, List, length};
+ghost use Rattle.std.specs.List.{All};
 ghost use Rattle.ats_commit.specs.Archive.{Archive};
 ghost use Rattle.ats_index.specs.Spelling.{IsSpelling};
 ghost use Rattle.ats_index.specs.LoadFaults.{IsLoadFault};
@@ -13,9 +14,11 @@ pub fn index_bytes_say_one_archive<H: HashKind>()
     ensures { (bytes : List ℕ) (archive other : Archive) → IsSpelling H.hash bytes archive → IsSpelling H.hash bytes other → archive ≡ other }
 {}
 
-/// Bytes are a bad index at one place at most, and those of an archive's index are none.
+/// Bytes are an archive's index, or a bad index at one place, and never both.
 pub fn bad_indexes_have_one_place<H: HashKind>()
     ensures one { (bytes : List ℕ) (at other : ℕ) → IsLoadFault H.hash bytes (BadIndex at) → IsLoadFault H.hash bytes (BadIndex other) → at ≡ other }
+    ensures some { (bytes : List ℕ) → All (λ b. b < 256) bytes
+        → ((archive : Archive) × IsSpelling H.hash bytes archive) ⊎ ((at : ℕ) × IsLoadFault H.hash bytes (BadIndex at)) }
     ensures none { (bytes : List ℕ) (at : ℕ) (archive : Archive) → IsLoadFault H.hash bytes (BadIndex at) → ¬ IsSpelling H.hash bytes archive }
 {}
 

@@ -2,9 +2,10 @@
 //! impacts, RFC 6962, section 2.1, and the layout of the leaves and of the fields.
 
 use super::*;
-use ats_hash::Sha;
+use ats_hash::{Hash32, Sha, Steps};
 use ats_impact::{Collection, Texts};
-use ats_tree::Leaves;
+use ats_terms::Query;
+use ats_tree::{Leaves, Place, Tree};
 use std::alloc::Global;
 use std::process::Abort;
 use std::test::Fail;
@@ -130,6 +131,74 @@ fn refuses_bad_fields(rt: HostRuntime) -> Result<(), Fail> {
     refuses_changed(&rt, 20, &[0, 0x10, 0, 1], 20);
     refuses_changed(&rt, 20, &[0, 0x10, 0, 0], 24);
     refuses_changed(&rt, 25, &[0xff], 24);
+    Ok(())
+}
+
+// How many strings stand at a depth of the dictionary's tree.
+fn strings_at(index: &Index<Sha>, query: &Query, depth: u8) -> u32 {
+    let mut count: u32 = 0;
+    for turns in 0..16 {
+        let place = Place {
+            tree: Tree::Dictionary,
+            depth: depth.min(4),
+            turns,
+        };
+        if turns < 1 << depth.min(4) && index.hashed_string(&place, query).is_some() {
+            count += 1;
+        }
+    }
+    count
+}
+
+// The digest of the string at the root of a tree, or nothing for the list of a term that is not asked.
+fn digest_at(alloc: Global, index: &Index<Sha>, query: &Query, tree: Tree) -> Option<[u8; 32]> {
+    if let Tree::List { term } = tree {
+        if term as usize >= query.len() {
+            return None;
+        }
+    }
+    let place = Place {
+        tree,
+        depth: 0,
+        turns: 0,
+    };
+    let string = index.hashed_string(&place, query)?;
+    match string.bytes() {
+        [] => None,
+        [tag, rest @ ..] => Some(Sha::digest2(*tag, rest, &[], &mut Steps::new(alloc))),
+    }
+}
+
+// The dictionary has six leaves, of which four stand three turns below its root and two stand two turns.
+#[test]
+fn strings_of_the_dictionary(rt: HostRuntime) -> Result<(), Fail> {
+    let index = example(rt.alloc())?;
+    let query = Query::read(rt.alloc(), "red")?;
+    for (depth, count) in [(0, 1), (1, 2), (2, 4), (3, 4), (4, 0)] {
+        assert_eq!(rt; strings_at(&index, &query, depth), count);
+    }
+    Ok(())
+}
+
+#[test]
+fn strings_at_the_roots(rt: HostRuntime) -> Result<(), Fail> {
+    let index = example(rt.alloc())?;
+    let query = Query::read(rt.alloc(), "red zeppelin")?;
+    let dictionary = index.dictionary();
+    assert_eq!(rt; dictionary.len(), 6);
+    assert_eq!(rt; index.collection().documents(), 3);
+    let roots = [
+        (Tree::Header, Some(ROOT)),
+        (Tree::Dictionary, Some(index.header().dict_root)),
+        (Tree::List { term: 0 }, Some(dictionary.leaf(4).list_root)),
+        (Tree::List { term: 1 }, None),
+        (Tree::Documents, Some(index.header().docs_root)),
+        (Tree::Terms { doc: 2 }, Some(index.doc_leaf(2).root)),
+        (Tree::Terms { doc: 3 }, None),
+    ];
+    for (tree, digest) in roots {
+        assert_eq!(rt; digest_at(rt.alloc(), &index, &query, tree), digest);
+    }
     Ok(())
 }
 

@@ -1,19 +1,22 @@
 -- What follows from how a command ended and what it printed.
-use Rattle.std.proofs.Common.{◌≡◌, ◌≢◌, ◌⊎◌, ◌≤◌, ◌∙◌, ℕ, List, length, Some, None, refl, sym, ap, subst, inl, inr, arith, take_all}
+use Rattle.std.proofs.Common.{◌≡◌, ◌≢◌, ◌⊎◌, ◌≤◌, ◌∙◌, ℕ, List, length, Some, None, IsSome, refl, sym, ap, subst, inl, inr, arith, take_all}
 use Rattle.ats_base.specs.Outside.{Rose, ShelfTold, Asked, Puts}
 use Rattle.ats_client.specs.declared.fault.Rejection.{Rejection}
-use Rattle.ats_top.specs.Words.{Command, Rank, Build, Root, Prove, Verify, command_of}
-use Rattle.ats_top.specs.Stops.{End, Done, Stopped, status_of, status_of_stop, text_of}
+use Rattle.ats_top.specs.Words.{Command, Rank, Build, Root, Prove, Verify, Ask, Serve, command_of}
+use Rattle.ats_top.specs.Stops.{End, Done, Stopped, Unprinted, status_of, status_of_stop, text_of}
+use Rattle.ats_top.specs.Outside.{Outside}
 use Rattle.ats_top.specs.Read.{Files, IsTold}
+use Rattle.ats_top.specs.Calling.{HasCalled, HasOpened, ReplyDecides}
 use Rattle.ats_top.specs.Reading.{reads, AsksFor, IsFirstMissing, Serves}
-use Rattle.ats_top.specs.Refusals.{LacksFile, IsRefused}
+use Rattle.ats_top.specs.Refusals.{NeedsShelf, LacksFile, IsRefused}
 use Rattle.ats_top.specs.Rejected.{IsRejected}
 use Rattle.ats_top.specs.Done.{IsDone, PutsPart, Changes, HasInput, IsServed}
-use Rattle.ats_top.specs.Run.{Said, Outside, HasShelfCause, Ends, Ended, IsStatus, SinkFailed, Failed, TookAll, Ran}
+use Rattle.ats_top.specs.Run.{Said, HasShelfCause, IsStopped, Ends, Ended, IsStatus, SinkFailed, DoorFailed, LinkFailed, Failed, TookAll, Ran}
 use Rattle.ats_top.specs.declared.stops.InputRefusal.{InputRefusal}
 use Rattle.ats_top.specs.declared.stops.Stop.{Stop}
-use Rattle.ats_top.specs.declared.stops.Stop.TheVariants.{Usage, Shelf, Input, Rejected, Memory}
+use Rattle.ats_top.specs.declared.stops.Stop.TheVariants.{Usage, Shelf, Input, Rejected, Memory, Link, Peer, Faults}
 use Rattle.ats_top.proofs.Refused.{served_kept, done_kept, missing_kept, input_there, served_input}
+use Rattle.ats_top.proofs.LinkEnds.{links_there, links_refused, links_rejected, links_served, links_files, unprinted_files, replied_stop, replied_done}
 use Rattle.ats_top.proofs.Rejecting.{input_kept, rejected_there, rejected_kept}
 
 -- the words of a command are one
@@ -30,6 +33,9 @@ never_done Shelf = omega arith
 never_done (Input refusal) = omega arith
 never_done (Rejected rejection) = omega arith
 never_done Memory = omega arith
+never_done Link = omega arith
+never_done (Peer fault) = omega arith
+never_done (Faults count) = omega arith
 
 -- each end has a status
 has_status : (end : End) → IsStatus (status_of end)
@@ -39,14 +45,31 @@ has_status (Stopped text Usage) = inr (inr (inl refl))
 has_status (Stopped text Shelf) = inr (inr (inr (inl refl)))
 has_status (Stopped text (Input refusal)) = inr (inr (inr (inr (inl refl))))
 has_status (Stopped text Memory) = inr (inr (inr (inr (inr (inl refl)))))
+has_status (Unprinted text) = inr (inr (inr (inr (inr (inr (inl refl))))))
+has_status (Stopped text Link) = inr (inr (inr (inr (inr (inr (inr (inl refl)))))))
+has_status (Stopped text (Peer fault)) = inr (inr (inr (inr (inr (inr (inr (inr (inl refl))))))))
+has_status (Stopped text (Faults count)) = inr (inr (inr (inr (inr (inr (inr (inr (inr refl))))))))
+
+-- an end of which all may be printed
+abbrev IsPrinted : End → Type 0
+IsPrinted (Unprinted text) = ⊥
+IsPrinted _ = Unit {0}
+
+-- the status of another is 7
+was_printed : (end : End) (result : ℕ) → result ≢ 7 → result ≡ status_of end → IsPrinted end
+was_printed (Done text) result not is = tt
+was_printed (Stopped text stop) result not is = tt
+was_printed (Unprinted text) result not is = not is
 
 -- what is done was asked within the limits, of a file of the form that the command reads
-done_input : (H : List ℕ → List ℕ) (before now : Files) (command : Command) (text : List ℕ) → IsDone H before now command text → HasInput H before command
+done_input : (H : List ℕ → List ℕ) (before now : Outside) (command : Command) (text : List ℕ) → IsDone H before now command text → HasInput H before.shelf.files command
 done_input H before now (Rank words) text (ranked, same) = (ranked.asks, (ranked.texts, ranked.collection))
 done_input H before now (Build words) text built = (built.texts, built.collection)
 done_input H before now (Root words) text (rooted, same) = (rooted.archive, rooted.index)
 done_input H before now (Prove words) text done = (done.asks, (done.proof.archive, done.proof.index))
+done_input H before now (Ask words) text (answered, same) = answered.accepted.replied.asks
 done_input H before now (Verify words) text (verified, same) = (verified.asks, verified.accepted)
+done_input H before now (Serve words) text (all, same) = (all.served.archive, all.served.index)
 
 -- all bytes are a prefix of them
 whole_part : (before now : Files) (name bytes : List ℕ) → Puts before now name bytes → PutsPart before now name bytes
@@ -57,24 +80,26 @@ whole_part before now name bytes stored = record {
 }
 
 -- what is done changes no more than the command may
-done_changes : (H : List ℕ → List ℕ) (before now : Files) (command : Command) (text : List ℕ) → IsDone H before now command text
-    → (now ≡ before) ⊎ Changes H before now command
+done_changes : (H : List ℕ → List ℕ) (before now : Outside) (command : Command) (text : List ℕ) → IsDone H before now command text
+    → (now.shelf.files ≡ before.shelf.files) ⊎ Changes H before.shelf.files now.shelf.files command
 done_changes H before now (Rank words) text (ranked, same) = inl same
 done_changes H before now (Build words) text built = inr (record {
   texts = built.texts;
   bytes = built.bytes;
   collection = built.collection;
   spelling = built.spelling;
-  part = whole_part before now words.index built.bytes built.stored;
+  part = whole_part before.shelf.files now.shelf.files words.index built.bytes built.stored;
 })
 done_changes H before now (Root words) text (rooted, same) = inl same
 done_changes H before now (Prove words) text done = inr (record {
   asks = done.asks;
   bytes = done.bytes;
   proof = done.proof;
-  part = whole_part before now words.proof done.bytes done.stored;
+  part = whole_part before.shelf.files now.shelf.files words.proof done.bytes done.stored;
 })
+done_changes H before now (Ask words) text (answered, same) = inl same
 done_changes H before now (Verify words) text (verified, same) = inl same
+done_changes H before now (Serve words) text (all, same) = inl same
 
 -- of a run
 module _ (H : List ℕ → List ℕ) (said : List (List ℕ)) (before now : Outside) where
@@ -86,97 +111,182 @@ module _ (H : List ℕ → List ℕ) (said : List (List ℕ)) (before now : Outs
   abbrev Comes : ℕ → ℕ → Type 0
   Comes k status = (status ≡ k) ⊎ ((status ≡ 6) ⊎ ((status ≡ 3) × Rose before.shelf.faults now.shelf.faults))
 
-  unsaid_end : (end : End) → Ends H before.shelf now.shelf said end → command_of said ≡ None → status_of end ≡ 2
-  unsaid_end (Done text) ends none = absurd (no_command said ends.0 none ends.1)
-  unsaid_end (Stopped text Usage) ends none = refl
-  unsaid_end (Stopped text Shelf) (empty, ends) none = absurd (no_command said ends.0 none ends.1)
-  unsaid_end (Stopped text (Input refusal)) (empty, ends) none = absurd (no_command said ends.0 none ends.1)
-  unsaid_end (Stopped text (Rejected rejection)) (empty, ends) none = absurd (no_command said ends.0 none ends.1)
-  unsaid_end (Stopped text Memory) (empty, ends) none = absurd (no_command said ends.0 none ends.1)
+  -- the status is 0, or 6, or that of the shelf or of the door, which failed
+  abbrev IsServedBy : ℕ → Type 0
+  IsServedBy status = DoorFailed before.door now.door status ⊎ Comes 0 status
 
-  -- a file that is not there is a fault of the shelf
-  missing_end : (end : End) → Ends H before.shelf now.shelf said end → Said said (λ command. LacksFile H before.shelf.files command)
+  unsaid_end : command_of said ≡ None → (end : End) → IsPrinted end → Ends H before now said end → status_of end ≡ 2
+  unsaid_end none (Unprinted text) printed ends = absurd printed
+  unsaid_end none (Done text) printed ends = absurd (no_command said ends.0 none ends.1)
+  unsaid_end none (Stopped text Usage) printed ends = refl
+  unsaid_end none (Stopped text Shelf) printed ends = absurd (no_command said ends.0 none ends.1)
+  unsaid_end none (Stopped text (Input refusal)) printed ends = absurd (no_command said ends.0 none ends.1)
+  unsaid_end none (Stopped text (Rejected rejection)) printed ends = absurd (no_command said ends.0 none ends.1)
+  unsaid_end none (Stopped text Memory) printed ends = absurd (no_command said ends.0 none ends.1)
+  unsaid_end none (Stopped text Link) printed ends = absurd (no_command said ends.0 none ends.1)
+  unsaid_end none (Stopped text (Peer fault)) printed ends = absurd (no_command said ends.0 none ends.1)
+  unsaid_end none (Stopped text (Faults count)) printed ends = absurd (no_command said ends.0 none ends.1)
+
+  -- what the status is of what the command of the words did, and of why it stopped, it is of their end
+  module _ (P : ℕ → Type 0) (command : Command) (is : command_of said ≡ Some command)
+      (done : (text : List ℕ) → IsDone H before now command text → P 0)
+      (stopped : (text : List ℕ) (stop : Stop) → IsStopped H before now command text stop → P (status_of_stop stop)) where
+    stop_end : (text : List ℕ) (stop : Stop) → Said said (λ c. IsStopped H before now c text stop) → P (status_of_stop stop)
+    stop_end text stop ends = stopped text stop (its (λ c. IsStopped H before now c text stop) command ends is)
+
+    by_end : (end : End) → IsPrinted end → Ends H before now said end → P (status_of end)
+    by_end (Unprinted text) printed ends = absurd printed
+    by_end (Done text) printed ends = done text (its (λ c. IsDone H before now c text) command ends is)
+    by_end (Stopped text Usage) printed (empty, none, same) = absurd (no_command said command none is)
+    by_end (Stopped text Shelf) printed ends = stop_end text Shelf ends
+    by_end (Stopped text (Input refusal)) printed ends = stop_end text (Input refusal) ends
+    by_end (Stopped text (Rejected rejection)) printed ends = stop_end text (Rejected rejection) ends
+    by_end (Stopped text Memory) printed ends = stop_end text Memory ends
+    by_end (Stopped text Link) printed ends = stop_end text Link ends
+    by_end (Stopped text (Peer fault)) printed ends = stop_end text (Peer fault) ends
+    by_end (Stopped text (Faults count)) printed ends = stop_end text (Faults count) ends
+
+  -- of the command of these words
+  module _ (command : Command) where
+    -- a file that is not there is a fault of the shelf
+    missing_stop : LacksFile H before.shelf.files command → (text : List ℕ) (stop : Stop) → IsStopped H before now command text stop
+        → (status_of_stop stop ≡ 3) ⊎ (status_of_stop stop ≡ 6)
+    missing_stop lacks text Usage (inl stops) = absurd stops.1
+    missing_stop lacks text Shelf (inl stops) = inl refl
+    missing_stop lacks text (Input refusal) (inl stops) = absurd (missing_kept H before.shelf.files command lacks refusal stops.1.0)
+    missing_stop lacks text (Rejected rejection) (inl stops) = absurd (rejected_there H before.shelf.files command lacks rejection stops.1.0)
+    missing_stop lacks text Memory (inl stops) = inr refl
+    missing_stop lacks text Link (inl stops) = absurd stops.1
+    missing_stop lacks text (Peer fault) (inl stops) = absurd stops.1
+    missing_stop lacks text (Faults count) (inl stops) = absurd stops.1
+    missing_stop lacks text stop (inr links) = absurd (links_there H before now command text stop links lacks)
+
+    -- a fault of the shelf, where no file is missing
+    shelf_stop : (k : ℕ) → (LacksFile H before.shelf.files command → ⊥) → HasShelfCause H before.shelf now.shelf command → Comes k 3
+    shelf_stop k there (inl rose) = inr (inr (refl, rose.1))
+    shelf_stop k there (inr lacks) = absurd (there lacks)
+
+    -- a refused input is served by no run
+    refused_stop : IsTold before.shelf.files → (refusal : InputRefusal) → IsRefused H before.shelf.files command refusal → (text : List ℕ) (stop : Stop) → IsStopped H before now command text stop
+        → Comes 4 (status_of_stop stop)
+    refused_stop told refusal cause text Usage (inl stops) = absurd stops.1
+    refused_stop told refusal cause text Shelf (inl stops) = shelf_stop 4 (λ lacks. missing_kept H before.shelf.files command lacks refusal cause) stops.1.0
+    refused_stop told refusal cause text (Input found) (inl stops) = inl refl
+    refused_stop told refusal cause text (Rejected rejection) (inl stops) = absurd (rejected_kept H before.shelf.files command rejection stops.1.0 refusal cause)
+    refused_stop told refusal cause text Memory (inl stops) = inr (inl refl)
+    refused_stop told refusal cause text Link (inl stops) = absurd stops.1
+    refused_stop told refusal cause text (Peer fault) (inl stops) = absurd stops.1
+    refused_stop told refusal cause text (Faults count) (inl stops) = absurd stops.1
+    refused_stop told refusal cause text stop (inr links) = elim (links_refused H before now command text stop told links refusal cause) [
+      | inl is ↦ inl is
+      | inr memory ↦ inr (inl memory)
+    ]
+
+    -- a rejected proof is accepted by no run
+    rejected_stop : (rejection : Rejection) → IsRejected H before.shelf.files command rejection → (text : List ℕ) (stop : Stop) → IsStopped H before now command text stop
+        → Comes 1 (status_of_stop stop)
+    rejected_stop rejection cause text Usage (inl stops) = absurd stops.1
+    rejected_stop rejection cause text Shelf (inl stops) = shelf_stop 1 (λ lacks. rejected_there H before.shelf.files command lacks rejection cause) stops.1.0
+    rejected_stop rejection cause text (Input refusal) (inl stops) = absurd (rejected_kept H before.shelf.files command rejection cause refusal stops.1.0)
+    rejected_stop rejection cause text (Rejected found) (inl stops) = inl refl
+    rejected_stop rejection cause text Memory (inl stops) = inr (inl refl)
+    rejected_stop rejection cause text Link (inl stops) = absurd stops.1
+    rejected_stop rejection cause text (Peer fault) (inl stops) = absurd stops.1
+    rejected_stop rejection cause text (Faults count) (inl stops) = absurd stops.1
+    rejected_stop rejection cause text stop (inr links) = absurd (links_rejected H before now command text stop links rejection cause)
+
+    -- what is within the limits is done, unless memory is wanted or the shelf or the door failed
+    served_stop : IsTold before.shelf.files → IsServed H before.shelf.files command → (text : List ℕ) (stop : Stop) → IsStopped H before now command text stop
+        → IsServedBy (status_of_stop stop)
+    served_stop told served text Usage (inl stops) = absurd stops.1
+    served_stop told served text Shelf (inl stops) =
+        inr (shelf_stop 0 (input_there H before.shelf.files command (served_input H before.shelf.files command served)) stops.1.0)
+    served_stop told served text (Input refusal) (inl stops) = absurd (served_kept H before.shelf.files command told served refusal stops.1.0)
+    served_stop told served text (Rejected rejection) (inl stops) =
+        absurd (input_kept H before.shelf.files command told (served_input H before.shelf.files command served) rejection stops.1.0)
+    served_stop told served text Memory (inl stops) = inr (inr (inl refl))
+    served_stop told served text Link (inl stops) = absurd stops.1
+    served_stop told served text (Peer fault) (inl stops) = absurd stops.1
+    served_stop told served text (Faults count) (inl stops) = absurd stops.1
+    served_stop told served text stop (inr links) = elim (links_served H before now command text stop links served) [
+      | inl memory ↦ inr (inr (inl memory))
+      | inr door ↦ inl door
+    ]
+
+    abbrev FilesNow : Type 0
+    FilesNow = (now.shelf.files ≡ before.shelf.files) ⊎ Changes H before.shelf.files now.shelf.files command
+
+    files_stop : (text : List ℕ) (stop : Stop) → IsStopped H before now command text stop → FilesNow
+    files_stop text Usage (inl stops) = absurd stops.1
+    files_stop text Shelf (inl stops) = stops.1.1
+    files_stop text (Input refusal) (inl stops) = inl stops.1.1
+    files_stop text (Rejected rejection) (inl stops) = inl stops.1.1
+    files_stop text Memory (inl stops) = inl stops.1
+    files_stop text Link (inl stops) = absurd stops.1
+    files_stop text (Peer fault) (inl stops) = absurd stops.1
+    files_stop text (Faults count) (inl stops) = absurd stops.1
+    files_stop text stop (inr links) = inl (links_files H before now command text stop links)
+
+  missing_end : Said said (λ command. LacksFile H before.shelf.files command) → (end : End) → IsPrinted end → Ends H before now said end
       → (status_of end ≡ 3) ⊎ (status_of end ≡ 6)
-  missing_end (Done text) ends (command, is, lacks) =
-      absurd (input_there H before.shelf.files command
-      (its (HasInput H before.shelf.files) command (ends.0, ends.1, done_input H before.shelf.files now.shelf.files ends.0 text ends.2) is) lacks)
-  missing_end (Stopped text Usage) (empty, none, same) (command, is, lacks) = absurd (no_command said command none is)
-  missing_end (Stopped text Shelf) ends lacks = inl refl
-  missing_end (Stopped text (Input refusal)) (empty, ends) (command, is, lacks) =
-      absurd (missing_kept H before.shelf.files command lacks refusal
-      (its (λ c. IsRefused H before.shelf.files c refusal) command (ends.0, ends.1, ends.2.0) is))
-  missing_end (Stopped text (Rejected rejection)) (empty, ends) (command, is, lacks) =
-      absurd (rejected_there H before.shelf.files command lacks rejection
-      (its (λ c. IsRejected H before.shelf.files c rejection) command (ends.0, ends.1, ends.2.0) is))
-  missing_end (Stopped text Memory) ends lacks = inr refl
+  missing_end (command, is, lacks) = by_end (λ status. (status ≡ 3) ⊎ (status ≡ 6)) command is
+      (λ text done. absurd (input_there H before.shelf.files command (done_input H before now command text done) lacks)) (missing_stop command lacks)
 
-  -- a refused input is served by no run
-  refused_end : (end : End) → Ends H before.shelf now.shelf said end → IsTold before.shelf.files
-      → Said said (λ command. (refusal : InputRefusal) × IsRefused H before.shelf.files command refusal) → Comes 4 (status_of end)
-  refused_end (Done text) ends told (command, is, (refusal, cause)) =
-      absurd (done_kept H before.shelf.files now.shelf.files command text told
-      (its (λ c. IsDone H before.shelf.files now.shelf.files c text) command ends is) refusal cause)
-  refused_end (Stopped text Usage) (empty, none, same) told (command, is, (refusal, cause)) = absurd (no_command said command none is)
-  refused_end (Stopped text Shelf) (empty, ends) told (command, is, (refusal, cause)) = elim (its (HasShelfCause H before.shelf now.shelf) command (ends.0, ends.1, ends.2.0) is) [
-    | inl rose ↦ inr (inr (refl, rose.1))
-    | inr lacks ↦ absurd (missing_kept H before.shelf.files command lacks refusal cause)
-  ]
-  refused_end (Stopped text (Input found)) ends told refusal = inl refl
-  refused_end (Stopped text (Rejected rejection)) (empty, ends) told (command, is, (refusal, cause)) =
-      absurd (rejected_kept H before.shelf.files command rejection
-      (its (λ c. IsRejected H before.shelf.files c rejection) command (ends.0, ends.1, ends.2.0) is) refusal cause)
-  refused_end (Stopped text Memory) ends told refusal = inr (inl refl)
+  refused_end : IsTold before.shelf.files → Said said (λ command. (refusal : InputRefusal) × IsRefused H before.shelf.files command refusal)
+      → (end : End) → IsPrinted end → Ends H before now said end → Comes 4 (status_of end)
+  refused_end told (command, is, (refusal, cause)) = by_end (Comes 4) command is
+      (λ text done. absurd (done_kept H before now command text told done refusal cause)) (refused_stop command told refusal cause)
 
-  -- a rejected proof is accepted by no run
-  rejected_end : (end : End) → Ends H before.shelf now.shelf said end → IsTold before.shelf.files
-      → Said said (λ command. (rejection : Rejection) × IsRejected H before.shelf.files command rejection) → Comes 1 (status_of end)
-  rejected_end (Done text) ends told (command, is, (rejection, cause)) =
-      absurd (input_kept H before.shelf.files command told
-      (its (HasInput H before.shelf.files) command (ends.0, ends.1, done_input H before.shelf.files now.shelf.files ends.0 text ends.2) is) rejection cause)
-  rejected_end (Stopped text Usage) (empty, none, same) told (command, is, (rejection, cause)) = absurd (no_command said command none is)
-  rejected_end (Stopped text Shelf) (empty, ends) told (command, is, (rejection, cause)) = elim (its (HasShelfCause H before.shelf now.shelf) command (ends.0, ends.1, ends.2.0) is) [
-    | inl rose ↦ inr (inr (refl, rose.1))
-    | inr lacks ↦ absurd (rejected_there H before.shelf.files command lacks rejection cause)
-  ]
-  rejected_end (Stopped text (Input refusal)) (empty, ends) told (command, is, (rejection, cause)) =
-      absurd (rejected_kept H before.shelf.files command rejection cause refusal
-      (its (λ c. IsRefused H before.shelf.files c refusal) command (ends.0, ends.1, ends.2.0) is))
-  rejected_end (Stopped text (Rejected found)) ends told rejection = inl refl
-  rejected_end (Stopped text Memory) ends told rejection = inr (inl refl)
+  rejected_end : IsTold before.shelf.files → Said said (λ command. (rejection : Rejection) × IsRejected H before.shelf.files command rejection)
+      → (end : End) → IsPrinted end → Ends H before now said end → Comes 1 (status_of end)
+  rejected_end told (command, is, (rejection, cause)) = by_end (Comes 1) command is
+      (λ text done. absurd (input_kept H before.shelf.files command told (done_input H before now command text done) rejection cause)) (rejected_stop command rejection cause)
 
-  -- what is within the limits is done, unless memory is wanted or the shelf failed
-  served_end : (end : End) → Ends H before.shelf now.shelf said end → IsTold before.shelf.files → Said said (λ command. IsServed H before.shelf.files command)
-      → Comes 0 (status_of end)
-  served_end (Done text) ends told asked = inl refl
-  served_end (Stopped text Usage) (empty, none, same) told (command, is, served) = absurd (no_command said command none is)
-  served_end (Stopped text Shelf) (empty, ends) told (command, is, served) = elim (its (HasShelfCause H before.shelf now.shelf) command (ends.0, ends.1, ends.2.0) is) [
-    | inl rose ↦ inr (inr (refl, rose.1))
-    | inr lacks ↦ absurd (input_there H before.shelf.files command (served_input H before.shelf.files command served) lacks)
-  ]
-  served_end (Stopped text (Input refusal)) (empty, ends) told (command, is, served) =
-      absurd (served_kept H before.shelf.files command told served refusal
-      (its (λ c. IsRefused H before.shelf.files c refusal) command (ends.0, ends.1, ends.2.0) is))
-  served_end (Stopped text (Rejected rejection)) (empty, ends) told (command, is, served) =
-      absurd (input_kept H before.shelf.files command told (served_input H before.shelf.files command served) rejection
-      (its (λ c. IsRejected H before.shelf.files c rejection) command (ends.0, ends.1, ends.2.0) is))
-  served_end (Stopped text Memory) ends told asked = inr (inl refl)
+  served_end : IsTold before.shelf.files → Said said (λ command. IsServed H before.shelf.files command)
+      → (end : End) → IsPrinted end → Ends H before now said end → IsServedBy (status_of end)
+  served_end told (command, is, served) = by_end IsServedBy command is (λ text done. inr (inl refl)) (served_stop command told served)
 
-  or_said : (command : Command) → command_of said ≡ Some command → (now.shelf.files ≡ before.shelf.files) ⊎ Changes H before.shelf.files now.shelf.files command
+  -- the status that a reply decides
+  abbrev Replies : ℕ → ℕ → Type 0
+  Replies k status = (status ≡ k) ⊎ ((status ≡ 6) ⊎ ((status ≡ 8) × Rose before.caller.faults now.caller.faults))
+
+  replied_end : IsSome before.caller.content → (k : ℕ) → Said said (λ command. ReplyDecides H before.caller now.caller command k)
+      → (end : End) → IsPrinted end → Ends H before now said end → Replies k (status_of end)
+  replied_end tells k (command, is, decides) = by_end (Replies k) command is (replied_done H before now tells k command decides) (replied_stop H before now tells k command decides)
+
+  or_said : (command : Command) → command_of said ≡ Some command → FilesNow command
       → (now.shelf.files ≡ before.shelf.files) ⊎ Said said (λ c. Changes H before.shelf.files now.shelf.files c)
   or_said command is (inl same) = inl same
   or_said command is (inr changes) = inr (command, is, changes)
 
-  files_end : (end : End) → Ends H before.shelf now.shelf said end
+  stop_files : (text : List ℕ) (stop : Stop) → Said said (λ c. IsStopped H before now c text stop)
+      → (now.shelf.files ≡ before.shelf.files) ⊎ Said said (λ c. Changes H before.shelf.files now.shelf.files c)
+  stop_files text stop (command, is, stopped) = or_said command is (files_stop command text stop stopped)
+
+  files_end : (end : End) → Ends H before now said end
       → (now.shelf.files ≡ before.shelf.files) ⊎ Said said (λ command. Changes H before.shelf.files now.shelf.files command)
-  files_end (Done text) ends = or_said ends.0 ends.1 (done_changes H before.shelf.files now.shelf.files ends.0 text ends.2)
+  files_end (Done text) ends = or_said ends.0 ends.1 (done_changes H before now ends.0 text ends.2)
   files_end (Stopped text Usage) (empty, none, same) = inl same
-  files_end (Stopped text Shelf) (empty, ends) = or_said ends.0 ends.1 ends.2.1
-  files_end (Stopped text (Input refusal)) (empty, ends) = inl ends.2.1
-  files_end (Stopped text (Rejected rejection)) (empty, ends) = inl ends.2.1
-  files_end (Stopped text Memory) (empty, ends) = inl ends.2
+  files_end (Stopped text Shelf) ends = stop_files text Shelf ends
+  files_end (Stopped text (Input refusal)) ends = stop_files text (Input refusal) ends
+  files_end (Stopped text (Rejected rejection)) ends = stop_files text (Rejected rejection) ends
+  files_end (Stopped text Memory) ends = stop_files text Memory ends
+  files_end (Stopped text Link) ends = stop_files text Link ends
+  files_end (Stopped text (Peer fault)) ends = stop_files text (Peer fault) ends
+  files_end (Stopped text (Faults count)) ends = stop_files text (Faults count) ends
+  files_end (Unprinted text) ends = inl (unprinted_files H before now ends.0 text ends.2)
 
   abbrev Served : Type 0
   Served = (now.shelf ≡ before.shelf) ⊎ Said said (Serves before.shelf now.shelf)
+
+  abbrev Unread : Type 0
+  Unread = Said said (λ command. NeedsShelf command → ⊥) → now.shelf ≡ before.shelf
+
+  abbrev Called : Type 0
+  Called = (now.caller ≡ before.caller) ⊎ Said said (HasCalled before.caller now.caller)
+
+  abbrev Opened : Type 0
+  Opened = (now.door ≡ before.door) ⊎ Said said (HasOpened before.door now.door)
 
   asked : Served → (now.shelf ≡ before.shelf) ⊎ Said said (λ command. Asked before.shelf.asked now.shelf.asked (AsksFor command))
   asked (inl same) = inl same
@@ -191,21 +301,23 @@ module _ (H : List ℕ → List ℕ) (said : List (List ℕ)) (before now : Outs
   later (inr serves) = serves.2.later
 
   module _ (result : ℕ) where
-    -- what holds of the status of the end holds of that of the run, or the sink failed
-    tells : (P : ℕ → Type 0) (ended : Ended H said before now result) → P (status_of ended.end) → P result ⊎ SinkFailed before now result
+    -- what holds of the status of the end, where all of it may be printed, holds of that of the run, or the sink failed
+    tells : (P : ℕ → Type 0) (ended : Ended H said before now result)
+        → ((end : End) → IsPrinted end → Ends H before now said end → P (status_of end)) → P result ⊎ SinkFailed before now result
     tells P ended is = elim ended.prints [
-      | inl told ↦ inl (subst P (sym told.1) is)
+      | inl told ↦ inl (subst P (sym told.1) (is ended.end (was_printed ended.end result told.0 told.1) ended.ends))
       | inr failed ↦ inr (failed.0, failed.1)
     ]
 
     -- 0 is the status of what is done
-    done_end : (end : End) → Ends H before.shelf now.shelf said end → result ≡ 0 → result ≡ status_of end → TookAll before.sink now.sink (text_of end)
-        → Said said (λ command. (text : List ℕ) × IsDone H before.shelf.files now.shelf.files command text × TookAll before.sink now.sink text)
+    done_end : (end : End) → Ends H before now said end → result ≡ 0 → result ≡ status_of end → TookAll before.sink now.sink (text_of end)
+        → Said said (λ command. (text : List ℕ) × IsDone H before now command text × TookAll before.sink now.sink text)
     done_end (Done text) ends is same took = (ends.0, ends.1, (text, ends.2, took))
     done_end (Stopped text stop) ends is same took = absurd (never_done stop (sym same ∙ is))
+    done_end (Unprinted text) ends is same took = absurd (omega (arith, is, same))
 
     done : Ended H said before now result → result ≡ 0
-        → Said said (λ command. (text : List ℕ) × IsDone H before.shelf.files now.shelf.files command text × TookAll before.sink now.sink text)
+        → Said said (λ command. (text : List ℕ) × IsDone H before now command text × TookAll before.sink now.sink text)
     done ended is = elim ended.prints [
       | inl told ↦ done_end ended.end ended.ends is told.1 told.2
       | inr failed ↦ absurd (omega (arith, is, failed.0))
@@ -222,21 +334,41 @@ module _ (H : List ℕ → List ℕ) (said : List (List ℕ)) (before now : Outs
     with_faults k (inl (inr (inr shelves))) = inr (inr (inl shelves))
     with_faults k (inr sinks) = inr (inr (inr sinks))
 
-    status : Ended H said before now result → IsStatus result
-    status ended = elim (tells IsStatus ended (has_status ended.end)) [ inl is ↦ is | inr sinks ↦ inr (inr (inr (inr (inr (inr sinks.0))))) ]
+    with_door : IsServedBy result ⊎ SinkFailed before now result → (result ≡ 0) ⊎ ((result ≡ 6) ⊎ (DoorFailed before.door now.door result ⊎ Failed before now result))
+    with_door (inl (inl doors)) = inr (inr (inl doors))
+    with_door (inl (inr (inl is))) = inl is
+    with_door (inl (inr (inr (inl is)))) = inr (inl is)
+    with_door (inl (inr (inr (inr shelves)))) = inr (inr (inr (inl shelves)))
+    with_door (inr sinks) = inr (inr (inr (inr sinks)))
 
-    pub ran : Ended H said before now result → Served → before.sink.faults ≤ now.sink.faults → Ran H said before now result
-    ran ended served sink_later = record {
+    with_link : (k : ℕ) → Replies k result ⊎ SinkFailed before now result → (result ≡ k) ⊎ ((result ≡ 6) ⊎ LinkFailed before now result)
+    with_link k (inl (inl is)) = inl is
+    with_link k (inl (inr (inl is))) = inr (inl is)
+    with_link k (inl (inr (inr links))) = inr (inr (inl links))
+    with_link k (inr sinks) = inr (inr (inr sinks))
+
+    status : Ended H said before now result → IsStatus result
+    status ended = elim (tells IsStatus ended (λ end printed ends. has_status end)) [
+      | inl is ↦ is
+      | inr sinks ↦ inr (inr (inr (inr (inr (inr (inl sinks.0))))))
+    ]
+
+    pub ran : Ended H said before now result → Served → Unread → Called → Opened → before.sink.faults ≤ now.sink.faults → Ran H said before now result
+    ran ended served unread called opened sink_later = record {
       ended = ended;
       status = status ended;
       done = done ended;
-      unsaid = λ none. tells (λ status. status ≡ 2) ended (unsaid_end ended.end ended.ends none);
-      missing = λ lacks. with_sink 3 6 (tells (λ status. (status ≡ 3) ⊎ (status ≡ 6)) ended (missing_end ended.end ended.ends lacks));
-      refused = λ told refusal. with_faults 4 (tells (Comes 4) ended (refused_end ended.end ended.ends told refusal));
-      rejected = λ told rejection. with_faults 1 (tells (Comes 1) ended (rejected_end ended.end ended.ends told rejection));
-      complete = λ told asks. with_faults 0 (tells (Comes 0) ended (served_end ended.end ended.ends told asks));
+      unsaid = λ none. tells (λ status. status ≡ 2) ended (unsaid_end none);
+      missing = λ lacks. with_sink 3 6 (tells (λ status. (status ≡ 3) ⊎ (status ≡ 6)) ended (missing_end lacks));
+      refused = λ told refusal. with_faults 4 (tells (Comes 4) ended (refused_end told refusal));
+      rejected = λ told rejection. with_faults 1 (tells (Comes 1) ended (rejected_end told rejection));
+      complete = λ told asks. with_door (tells IsServedBy ended (served_end told asks));
+      replied = λ content k decides. with_link k (tells (Replies k) ended (replied_end content k decides));
       files = files_end ended.end ended.ends;
       asked = asked served;
+      unread = unread;
+      called = called;
+      opened = opened;
       uncounted = uncounted served;
       later = later served;
       sink_later = sink_later;

@@ -1,16 +1,20 @@
--- A file that is an honest proof is served by `verify`.
-use Rattle.std.proofs.Common.{◌≡◌, ◌^◌, ℕ, List, Option, Some, ap₂}
+-- A file that is an honest proof is served by `verify`, and a reply that is one is accepted by `ask`.
+use Rattle.std.proofs.Common.{◌≡◌, ◌^◌, ℕ, List, Option, Some, Ok, refl, sym, subst, inl, ap₂}
 use Rattle.std.specs.Prelude.{option_map, option_and_then}
 use Rattle.ats_records.specs.declared.record.Algorithm.{Algorithm}
+use Rattle.ats_base.specs.Links.{CallerTold}
 use Rattle.ats_terms.specs.Query.{IsQueryOf}
 use Rattle.ats_commit.specs.Archive.{Archive}
 use Rattle.ats_commit.specs.Root.{root_of}
 use Rattle.ats_prover.specs.Honest.{IsProved}
+use Rattle.ats_client.specs.Bytes.{IsAcceptedBytes}
 use Rattle.ats_accepts.proofs.Accepted.{proved_accepted}
-use Rattle.ats_top.specs.Words.{Command, Verify, number_of, root_word, verify_words, command_of}
+use Rattle.ats_top.specs.Words.{AskWords, Command, Verify, number_of, root_word, verify_words, command_of}
 use Rattle.ats_top.specs.Read.{Files, IsFile}
 use Rattle.ats_top.specs.Refusals.{IsRowCount}
 use Rattle.ats_top.specs.Done.{IsServed}
+use Rattle.ats_top.specs.Conversation.{Converses}
+use Rattle.ats_top.specs.Asked.{question_of, Decides}
 use Rattle.ats_top.specs.Run.{Said}
 
 -- the command of the words of `verify`, from what its root and its number of rows spell
@@ -42,4 +46,24 @@ honest_served H archive asked rows algorithm bytes files root r query name prove
           accepted = record { says = proved.spells; accepts = proved_accepted H archive asked rows algorithm bytes proved proof proved.spells };
         },
       ),
+    )
+
+pub honest_replied : (H : List ℕ → List ℕ) (archive : Archive) (asked : List (List ℕ × ℕ)) (algorithm : Algorithm) (bytes : List ℕ) (words : AskWords) (before now : CallerTold)
+    → IsProved H archive asked words.r algorithm bytes → words.root ≡ root_of H archive → IsRowCount words.r → IsQueryOf words.query asked
+    → Converses words.address (question_of words) before now (Ok bytes) → Decides H before now words 0
+honest_replied H archive asked algorithm bytes words before now proved same within is_query conversation =
+    let proof = proved.proof in
+    let accepted : IsAcceptedBytes H (root_of H archive) asked words.r bytes proof = record {
+      says = proved.spells;
+      accepts = proved_accepted H archive asked words.r algorithm bytes proved proof proved.spells;
+    } in
+    inl (
+      refl,
+      record {
+        query = asked;
+        bytes = bytes;
+        replied = record { asks = record { rows = within; query = is_query.has }; asked = is_query; conversation = conversation };
+        proof = proof;
+        accepted = subst (λ (root : List ℕ). IsAcceptedBytes H root asked words.r bytes proof) (sym same) accepted;
+      },
     )

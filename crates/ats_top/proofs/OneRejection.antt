@@ -3,7 +3,7 @@ use Rattle.std.proofs.Common.{◌≡◌, ◌∙◌, ◌^◌, ℕ, List, sym, sub
 use Rattle.ats_client.specs.Bytes.{IsRejectedBytes}
 use Rattle.ats_client.specs.declared.fault.Rejection.{Rejection}
 use Rattle.ats_client.proofs.OneRejection as bytes
-use Rattle.ats_top.specs.Words.{VerifyWords, Command, Rank, Build, Root, Prove, Verify}
+use Rattle.ats_top.specs.Words.{VerifyWords, Command, Rank, Build, Root, Prove, Verify, Ask, Serve}
 use Rattle.ats_top.specs.Read.{Files, IsTold}
 use Rattle.ats_top.specs.Rejected.{IsProofRejected, IsRejected}
 use Rattle.ats_top.proofs.Refused.{not_longer, one_file}
@@ -26,4 +26,6 @@ one_rejection H files (Rank words) a b told is also = absurd is
 one_rejection H files (Build words) a b told is also = absurd is
 one_rejection H files (Root words) a b told is also = absurd is
 one_rejection H files (Prove words) a b told is also = absurd is
+one_rejection H files (Ask words) a b told is also = absurd is
 one_rejection H files (Verify words) a b told is also = one_of_proof H files words a b told is.1 also.1
+one_rejection H files (Serve words) a b told is also = absurd is

@@ -3,7 +3,7 @@ use Rattle.std.proofs.Common.{◌≡◌, ◌≤◌, ◌^◌, ◌++◌, ◌∷◌
 use Rattle.ats_base.specs.Outside.{IsMissing, ShelfTold, Ask, Asked, ReadsAtMostOnce, StoresOnce}
 use Rattle.ats_base.proofs.Asking.{asked_none, asked_then, asked_as}
 use Rattle.ats_commit.specs.Archive.{Archive}
-use Rattle.ats_top.specs.Words.{RankWords, BuildWords, RootWords, ProveWords, VerifyWords, Command, Rank, Build, Root, Prove, Verify}
+use Rattle.ats_top.specs.Words.{RankWords, BuildWords, RootWords, ProveWords, VerifyWords, ServeWords, Command, Rank, Build, Root, Prove, Verify, Serve}
 use Rattle.ats_top.specs.Read.{HasCollection, HasIndex}
 use Rattle.ats_top.specs.Reading.{AsCollection, AsIndex, AsProof, InputFile, limit_of, reads, stores, ReadsInOrder, StoresAtMostOnce, AsksFor, IsFirstMissing, Reads, Serves}
 use Rattle.ats_top.proofs.Refused.{missing_file}
@@ -87,6 +87,9 @@ module _ (before now : ShelfTold) where
 
   pub verify_read : (words : VerifyWords) → Reads before now words.proof (2 ^ 26) → Serves before now (Verify words)
   verify_read words is = one_read (Verify words) (record { name = words.proof; form = AsProof }) refl before now is
+
+  pub serve_read : (words : ServeWords) → Reads before now words.index (2 ^ 29) → Serves before now (Serve words)
+  serve_read words is = one_read (Serve words) (record { name = words.index; form = AsIndex }) refl before now is
 
   pub build_stored : (mid : ShelfTold) (words : BuildWords) (texts : List (List ℕ)) → HasCollection before.files words.collection texts
       → Reads before mid words.collection (2 ^ 26) → Asked mid.asked now.asked (StoresOnce words.index) → mid.faults ≤ now.faults → Serves before now (Build words)

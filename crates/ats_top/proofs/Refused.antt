@@ -20,11 +20,12 @@ use Rattle.ats_prover.proofs.Archives.{archive_one}
 use Rattle.ats_top.specs.Input.{AreJsonTexts}
 use Rattle.ats_top.specs.declared.input.JsonFault.{JsonFault}
 use Rattle.ats_top.specs.declared.input.JsonFault.TheVariants as json
-use Rattle.ats_top.specs.Words.{ProveWords, Command, Rank, Build, Root, Prove, Verify}
+use Rattle.ats_top.specs.Words.{ProveWords, Command, Rank, Build, Root, Prove, Verify, Ask, Serve}
 use Rattle.ats_top.specs.Read.{Files, IsTold, IsFile, HasCollection, HasIndex}
 use Rattle.ats_top.specs.Refusals.{IsRowCount, AsksRanking, Asks, LacksFile, IsJsonRefused, AreTextsRefused, IsCollectionRefused, IsIndexRefused, IsProvingRefused, IsRankingRefused, IsRefused}
 use Rattle.ats_top.specs.Proved.{IsProofFor, IsProofTooLong}
-use Rattle.ats_top.specs.Done.{IsDone, HasInput, IsServed}
+use Rattle.ats_top.specs.Outside.{Outside}
+use Rattle.ats_top.specs.Done.{IsProofStored, IsDone, HasInput, IsServed}
 use Rattle.ats_top.specs.declared.stops.InputRefusal.{InputRefusal}
 use Rattle.ats_top.specs.declared.stops.InputRefusal.TheVariants.{ROut, QueryTooLong, NoTerm, TooManyWords, TooManyTerms, FileTooLong, NotJson, NotArray, BadItem, NoDocuments, TooManyDocuments, TextTooLong, AllTooLong, BadIndex, ProofTooLong}
 use Rattle.ats_top.proofs.JsonLemmas.{same_texts, IsJsonRefusal, no_json_fault}
@@ -146,6 +147,8 @@ served_kept H files (Root words) told (archive, has) refusal refused = index_kep
 served_kept H files (Prove words) told ((asks, (archive, has)), fits) refusal refused =
     ranking_kept words.r words.query (IsProvingRefused H files words) asks
     (proving_kept H files words (index_kept H files words.index archive told has) fits) refusal refused
+served_kept H files (Ask words) told served refusal refused = absurd served
+served_kept H files (Serve words) told (archive, has) refusal refused = index_kept H files words.index archive told has refusal refused
 served_kept H files (Verify words) told (asks, has) refusal refused = ranking_kept words.r words.query (λ other. ⊥) asks (λ other never. never) refusal refused
 
 -- bytes that spell a proof are as many as its fields have
@@ -165,22 +168,27 @@ too_long_kept H files words bytes size told stored long =
     let one : stored.proved.proof ≡ long.long.proof = archive_one H long.archive long.query words.r words.algorithm stored.proved.proof long.long.proof honest long.long.honest in
     omega (arith, stored.short, spelled_size bytes stored.proved.proof stored.proved.spells, ap length_of one, long.long.bytes_are, long.long.beyond)
 
-proof_kept : (H : List ℕ → List ℕ) (before now : Files) (words : ProveWords) (text : List ℕ) → IsTold before → IsDone H before now (Prove words) text
+proof_kept : (H : List ℕ → List ℕ) (before now : Files) (words : ProveWords) (text : List ℕ) → IsTold before → IsProofStored H before now words text
     → (refusal : InputRefusal) → IsProvingRefused H before words refusal → ⊥
 proof_kept H before now words text told done (ProofTooLong size) refused = too_long_kept H before words done.bytes size told done.proof refused
 proof_kept H before now words text told done other refused = index_kept H before words.index done.proof.archive told done.proof.index other refused
 
 -- what is done is not refused, where the files are told
-pub done_kept : (H : List ℕ → List ℕ) (before now : Files) (command : Command) (text : List ℕ) → IsTold before → IsDone H before now command text
-    → (refusal : InputRefusal) → IsRefused H before command refusal → ⊥
+pub done_kept : (H : List ℕ → List ℕ) (before now : Outside) (command : Command) (text : List ℕ) → IsTold before.shelf.files → IsDone H before now command text
+    → (refusal : InputRefusal) → IsRefused H before.shelf.files command refusal → ⊥
 done_kept H before now (Rank words) text told (ranked, same) refusal refused =
-    served_kept H before (Rank words) told (ranked.asks, (ranked.texts, ranked.collection)) refusal refused
+    served_kept H before.shelf.files (Rank words) told (ranked.asks, (ranked.texts, ranked.collection)) refusal refused
 done_kept H before now (Build words) text told built refusal refused =
-    served_kept H before (Build words) told (built.texts, built.collection) refusal refused
+    served_kept H before.shelf.files (Build words) told (built.texts, built.collection) refusal refused
 done_kept H before now (Root words) text told (rooted, same) refusal refused =
-    served_kept H before (Root words) told (rooted.archive, rooted.index) refusal refused
+    served_kept H before.shelf.files (Root words) told (rooted.archive, rooted.index) refusal refused
 done_kept H before now (Prove words) text told done refusal refused =
-    ranking_kept words.r words.query (IsProvingRefused H before words) done.asks (proof_kept H before now words text told done) refusal refused
+    ranking_kept words.r words.query (IsProvingRefused H before.shelf.files words) done.asks
+    (proof_kept H before.shelf.files now.shelf.files words text told done) refusal refused
+done_kept H before now (Ask words) text told (answered, same) refusal refused =
+    ranking_kept words.r words.query (λ other. ⊥) answered.accepted.replied.asks (λ other never. never) refusal refused
+done_kept H before now (Serve words) text told (all, same) refusal refused =
+    served_kept H before.shelf.files (Serve words) told (all.served.archive, all.served.index) refusal refused
 done_kept H before now (Verify words) text told (verified, same) refusal refused =
     ranking_kept words.r words.query (λ other. ⊥) verified.asks (λ other never. never) refusal refused
 
@@ -208,6 +216,8 @@ lacks_asks H files (Build words) lacks = tt
 lacks_asks H files (Root words) lacks = tt
 lacks_asks H files (Prove words) lacks = lacks.0
 lacks_asks H files (Verify words) lacks = lacks.0
+lacks_asks H files (Ask words) lacks = absurd lacks
+lacks_asks H files (Serve words) lacks = tt
 
 -- and nothing is refused
 pub missing_kept : (H : List ℕ → List ℕ) (files : Files) (command : Command) → LacksFile H files command
@@ -220,6 +230,8 @@ missing_kept H files (Prove words) (asks, missing) refusal refused =
     ranking_kept words.r words.query (IsProvingRefused H files words) asks
     (proving_kept H files words (index_missing files words.index missing H)
     (λ size long. missing_file files words.index long.index.bytes (2 ^ 29) missing long.index.file)) refusal refused
+missing_kept H files (Ask words) lacks refusal refused = absurd lacks
+missing_kept H files (Serve words) missing refusal refused = index_missing files words.index missing H refusal refused
 missing_kept H files (Verify words) (asks, missing) refusal refused = ranking_kept words.r words.query (λ other. ⊥) asks (λ other never. never) refusal refused
 
 -- a file of the form that the command reads is there
@@ -228,6 +240,8 @@ input_there H files (Rank words) (asks, (texts, has)) lacks = missing_file files
 input_there H files (Build words) (texts, has) lacks = missing_file files words.collection has.bytes (2 ^ 26) lacks has.file
 input_there H files (Root words) (archive, has) lacks = missing_file files words.index has.bytes (2 ^ 29) lacks has.file
 input_there H files (Prove words) (asks, (archive, has)) lacks = missing_file files words.index has.bytes (2 ^ 29) lacks.1 has.file
+input_there H files (Ask words) asks lacks = absurd lacks
+input_there H files (Serve words) (archive, has) lacks = missing_file files words.index has.bytes (2 ^ 29) lacks has.file
 input_there H files (Verify words) (asks, is) lacks = missing_file files words.proof is.bytes (2 ^ 26) lacks.1 is.file
 
 pub served_input : (H : List ℕ → List ℕ) (files : Files) (command : Command) → IsServed H files command → HasInput H files command
@@ -236,3 +250,5 @@ served_input H files (Build words) served = served
 served_input H files (Root words) served = served
 served_input H files (Prove words) served = served.0
 served_input H files (Verify words) served = served
+served_input H files (Ask words) served = absurd served
+served_input H files (Serve words) served = served

@@ -4,7 +4,7 @@ use Rattle.ats_base.specs.Outside.{IsMissing}
 use Rattle.ats_client.specs.Bytes.{IsAcceptedBytes}
 use Rattle.ats_client.specs.declared.fault.Rejection.{Rejection}
 use Rattle.ats_client.proofs.OneRejection.{accepted_kept}
-use Rattle.ats_top.specs.Words.{VerifyWords, Command, Rank, Build, Root, Prove, Verify}
+use Rattle.ats_top.specs.Words.{VerifyWords, Command, Rank, Build, Root, Prove, Verify, Ask, Serve}
 use Rattle.ats_top.specs.Read.{Files, IsTold}
 use Rattle.ats_top.specs.Verified.{IsAccepted}
 use Rattle.ats_top.specs.Refusals.{LacksFile, IsRefused}
@@ -31,6 +31,8 @@ input_kept H files (Rank words) told has rejection rejected = rejected
 input_kept H files (Build words) told has rejection rejected = rejected
 input_kept H files (Root words) told has rejection rejected = rejected
 input_kept H files (Prove words) told has rejection rejected = rejected
+input_kept H files (Ask words) told has rejection rejected = rejected
+input_kept H files (Serve words) told has rejection rejected = rejected
 input_kept H files (Verify words) told (asks, is) rejection rejected = proof_accepted H files words told is rejection rejected.1
 
 proof_missing : (H : List ℕ → List ℕ) (files : Files) (words : VerifyWords) → IsMissing files words.proof → (rejection : Rejection)
@@ -45,6 +47,8 @@ rejected_there H files (Rank words) lacks rejection rejected = rejected
 rejected_there H files (Build words) lacks rejection rejected = rejected
 rejected_there H files (Root words) lacks rejection rejected = rejected
 rejected_there H files (Prove words) lacks rejection rejected = rejected
+rejected_there H files (Ask words) lacks rejection rejected = rejected
+rejected_there H files (Serve words) lacks rejection rejected = rejected
 rejected_there H files (Verify words) lacks rejection rejected = proof_missing H files words lacks.1 rejection rejected.1
 
 -- what is rejected is not refused
@@ -54,5 +58,7 @@ rejected_kept H files (Rank words) rejection rejected refusal refused = rejected
 rejected_kept H files (Build words) rejection rejected refusal refused = rejected
 rejected_kept H files (Root words) rejection rejected refusal refused = rejected
 rejected_kept H files (Prove words) rejection rejected refusal refused = rejected
+rejected_kept H files (Ask words) rejection rejected refusal refused = rejected
+rejected_kept H files (Serve words) rejection rejected refusal refused = rejected
 rejected_kept H files (Verify words) rejection rejected refusal refused =
     ranking_kept words.r words.query (λ other. ⊥) rejected.0 (λ other never. never) refusal refused

@@ -1,28 +1,137 @@
 -- A command that is done or stopped ends so.
-use Rattle.std.proofs.Common.{◌≡◌, ℕ, List, [], refl, Some, Result, Ok, Err, IfErr}
+use Rattle.std.proofs.Common.{◌≡◌, ◌≤◌, ◌++◌, ℕ, List, [], refl, inl, inr, Some, Result, Ok, Err, IfErr}
 use Rattle.std.specs.Prelude.{IfOk}
-use Rattle.ats_base.specs.Outside.{ShelfTold}
-use Rattle.ats_top.specs.Words.{Command, command_of}
+use Rattle.ats_base.specs.Outside.{ShelfTold, SinkTold}
+use Rattle.ats_base.specs.Links.{CallerTold, DoorTold}
+use Rattle.ats_top.specs.Words.{RankWords, AskWords, Command, Rank, Ask, command_of}
+use Rattle.ats_top.specs.ReadStops.{RankingStop}
+use Rattle.ats_top.specs.Refusals.{IsCollectionRefused}
+use Rattle.ats_top.specs.Outside.{Outside}
 use Rattle.ats_top.specs.Done.{IsDone}
-use Rattle.ats_top.specs.Stops.{Done, Stopped}
-use Rattle.ats_top.specs.Run.{IsStopped, Ends}
+use Rattle.ats_top.specs.Stops.{End, Done, Stopped, HasLine, status_of_stop, text_of_stop}
+use Rattle.ats_top.specs.Asked.{AskStop}
+use Rattle.ats_top.specs.Serving.{Took}
+use Rattle.ats_top.proofs.LinkEnds.{links_memory}
+use Rattle.ats_top.specs.Run.{FilesStop, Ends, Prints, PrintsStop, Ended}
 use Rattle.ats_top.specs.declared.stops.Stop.{Stop}
-use Rattle.ats_top.specs.declared.stops.Stop.TheVariants.{Usage, Shelf, Input, Rejected, Memory}
+use Rattle.ats_top.specs.declared.stops.Stop.TheVariants.{Usage, Shelf, Input, Rejected, Memory, Link, Peer, Faults}
+use Rattle.ats_top.proofs.Sessions.{took_then, failed_then}
 
-module _ (H : List ℕ → List ℕ) (before now : ShelfTold) (said : List (List ℕ)) (command : Command) (is : command_of said ≡ Some command) where
-  stop_ends : (stop : Stop) → IsStopped H before now command stop → Ends H before now said (Stopped [] stop)
-  stop_ends Usage stopped = absurd stopped
-  stop_ends Shelf stopped = (refl, (command, is, stopped))
-  stop_ends (Input refusal) stopped = (refl, (command, is, stopped))
-  stop_ends (Rejected rejection) stopped = (refl, (command, is, stopped))
-  stop_ends Memory stopped = (refl, (command, is, stopped))
+-- what is told but by the sink, before and now, of a command of these words
+module _ (H : List ℕ → List ℕ) (shelf later_shelf : ShelfTold) (caller later_caller : CallerTold) (door later_door : DoorTold)
+    (said : List (List ℕ)) (command : Command) (is : command_of said ≡ Some command) where
+  abbrev before : SinkTold → Outside
+  before sink = record { shelf = shelf; sink = sink; caller = caller; door = door }
 
-  pub stopped_ends : {T : Type 0} (result : Result T Stop) → IfErr result (IsStopped H before now command)
-      → IfErr result (λ stop. Ends H before now said (Stopped [] stop))
-  stopped_ends (Ok _) stopped = tt
-  stopped_ends (Err stop) stopped = stop_ends stop stopped
+  abbrev now : SinkTold → Outside
+  now sink = record { shelf = later_shelf; sink = sink; caller = later_caller; door = later_door }
 
-  pub done_ends : {T : Type 0} (bytes_of : T → List ℕ) (result : Result T Stop) → IfOk result (λ text. IsDone H before.files now.files command (bytes_of text))
-      → IfOk result (λ text. Ends H before now said (Done (bytes_of text)))
-  done_ends bytes_of (Ok text) done = (command, is, done)
-  done_ends bytes_of (Err stop) done = tt
+  -- whatever the sink tells
+  abbrev EndsSo : End → Type 0
+  EndsSo end = (was is : SinkTold) → Ends H (before was) (now is) said end
+
+  pub files_end : (stop : Stop) → FilesStop H shelf later_shelf command stop → EndsSo (Stopped [] stop)
+  files_end Usage stops = absurd stops
+  files_end Shelf stops = λ was now. (command, is, inl (refl, stops))
+  files_end (Input refusal) stops = λ was now. (command, is, inl (refl, stops))
+  files_end (Rejected rejection) stops = λ was now. (command, is, inl (refl, stops))
+  files_end Memory stops = λ was now. (command, is, inl (refl, stops))
+  files_end Link stops = absurd stops
+  files_end (Peer fault) stops = absurd stops
+  files_end (Faults count) stops = absurd stops
+
+  -- a command that stopped by its words or files
+  pub files_ends : {T : Type 0} (result : Result T Stop) → IfErr result (FilesStop H shelf later_shelf command)
+      → IfErr result (λ stop. EndsSo (Stopped [] stop))
+  files_ends (Ok _) stops = tt
+  files_ends (Err stop) stops = files_end stop stops
+
+  -- a command that is done, by what its text must be
+  pub done_ends : {T : Type 0} (bytes_of : T → List ℕ) (Does : List ℕ → Type 0) (result : Result T Stop)
+      → ((text : List ℕ) → Does text → (was is : SinkTold) → IsDone H (before was) (now is) command text)
+      → IfOk result (λ text. Does (bytes_of text)) → IfOk result (λ text. EndsSo (Done (bytes_of text)))
+  done_ends bytes_of Does (Ok text) says done = λ was now. (command, is, says (bytes_of text) done was now)
+  done_ends bytes_of Does (Err stop) says done = tt
+
+-- `ask` that stopped before it printed, whatever the sink tells
+module _ (H : List ℕ → List ℕ) (shelf : ShelfTold) (caller later : CallerTold) (door : DoorTold)
+    (said : List (List ℕ)) (words : AskWords) (is : command_of said ≡ Some (Ask words)) where
+  ask_end : (stop : Stop) → AskStop H caller later words stop → (was now : SinkTold)
+      → Ends H (record { shelf = shelf; sink = was; caller = caller; door = door }) (record { shelf = shelf; sink = now; caller = later; door = door }) said (Stopped [] stop)
+  ask_end Usage stops was now = absurd stops
+  ask_end Shelf stops was now = absurd stops
+  ask_end (Input refusal) stops was now = (Ask words, is, inr (refl, stops, refl))
+  ask_end (Rejected rejection) stops was now = (Ask words, is, inr (refl, stops, refl))
+  ask_end Memory stops was now = (Ask words, is, inr (refl, stops, refl))
+  ask_end Link stops was now = (Ask words, is, inr (refl, stops, refl))
+  ask_end (Peer fault) stops was now = (Ask words, is, inr (refl, stops, refl))
+  ask_end (Faults count) stops was now = absurd stops
+
+  pub ask_ends : {X : Type 0} (result : Result X Stop) → IfErr result (AskStop H caller later words)
+      → IfErr result (λ stop. (was now : SinkTold)
+      → Ends H (record { shelf = shelf; sink = was; caller = caller; door = door }) (record { shelf = shelf; sink = now; caller = later; door = door }) said (Stopped [] stop))
+  ask_ends (Ok _) stops = tt
+  ask_ends (Err stop) stops = ask_end stop stops
+
+-- what is printed behind a text that was taken is printed with it
+prints_then : (before mid now : SinkTold) (status : ℕ) (text more : List ℕ) (result : ℕ) → Took before mid text → mid.faults ≤ now.faults
+    → Prints mid now status more result → Prints before now status (text ++ more) result
+prints_then before mid now status text more result took later (inl (not, is, all)) =
+    inl (not, is, (took_then before mid now text more took (record { all = all; later = later })).all)
+prints_then before mid now status text more result took later (inr (is, rose, (n, within, part))) =
+    let failed = failed_then before mid now text more took (record { n = n; within = within; part = part; cause = rose; later = later }) in
+    inr (is, failed.cause, (failed.n, failed.within, failed.part))
+
+-- why `rank` stopped is why a command stops by its words and files
+rank_stop : (H : List ℕ → List ℕ) (before now : ShelfTold) (words : RankWords) (stop : Stop) → now.files ≡ before.files
+    → RankingStop before now words.collection words.r words.query (IsCollectionRefused before.files words.collection) stop → FilesStop H before now (Rank words) stop
+rank_stop H before now words Shelf same (asks, inl rose) = (inl (asks, rose), inl same)
+rank_stop H before now words Shelf same (asks, inr missing) = (inr (asks, missing), inl same)
+rank_stop H before now words (Input refusal) same stops = (stops, same)
+rank_stop H before now words Memory same stops = same
+rank_stop H before now words Usage same stops = absurd stops
+rank_stop H before now words (Rejected rejection) same stops = absurd stops
+rank_stop H before now words Link same stops = absurd stops
+rank_stop H before now words (Peer fault) same stops = absurd stops
+rank_stop H before now words (Faults count) same stops = absurd stops
+
+pub rank_stops : {T : Type 0} (H : List ℕ → List ℕ) (before now : ShelfTold) (words : RankWords) (result : Result T Stop) → now.files ≡ before.files
+    → IfErr result (RankingStop before now words.collection words.r words.query (IsCollectionRefused before.files words.collection))
+    → IfErr result (FilesStop H before now (Rank words))
+rank_stops H before now words (Ok _) same stops = tt
+rank_stops H before now words (Err stop) same stops = rank_stop H before now words stop same stops
+
+module _ (H : List ℕ → List ℕ) (said : List (List ℕ)) (before now : Outside) where
+  -- no memory for the line of a stop is want of memory
+  pub no_line : (text : List ℕ) (stop : Stop) → HasLine stop → Ends H before now said (Stopped text stop) → Ends H before now said (Stopped text Memory)
+  no_line text Usage has ends = absurd has
+  no_line text Shelf has ends = absurd has
+  no_line text (Input refusal) has (command, is, inl stops) = (command, is, inl (stops.0, stops.1.1))
+  no_line text (Input refusal) has (command, is, inr links) = (command, is, links_memory H before now command text (Input refusal) has links)
+  no_line text (Rejected rejection) has (command, is, inl stops) = (command, is, inl (stops.0, stops.1.1))
+  no_line text (Rejected rejection) has (command, is, inr links) = (command, is, links_memory H before now command text (Rejected rejection) has links)
+  no_line text Memory has ends = absurd has
+  no_line text Link has ends = absurd has
+  no_line text (Peer fault) has (command, is, inl stops) = absurd stops.1
+  no_line text (Peer fault) has (command, is, inr links) = (command, is, links_memory H before now command text (Peer fault) has links)
+  no_line text (Faults count) has (command, is, inl stops) = absurd stops.1
+  no_line text (Faults count) has (command, is, inr links) = (command, is, links_memory H before now command text (Faults count) has links)
+
+  -- a command that stopped before it printed, and whose stop was then printed
+  pub stop_ended : (stop : Stop) (result : ℕ) → Ends H before now said (Stopped [] stop) → PrintsStop before.sink now.sink stop result → Ended H said before now result
+  stop_ended stop result ends (inl prints) = record { end = Stopped [] stop; ends = ends; prints = prints }
+  stop_ended stop result ends (inr (has, prints)) = record { end = Stopped [] Memory; ends = no_line [] stop has ends; prints = prints }
+
+  -- a command that stopped behind this text, which was taken, and whose stop was then printed
+  pub stopped_behind : (text : List ℕ) (mid : SinkTold) (stop : Stop) (result : ℕ) → Took before.sink mid text → mid.faults ≤ now.sink.faults
+      → Ends H before now said (Stopped text stop) → PrintsStop mid now.sink stop result → Ended H said before now result
+  stopped_behind text mid stop result took later ends (inl prints) = record {
+    end = Stopped text stop;
+    ends = ends;
+    prints = prints_then before.sink mid now.sink (status_of_stop stop) text (text_of_stop stop) result took later prints;
+  }
+  stopped_behind text mid stop result took later ends (inr (has, prints)) = record {
+    end = Stopped text Memory;
+    ends = no_line text stop has ends;
+    prints = prints_then before.sink mid now.sink (status_of_stop Memory) text (text_of_stop Memory) result took later prints;
+  }

@@ -11,9 +11,9 @@ use Rattle.ats_top.specs.Read.{IsFile}
 use Rattle.ats_top.specs.Refusals.{AsksRanking}
 use Rattle.ats_top.specs.ReadStops.{ProofStop, BytesStop}
 use Rattle.ats_top.specs.Done.{IsVerified}
-use Rattle.ats_top.specs.Run.{IsStopped}
+use Rattle.ats_top.specs.Run.{FilesStop}
 use Rattle.ats_top.specs.declared.stops.Stop.{Stop}
-use Rattle.ats_top.specs.declared.stops.Stop.TheVariants.{Usage, Shelf, Input, Rejected, Memory}
+use Rattle.ats_top.specs.declared.stops.Stop.TheVariants.{Usage, Shelf, Input, Rejected, Memory, Link, Peer, Faults}
 
 -- rows and a query that were read are within the limits
 pub asks_of : (r : ℕ) (text : List ℕ) (query : List (List ℕ × ℕ)) → (1 ≤ r) × (r ≤ 1000) → IsQueryOf text query → AsksRanking r text
@@ -21,26 +21,32 @@ asks_of r text query within asked = record { rows = record { some = within.0; fe
 
 module _ (H : List ℕ → List ℕ) (before now : ShelfTold) (words : VerifyWords) (asks : AsksRanking words.r words.query) (same : now.files ≡ before.files) where
   -- a file that was not gathered
-  pub file_stops : (stop : Stop) → ProofStop before now words.proof stop → IsStopped H before now (Verify words) stop
+  pub file_stops : (stop : Stop) → ProofStop before now words.proof stop → FilesStop H before now (Verify words) stop
   file_stops Usage stops = stops
   file_stops Shelf (inl rose) = (inl (asks, rose), inl same)
   file_stops Shelf (inr missing) = (inr (asks, missing), inl same)
   file_stops (Input refusal) stops = absurd stops
   file_stops (Rejected rejection) stops = ((asks, inl stops), same)
   file_stops Memory stops = same
+  file_stops Link stops = absurd stops
+  file_stops (Peer fault) stops = absurd stops
+  file_stops (Faults count) stops = absurd stops
 
   module _ (query : List (List ℕ × ℕ)) (bytes : List ℕ) (asked : IsQueryOf words.query query) (file : IsFile before.files words.proof (2 ^ 26) bytes) where
-    bytes_stop : (stop : Stop) → BytesStop H words.root query words.r bytes stop → IsStopped H before now (Verify words) stop
+    bytes_stop : (stop : Stop) → BytesStop H words.root query words.r bytes stop → FilesStop H before now (Verify words) stop
     bytes_stop Usage stops = stops
     bytes_stop Shelf stops = absurd stops
     bytes_stop (Input refusal) stops = absurd stops
     bytes_stop (Rejected rejection) stops =
         ((asks, inr (record { query = query; asked = asked; bytes = bytes; file = file; rejected = stops })), same)
     bytes_stop Memory stops = same
+    bytes_stop Link stops = absurd stops
+    bytes_stop (Peer fault) stops = absurd stops
+    bytes_stop (Faults count) stops = absurd stops
 
     -- bytes that were refused
     pub bytes_stops : {T : Type 0} (result : Result T Stop) → IfErr result (BytesStop H words.root query words.r bytes)
-        → IfErr result (IsStopped H before now (Verify words))
+        → IfErr result (FilesStop H before now (Verify words))
     bytes_stops (Ok text) stops = tt
     bytes_stops (Err stop) stops = bytes_stop stop stops
 

@@ -10,12 +10,15 @@ use Rattle.ats_commit.specs.Root.{root_of}
 use Rattle.ats_index.specs.Spelling.{IsSpelling}
 use Rattle.ats_client.specs.Headline.{IsTopOrCollides}
 use Rattle.ats_client.specs.Rows.{rows_of}
-use Rattle.ats_top.specs.Words.{RankWords, BuildWords, RootWords, ProveWords, VerifyWords, Command, Rank, Build, Root, Prove, Verify, root_word}
+use Rattle.ats_top.specs.Words.{RankWords, BuildWords, RootWords, ProveWords, VerifyWords, Command, Rank, Build, Root, Prove, Verify, Ask, Serve, root_word}
 use Rattle.ats_top.specs.Print.{lines, line_of_root, line_of_proof}
+use Rattle.ats_top.specs.Outside.{Outside}
 use Rattle.ats_top.specs.Read.{Files, HasCollection, HasIndex}
 use Rattle.ats_top.specs.Proved.{IsProofFor, IsProofTooLong}
 use Rattle.ats_top.specs.Verified.{IsAccepted}
+use Rattle.ats_top.specs.Served.{AreAllServed}
 use Rattle.ats_top.specs.Refusals.{AsksRanking}
+use Rattle.ats_top.specs.Asked.{IsAnswered}
 
 -- the text is the lines of the ranking of the named file's collection, and its documents are a top answer
 pub record IsRanked (files : Files) (words : RankWords) (text : List ℕ) : Type 0 where
@@ -65,13 +68,15 @@ pub record IsVerified (H : List ℕ → List ℕ) (files : Files) (words : Verif
   pub headline : IsTopOrCollides H words.root accepted.query words.r accepted.proof
   pub printed : text ≡ lines (rows_of accepted.query accepted.proof)
 
--- the command of these words is done: this is its text, and what the shelf holds after it
-abbrev pub IsDone : (List ℕ → List ℕ) → Files → Files → Command → List ℕ → Type 0
-IsDone H before now (Rank words) text = IsRanked before words text × (now ≡ before)
-IsDone H before now (Build words) text = IsBuilt H before now words text
-IsDone H before now (Root words) text = IsRooted H before words text × (now ≡ before)
-IsDone H before now (Prove words) text = IsProofStored H before now words text
-IsDone H before now (Verify words) text = IsVerified H before words text × (now ≡ before)
+-- the command of these words is done: this is its text, and what the objects of the outside hold after it
+abbrev pub IsDone : (List ℕ → List ℕ) → Outside → Outside → Command → List ℕ → Type 0
+IsDone H before now (Rank words) text = IsRanked before.shelf.files words text × (now.shelf.files ≡ before.shelf.files)
+IsDone H before now (Build words) text = IsBuilt H before.shelf.files now.shelf.files words text
+IsDone H before now (Root words) text = IsRooted H before.shelf.files words text × (now.shelf.files ≡ before.shelf.files)
+IsDone H before now (Prove words) text = IsProofStored H before.shelf.files now.shelf.files words text
+IsDone H before now (Verify words) text = IsVerified H before.shelf.files words text × (now.shelf.files ≡ before.shelf.files)
+IsDone H before now (Ask words) text = IsAnswered H before.caller now.caller words text × (now.shelf.files ≡ before.shelf.files)
+IsDone H before now (Serve words) text = AreAllServed H before.shelf.files words before.door now.door 0 text × (now.shelf.files ≡ before.shelf.files)
 
 -- the name was given a prefix of the bytes, which may be all of them
 pub record PutsPart (before now : Files) (name bytes : List ℕ) : Type 0 where
@@ -101,6 +106,8 @@ Changes H before now (Build words) = IsBuiltPart H before now words
 Changes H before now (Root words) = ⊥
 Changes H before now (Prove words) = IsProofPart H before now words
 Changes H before now (Verify words) = ⊥
+Changes H before now (Ask words) = ⊥
+Changes H before now (Serve words) = ⊥
 
 -- what the words say is within the limits, and the named file is of the form that the command reads; a proof is one that is accepted
 abbrev pub HasInput : (List ℕ → List ℕ) → Files → Command → Type 0
@@ -109,11 +116,15 @@ HasInput H files (Build words) = (texts : List (List ℕ)) × HasCollection file
 HasInput H files (Root words) = (archive : Archive) × HasIndex H files words.index archive
 HasInput H files (Prove words) = AsksRanking words.r words.query × ((archive : Archive) × HasIndex H files words.index archive)
 HasInput H files (Verify words) = AsksRanking words.r words.query × IsAccepted H files words
+HasInput H files (Ask words) = AsksRanking words.r words.query
+HasInput H files (Serve words) = (archive : Archive) × HasIndex H files words.index archive
 
--- and no honest proof that the words ask for is too long
+-- And no honest proof that the words ask for is too long. Of `ask` no file decides, but the reply.
 abbrev pub IsServed : (List ℕ → List ℕ) → Files → Command → Type 0
 IsServed H files (Rank words) = HasInput H files (Rank words)
 IsServed H files (Build words) = HasInput H files (Build words)
 IsServed H files (Root words) = HasInput H files (Root words)
 IsServed H files (Prove words) = HasInput H files (Prove words) × ((size : ℕ) → IsProofTooLong H files words size → ⊥)
 IsServed H files (Verify words) = HasInput H files (Verify words)
+IsServed H files (Ask words) = ⊥
+IsServed H files (Serve words) = HasInput H files (Serve words)

@@ -7,7 +7,7 @@ use Rattle.ats_top.specs.Rejected.{IsLongFile}
 use Rattle.ats_top.specs.declared.stops.InputRefusal.{InputRefusal}
 use Rattle.ats_top.specs.declared.stops.InputRefusal.TheVariants.{FileTooLong}
 use Rattle.ats_top.specs.declared.stops.Stop.{Stop}
-use Rattle.ats_top.specs.declared.stops.Stop.TheVariants.{Usage, Shelf, Input, Rejected, Memory}
+use Rattle.ats_top.specs.declared.stops.Stop.TheVariants.{Shelf, Input, Rejected, Memory}
 
 -- the shelf's count rose, or it tells and the named file is not there
 abbrev pub IsUnread : (before now : ShelfTold) → List ℕ → Type 0
@@ -15,11 +15,10 @@ IsUnread before now name = Rose before.faults now.faults ⊎ IsMissing before.fi
 
 -- a shelf's fault, or a refusal of which this holds
 abbrev pub StopsBy : (before now : ShelfTold) → List ℕ → (InputRefusal → Type 0) → Stop → Type 0
-StopsBy before now name refused Usage = ⊥
 StopsBy before now name refused Shelf = IsUnread before now name
 StopsBy before now name refused (Input refusal) = refused refusal
-StopsBy before now name refused (Rejected rejection) = ⊥
 StopsBy before now name refused Memory = Unit {0}
+StopsBy before now name refused _ = ⊥
 
 abbrev pub FileStop : (before now : ShelfTold) → List ℕ → (limit : ℕ) → Stop → Type 0
 FileStop before now name limit stop = StopsBy before now name (λ refusal. (refusal ≡ FileTooLong limit) × IsLonger before.files name limit) stop
@@ -32,24 +31,20 @@ IndexStop H before now name stop = StopsBy before now name (IsIndexRefused H bef
 
 -- the rows and the query are tried first, then the named file and what is made of it
 abbrev pub RankingStop : (before now : ShelfTold) → List ℕ → (r : ℕ) (text : List ℕ) → (InputRefusal → Type 0) → Stop → Type 0
-RankingStop before now name r text later Usage = ⊥
 RankingStop before now name r text later Shelf = AsksRanking r text × IsUnread before now name
 RankingStop before now name r text later (Input refusal) = IsRankingRefused r text later refusal
-RankingStop before now name r text later (Rejected rejection) = ⊥
 RankingStop before now name r text later Memory = Unit {0}
+RankingStop before now name r text later _ = ⊥
 
 -- a shelf's fault, or more bytes than a proof may have
 abbrev pub ProofStop : (before now : ShelfTold) → List ℕ → Stop → Type 0
-ProofStop before now name Usage = ⊥
 ProofStop before now name Shelf = IsUnread before now name
-ProofStop before now name (Input refusal) = ⊥
 ProofStop before now name (Rejected rejection) = IsLongFile before.files name rejection
 ProofStop before now name Memory = Unit {0}
+ProofStop before now name _ = ⊥
 
 -- the bytes are rejected
 abbrev pub BytesStop : (List ℕ → List ℕ) → List ℕ → List (List ℕ × ℕ) → ℕ → List ℕ → Stop → Type 0
-BytesStop H root query r bytes Usage = ⊥
-BytesStop H root query r bytes Shelf = ⊥
-BytesStop H root query r bytes (Input refusal) = ⊥
 BytesStop H root query r bytes (Rejected rejection) = IsRejectedBytes H root query r bytes rejection
 BytesStop H root query r bytes Memory = Unit {0}
+BytesStop H root query r bytes _ = ⊥

@@ -12,7 +12,7 @@ use Rattle.ats_index.specs.declared.load.LoadFault.TheVariants as index
 use Rattle.ats_top.specs.Input.{AreJsonTexts, IsFirstJsonFault}
 use Rattle.ats_top.specs.declared.input.JsonFault.{JsonFault}
 use Rattle.ats_top.specs.declared.input.JsonFault.TheVariants as json
-use Rattle.ats_top.specs.Words.{ProveWords, Command, Rank, Build, Root, Prove, Verify}
+use Rattle.ats_top.specs.Words.{ProveWords, Command, Rank, Build, Root, Prove, Verify, Ask, Serve}
 use Rattle.ats_top.specs.Read.{Files, IsFile}
 use Rattle.ats_top.specs.Proved.{IsProofTooLong}
 use Rattle.ats_top.specs.declared.stops.InputRefusal.{InputRefusal}
@@ -35,6 +35,13 @@ Asks (Build words) = Unit {0}
 Asks (Root words) = Unit {0}
 Asks (Prove words) = AsksRanking words.r words.query
 Asks (Verify words) = AsksRanking words.r words.query
+Asks (Ask words) = AsksRanking words.r words.query
+Asks (Serve words) = Unit {0}
+
+-- and it comes to the shelf
+abbrev pub NeedsShelf : Command → Type 0
+NeedsShelf (Ask words) = ⊥
+NeedsShelf command = Asks command
 
 -- a file that the command reads is not there, where what is tried before it is good
 abbrev pub LacksFile : (List ℕ → List ℕ) → Files → Command → Type 0
@@ -43,6 +50,8 @@ LacksFile H files (Build words) = IsMissing files words.collection
 LacksFile H files (Root words) = IsMissing files words.index
 LacksFile H files (Prove words) = AsksRanking words.r words.query × IsMissing files words.index
 LacksFile H files (Verify words) = AsksRanking words.r words.query × IsMissing files words.proof
+LacksFile H files (Ask words) = ⊥
+LacksFile H files (Serve words) = IsMissing files words.index
 
 -- the first refusal of the file's bytes is that of the JSON text
 abbrev pub IsJsonRefused : Files → List ℕ → JsonFault → Type 0
@@ -91,3 +100,5 @@ IsRefused H files (Build words) refusal = IsCollectionRefused files words.collec
 IsRefused H files (Root words) refusal = IsIndexRefused H files words.index refusal
 IsRefused H files (Prove words) refusal = IsRankingRefused words.r words.query (IsProvingRefused H files words) refusal
 IsRefused H files (Verify words) refusal = IsRankingRefused words.r words.query (λ other. ⊥) refusal
+IsRefused H files (Ask words) refusal = IsRankingRefused words.r words.query (λ other. ⊥) refusal
+IsRefused H files (Serve words) refusal = IsIndexRefused H files words.index refusal

@@ -6,7 +6,7 @@ use Rattle.ats_grammar.specs.declared.fault.ShapeKind.TheVariants.{Long}
 use Rattle.ats_client.specs.Bytes.{IsRejectedBytes}
 use Rattle.ats_client.specs.declared.fault.Rejection.{Rejection}
 use Rattle.ats_client.specs.declared.fault.Rejection.TheVariants.{Shape}
-use Rattle.ats_top.specs.Words.{VerifyWords, Command, Rank, Build, Root, Prove, Verify}
+use Rattle.ats_top.specs.Words.{VerifyWords, Command, Rank, Build, Root, Prove, Verify, Ask, Serve}
 use Rattle.ats_top.specs.Read.{Files, IsFile}
 use Rattle.ats_top.specs.Refusals.{AsksRanking}
 
@@ -27,10 +27,12 @@ pub record IsFileRejected (H : List ℕ → List ℕ) (files : Files) (words : V
 abbrev pub IsProofRejected : (List ℕ → List ℕ) → Files → VerifyWords → Rejection → Type 0
 IsProofRejected H files words rejection = IsLongFile files words.proof rejection ⊎ IsFileRejected H files words rejection
 
--- what the words say is within the limits, and the proof is refused so
+-- what the words say is within the limits, and the proof in the file is refused so
 abbrev pub IsRejected : (List ℕ → List ℕ) → Files → Command → Rejection → Type 0
 IsRejected H files (Rank words) rejection = ⊥
 IsRejected H files (Build words) rejection = ⊥
 IsRejected H files (Root words) rejection = ⊥
 IsRejected H files (Prove words) rejection = ⊥
+IsRejected H files (Ask words) rejection = ⊥
 IsRejected H files (Verify words) rejection = AsksRanking words.r words.query × IsProofRejected H files words rejection
+IsRejected H files (Serve words) rejection = ⊥

@@ -1,14 +1,15 @@
 //! What holds of the commands together, as contracts of functions that do nothing.
 
-ghost use Rattle.std.specs.Prelude.{◌≡◌, ◌≤◌, ◌^◌, ℕ, List, length, codes, Some};
+ghost use Rattle.std.specs.Prelude.{◌≡◌, ◌≤◌, ◌^◌, ℕ, List, length, codes, Some, IsSome};
 ghost use Rattle.ats_base.specs.Outside.{Holds};
+ghost use Rattle.ats_base.specs.Links.{CallerTold};
 ghost use Rattle.ats_terms.specs.Query.{IsQueryOf};
 ghost use Rattle.ats_commit.specs.Archive.{Archive};
 ghost use Rattle.ats_commit.specs.Root.{root_of};
 ghost use Rattle.ats_records.specs.declared.record.Algorithm.{Algorithm};
 ghost use Rattle.ats_index.specs.Spelling.{IsSpelling};
 ghost use Rattle.ats_prover.specs.Honest.{IsProved};
-ghost use Rattle.ats_top.specs.Words.{Command, number_of, algorithm_of, root_word, root_words, prove_words, verify_words};
+ghost use Rattle.ats_top.specs.Words.{AskWords, Command, Ask, number_of, algorithm_of, root_word, root_words, prove_words, verify_words};
 ghost use Rattle.ats_top.specs.Read.{Files, IsFile, IsTold};
 ghost use Rattle.ats_top.specs.Refusals.{IsRowCount, AsksRanking, IsRefused};
 ghost use Rattle.ats_top.specs.Rejected.{IsRejected};
@@ -16,6 +17,9 @@ ghost use Rattle.ats_client.specs.declared.fault.Rejection.{Rejection};
 ghost use Rattle.ats_top.specs.declared.stops.InputRefusal.{InputRefusal};
 ghost use Rattle.ats_top.specs.Done.{HasInput, IsServed};
 ghost use Rattle.ats_top.specs.Run.{Said};
+ghost use Rattle.ats_top.specs.Conversation.{Converses};
+ghost use Rattle.ats_top.specs.Asked.{question_of};
+ghost use Rattle.ats_top.specs.Calling.{ReplyDecides};
 
 use ats_hash::HashKind;
 
@@ -59,4 +63,18 @@ pub fn commands_have_one_refusal<H: HashKind>()
         → IsRefused H.hash files command a → IsRefused H.hash files command b → a ≡ b }
     ensures none { (files : Files) (command : Command) (refusal : InputRefusal) → IsTold files
         → IsServed H.hash files command → IsRefused H.hash files command refusal → ⊥ }
+{}
+
+/// Where the bytes that `ask` got are the honest proof of its query over an archive with its root, by either algorithm, its
+/// reply decides status 0.
+pub fn honest_replies_are_accepted<H: HashKind>()
+    ensures { (archive : Archive) (asked : List (List ℕ × ℕ)) (algorithm : Algorithm) (bytes : List ℕ) (words : AskWords) (before now : CallerTold)
+        → IsProved H.hash archive asked words.r algorithm bytes → words.root ≡ root_of H.hash archive → IsRowCount words.r → IsQueryOf words.query asked
+        → Converses words.address (question_of words) before now (Ok bytes) → ReplyDecides H.hash before now (Ask words) 0 }
+{}
+
+/// Where the caller tells, what came over the link of a command decides one status at most.
+pub fn replies_decide_one_status<H: HashKind>()
+    ensures { (before now : CallerTold) (command : Command) (a b : ℕ) → IsSome before.content
+        → ReplyDecides H.hash before now command a → ReplyDecides H.hash before now command b → a ≡ b }
 {}

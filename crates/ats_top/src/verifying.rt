@@ -1,4 +1,4 @@
-// The check of a stored proof, and the lines of its answer.
+// The check of a proof, and the lines of its answer.
 ghost use Rattle.std.specs.Prelude.{◌≡◌, ◌^◌, List, IfOk, IfErr, string_bytes};
 ghost use Rattle.ats_impact.specs.declared.rank.Row.{Row};
 ghost use Rattle.ats_client.specs.Bytes.{AreVerifiedRows};
@@ -8,7 +8,7 @@ ghost use Rattle.ats_top.specs.Refusals.{AsksRanking};
 ghost use Rattle.ats_top.specs.Reading.{Reads};
 ghost use Rattle.ats_top.specs.ReadStops.{BytesStop};
 ghost use Rattle.ats_top.specs.Done.{IsVerified};
-ghost use Rattle.ats_top.specs.Run.{IsStopped};
+ghost use Rattle.ats_top.specs.Run.{FilesStop};
 
 use crate::print::lines;
 use crate::read;
@@ -20,8 +20,8 @@ use ats_impact::Top;
 use ats_terms::Query;
 use std::alloc::Global;
 
-// The lines of the rows of bytes that are accepted as a proof.
-fn answered<H: Hash32>(
+/// The lines of the rows of bytes that are accepted as a proof.
+pub(crate) fn answered<H: Hash32>(
     alloc: Global,
     bytes: &[u8],
     root: &[u8; 32],
@@ -51,7 +51,7 @@ pub(crate) fn verify<H: Hash32, S: Shelf>(
     shelf: &mut S,
 ) -> Result<String, Stop>
     ensures ok { IfOk result (λ text. IsVerified H.hash (S.told shelf.old).files (record { root = root.now; r = r; query = query.now; proof = proof.now }) (string_bytes text)) }
-    ensures stop { IfErr result (IsStopped H.hash (S.told shelf.old) (S.told shelf.new) (Verify (record { root = root.now; r = r; query = query.now; proof = proof.now }))) }
+    ensures stop { IfErr result (FilesStop H.hash (S.told shelf.old) (S.told shelf.new) (Verify (record { root = root.now; r = r; query = query.now; proof = proof.now }))) }
     ensures reads { Reads (S.told shelf.old) (S.told shelf.new) proof.now (2 ^ 26) }
     ensures unread { (AsksRanking r query.now → ⊥) → shelf.new ≡ shelf.old }
 {

@@ -167,11 +167,19 @@ told_heard question before now traffic result told asked heard =
     heard_of before now asked.read carried.0 traffic.rest result carried.1 (λ at_end. subst IsAtEnd carried.2 at_end) heard
     (says_of (request_frame question) before now asked.read asked.written result heard asked.says)
 
+-- what comes in one way is told in one way, over whichever links
+pub asked_alike : (question other : Question) (before now late later : LinkTold) (traffic more : Traffic) (one two : Result (List ℕ) AskFault)
+    → before.traffic ≡ Some traffic → late.traffic ≡ Some more → traffic.rest ≡ more.rest
+    → IsAsked question before now one → IsAsked other late later two → IsHeard one → IsHeard two → one ≡ two
+asked_alike question other before now late later traffic more one two told also same first second heard too =
+    heard_once traffic.rest one two (told_heard question before now traffic one told first heard)
+    (subst (λ (stream : List ℕ). Heard stream two) (sym same) (told_heard other late later more two also second too))
+
 told_once : (question other : Question) (before now later : LinkTold) (one two : Result (List ℕ) AskFault) (traffic : Option Traffic)
     → before.traffic ≡ traffic → IsSome traffic → IsAsked question before now one → IsAsked other before later two → IsHeard one → IsHeard two → one ≡ two
 told_once question other before now later one two None told tells first second heard also = absurd (cc)
 told_once question other before now later one two (Some traffic) told tells first second heard also =
-    heard_once traffic.rest one two (told_heard question before now traffic one told first heard) (told_heard other before later traffic two told second also)
+    asked_alike question other before now before later traffic traffic one two told told refl first second heard also
 
 -- one reply is told in one way
 pub asked_once : (question other : Question) (before now later : LinkTold) (one two : Result (List ℕ) AskFault)

@@ -1,6 +1,8 @@
-use Rattle.std.proofs.Common.{sym, map, string_bytes, inr}
+use Rattle.std.proofs.Common.{refl, sym, map, string_bytes, inl, inr}
+use Rattle.ats_top.specs.Done.{IsProofStored, IsVerified}
+use Rattle.ats_top.specs.Asked.{IsAnswered}
 use Rattle.ats_top.proofs.Readings.{rank_read, root_read, verify_read}
-use Rattle.ats_top.proofs.Stopped.{stopped_ends, done_ends}
+use Rattle.ats_top.proofs.Stopped.{files_ends, rank_stops, ask_ends, done_ends}
 use Rattle.ats_top.proofs.commands.answer.Goals as goal
 
 pub returns-in-Some-Rank-clause-serves : goal.returns-in-Some-Rank-clause-serves
@@ -18,17 +20,62 @@ returns-in-Some-Verify-clause-serves g c =
     let is = rw c.in-Some-Verify.field-0-is at c.in-Some-Verify.ensures in
     inr (_, sym is, verify_read _ _ _ c.verify.ensures.reads)
 
+pub returns-in-Some-Rank-clause-stop : goal.returns-in-Some-Rank-clause-stop
+returns-in-Some-Rank-clause-stop g c =
+    let is = rw c.in-Some-Rank.field-0-is at c.in-Some-Rank.ensures in
+    files_ends g.H.HashKind.hash (g.S.Shelf.told c.args.shelf.now) (g.S.Shelf.told c.rank.new.shelf) (g.C.Caller.told c.args.caller.now) (g.C.Caller.told c.args.caller.now)
+    (g.D.Door.told c.args.door.now) (g.D.Door.told c.args.door.now) (map string_bytes c.args.words.now) _ (sym is) c.rank.result
+    (rank_stops g.H.HashKind.hash (g.S.Shelf.told c.args.shelf.now) (g.S.Shelf.told c.rank.new.shelf) _ c.rank.result c.rank.ensures.reads.files c.rank.ensures.stop)
+
+pub returns-in-Some-Verify-clause-ok : goal.returns-in-Some-Verify-clause-ok
+returns-in-Some-Verify-clause-ok g c =
+    let is = rw c.in-Some-Verify.field-0-is at c.in-Some-Verify.ensures in
+    done_ends _ (g.S.Shelf.told c.args.shelf.now) (g.S.Shelf.told c.verify.new.shelf) (g.C.Caller.told c.args.caller.now) (g.C.Caller.told c.args.caller.now)
+    (g.D.Door.told c.args.door.now) (g.D.Door.told c.args.door.now) (map string_bytes c.args.words.now) _ (sym is)
+    string_bytes (IsVerified _ _ _) c.verify.result (λ text done was now. (done, c.verify.ensures.reads.files)) c.verify.ensures.ok
+
+pub returns-in-Some-Build-clause-stop : goal.returns-in-Some-Build-clause-stop
+returns-in-Some-Build-clause-stop g c =
+    let is = rw c.in-Some-Build.field-0-is at c.in-Some-Build.ensures in
+    files_ends _ (g.S.Shelf.told c.args.shelf.now) (g.S.Shelf.told c.build.new.shelf) (g.C.Caller.told c.args.caller.now) (g.C.Caller.told c.args.caller.now)
+    (g.D.Door.told c.args.door.now) (g.D.Door.told c.args.door.now) (map string_bytes c.args.words.now) _ (sym is) c.build.result c.build.ensures.stop
+
 pub returns-in-Some-Prove-clause-ok : goal.returns-in-Some-Prove-clause-ok
 returns-in-Some-Prove-clause-ok g c =
     let is = rw c.in-Some-Prove.field-0-is at c.in-Some-Prove.ensures in
-    done_ends _ (g.S.Shelf.told c.args.shelf.now) (g.S.Shelf.told c.prove.new.shelf) (map string_bytes c.args.words.now) _ (sym is) string_bytes c.prove.result c.prove.ensures.ok
+    done_ends _ (g.S.Shelf.told c.args.shelf.now) (g.S.Shelf.told c.prove.new.shelf) (g.C.Caller.told c.args.caller.now) (g.C.Caller.told c.args.caller.now)
+    (g.D.Door.told c.args.door.now) (g.D.Door.told c.args.door.now) (map string_bytes c.args.words.now) _ (sym is)
+    string_bytes (IsProofStored _ _ _ _) c.prove.result (λ text done was now. done) c.prove.ensures.ok
 
 pub returns-in-Some-Prove-clause-stop : goal.returns-in-Some-Prove-clause-stop
 returns-in-Some-Prove-clause-stop g c =
     let is = rw c.in-Some-Prove.field-0-is at c.in-Some-Prove.ensures in
-    stopped_ends _ (g.S.Shelf.told c.args.shelf.now) (g.S.Shelf.told c.prove.new.shelf) (map string_bytes c.args.words.now) _ (sym is) c.prove.result c.prove.ensures.stop
+    files_ends _ (g.S.Shelf.told c.args.shelf.now) (g.S.Shelf.told c.prove.new.shelf) (g.C.Caller.told c.args.caller.now) (g.C.Caller.told c.args.caller.now)
+    (g.D.Door.told c.args.door.now) (g.D.Door.told c.args.door.now) (map string_bytes c.args.words.now) _ (sym is) c.prove.result c.prove.ensures.stop
 
 pub returns-in-Some-Verify-clause-stop : goal.returns-in-Some-Verify-clause-stop
 returns-in-Some-Verify-clause-stop g c =
     let is = rw c.in-Some-Verify.field-0-is at c.in-Some-Verify.ensures in
-    stopped_ends _ (g.S.Shelf.told c.args.shelf.now) (g.S.Shelf.told c.verify.new.shelf) (map string_bytes c.args.words.now) _ (sym is) c.verify.result c.verify.ensures.stop
+    files_ends _ (g.S.Shelf.told c.args.shelf.now) (g.S.Shelf.told c.verify.new.shelf) (g.C.Caller.told c.args.caller.now) (g.C.Caller.told c.args.caller.now)
+    (g.D.Door.told c.args.door.now) (g.D.Door.told c.args.door.now) (map string_bytes c.args.words.now) _ (sym is) c.verify.result c.verify.ensures.stop
+
+pub returns-in-Some-Ask-clause-ok : goal.returns-in-Some-Ask-clause-ok
+returns-in-Some-Ask-clause-ok g c =
+    let is = rw c.in-Some-Ask.field-0-is at c.in-Some-Ask.ensures in
+    done_ends _ (g.S.Shelf.told c.args.shelf.now) (g.S.Shelf.told c.args.shelf.now) (g.C.Caller.told c.args.caller.now) (g.C.Caller.told c.ask.new.caller)
+    (g.D.Door.told c.args.door.now) (g.D.Door.told c.args.door.now) (map string_bytes c.args.words.now) _ (sym is)
+    string_bytes (IsAnswered _ _ _ _) c.ask.result (λ text answered was now. (answered, refl)) c.ask.ensures.ok
+
+pub returns-in-Some-Ask-clause-stop : goal.returns-in-Some-Ask-clause-stop
+returns-in-Some-Ask-clause-stop g c =
+    let is = rw c.in-Some-Ask.field-0-is at c.in-Some-Ask.ensures in
+    ask_ends _ (g.S.Shelf.told c.args.shelf.now) (g.C.Caller.told c.args.caller.now) (g.C.Caller.told c.ask.new.caller)
+    (g.D.Door.told c.args.door.now) (map string_bytes c.args.words.now) _ (sym is) c.ask.result c.ask.ensures.stop
+
+pub returns-in-Some-Ask-clause-called : goal.returns-in-Some-Ask-clause-called
+returns-in-Some-Ask-clause-called g c =
+    let is = rw c.in-Some-Ask.field-0-is at c.in-Some-Ask.ensures in
+    elim c.ask.ensures.calls [
+      | inl same ↦ inl same
+      | inr called ↦ inr (_, sym is, called)
+    ]

@@ -1,0 +1,289 @@
+-- Bytes are an archive's index, or have a place of fault.
+use Rattle.std.proofs.Common.{◌≡◌, ◌≢◌, ◌⊎◌, inl, inr, ◌<◌, ◌≤◌, ◌^◌, ◌+◌, ◌-◌, ◌∙◌, ℕ, zero, suc, Bool, true, false, List, [], ◌∷◌, ◌++◌, length, get_or, take, drop, refl, sym, ap, subst, arith, length-append, length-drop}
+use Rattle.std.specs.Prelude.{codes, nat_eq, sum_by, min}
+use Rattle.std.specs.Int.{to_be_bytes, w32}
+use Rattle.std.specs.List.{All, flat_map, common_prefix_len}
+use Rattle.std.specs.Str.{IsUtf8, bytes_eq, is_utf8}
+use Rattle.std.proofs.lemmas.Bool.{cases_lt}
+use Rattle.std.proofs.lemmas.List.{append-nil, take-append-drop}
+use Rattle.std.proofs.lemmas.List.Elements.{All-head, All-tail, All-drop, All-push, All-nil}
+use Rattle.std.proofs.lemmas.List.Sums.{sum_by-append, sum_by-cons}
+use Rattle.std.proofs.lemmas.Nat.{be_bytes_4}
+use Rattle.std.proofs.lemmas.Slice.Eq.{bytes_eq-Decides}
+use Rattle.std.proofs.lemmas.Str.{IsUtf8-from_is_utf8, is_utf8-from_IsUtf8}
+use Rattle.std.proofs.Math.Seq.{take-append_seam, drop-append_seam}
+use Rattle.byteorder.specs.Endian.{big_number}
+use Rattle.byteorder.specs.Numbers.{big_number-reads_back}
+use Rattle.ats_impact.specs.Limits.{AllShort}
+use Rattle.ats_commit.specs.Archive.{Archive, archive_of}
+use Rattle.ats_index.specs.Spelling.{IsSpelling, front_bytes, text_bytes, index_bytes}
+use Rattle.ats_index.specs.FirstPart.{Magic, Version, Documents, IsRoom, AreFirst, IsFirstBad}
+use Rattle.ats_index.specs.LoadFaults.{BeginWith, IsLoadFault}
+use Rattle.ats_index.specs.declared.load.LoadFault.TheVariants.{BadIndex}
+use Rattle.ats_index.proofs.ReadingTexts.{front_stands, length_bad, bytes_bad, text_read}
+
+abbrev AreBytes : List ℕ → Type 0
+AreBytes bytes = All (λ b. b < 256) bytes
+
+-- ---- a number in front
+
+byte_at : (bytes : List ℕ) → AreBytes bytes → (i : ℕ) → get_or bytes i 0 < 256
+byte_at [] all i = omega arith
+byte_at (b ∷ bytes) all zero = All-head (λ (n : ℕ). n < 256) b bytes all
+byte_at (b ∷ bytes) all (suc i) = byte_at bytes (All-tail (λ (n : ℕ). n < 256) b bytes all) i
+
+small_four : (a b c d : ℕ) → a < 256 → b < 256 → c < 256 → d < 256 → (i : ℕ) → get_or (a ∷ b ∷ c ∷ d ∷ []) i 0 < 256
+small_four a b c d first second third fourth zero = first
+small_four a b c d first second third fourth (suc zero) = second
+small_four a b c d first second third fourth (suc (suc zero)) = third
+small_four a b c d first second third fourth (suc (suc (suc zero))) = fourth
+small_four a b c d first second third fourth (suc (suc (suc (suc i)))) = omega arith
+
+number_4 : (bytes : List ℕ) → length bytes ≡ 4 → ((i : ℕ) → get_or bytes i 0 < 256) → to_be_bytes w32 (big_number 4 bytes) ≡ bytes
+number_4 bytes long small = be_bytes_4 bytes (big_number 4 bytes) long small (omega arith)
+
+number_stands : (bytes : List ℕ) → 4 ≤ length bytes → ((i : ℕ) → get_or bytes i 0 < 256) → bytes ≡ to_be_bytes w32 (big_number 4 bytes) ++ drop 4 bytes
+number_stands [] room small = absurd (omega arith)
+number_stands (a ∷ []) room small = absurd (omega arith)
+number_stands (a ∷ b ∷ []) room small = absurd (omega arith)
+number_stands (a ∷ b ∷ c ∷ []) room small = absurd (omega arith)
+number_stands (a ∷ b ∷ c ∷ d ∷ rest) room small =
+    ap (λ xs. xs ++ rest) (sym (number_4 (a ∷ b ∷ c ∷ d ∷ []) refl (small_four a b c d (small 0) (small 1) (small 2) (small 3))))
+
+-- a number of this range stands there, or none does
+record Stands (bytes : List ℕ) (low high : ℕ) : Type 0 where
+  n : ℕ
+  least : low ≤ n
+  most : n ≤ high
+  same : bytes ≡ to_be_bytes w32 n ++ drop 4 bytes
+
+abbrev NoneStands : List ℕ → ℕ → ℕ → Type 0
+NoneStands bytes low high = (n : ℕ) (more : List ℕ) → low ≤ n → n ≤ high → bytes ≢ to_be_bytes w32 n ++ more
+
+module _ (bytes : List ℕ) (low high : ℕ) (all : AreBytes bytes) (small : high < 2 ^ 32) where
+  read : (n : ℕ) (more : List ℕ) → n ≤ high → bytes ≡ to_be_bytes w32 n ++ more → big_number 4 bytes ≡ n
+  read n more most same = ap (big_number 4) same ∙ big_number-reads_back 4 n more (omega arith)
+
+  above : 4 ≤ length bytes → low ≤ big_number 4 bytes → (big_number 4 bytes ≤ high) ⊎ (high < big_number 4 bytes) → Stands bytes low high ⊎ NoneStands bytes low high
+  above room least (inl most) = inl (record { n = big_number 4 bytes; least = least; most = most; same = number_stands bytes room (byte_at bytes all) })
+  above room least (inr more) = inr (λ n behind low_n n_high same. omega (arith, read n behind n_high same))
+
+  within : 4 ≤ length bytes → (big_number 4 bytes < low) ⊎ (low ≤ big_number 4 bytes) → Stands bytes low high ⊎ NoneStands bytes low high
+  within room (inl less) = inr (λ n behind low_n n_high same. omega (arith, read n behind n_high same))
+  within room (inr least) = above room least (other (cases_lt high (big_number 4 bytes)))
+    where
+      other : (high < big_number 4 bytes) ⊎ (big_number 4 bytes ≤ high) → (big_number 4 bytes ≤ high) ⊎ (high < big_number 4 bytes)
+      other (inl is) = inr is
+      other (inr is) = inl is
+
+  there : (length bytes < 4) ⊎ (4 ≤ length bytes) → Stands bytes low high ⊎ NoneStands bytes low high
+  there (inl short) = inr (λ n behind low_n n_high same. omega (arith, ap (λ (xs : List ℕ). length xs) same))
+  there (inr room) = within room (cases_lt (big_number 4 bytes) low)
+
+  number_or_none : Stands bytes low high ⊎ NoneStands bytes low high
+  number_or_none = there (cases_lt (length bytes) 4)
+
+-- ---- a fixed field in front
+
+module _ (bytes fixed : List ℕ) where
+  fixed_by : (equal : Bool) → bytes_eq (take (length fixed) bytes) fixed ≡ equal → (bytes ≡ fixed ++ drop (length fixed) bytes) ⊎ ((rest : List ℕ) → bytes ≢ fixed ++ rest)
+  fixed_by true test =
+      inl (sym (take-append-drop (length fixed) bytes) ∙ ap (λ xs. xs ++ drop (length fixed) bytes) ((bytes_eq-Decides (take (length fixed) bytes) fixed).0 test))
+  fixed_by false test =
+      inr (λ rest same.
+      let equal : take (length fixed) bytes ≡ fixed = ap (take (length fixed)) same ∙ take-append_seam fixed rest in
+      let clash : true ≡ false = sym ((bytes_eq-Decides (take (length fixed) bytes) fixed).1 equal) ∙ test in cc)
+
+  fixed_or_none : (bytes ≡ fixed ++ drop (length fixed) bytes) ⊎ ((rest : List ℕ) → bytes ≢ fixed ++ rest)
+  fixed_or_none = fixed_by (bytes_eq (take (length fixed) bytes) fixed) refl
+
+-- ---- a text in front
+
+-- a text of this length stands there, or none does
+record TextStands (bytes : List ℕ) (size : ℕ) : Type 0 where
+  text : List ℕ
+  behind : List ℕ
+  long : length text ≡ size
+  utf8 : IsUtf8 text
+  same : bytes ≡ text ++ behind
+
+abbrev NoText : List ℕ → ℕ → Type 0
+NoText bytes size = (text more : List ℕ) → length text ≡ size → IsUtf8 text → bytes ≢ text ++ more
+
+module _ (bytes : List ℕ) (size : ℕ) where
+  text_by : size ≤ length bytes → (valid : Bool) → is_utf8 (take size bytes) ≡ valid → TextStands bytes size ⊎ NoText bytes size
+  text_by room true test =
+      inl (record {
+        text = take size bytes;
+        behind = drop size bytes;
+        long = omega (arith, length-append (take size bytes) (drop size bytes), ap (λ (xs : List ℕ). length xs) (take-append-drop size bytes), length-drop size bytes);
+        utf8 = IsUtf8-from_is_utf8 (take size bytes) test;
+        same = sym (take-append-drop size bytes);
+      })
+  text_by room false test =
+      inr (λ text more long utf8 same.
+      let taken : take size bytes ≡ text = ap (λ n. take n bytes) (sym long) ∙ ap (take (length text)) same ∙ take-append_seam text more in
+      let clash : true ≡ false = sym (is_utf8-from_IsUtf8 text utf8) ∙ ap is_utf8 (sym taken) ∙ test in cc)
+
+  text_there : (length bytes < size) ⊎ (size ≤ length bytes) → TextStands bytes size ⊎ NoText bytes size
+  text_there (inl short) = inr (λ text more long utf8 same. omega (arith, ap (λ (xs : List ℕ). length xs) same, length-append text more))
+  text_there (inr room) = text_by room (is_utf8 (take size bytes)) refl
+
+  text_or_none : TextStands bytes size ⊎ NoText bytes size
+  text_or_none = text_there (cases_lt (length bytes) size)
+
+-- ---- the whole
+
+-- so many texts are read, and these bytes are left
+record AreRead (bytes : List ℕ) (documents : ℕ) (texts : List (List ℕ)) (rest : List ℕ) : Type 0 where
+  some : 1 ≤ documents
+  few : documents ≤ 65536
+  utf8 : All IsUtf8 texts
+  short : AllShort texts
+  small : sum_by length texts ≤ 2 ^ 24
+  left : AreBytes rest
+  same : bytes ≡ (front_bytes documents ++ flat_map text_bytes texts) ++ rest
+
+abbrev IsIndexOrFault : (List ℕ → List ℕ) → List ℕ → Type 0
+IsIndexOrFault H bytes = ((archive : Archive) × IsSpelling H bytes archive) ⊎ ((at : ℕ) × IsLoadFault H bytes (BadIndex at))
+
+module _ (H : List ℕ → List ℕ) (bytes : List ℕ) where
+  last_by : (texts : List (List ℕ)) → BeginWith bytes texts → (equal : Bool) → bytes_eq bytes (index_bytes H (archive_of texts)) ≡ equal → IsIndexOrFault H bytes
+  last_by texts begins true test =
+      inl (archive_of texts, record { utf8 = begins.utf8; within = begins.within; same = (bytes_eq-Decides bytes (index_bytes H (archive_of texts))).0 test })
+  last_by texts begins false test =
+      let all : List ℕ = index_bytes H (archive_of texts) in
+      inr (
+        common_prefix_len nat_eq bytes all,
+        inr (record {
+          texts = texts;
+          begins = begins;
+          differs = record {
+            other = λ same. let clash : true ≡ false = sym ((bytes_eq-Decides bytes all).1 same) ∙ test in cc;
+            prefix = refl;
+          };
+        }),
+      )
+
+  last : (texts : List (List ℕ)) → BeginWith bytes texts → IsIndexOrFault H bytes
+  last texts begins = last_by texts begins (bytes_eq bytes (index_bytes H (archive_of texts))) refl
+
+  bad_at : (at : ℕ) → IsFirstBad bytes at → IsIndexOrFault H bytes
+  bad_at at bad = inr (at, inl bad)
+
+module _ (H : List ℕ → List ℕ) (bytes : List ℕ) (k documents : ℕ) (texts : List (List ℕ)) (rest : List ℕ) (count : length texts + suc k ≡ documents)
+    (so_far : AreRead bytes documents texts rest)
+    (next : (more : List (List ℕ)) (behind : List ℕ) → length more + k ≡ documents → AreRead bytes documents more behind → IsIndexOrFault H bytes) where
+  first : AreFirst documents texts
+  first = record { some = so_far.some; few = so_far.few; more = omega (arith, count); utf8 = so_far.utf8; short = so_far.short; small = so_far.small }
+
+  read_more : (size : ℕ) → IsRoom texts size → rest ≡ to_be_bytes w32 size ++ drop 4 rest → (found : TextStands (drop 4 rest) size)
+      → AreRead bytes documents (texts ++ found.text ∷ []) found.behind
+  read_more size room number found =
+      let Length : List ℕ → ℕ = λ (t : List ℕ). length t in
+      let passed : drop (length found.text) (drop 4 rest) ≡ found.behind = ap (drop (length found.text)) found.same ∙ drop-append_seam found.text found.behind in
+      record {
+        some = so_far.some;
+        few = so_far.few;
+        utf8 = All-push IsUtf8 texts found.text so_far.utf8 found.utf8;
+        short = All-push (λ (t : List ℕ). length t ≤ 2 ^ 20) texts found.text so_far.short (omega (arith, found.long, room.short));
+        small = omega (arith, room.small, found.long, sum_by-append Length texts (found.text ∷ []), sum_by-cons Length found.text []);
+        left = subst AreBytes passed (All-drop (λ (n : ℕ). n < 256) (length found.text) (drop 4 rest) (All-drop (λ (n : ℕ). n < 256) 4 rest so_far.left));
+        same = text_read bytes documents texts rest so_far.same size found.text found.behind found.long number found.same;
+      }
+
+  text_next : (size : ℕ) → IsRoom texts size → rest ≡ to_be_bytes w32 size ++ drop 4 rest → TextStands (drop 4 rest) size ⊎ NoText (drop 4 rest) size → IsIndexOrFault H bytes
+  text_next size room number (inl found) =
+      next (texts ++ found.text ∷ []) found.behind (omega (arith, count, length-append texts (found.text ∷ []))) (read_more size room number found)
+  text_next size room number (inr none) = bad_at H bytes (length bytes - length rest + 4) (bytes_bad bytes documents texts rest so_far.same size first room number none)
+
+  most : ℕ
+  most = min (2 ^ 20) (2 ^ 24 - sum_by length texts)
+
+  most_room : (size : ℕ) → size ≤ most → IsRoom texts size
+  unfolding most
+  most_room size within = record { short = omega (arith, within); small = omega (arith, within, so_far.small) }
+
+  room_most : (size : ℕ) → IsRoom texts size → size ≤ most
+  unfolding most
+  room_most size room = omega (arith, room.short, room.small)
+
+  most_small : most < 2 ^ 32
+  unfolding most
+  most_small = omega arith
+
+  length_next : Stands rest 0 most ⊎ NoneStands rest 0 most → IsIndexOrFault H bytes
+  length_next (inl found) = text_next found.n (most_room found.n found.most) found.same (text_or_none (drop 4 rest) found.n)
+  length_next (inr none) =
+      bad_at H bytes (length bytes - length rest) (length_bad bytes documents texts rest so_far.same first
+      (λ size more room. none size more (omega arith) (room_most size room)))
+
+  one_next : IsIndexOrFault H bytes
+  one_next = length_next (number_or_none rest 0 most so_far.left most_small)
+
+all_from : (H : List ℕ → List ℕ) (bytes : List ℕ) (k documents : ℕ) (texts : List (List ℕ)) (rest : List ℕ) → length texts + k ≡ documents
+    → AreRead bytes documents texts rest → IsIndexOrFault H bytes
+all_from H bytes zero documents texts rest count so_far =
+    let is : documents ≡ length texts = omega (arith, count) in
+    last H bytes texts (record {
+      utf8 = so_far.utf8;
+      within = record { some = omega (arith, is, so_far.some); few = omega (arith, is, so_far.few); short = so_far.short; small = so_far.small };
+      rest = rest;
+      same = so_far.same ∙ ap (λ n. (front_bytes n ++ flat_map text_bytes texts) ++ rest) is;
+    })
+all_from H bytes (suc k) documents texts rest count so_far =
+    one_next H bytes k documents texts rest count so_far (λ more behind count' read. all_from H bytes k documents more behind count' read)
+
+module _ (H : List ℕ → List ℕ) (bytes : List ℕ) (all : AreBytes bytes) where
+  counted_next : bytes ≡ codes "ATSI" ++ drop 4 bytes → drop 4 bytes ≡ (1 ∷ []) ++ drop 1 (drop 4 bytes)
+      → Stands (drop 1 (drop 4 bytes)) 1 65536 ⊎ NoneStands (drop 1 (drop 4 bytes)) 1 65536 → IsIndexOrFault H bytes
+  counted_next magic version (inl found) =
+      let Byte : ℕ → Type 0 = λ n. n < 256 in
+      let rest : List ℕ = drop 4 (drop 1 (drop 4 bytes)) in
+      all_from H bytes found.n found.n [] rest (omega arith) (record {
+        some = found.least;
+        few = found.most;
+        utf8 = All-nil IsUtf8;
+        short = All-nil (λ (t : List ℕ). length t ≤ 2 ^ 20);
+        small = omega arith;
+        left = All-drop Byte 4 (drop 1 (drop 4 bytes)) (All-drop Byte 1 (drop 4 bytes) (All-drop Byte 4 bytes all));
+        same = front_stands bytes (drop 4 bytes) (drop 1 (drop 4 bytes)) rest found.n magic version found.same
+            ∙ ap (λ xs. xs ++ rest) (sym (append-nil (front_bytes found.n)));
+      })
+  counted_next magic version (inr none) = bad_at H bytes 5 (record {
+    field = Documents;
+    behind = drop 1 (drop 4 bytes);
+    reached = tt;
+    place = refl;
+    same = magic ∙ ap (λ xs. codes "ATSI" ++ xs) version;
+    bad = λ good rest (n, some, few, is) same. none n rest some few (same ∙ ap (λ xs. xs ++ rest) is);
+  })
+
+  version_next : bytes ≡ codes "ATSI" ++ drop 4 bytes → (drop 4 bytes ≡ (1 ∷ []) ++ drop 1 (drop 4 bytes)) ⊎ ((rest : List ℕ) → drop 4 bytes ≢ (1 ∷ []) ++ rest)
+      → IsIndexOrFault H bytes
+  version_next magic (inl version) =
+      let Byte : ℕ → Type 0 = λ n. n < 256 in
+      counted_next magic version (number_or_none (drop 1 (drop 4 bytes)) 1 65536 (All-drop Byte 1 (drop 4 bytes) (All-drop Byte 4 bytes all)) (omega arith))
+  version_next magic (inr none) = bad_at H bytes 4 (record {
+    field = Version;
+    behind = drop 4 bytes;
+    reached = tt;
+    place = refl;
+    same = magic;
+    bad = λ good rest is same. none rest (same ∙ ap (λ xs. xs ++ rest) is);
+  })
+
+  magic_next : (bytes ≡ codes "ATSI" ++ drop 4 bytes) ⊎ ((rest : List ℕ) → bytes ≢ codes "ATSI" ++ rest) → IsIndexOrFault H bytes
+  magic_next (inl magic) = version_next magic (fixed_or_none (drop 4 bytes) (1 ∷ []))
+  magic_next (inr none) = bad_at H bytes 0 (record {
+    field = Magic;
+    behind = bytes;
+    reached = tt;
+    place = refl;
+    same = refl;
+    bad = λ good rest is same. none rest (same ∙ ap (λ xs. xs ++ rest) is);
+  })
+
+  -- one of both holds
+  pub index_or_fault : IsIndexOrFault H bytes
+  index_or_fault = magic_next (fixed_or_none bytes (codes "ATSI"))

@@ -1,0 +1,59 @@
+-- What follows where serving stopped.
+use Rattle.std.proofs.Common.{◌≡◌, ◌⊎◌, ◌<◌, ℕ, List, refl, inl, inr, arith, is_some}
+use Rattle.ats_base.specs.Outside.{Rose}
+use Rattle.ats_base.specs.Links.{DoorTold}
+use Rattle.ats_commit.specs.Archive.{Archive}
+use Rattle.ats_top.specs.Words.{ServeWords}
+use Rattle.ats_top.specs.Read.{Files, HasIndex}
+use Rattle.ats_top.specs.Stops.{HasLine, status_of_stop}
+use Rattle.ats_top.specs.Answering.{gives}
+use Rattle.ats_top.specs.Served.{AreAllServed, ServingStop}
+use Rattle.ats_top.specs.Run.{DoorFailed}
+use Rattle.ats_top.specs.declared.stops.Stop.{Stop}
+use Rattle.ats_top.specs.declared.stops.Stop.TheVariants.{Usage, Shelf, Input, Rejected, Memory, Link, Peer, Faults}
+use Rattle.ats_top.proofs.Opened.{faults_rise}
+
+module _ (H : List ℕ → List ℕ) (files : Files) (words : ServeWords) (before now : DoorTold) (text : List ℕ) where
+  -- where serving stopped, its index was loaded
+  pub serving_index : (stop : Stop) → ServingStop H files words before now text stop → (archive : Archive) × HasIndex H files words.index archive
+  serving_index Link (inl shut) = (shut.archive, shut.index)
+  serving_index Link (inr broken) = (broken.served.archive, broken.served.index)
+  serving_index (Faults count) (some, all) = (all.served.archive, all.served.index)
+  serving_index Memory unmade = (unmade.served.archive, unmade.served.index)
+  serving_index Usage stops = absurd stops
+  serving_index Shelf stops = absurd stops
+  serving_index (Input refusal) stops = absurd stops
+  serving_index (Rejected rejection) stops = absurd stops
+  serving_index (Peer fault) stops = absurd stops
+
+  -- where links ended by a fault, the door's count of broken links rose
+  broken_rose : (count : ℕ) → 0 < count → AreAllServed H files words before now count text → Rose before.broken now.broken
+  broken_rose count some all =
+      let had = all.served.had in
+      let risen = faults_rise (gives H all.served.archive) (is_some all.served.opened.content) all.sessions all.served.opened.broken had.each (omega (arith, some, all.faults_are)) in
+      omega (arith, risen, had.broken, all.served.listened.broken)
+
+  -- the status is that of a want of memory, or of the door's fault
+  pub serving_status : (stop : Stop) → ServingStop H files words before now text stop → (status_of_stop stop ≡ 6) ⊎ DoorFailed before now (status_of_stop stop)
+  serving_status Link (inl shut) = inr (inl (refl, shut.failed.cause))
+  serving_status Link (inr broken) =
+      inr (inl (refl, omega (arith, broken.served.listened.later, broken.served.had.later, broken.failed.cause)))
+  serving_status (Faults count) (some, all) = inr (inr (refl, broken_rose count some all))
+  serving_status Memory unmade = inl refl
+  serving_status Usage stops = absurd stops
+  serving_status Shelf stops = absurd stops
+  serving_status (Input refusal) stops = absurd stops
+  serving_status (Rejected rejection) stops = absurd stops
+  serving_status (Peer fault) stops = absurd stops
+
+  -- no memory for the line of a stop is want of memory
+  pub serving_line : (stop : Stop) → HasLine stop → ServingStop H files words before now text stop → ServingStop H files words before now text Memory
+  serving_line (Faults count) has (some, all) =
+      record { sessions = all.sessions; told = all.sessions; served = all.served; but_last = inl refl; printed = all.printed }
+  serving_line Link has stops = absurd has
+  serving_line Memory has stops = absurd has
+  serving_line Usage has stops = absurd has
+  serving_line Shelf has stops = absurd has
+  serving_line (Input refusal) has stops = absurd stops
+  serving_line (Rejected rejection) has stops = absurd stops
+  serving_line (Peer fault) has stops = absurd stops

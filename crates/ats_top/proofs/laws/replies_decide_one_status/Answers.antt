@@ -1,0 +1,5 @@
+use Rattle.ats_top.proofs.LinkEnds.{one_status}
+use Rattle.ats_top.proofs.laws.replies_decide_one_status.Goals as goal
+
+pub returns : goal.returns
+returns g c = one_status g.H.HashKind.hash

@@ -1,0 +1,70 @@
+-- What `ask` does, and why it stops.
+use Rattle.std.specs.Prelude.{◌≡◌, ◌⊎◌, ℕ, List, Ok}
+use Rattle.ats_base.specs.Links.{CallerTold}
+use Rattle.ats_terms.specs.Query.{IsQueryOf}
+use Rattle.ats_proof.specs.Value.{Proof}
+use Rattle.ats_wire.specs.Requests.{Question}
+use Rattle.ats_client.specs.Bytes.{IsAcceptedBytes, IsRejectedBytes}
+use Rattle.ats_client.specs.Headline.{IsTopOrCollides}
+use Rattle.ats_client.specs.Rows.{rows_of}
+use Rattle.ats_client.specs.declared.fault.Rejection.{Rejection}
+use Rattle.ats_top.specs.Words.{AskWords}
+use Rattle.ats_top.specs.Print.{lines}
+use Rattle.ats_top.specs.Conversation.{Converses, LosesLink, HearsFault}
+use Rattle.ats_top.specs.Refusals.{AsksRanking, IsRankingRefused}
+use Rattle.ats_top.specs.declared.stops.PeerFault.{PeerFault}
+use Rattle.ats_top.specs.declared.stops.Stop.{Stop}
+use Rattle.ats_top.specs.declared.stops.Stop.TheVariants.{Input, Rejected, Memory, Link, Peer}
+
+-- the question of these words
+abbrev pub question_of : AskWords → Question
+question_of words = record { algorithm = words.algorithm; top = words.r; query = words.query }
+
+-- the address of the words was asked their question, and replied these bytes of a proof
+pub record IsReplied (before now : CallerTold) (words : AskWords) (query : List (List ℕ × ℕ)) (bytes : List ℕ) : Type 0 where
+  pub asks : AsksRanking words.r words.query
+  pub asked : IsQueryOf words.query query
+  pub conversation : Converses words.address (question_of words) before now (Ok bytes)
+
+-- the bytes of the reply are accepted as this proof, under the root and for the query of the words
+pub record IsReplyAccepted (H : List ℕ → List ℕ) (before now : CallerTold) (words : AskWords) : Type 0 where
+  pub query : List (List ℕ × ℕ)
+  pub bytes : List ℕ
+  pub replied : IsReplied before now words query bytes
+  pub proof : Proof
+  pub accepted : IsAcceptedBytes H words.root query words.r bytes proof
+
+-- the bytes of the reply are rejected so
+pub record IsReplyRejected (H : List ℕ → List ℕ) (before now : CallerTold) (words : AskWords) (rejection : Rejection) : Type 0 where
+  pub query : List (List ℕ × ℕ)
+  pub bytes : List ℕ
+  pub replied : IsReplied before now words query bytes
+  pub rejected : IsRejectedBytes H words.root query words.r bytes rejection
+
+-- the reply is no proof, and has this fault
+pub record IsReplyFault (before now : CallerTold) (words : AskWords) (fault : PeerFault) : Type 0 where
+  pub asks : AsksRanking words.r words.query
+  pub heard : HearsFault words.address (question_of words) before now fault
+
+-- The reply is an accepted proof, the text is the lines of the rows of its answer, and for every archive with the root these rows are
+-- right, or the proof and the archive hold two different strings with equal digests.
+pub record IsAnswered (H : List ℕ → List ℕ) (before now : CallerTold) (words : AskWords) (text : List ℕ) : Type 0 where
+  pub accepted : IsReplyAccepted H before now words
+  pub headline : IsTopOrCollides H words.root accepted.query words.r accepted.proof
+  pub printed : text ≡ lines (rows_of accepted.query accepted.proof)
+
+-- why it stopped; want of memory is free
+abbrev pub AskStop : (List ℕ → List ℕ) → (before now : CallerTold) → AskWords → Stop → Type 0
+AskStop H before now words (Input refusal) = IsRankingRefused words.r words.query (λ other. ⊥) refusal
+AskStop H before now words (Rejected rejection) = IsReplyRejected H before now words rejection
+AskStop H before now words Memory = Unit {0}
+AskStop H before now words Link = AsksRanking words.r words.query × LosesLink words.address (question_of words) before now
+AskStop H before now words (Peer fault) = IsReplyFault before now words fault
+AskStop H before now words _ = ⊥
+
+-- The status that a reply decides: that of an accepted proof, of one that is rejected, or of a reply that is no proof.
+abbrev pub Decides : (List ℕ → List ℕ) → (before now : CallerTold) → AskWords → (status : ℕ) → Type 0
+Decides H before now words status =
+    ((status ≡ 0) × IsReplyAccepted H before now words)
+    ⊎ (((status ≡ 1) × ((rejection : Rejection) × IsReplyRejected H before now words rejection))
+    ⊎ ((status ≡ 9) × ((fault : PeerFault) × IsReplyFault before now words fault)))

@@ -1,0 +1,64 @@
+-- A conversation: an address is called, one question is asked over the link that comes, and the link is given back.
+use Rattle.std.specs.Prelude.{◌≡◌, ◌<◌, ◌≤◌, ◌⊎◌, ◌^◌, ℕ, List, is_some, option_map, Result, Err}
+use Rattle.ats_base.specs.Outside.{Rose}
+use Rattle.ats_base.specs.Links.{LinkTold, CallerTold, IsNew, IsCalledAt, MayNoteCall, calling_out, called_back, counted_broken}
+use Rattle.ats_wire.specs.Requests.{Question}
+use Rattle.ats_wire.specs.Asking.{IsAsked, IsHeard}
+use Rattle.ats_wire.specs.declared.asking.AskFault.{AskFault}
+use Rattle.ats_wire.specs.declared.asking.AskFault.TheVariants.{ShortReply, LongReply, BadReply, PeerRefused, ReadFault, WriteFault}
+use Rattle.ats_top.specs.declared.stops.PeerFault.{PeerFault}
+use Rattle.ats_top.specs.declared.stops.PeerFault.TheVariants.{Short, Long, Bad, Refused}
+use Rattle.ats_top.specs.declared.stops.Stop.{Stop}
+use Rattle.ats_top.specs.declared.stops.Stop.TheVariants.{Memory, Link, Peer}
+
+-- The address was called, the question was asked over the link that came, with this result, and the link was given back: the link as it
+-- came and as it was given back, and the caller's count between the two.
+pub record Converses (address : List ℕ) (question : Question) (before now : CallerTold) (result : Result (List ℕ) AskFault) : Type 0 where
+  pub link : LinkTold
+  pub back : LinkTold
+  pub count : ℕ
+  pub new : IsNew (is_some before.content) link
+  pub at_address : IsCalledAt address link.traffic
+  pub asked : IsAsked question link back result
+  pub content : now.content ≡ option_map (called_back back) (option_map (calling_out address) before.content)
+  pub later : before.faults ≤ count
+  pub counted : now.faults ≡ counted_broken back.faults count
+
+-- the address was called, and no link came
+pub record CallsInVain (address : List ℕ) (before now : CallerTold) : Type 0 where
+  pub noted : MayNoteCall address before.content now.content
+  pub rose : Rose before.faults now.faults
+
+-- the caller's count rose: no link came, or the question was not written or its reply not read for a fault
+pub record LosesLink (address : List ℕ) (question : Question) (before now : CallerTold) : Type 0 where
+  pub rose : Rose before.faults now.faults
+  pub way : CallsInVain address before now ⊎ (Converses address question before now (Err ReadFault) ⊎ Converses address question before now (Err WriteFault))
+
+-- the fault of the reply
+abbrev pub reply_fault : PeerFault → AskFault
+reply_fault (Short got wanted) = ShortReply got wanted
+reply_fault (Long size) = LongReply size
+reply_fault (Bad size kind) = BadReply size kind
+reply_fault (Refused code) = PeerRefused code
+
+-- the reply is no proof, and has this fault
+pub record HearsFault (address : List ℕ) (question : Question) (before now : CallerTold) (fault : PeerFault) : Type 0 where
+  pub heard : IsHeard (Err (reply_fault fault))
+  pub conversation : Converses address question before now (Err (reply_fault fault))
+
+-- why there are no bytes of a proof; want of memory is free
+abbrev pub ConversationStop : (address : List ℕ) → Question → (before now : CallerTold) → Stop → Type 0
+ConversationStop address question before now Memory = Unit {0}
+ConversationStop address question before now Link = LosesLink address question before now
+ConversationStop address question before now (Peer fault) = HearsFault address question before now fault
+ConversationStop address question before now _ = ⊥
+
+-- the length that is told has 4 bytes
+abbrev pub IsRanged : AskFault → Type 0
+IsRanged (LongReply size) = size < 2 ^ 32
+IsRanged (BadReply size kind) = size < 2 ^ 32
+IsRanged _ = Unit {0}
+
+-- the address was called once, and a link that came is back
+abbrev pub Calls : (address : List ℕ) → Question → (before now : CallerTold) → Type 0
+Calls address question before now = CallsInVain address before now ⊎ ((result : Result (List ℕ) AskFault) × Converses address question before now result)

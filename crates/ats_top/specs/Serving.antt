@@ -1,0 +1,121 @@
+-- Links that come to a door, served one after another.
+use Rattle.std.specs.Prelude.{◌≡◌, ◌<◌, ◌≤◌, ◌+◌, ◌++◌, ◌∷◌, ℕ, Bool, true, false, List, [], length, take, fold, count_by, is_some, option_map, codes, decimal, Result, Ok, Err}
+use Rattle.std.specs.List.{All}
+use Rattle.ats_base.specs.Outside.{Rose, SinkTold}
+use Rattle.ats_base.specs.Links.{LinkTold, Opening, DoorTold, IsNew, counted_broken, counting_accept, accepting_out, accepted_back}
+use Rattle.ats_wire.specs.Requests.{Question}
+use Rattle.ats_wire.specs.Connections.{IsServed}
+use Rattle.ats_wire.specs.declared.reply.Reply.{Reply}
+use Rattle.ats_wire.specs.declared.serving.Served.{Served}
+use Rattle.ats_wire.specs.declared.serving.ConnectionEnd.{ConnectionEnd}
+use Rattle.ats_wire.specs.declared.serving.ConnectionEnd.TheVariants.{Ended, CutFrame, BadFrame, RequestLimit, ReadFault, WriteFault}
+use Rattle.ats_top.specs.declared.serving.Halt.{Halt}
+use Rattle.ats_top.specs.declared.serving.Halt.TheVariants.{Door, Sink, Memory}
+
+-- A session: what a link told as it came and as it went back, and what is said of how it was served.
+pub record Session : Type 0 where
+  pub came : LinkTold
+  pub left : LinkTold
+  pub served : Served
+
+-- the link was new, and each of its frames was answered with one of these replies, in order, up to the end that is said
+pub record IsSession (gives : Question → Reply → Type 0) (must_tell : Bool) (session : Session) : Type 0 where
+  pub new : IsNew must_tell session.came
+  pub served : IsServed gives session.came session.left session.served
+
+-- what a door that tells tells after a session: its link was accepted, and is back
+abbrev pub after_session : Opening → Session → Opening
+after_session opening session = accepted_back session.left (accepting_out opening)
+
+-- the count of broken links after it
+abbrev pub broken_after : ℕ → Session → ℕ
+broken_after before session = counted_broken session.left.faults before
+
+-- These sessions were had at the door, one after another, and nothing else.
+pub record HadSessions (gives : Question → Reply → Type 0) (sessions : List Session) (before now : DoorTold) : Type 0 where
+  pub each : All (IsSession gives (is_some before.content)) sessions
+  pub content : now.content ≡ option_map (λ opening. fold after_session opening sessions) before.content
+  pub broken : now.broken ≡ fold broken_after before.broken sessions
+  pub later : before.faults ≤ now.faults
+
+-- One call of `accept` failed, and nothing else came to the door.
+pub record FailedToAccept (before now : DoorTold) : Type 0 where
+  pub content : now.content ≡ option_map counting_accept before.content
+  pub broken : now.broken ≡ before.broken
+  pub cause : Rose before.faults now.faults
+  pub later : before.faults ≤ now.faults
+
+abbrev pub is_fault : ConnectionEnd → Bool
+is_fault Ended = false
+is_fault (CutFrame left) = false
+is_fault (BadFrame n) = false
+is_fault RequestLimit = false
+is_fault ReadFault = true
+is_fault WriteFault = true
+
+-- how many sessions ended by a fault
+abbrev pub faults_of : List Session → ℕ
+faults_of sessions = count_by (λ session. is_fault session.served.end) sessions
+
+abbrev pub end_word : ConnectionEnd → List ℕ
+end_word Ended = codes "end"
+end_word (CutFrame left) = codes "cut"
+end_word (BadFrame n) = codes "bad"
+end_word RequestLimit = codes "limit"
+end_word ReadFault = codes "fault"
+end_word WriteFault = codes "fault"
+
+-- connection I requests K END
+abbrev pub line_of_session : ℕ → Served → List ℕ
+line_of_session number served =
+    codes "connection " ++ (decimal number ++ (codes " requests " ++ (decimal served.requests ++ (codes " " ++ (end_word served.end ++ codes "\n")))))
+
+-- a line for each session, numbers from this one on
+abbrev pub session_lines_from : ℕ → List Session → List ℕ
+session_lines_from number [] = []
+session_lines_from number (session ∷ sessions) = line_of_session number session.served ++ session_lines_from (number + 1) sessions
+
+abbrev pub session_lines : List Session → List ℕ
+session_lines sessions = session_lines_from 1 sessions
+
+-- What a door and a sink tell of themselves.
+pub record DoorAndSink : Type 0 where
+  pub door : DoorTold
+  pub sink : SinkTold
+
+-- the sink took the text, where it tells, and its count of faults did not fall
+pub record Took (before now : SinkTold) (text : List ℕ) : Type 0 where
+  pub all : now.taken ≡ option_map (λ taken. taken ++ text) before.taken
+  pub later : before.faults ≤ now.faults
+
+-- the sink failed behind a prefix of the text
+pub record FailedToTake (before now : SinkTold) (text : List ℕ) : Type 0 where
+  pub n : ℕ
+  pub within : n ≤ length text
+  pub part : now.taken ≡ option_map (λ taken. taken ++ take n text) before.taken
+  pub cause : Rose before.faults now.faults
+  pub later : before.faults ≤ now.faults
+
+-- why the sink did not take the whole text: it failed, or memory was wanted for the text
+abbrev pub IsUntold : (before now : SinkTold) → List ℕ → Halt → Type 0
+IsUntold before now text Door = ⊥
+IsUntold before now text Sink = FailedToTake before now text
+IsUntold before now text Memory = now ≡ before
+
+-- How the serving of so many links ended behind these sessions: all were served, and so many ended by a fault; or `accept` failed; or the sink
+-- did; or memory was wanted for the line of the last of them.
+abbrev pub EndsServing : (Question → Reply → Type 0) → ℕ → (before now : DoorAndSink) → List Session → Result ℕ Halt → Type 0
+EndsServing gives connections before now sessions (Ok faults) =
+    (length sessions ≡ connections) × (faults ≡ faults_of sessions)
+    × HadSessions gives sessions before.door now.door × Took before.sink now.sink (session_lines sessions)
+EndsServing gives connections before now sessions (Err Door) =
+    (length sessions < connections) × ((mid : DoorTold) × HadSessions gives sessions before.door mid × FailedToAccept mid now.door)
+    × Took before.sink now.sink (session_lines sessions)
+EndsServing gives connections before now sessions (Err Sink) =
+    (length sessions ≤ connections) × HadSessions gives sessions before.door now.door × FailedToTake before.sink now.sink (session_lines sessions)
+EndsServing gives connections before now sessions (Err Memory) =
+    (length sessions ≤ connections) × HadSessions gives sessions before.door now.door
+    × ((told : List Session) × (last : Session) × (sessions ≡ told ++ last ∷ []) × Took before.sink now.sink (session_lines told))
+
+abbrev pub ServesLinks : (Question → Reply → Type 0) → ℕ → (before now : DoorAndSink) → Result ℕ Halt → Type 0
+ServesLinks gives connections before now result = (sessions : List Session) × EndsServing gives connections before now sessions result

@@ -1,0 +1,79 @@
+// One question over the network, and the check of its reply.
+ghost use Rattle.std.specs.Prelude.{◌≡◌, ◌⊎◌, ◌≤◌, ℕ, List, length, Ok, IfOk, IfErr, string_bytes};
+ghost use Rattle.ats_top.specs.Refusals.{AsksRanking};
+ghost use Rattle.ats_top.specs.Conversation.{Converses, ConversationStop, IsRanged, Calls};
+ghost use Rattle.ats_top.specs.Asked.{IsAnswered, AskStop};
+ghost use Rattle.ats_top.specs.Stops.{stop_of_asking};
+
+use crate::stops::{PeerFault, Stop};
+use crate::verifying::answered;
+use ats_base::{Bytes, Caller};
+use ats_hash::Hash32;
+use ats_impact::Top;
+use ats_prover::Algorithm;
+use ats_terms::Query;
+use ats_wire::{AskFault, ask_once};
+use std::alloc::Global;
+
+// Why a question that got no proof stops its command.
+fn stop_of(fault: AskFault) -> Stop
+    ensures stop { result ≡ stop_of_asking fault }
+    ensures ranged { IsRanged fault }
+{
+    match fault {
+        AskFault::ShortReply { got, wanted } => Stop::Peer(PeerFault::Short { got, wanted }),
+        AskFault::LongReply { length } => Stop::Peer(PeerFault::Long { length }),
+        AskFault::BadReply { length, kind } => Stop::Peer(PeerFault::Bad { length, kind }),
+        AskFault::PeerRefused { code } => Stop::Peer(PeerFault::Refused { code }),
+        AskFault::ReadFault => Stop::Link,
+        AskFault::WriteFault => Stop::Link,
+        AskFault::OutOfMemory => Stop::Memory,
+    }
+}
+
+// Calls the address, asks the question over the link that comes, and gives the link back, whatever came of it.
+fn converse<C: Caller>(
+    alloc: Global,
+    algorithm: Algorithm,
+    top: Top,
+    query: &str,
+    address: &str,
+    caller: &mut C,
+) -> Result<Bytes, Stop>
+    requires { length query.now ≤ 4000 }
+    ensures ok { IfOk result (λ bytes. Converses address.now (record { algorithm = algorithm; top = top; query = query.now }) (C.told caller.old) (C.told caller.new) (Ok bytes)) }
+    ensures stop { IfErr result (ConversationStop address.now (record { algorithm = algorithm; top = top; query = query.now }) (C.told caller.old) (C.told caller.new)) }
+    ensures calls { Calls address.now (record { algorithm = algorithm; top = top; query = query.now }) (C.told caller.old) (C.told caller.new) }
+{
+    let Ok(mut link) = caller.call(address) else {
+        return Err(Stop::Link);
+    };
+    let reply = ask_once(alloc, &mut link, algorithm, top, query);
+    caller.give_back(link);
+    match reply {
+        Ok(bytes) => Ok(bytes),
+        Err(fault) => Err(stop_of(fault)),
+    }
+}
+
+/// The lines of `ask`. The words are tried before the address is called.
+pub(crate) fn ask<H: Hash32, C: Caller>(
+    alloc: Global,
+    root: &[u8; 32],
+    algorithm: Algorithm,
+    r: u32,
+    query: &str,
+    address: &str,
+    caller: &mut C,
+) -> Result<String, Stop>
+    ensures ok { IfOk result (λ text. IsAnswered H.hash (C.told caller.old) (C.told caller.new) (record { root = root.now; algorithm = algorithm; r = r; query = query.now; address = address.now }) (string_bytes text)) }
+    ensures stop { IfErr result (AskStop H.hash (C.told caller.old) (C.told caller.new) (record { root = root.now; algorithm = algorithm; r = r; query = query.now; address = address.now })) }
+    ensures calls { (C.told caller.new ≡ C.told caller.old)
+        ⊎ (AsksRanking r query.now × Calls address.now (record { algorithm = algorithm; top = r; query = query.now }) (C.told caller.old) (C.told caller.new)) }
+    ensures uncalled { (AsksRanking r query.now → ⊥) → caller.new ≡ caller.old }
+{
+    let rows = Top::new(r)?;
+    let asked = Query::read(alloc, query)?;
+    let bytes = converse(alloc, algorithm, rows, query, address, caller)?;
+    answered::<H>(alloc, bytes.as_slice(), root, &asked, rows)
+}

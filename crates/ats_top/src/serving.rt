@@ -1,0 +1,189 @@
+// Links that come to a door, served one after another.
+ghost use Rattle.std.specs.Prelude.{◌≡◌, ◌⊎◌, ◌≤◌, ◌^◌, ◌∷◌, ℕ, Some, List, [], true, string_bytes, IfOk, IfErr, OnOk, OnErr};
+ghost use Rattle.ats_base.specs.Links.{CallerTold};
+ghost use Rattle.ats_top.specs.Answering.{gives};
+ghost use Rattle.ats_top.specs.Serving.{Session, HadSessions, FailedToAccept, Took, IsUntold, ServesLinks, is_fault, end_word, line_of_session};
+ghost use Rattle.ats_top.specs.Served.{Attends, Opens};
+ghost use Rattle.ats_top.specs.Read.{Files, HasIndex};
+ghost use Rattle.ats_top.specs.Reading.{Reads};
+ghost use Rattle.ats_top.specs.Words.{Serve, command_of};
+ghost use Rattle.ats_top.specs.Run.{Ended};
+ghost use Rattle.ats_top.specs.Outcome.{PrintsOutcome};
+
+use crate::answering::IndexAnswerer;
+use crate::commands::print_stop;
+use crate::read;
+use crate::stops::Stop;
+use ats_base::{Door, Failed, Shelf, Sink, write_all};
+use ats_hash::Hash32;
+use ats_index::Index;
+use ats_wire::{ConnectionEnd, FrameRoom, Served, serve_connection};
+use std::alloc::{AllocError, Global};
+
+/// Why not all links were served: no further one came, their lines were not taken, or memory was wanted.
+#[derive(Clone, Copy, Debug, PartialEq, Eq)]
+pub(crate) enum Halt {
+    Door,
+    Sink,
+    Memory,
+}
+
+fn is_fault(end: ConnectionEnd) -> bool
+    ensures { result ≡ is_fault end }
+{
+    matches!(end, ConnectionEnd::ReadFault | ConnectionEnd::WriteFault)
+}
+
+fn end_word(end: ConnectionEnd) -> &'static str
+    ensures { result.now ≡ end_word end }
+{
+    match end {
+        ConnectionEnd::Ended => "end",
+        ConnectionEnd::CutFrame { .. } => "cut",
+        ConnectionEnd::BadFrame { .. } => "bad",
+        ConnectionEnd::RequestLimit => "limit",
+        ConnectionEnd::ReadFault | ConnectionEnd::WriteFault => "fault",
+    }
+}
+
+fn session_line(alloc: Global, number: u32, served: Served) -> Result<String, AllocError>
+    ensures { IfOk result (λ line. string_bytes line ≡ line_of_session number served) }
+{
+    let requests = served.requests;
+    let end = end_word(served.end);
+    format!(in alloc; "connection {number} requests {requests} {end}\n")
+}
+
+// Accepts the next link, serves it, and gives it back.
+fn serve_link<H: Hash32, D: Door>(
+    alloc: Global,
+    index: &Index<H>,
+    room: &mut FrameRoom,
+    door: &mut D,
+) -> Result<Served, Failed>
+    requires { (D.told door.old).is_open ≡ true }
+    ensures had { IfOk result (λ served. (session : Session) × (session.served ≡ served) × HadSessions (gives H.hash index.now) (session ∷ []) (D.told door.old) (D.told door.new)) }
+    ensures failed { OnErr result (FailedToAccept (D.told door.old) (D.told door.new)) }
+    ensures stays { (D.told door.new).is_open ≡ true }
+{
+    let mut link = door.accept()?;
+    let mut answerer = IndexAnswerer { index };
+    let served = serve_connection(alloc, &mut link, &mut answerer, room);
+    door.give_back(link);
+    Ok(served)
+}
+
+// Hands the line of a served connection to the sink.
+fn announce<K: Sink>(alloc: Global, number: u32, served: Served, out: &mut K) -> Result<(), Halt>
+    ensures told { OnOk result (Took (K.told out.old) (K.told out.new) (line_of_session number served)) }
+    ensures halt { IfErr result (IsUntold (K.told out.old) (K.told out.new) (line_of_session number served)) }
+{
+    let Ok(line) = session_line(alloc, number, served) else {
+        return Err(Halt::Memory);
+    };
+    match write_all(out, line.as_bytes()) {
+        Ok(()) => Ok(()),
+        Err(_) => Err(Halt::Sink),
+    }
+}
+
+/// Serves so many links that come to the open door, one after another, and hands a line for each to the sink. Says how many ended
+/// by a fault.
+pub(crate) fn serve_links<H: Hash32, K: Sink, D: Door>(
+    alloc: Global,
+    index: &Index<H>,
+    connections: u32,
+    room: &mut FrameRoom,
+    out: &mut K,
+    door: &mut D,
+) -> Result<u32, Halt>
+    requires { (D.told door.old).is_open ≡ true }
+    ensures { ServesLinks (gives H.hash index.now) connections (record { door = D.told door.old; sink = K.told out.old }) (record { door = D.told door.new; sink = K.told out.new }) result }
+{
+    let mut faults: u32 = 0;
+    for before in 0..connections {
+        let Ok(served) = serve_link(alloc, index, room, door) else {
+            return Err(Halt::Door);
+        };
+        if is_fault(served.end) {
+            faults += 1;
+        }
+        match announce(alloc, before + 1, served, out) {
+            Ok(()) => {}
+            Err(halt) => return Err(halt),
+        }
+    }
+    Ok(faults)
+}
+
+const LISTENING: &str = "listening\n";
+
+/// Listens at the address, says so, and serves so many links that come. Says how many ended by a fault.
+pub(crate) fn attend<H: Hash32, K: Sink, D: Door>(
+    alloc: Global,
+    index: &Index<H>,
+    connections: u32,
+    address: &str,
+    room: &mut FrameRoom,
+    out: &mut K,
+    door: &mut D,
+) -> Result<u32, Halt>
+    ensures { (files : Files) (name : List ℕ) → HasIndex H.hash files name index.now
+        → Attends H.hash files (record { index = name; connections = connections; address = address.now })
+        (record { door = D.told door.old; sink = K.told out.old }) (record { door = D.told door.new; sink = K.told out.new }) result }
+{
+    if door.listen(address).is_err() {
+        return Err(Halt::Door);
+    }
+    if write_all(out, LISTENING.as_bytes()).is_err() {
+        return Err(Halt::Sink);
+    }
+    serve_links(alloc, index, connections, room, out, door)
+}
+
+// Prints what is left to be said of the links, and answers the status.
+fn print_outcome<K: Sink>(alloc: Global, out: &mut K, outcome: Result<u32, Halt>) -> u8
+    ensures prints { PrintsOutcome (K.told out.old) (K.told out.new) outcome result }
+    ensures later { (K.told out.old).faults ≤ (K.told out.new).faults }
+{
+    match outcome {
+        Ok(faults) => {
+            if faults == 0 {
+                return 0;
+            }
+            print_stop(alloc, out, Stop::Faults(faults))
+        }
+        Err(Halt::Door) => print_stop(alloc, out, Stop::Link),
+        Err(Halt::Memory) => print_stop(alloc, out, Stop::Memory),
+        Err(Halt::Sink) => 7,
+    }
+}
+
+/// Loads the index, listens, and serves the links that come. It prints line by line, and answers the status.
+pub(crate) fn serve<H: Hash32, S: Shelf, K: Sink, D: Door>(
+    alloc: Global,
+    index: &str,
+    connections: u32,
+    address: &str,
+    shelf: &mut S,
+    out: &mut K,
+    door: &mut D,
+) -> u8
+    ensures ended { (said : List (List ℕ)) (caller : CallerTold) → command_of said ≡ Some (Serve (record { index = index.now; connections = connections; address = address.now }))
+        → Ended H.hash said
+        (record { shelf = S.told shelf.old; sink = K.told out.old; caller = caller; door = D.told door.old })
+        (record { shelf = S.told shelf.new; sink = K.told out.new; caller = caller; door = D.told door.new }) result }
+    ensures reads { Reads (S.told shelf.old) (S.told shelf.new) index.now (2 ^ 29) }
+    ensures opened { (D.told door.new ≡ D.told door.old) ⊎ Opens (record { index = index.now; connections = connections; address = address.now }) (D.told door.old) (D.told door.new) }
+    ensures sink_later { (K.told out.old).faults ≤ (K.told out.new).faults }
+{
+    let loaded = match read::index::<H, S>(alloc, index, shelf) {
+        Ok(loaded) => loaded,
+        Err(stop) => return print_stop(alloc, out, stop),
+    };
+    let Ok(mut room) = FrameRoom::new(alloc) else {
+        return print_stop(alloc, out, Stop::Memory);
+    };
+    let outcome = attend(alloc, &loaded, connections, address, &mut room, out, door);
+    print_outcome(alloc, out, outcome)
+}
