@@ -1,12 +1,14 @@
 -- How `ask` ends, from what its steps answer, and which status a reply decides.
-use Rattle.std.proofs.Common.{◌≡◌, ◌⊎◌, ◌∙◌, ℕ, List, Result, Ok, Err, IsSome, refl, sym, ap, subst, inl, inr, arith}
+use Rattle.std.proofs.Common.{◌≡◌, ◌⊎◌, ◌∙◌, ℕ, List, length, Result, Ok, Err, IsSome, refl, sym, ap, subst, inl, inr, arith}
 use Rattle.std.specs.Prelude.{IfOk, IfErr}
 use Rattle.ats_base.specs.Outside.{Rose}
 use Rattle.ats_base.specs.Links.{CallerTold}
+use Rattle.ats_terms.specs.Query.{IsQuery}
 use Rattle.ats_impact.specs.declared.rank.Row.{Row}
 use Rattle.ats_client.specs.Bytes.{IsAcceptedBytes, AreVerifiedRows}
 use Rattle.ats_client.specs.declared.fault.Rejection.{Rejection}
 use Rattle.ats_client.proofs.OneRejection.{accepted_kept}
+use Rattle.ats_audit.proofs.Told.{told}
 use Rattle.ats_top.specs.Words.{AskWords}
 use Rattle.ats_top.specs.Print.{lines}
 use Rattle.ats_top.specs.Conversation.{reply_fault}
@@ -17,7 +19,7 @@ use Rattle.ats_top.specs.Stops.{status_of_stop}
 use Rattle.ats_top.specs.declared.stops.InputRefusal.{InputRefusal}
 use Rattle.ats_top.specs.declared.stops.PeerFault.{PeerFault}
 use Rattle.ats_top.specs.declared.stops.Stop.{Stop}
-use Rattle.ats_top.specs.declared.stops.Stop.TheVariants.{Usage, Shelf, Input, Rejected, Memory, Link, Peer, Faults}
+use Rattle.ats_top.specs.declared.stops.Stop.TheVariants.{Usage, Shelf, Input, Rejected, Memory, Link, Peer, Faults, Collision}
 use Rattle.ats_top.proofs.Refused.{ranking_kept}
 use Rattle.ats_top.proofs.Conversing.{one_reply}
 
@@ -32,6 +34,7 @@ module _ (H : List ℕ → List ℕ) (before now : CallerTold) (words : AskWords
     bytes_stop Link stops = absurd stops
     bytes_stop (Peer fault) stops = absurd stops
     bytes_stop (Faults count) stops = absurd stops
+    bytes_stop (Collision place ours theirs) stops = absurd stops
 
     -- bytes that were refused
     pub bytes_stops : {T : Type 0} (result : Result T Stop) → IfErr result (BytesStop H words.root query words.r bytes)
@@ -40,17 +43,18 @@ module _ (H : List ℕ → List ℕ) (before now : CallerTold) (words : AskWords
     bytes_stops (Err stop) stops = bytes_stop stop stops
 
     -- bytes that were accepted
-    pub bytes_end : {T : Type 0} (bytes_of : T → List ℕ) (result : Result T Stop)
+    pub bytes_end : ((m : List ℕ) → length (H m) ≡ 32) → IsQuery query → {T : Type 0} (bytes_of : T → List ℕ) (result : Result T Stop)
         → IfOk result (λ text. (rows : List Row) × AreVerifiedRows H words.root query words.r bytes rows × (bytes_of text ≡ lines rows))
         → IfOk result (λ text. IsAnswered H before now words (bytes_of text))
-    bytes_end bytes_of (Ok text) is =
+    bytes_end sized is_query bytes_of (Ok text) is =
         let verified = is.1 in
         record {
           accepted = record { query = query; bytes = bytes; replied = replied; proof = verified.proof; accepted = verified.accepted };
           headline = verified.headline;
+          audited = told H sized words.root query words.r bytes verified.proof is_query verified.accepted;
           printed = is.2 ∙ ap lines verified.answer;
         }
-    bytes_end bytes_of (Err stop) is = tt
+    bytes_end sized is_query bytes_of (Err stop) is = tt
 
   -- a question that was asked is within the limits
   pub decided_asks : (k : ℕ) → Decides H before now words k → AsksRanking words.r words.query
@@ -73,6 +77,7 @@ module _ (H : List ℕ → List ℕ) (before now : CallerTold) (words : AskWords
   refused_asks refusal cause Link stops = absurd (asked_refused stops.0 refusal cause)
   refused_asks refusal cause (Peer fault) stops = absurd (asked_refused stops.asks refusal cause)
   refused_asks refusal cause (Faults count) stops = absurd stops
+  refused_asks refusal cause (Collision place ours theirs) stops = absurd stops
 
   module _ (tells : IsSome before.content) where
     same_bytes : (query other : List (List ℕ × ℕ)) (bytes more : List ℕ) → IsReplied before now words query bytes → IsReplied before now words other more → bytes ≡ more
@@ -122,6 +127,7 @@ module _ (H : List ℕ → List ℕ) (before now : CallerTold) (words : AskWords
     stop_decides k decides Link stops = inr (inr (refl, stops.1.rose))
     stop_decides k decides (Peer fault) stops = fault_decides k decides fault stops
     stop_decides k decides (Faults count) stops = absurd stops
+    stop_decides k decides (Collision place ours theirs) stops = absurd stops
 
     -- a status that a reply may decide is no other
     comes_one : (k status : ℕ) → (status ≡ 0) ⊎ ((status ≡ 1) ⊎ (status ≡ 9)) → Comes k status → k ≡ status

@@ -1,8 +1,10 @@
 -- What follows from how a command ended and what it printed.
 use Rattle.std.proofs.Common.{◌≡◌, ◌≢◌, ◌⊎◌, ◌≤◌, ◌∙◌, ℕ, List, length, Some, None, IsSome, refl, sym, ap, subst, inl, inr, arith, take_all}
 use Rattle.ats_base.specs.Outside.{Rose, ShelfTold, Asked, Puts}
+use Rattle.ats_tree.specs.Differences.{Difference}
+use Rattle.ats_commit.specs.Ours.{TreePlace}
 use Rattle.ats_client.specs.declared.fault.Rejection.{Rejection}
-use Rattle.ats_top.specs.Words.{Command, Rank, Build, Root, Prove, Verify, Ask, Serve, command_of}
+use Rattle.ats_top.specs.Words.{Command, Rank, Build, Root, Prove, Verify, Ask, Serve, Audit, command_of}
 use Rattle.ats_top.specs.Stops.{End, Done, Stopped, Unprinted, status_of, status_of_stop, text_of}
 use Rattle.ats_top.specs.Outside.{Outside}
 use Rattle.ats_top.specs.Read.{Files, IsTold}
@@ -10,14 +12,16 @@ use Rattle.ats_top.specs.Calling.{HasCalled, HasOpened, ReplyDecides}
 use Rattle.ats_top.specs.Reading.{reads, AsksFor, IsFirstMissing, Serves}
 use Rattle.ats_top.specs.Refusals.{NeedsShelf, LacksFile, IsRefused}
 use Rattle.ats_top.specs.Rejected.{IsRejected}
+use Rattle.ats_top.specs.Audited.{HasCollision}
 use Rattle.ats_top.specs.Done.{IsDone, PutsPart, Changes, HasInput, IsServed}
 use Rattle.ats_top.specs.Run.{Said, HasShelfCause, IsStopped, Ends, Ended, IsStatus, SinkFailed, DoorFailed, LinkFailed, Failed, TookAll, Ran}
 use Rattle.ats_top.specs.declared.stops.InputRefusal.{InputRefusal}
 use Rattle.ats_top.specs.declared.stops.Stop.{Stop}
-use Rattle.ats_top.specs.declared.stops.Stop.TheVariants.{Usage, Shelf, Input, Rejected, Memory, Link, Peer, Faults}
+use Rattle.ats_top.specs.declared.stops.Stop.TheVariants.{Usage, Shelf, Input, Rejected, Memory, Link, Peer, Faults, Collision}
 use Rattle.ats_top.proofs.Refused.{served_kept, done_kept, missing_kept, input_there, served_input}
-use Rattle.ats_top.proofs.LinkEnds.{links_there, links_refused, links_rejected, links_served, links_files, unprinted_files, replied_stop, replied_done}
+use Rattle.ats_top.proofs.LinkEnds.{links_there, links_refused, links_rejected, links_collided, links_served, links_files, unprinted_files, replied_stop, replied_done}
 use Rattle.ats_top.proofs.Rejecting.{input_kept, rejected_there, rejected_kept}
+use Rattle.ats_top.proofs.AuditEnds.{collision_input, collision_kept, collision_unserved, collision_undone}
 
 -- the words of a command are one
 same_command : (said : List (List ℕ)) (command other : Command) → command_of said ≡ Some command → command_of said ≡ Some other → command ≡ other
@@ -36,6 +40,7 @@ never_done Memory = omega arith
 never_done Link = omega arith
 never_done (Peer fault) = omega arith
 never_done (Faults count) = omega arith
+never_done (Collision place ours theirs) = omega arith
 
 -- each end has a status
 has_status : (end : End) → IsStatus (status_of end)
@@ -44,11 +49,12 @@ has_status (Stopped text (Rejected rejection)) = inr (inl refl)
 has_status (Stopped text Usage) = inr (inr (inl refl))
 has_status (Stopped text Shelf) = inr (inr (inr (inl refl)))
 has_status (Stopped text (Input refusal)) = inr (inr (inr (inr (inl refl))))
-has_status (Stopped text Memory) = inr (inr (inr (inr (inr (inl refl)))))
-has_status (Unprinted text) = inr (inr (inr (inr (inr (inr (inl refl))))))
-has_status (Stopped text Link) = inr (inr (inr (inr (inr (inr (inr (inl refl)))))))
-has_status (Stopped text (Peer fault)) = inr (inr (inr (inr (inr (inr (inr (inr (inl refl))))))))
-has_status (Stopped text (Faults count)) = inr (inr (inr (inr (inr (inr (inr (inr (inr refl))))))))
+has_status (Stopped text (Collision place ours theirs)) = inr (inr (inr (inr (inr (inl refl)))))
+has_status (Stopped text Memory) = inr (inr (inr (inr (inr (inr (inl refl))))))
+has_status (Unprinted text) = inr (inr (inr (inr (inr (inr (inr (inl refl)))))))
+has_status (Stopped text Link) = inr (inr (inr (inr (inr (inr (inr (inr (inl refl))))))))
+has_status (Stopped text (Peer fault)) = inr (inr (inr (inr (inr (inr (inr (inr (inr (inl refl)))))))))
+has_status (Stopped text (Faults count)) = inr (inr (inr (inr (inr (inr (inr (inr (inr (inr refl)))))))))
 
 -- an end of which all may be printed
 abbrev IsPrinted : End → Type 0
@@ -70,6 +76,7 @@ done_input H before now (Prove words) text done = (done.asks, (done.proof.archiv
 done_input H before now (Ask words) text (answered, same) = answered.accepted.replied.asks
 done_input H before now (Verify words) text (verified, same) = (verified.asks, verified.accepted)
 done_input H before now (Serve words) text (all, same) = (all.served.archive, all.served.index)
+done_input H before now (Audit words) text (right, same) = (right.asks, (None, right.audited))
 
 -- all bytes are a prefix of them
 whole_part : (before now : Files) (name bytes : List ℕ) → Puts before now name bytes → PutsPart before now name bytes
@@ -100,6 +107,7 @@ done_changes H before now (Prove words) text done = inr (record {
 done_changes H before now (Ask words) text (answered, same) = inl same
 done_changes H before now (Verify words) text (verified, same) = inl same
 done_changes H before now (Serve words) text (all, same) = inl same
+done_changes H before now (Audit words) text (right, same) = inl same
 
 -- of a run
 module _ (H : List ℕ → List ℕ) (said : List (List ℕ)) (before now : Outside) where
@@ -126,6 +134,7 @@ module _ (H : List ℕ → List ℕ) (said : List (List ℕ)) (before now : Outs
   unsaid_end none (Stopped text Link) printed ends = absurd (no_command said ends.0 none ends.1)
   unsaid_end none (Stopped text (Peer fault)) printed ends = absurd (no_command said ends.0 none ends.1)
   unsaid_end none (Stopped text (Faults count)) printed ends = absurd (no_command said ends.0 none ends.1)
+  unsaid_end none (Stopped text (Collision place ours theirs)) printed ends = absurd (no_command said ends.0 none ends.1)
 
   -- what the status is of what the command of the words did, and of why it stopped, it is of their end
   module _ (P : ℕ → Type 0) (command : Command) (is : command_of said ≡ Some command)
@@ -145,6 +154,7 @@ module _ (H : List ℕ → List ℕ) (said : List (List ℕ)) (before now : Outs
     by_end (Stopped text Link) printed ends = stop_end text Link ends
     by_end (Stopped text (Peer fault)) printed ends = stop_end text (Peer fault) ends
     by_end (Stopped text (Faults count)) printed ends = stop_end text (Faults count) ends
+    by_end (Stopped text (Collision place ours theirs)) printed ends = stop_end text (Collision place ours theirs) ends
 
   -- of the command of these words
   module _ (command : Command) where
@@ -159,6 +169,8 @@ module _ (H : List ℕ → List ℕ) (said : List (List ℕ)) (before now : Outs
     missing_stop lacks text Link (inl stops) = absurd stops.1
     missing_stop lacks text (Peer fault) (inl stops) = absurd stops.1
     missing_stop lacks text (Faults count) (inl stops) = absurd stops.1
+    missing_stop lacks text (Collision place ours theirs) (inl stops) =
+        absurd (input_there H before.shelf.files command (collision_input H before.shelf.files command _ stops.1.0.collision) lacks)
     missing_stop lacks text stop (inr links) = absurd (links_there H before now command text stop links lacks)
 
     -- a fault of the shelf, where no file is missing
@@ -172,28 +184,48 @@ module _ (H : List ℕ → List ℕ) (said : List (List ℕ)) (before now : Outs
     refused_stop told refusal cause text Usage (inl stops) = absurd stops.1
     refused_stop told refusal cause text Shelf (inl stops) = shelf_stop 4 (λ lacks. missing_kept H before.shelf.files command lacks refusal cause) stops.1.0
     refused_stop told refusal cause text (Input found) (inl stops) = inl refl
-    refused_stop told refusal cause text (Rejected rejection) (inl stops) = absurd (rejected_kept H before.shelf.files command rejection stops.1.0 refusal cause)
+    refused_stop told refusal cause text (Rejected rejection) (inl stops) = absurd (rejected_kept H before.shelf.files command rejection told stops.1.0 refusal cause)
     refused_stop told refusal cause text Memory (inl stops) = inr (inl refl)
     refused_stop told refusal cause text Link (inl stops) = absurd stops.1
     refused_stop told refusal cause text (Peer fault) (inl stops) = absurd stops.1
     refused_stop told refusal cause text (Faults count) (inl stops) = absurd stops.1
+    refused_stop told refusal cause text (Collision place ours theirs) (inl stops) =
+        absurd (collision_kept H before.shelf.files command _ told stops.1.0.collision refusal cause)
     refused_stop told refusal cause text stop (inr links) = elim (links_refused H before now command text stop told links refusal cause) [
       | inl is ↦ inl is
       | inr memory ↦ inr (inl memory)
     ]
 
     -- a rejected proof is accepted by no run
-    rejected_stop : (rejection : Rejection) → IsRejected H before.shelf.files command rejection → (text : List ℕ) (stop : Stop) → IsStopped H before now command text stop
+    rejected_stop : IsTold before.shelf.files → (rejection : Rejection) → IsRejected H before.shelf.files command rejection → (text : List ℕ) (stop : Stop) → IsStopped H before now command text stop
         → Comes 1 (status_of_stop stop)
-    rejected_stop rejection cause text Usage (inl stops) = absurd stops.1
-    rejected_stop rejection cause text Shelf (inl stops) = shelf_stop 1 (λ lacks. rejected_there H before.shelf.files command lacks rejection cause) stops.1.0
-    rejected_stop rejection cause text (Input refusal) (inl stops) = absurd (rejected_kept H before.shelf.files command rejection cause refusal stops.1.0)
-    rejected_stop rejection cause text (Rejected found) (inl stops) = inl refl
-    rejected_stop rejection cause text Memory (inl stops) = inr (inl refl)
-    rejected_stop rejection cause text Link (inl stops) = absurd stops.1
-    rejected_stop rejection cause text (Peer fault) (inl stops) = absurd stops.1
-    rejected_stop rejection cause text (Faults count) (inl stops) = absurd stops.1
-    rejected_stop rejection cause text stop (inr links) = absurd (links_rejected H before now command text stop links rejection cause)
+    rejected_stop told rejection cause text Usage (inl stops) = absurd stops.1
+    rejected_stop told rejection cause text Shelf (inl stops) = shelf_stop 1 (λ lacks. rejected_there H before.shelf.files command lacks rejection cause) stops.1.0
+    rejected_stop told rejection cause text (Input refusal) (inl stops) = absurd (rejected_kept H before.shelf.files command rejection told cause refusal stops.1.0)
+    rejected_stop told rejection cause text (Rejected found) (inl stops) = inl refl
+    rejected_stop told rejection cause text Memory (inl stops) = inr (inl refl)
+    rejected_stop told rejection cause text Link (inl stops) = absurd stops.1
+    rejected_stop told rejection cause text (Peer fault) (inl stops) = absurd stops.1
+    rejected_stop told rejection cause text (Faults count) (inl stops) = absurd stops.1
+    rejected_stop told rejection cause text (Collision place ours theirs) (inl stops) =
+        absurd (input_kept H before.shelf.files command told (collision_input H before.shelf.files command _ stops.1.0.collision) rejection cause)
+    rejected_stop told rejection cause text stop (inr links) = absurd (links_rejected H before now command text stop links rejection cause)
+
+    -- a proof that has a collision is told by no other run
+    collided_stop : IsTold before.shelf.files → (collision : Difference TreePlace) → HasCollision H before.shelf.files command collision → (text : List ℕ) (stop : Stop)
+        → IsStopped H before now command text stop → Comes 5 (status_of_stop stop)
+    collided_stop told collision has text Usage (inl stops) = absurd stops.1
+    collided_stop told collision has text Shelf (inl stops) =
+        shelf_stop 5 (input_there H before.shelf.files command (collision_input H before.shelf.files command collision has)) stops.1.0
+    collided_stop told collision has text (Input refusal) (inl stops) = absurd (collision_kept H before.shelf.files command collision told has refusal stops.1.0)
+    collided_stop told collision has text (Rejected rejection) (inl stops) =
+        absurd (input_kept H before.shelf.files command told (collision_input H before.shelf.files command collision has) rejection stops.1.0)
+    collided_stop told collision has text Memory (inl stops) = inr (inl refl)
+    collided_stop told collision has text Link (inl stops) = absurd stops.1
+    collided_stop told collision has text (Peer fault) (inl stops) = absurd stops.1
+    collided_stop told collision has text (Faults count) (inl stops) = absurd stops.1
+    collided_stop told collision has text (Collision place ours theirs) (inl stops) = inl refl
+    collided_stop told collision has text stop (inr links) = absurd (links_collided H before now command text stop links collision has)
 
     -- what is within the limits is done, unless memory is wanted or the shelf or the door failed
     served_stop : IsTold before.shelf.files → IsServed H before.shelf.files command → (text : List ℕ) (stop : Stop) → IsStopped H before now command text stop
@@ -208,6 +240,7 @@ module _ (H : List ℕ → List ℕ) (said : List (List ℕ)) (before now : Outs
     served_stop told served text Link (inl stops) = absurd stops.1
     served_stop told served text (Peer fault) (inl stops) = absurd stops.1
     served_stop told served text (Faults count) (inl stops) = absurd stops.1
+    served_stop told served text (Collision place ours theirs) (inl stops) = absurd (collision_unserved H before.shelf.files command _ told stops.1.0.collision served)
     served_stop told served text stop (inr links) = elim (links_served H before now command text stop links served) [
       | inl memory ↦ inr (inr (inl memory))
       | inr door ↦ inl door
@@ -225,6 +258,7 @@ module _ (H : List ℕ → List ℕ) (said : List (List ℕ)) (before now : Outs
     files_stop text Link (inl stops) = absurd stops.1
     files_stop text (Peer fault) (inl stops) = absurd stops.1
     files_stop text (Faults count) (inl stops) = absurd stops.1
+    files_stop text (Collision place ours theirs) (inl stops) = inl stops.1.1
     files_stop text stop (inr links) = inl (links_files H before now command text stop links)
 
   missing_end : Said said (λ command. LacksFile H before.shelf.files command) → (end : End) → IsPrinted end → Ends H before now said end
@@ -240,7 +274,12 @@ module _ (H : List ℕ → List ℕ) (said : List (List ℕ)) (before now : Outs
   rejected_end : IsTold before.shelf.files → Said said (λ command. (rejection : Rejection) × IsRejected H before.shelf.files command rejection)
       → (end : End) → IsPrinted end → Ends H before now said end → Comes 1 (status_of end)
   rejected_end told (command, is, (rejection, cause)) = by_end (Comes 1) command is
-      (λ text done. absurd (input_kept H before.shelf.files command told (done_input H before now command text done) rejection cause)) (rejected_stop command rejection cause)
+      (λ text done. absurd (input_kept H before.shelf.files command told (done_input H before now command text done) rejection cause)) (rejected_stop command told rejection cause)
+
+  collided_end : IsTold before.shelf.files → Said said (λ command. (collision : Difference TreePlace) × HasCollision H before.shelf.files command collision)
+      → (end : End) → IsPrinted end → Ends H before now said end → Comes 5 (status_of end)
+  collided_end told (command, is, (collision, has)) = by_end (Comes 5) command is
+      (λ text done. absurd (collision_undone H before now command text collision told has done)) (collided_stop command told collision has)
 
   served_end : IsTold before.shelf.files → Said said (λ command. IsServed H before.shelf.files command)
       → (end : End) → IsPrinted end → Ends H before now said end → IsServedBy (status_of end)
@@ -274,6 +313,7 @@ module _ (H : List ℕ → List ℕ) (said : List (List ℕ)) (before now : Outs
   files_end (Stopped text Link) ends = stop_files text Link ends
   files_end (Stopped text (Peer fault)) ends = stop_files text (Peer fault) ends
   files_end (Stopped text (Faults count)) ends = stop_files text (Faults count) ends
+  files_end (Stopped text (Collision place ours theirs)) ends = stop_files text (Collision place ours theirs) ends
   files_end (Unprinted text) ends = inl (unprinted_files H before now ends.0 text ends.2)
 
   abbrev Served : Type 0
@@ -350,7 +390,7 @@ module _ (H : List ℕ → List ℕ) (said : List (List ℕ)) (before now : Outs
     status : Ended H said before now result → IsStatus result
     status ended = elim (tells IsStatus ended (λ end printed ends. has_status end)) [
       | inl is ↦ is
-      | inr sinks ↦ inr (inr (inr (inr (inr (inr (inl sinks.0))))))
+      | inr sinks ↦ inr (inr (inr (inr (inr (inr (inr (inl sinks.0)))))))
     ]
 
     pub ran : Ended H said before now result → Served → Unread → Called → Opened → before.sink.faults ≤ now.sink.faults → Ran H said before now result
@@ -362,6 +402,7 @@ module _ (H : List ℕ → List ℕ) (said : List (List ℕ)) (before now : Outs
       missing = λ lacks. with_sink 3 6 (tells (λ status. (status ≡ 3) ⊎ (status ≡ 6)) ended (missing_end lacks));
       refused = λ told refusal. with_faults 4 (tells (Comes 4) ended (refused_end told refusal));
       rejected = λ told rejection. with_faults 1 (tells (Comes 1) ended (rejected_end told rejection));
+      collided = λ told collision. with_faults 5 (tells (Comes 5) ended (collided_end told collision));
       complete = λ told asks. with_door (tells IsServedBy ended (served_end told asks));
       replied = λ content k decides. with_link k (tells (Replies k) ended (replied_end content k decides));
       files = files_end ended.end ended.ends;

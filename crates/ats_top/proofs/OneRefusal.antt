@@ -18,7 +18,7 @@ use Rattle.ats_prover.proofs.Archives.{archive_one}
 use Rattle.ats_top.specs.Input.{AreJsonTexts, IsFirstJsonFault}
 use Rattle.ats_top.specs.declared.input.JsonFault.{JsonFault}
 use Rattle.ats_top.specs.declared.input.JsonFault.TheVariants as json
-use Rattle.ats_top.specs.Words.{ProveWords, Command, Rank, Build, Root, Prove, Verify, Ask, Serve}
+use Rattle.ats_top.specs.Words.{ProveWords, Command, Rank, Build, Root, Prove, Verify, Ask, Serve, Audit}
 use Rattle.ats_top.specs.Read.{Files, IsTold, IsFile}
 use Rattle.ats_top.specs.Stops.{stop_of_query, stop_of_json, stop_of_collection}
 use Rattle.ats_top.specs.Refusals.{IsRowCount, AsksRanking, IsCollectionRefused, IsIndexRefused, IsProvingRefused, IsRankingRefused, IsRefused}
@@ -217,3 +217,5 @@ one_refusal H files (Prove words) a b told is also =
 one_refusal H files (Ask words) a b told is also = one_ranking words.r words.query (λ other. ⊥) (λ x y is also. absurd is) a b is also
 one_refusal H files (Verify words) a b told is also = one_ranking words.r words.query (λ other. ⊥) (λ x y is also. absurd is) a b is also
 one_refusal H files (Serve words) a b told is also = one_index_refusal files words.index H told a b is also
+one_refusal H files (Audit words) a b told is also =
+    one_ranking words.r words.query (IsIndexRefused H files words.index) (one_index_refusal files words.index H told) a b is also

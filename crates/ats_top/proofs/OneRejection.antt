@@ -1,12 +1,15 @@
 -- A told file is rejected as a proof in one way at most.
 use Rattle.std.proofs.Common.{◌≡◌, ◌∙◌, ◌^◌, ℕ, List, sym, subst, inl, inr}
+use Rattle.ats_commit.specs.Archive.{Archive}
+use Rattle.ats_commit.specs.Root.{root_of}
 use Rattle.ats_client.specs.Bytes.{IsRejectedBytes}
 use Rattle.ats_client.specs.declared.fault.Rejection.{Rejection}
 use Rattle.ats_client.proofs.OneRejection as bytes
-use Rattle.ats_top.specs.Words.{VerifyWords, Command, Rank, Build, Root, Prove, Verify, Ask, Serve}
+use Rattle.ats_top.specs.Words.{VerifyWords, under, Command, Rank, Build, Root, Prove, Verify, Ask, Serve, Audit}
 use Rattle.ats_top.specs.Read.{Files, IsTold}
 use Rattle.ats_top.specs.Rejected.{IsProofRejected, IsRejected}
 use Rattle.ats_top.proofs.Refused.{not_longer, one_file}
+use Rattle.ats_top.proofs.Rejecting.{told_archive}
 
 one_of_proof : (H : List ℕ → List ℕ) (files : Files) (words : VerifyWords) (a b : Rejection) → IsTold files
     → IsProofRejected H files words a → IsProofRejected H files words b → a ≡ b
@@ -29,3 +32,7 @@ one_rejection H files (Prove words) a b told is also = absurd is
 one_rejection H files (Ask words) a b told is also = absurd is
 one_rejection H files (Verify words) a b told is also = one_of_proof H files words a b told is.1 also.1
 one_rejection H files (Serve words) a b told is also = absurd is
+one_rejection H files (Audit words) a b told (asks, (archive, has, is)) (_, (other, has', also)) =
+    let archives : other ≡ archive = told_archive H files words.index other archive told has' has in
+    one_of_proof H files (under (root_of H archive) words) a b told is
+    (subst (λ (one : Archive). IsProofRejected H files (under (root_of H one) words) b) archives also)

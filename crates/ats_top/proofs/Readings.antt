@@ -3,7 +3,7 @@ use Rattle.std.proofs.Common.{◌≡◌, ◌≤◌, ◌^◌, ◌++◌, ◌∷◌
 use Rattle.ats_base.specs.Outside.{IsMissing, ShelfTold, Ask, Asked, ReadsAtMostOnce, StoresOnce}
 use Rattle.ats_base.proofs.Asking.{asked_none, asked_then, asked_as}
 use Rattle.ats_commit.specs.Archive.{Archive}
-use Rattle.ats_top.specs.Words.{RankWords, BuildWords, RootWords, ProveWords, VerifyWords, ServeWords, Command, Rank, Build, Root, Prove, Verify, Serve}
+use Rattle.ats_top.specs.Words.{RankWords, BuildWords, RootWords, ProveWords, VerifyWords, ServeWords, AuditWords, Command, Rank, Build, Root, Prove, Verify, Serve, Audit}
 use Rattle.ats_top.specs.Read.{HasCollection, HasIndex}
 use Rattle.ats_top.specs.Reading.{AsCollection, AsIndex, AsProof, InputFile, limit_of, reads, stores, ReadsInOrder, StoresAtMostOnce, AsksFor, IsFirstMissing, Reads, Serves}
 use Rattle.ats_top.proofs.Refused.{missing_file}
@@ -90,6 +90,37 @@ module _ (before now : ShelfTold) where
 
   pub serve_read : (words : ServeWords) → Reads before now words.index (2 ^ 29) → Serves before now (Serve words)
   serve_read words is = one_read (Serve words) (record { name = words.index; form = AsIndex }) refl before now is
+
+  -- the index alone was read
+  pub audit_index : (words : AuditWords) → Reads before now words.index (2 ^ 29) → Serves before now (Audit words)
+  audit_index words is = record {
+    later = is.later;
+    uncounted = is.uncounted;
+    asked = asked_as before.asked now.asked (ReadsAtMostOnce words.index (2 ^ 29)) (AsksFor (Audit words)) is.asked
+        (λ asks reads. record {
+          read = asks;
+          stored = [];
+          parts = sym (append-nil asks);
+          reads = (asks, [], sym (append-nil asks), reads, no_reads ((record { name = words.proof; form = AsProof }) ∷ []));
+          stores = refl;
+        });
+  }
+
+  -- the index, which was there, and the proof after it
+  pub audit_read : (mid : ShelfTold) (H : List ℕ → List ℕ) (words : AuditWords) (archive : Archive) → HasIndex H before.files words.index archive
+      → Reads before mid words.index (2 ^ 29) → Reads mid now words.proof (2 ^ 26) → Serves before now (Audit words)
+  audit_read mid H words archive has is also = record {
+    later = omega (arith, is.later, also.later);
+    uncounted = λ missing. absurd (missing_file before.files words.index has.bytes (2 ^ 29) missing has.file);
+    asked = asked_then before.asked mid.asked now.asked (ReadsAtMostOnce words.index (2 ^ 29)) (ReadsAtMostOnce words.proof (2 ^ 26)) (AsksFor (Audit words))
+        is.asked also.asked (λ asks more reads further. record {
+          read = asks ++ more;
+          stored = [];
+          parts = sym (append-nil (asks ++ more));
+          reads = (asks, more, refl, reads, one_file (record { name = words.proof; form = AsProof }) more further);
+          stores = refl;
+        });
+  }
 
   pub build_stored : (mid : ShelfTold) (words : BuildWords) (texts : List (List ℕ)) → HasCollection before.files words.collection texts
       → Reads before mid words.collection (2 ^ 26) → Asked mid.asked now.asked (StoresOnce words.index) → mid.faults ≤ now.faults → Serves before now (Build words)

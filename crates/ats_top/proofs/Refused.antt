@@ -1,5 +1,5 @@
 -- What is within the limits is not refused, and a file that is not there is neither served nor refused.
-use Rattle.std.proofs.Common.{◌≡◌, ◌∙◌, ◌<◌, ◌≤◌, ◌^◌, ℕ, List, [], length, Option, Some, None, MatchOption, sym, ap, subst, arith, append-nil}
+use Rattle.std.proofs.Common.{◌≡◌, ◌∙◌, ◌<◌, ◌≤◌, ◌^◌, ℕ, List, [], length, Option, Some, None, MatchOption, refl, sym, ap, subst, inl, inr, arith, append-nil}
 use Rattle.std.specs.List.{concat}
 use Rattle.ats_base.specs.Outside.{IsMissing, IsLonger}
 use Rattle.ats_terms.specs.Query.{HasQuery}
@@ -20,7 +20,7 @@ use Rattle.ats_prover.proofs.Archives.{archive_one}
 use Rattle.ats_top.specs.Input.{AreJsonTexts}
 use Rattle.ats_top.specs.declared.input.JsonFault.{JsonFault}
 use Rattle.ats_top.specs.declared.input.JsonFault.TheVariants as json
-use Rattle.ats_top.specs.Words.{ProveWords, Command, Rank, Build, Root, Prove, Verify, Ask, Serve}
+use Rattle.ats_top.specs.Words.{ProveWords, Command, Rank, Build, Root, Prove, Verify, Ask, Serve, Audit}
 use Rattle.ats_top.specs.Read.{Files, IsTold, IsFile, HasCollection, HasIndex}
 use Rattle.ats_top.specs.Refusals.{IsRowCount, AsksRanking, Asks, LacksFile, IsJsonRefused, AreTextsRefused, IsCollectionRefused, IsIndexRefused, IsProvingRefused, IsRankingRefused, IsRefused}
 use Rattle.ats_top.specs.Proved.{IsProofFor, IsProofTooLong}
@@ -86,6 +86,11 @@ pub missing_file : (files : Files) (name bytes : List ℕ) (limit : ℕ) → IsM
 missing_file None name bytes limit missing file = missing
 missing_file (Some map) name bytes limit missing file = let both = sym missing ∙ file.held in cc
 
+-- a shelf that tells of a missing file tells
+missing_told : (files : Files) (name : List ℕ) → IsMissing files name → IsTold files
+missing_told None name missing = absurd missing
+missing_told (Some map) name missing = refl
+
 module _ (files : Files) (told : IsTold files) (name : List ℕ) (texts : List (List ℕ)) (has : HasCollection files name texts) where
   json_kept : (fault : JsonFault) → IsJsonRefused files name fault → IsJsonRefusal fault → ⊥
   json_kept fault refused free =
@@ -149,6 +154,8 @@ served_kept H files (Prove words) told ((asks, (archive, has)), fits) refusal re
     (proving_kept H files words (index_kept H files words.index archive told has) fits) refusal refused
 served_kept H files (Ask words) told served refusal refused = absurd served
 served_kept H files (Serve words) told (archive, has) refusal refused = index_kept H files words.index archive told has refusal refused
+served_kept H files (Audit words) told (asks, is) refusal refused =
+    ranking_kept words.r words.query (IsIndexRefused H files words.index) asks (index_kept H files words.index is.archive told is.index) refusal refused
 served_kept H files (Verify words) told (asks, has) refusal refused = ranking_kept words.r words.query (λ other. ⊥) asks (λ other never. never) refusal refused
 
 -- bytes that spell a proof are as many as its fields have
@@ -189,6 +196,8 @@ done_kept H before now (Ask words) text told (answered, same) refusal refused =
     ranking_kept words.r words.query (λ other. ⊥) answered.accepted.replied.asks (λ other never. never) refusal refused
 done_kept H before now (Serve words) text told (all, same) refusal refused =
     served_kept H before.shelf.files (Serve words) told (all.served.archive, all.served.index) refusal refused
+done_kept H before now (Audit words) text told (right, same) refusal refused =
+    served_kept H before.shelf.files (Audit words) told (right.asks, right.audited) refusal refused
 done_kept H before now (Verify words) text told (verified, same) refusal refused =
     ranking_kept words.r words.query (λ other. ⊥) verified.asks (λ other never. never) refusal refused
 
@@ -218,6 +227,7 @@ lacks_asks H files (Prove words) lacks = lacks.0
 lacks_asks H files (Verify words) lacks = lacks.0
 lacks_asks H files (Ask words) lacks = absurd lacks
 lacks_asks H files (Serve words) lacks = tt
+lacks_asks H files (Audit words) lacks = lacks.0
 
 -- and nothing is refused
 pub missing_kept : (H : List ℕ → List ℕ) (files : Files) (command : Command) → LacksFile H files command
@@ -232,6 +242,11 @@ missing_kept H files (Prove words) (asks, missing) refusal refused =
     (λ size long. missing_file files words.index long.index.bytes (2 ^ 29) missing long.index.file)) refusal refused
 missing_kept H files (Ask words) lacks refusal refused = absurd lacks
 missing_kept H files (Serve words) missing refusal refused = index_missing files words.index missing H refusal refused
+missing_kept H files (Audit words) (asks, inl missing) refusal refused =
+    ranking_kept words.r words.query (IsIndexRefused H files words.index) asks (index_missing files words.index missing H) refusal refused
+missing_kept H files (Audit words) (asks, inr ((archive, has), missing)) refusal refused =
+    ranking_kept words.r words.query (IsIndexRefused H files words.index) asks
+    (index_kept H files words.index archive (missing_told files words.proof missing) has) refusal refused
 missing_kept H files (Verify words) (asks, missing) refusal refused = ranking_kept words.r words.query (λ other. ⊥) asks (λ other never. never) refusal refused
 
 -- a file of the form that the command reads is there
@@ -242,6 +257,8 @@ input_there H files (Root words) (archive, has) lacks = missing_file files words
 input_there H files (Prove words) (asks, (archive, has)) lacks = missing_file files words.index has.bytes (2 ^ 29) lacks.1 has.file
 input_there H files (Ask words) asks lacks = absurd lacks
 input_there H files (Serve words) (archive, has) lacks = missing_file files words.index has.bytes (2 ^ 29) lacks has.file
+input_there H files (Audit words) (asks, (found, is)) (_, inl missing) = missing_file files words.index is.index.bytes (2 ^ 29) missing is.index.file
+input_there H files (Audit words) (asks, (found, is)) (_, inr (has, missing)) = missing_file files words.proof is.bytes (2 ^ 26) missing is.file
 input_there H files (Verify words) (asks, is) lacks = missing_file files words.proof is.bytes (2 ^ 26) lacks.1 is.file
 
 pub served_input : (H : List ℕ → List ℕ) (files : Files) (command : Command) → IsServed H files command → HasInput H files command
@@ -252,3 +269,4 @@ served_input H files (Prove words) served = served.0
 served_input H files (Verify words) served = served
 served_input H files (Ask words) served = absurd served
 served_input H files (Serve words) served = served
+served_input H files (Audit words) (asks, is) = (asks, (None, is))

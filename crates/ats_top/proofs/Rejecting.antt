@@ -1,17 +1,21 @@
 -- A proof that is accepted is not rejected, and what is rejected of a proof is of a file that is there, under words within the limits.
 use Rattle.std.proofs.Common.{◌≡◌, ◌∙◌, ◌^◌, ℕ, List, sym, subst, inl, inr}
 use Rattle.ats_base.specs.Outside.{IsMissing}
+use Rattle.ats_commit.specs.Archive.{Archive}
+use Rattle.ats_commit.specs.Root.{root_of}
+use Rattle.ats_index.specs.Spelling.{IsSpelling}
+use Rattle.ats_index.proofs.OneArchive.{one_archive}
 use Rattle.ats_client.specs.Bytes.{IsAcceptedBytes}
 use Rattle.ats_client.specs.declared.fault.Rejection.{Rejection}
 use Rattle.ats_client.proofs.OneRejection.{accepted_kept}
-use Rattle.ats_top.specs.Words.{VerifyWords, Command, Rank, Build, Root, Prove, Verify, Ask, Serve}
-use Rattle.ats_top.specs.Read.{Files, IsTold}
+use Rattle.ats_top.specs.Words.{VerifyWords, under, Command, Rank, Build, Root, Prove, Verify, Ask, Serve, Audit}
+use Rattle.ats_top.specs.Read.{Files, HasIndex, IsTold}
 use Rattle.ats_top.specs.Verified.{IsAccepted}
-use Rattle.ats_top.specs.Refusals.{LacksFile, IsRefused}
+use Rattle.ats_top.specs.Refusals.{LacksFile, IsIndexRefused, IsRefused}
 use Rattle.ats_top.specs.Rejected.{IsProofRejected, IsRejected}
 use Rattle.ats_top.specs.Done.{HasInput}
 use Rattle.ats_top.specs.declared.stops.InputRefusal.{InputRefusal}
-use Rattle.ats_top.proofs.Refused.{not_longer, one_file, missing_longer, missing_file, ranking_kept}
+use Rattle.ats_top.proofs.Refused.{not_longer, one_file, missing_longer, missing_file, ranking_kept, index_kept}
 
 -- a told file that is accepted is not rejected
 proof_accepted : (H : List ℕ → List ℕ) (files : Files) (words : VerifyWords) → IsTold files → IsAccepted H files words
@@ -24,6 +28,12 @@ proof_accepted H files words told is rejection (inr rejected) =
     (subst (λ (query : List (List ℕ × ℕ)). IsAcceptedBytes H words.root query words.r is.bytes is.proof) asked is.accepted) in
     accepted_kept H words.root rejected.query words.r rejected.bytes is.proof rejection accepted rejected.rejected
 
+-- a told file is the index of one archive
+pub told_archive : (H : List ℕ → List ℕ) (files : Files) (name : List ℕ) (a b : Archive) → IsTold files → HasIndex H files name a → HasIndex H files name b → a ≡ b
+told_archive H files name a b told is also =
+    let same = one_file files name is.bytes also.bytes (2 ^ 29) (2 ^ 29) told is.file also.file in
+    one_archive H also.bytes a b (subst (λ (bytes : List ℕ). IsSpelling H bytes a) same is.spelling) also.spelling
+
 -- what has the form that the command reads is not rejected
 pub input_kept : (H : List ℕ → List ℕ) (files : Files) (command : Command) → IsTold files → HasInput H files command
     → (rejection : Rejection) → IsRejected H files command rejection → ⊥
@@ -33,6 +43,11 @@ input_kept H files (Root words) told has rejection rejected = rejected
 input_kept H files (Prove words) told has rejection rejected = rejected
 input_kept H files (Ask words) told has rejection rejected = rejected
 input_kept H files (Serve words) told has rejection rejected = rejected
+input_kept H files (Audit words) told (asks, (found, is)) rejection (_, (archive, has, rejected)) =
+    let archives : is.archive ≡ archive = told_archive H files words.index is.archive archive told is.index has in
+    let accepted = subst (λ (one : Archive). IsAcceptedBytes H (root_of H one) is.query words.r is.bytes is.proof) archives is.accepted in
+    proof_accepted H files (under (root_of H archive) words) told
+    (record { query = is.query; asked = is.asked; bytes = is.bytes; file = is.file; proof = is.proof; accepted = accepted }) rejection rejected
 input_kept H files (Verify words) told (asks, is) rejection rejected = proof_accepted H files words told is rejection rejected.1
 
 proof_missing : (H : List ℕ → List ℕ) (files : Files) (words : VerifyWords) → IsMissing files words.proof → (rejection : Rejection)
@@ -49,16 +64,21 @@ rejected_there H files (Root words) lacks rejection rejected = rejected
 rejected_there H files (Prove words) lacks rejection rejected = rejected
 rejected_there H files (Ask words) lacks rejection rejected = rejected
 rejected_there H files (Serve words) lacks rejection rejected = rejected
+rejected_there H files (Audit words) (asks, inl missing) rejection (_, (archive, has, rejected)) = missing_file files words.index has.bytes (2 ^ 29) missing has.file
+rejected_there H files (Audit words) (asks, inr (index, missing)) rejection (_, (archive, has, rejected)) =
+    proof_missing H files (under (root_of H archive) words) missing rejection rejected
 rejected_there H files (Verify words) lacks rejection rejected = proof_missing H files words lacks.1 rejection rejected.1
 
 -- what is rejected is not refused
-pub rejected_kept : (H : List ℕ → List ℕ) (files : Files) (command : Command) (rejection : Rejection) → IsRejected H files command rejection
+pub rejected_kept : (H : List ℕ → List ℕ) (files : Files) (command : Command) (rejection : Rejection) → IsTold files → IsRejected H files command rejection
     → (refusal : InputRefusal) → IsRefused H files command refusal → ⊥
-rejected_kept H files (Rank words) rejection rejected refusal refused = rejected
-rejected_kept H files (Build words) rejection rejected refusal refused = rejected
-rejected_kept H files (Root words) rejection rejected refusal refused = rejected
-rejected_kept H files (Prove words) rejection rejected refusal refused = rejected
-rejected_kept H files (Ask words) rejection rejected refusal refused = rejected
-rejected_kept H files (Serve words) rejection rejected refusal refused = rejected
-rejected_kept H files (Verify words) rejection rejected refusal refused =
+rejected_kept H files (Rank words) rejection told rejected refusal refused = rejected
+rejected_kept H files (Build words) rejection told rejected refusal refused = rejected
+rejected_kept H files (Root words) rejection told rejected refusal refused = rejected
+rejected_kept H files (Prove words) rejection told rejected refusal refused = rejected
+rejected_kept H files (Ask words) rejection told rejected refusal refused = rejected
+rejected_kept H files (Serve words) rejection told rejected refusal refused = rejected
+rejected_kept H files (Audit words) rejection told (asks, (archive, has, rejected)) refusal refused =
+    ranking_kept words.r words.query (IsIndexRefused H files words.index) asks (index_kept H files words.index archive told has) refusal refused
+rejected_kept H files (Verify words) rejection told rejected refusal refused =
     ranking_kept words.r words.query (λ other. ⊥) rejected.0 (λ other never. never) refusal refused

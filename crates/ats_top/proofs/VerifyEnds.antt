@@ -1,10 +1,11 @@
 -- How `verify` ends, from what its steps answer.
-use Rattle.std.proofs.Common.{◌≡◌, ◌≤◌, ◌^◌, ℕ, List, Result, Ok, Err, ap, ◌∙◌, inl, inr}
+use Rattle.std.proofs.Common.{◌≡◌, ◌≤◌, ◌^◌, ℕ, List, length, Result, Ok, Err, ap, ◌∙◌, inl, inr}
 use Rattle.std.specs.Prelude.{IfOk, IfErr}
 use Rattle.ats_base.specs.Outside.{ShelfTold}
-use Rattle.ats_terms.specs.Query.{IsQueryOf}
+use Rattle.ats_terms.specs.Query.{IsQuery, IsQueryOf}
 use Rattle.ats_impact.specs.declared.rank.Row.{Row}
 use Rattle.ats_client.specs.Bytes.{AreVerifiedRows}
+use Rattle.ats_audit.proofs.Told.{told}
 use Rattle.ats_top.specs.Words.{VerifyWords, Verify}
 use Rattle.ats_top.specs.Print.{lines}
 use Rattle.ats_top.specs.Read.{IsFile}
@@ -13,7 +14,7 @@ use Rattle.ats_top.specs.ReadStops.{ProofStop, BytesStop}
 use Rattle.ats_top.specs.Done.{IsVerified}
 use Rattle.ats_top.specs.Run.{FilesStop}
 use Rattle.ats_top.specs.declared.stops.Stop.{Stop}
-use Rattle.ats_top.specs.declared.stops.Stop.TheVariants.{Usage, Shelf, Input, Rejected, Memory, Link, Peer, Faults}
+use Rattle.ats_top.specs.declared.stops.Stop.TheVariants.{Usage, Shelf, Input, Rejected, Memory, Link, Peer, Faults, Collision}
 
 -- rows and a query that were read are within the limits
 pub asks_of : (r : ℕ) (text : List ℕ) (query : List (List ℕ × ℕ)) → (1 ≤ r) × (r ≤ 1000) → IsQueryOf text query → AsksRanking r text
@@ -31,6 +32,7 @@ module _ (H : List ℕ → List ℕ) (before now : ShelfTold) (words : VerifyWor
   file_stops Link stops = absurd stops
   file_stops (Peer fault) stops = absurd stops
   file_stops (Faults count) stops = absurd stops
+  file_stops (Collision place ours theirs) stops = absurd stops
 
   module _ (query : List (List ℕ × ℕ)) (bytes : List ℕ) (asked : IsQueryOf words.query query) (file : IsFile before.files words.proof (2 ^ 26) bytes) where
     bytes_stop : (stop : Stop) → BytesStop H words.root query words.r bytes stop → FilesStop H before now (Verify words) stop
@@ -43,6 +45,7 @@ module _ (H : List ℕ → List ℕ) (before now : ShelfTold) (words : VerifyWor
     bytes_stop Link stops = absurd stops
     bytes_stop (Peer fault) stops = absurd stops
     bytes_stop (Faults count) stops = absurd stops
+    bytes_stop (Collision place ours theirs) stops = absurd stops
 
     -- bytes that were refused
     pub bytes_stops : {T : Type 0} (result : Result T Stop) → IfErr result (BytesStop H words.root query words.r bytes)
@@ -51,15 +54,16 @@ module _ (H : List ℕ → List ℕ) (before now : ShelfTold) (words : VerifyWor
     bytes_stops (Err stop) stops = bytes_stop stop stops
 
     -- bytes that were accepted
-    pub bytes_end : {T : Type 0} (bytes_of : T → List ℕ) (result : Result T Stop)
+    pub bytes_end : ((m : List ℕ) → length (H m) ≡ 32) → IsQuery query → {T : Type 0} (bytes_of : T → List ℕ) (result : Result T Stop)
         → IfOk result (λ text. (rows : List Row) × AreVerifiedRows H words.root query words.r bytes rows × (bytes_of text ≡ lines rows))
         → IfOk result (λ text. IsVerified H before.files words (bytes_of text))
-    bytes_end bytes_of (Ok text) is =
+    bytes_end sized is_query bytes_of (Ok text) is =
         let verified = is.1 in
         record {
           asks = asks;
           accepted = record { query = query; asked = asked; bytes = bytes; file = file; proof = verified.proof; accepted = verified.accepted };
           headline = verified.headline;
+          audited = told H sized words.root query words.r bytes verified.proof is_query verified.accepted;
           printed = is.2 ∙ ap lines verified.answer;
         }
-    bytes_end bytes_of (Err stop) is = tt
+    bytes_end sized is_query bytes_of (Err stop) is = tt

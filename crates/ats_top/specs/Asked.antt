@@ -7,6 +7,7 @@ use Rattle.ats_wire.specs.Requests.{Question}
 use Rattle.ats_client.specs.Bytes.{IsAcceptedBytes, IsRejectedBytes}
 use Rattle.ats_client.specs.Headline.{IsTopOrCollides}
 use Rattle.ats_client.specs.Rows.{rows_of}
+use Rattle.ats_audit.specs.Verdicts.{IsTopOrTold}
 use Rattle.ats_client.specs.declared.fault.Rejection.{Rejection}
 use Rattle.ats_top.specs.Words.{AskWords}
 use Rattle.ats_top.specs.Print.{lines}
@@ -47,10 +48,12 @@ pub record IsReplyFault (before now : CallerTold) (words : AskWords) (fault : Pe
   pub heard : HearsFault words.address (question_of words) before now fault
 
 -- The reply is an accepted proof, the text is the lines of the rows of its answer, and for every archive with the root these rows are
--- right, or the proof and the archive hold two different strings with equal digests.
+-- right, or the proof and the archive hold two different strings with equal digests, and an audit of the bytes against that archive
+-- answers two such strings.
 pub record IsAnswered (H : List ℕ → List ℕ) (before now : CallerTold) (words : AskWords) (text : List ℕ) : Type 0 where
   pub accepted : IsReplyAccepted H before now words
   pub headline : IsTopOrCollides H words.root accepted.query words.r accepted.proof
+  pub audited : IsTopOrTold H words.root accepted.query words.r accepted.bytes accepted.proof
   pub printed : text ≡ lines (rows_of accepted.query accepted.proof)
 
 -- why it stopped; want of memory is free

@@ -1,16 +1,19 @@
 -- What the commands do where they are done, and what of it is left where they are not.
-use Rattle.std.specs.Prelude.{◌≡◌, ◌≤◌, ℕ, List, length, take, map, Some}
+use Rattle.std.specs.Prelude.{◌≡◌, ◌≤◌, ℕ, List, length, take, map, Option, Some, None}
 use Rattle.hex.specs.Hex.{encode_lower}
 use Rattle.ats_base.specs.Outside.{Puts}
 use Rattle.ats_terms.specs.Query.{IsQueryOf}
 use Rattle.ats_impact.specs.Rank.{IsRanking, IsTop}
 use Rattle.ats_impact.specs.declared.rank.Row.{Row}
+use Rattle.ats_tree.specs.Differences.{Difference}
 use Rattle.ats_commit.specs.Archive.{Archive, archive_of}
+use Rattle.ats_commit.specs.Ours.{TreePlace}
 use Rattle.ats_commit.specs.Root.{root_of}
 use Rattle.ats_index.specs.Spelling.{IsSpelling}
 use Rattle.ats_client.specs.Headline.{IsTopOrCollides}
 use Rattle.ats_client.specs.Rows.{rows_of}
-use Rattle.ats_top.specs.Words.{RankWords, BuildWords, RootWords, ProveWords, VerifyWords, Command, Rank, Build, Root, Prove, Verify, Ask, Serve, root_word}
+use Rattle.ats_audit.specs.Verdicts.{IsTopOrTold}
+use Rattle.ats_top.specs.Words.{RankWords, BuildWords, RootWords, ProveWords, VerifyWords, Command, Rank, Build, Root, Prove, Verify, Ask, Serve, Audit, root_word}
 use Rattle.ats_top.specs.Print.{lines, line_of_root, line_of_proof}
 use Rattle.ats_top.specs.Outside.{Outside}
 use Rattle.ats_top.specs.Read.{Files, HasCollection, HasIndex}
@@ -19,6 +22,7 @@ use Rattle.ats_top.specs.Verified.{IsAccepted}
 use Rattle.ats_top.specs.Served.{AreAllServed}
 use Rattle.ats_top.specs.Refusals.{AsksRanking}
 use Rattle.ats_top.specs.Asked.{IsAnswered}
+use Rattle.ats_top.specs.Audited.{IsAudited, IsAuditedRight}
 
 -- the text is the lines of the ranking of the named file's collection, and its documents are a top answer
 pub record IsRanked (files : Files) (words : RankWords) (text : List ℕ) : Type 0 where
@@ -61,11 +65,13 @@ pub record IsProofStored (H : List ℕ → List ℕ) (before now : Files) (words
   pub printed : text ≡ line_of_proof (length bytes)
 
 -- the named file is an accepted proof, the text is the lines of the rows of its answer, and for every archive with the
--- root these rows are right, or the proof and the archive hold two different strings with equal digests
+-- root these rows are right, or the proof and the archive hold two different strings with equal digests, and an audit of the
+-- bytes against that archive answers two such strings
 pub record IsVerified (H : List ℕ → List ℕ) (files : Files) (words : VerifyWords) (text : List ℕ) : Type 0 where
   pub asks : AsksRanking words.r words.query
   pub accepted : IsAccepted H files words
   pub headline : IsTopOrCollides H words.root accepted.query words.r accepted.proof
+  pub audited : IsTopOrTold H words.root accepted.query words.r accepted.bytes accepted.proof
   pub printed : text ≡ lines (rows_of accepted.query accepted.proof)
 
 -- the command of these words is done: this is its text, and what the objects of the outside hold after it
@@ -77,6 +83,7 @@ IsDone H before now (Prove words) text = IsProofStored H before.shelf.files now.
 IsDone H before now (Verify words) text = IsVerified H before.shelf.files words text × (now.shelf.files ≡ before.shelf.files)
 IsDone H before now (Ask words) text = IsAnswered H before.caller now.caller words text × (now.shelf.files ≡ before.shelf.files)
 IsDone H before now (Serve words) text = AreAllServed H before.shelf.files words before.door now.door 0 text × (now.shelf.files ≡ before.shelf.files)
+IsDone H before now (Audit words) text = IsAuditedRight H before.shelf.files words text × (now.shelf.files ≡ before.shelf.files)
 
 -- the name was given a prefix of the bytes, which may be all of them
 pub record PutsPart (before now : Files) (name bytes : List ℕ) : Type 0 where
@@ -108,6 +115,7 @@ Changes H before now (Prove words) = IsProofPart H before now words
 Changes H before now (Verify words) = ⊥
 Changes H before now (Ask words) = ⊥
 Changes H before now (Serve words) = ⊥
+Changes H before now (Audit words) = ⊥
 
 -- what the words say is within the limits, and the named file is of the form that the command reads; a proof is one that is accepted
 abbrev pub HasInput : (List ℕ → List ℕ) → Files → Command → Type 0
@@ -118,8 +126,9 @@ HasInput H files (Prove words) = AsksRanking words.r words.query × ((archive : 
 HasInput H files (Verify words) = AsksRanking words.r words.query × IsAccepted H files words
 HasInput H files (Ask words) = AsksRanking words.r words.query
 HasInput H files (Serve words) = (archive : Archive) × HasIndex H files words.index archive
+HasInput H files (Audit words) = AsksRanking words.r words.query × ((found : Option (Difference TreePlace)) × IsAudited H files words found)
 
--- And no honest proof that the words ask for is too long. Of `ask` no file decides, but the reply.
+-- And no honest proof that the words ask for is too long, and the audited proof has no collision with the archive. Of `ask` no file decides, but the reply.
 abbrev pub IsServed : (List ℕ → List ℕ) → Files → Command → Type 0
 IsServed H files (Rank words) = HasInput H files (Rank words)
 IsServed H files (Build words) = HasInput H files (Build words)
@@ -128,3 +137,4 @@ IsServed H files (Prove words) = HasInput H files (Prove words) × ((size : ℕ)
 IsServed H files (Verify words) = HasInput H files (Verify words)
 IsServed H files (Ask words) = ⊥
 IsServed H files (Serve words) = HasInput H files (Serve words)
+IsServed H files (Audit words) = AsksRanking words.r words.query × IsAudited H files words None

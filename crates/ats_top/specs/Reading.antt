@@ -1,7 +1,7 @@
 -- The files that commands read and store, and what comes of the shelf by it.
 use Rattle.std.specs.Prelude.{◌≡◌, ◌⊎◌, ◌≤◌, ◌^◌, ◌++◌, ◌∷◌, ℕ, List, [], Option, Some, None}
 use Rattle.ats_base.specs.Outside.{IsMissing, ShelfTold, Ask, Asked, ReadsAtMostOnce, StoresOnce}
-use Rattle.ats_top.specs.Words.{Command, Rank, Build, Root, Prove, Verify, Ask as AskServer, Serve}
+use Rattle.ats_top.specs.Words.{Command, Rank, Build, Root, Prove, Verify, Ask as AskServer, Serve, Audit}
 
 -- what a file is read as
 pub data Form : Type 0 where
@@ -28,6 +28,7 @@ reads (Prove words) = (record { name = words.index; form = AsIndex }) ∷ []
 reads (Verify words) = (record { name = words.proof; form = AsProof }) ∷ []
 reads (AskServer words) = []
 reads (Serve words) = (record { name = words.index; form = AsIndex }) ∷ []
+reads (Audit words) = (record { name = words.index; form = AsIndex }) ∷ (record { name = words.proof; form = AsProof }) ∷ []
 
 -- the file that it stores, if it stores one
 abbrev pub stores : Command → Option (List ℕ)
@@ -38,6 +39,7 @@ stores (Prove words) = Some words.proof
 stores (Verify words) = None
 stores (AskServer words) = None
 stores (Serve words) = None
+stores (Audit words) = None
 
 -- these files alone are read, in this order, each once at most
 abbrev pub ReadsInOrder : List InputFile → List Ask → Type 0

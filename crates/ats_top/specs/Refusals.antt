@@ -1,5 +1,5 @@
 -- Why a command refuses its words or its file: the first limit or form that is not kept, in the order of the trials.
-use Rattle.std.specs.Prelude.{◌≡◌, ◌≤◌, ◌^◌, ℕ, List}
+use Rattle.std.specs.Prelude.{◌≡◌, ◌⊎◌, ◌≤◌, ◌^◌, ℕ, List}
 use Rattle.ats_base.specs.Outside.{IsMissing, IsLonger}
 use Rattle.ats_terms.specs.Query.{HasQuery}
 use Rattle.ats_terms.specs.Faults.{IsFirstFault}
@@ -7,13 +7,14 @@ use Rattle.ats_terms.specs.declared.query.QueryFault.TheVariants as query
 use Rattle.ats_impact.specs.CollectionFaults.{IsFirstCollectionFault}
 use Rattle.ats_impact.specs.declared.collection.CollectionFault.{CollectionFault}
 use Rattle.ats_impact.specs.declared.collection.CollectionFault.TheVariants as collection
+use Rattle.ats_commit.specs.Archive.{Archive}
 use Rattle.ats_index.specs.LoadFaults.{IsLoadFault}
 use Rattle.ats_index.specs.declared.load.LoadFault.TheVariants as index
 use Rattle.ats_top.specs.Input.{AreJsonTexts, IsFirstJsonFault}
 use Rattle.ats_top.specs.declared.input.JsonFault.{JsonFault}
 use Rattle.ats_top.specs.declared.input.JsonFault.TheVariants as json
-use Rattle.ats_top.specs.Words.{ProveWords, Command, Rank, Build, Root, Prove, Verify, Ask, Serve}
-use Rattle.ats_top.specs.Read.{Files, IsFile}
+use Rattle.ats_top.specs.Words.{ProveWords, Command, Rank, Build, Root, Prove, Verify, Ask, Serve, Audit}
+use Rattle.ats_top.specs.Read.{Files, IsFile, HasIndex}
 use Rattle.ats_top.specs.Proved.{IsProofTooLong}
 use Rattle.ats_top.specs.declared.stops.InputRefusal.{InputRefusal}
 use Rattle.ats_top.specs.declared.stops.InputRefusal.TheVariants.{ROut, QueryTooLong, NoTerm, TooManyWords, TooManyTerms, FileTooLong, NotJson, NotArray, BadItem, NoDocuments, TooManyDocuments, TextTooLong, AllTooLong, BadIndex, ProofTooLong}
@@ -37,6 +38,7 @@ Asks (Prove words) = AsksRanking words.r words.query
 Asks (Verify words) = AsksRanking words.r words.query
 Asks (Ask words) = AsksRanking words.r words.query
 Asks (Serve words) = Unit {0}
+Asks (Audit words) = AsksRanking words.r words.query
 
 -- and it comes to the shelf
 abbrev pub NeedsShelf : Command → Type 0
@@ -52,6 +54,8 @@ LacksFile H files (Prove words) = AsksRanking words.r words.query × IsMissing f
 LacksFile H files (Verify words) = AsksRanking words.r words.query × IsMissing files words.proof
 LacksFile H files (Ask words) = ⊥
 LacksFile H files (Serve words) = IsMissing files words.index
+LacksFile H files (Audit words) = AsksRanking words.r words.query
+    × (IsMissing files words.index ⊎ (((archive : Archive) × HasIndex H files words.index archive) × IsMissing files words.proof))
 
 -- the first refusal of the file's bytes is that of the JSON text
 abbrev pub IsJsonRefused : Files → List ℕ → JsonFault → Type 0
@@ -102,3 +106,4 @@ IsRefused H files (Prove words) refusal = IsRankingRefused words.r words.query (
 IsRefused H files (Verify words) refusal = IsRankingRefused words.r words.query (λ other. ⊥) refusal
 IsRefused H files (Ask words) refusal = IsRankingRefused words.r words.query (λ other. ⊥) refusal
 IsRefused H files (Serve words) refusal = IsIndexRefused H files words.index refusal
+IsRefused H files (Audit words) refusal = IsRankingRefused words.r words.query (IsIndexRefused H files words.index) refusal

@@ -1,13 +1,15 @@
--- Why `verify` refuses a proof: its file is too long, or the bytes of the file are rejected.
+-- Why `verify` or `audit` refuses a proof: its file is too long, or the bytes of the file are rejected.
 use Rattle.std.specs.Prelude.{◌≡◌, ◌⊎◌, ◌^◌, ℕ, List}
 use Rattle.ats_base.specs.Outside.{IsLonger}
 use Rattle.ats_terms.specs.Query.{IsQueryOf}
 use Rattle.ats_grammar.specs.declared.fault.ShapeKind.TheVariants.{Long}
+use Rattle.ats_commit.specs.Archive.{Archive}
+use Rattle.ats_commit.specs.Root.{root_of}
 use Rattle.ats_client.specs.Bytes.{IsRejectedBytes}
 use Rattle.ats_client.specs.declared.fault.Rejection.{Rejection}
 use Rattle.ats_client.specs.declared.fault.Rejection.TheVariants.{Shape}
-use Rattle.ats_top.specs.Words.{VerifyWords, Command, Rank, Build, Root, Prove, Verify, Ask, Serve}
-use Rattle.ats_top.specs.Read.{Files, IsFile}
+use Rattle.ats_top.specs.Words.{VerifyWords, AuditWords, under, Command, Rank, Build, Root, Prove, Verify, Ask, Serve, Audit}
+use Rattle.ats_top.specs.Read.{Files, IsFile, HasIndex}
 use Rattle.ats_top.specs.Refusals.{AsksRanking}
 
 -- the named file has more bytes than a proof may have, and the fault is at the first byte too many
@@ -27,6 +29,11 @@ pub record IsFileRejected (H : List ℕ → List ℕ) (files : Files) (words : V
 abbrev pub IsProofRejected : (List ℕ → List ℕ) → Files → VerifyWords → Rejection → Type 0
 IsProofRejected H files words rejection = IsLongFile files words.proof rejection ⊎ IsFileRejected H files words rejection
 
+-- the named index is that of an archive, and the proof is refused so under its root
+abbrev pub IsAuditRejected : (List ℕ → List ℕ) → Files → AuditWords → Rejection → Type 0
+IsAuditRejected H files words rejection =
+    (archive : Archive) × HasIndex H files words.index archive × IsProofRejected H files (under (root_of H archive) words) rejection
+
 -- what the words say is within the limits, and the proof in the file is refused so
 abbrev pub IsRejected : (List ℕ → List ℕ) → Files → Command → Rejection → Type 0
 IsRejected H files (Rank words) rejection = ⊥
@@ -36,3 +43,4 @@ IsRejected H files (Prove words) rejection = ⊥
 IsRejected H files (Ask words) rejection = ⊥
 IsRejected H files (Verify words) rejection = AsksRanking words.r words.query × IsProofRejected H files words rejection
 IsRejected H files (Serve words) rejection = ⊥
+IsRejected H files (Audit words) rejection = AsksRanking words.r words.query × IsAuditRejected H files words rejection

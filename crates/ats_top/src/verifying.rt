@@ -1,5 +1,6 @@
 // The check of a proof, and the lines of its answer.
 ghost use Rattle.std.specs.Prelude.{◌≡◌, ◌^◌, List, IfOk, IfErr, string_bytes};
+ghost use Rattle.ats_terms.specs.Query.{IsQuery};
 ghost use Rattle.ats_impact.specs.declared.rank.Row.{Row};
 ghost use Rattle.ats_client.specs.Bytes.{AreVerifiedRows};
 ghost use Rattle.ats_top.specs.Words.{Verify};
@@ -30,7 +31,10 @@ pub(crate) fn answered<H: Hash32>(
 ) -> Result<String, Stop>
     ensures ok { IfOk result (λ text. (rows : List Row) × AreVerifiedRows H.hash root.now query.now top bytes.now rows × (string_bytes text ≡ lines rows)) }
     ensures stop { IfErr result (BytesStop H.hash root.now query.now top bytes.now) }
+    ensures asked { IsQuery query.now }
 {
+    // A query has terms within the limits.
+    let _terms = query.len();
     match ats_client::verify::<H>(alloc, bytes, root, query, top) {
         Ok(rows) => match lines(alloc, &rows) {
             Ok(text) => Ok(text),

@@ -14,7 +14,7 @@ returns-clause-ok g c =
     rw c.as_slice.ensures (rw c.in_ok-rows.ensures.ok at c.in_ok-bytes.ensures.ok) in
     bytes_end g.H.HashKind.hash (g.C.Caller.told c.args.caller.now) (g.C.Caller.told c.converse.new.caller) words
     c.in_ok-asked.asked c.as_slice.result.now (record { asks = asks; asked = c.in_ok-asked.ensures.ok; conversation = conversation })
-    string_bytes c.answered.result (rw c.in_ok-rows.ensures.ok at c.answered.ensures.ok)
+    g.H.HashKind.sized c.answered.ensures.asked string_bytes c.answered.result (rw c.in_ok-rows.ensures.ok at c.answered.ensures.ok)
 
 pub returns-clause-stop : goal.returns-clause-stop
 returns-clause-stop g c =

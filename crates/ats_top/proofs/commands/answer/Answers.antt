@@ -1,6 +1,7 @@
 use Rattle.std.proofs.Common.{refl, sym, map, string_bytes, inl, inr}
 use Rattle.ats_top.specs.Done.{IsProofStored, IsVerified}
 use Rattle.ats_top.specs.Asked.{IsAnswered}
+use Rattle.ats_top.specs.Audited.{IsAuditedRight}
 use Rattle.ats_top.proofs.Readings.{rank_read, root_read, verify_read}
 use Rattle.ats_top.proofs.Stopped.{files_ends, rank_stops, ask_ends, done_ends}
 use Rattle.ats_top.proofs.commands.answer.Goals as goal
@@ -58,6 +59,24 @@ returns-in-Some-Verify-clause-stop g c =
     let is = rw c.in-Some-Verify.field-0-is at c.in-Some-Verify.ensures in
     files_ends _ (g.S.Shelf.told c.args.shelf.now) (g.S.Shelf.told c.verify.new.shelf) (g.C.Caller.told c.args.caller.now) (g.C.Caller.told c.args.caller.now)
     (g.D.Door.told c.args.door.now) (g.D.Door.told c.args.door.now) (map string_bytes c.args.words.now) _ (sym is) c.verify.result c.verify.ensures.stop
+
+pub returns-in-Some-Audit-clause-serves : goal.returns-in-Some-Audit-clause-serves
+returns-in-Some-Audit-clause-serves g c =
+    let is = rw c.in-Some-Audit.field-0-is at c.in-Some-Audit.ensures in
+    inr (_, sym is, c.audit.ensures.serves)
+
+pub returns-in-Some-Audit-clause-ok : goal.returns-in-Some-Audit-clause-ok
+returns-in-Some-Audit-clause-ok g c =
+    let is = rw c.in-Some-Audit.field-0-is at c.in-Some-Audit.ensures in
+    done_ends _ (g.S.Shelf.told c.args.shelf.now) (g.S.Shelf.told c.audit.new.shelf) (g.C.Caller.told c.args.caller.now) (g.C.Caller.told c.args.caller.now)
+    (g.D.Door.told c.args.door.now) (g.D.Door.told c.args.door.now) (map string_bytes c.args.words.now) _ (sym is)
+    string_bytes (IsAuditedRight _ _ _) c.audit.result (λ text done was now. (done, c.audit.ensures.same)) c.audit.ensures.ok
+
+pub returns-in-Some-Audit-clause-stop : goal.returns-in-Some-Audit-clause-stop
+returns-in-Some-Audit-clause-stop g c =
+    let is = rw c.in-Some-Audit.field-0-is at c.in-Some-Audit.ensures in
+    files_ends _ (g.S.Shelf.told c.args.shelf.now) (g.S.Shelf.told c.audit.new.shelf) (g.C.Caller.told c.args.caller.now) (g.C.Caller.told c.args.caller.now)
+    (g.D.Door.told c.args.door.now) (g.D.Door.told c.args.door.now) (map string_bytes c.args.words.now) _ (sym is) c.audit.result c.audit.ensures.stop
 
 pub returns-in-Some-Ask-clause-ok : goal.returns-in-Some-Ask-clause-ok
 returns-in-Some-Ask-clause-ok g c =

@@ -10,7 +10,7 @@ returns-clause-ok g c =
     bytes_end g.H.HashKind.hash (g.S.Shelf.told c.args.shelf.now) (g.S.Shelf.told c.proof.new.shelf)
     (record { root = c.args.root.now; r = c.args.r; query = c.args.query.now; proof = c.args.proof.now })
     asks c.in_ok-bytes.ensures.reads.files c.in_ok-asked.asked c.as_slice.result.now c.in_ok-asked.ensures.ok file
-    string_bytes c.answered.result (rw c.in_ok-rows.ensures.ok at c.answered.ensures.ok)
+    g.H.HashKind.sized c.answered.ensures.asked string_bytes c.answered.result (rw c.in_ok-rows.ensures.ok at c.answered.ensures.ok)
 
 pub returns-clause-stop : goal.returns-clause-stop
 returns-clause-stop g c =

@@ -1,0 +1,180 @@
+-- How `audit` ends, from what its steps answer, and what a collision excludes.
+use Rattle.std.proofs.Common.{◌≡◌, ◌∙◌, ◌≤◌, ◌^◌, ℕ, List, Option, Some, None, Result, Ok, Err, sym, ap, subst, inl, inr, arith}
+use Rattle.std.specs.Prelude.{IfOk, IfErr}
+use Rattle.ats_base.specs.Outside.{IsMissing, ShelfTold}
+use Rattle.ats_terms.specs.Query.{IsQueryOf}
+use Rattle.ats_impact.specs.declared.rank.Row.{Row}
+use Rattle.ats_tree.specs.Differences.{Difference}
+use Rattle.ats_commit.specs.Archive.{Archive}
+use Rattle.ats_commit.specs.Ours.{TreePlace}
+use Rattle.ats_proof.specs.Value.{Proof, IsProof}
+use Rattle.ats_proof.proofs.Unique.{one_value}
+use Rattle.ats_client.specs.Headline.{AreRight}
+use Rattle.ats_client.specs.Strings.{extract}
+use Rattle.ats_audit.specs.Verdicts.{IsFoundRight}
+use Rattle.ats_audit.proofs.Told.{extract-collides}
+use Rattle.ats_top.specs.Words.{AuditWords, Command, Rank, Build, Root, Prove, Verify, Ask, Serve, Audit}
+use Rattle.ats_top.specs.Print.{lines}
+use Rattle.ats_top.specs.Read.{Files, IsTold, IsFile, HasIndex}
+use Rattle.ats_top.specs.Refusals.{AsksRanking, IsIndexRefused, IsRefused}
+use Rattle.ats_top.specs.Rejected.{IsLongFile}
+use Rattle.ats_top.specs.ReadStops.{IndexStop, ProofStop}
+use Rattle.ats_top.specs.Audited.{IsAudited, IsAuditedRight, HasCollision, VerdictStop}
+use Rattle.ats_top.specs.Outside.{Outside}
+use Rattle.ats_top.specs.Done.{IsDone, HasInput, IsServed}
+use Rattle.ats_top.specs.Run.{FilesStop}
+use Rattle.ats_top.specs.declared.stops.InputRefusal.{InputRefusal}
+use Rattle.ats_top.specs.declared.stops.InputRefusal.TheVariants.{FileTooLong, BadIndex}
+use Rattle.ats_top.specs.declared.stops.Stop.{Stop}
+use Rattle.ats_top.specs.declared.stops.Stop.TheVariants.{Usage, Shelf, Input, Rejected, Memory, Link, Peer, Faults, Collision}
+use Rattle.ats_top.proofs.Refused.{one_file, ranking_kept, index_kept}
+use Rattle.ats_top.proofs.Rejecting.{told_archive}
+
+-- a stop that is passed on keeps its cause
+pub passed_on : {X : Type 0} (P : Stop → Type 0) (result : Result X Stop) (told stop : Stop) → result ≡ Err told → told ≡ stop → P stop → IfErr result P
+passed_on {X} P result told stop is same cause = subst (λ (r : Result X Stop). IfErr r P) (sym is) (subst P (sym same) cause)
+
+-- ---- the steps
+
+module _ (H : List ℕ → List ℕ) (before now : ShelfTold) (words : AuditWords) (asks : AsksRanking words.r words.query) (same : now.files ≡ before.files) where
+  index_refused : (refusal : InputRefusal) → IsIndexRefused H before.files words.index refusal → IsRefused H before.files (Audit words) refusal
+  index_refused (FileTooLong limit) refused = (asks, refused)
+  index_refused (BadIndex at) refused = (asks, refused)
+  index_refused _ refused = absurd refused
+
+  -- an index that was not loaded
+  pub index_stops : (stop : Stop) → IndexStop H before now words.index stop → FilesStop H before now (Audit words) stop
+  index_stops Usage stops = absurd stops
+  index_stops Shelf (inl rose) = (inl (asks, rose), inl same)
+  index_stops Shelf (inr missing) = (inr (asks, inl missing), inl same)
+  index_stops (Input refusal) stops = (index_refused refusal stops, same)
+  index_stops (Rejected rejection) stops = absurd stops
+  index_stops Memory stops = same
+  index_stops Link stops = absurd stops
+  index_stops (Peer fault) stops = absurd stops
+  index_stops (Faults count) stops = absurd stops
+  index_stops (Collision place ours theirs) stops = absurd stops
+
+module _ (H : List ℕ → List ℕ) (before mid now : ShelfTold) (words : AuditWords) (asks : AsksRanking words.r words.query) (was : mid.files ≡ before.files) (same : now.files ≡ mid.files)
+    (archive : Archive) (index : HasIndex H before.files words.index archive) where
+  kept : now.files ≡ before.files
+  kept = same ∙ was
+
+  -- a proof that was not gathered
+  pub proof_stops : before.faults ≤ mid.faults → (stop : Stop) → ProofStop mid now words.proof stop → FilesStop H before now (Audit words) stop
+  proof_stops later Usage stops = absurd stops
+  proof_stops later Shelf (inl rose) = (inl (asks, omega (arith, later, rose)), inl kept)
+  proof_stops later Shelf (inr missing) = (inr (asks, inr ((archive, index), subst (λ (files : Files). IsMissing files words.proof) was missing)), inl kept)
+  proof_stops later (Input refusal) stops = absurd stops
+  proof_stops later (Rejected rejection) stops =
+      ((asks, (archive, index, inl (subst (λ (files : Files). IsLongFile files words.proof rejection) was stops))), kept)
+  proof_stops later Memory stops = kept
+  proof_stops later Link stops = absurd stops
+  proof_stops later (Peer fault) stops = absurd stops
+  proof_stops later (Faults count) stops = absurd stops
+  proof_stops later (Collision place ours theirs) stops = absurd stops
+
+  module _ (query : List (List ℕ × ℕ)) (bytes : List ℕ) (asked : IsQueryOf words.query query) (gathered : IsFile mid.files words.proof (2 ^ 26) bytes) where
+    file : IsFile before.files words.proof (2 ^ 26) bytes
+    file = subst (λ (files : Files). IsFile files words.proof (2 ^ 26) bytes) was gathered
+
+    verdict_stop : (stop : Stop) → VerdictStop H archive query words.r bytes stop → FilesStop H before now (Audit words) stop
+    verdict_stop Usage stops = absurd stops
+    verdict_stop Shelf stops = absurd stops
+    verdict_stop (Input refusal) stops = absurd stops
+    verdict_stop (Rejected rejection) stops =
+        ((asks, (archive, index, inr (record { query = query; asked = asked; bytes = bytes; file = file; rejected = stops }))), kept)
+    verdict_stop Memory stops = kept
+    verdict_stop Link stops = absurd stops
+    verdict_stop (Peer fault) stops = absurd stops
+    verdict_stop (Faults count) stops = absurd stops
+    verdict_stop (Collision place ours theirs) (found, turns) =
+        let two = extract-collides H archive query found.proof _ found.found in (
+          record {
+            collision = (
+              asks,
+              record {
+                archive = archive;
+                index = index;
+                query = query;
+                asked = asked;
+                bytes = bytes;
+                file = file;
+                proof = found.proof;
+                accepted = found.accepted;
+                is = found.found;
+              },
+            );
+            turns = turns;
+            differ = two.0;
+            equal = two.1;
+          },
+          kept,
+        )
+
+    -- bytes that were refused, or have a collision
+    pub verdict_stops : {T : Type 0} (result : Result T Stop) → IfErr result (VerdictStop H archive query words.r bytes)
+        → IfErr result (FilesStop H before now (Audit words))
+    verdict_stops (Ok text) stops = tt
+    verdict_stops (Err stop) stops = verdict_stop stop stops
+
+    -- bytes that were accepted and have none
+    pub verdict_end : {T : Type 0} (bytes_of : T → List ℕ) (result : Result T Stop)
+        → IfOk result (λ text. (rows : List Row) × IsFoundRight H archive query words.r bytes rows × (bytes_of text ≡ lines rows))
+        → IfOk result (λ text. IsAuditedRight H before.files words (bytes_of text))
+    verdict_end bytes_of (Ok text) (rows, right, printed) = record {
+      asks = asks;
+      audited = record {
+        archive = archive;
+        index = index;
+        query = query;
+        asked = asked;
+        bytes = bytes;
+        file = file;
+        proof = right.proof;
+        accepted = right.accepted;
+        is = right.none;
+      };
+      right = subst (AreRight archive.texts query words.r) right.answer right.right;
+      printed = printed ∙ ap lines right.answer;
+    }
+    verdict_end bytes_of (Err stop) is = tt
+
+-- ---- what a collision excludes
+
+-- told files are audited in one way
+pub one_audited : (H : List ℕ → List ℕ) (files : Files) (words : AuditWords) (a b : Option (Difference TreePlace)) → IsTold files
+    → IsAudited H files words a → IsAudited H files words b → a ≡ b
+one_audited H files words a b told x y =
+    let archives : x.archive ≡ y.archive = told_archive H files words.index x.archive y.archive told x.index y.index in
+    let query : x.query ≡ y.query = x.asked.same ∙ sym y.asked.same in
+    let bytes : x.bytes ≡ y.bytes = one_file files words.proof x.bytes y.bytes (2 ^ 26) (2 ^ 26) told x.file y.file in
+    let proofs : x.proof ≡ y.proof = one_value y.bytes x.proof y.proof (subst (λ (content : List ℕ). IsProof content x.proof) bytes x.accepted.says) y.accepted.says in
+    let alike : extract H x.archive x.query x.proof ≡ extract H y.archive y.query y.proof = cc in
+    sym x.is ∙ alike ∙ y.is
+
+other_found : (collision : Difference TreePlace) → None ≡ Some collision → ⊥
+other_found collision is = cc
+
+module _ (H : List ℕ → List ℕ) where
+  -- what was audited has the form that the command reads
+  pub collision_input : (files : Files) (command : Command) (collision : Difference TreePlace) → HasCollision H files command collision → HasInput H files command
+  collision_input files (Audit words) collision (asks, is) = (asks, (Some collision, is))
+  collision_input files other collision has = absurd has
+
+  pub collision_kept : (files : Files) (command : Command) (collision : Difference TreePlace) → IsTold files → HasCollision H files command collision
+      → (refusal : InputRefusal) → IsRefused H files command refusal → ⊥
+  collision_kept files (Audit words) collision told (asks, is) refusal refused =
+      ranking_kept words.r words.query (IsIndexRefused H files words.index) asks (index_kept H files words.index is.archive told is.index) refusal refused
+  collision_kept files other collision told has refusal refused = has
+
+  pub collision_unserved : (files : Files) (command : Command) (collision : Difference TreePlace) → IsTold files → HasCollision H files command collision
+      → IsServed H files command → ⊥
+  collision_unserved files (Audit words) collision told (asks, is) (_, none) = other_found collision (one_audited H files words None (Some collision) told none is)
+  collision_unserved files other collision told has served = has
+
+  pub collision_undone : (before now : Outside) (command : Command) (text : List ℕ) (collision : Difference TreePlace) → IsTold before.shelf.files
+      → HasCollision H before.shelf.files command collision → IsDone H before now command text → ⊥
+  collision_undone before now (Audit words) text collision told (asks, is) (right, same) =
+      other_found collision (one_audited H before.shelf.files words None (Some collision) told right.audited is)
+  collision_undone before now other text collision told has done = has

@@ -1,0 +1,77 @@
+// The audit of a proof against an index, and the lines of its answer.
+ghost use Rattle.std.specs.Prelude.{◌≡◌, List, IfOk, IfErr, string_bytes};
+ghost use Rattle.ats_impact.specs.declared.rank.Row.{Row};
+ghost use Rattle.ats_audit.specs.Verdicts.{IsFoundRight};
+ghost use Rattle.ats_top.specs.Words.{Audit};
+ghost use Rattle.ats_top.specs.Print.{lines};
+ghost use Rattle.ats_top.specs.Refusals.{AsksRanking};
+ghost use Rattle.ats_top.specs.Reading.{Serves};
+ghost use Rattle.ats_top.specs.Audited.{IsAuditedRight, VerdictStop};
+ghost use Rattle.ats_top.specs.Run.{FilesStop};
+
+use crate::print::lines;
+use crate::read;
+use crate::stops::Stop;
+use ats_audit::Verdict;
+use ats_base::Shelf;
+use ats_client::Rejection;
+use ats_hash::Hash32;
+use ats_impact::Top;
+use ats_index::Index;
+use ats_terms::Query;
+use std::alloc::Global;
+
+// The lines of the rows of bytes that are accepted as a proof and have no collision with the archive.
+fn audited<H: Hash32>(
+    alloc: Global,
+    index: &Index<H>,
+    query: &Query,
+    top: Top,
+    bytes: &[u8],
+) -> Result<String, Stop>
+    ensures ok { IfOk result (λ text. (rows : List Row) × IsFoundRight H.hash index.now query.now top bytes.now rows × (string_bytes text ≡ lines rows)) }
+    ensures stop { IfErr result (VerdictStop H.hash index.now query.now top bytes.now) }
+{
+    let Ok(verdict) = ats_audit::audit::<H>(alloc, index, query, top, bytes) else {
+        return Err(Stop::Memory);
+    };
+    match &verdict {
+        Verdict::Right(rows) => match lines(alloc, rows) {
+            Ok(text) => Ok(text),
+            Err(_) => Err(Stop::Memory),
+        },
+        Verdict::BadShape(fault) => Err(Stop::Rejected(Rejection::Shape(*fault))),
+        Verdict::Refused(refusal) => Err(Stop::Rejected(Rejection::Check(*refusal))),
+        Verdict::Collision {
+            place,
+            ours,
+            theirs,
+        } => Err(Stop::Collision {
+            place: *place,
+            ours: *ours,
+            theirs: *theirs,
+        }),
+    }
+}
+
+/// The lines of `audit`. The words are tried before anything is read, and the index before the proof.
+pub(crate) fn audit<H: Hash32, S: Shelf>(
+    alloc: Global,
+    index: &str,
+    r: u32,
+    query: &str,
+    proof: &str,
+    shelf: &mut S,
+) -> Result<String, Stop>
+    ensures ok { IfOk result (λ text. IsAuditedRight H.hash (S.told shelf.old).files (record { index = index.now; r = r; query = query.now; proof = proof.now }) (string_bytes text)) }
+    ensures stop { IfErr result (FilesStop H.hash (S.told shelf.old) (S.told shelf.new) (Audit (record { index = index.now; r = r; query = query.now; proof = proof.now }))) }
+    ensures same { (S.told shelf.new).files ≡ (S.told shelf.old).files }
+    ensures serves { Serves (S.told shelf.old) (S.told shelf.new) (Audit (record { index = index.now; r = r; query = query.now; proof = proof.now })) }
+    ensures unread { (AsksRanking r query.now → ⊥) → shelf.new ≡ shelf.old }
+{
+    let rows = Top::new(r)?;
+    let asked = Query::read(alloc, query)?;
+    let loaded = read::index::<H, S>(alloc, index, shelf)?;
+    let bytes = read::proof(alloc, proof, shelf)?;
+    audited::<H>(alloc, &loaded, &asked, rows, bytes.as_slice())
+}
