@@ -4,3 +4,6 @@ pub mod Front
 pub mod Pending
 pub mod State
 pub mod Reading
+pub mod Standing
+pub mod Inside
+pub mod Feeding

@@ -1,5 +1,9 @@
--- What the field that comes next may still add: a present term, or a step that takes no byte.
-use Rattle.std.specs.Prelude.{ℕ}
+-- What the field that comes next may still add: a present term, or a step that takes no byte; and what came of it.
+use Rattle.std.specs.Prelude.{◌≡◌, ℕ, Bool, true, false}
+use Rattle.ats_grammar.specs.declared.fault.ShapeKind.{ShapeKind}
+use Rattle.ats_grammar.specs.declared.fault.ShapeKind.TheVariants.{Cut}
+use Rattle.ats_grammar.specs.declared.next.Next.{Next}
+use Rattle.ats_grammar.specs.declared.next.Next.TheVariants as next
 use Rattle.ats_grammar.specs.declared.state.DictPart.TheVariants as dict
 use Rattle.ats_grammar.specs.declared.state.MetPart.TheVariants.{SlotKind}
 use Rattle.ats_grammar.specs.declared.state.TermsPart.TheVariants as terms
@@ -16,3 +20,12 @@ abbrev pub may_be_empty : Part → ℕ
 may_be_empty (Dict dict.Term) = 1
 may_be_empty (Terms terms.Term) = 1
 may_be_empty _ = 0
+
+abbrev pub is_cut : ShapeKind → Bool
+is_cut Cut = true
+is_cut _ = false
+
+-- a number that is out of range is not told as missing bytes
+abbrev pub HasOwnKind : Next → Type 0
+HasOwnKind (next.Number size low high kind) = is_cut kind ≡ false
+HasOwnKind _ = Unit {0}

@@ -3,6 +3,7 @@
 ghost use Rattle.std.specs.Prelude.{◌≡◌};
 ghost use Rattle.ats_grammar.specs.Table.{head, IsSized};
 ghost use Rattle.ats_grammar.specs.Grammar.{proof};
+ghost use Rattle.ats_grammar.specs.Pending.{HasOwnKind};
 ghost use Rattle.ats_grammar.specs.State.{in_front, in_dict, in_met, in_list, in_docs, in_terms, remaining};
 
 use crate::fault::ShapeKind;
@@ -33,6 +34,7 @@ impl State {
     pub(crate) fn next(&self) -> Next
         ensures next { result ≡ head (remaining self.now) }
         ensures size { IsSized result }
+        ensures kind { HasOwnKind result }
     {
         match self.part {
             Part::Front(part) => self.next_in_front(part),
@@ -47,6 +49,7 @@ impl State {
     fn next_in_front(&self, part: FrontPart) -> Next
         ensures next { result ≡ head (in_front part self.now) }
         ensures size { IsSized result }
+        ensures kind { HasOwnKind result }
     {
         match part {
             FrontPart::Magic => Next::number(4, MAGIC.into(), MAGIC, ShapeKind::Magic),
@@ -63,6 +66,7 @@ impl State {
     fn next_in_dict(&self, part: DictPart) -> Next
         ensures next { result ≡ head (in_dict part self.now) }
         ensures size { IsSized result }
+        ensures kind { HasOwnKind result }
     {
         match part {
             DictPart::LeafCount => Next::count(2, 1, 64),
@@ -78,6 +82,7 @@ impl State {
     fn next_in_met(&self, part: MetPart) -> Next
         ensures next { result ≡ head (in_met part self.now) }
         ensures size { IsSized result }
+        ensures kind { HasOwnKind result }
     {
         match part {
             MetPart::SlotKind => Next::count(1, 0, 1),
@@ -90,6 +95,7 @@ impl State {
     fn next_in_list(&self, part: ListPart) -> Next
         ensures next { result ≡ head (in_list part self.now) }
         ensures size { IsSized result }
+        ensures kind { HasOwnKind result }
     {
         match part {
             ListPart::EntryCount => Next::count(4, 1, 65_536),
@@ -102,6 +108,7 @@ impl State {
     fn next_in_docs(&self, part: DocsPart) -> Next
         ensures next { result ≡ head (in_docs part self.now) }
         ensures size { IsSized result }
+        ensures kind { HasOwnKind result }
     {
         match part {
             DocsPart::LeafTerms | DocsPart::Row => Next::any_4(),
@@ -115,6 +122,7 @@ impl State {
     fn next_in_terms(&self, part: TermsPart) -> Next
         ensures next { result ≡ head (in_terms part self.now) }
         ensures size { IsSized result }
+        ensures kind { HasOwnKind result }
     {
         match part {
             TermsPart::LeafCount => Next::count(2, 1, 64),

@@ -3,13 +3,15 @@
 //! A proof is bytes from a stranger. Its grammar stands in `specs/Grammar.antt` as what may come next, field
 //! by field: the size, the range, the kind of fault outside it, and what comes after each number. Fronts,
 //! spellings and the first fault follow from that alone, in `specs/Front.antt`. The reader keeps a few
-//! numbers that determine all that may still come; it makes one pass, and takes no memory.
+//! numbers that determine all that may still come; it makes one pass, and takes no memory. [`Feeder`] is that
+//! reader over pieces, which may end inside a field; [`scan`] feeds it bytes that are at hand.
 //! The crate stands on no other. It promises that bytes are read exactly where they are the join of a whole
 //! front, and that the fault is else the one behind the longest front.
 //! How the reader keeps its place may change without asking; the grammar and the faults may not.
 #![tactic(auto)]
 
 pub use fault::{ShapeFault, ShapeKind};
+pub use feeder::Feeder;
 pub use laws::{
     bytes_have_one_fault, faults_stay, further_bytes_are_trailing, spellings_tell_their_fields,
 };
@@ -19,10 +21,14 @@ mod advancing;
 mod coming;
 mod entering;
 mod fault;
+mod feeder;
+mod feeding;
 mod laws;
 mod next;
 mod reading;
 mod scanning;
+mod stand;
 mod state;
+mod stepping;
 #[cfg(test)]
 mod tests;

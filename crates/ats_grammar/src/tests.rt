@@ -1,3 +1,7 @@
+//! Fields, faults and pieces of two proofs.
+
+ghost use Rattle.std.specs.Prelude.{◌≤◌};
+
 use super::*;
 use std::alloc::{AllocError, Global};
 use std::process::Abort;
@@ -84,6 +88,27 @@ fn tra(alloc: Global) -> Result<Vec<u8>, AllocError> {
     Ok(out)
 }
 
+// What is said of the bytes where they come in pieces of this size.
+fn fed(bytes: &[u8], size: usize) -> Result<(), ShapeFault>
+    requires { 1 ≤ size }
+{
+    let mut feeder = Feeder::new(bytes.len() as u64)?;
+    for piece in bytes.chunks(size) {
+        if piece.len() as u64 > feeder.length - feeder.fed {
+            return Ok(());
+        }
+        feeder.feed(piece)?;
+    }
+    feeder.finish()
+}
+
+// The same is said of the bytes whole, byte by byte and in pieces of seven.
+fn expect(rt: &impl Abort, bytes: &[u8], said: Result<(), ShapeFault>) {
+    assert_eq!(rt; scan(bytes), said);
+    assert_eq!(rt; fed(bytes, 1), said);
+    assert_eq!(rt; fed(bytes, 7), said);
+}
+
 fn fault(at: u64, kind: ShapeKind) -> Result<(), ShapeFault> {
     Err(ShapeFault { at, kind })
 }
@@ -92,14 +117,14 @@ fn fault(at: u64, kind: ShapeKind) -> Result<(), ShapeFault> {
 fn worked_proofs(rt: HostRuntime) -> Result<(), Fail> {
     let mut bytes = tnra(rt.alloc())?;
     assert_eq!(rt; bytes.len(), 365);
-    assert_eq!(rt; scan(&bytes), Ok(()));
+    expect(&rt, &bytes, Ok(()));
     bytes.push(0)?;
-    assert_eq!(rt; scan(&bytes), fault(365, ShapeKind::Trailing));
+    expect(&rt, &bytes, fault(365, ShapeKind::Trailing));
     let mut bytes = tra(rt.alloc())?;
     assert_eq!(rt; bytes.len(), 751);
-    assert_eq!(rt; scan(&bytes), Ok(()));
+    expect(&rt, &bytes, Ok(()));
     bytes.push(0)?;
-    assert_eq!(rt; scan(&bytes), fault(751, ShapeKind::Trailing));
+    expect(&rt, &bytes, fault(751, ShapeKind::Trailing));
     Ok(())
 }
 
@@ -124,7 +149,7 @@ fn cuts(rt: &impl Abort, bytes: &[u8], fields: &[usize]) -> Result<(), Fail> {
         let cut = bytes
             .get(..end.saturating_sub(1))
             .ok_or("the proof is as long")?;
-        assert_eq!(rt; scan(cut), fault(*start as u64, ShapeKind::Cut));
+        expect(rt, cut, fault(*start as u64, ShapeKind::Cut));
     }
     Ok(())
 }
@@ -217,7 +242,7 @@ fn faults(
         let mut changed = Vec::new(alloc);
         changed.extend_from_slice(bytes.get(..*from).ok_or("the proof is as long")?)?;
         changed.extend_from_slice(instead)?;
-        assert_eq!(rt; scan(&changed), fault(*at, *kind));
+        expect(rt, &changed, fault(*at, *kind));
     }
     Ok(())
 }

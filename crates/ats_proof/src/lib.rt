@@ -10,7 +10,7 @@
 //! What a view keeps may change without asking; what it says may not.
 #![tactic(auto)]
 
-pub use ats_grammar::{ShapeFault, ShapeKind};
+pub use ats_grammar::{Feeder, ShapeFault, ShapeKind};
 pub use ats_records::{Algorithm, ProofWriter, Slot, TermLeaf};
 pub use cursor::ListCursor;
 pub use dict::DictView;

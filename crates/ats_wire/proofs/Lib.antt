@@ -6,3 +6,4 @@ pub mod OneWay
 pub mod Replying
 pub mod Spelled
 pub mod Turns
+pub mod PiecesRead

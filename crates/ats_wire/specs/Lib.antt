@@ -3,3 +3,4 @@ pub mod Requests
 pub mod Replies
 pub mod Moving
 pub mod Connections
+pub mod Feeding

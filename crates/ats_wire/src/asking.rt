@@ -1,4 +1,6 @@
-ghost use Rattle.std.specs.Prelude.{◌≡◌, ◌≤◌, ◌+◌, ◌^◌, ◌++◌, ◌∷◌, [], ℕ, List, length, IfOk, IfErr, IsTrue, ◌↔◌};
+//! One question over a link.
+
+ghost use Rattle.std.specs.Prelude.{◌≡◌, ◌≤◌, ◌+◌, ◌^◌, ◌++◌, ◌∷◌, [], ℕ, List, length, IfOk, IfErr, OnOk, IsTrue, ◌↔◌, Err};
 ghost use Rattle.std.specs.Int.{to_be_bytes, w32};
 ghost use Rattle.ats_wire.specs.Requests.{framed, request_body};
 ghost use Rattle.ats_wire.specs.Moving.{Moves};
@@ -17,10 +19,10 @@ use std::alloc::Global;
 const MAX_REPLY: u32 = (1 << 26) + 1;
 
 // The bytes of a reply in front of its proof or code: its length and its kind.
-const HEAD: u64 = 5;
+pub(crate) const HEAD: u64 = 5;
 
 // How many bytes of a reply are read at a time.
-const PIECE: usize = 1 << 13;
+pub(crate) const PIECE: usize = 1 << 13;
 
 /// Why a question got no proof.
 #[derive(Clone, Copy, Debug, PartialEq, Eq)]
@@ -71,7 +73,7 @@ fn is_kind(length: u32, kind: u8) -> bool
 }
 
 // The length and the kind of a reply.
-fn read_head<L: Link>(link: &mut L) -> Result<(u32, u8), AskFault>
+pub(crate) fn read_head<L: Link>(link: &mut L) -> Result<(u32, u8), AskFault>
     ensures ok { IfOk result (λ head. IsReplyLength head.0 × IsKind head.0 head.1
         × Moves (L.told link.old) (L.told link.new) (to_be_bytes w32 head.0 ++ head.1 ∷ []) [] 0) }
     ensures err { IfErr result (λ fault. (read : List ℕ) × Moves (L.told link.old) (L.told link.new) read [] 1
@@ -114,7 +116,7 @@ fn read_head<L: Link>(link: &mut L) -> Result<(u32, u8), AskFault>
 }
 
 // So many bytes behind a reply's head. Memory grows as they come, so a peer that announces many and sends few costs little.
-fn read_rest<L: Link>(alloc: Global, link: &mut L, size: u32) -> Result<Bytes, AskFault>
+pub(crate) fn read_rest<L: Link>(alloc: Global, link: &mut L, size: u32) -> Result<Bytes, AskFault>
     ensures ok { IfOk result (λ bytes. (length bytes ≡ size) × Moves (L.told link.old) (L.told link.new) bytes [] 0) }
     ensures err { IfErr result (λ fault. (came : List ℕ) × Moves (L.told link.old) (L.told link.new) came [] 1
         × RestFault (L.told link.old) (L.told link.new) size came fault) }
@@ -155,6 +157,29 @@ fn read_reply<L: Link>(alloc: Global, link: &mut L) -> Result<Bytes, AskFault>
     }
 }
 
+// Writes the frame of a request.
+pub(crate) fn send_request<L: Link>(
+    alloc: Global,
+    link: &mut L,
+    algorithm: Algorithm,
+    top: Top,
+    query: &str,
+) -> Result<(), AskFault>
+    requires { length query.now ≤ 4000 }
+    ensures ok { OnOk result (Moves (L.told link.old) (L.told link.new) []
+        (framed (request_body algorithm top query.now)) 0) }
+    ensures err { IfErr result (λ fault. IsAsked (record { algorithm = algorithm; top = top; query = query.now })
+        (L.told link.old) (L.told link.new) (Err fault)) }
+{
+    let Ok(frame) = frame_of(alloc, algorithm, top, query) else {
+        return Err(AskFault::OutOfMemory);
+    };
+    if send(link, frame.as_slice()).is_err() {
+        return Err(AskFault::WriteFault);
+    }
+    Ok(())
+}
+
 /// Writes one request and reads one reply. The bytes are those of the reply's proof, which is not tried here.
 pub fn ask_once<L: Link>(
     alloc: Global,
@@ -166,11 +191,8 @@ pub fn ask_once<L: Link>(
     requires { length query.now ≤ 4000 }
     ensures { IsAsked (record { algorithm = algorithm; top = top; query = query.now }) (L.told link.old) (L.told link.new) result }
 {
-    let Ok(frame) = frame_of(alloc, algorithm, top, query) else {
-        return Err(AskFault::OutOfMemory);
-    };
-    if send(link, frame.as_slice()).is_err() {
-        return Err(AskFault::WriteFault);
+    match send_request(alloc, link, algorithm, top, query) {
+        Ok(()) => read_reply(alloc, link),
+        Err(fault) => Err(fault),
     }
-    read_reply(alloc, link)
 }

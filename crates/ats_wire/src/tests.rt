@@ -1,10 +1,13 @@
+//! Frames over links in memory.
+
 ghost use Rattle.ats_wire.specs.Replies.{IsShort};
 
 use crate::{
-    Answerer, AskFault, ConnectionEnd, FrameRoom, Reply, Request, Served, ask_once,
+    Answerer, AskFault, ConnectionEnd, Fed, FrameRoom, Reply, Request, Served, ask_fed, ask_once,
     serve_connection,
 };
 use ats_base::{Bytes, MemLink};
+use ats_grammar::{ShapeFault, ShapeKind};
 use ats_impact::Top;
 use ats_records::Algorithm;
 use std::alloc::Global;
@@ -151,5 +154,38 @@ fn questions_are_asked(rt: HostRuntime) -> Result<(), Fail> {
             AskFault::BadReply { length: 1, kind: 7 }
         )?
     );
+    Ok(())
+}
+
+// The fault of a question's proof, or why no proof came, where its reply is these parts, byte by byte.
+fn fault_of(alloc: Global, parts: &[&[u8]]) -> Result<Result<ShapeFault, AskFault>, Fail> {
+    let mut link = MemLink::new(alloc, joined(alloc, parts)?);
+    link.piece(1);
+    let top = Top::new(1).ok().ok_or("no rows")?;
+    match ask_fed(alloc, &mut link, Algorithm::Tnra, top, "red hen") {
+        Ok(Fed::Refused(fault)) => Ok(Ok(fault)),
+        Ok(Fed::Whole(_)) => Err("a proof")?,
+        Err(fault) => Ok(Err(fault)),
+    }
+}
+
+#[test]
+fn proofs_are_tried_as_they_come(rt: HostRuntime) -> Result<(), Fail> {
+    let alloc = rt.alloc();
+    let magic = ShapeFault {
+        at: 0,
+        kind: ShapeKind::Magic,
+    };
+    let short = AskFault::ShortReply {
+        got: 100,
+        wanted: 370,
+    };
+    assert!(rt; fault_of(alloc, &[REPLY_HEAD, &PROOF])? == Ok(magic));
+    assert!(rt; fault_of(alloc, &[REPLY_HEAD, &PROOF[..95]])? == Err(short));
+    let cut = ShapeFault {
+        at: 5,
+        kind: ShapeKind::Cut,
+    };
+    assert!(rt; fault_of(alloc, &[b"\x00\x00\x00\x06\x00ATSP\x01"])? == Ok(cut));
     Ok(())
 }

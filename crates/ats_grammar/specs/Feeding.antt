@@ -1,0 +1,19 @@
+-- Which bytes a feeder stands for.
+use Rattle.std.specs.Prelude.{◌≡◌, ◌≢◌, ℕ, List, [], length}
+use Rattle.ats_grammar.specs.declared.fault.ShapeKind.TheVariants.{Cut}
+use Rattle.ats_grammar.specs.declared.feeder.Place.{Place}
+use Rattle.ats_grammar.specs.declared.feeder.Place.TheVariants as place
+use Rattle.ats_grammar.specs.declared.feeder.Feeder.{Feeder}
+use Rattle.ats_grammar.specs.Front.{IsFirst}
+use Rattle.ats_grammar.specs.Grammar.{proof_format}
+use Rattle.ats_grammar.specs.State.{remaining}
+use Rattle.ats_grammar.specs.Standing.{IsAt, IsWaiting}
+use Rattle.ats_grammar.specs.Table.{head}
+
+abbrev pub StandsAt : Place → List ℕ → Type 0
+StandsAt (place.Reading stand) bytes = IsAt bytes stand [] × IsWaiting (head (remaining stand.state)) stand.came
+StandsAt (place.Refused fault) bytes = IsFirst proof_format bytes fault × (fault.kind ≢ Cut)
+
+-- a feeder stands for the bytes that were fed to it: so many, of which it knows the fields that are whole and what came of the next, or the first fault
+abbrev pub StandsFor : Feeder → List ℕ → Type 0
+StandsFor feeder bytes = (length bytes ≡ feeder.fed) × StandsAt feeder.place bytes

@@ -1,0 +1,24 @@
+//! What a reader of pieces keeps.
+
+ghost use Rattle.std.specs.Prelude.{◌≤◌, ◌^◌};
+ghost use Rattle.ats_grammar.specs.Inside.{came_in};
+
+use crate::fault::ShapeFault;
+use crate::stand::Stand;
+
+#[derive(Clone, Copy)]
+pub(crate) enum Place {
+    Reading(Stand),
+    Refused(ShapeFault),
+}
+
+/// Reads a proof whose bytes come in pieces, and keeps none of them. It tells a fault as soon as the bytes so far have
+/// one that more bytes do not mend.
+#[derive(Clone, Copy)]
+pub struct Feeder {
+    pub(crate) length: u64,
+    pub(crate) fed: u64,
+    pub(crate) place: Place,
+    ghost within: { (fed ≤ length) × (length ≤ 2 ^ 26) },
+    ghost inside: { came_in place ≤ fed },
+}

@@ -1,0 +1,139 @@
+//! Reading a proof whose bytes come in pieces.
+
+ghost use Rattle.std.specs.Prelude.{◌≡◌, ◌≢◌, ℕ, ◌+◌, ◌<◌, ◌≤◌, ◌^◌, List, [], ◌++◌, length, IfOk, IfErr, OnOk};
+ghost use Rattle.ats_grammar.specs.declared.fault.ShapeFault.{ShapeFault};
+ghost use Rattle.ats_grammar.specs.declared.fault.ShapeKind.TheVariants.{Cut, Long};
+ghost use Rattle.ats_grammar.specs.Front.{IsSpelling, IsBad};
+ghost use Rattle.ats_grammar.specs.Grammar.{proof_format};
+ghost use Rattle.ats_grammar.specs.Table.{head};
+ghost use Rattle.ats_grammar.specs.State.{remaining};
+ghost use Rattle.ats_grammar.specs.Standing.{IsAt, IsWaiting, IsWrong};
+ghost use Rattle.ats_grammar.specs.Feeding.{StandsFor};
+
+use crate::fault::{ShapeFault, ShapeKind};
+use crate::feeder::{Feeder, Place};
+use crate::next::Next;
+use crate::stand::Stand;
+use crate::state::State;
+use crate::stepping::step;
+
+const LIMIT: u64 = 67_108_864;
+
+// Why reading stopped, and how many bytes there are behind the last whole field.
+#[derive(Clone, Copy)]
+struct Wrong {
+    kind: ShapeKind,
+    left: u64,
+}
+
+// Reads a piece to its end.
+fn read_on(from: Stand, piece: &[u8]) -> Result<Stand, Wrong>
+    requires few { length piece.now ≤ 2 ^ 26 }
+    ensures on { IfOk result (λ stand. (bytes : List ℕ) → IsAt bytes from piece.now → IsAt bytes stand []) }
+    ensures wait { IfOk result (λ stand. IsWaiting (head (remaining stand.state)) stand.came) }
+    ensures wrong { IfErr result (λ wrong. (bytes : List ℕ) → IsAt bytes from piece.now
+        → IsWrong bytes wrong.kind wrong.left) }
+    ensures inside { IfOk result (λ stand. stand.came ≤ from.came + length piece.now) }
+    ensures few { IfErr result (λ wrong. wrong.left ≤ from.came + length piece.now) }
+{
+    let mut stand = from;
+    let mut rest = piece;
+    'steps: loop {
+        match step(stand, rest) {
+            Ok(Some((next, after))) => {
+                stand = next;
+                rest = after;
+            }
+            Ok(None) => return Ok(stand),
+            Err(kind) => {
+                let left = u64::from(stand.came) + rest.len() as u64;
+                return Err(Wrong { kind, left });
+            }
+        }
+    }
+}
+
+impl Feeder {
+    /// A reader of a proof of so many bytes.
+    ///
+    /// # Errors
+    /// A proof of more than 2^26 bytes is too long.
+    pub fn new(length: u64) -> Result<Feeder, ShapeFault>
+        ensures few { IfOk result (λ feeder. (length ≤ 2 ^ 26) × (feeder.length ≡ length)) }
+        ensures none { IfOk result (λ feeder. (feeder.fed ≡ 0) × StandsFor feeder []) }
+        ensures long { IfErr result (λ fault. (2 ^ 26 < length) × (fault ≡ record { at = 2 ^ 26; kind = Long })) }
+    {
+        if length > LIMIT {
+            return Err(ShapeFault {
+                at: LIMIT,
+                kind: ShapeKind::Long,
+            });
+        }
+        Ok(Feeder {
+            length,
+            fed: 0,
+            place: Place::Reading(Stand::before(State::start())),
+        })
+    }
+
+    /// Reads the next piece.
+    ///
+    /// # Errors
+    /// The first fault of the bytes so far, where more bytes do not mend it. From then on each call answers it.
+    pub fn feed(&mut self, piece: &[u8]) -> Result<(), ShapeFault>
+        requires { self.old.fed + length piece.now ≤ self.old.length }
+        ensures more { (self.new.length ≡ self.old.length) × (self.new.fed ≡ self.old.fed + length piece.now) }
+        ensures stands { (bytes : List ℕ) → StandsFor self.old bytes → StandsFor self.new (bytes ++ piece.now) }
+        ensures refused { IfErr result (λ fault. (bytes : List ℕ) → StandsFor self.old bytes
+            → IsBad proof_format (bytes ++ piece.now) fault × (fault.kind ≢ Cut)) }
+        ensures fine { OnOk result ((bytes : List ℕ) (fault : ShapeFault) → StandsFor self.old bytes
+            → IsBad proof_format (bytes ++ piece.now) fault → fault.kind ≡ Cut) }
+    {
+        let from = match self.place {
+            Place::Refused(fault) => {
+                self.fed += piece.len() as u64;
+                return Err(fault);
+            }
+            Place::Reading(stand) => stand,
+        };
+        let fed = self.fed + piece.len() as u64;
+        match read_on(from, piece) {
+            Ok(stand) => {
+                self.place = Place::Reading(stand);
+                self.fed = fed;
+                Ok(())
+            }
+            Err(wrong) => {
+                let fault = ShapeFault {
+                    at: fed - wrong.left,
+                    kind: wrong.kind,
+                };
+                self.place = Place::Refused(fault);
+                self.fed = fed;
+                Err(fault)
+            }
+        }
+    }
+
+    /// Says what the bytes are, where no more come.
+    ///
+    /// # Errors
+    /// The first fault of the bytes.
+    pub fn finish(&self) -> Result<(), ShapeFault>
+        ensures spelled { OnOk result ((bytes : List ℕ) → StandsFor self.now bytes → IsSpelling proof_format bytes) }
+        ensures refused { IfErr result (λ fault. (bytes : List ℕ) → StandsFor self.now bytes
+            → IsBad proof_format bytes fault) }
+    {
+        let stand = match self.place {
+            Place::Refused(fault) => return Err(fault),
+            Place::Reading(stand) => stand,
+        };
+        match stand.state.next() {
+            Next::End => Ok(()),
+            _ => Err(ShapeFault {
+                at: self.fed - u64::from(stand.came),
+                kind: ShapeKind::Cut,
+            }),
+        }
+    }
+}

@@ -1,0 +1,130 @@
+//! A question whose proof is read as it comes, so that nothing of a bad one is kept.
+
+ghost use Rattle.std.specs.Prelude.{◌≡◌, ◌≤◌, ◌+◌, ◌^◌, ◌++◌, [], ℕ, List, length, IfOk, IfErr, OnOk};
+ghost use Rattle.ats_wire.specs.Moving.{Moves};
+ghost use Rattle.ats_wire.specs.Asking.{RestFault};
+ghost use Rattle.ats_wire.specs.Feeding.{IsFed, IsAskedFed, SaysFed};
+
+use crate::asking::{AskFault, HEAD, PIECE, read_head, read_rest, send_request};
+use crate::receiving::{Filling, fill};
+use ats_base::{Bytes, Link};
+use ats_grammar::{Feeder, ShapeFault};
+use ats_impact::Top;
+use ats_records::Algorithm;
+use std::alloc::Global;
+
+/// The bytes that a reply has for a proof.
+#[derive(Drop)]
+pub enum Fed {
+    /// They spell a proof.
+    Whole(Bytes),
+    /// They spell none, and this is their first fault. None of them is kept.
+    Refused(ShapeFault),
+}
+
+// Reads the bytes of a proof that come behind so many, and keeps none.
+fn pass_rest<L: Link>(link: &mut L, size: u32, read: u32) -> Result<(), AskFault>
+    requires { read ≤ size }
+    ensures ok { OnOk result ((came : List ℕ) × (read + length came ≡ size)
+        × Moves (L.told link.old) (L.told link.new) came [] 0) }
+    ensures err { IfErr result (λ fault. (came : List ℕ) × Moves (L.told link.old) (L.told link.new) came [] 1
+        × ((front : List ℕ) → length front ≡ read
+        → RestFault (L.told link.old) (L.told link.new) size (front ++ came) fault)) }
+{
+    let mut done = read;
+    let mut piece = [0; PIECE];
+    'pieces: while done < size {
+        let room = ((size - done) as usize).min(PIECE);
+        match fill(link, &mut piece[..room]) {
+            Filling::Whole => {}
+            Filling::Ended(came) => {
+                return Err(AskFault::ShortReply {
+                    got: u64::from(done) + came as u64 + HEAD,
+                    wanted: u64::from(size) + HEAD,
+                });
+            }
+            Filling::Broken => return Err(AskFault::ReadFault),
+        }
+        done += room as u32;
+    }
+    Ok(())
+}
+
+// Reads so many bytes of a proof piece by piece. From a fault on none is kept.
+fn read_proof<L: Link>(alloc: Global, link: &mut L, size: u32) -> Result<Fed, AskFault>
+    requires { size ≤ 2 ^ 26 }
+    ensures ok { IfOk result (λ fed. (bytes : List ℕ) × (length bytes ≡ size)
+        × Moves (L.told link.old) (L.told link.new) bytes [] 0 × IsFed fed bytes) }
+    ensures err { IfErr result (λ fault. (came : List ℕ) × Moves (L.told link.old) (L.told link.new) came [] 1
+        × RestFault (L.told link.old) (L.told link.new) size came fault) }
+{
+    let Ok(mut feeder) = Feeder::new(u64::from(size)) else {
+        unreachable!();
+    };
+    let mut bytes = Bytes::new(alloc);
+    let mut piece = [0; PIECE];
+    'pieces: while bytes.len() < size as usize {
+        let room = (size as usize - bytes.len()).min(PIECE);
+        match fill(link, &mut piece[..room]) {
+            Filling::Whole => {}
+            Filling::Ended(came) => {
+                return Err(AskFault::ShortReply {
+                    got: (bytes.len() + came) as u64 + HEAD,
+                    wanted: u64::from(size) + HEAD,
+                });
+            }
+            Filling::Broken => return Err(AskFault::ReadFault),
+        }
+        if let Err(fault) = feeder.feed(&piece[..room]) {
+            let read = (bytes.len() + room) as u32;
+            return match pass_rest(link, size, read) {
+                Ok(()) => Ok(Fed::Refused(fault)),
+                Err(fault) => Err(fault),
+            };
+        }
+        if bytes.extend(&piece[..room]).is_err() {
+            return Err(AskFault::OutOfMemory);
+        }
+    }
+    match feeder.finish() {
+        Ok(()) => Ok(Fed::Whole(bytes)),
+        Err(fault) => Ok(Fed::Refused(fault)),
+    }
+}
+
+// A reply, up to its last byte.
+fn read_reply<L: Link>(alloc: Global, link: &mut L) -> Result<Fed, AskFault>
+    ensures { (read : List ℕ) × Moves (L.told link.old) (L.told link.new) read [] 1
+        × SaysFed (L.told link.old) (L.told link.new) read result }
+{
+    let (length, kind) = match read_head(link) {
+        Ok(head) => head,
+        Err(fault) => return Err(fault),
+    };
+    if kind == 0 {
+        return read_proof(alloc, link, length - 1);
+    }
+    match read_rest(alloc, link, length - 1) {
+        Ok(bytes) => Err(AskFault::PeerRefused { code: bytes.get(0) }),
+        Err(fault) => Err(fault),
+    }
+}
+
+/// Writes one request and reads one reply, as [`ask_once`](crate::ask_once) does, and tries the bytes of its proof as
+/// they come. A reply is read to its end, whatever it says.
+pub fn ask_fed<L: Link>(
+    alloc: Global,
+    link: &mut L,
+    algorithm: Algorithm,
+    top: Top,
+    query: &str,
+) -> Result<Fed, AskFault>
+    requires { length query.now ≤ 4000 }
+    ensures { IsAskedFed (record { algorithm = algorithm; top = top; query = query.now })
+        (L.told link.old) (L.told link.new) result }
+{
+    match send_request(alloc, link, algorithm, top, query) {
+        Ok(()) => read_reply(alloc, link),
+        Err(fault) => Err(fault),
+    }
+}
