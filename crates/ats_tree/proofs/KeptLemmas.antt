@@ -1,0 +1,206 @@
+-- The digests of all nodes of a tree: how many there are, where they begin, and where those of the parts are.
+use Rattle.std.proofs.Common.{◌≡◌, ℕ, zero, suc, ◌+◌, ◌-◌, ◌*◌, ◌/◌, ◌%◌, ◌^◌, ◌<◌, ◌≤◌, List, [], ◌∷◌, ◌++◌, length, take, drop, get_or, refl, sym, ◌∙◌, ap, arith, inl, inr, Some}
+use Rattle.std.specs.List.{All, slice_get}
+use Rattle.std.proofs.Math.ListN.{set}
+use Rattle.std.proofs.Math.Nat.{two-pow-succ}
+use Rattle.std.proofs.Math.Seq.{take-length, take-append_seam, drop-append_seam, set-append_seam}
+use Rattle.std.proofs.lemmas.Bool.{cases_lt}
+use Rattle.std.proofs.lemmas.Nat.{pow_pos}
+use Rattle.std.proofs.lemmas.List.{drop_more, length-take, length-drop, length-append, append_assoc, take_all, take-take}
+use Rattle.std.proofs.lemmas.List.Elements.{All-append, All-nil, All-cons}
+use Rattle.ats_tree.specs.Tree.{Tree, empty, leaf, node, tree_within, tree_of, digest_of, mth, IsPowerOfTwo}
+use Rattle.ats_tree.specs.Shown.{places}
+use Rattle.ats_tree.specs.Elided.{shown_with, elided_of, elided_digests}
+use Rattle.ats_tree.specs.Kept.{digests_of, kept_digests, IsNodeList}
+use Rattle.ats_tree.proofs.Trees.{below_power, within-cut, within-suc, of-within, of-cut, of-one}
+use Rattle.ats_tree.proofs.RootLemmas.{part-tree-cut}
+
+-- the first digest is that of the tree
+first-of : (H : List ℕ → List ℕ) (t : Tree (List ℕ)) (d other : List ℕ) → 0 < length (digests_of H t)
+    → d ≡ get_or (digests_of H t) 0 other → d ≡ digest_of H t
+first-of H empty d other some is = absurd (omega arith)
+first-of H (leaf x) d other some is = is
+first-of H (node l r) d other some is = is
+
+pub kept-first : (H : List ℕ → List ℕ) (leaves ds : List (List ℕ)) (d other : List ℕ) → 0 < length ds → d ≡ get_or ds 0 other
+    → ds ≡ kept_digests H leaves → d ≡ mth H leaves
+kept-first H leaves ds d other some is same = first-of H (tree_of leaves) d other (rw same at some) (rw same at is)
+
+-- ---- one leaf, and two parts
+
+pub kept-one : (H : List ℕ → List ℕ) (d : List ℕ) → kept_digests H (d ∷ []) ≡ mth H (d ∷ []) ∷ []
+kept-one H d = rw (of-one d) refl
+
+-- a node, its left part, its right part
+pub kept-node : (H : List ℕ → List ℕ) (t l r : Tree (List ℕ)) → t ≡ node l r
+    → digests_of H t ≡ digest_of H t ∷ (digests_of H l ++ digests_of H r)
+kept-node H t l r is =
+    let both : List (List ℕ) = digests_of H l ++ digests_of H r
+    in ap (digests_of H) is ∙ ap (λ d. d ∷ both) (sym (ap (digest_of H) is))
+
+kept-part-one : (H : List ℕ → List ℕ) (from n : ℕ) (ds : List (List ℕ)) → n ≡ 1 → from + n ≤ length ds
+    → kept_digests H (take n (drop from ds)) ≡ mth H (take n (drop from ds)) ∷ []
+kept-part-one H from n ds one within =
+    let less : from < length ds = omega arith in rw (one, drop_more ds from [] less) (kept-one H (get_or ds from []))
+
+pub kept-part-cut : (H : List ℕ → List ℕ) (from k n : ℕ) (ds : List (List ℕ)) → IsPowerOfTwo k → k < n → n ≤ 2 * k → from + n ≤ length ds
+    → kept_digests H (take n (drop from ds)) ≡ mth H (take n (drop from ds))
+    ∷ (kept_digests H (take k (drop from ds)) ++ kept_digests H (take (n - k) (drop (from + k) ds)))
+kept-part-cut H from k n ds power below largest within = kept-node H _ _ _ (part-tree-cut from k n ds power below largest within)
+
+-- ---- how many there are, each of 32 bytes
+
+length-within : (H : List ℕ → List ℕ) (h : ℕ) (xs : List (List ℕ)) → 1 ≤ length xs → length xs ≤ 2 ^ h
+    → length (digests_of H (tree_within h xs)) + 1 ≡ 2 * length xs
+unfolding tree_within
+length-within H zero [] some short = absurd (omega arith)
+length-within H zero (x ∷ []) some short = refl
+length-within H zero (x ∷ y ∷ xs) some short = absurd (omega arith)
+length-within H (suc h) xs some short =
+    elim (cases_lt (2 ^ h) (length xs)) [
+      | inl long ↦
+          let front : List (List ℕ) = take (2 ^ h) xs
+          in let back : List (List ℕ) = drop (2 ^ h) xs
+          in let power : 0 < 2 ^ h = pow_pos h
+          in let many : length front ≡ 2 ^ h = omega (arith, length-take (2 ^ h) xs)
+          in let others : length back + 2 ^ h ≡ length xs = omega (arith, length-drop (2 ^ h) xs)
+          in let left : length (digests_of H (tree_within h front)) + 1 ≡ 2 * length front =
+          length-within H h front (omega arith) (omega arith)
+          in let right : length (digests_of H (tree_within h back)) + 1 ≡ 2 * length back =
+          length-within H h back (omega arith) (omega (arith, two-pow-succ h))
+          in rw (within-cut h xs long)
+          (omega (arith, length-append (digests_of H (tree_within h front)) (digests_of H (tree_within h back))))
+      | inr few ↦ rw (within-suc h xs few) (length-within H h xs some few)
+    ]
+
+-- a tree of n leaves has 2 * n - 1 nodes
+pub length-kept : (H : List ℕ → List ℕ) (leaves : List (List ℕ)) → 1 ≤ length leaves
+    → length (kept_digests H leaves) + 1 ≡ 2 * length leaves
+length-kept H leaves some =
+    let by_length : length leaves ≤ 2 ^ length leaves = omega (arith, below_power (length leaves))
+    in rw (of-within (length leaves) leaves by_length) (length-within H (length leaves) leaves some by_length)
+
+-- it has the size of a digest
+abbrev pub HasSize : List ℕ → Type 0
+HasSize d = length d ≡ 32
+
+sized-of : (H : List ℕ → List ℕ) → ((m : List ℕ) → HasSize (H m)) → (t : Tree (List ℕ)) → All HasSize (digests_of H t)
+sized-of H sized empty = All-nil HasSize
+sized-of H sized (leaf d) = All-cons HasSize (H (0 ∷ d)) [] (sized _) (All-nil HasSize)
+sized-of H sized (node l r) =
+    All-cons HasSize (digest_of H (node l r)) (digests_of H l ++ digests_of H r) (sized _)
+    (All-append HasSize (digests_of H l) (digests_of H r) (sized-of H sized l) (sized-of H sized r))
+
+pub sized-kept : (H : List ℕ → List ℕ) → ((m : List ℕ) → length (H m) ≡ 32) → (leaves : List (List ℕ))
+    → All (λ d. length d ≡ 32) (kept_digests H leaves)
+sized-kept H sized leaves = sized-of H sized (tree_of leaves)
+
+pub is_node_list : (H : List ℕ → List ℕ) → ((m : List ℕ) → HasSize (H m)) → (leaves ds : List (List ℕ)) → 1 ≤ length leaves
+    → length leaves ≤ 2 ^ 31 → ds ≡ kept_digests H leaves → IsNodeList ds
+is_node_list H sized leaves ds some few same =
+    let count : length (kept_digests H leaves) + 1 ≡ 2 * length leaves = length-kept H leaves some
+    in rw same (record { sized = sized-kept H sized leaves; few = omega arith; odd = omega arith })
+
+-- ---- how they are appended
+
+-- from no digests on
+pub append-whole : (H : List ℕ → List ℕ) (n : ℕ) (leaves before after : List (List ℕ)) → before ≡ [] → n ≡ length leaves
+    → after ≡ before ++ kept_digests H (take n (drop 0 leaves)) → after ≡ kept_digests H leaves
+append-whole H n leaves before after none whole is =
+    is ∙ rw (none, whole) (ap (kept_digests H) (take-length leaves))
+
+-- of one leaf
+pub append-leaf : (H : List ℕ → List ℕ) (from n : ℕ) (ds before after : List (List ℕ)) (d : List ℕ) → n ≡ 1 → from + n ≤ length ds
+    → d ≡ mth H (take n (drop from ds)) → after ≡ before ++ d ∷ [] → after ≡ before ++ kept_digests H (take n (drop from ds))
+append-leaf H from n ds before after d one within value is =
+    is ∙ ap (λ (z : List (List ℕ)). before ++ z) (ap (λ (x : List ℕ). x ∷ []) value ∙ sym (kept-part-one H from n ds one within))
+
+-- of two parts, behind a place for the node's own
+pub append-node : (H : List ℕ → List ℕ) (from k n place : ℕ) (ds before opened left right : List (List ℕ)) (z d : List ℕ)
+    → IsPowerOfTwo k → k < n → n ≤ 2 * k → from + n ≤ length ds
+    → d ≡ mth H (take n (drop from ds)) → place ≡ length before → opened ≡ before ++ z ∷ []
+    → left ≡ opened ++ kept_digests H (take k (drop from ds))
+    → right ≡ left ++ kept_digests H (take (n - k) (drop (from + k) ds))
+    → set right place d ≡ before ++ kept_digests H (take n (drop from ds))
+append-node H from k n place ds before opened left right z d power below largest within value at is is_left is_right =
+    let a : List (List ℕ) = kept_digests H (take k (drop from ds))
+    in let b : List (List ℕ) = kept_digests H (take (n - k) (drop (from + k) ds))
+    in let all : right ≡ before ++ z ∷ (a ++ b) =
+    is_right ∙ ap (λ (y : List (List ℕ)). y ++ b) (is_left ∙ ap (λ (y : List (List ℕ)). y ++ a) is ∙ append_assoc before (z ∷ []) a)
+    ∙ append_assoc before (z ∷ a) b
+    in let cut : kept_digests H (take n (drop from ds)) ≡ d ∷ (a ++ b) =
+    kept-part-cut H from k n ds power below largest within ∙ ap (λ (x : List ℕ). x ∷ (a ++ b)) (sym value)
+    in rw (all, at, cut) (set-append_seam before z (a ++ b) d)
+
+-- ---- where the parts are
+
+pub left-part : (ds a b : List (List ℕ)) (d : List ℕ) (k : ℕ) → ds ≡ d ∷ (a ++ b) → length a + 1 ≡ 2 * k → take (2 * k - 1) (drop 1 ds) ≡ a
+left-part ds a b d k is count =
+    let size : 2 * k - 1 ≡ length a = omega arith in rw (is, size) (take-append_seam a b)
+
+right-rest : (ds a b : List (List ℕ)) (d : List ℕ) (k : ℕ) → ds ≡ d ∷ (a ++ b) → length a + 1 ≡ 2 * k → drop (2 * k) ds ≡ b
+right-rest ds a b d k is count =
+    let size : 2 * k ≡ suc (length a) = omega arith in rw (is, size) (drop-append_seam a b)
+
+pub right-part : (ds a b : List (List ℕ)) (d : List ℕ) (k : ℕ) → ds ≡ d ∷ (a ++ b) → length a + 1 ≡ 2 * k
+    → take (length ds - 2 * k) (drop (2 * k) ds) ≡ b
+right-part ds a b d k is count =
+    let rest : drop (2 * k) ds ≡ b = right-rest ds a b d k is count
+    in let few : length b ≤ length ds - 2 * k = omega (arith, length-drop (2 * k) ds, ap length rest)
+    in rw rest (take_all (length ds - 2 * k) b few)
+
+-- ---- what stands in front stays
+
+pub front-front : (a b c : List (List ℕ)) → take (length a) b ≡ a → take (length b) c ≡ b → take (length a) c ≡ a
+front-front a b c first second =
+    let le : length a ≤ length b = omega (arith, length-take (length a) b, ap length first)
+    in sym (take-take (length a) (length b) c le) ∙ ap (take (length a)) second ∙ first
+
+-- ---- the whole
+
+kept-some : (H : List ℕ → List ℕ) (leaves : List (List ℕ)) → 0 < length (kept_digests H leaves) → 1 ≤ length leaves
+unfolding tree_of tree_within
+kept-some H [] some = absurd (omega arith)
+kept-some H (x ∷ xs) some = omega arith
+
+-- how many leaves there are
+pub kept-leaves : (H : List ℕ → List ℕ) (leaves ds : List (List ℕ)) → length ds % 2 ≡ 1 → ds ≡ kept_digests H leaves
+    → length ds / 2 + 1 ≡ length leaves
+kept-leaves H leaves ds odd same =
+    let sizes : length ds ≡ length (kept_digests H leaves) = ap length same
+    in let some : 0 < length (kept_digests H leaves) = omega arith
+    in omega (arith, length-kept H leaves (kept-some H leaves some))
+
+pub elided-whole : (H : List ℕ → List ℕ) (leaves : List (List ℕ)) (n : ℕ) (ps : List ℕ) → n ≡ length leaves
+    → elided_of H (tree_of (places 0 n (shown_with leaves ps))) (tree_of (take n (drop 0 leaves))) ≡ elided_digests H leaves ps
+elided-whole H leaves n ps whole =
+    rw whole (ap (λ (xs : List (List ℕ)). elided_of H (tree_of (places 0 (length leaves) (shown_with leaves ps))) (tree_of xs)) (take-length leaves))
+
+pub kept-whole : (H : List ℕ → List ℕ) (leaves : List (List ℕ)) (n : ℕ) → n ≡ length leaves
+    → kept_digests H leaves ≡ kept_digests H (take n (drop 0 leaves))
+kept-whole H leaves n whole = rw whole (ap (kept_digests H) (sym (take-length leaves)))
+
+-- ---- the laws
+
+first-digest : (H : List ℕ → List ℕ) (t : Tree (List ℕ)) → 0 < length (digests_of H t) → slice_get (digests_of H t) 0 ≡ Some (digest_of H t)
+first-digest H empty some = absurd (omega arith)
+first-digest H (leaf d) some = refl
+first-digest H (node l r) some = refl
+
+pub kept-root : (H : List ℕ → List ℕ) (leaves : List (List ℕ)) → 1 ≤ length leaves → slice_get (kept_digests H leaves) 0 ≡ Some (mth H leaves)
+kept-root H leaves some =
+    let many : 0 < length (kept_digests H leaves) = omega (arith, length-kept H leaves some)
+    in first-digest H (tree_of leaves) many
+
+pub kept-cut : (H : List ℕ → List ℕ) (ds : List (List ℕ)) (h : ℕ) → 2 ^ h < length ds → length ds ≤ 2 * 2 ^ h
+    → kept_digests H ds ≡ mth H ds ∷ (kept_digests H (take (2 ^ h) ds) ++ kept_digests H (drop (2 ^ h) ds))
+kept-cut H ds h long short = kept-node H _ _ _ (of-cut h ds long short)
+
+pub kept-right : (H : List ℕ → List ℕ) (ds : List (List ℕ)) (h : ℕ) → 2 ^ h < length ds → length ds ≤ 2 * 2 ^ h
+    → drop (2 * 2 ^ h) (kept_digests H ds) ≡ kept_digests H (drop (2 ^ h) ds)
+kept-right H ds h long short =
+    let front : List (List ℕ) = take (2 ^ h) ds
+    in let size : length front ≡ 2 ^ h = omega (arith, length-take (2 ^ h) ds)
+    in let some : 1 ≤ length front = omega (arith, pow_pos h)
+    in let count : length (kept_digests H front) + 1 ≡ 2 * 2 ^ h = omega (arith, length-kept H front some)
+    in right-rest _ _ _ _ (2 ^ h) (kept-cut H ds h long short) count

@@ -1,0 +1,150 @@
+//! The digests of all nodes of a tree, kept, so that they can be shown without hashing.
+
+ghost use Rattle.std.specs.Prelude.{◌≡◌, ℕ, ◌+◌, ◌*◌, ◌^◌, ◌<◌, ◌≤◌, List, ◌++◌, length, take, drop, All, Some, IfOk, OnOk, OnErr, slice_get};
+ghost use Rattle.std.specs.List.Sorted.{IsStrictlyIncreasing};
+ghost use Rattle.ats_tree.specs.Tree.{mth, tree_of};
+ghost use Rattle.ats_tree.specs.Shown.{places};
+ghost use Rattle.ats_tree.specs.Elided.{shown_with, elided_of, elided_digests};
+ghost use Rattle.ats_tree.specs.Kept.{kept_digests, IsNodeList};
+ghost use Rattle.ats_tree.specs.Part.{RisesWithin};
+
+use crate::cut::cut_of;
+use crate::digests::{Digests, OutOfMemory};
+use crate::eliding::count_below;
+use crate::hashing::Leaves;
+use ats_hash::{Hash32, Steps};
+use std::alloc::Global;
+use std::marker::Model;
+
+/// The digests of all nodes of a tree, in pre-order: of each node first its own, then those of its left part,
+/// then those of its right part. A tree of n leaves has 2n - 1 nodes; n is 1 to 2^31.
+#[derive(Drop)]
+pub struct Nodes {
+    digests: Vec<[u8; 32]>,
+}
+
+impl Model for Nodes {
+    ghost Value = { List (List ℕ) };
+
+    ghost view = { λ s. s.digests.items };
+
+    ghost invariant = { λ s. IsNodeList s.digests.items };
+}
+
+impl Nodes {
+    /// The digests of the tree of the leaves. Each node is hashed once.
+    pub fn of<H: Hash32, L: Leaves>(
+        alloc: Global,
+        leaves: &L,
+        steps: &mut Steps,
+    ) -> Result<Nodes, OutOfMemory>
+        requires some { 1 ≤ length (L.items leaves.now) }
+        requires few { length (L.items leaves.now) ≤ 2 ^ 31 }
+        requires room { steps.old ≤ 2 ^ 63 }
+        ensures value { IfOk result (λ nodes. nodes ≡ kept_digests H.hash (L.items leaves.now)) }
+        ensures cost { steps.new ≤ steps.old + 2 * length (L.items leaves.now) }
+    {
+        let n = leaves.len();
+        let mut digests = Vec::with_capacity(alloc, 2 * n as usize - 1)?;
+        keep_part::<H, L>(leaves, 0, n, &mut digests, steps)?;
+        Ok(Nodes { digests })
+    }
+
+    /// How many nodes there are.
+    pub fn len(&self) -> u32
+        ensures { result ≡ length self.now }
+    {
+        self.digests.len() as u32
+    }
+
+    /// The digest of the tree.
+    pub fn root(&self) -> [u8; 32]
+        ensures first { slice_get self.now 0 ≡ Some result }
+        ensures value { (H : List ℕ → List ℕ) (leaves : List (List ℕ)) → self.now ≡ kept_digests H leaves
+            → result ≡ mth H leaves }
+    {
+        self.digests[0]
+    }
+
+    /// Appends the digests of the maximal subtrees that hold none of the leaves at `positions`, from left to
+    /// right. With no position that is the root alone.
+    pub fn elided(&self, positions: &[u32], out: &mut Digests) -> Result<(), OutOfMemory>
+        requires rising { IsStrictlyIncreasing positions.now }
+        requires below { All (λ p. 2 * p + 1 ≤ length self.now) positions.now }
+        ensures ok { (H : List ℕ → List ℕ) (leaves : List (List ℕ)) → self.now ≡ kept_digests H leaves
+            → OnOk result (out.new ≡ out.old ++ elided_digests H leaves positions.now) }
+        ensures err { OnErr result (out.new ≡ out.old) }
+    {
+        let before = out.len();
+        let n = self.len() / 2 + 1;
+        let outcome = elide_kept(self.digests.as_slice(), 0, n, positions, out);
+        if outcome.is_err() {
+            out.truncate(before);
+        }
+        outcome
+    }
+}
+
+/// Appends the digests of the tree of the `n` leaves from leaf `from` on, and answers the first of them.
+fn keep_part<H: Hash32, L: Leaves>(
+    leaves: &L,
+    from: u32,
+    n: u32,
+    digests: &mut Vec<[u8; 32]>,
+    steps: &mut Steps,
+) -> Result<[u8; 32], OutOfMemory>
+    requires some { 1 ≤ n }
+    requires within { from + n ≤ length (L.items leaves.now) }
+    requires ends { from + n < 2 ^ 32 }
+    requires room { steps.old + 2 * n ≤ 2 ^ 64 }
+    ensures value { IfOk result (λ d. d ≡ mth H.hash (take n (drop from (L.items leaves.now)))) }
+    ensures kept { OnOk result (digests.new.items
+        ≡ digests.old.items ++ kept_digests H.hash (take n (drop from (L.items leaves.now)))) }
+    ensures cost { steps.new + 1 ≤ steps.old + 2 * n }
+{
+    if n == 1 {
+        let digest = leaves.leaf_digest::<H>(from, steps);
+        digests.push(digest)?;
+        return Ok(digest);
+    }
+    let k = cut_of(n);
+    let place = digests.len();
+    digests.push([0; 32])?;
+    let left = keep_part::<H, L>(leaves, from, k, digests, steps)?;
+    let right = keep_part::<H, L>(leaves, from + k, n - k, digests, steps)?;
+    let digest = H::digest2(1, &left, &right, steps);
+    digests[place] = digest;
+    Ok(digest)
+}
+
+/// Appends the digests that positions need of the part of `n` leaves from position `from` on, whose nodes have
+/// these digests. Those of its left part stand behind its own, and those of its right part behind these.
+fn elide_kept(
+    digests: &[[u8; 32]],
+    from: u32,
+    n: u32,
+    positions: &[u32],
+    out: &mut Digests,
+) -> Result<(), OutOfMemory>
+    requires nodes { length digests.now + 1 ≡ 2 * n }
+    requires sized { All (λ d. length d ≡ 32) digests.now }
+    requires ends { from + n < 2 ^ 32 }
+    requires rising { RisesWithin from (from + n) positions.now }
+    ensures ok { (H : List ℕ → List ℕ) (leaves : List (List ℕ)) → from + n ≤ length leaves
+        → digests.now ≡ kept_digests H (take n (drop from leaves))
+        → OnOk result (out.new ≡ out.old ++ elided_of H
+        (tree_of (places from n (shown_with leaves positions.now))) (tree_of (take n (drop from leaves)))) }
+    ensures front { take (length out.old) out.new ≡ out.old }
+{
+    if positions.is_empty() {
+        out.push(digests[0])
+    } else if n == 1 {
+        Ok(())
+    } else {
+        let k = cut_of(n);
+        let right = 2 * k as usize;
+        let (before, after) = positions.split_at(count_below(positions, from + k));
+        elide_kept(&digests[1..right], from, k, before, out)?;
+        elide_kept(&digests[right..], from + k, n - k, after, out)
+    }
+}
