@@ -1,28 +1,31 @@
 //! The header of a collection.
 
 ghost use Rattle.std.specs.Prelude.{◌≡◌};
+ghost use Rattle.ats_tree.specs.Kept.{kept_digests};
+ghost use Rattle.ats_dict.specs.Dictionary.{dict_leaves};
 ghost use Rattle.ats_commit.specs.Archive.{archive_of};
-ghost use Rattle.ats_commit.specs.Trees.{dictionary_of};
+ghost use Rattle.ats_commit.specs.Trees.{dictionary_of, documents_of};
 ghost use Rattle.ats_commit.specs.Own.{AreTexts};
-ghost use Rattle.ats_index.specs.Parts.{all_leaves, header_parts};
+ghost use Rattle.ats_index.specs.Parts.{header_parts};
 
-use ats_commit::{DocLeaves, TextLeaves};
+use ats_commit::TextLeaves;
 use ats_dict::{Dictionary, Header};
-use ats_doctree::DocLeaf;
 use ats_hash::{Hash32, Steps};
 use ats_impact::Collection;
-use ats_tree::{Leaves, root};
+use ats_tree::{Leaves, Nodes, root};
 use std::alloc::Global;
 
-/// The header of a collection, from its dictionary and the leaves of its documents.
+/// The header of a collection, from its dictionary, and the nodes of the dictionary and of the documents tree.
 pub(crate) fn header_of<H: Hash32>(
     alloc: Global,
     collection: &Collection,
     dictionary: &Dictionary,
-    leaves: &[DocLeaf],
+    dict_nodes: &Nodes,
+    docs_nodes: &Nodes,
 ) -> Header
     requires dictionary { dictionary.now ≡ dictionary_of H.hash (archive_of collection.now) }
-    requires leaves { leaves.now ≡ all_leaves H.hash collection.now }
+    requires dict_nodes { dict_nodes.now ≡ kept_digests H.hash (dict_leaves dictionary.now) }
+    requires docs_nodes { docs_nodes.now ≡ kept_digests H.hash (documents_of H.hash collection.now) }
     ensures parts { result ≡ header_parts H.hash (archive_of collection.now) }
     ensures texts { AreTexts collection.now }
 {
@@ -31,8 +34,8 @@ pub(crate) fn header_of<H: Hash32>(
     Header {
         documents,
         dict_leaves: dictionary.len(),
-        dict_root: root::<H, _>(dictionary, &mut Steps::new(alloc)),
-        docs_root: root::<H, _>(&DocLeaves { leaves }, &mut Steps::new(alloc)),
+        dict_root: dict_nodes.root(),
+        docs_root: docs_nodes.root(),
         texts_root: root::<H, _>(&texts, &mut Steps::new(alloc)),
     }
 }

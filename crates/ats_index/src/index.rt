@@ -1,10 +1,15 @@
 //! The index of an archive.
 
-ghost use Rattle.std.specs.Prelude.{◌≡◌, ◌<◌, ◌≤◌, [], ℕ, List, length, IfOk, OnOk, MatchOption};
+ghost use Rattle.std.specs.Prelude.{◌≡◌, ◌<◌, ◌≤◌, [], ℕ, List, length, map, slice_index_or, IfOk, OnOk, MatchOption};
+ghost use Rattle.ats_tree.specs.Kept.{kept_digests};
+ghost use Rattle.ats_lists.specs.Leaf.{leaf_bytes};
 ghost use Rattle.ats_lists.specs.Lists.{lists_of};
+ghost use Rattle.ats_lists.specs.declared.entry.Entry.{Entry};
+ghost use Rattle.ats_dict.specs.Dictionary.{dict_leaves};
 ghost use Rattle.ats_doctree.specs.Impacts.{doc_terms};
+ghost use Rattle.ats_doctree.specs.Sentinels.{terms_leaves};
 ghost use Rattle.ats_commit.specs.Archive.{archive_of};
-ghost use Rattle.ats_commit.specs.Trees.{dictionary_of};
+ghost use Rattle.ats_commit.specs.Trees.{dictionary_of, documents_of};
 ghost use Rattle.ats_commit.specs.Root.{root_of};
 ghost use Rattle.ats_commit.specs.Own.{AreTexts};
 ghost use Rattle.ats_index.specs.Parts.{all_leaves, header_parts, leaf_of_terms};
@@ -13,7 +18,7 @@ ghost use Rattle.ats_index.specs.LoadFaults.{IsDifference};
 
 use crate::build::header_of;
 use crate::compare::{Comparer, Takes};
-use crate::dictionary::dictionary_of;
+use crate::dictionary::{ListParts, dictionary_nodes, dictionary_of};
 use crate::documents::{DocumentParts, counted};
 use crate::memory::OutOfMemory;
 use crate::write::{put_lists, put_texts};
@@ -24,13 +29,14 @@ use ats_doctree::{DocLeaf, DocTerms};
 use ats_hash::{Hash32, HashKind, Steps};
 use ats_impact::Collection;
 use ats_lists::Lists;
+use ats_tree::Nodes;
 use std::alloc::Global;
 use std::marker::{Model, PhantomData};
 
 /// A collection of 1 to 65,536 texts with all that its root commits to, under a hash function. Each list is
 /// one tree.
 ///
-/// It keeps its allocator.
+/// It keeps its allocator, and the digests of all nodes of its trees but that of the texts: about 64 bytes a leaf.
 #[derive(Drop)]
 pub struct Index<H: HashKind> {
     alloc: Global,
@@ -41,18 +47,24 @@ pub struct Index<H: HashKind> {
     leaves: Vec<DocLeaf>,
     header: Header,
     root: [u8; 32],
+    list_nodes: Vec<Nodes>,
+    term_nodes: Vec<Nodes>,
+    dict_nodes: Nodes,
+    docs_nodes: Nodes,
     kind: PhantomData<H>,
 }
 
 impl<H: HashKind> Model for Index<H> {
     ghost use Rattle.ats_commit.specs.Archive.{Archive, archive_of};
     ghost use Rattle.ats_index.specs.Parts.{IsIndexOf};
+    ghost use Rattle.ats_index.specs.Kept.{AreNodesOf};
 
     ghost Value = { Archive };
 
     ghost view = { λ i. archive_of i.collection };
 
-    ghost invariant = { λ i. IsIndexOf H.hash (archive_of i.collection) i.lists i.dictionary i.terms.items i.leaves.items i.header i.root };
+    ghost invariant = { λ i. IsIndexOf H.hash (archive_of i.collection) i.lists i.dictionary i.terms.items i.leaves.items i.header i.root
+        × AreNodesOf H.hash (archive_of i.collection) i.list_nodes.items i.term_nodes.items i.dict_nodes i.docs_nodes };
 }
 
 impl<H: HashKind> Index<H> {
@@ -124,6 +136,37 @@ impl<H: HashKind> Index<H> {
         &self.leaves
     }
 
+    /// The digests of the tree of list `i`, counted from 0.
+    pub fn list_nodes(&self, i: u32) -> &Nodes
+        requires { i < length (lists_of self.now.texts) }
+        ensures { (d : List ℕ × List Entry)
+            → result.now ≡ kept_digests H.hash (map leaf_bytes (slice_index_or (lists_of self.now.texts) i d).1) }
+    {
+        &self.list_nodes[i as usize]
+    }
+
+    /// The digests of the tree of a document's terms. Documents are counted from 0.
+    pub fn doc_nodes(&self, doc: u32) -> &Nodes
+        requires { doc < length self.now.texts }
+        ensures { result.now ≡ kept_digests H.hash (terms_leaves (doc_terms self.now.texts doc)) }
+    {
+        &self.term_nodes[doc as usize]
+    }
+
+    /// The digests of the dictionary's tree.
+    pub fn dict_nodes(&self) -> &Nodes
+        ensures { result.now ≡ kept_digests H.hash (dict_leaves (dictionary_of H.hash self.now)) }
+    {
+        &self.dict_nodes
+    }
+
+    /// The digests of the documents tree.
+    pub fn docs_nodes(&self) -> &Nodes
+        ensures { result.now ≡ kept_digests H.hash (documents_of H.hash self.now.texts) }
+    {
+        &self.docs_nodes
+    }
+
     /// The bytes of the index. Numbers stand high byte first: `ATSI`, the version 1 in one byte, the number of
     /// texts in 4, and each text behind its length in 4. Then the number of terms in 4 and, for each in byte
     /// order, its length in one, the term, the number of its entries in 4, and each entry in 6. Then the root.
@@ -165,10 +208,16 @@ impl<H: Hash32> Index<H> {
         let DocumentParts {
             lists,
             terms,
+            term_nodes,
             leaves,
+            docs_nodes,
         } = counted::<H>(alloc, &collection)?;
-        let dictionary = dictionary_of::<H>(alloc, &lists)?;
-        let header = header_of::<H>(alloc, &collection, &dictionary, &leaves);
+        let ListParts {
+            dictionary,
+            nodes: list_nodes,
+        } = dictionary_of::<H>(alloc, &lists)?;
+        let dict_nodes = dictionary_nodes::<H>(alloc, &dictionary)?;
+        let header = header_of::<H>(alloc, &collection, &dictionary, &dict_nodes, &docs_nodes);
         let root = root_of_header::<H>(&header, &mut Steps::new(alloc));
         Ok(Index {
             alloc,
@@ -179,6 +228,10 @@ impl<H: Hash32> Index<H> {
             leaves,
             header,
             root,
+            list_nodes,
+            term_nodes,
+            dict_nodes,
+            docs_nodes,
             kind: PhantomData,
         })
     }

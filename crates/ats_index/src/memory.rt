@@ -47,3 +47,9 @@ impl From<ats_impact::OutOfMemory> for OutOfMemory {
         OutOfMemory
     }
 }
+
+impl From<ats_tree::OutOfMemory> for OutOfMemory {
+    fn from(_: ats_tree::OutOfMemory) -> Self {
+        OutOfMemory
+    }
+}

@@ -67,6 +67,21 @@ fn parts_of_three_texts(rt: HostRuntime) -> Result<(), Fail> {
     Ok(())
 }
 
+// A tree of n leaves has 2n - 1 nodes.
+#[test]
+fn nodes_of_three_texts(rt: HostRuntime) -> Result<(), Fail> {
+    let index = example(rt.alloc())?;
+    assert_eq!(rt; index.lists().len(), 4);
+    assert_eq!(rt; index.collection().documents(), 3);
+    assert_eq!(rt; index.list_nodes(0).len(), 1);
+    assert_eq!(rt; index.list_nodes(3).len(), 3);
+    assert_eq!(rt; index.doc_nodes(1).len(), 7);
+    assert_eq!(rt; index.dict_nodes().len(), 11);
+    assert_eq!(rt; index.docs_nodes().len(), 5);
+    assert_eq!(rt; index.docs_nodes().root(), index.header().docs_root);
+    Ok(())
+}
+
 #[test]
 fn loads_its_own_bytes(rt: HostRuntime) -> Result<(), Fail> {
     let bytes = EXAMPLE;

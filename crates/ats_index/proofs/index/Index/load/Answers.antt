@@ -9,7 +9,7 @@ use Rattle.ats_index.proofs.index.Index.load.Goals as goal
 pub returns-in-None-clause-ok : goal.returns-in-None-clause-ok
 returns-in-None-clause-ok g c =
     let same = rw c.in-None.is at c.in_ok-at.ensures in
-    let texts = subst (λ (archive : Archive). AreTexts archive.texts) c.index.view_is c.index.invariant.texts_within in
+    let texts = subst (λ (archive : Archive). AreTexts archive.texts) c.index.view_is c.index.invariant.0.texts_within in
     record { utf8 = texts.utf8; within = texts.within; same = same }
 
 pub returns-in-None-clause-only : goal.returns-in-None-clause-only
