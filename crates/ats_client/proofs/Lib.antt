@@ -1,5 +1,7 @@
 pub mod Walks
 pub mod Slotted
+pub mod Rising
+pub mod Counts
 pub mod Named
 pub mod Marks
 pub mod Listed

@@ -1,8 +1,9 @@
 //! The check of a whole proof.
 
-ghost use Rattle.std.specs.Prelude.{◌≡◌, ◌≤◌, ◌+◌, ◌^◌, ℕ, List, length, IsOk, OnOk, IfOk, IfErr};
+ghost use Rattle.std.specs.Prelude.{◌≡◌, ◌≤◌, ◌+◌, ◌*◌, ◌^◌, ℕ, List, length, IsOk, OnOk, IfOk, IfErr};
 ghost use Rattle.ats_terms.specs.Query.{IsQuery};
 ghost use Rattle.ats_bound.specs.Cut.{threshold as threshold_of};
+ghost use Rattle.ats_proof.specs.Value.{items_of};
 ghost use Rattle.ats_proof.specs.Views.{proof_of};
 ghost use Rattle.ats_client.specs.Presented.{lanes_of};
 ghost use Rattle.ats_client.specs.Bracketing.{bounds_of};
@@ -44,6 +45,7 @@ fn checked<'a, H: Hash32>(
     ensures left { IfOk result (λ threshold. IsLeft query.now (proof_of proof.now) work.new.marks threshold) }
     ensures refused { IfErr result (λ refusal. IsFirstRefusal H.hash root.now query.now top (proof_of proof.now) refusal) }
     ensures room { work.new.room ≡ work.old.room }
+    ensures steps { steps.new ≤ steps.old + 8 * items_of (proof_of proof.now) + 64 }
 {
     opened::<H>(root, query, proof, steps)?;
     dictionary::<H>(proof, steps)?;
@@ -83,6 +85,7 @@ pub fn check<'a, H: Hash32>(
     ensures left { IfOk result (λ threshold. IsLeft query.now (proof_of proof.now) work.new.marks threshold) }
     ensures refused { IfErr result (λ refusal. IsFirstRefusal H.hash root.now query.now top (proof_of proof.now) refusal) }
     ensures room { work.new.room ≡ work.old.room }
+    ensures steps { steps.new ≤ steps.old + 8 * items_of (proof_of proof.now) + 64 }
 {
     checked::<H>(root, query, top, proof, work, steps)
 }

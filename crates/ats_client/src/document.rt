@@ -2,9 +2,12 @@
 
 ghost use Rattle.std.specs.Prelude.{◌≡◌, ◌<◌, ◌≤◌, ◌+◌, ◌*◌, ◌^◌, ℕ, length, map, OnOk, IfOk, IfErr};
 ghost use Rattle.std.specs.List.{All};
+ghost use Rattle.std.specs.List.Sorted.{IsNonDecreasing};
 ghost use Rattle.ats_commit.specs.Ours.{asked_term};
 ghost use Rattle.ats_bound.specs.Lookup.{looked_score};
+ghost use Rattle.ats_records.specs.declared.record.Slot.{Slot};
 ghost use Rattle.ats_proof.specs.SeenDocs.{section_of};
+ghost use Rattle.ats_proof.specs.Value.{items_of_section};
 ghost use Rattle.ats_client.specs.declared.present_terms.PresentTerm.{PresentTerm};
 ghost use Rattle.ats_client.specs.declared.refusal.Refusal.TheVariants.{TermSlot};
 ghost use Rattle.ats_client.specs.Bracketing.{impact_shown};
@@ -30,6 +33,8 @@ fn rooted<'a, H: Hash32>(doc: &DocView<'a>, steps: &mut Steps) -> Result<(), Ref
     ensures kept { OnOk result (IsTermsTree H.hash (document_of doc.now)) }
     ensures fault { IfErr result (IsTermsFault H.hash (document_of doc.now)) }
     ensures cost { steps.new ≤ steps.old + 2 ^ 34 }
+    ensures most { steps.new
+        ≤ steps.old + 3 * length (section_of doc.now).leaves + 2 * length (section_of doc.now).digests + 1 }
 {
     let leaf = doc.leaf();
     let mut section = doc.terms();
@@ -60,7 +65,10 @@ fn impact<'a>(
     ensures told { IfErr result (λ refusal. refusal ≡ TermSlot (document_of doc.now).doc number) }
     ensures wrong { IfErr result (λ refusal. ¬ ShowsTerm (map term_shown (section_of doc.now).leaves) (asked_term query.now number) (slot_at (section_of doc.now).slots i)) }
     ensures leaves { walk.new.all ≡ walk.old.all }
+    ensures place { walk.new.place ≡ (slot_at (section_of doc.now).slots i).index }
     ensures cost { steps.new ≤ steps.old + 2 ^ 18 }
+    ensures most { walk.old.place ≤ (slot_at (section_of doc.now).slots i).index
+        → steps.new + length (terms_left walk.new.left) ≤ steps.old + length (terms_left walk.old.left) + 2 }
 {
     let slot = doc.slot(i, steps);
     if !walk.shows(query.term(number as usize), slot, steps) {
@@ -86,6 +94,7 @@ fn score<'a>(
     steps: &mut Steps,
 ) -> Result<u64, Refusal>
     requires each { length (section_of doc.now).slots ≡ length terms.now }
+    requires spots { IsNonDecreasing (map (λ (slot : Slot). slot.index) (section_of doc.now).slots) }
     requires numbers { All (λ (term : PresentTerm). term.number < length query.now) terms.now }
     requires room { steps.old ≤ 2 ^ 62 + 2 ^ 57 }
     ensures right { OnOk result (AreTermSlotsRight query.now (numbers_of terms.now) (section_of doc.now)) }
@@ -93,6 +102,7 @@ fn score<'a>(
     ensures small { IfOk result (λ score. score ≤ 2 ^ 38) }
     ensures fault { IfErr result (IsTermSlotsFault query.now (numbers_of terms.now) (document_of doc.now)) }
     ensures cost { steps.new ≤ steps.old + 2 ^ 23 }
+    ensures most { steps.new ≤ steps.old + length (section_of doc.now).leaves + 2 * length terms.now }
 {
     let mut walk = Walk::over(doc.terms());
     let mut score = 0;
@@ -116,6 +126,7 @@ pub(crate) fn document<'a, H: Hash32>(
     steps: &mut Steps,
 ) -> Result<u64, Refusal>
     requires each { length (section_of doc.now).slots ≡ length terms.now }
+    requires spots { IsNonDecreasing (map (λ (slot : Slot). slot.index) (section_of doc.now).slots) }
     requires numbers { All (λ (term : PresentTerm). term.number < length query.now) terms.now }
     requires room { steps.old ≤ 2 ^ 62 + 2 ^ 56 }
     ensures right { OnOk result (IsDocumentRight H.hash query.now (numbers_of terms.now) (document_of doc.now)) }
@@ -123,6 +134,7 @@ pub(crate) fn document<'a, H: Hash32>(
     ensures small { IfOk result (λ score. score ≤ 2 ^ 38) }
     ensures fault { IfErr result (IsFirstFault (document_rules H.hash query.now (numbers_of terms.now) (document_of doc.now))) }
     ensures cost { steps.new ≤ steps.old + 2 ^ 35 }
+    ensures most { steps.new ≤ steps.old + 4 * items_of_section (section_of doc.now) + 1 }
 {
     rooted::<H>(doc, steps)?;
     score(doc, query, terms, steps)

@@ -1,10 +1,10 @@
 //! What is shown of the met documents: their leaves in the documents tree, and the terms of each.
 
-ghost use Rattle.std.specs.Prelude.{◌≡◌, ◌<◌, ◌≤◌, ◌+◌, ◌^◌, List, [], Some, length, slice_set, OnOk, IfErr};
+ghost use Rattle.std.specs.Prelude.{◌≡◌, ◌<◌, ◌≤◌, ◌+◌, ◌*◌, ◌^◌, sum_by, List, [], Some, length, slice_set, OnOk, IfErr};
 ghost use Rattle.ats_bound.specs.Cut.{bracket, threshold as threshold_of};
 ghost use Rattle.ats_bound.specs.Work.{mark_at};
 ghost use Rattle.ats_proof.specs.SeenDocs.{documents_of, ids_of};
-ghost use Rattle.ats_proof.specs.Value.{AreDocuments, present_in};
+ghost use Rattle.ats_proof.specs.Value.{AreDocuments, present_in, items_of_section, items_of_documents};
 ghost use Rattle.ats_proof.specs.Views.{proof_of};
 ghost use Rattle.ats_client.specs.Bracketing.{bounds_of};
 ghost use Rattle.ats_client.specs.Documents.{IsDocsTree, IsDocsFault, AreDocumentsRight, IsDocumentsFault};
@@ -30,6 +30,7 @@ pub(crate) fn documents_tree<H: Hash32>(
     ensures kept { OnOk result (IsDocsTree H.hash (proof_of proof.now)) }
     ensures fault { IfErr result (IsDocsFault H.hash (proof_of proof.now)) }
     ensures cost { steps.new ≤ steps.old + 2 ^ 34 }
+    ensures most { steps.new ≤ steps.old + 3 * items_of_documents (proof_of proof.now).docs + 1 }
 {
     let Some(docs) = proof.docs() else {
         return Ok(());
@@ -90,6 +91,8 @@ fn each<'a, H: Hash32>(
     ensures fault { IfErr result (IsDocumentsFault H.hash query.now (proof_of proof.now)) }
     ensures room { work.new.room ≡ work.old.room }
     ensures cost { steps.new ≤ steps.old + 2 ^ 52 }
+    ensures most { steps.new
+        ≤ steps.old + 4 * length (proof_of proof.now).met + 4 * sum_by items_of_section (documents_of docs.entry).sections }
 {
     let mut left = docs;
     for index in 0..proof.met() {
@@ -104,6 +107,7 @@ fn each<'a, H: Hash32>(
 
 /// Tries what is shown of the met documents, one after another, and notes their scores in their marks. Where
 /// the proof shows none, the marks stay as they are.
+#[tactic(auto, using(crate::proofs::Counts::section_items))]
 pub(crate) fn documents<H: Hash32>(
     query: &Query,
     proof: &ProofView<'_>,
@@ -124,6 +128,7 @@ pub(crate) fn documents<H: Hash32>(
     ensures fault { IfErr result (IsDocumentsFault H.hash query.now (proof_of proof.now)) }
     ensures room { work.new.room ≡ work.old.room }
     ensures cost { steps.new ≤ steps.old + 2 ^ 52 }
+    ensures most { steps.new ≤ steps.old + 4 * items_of_documents (proof_of proof.now).docs }
 {
     match proof.docs() {
         Some(docs) => each::<H>(docs, query, proof, terms, threshold, work, steps),

@@ -1,9 +1,9 @@
 //! One prefix, against the list that the dictionary names.
 
-ghost use Rattle.std.specs.Prelude.{◌≡◌, ◌<◌, ◌≤◌, ◌+◌, ◌^◌, ◌++◌, List, [], Some, length, OnOk, IfOk, IfErr};
+ghost use Rattle.std.specs.Prelude.{◌≡◌, ◌<◌, ◌≤◌, ◌+◌, ◌*◌, ◌^◌, ◌++◌, List, [], Some, length, OnOk, IfOk, IfErr};
 ghost use Rattle.std.specs.List.{All};
 ghost use Rattle.ats_bound.specs.Cut.{rest};
-ghost use Rattle.ats_proof.specs.Value.{layout_of};
+ghost use Rattle.ats_proof.specs.Value.{layout_of, items_of_prefix};
 ghost use Rattle.ats_proof.specs.Views.{proof_of};
 ghost use Rattle.ats_client.specs.Groups.{IsListRight, IsListFault, IsListRootFault, list_digest};
 ghost use Rattle.ats_client.specs.Noting.{Note, AreNotes, index_lane, lane_notes};
@@ -19,7 +19,7 @@ use ats_hash::{Hash32, Steps};
 use ats_proof::ProofView;
 
 // Tries that the prefix is the front of the list that its term's leaf names.
-#[tactic(auto, unfolding(crate::specs::Lists::prefix_of))]
+#[tactic(auto, using(crate::proofs::Counts::shown_list_size), unfolding(crate::specs::Lists::prefix_of))]
 fn rooted<'a, H: Hash32>(
     one: &Present<'a>,
     proof: &ProofView<'a>,
@@ -30,6 +30,8 @@ fn rooted<'a, H: Hash32>(
     ensures kept { OnOk result (list_digest H.hash (layout_of (proof_of proof.now)) (proof_of proof.now).met (presented_of one.now) ≡ Some (presented_of one.now).entry.root) }
     ensures fault { IfErr result (IsListRootFault H.hash (layout_of (proof_of proof.now)) (proof_of proof.now).met (presented_of one.now)) }
     ensures cost { steps.new ≤ steps.old + 2 ^ 34 }
+    ensures most { steps.new
+        ≤ steps.old + 3 * length (prefix_of one.now.list).entries + 2 * length (prefix_of one.now.list).digests + 1 }
 {
     let mut section = one.list.revealed(proof);
     let Some(digest) = rebuilt::<H, _>(one.entry.f, &mut section, steps) else {
@@ -63,6 +65,7 @@ pub(crate) fn list<'a, H: Hash32>(
     ensures small { IfOk result (λ most. most ≤ 2 ^ 33) }
     ensures room { work.new.room ≡ work.old.room }
     ensures cost { steps.new ≤ steps.old + 2 ^ 36 }
+    ensures most { steps.new ≤ steps.old + 6 * items_of_prefix (prefix_of one.now.list) + 2 }
 {
     let impact = rest_impact(&one.list, one.entry.f, steps);
     let rest = weighed(coefficient, impact);

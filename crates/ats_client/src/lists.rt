@@ -1,7 +1,8 @@
 //! The prefixes of all present terms.
 
-ghost use Rattle.std.specs.Prelude.{◌≡◌, ◌<◌, ◌≤◌, ◌+◌, ◌^◌, [], length, OnOk, IfOk, IfErr};
+ghost use Rattle.std.specs.Prelude.{◌≡◌, ◌<◌, ◌≤◌, ◌+◌, ◌*◌, ◌^◌, sum_by, [], length, OnOk, IfOk, IfErr};
 ghost use Rattle.ats_bound.specs.Cut.{bracket, threshold as threshold_of};
+ghost use Rattle.ats_proof.specs.Value.{items_of_prefix};
 ghost use Rattle.ats_proof.specs.Views.{proof_of};
 ghost use Rattle.ats_client.specs.Presented.{lanes_of};
 ghost use Rattle.ats_client.specs.PresentTerms.{kept_terms};
@@ -41,6 +42,9 @@ pub(crate) fn lists<'a, H: Hash32>(
     ensures small { IfOk result (λ threshold. threshold < 2 ^ 48) }
     ensures room { work.new.room ≡ work.old.room }
     ensures cost { steps.new ≤ steps.old + 2 ^ 42 }
+    ensures most { steps.new
+        ≤ steps.old + length (proof_of proof.now).met + length (proof_of proof.now).dict + 4 * length (proof_of proof.now).slots
+        + 6 * sum_by items_of_prefix (proof_of proof.now).lists }
 {
     work.begin(proof.met(), steps);
     let mut walk = Walk::over(proof.dict());

@@ -84,6 +84,7 @@ pub(crate) fn entries(
         → AreNotes met (notes ++ map (note coefficient rest) (prefix_of one.now.list).entries) (one.now.number + 1) (indexes_of (prefix_of one.now.list).entries) work.new.marks) }
     ensures room { work.new.room ≡ work.old.room }
     ensures cost { steps.new ≤ steps.old + 2 ^ 34 }
+    ensures most { steps.new ≤ steps.old + 3 * length (prefix_of one.now.list).entries }
 {
     for i in 0..one.list.len() {
         let entry = one.list.entry(i, steps);

@@ -1,6 +1,6 @@
 //! The root, the number of slots, and the dictionary section.
 
-ghost use Rattle.std.specs.Prelude.{◌≡◌, ◌≤◌, ◌+◌, ◌*◌, ◌^◌, OnOk, IfErr};
+ghost use Rattle.std.specs.Prelude.{◌≡◌, ◌≤◌, ◌+◌, ◌*◌, ◌^◌, length, OnOk, IfErr};
 ghost use Rattle.ats_tree.specs.Rebuild.{rebuilt};
 ghost use Rattle.ats_terms.specs.Query.{IsQuery};
 ghost use Rattle.ats_proof.specs.Views.{proof_of};
@@ -22,6 +22,7 @@ pub(crate) fn rebuilt<'a, H: Hash32, R: Revealed<'a>>(
     requires room { steps.old ≤ 2 ^ 63 }
     ensures digest { result ≡ rebuilt H.hash n (R.shown revealed.old) (R.digests revealed.old) }
     ensures cost { steps.new ≤ steps.old + 3 * n }
+    ensures most { steps.new ≤ steps.old + 3 * length (R.shown revealed.old) + 2 * length (R.digests revealed.old) + 1 }
 {
     if n == 0 {
         return None;
@@ -58,6 +59,8 @@ pub(crate) fn dictionary<H: Hash32>(proof: &ProofView<'_>, steps: &mut Steps) ->
     ensures kept { OnOk result (IsDictionary H.hash (proof_of proof.now)) }
     ensures fault { IfErr result (IsDictFault H.hash (proof_of proof.now)) }
     ensures cost { steps.new ≤ steps.old + 2 ^ 34 }
+    ensures most { steps.new
+        ≤ steps.old + 3 * length (proof_of proof.now).dict + 2 * length (proof_of proof.now).dict_digests + 1 }
 {
     let header = proof.header();
     let mut section = proof.dict();

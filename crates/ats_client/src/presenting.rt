@@ -4,7 +4,7 @@ ghost use Rattle.std.specs.Prelude.{◌≡◌, ◌<◌, ◌≤◌, ◌+◌, ◌^
 ghost use Rattle.ats_proof.specs.Value.{present_in};
 ghost use Rattle.ats_proof.specs.Views.{proof_of};
 ghost use Rattle.ats_client.specs.Presented.{presented_from};
-ghost use Rattle.ats_client.specs.Groups.{IsSlotRight};
+ghost use Rattle.ats_client.specs.Groups.{IsSlotRight, slot_at};
 ghost use Rattle.ats_client.specs.Lists.{prefix_of, prefixes_left, presented_of};
 ghost use Rattle.ats_client.specs.Seen.{entries_left};
 
@@ -47,7 +47,13 @@ pub(crate) fn present<'a>(
         ≡ presented_from (proof_of proof.now).dict (i + 1) (drop (i + 1) query.now) (drop (i + 1) (proof_of proof.now).slots) (prefixes_left left.new)) }
     ensures enough { present_in (drop (i + 1) (proof_of proof.now).slots) ≡ length (prefixes_left left.new) }
     ensures dict { walk.new.all ≡ walk.old.all }
+    ensures taken { IfSome result (λ one. prefixes_left left.old ≡ prefix_of one.list ∷ prefixes_left left.new) }
+    ensures kept { IfNone result (prefixes_left left.new ≡ prefixes_left left.old) }
+    ensures before { walk.old.place ≤ (slot_at (proof_of proof.now).slots i).index
+        → walk.new.place ≤ (slot_at (proof_of proof.now).slots i).index }
     ensures cost { steps.new ≤ steps.old + 2 ^ 17 }
+    ensures most { walk.old.place ≤ (slot_at (proof_of proof.now).slots i).index
+        → steps.new + length (entries_left walk.new.left) ≤ steps.old + length (entries_left walk.old.left) + 2 }
 {
     let slot = proof.slot(i, steps);
     if !slot.present {

@@ -1,6 +1,6 @@
 //! A section of shown leaves, each of which stands for a term.
 
-ghost use Rattle.std.specs.Prelude.{◌≡◌, ◌≤◌, ◌+◌, ◌^◌, ◌↔◌, ◌⊎◌, IsTrue, List, [], drop, slice_get, option_map};
+ghost use Rattle.std.specs.Prelude.{◌≡◌, ◌≤◌, ◌+◌, ◌^◌, ◌↔◌, ◌⊎◌, IsTrue, List, [], length, drop, slice_get, option_map};
 ghost use Rattle.ats_dict.specs.Dictionary.{IsBelow};
 ghost use Rattle.ats_client.specs.Slots.{Shown};
 
@@ -44,7 +44,8 @@ pub(crate) trait Section: Copy {
         requires room { steps.old ≤ 2 ^ 63 + 2 ^ 16 }
         ensures end { IsTrue result ⊎ (leaves self.old ≡ []) }
         ensures passed { leaves self.new ≡ drop 1 (leaves self.old) }
-        ensures cost { steps.new ≤ steps.old + 1 };
+        ensures cost { steps.new ≤ steps.old + 1 }
+        ensures most { steps.new + length (leaves self.new) ≤ steps.old + length (leaves self.old) };
 }
 
 /// The section without its first leaves, as many as there are.
@@ -52,6 +53,7 @@ pub(crate) fn passed<S: Section>(section: S, count: u16, steps: &mut Steps) -> S
     requires room { steps.old ≤ 2 ^ 63 }
     ensures passed { S.leaves result ≡ drop count (S.leaves section) }
     ensures cost { steps.new ≤ steps.old + count }
+    ensures most { steps.new + length (S.leaves result) ≤ steps.old + length (S.leaves section) }
 {
     let mut left = section;
     for _i in 0..count {

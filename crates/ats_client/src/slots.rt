@@ -1,6 +1,6 @@
 //! The slots of the query's terms.
 
-ghost use Rattle.std.specs.Prelude.{◌≡◌, ◌≤◌, ◌+◌, ◌^◌, OnOk, IfErr, length};
+ghost use Rattle.std.specs.Prelude.{◌≡◌, ◌≤◌, ◌+◌, ◌*◌, ◌^◌, OnOk, IfErr, length};
 ghost use Rattle.ats_proof.specs.Views.{proof_of};
 ghost use Rattle.ats_client.specs.Groups.{AreSlotsRight, IsSlotsFault};
 
@@ -17,6 +17,7 @@ pub(crate) fn slots(query: &Query, proof: &ProofView<'_>, steps: &mut Steps) -> 
     ensures kept { OnOk result (AreSlotsRight query.now (proof_of proof.now)) }
     ensures fault { IfErr result (IsSlotsFault query.now (proof_of proof.now)) }
     ensures cost { steps.new ≤ steps.old + 2 ^ 24 }
+    ensures most { steps.new ≤ steps.old + length (proof_of proof.now).dict + 2 * length (proof_of proof.now).slots }
 {
     let mut walk = Walk::over(proof.dict());
     for i in 0..query.len() {

@@ -1,7 +1,7 @@
 //! The shown leaves of a section, in one pass.
 
 ghost use Rattle.std.proofs.Props.{props};
-ghost use Rattle.std.specs.Prelude.{◌≡◌, ◌≤◌, ◌+◌, ◌^◌, ◌↔◌, IsTrue, map, drop, slice_get, option_map};
+ghost use Rattle.std.specs.Prelude.{◌≡◌, ◌≤◌, ◌+◌, ◌^◌, ◌↔◌, IsTrue, length, map, drop, slice_get, option_map};
 
 use crate::section::{Section, lies_between, passed};
 use ats_hash::Steps;
@@ -21,7 +21,9 @@ impl<S: Section> Walk<S> {
 
     /// All leaves.
     pub(crate) fn over(all: S) -> Self
-        ensures { result.all ≡ all }
+        ensures all { result.all ≡ all }
+        ensures left { result.left ≡ all }
+        ensures place { result.place ≡ 0 }
     {
         Walk {
             all,
@@ -36,7 +38,10 @@ impl<S: Section> Walk<S> {
         ensures same { self.new.all ≡ self.old.all }
         ensures leaf { option_map S.item result ≡ slice_get (S.leaves self.old.all) place }
         ensures left { S.leaves self.new.left ≡ drop place (S.leaves self.old.all) }
+        ensures place { self.new.place ≡ place }
         ensures cost { steps.new ≤ steps.old + 2 ^ 16 }
+        ensures most { self.old.place ≤ place
+            → steps.new + length (S.leaves self.new.left) ≤ steps.old + length (S.leaves self.old.left) }
     {
         let left = match place.checked_sub(self.place) {
             Some(count) => passed(self.left, count, steps),
@@ -55,7 +60,10 @@ impl<S: Section> Walk<S> {
         requires room { steps.old ≤ 2 ^ 62 + 2 ^ 60 }
         ensures same { self.new.all ≡ self.old.all }
         ensures shows { IsTrue result ↔ ShowsTerm (map S.shown (S.leaves self.old.all)) term.now slot }
+        ensures place { self.new.place ≡ slot.index }
         ensures cost { steps.new ≤ steps.old + 2 ^ 17 }
+        ensures most { self.old.place ≤ slot.index
+            → steps.new + length (S.leaves self.new.left) ≤ steps.old + length (S.leaves self.old.left) + 1 }
     {
         let Some(leaf) = self.leaf(slot.index, steps) else {
             return false;

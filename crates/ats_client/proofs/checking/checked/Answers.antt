@@ -1,7 +1,8 @@
-use Rattle.std.proofs.Common.{List, arith}
+use Rattle.std.proofs.Common.{◌≡◌, ◌+◌, List, length, refl, arith}
+use Rattle.std.specs.List.{sum_by}
 use Rattle.std.proofs.lemmas.Result.{err_from_is_err_and}
 use Rattle.ats_bound.specs.Cut.{ShownLane, bracket}
-use Rattle.ats_proof.specs.Value.{Proof}
+use Rattle.ats_proof.specs.Value.{Proof, items_of, items_of_prefix, items_of_documents}
 use Rattle.ats_proof.specs.Views.{proof_of}
 use Rattle.ats_client.specs.Accepts.{IsFirstRefusal}
 use Rattle.ats_client.specs.Bracketing.{bounds_of}
@@ -117,3 +118,135 @@ returns-clause-left g c = record {
   small = c.in_ok-threshold.ensures.small;
   inside = c.in_ok-rows.ensures.right.inside;
 }
+
+-- ---- the steps
+
+-- how many items a proof has
+items_are : (proof : Proof) → items_of proof
+    ≡ length proof.dict + length proof.dict_digests + length proof.slots + length proof.met + sum_by items_of_prefix proof.lists
+    + items_of_documents proof.docs + length proof.answer
+items_are proof = refl
+
+pub returns-in_err-opened-clause-steps : goal.returns-in_err-opened-clause-steps
+returns-in_err-opened-clause-steps g c =
+    omega (
+      arith,
+      items_are (proof_of c.args.proof.now),
+      c.opened.ensures.cost,
+    )
+
+pub returns-in_err-dictionary-clause-steps : goal.returns-in_err-dictionary-clause-steps
+returns-in_err-dictionary-clause-steps g c =
+    omega (
+      arith,
+      items_are (proof_of c.args.proof.now),
+      c.opened.ensures.cost,
+      c.dictionary.ensures.most,
+    )
+
+pub returns-in_err-slots-clause-steps : goal.returns-in_err-slots-clause-steps
+returns-in_err-slots-clause-steps g c =
+    omega (
+      arith,
+      items_are (proof_of c.args.proof.now),
+      c.opened.ensures.cost,
+      c.dictionary.ensures.most,
+      c.slots.ensures.most,
+    )
+
+pub returns-in_err-threshold-clause-steps : goal.returns-in_err-threshold-clause-steps
+returns-in_err-threshold-clause-steps g c =
+    omega (
+      arith,
+      items_are (proof_of c.args.proof.now),
+      c.opened.ensures.cost,
+      c.dictionary.ensures.most,
+      c.slots.ensures.most,
+      c.lists.ensures.most,
+    )
+
+pub returns-in_err-met-clause-steps : goal.returns-in_err-met-clause-steps
+returns-in_err-met-clause-steps g c =
+    omega (
+      arith,
+      items_are (proof_of c.args.proof.now),
+      c.opened.ensures.cost,
+      c.dictionary.ensures.most,
+      c.slots.ensures.most,
+      c.lists.ensures.most,
+      c.met.ensures.most,
+    )
+
+pub returns-in_err-documents_tree-clause-steps : goal.returns-in_err-documents_tree-clause-steps
+returns-in_err-documents_tree-clause-steps g c =
+    omega (
+      arith,
+      items_are (proof_of c.args.proof.now),
+      c.opened.ensures.cost,
+      c.dictionary.ensures.most,
+      c.slots.ensures.most,
+      c.lists.ensures.most,
+      c.met.ensures.most,
+      c.documents_tree.ensures.most,
+    )
+
+pub returns-in_err-documents-clause-steps : goal.returns-in_err-documents-clause-steps
+returns-in_err-documents-clause-steps g c =
+    omega (
+      arith,
+      items_are (proof_of c.args.proof.now),
+      c.opened.ensures.cost,
+      c.dictionary.ensures.most,
+      c.slots.ensures.most,
+      c.lists.ensures.most,
+      c.met.ensures.most,
+      c.documents_tree.ensures.most,
+      c.documents.ensures.most,
+    )
+
+pub returns-in_err-rows-clause-steps : goal.returns-in_err-rows-clause-steps
+returns-in_err-rows-clause-steps g c =
+    omega (
+      arith,
+      items_are (proof_of c.args.proof.now),
+      c.opened.ensures.cost,
+      c.dictionary.ensures.most,
+      c.slots.ensures.most,
+      c.lists.ensures.most,
+      c.met.ensures.most,
+      c.documents_tree.ensures.most,
+      c.documents.ensures.most,
+      c.rows.ensures.most,
+    )
+
+pub returns-then-not-settled-clause-steps : goal.returns-then-not-settled-clause-steps
+returns-then-not-settled-clause-steps g c =
+    omega (
+      arith,
+      items_are (proof_of c.args.proof.now),
+      c.opened.ensures.cost,
+      c.dictionary.ensures.most,
+      c.slots.ensures.most,
+      c.lists.ensures.most,
+      c.met.ensures.most,
+      c.documents_tree.ensures.most,
+      c.documents.ensures.most,
+      c.rows.ensures.most,
+      c.settled.ensures.most,
+    )
+
+pub returns-clause-steps : goal.returns-clause-steps
+returns-clause-steps g c =
+    omega (
+      arith,
+      items_are (proof_of c.args.proof.now),
+      c.opened.ensures.cost,
+      c.dictionary.ensures.most,
+      c.slots.ensures.most,
+      c.lists.ensures.most,
+      c.met.ensures.most,
+      c.documents_tree.ensures.most,
+      c.documents.ensures.most,
+      c.rows.ensures.most,
+      c.settled.ensures.most,
+    )

@@ -34,7 +34,7 @@ loop-i-init g c =
       looked = ap (λ (ones : List Presented). first_collision H (ours H (g.O.OwnStrings.archive c.args.own.now) query) (flat_map (list_strings H (layout_of proof) proof.met) ones)) here;
       right = subst (All (IsListRight H (layout_of proof) proof.met)) here c.requires.right;
       enough = sym (ap (λ (l : List Prefix). length l) all ∙ size);
-      dict = ap entries_left c.over-walk.ensures ∙ c.dict.ensures.entries;
+      dict = ap entries_left c.over-walk.ensures.all ∙ c.dict.ensures.entries;
       cost = omega arith;
     }
 

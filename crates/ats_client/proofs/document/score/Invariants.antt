@@ -1,10 +1,11 @@
-use Rattle.std.proofs.Common.{◌≡◌, ◌<◌, ◌≤◌, ◌+◌, ◌*◌, ℕ, drop}
+use Rattle.std.proofs.Common.{◌≡◌, ◌<◌, ◌≤◌, ◌+◌, ◌*◌, ℕ, length, drop}
 use Rattle.ats_bound.specs.Lookup.{looked_score, looked_score_from}
 use Rattle.ats_proof.specs.SeenDocs.{section_of}
 use Rattle.ats_client.specs.Bracketing.{impact_shown}
 use Rattle.ats_client.specs.Documents.{IsTermSlotRight}
 use Rattle.ats_client.specs.PresentTerms.{numbers_of, bare_lanes}
 use Rattle.ats_client.specs.SeenTerms.{terms_left, document_of}
+use Rattle.ats_client.proofs.Rising.{IsBefore}
 use Rattle.ats_client.proofs.document.score.Given as goal
 
 abbrev pub invariant-loop-i : goal.invariant-loop-i
@@ -15,4 +16,6 @@ invariant-loop-i l = record {
       ≡ looked_score (λ i other. impact_shown (section_of l.doc) i) (bare_lanes l.terms) (document_of l.doc).doc;
   small : l.score ≤ l.i * 8589934592;
   cost : l.steps ≤ l.fn.steps + l.i * 262144;
+  before : IsBefore l.walk.place (section_of l.doc).slots l.i;
+  most : l.steps + length (terms_left l.walk.left) ≤ l.fn.steps + length (section_of l.doc).leaves + 2 * l.i;
 }

@@ -4,7 +4,8 @@ use Rattle.std.proofs.lemmas.Option.{slice_get-get_or}
 use Rattle.std.proofs.lemmas.Result.{err_from_is_err_and}
 use Rattle.ats_bound.specs.Lookup.{looked_score}
 use Rattle.ats_proof.specs.SeenDocs.{documents_of, ids_of, doc_leaves_of, sections_of, section_of}
-use Rattle.ats_proof.specs.Value.{TermsSection, Documents, Proof, present_in}
+use Rattle.ats_proof.specs.Value.{TermsSection, Documents, Proof, present_in, items_of_section}
+use Rattle.ats_proof.specs.Ranges.{IsSectionInRange}
 use Rattle.ats_proof.specs.Views.{proof_of}
 use Rattle.ats_client.specs.declared.present_terms.PresentTerm.{PresentTerm}
 use Rattle.ats_client.specs.declared.refusal.Refusal.{Refusal}
@@ -13,6 +14,7 @@ use Rattle.ats_client.specs.Documents.{present_numbers, IsDocumentRight, documen
 use Rattle.ats_client.specs.PresentTerms.{numbers_of, bare_lanes}
 use Rattle.ats_client.specs.Rules.{IsFirstFault}
 use Rattle.ats_client.specs.SeenTerms.{document_of}
+use Rattle.ats_client.proofs.Counts.{taken, sum_taken}
 use Rattle.ats_client.proofs.Faults.{passed_on}
 use Rattle.ats_client.proofs.PresentNumbers.{kept_numbers, kept_count, kept_within}
 use Rattle.ats_client.proofs.Presents.{at_front, at_place}
@@ -32,6 +34,7 @@ loop-index-init g c = record {
       c.args.work.now.marks c.requires.met refl refl c.requires.marks c.requires.free;
   room = refl;
   cost = omega arith;
+  most = omega arith;
 }
 
 pub unreachable-requires : goal.unreachable-requires
@@ -51,6 +54,14 @@ document-requires-clause-each g c =
     let slots : length section.slots ≡ present_in proof.slots =
     at_place (λ (s : TermsSection). length s.slots ≡ present_in proof.slots) docs.sections c.loop-index.index section c.requires.parts.slot_each at in
     slots ∙ sym (kept_count query proof c.requires.slots) ∙ ap (λ (terms : List PresentTerm). length terms) (sym c.requires.terms)
+
+pub document-requires-clause-spots : goal.document-requires-clause-spots
+document-requires-clause-spots g c =
+    let proof : Proof = proof_of c.args.proof.now in
+    let docs : Documents = documents_of c.args.docs in
+    let section : TermsSection = section_of c.in-Some.doc in
+    let at = first_at g.H.HashKind.hash c.args.query.now proof docs docs.sections (sections_of c.loop-index.left) c.loop-index.index section c.loop-index.invariant.tried.sections_left c.in-Some.ensures.section in
+    (at_place IsSectionInRange docs.sections c.loop-index.index section (c.args.proof.now.in_range.shown docs c.requires.docs).sections at).spots
 
 pub document-requires-clause-numbers : goal.document-requires-clause-numbers
 document-requires-clause-numbers g c =
@@ -74,6 +85,20 @@ returns-in_err-score-clause-fault g c =
     let told = err_from_is_err_and c.from_residual.result c.from_residual.ensures.1 in
     passed_on (IsDocumentsFault H query proof) _ told.0 _ told.1 told.2 fault
 
+pub returns-in_err-score-clause-most : goal.returns-in_err-score-clause-most
+returns-in_err-score-clause-most g c =
+    let section : TermsSection = section_of c.in-Some.doc in
+    let left = taken (sections_of c.loop-index.left) (sections_of c.next.new.self) section c.in-Some.ensures.section c.in-Some.ensures.passed_sections in
+    omega (
+      arith,
+      c.document.ensures.most,
+      c.next.ensures.cost,
+      sum_taken items_of_section (sections_of c.loop-index.left) (sections_of c.next.new.self) section left,
+      c.loop-index.invariant.most,
+      c.loop-index-test.true,
+      c.met-index-end.ensures,
+    )
+
 pub loop-index-preserved : goal.loop-index-preserved
 loop-index-preserved g c =
     let H = g.H.HashKind.hash in
@@ -83,6 +108,7 @@ loop-index-preserved g c =
     let one = document_of c.in-Some.doc in
     let numbers : numbers_of c.args.terms.now ≡ present_numbers proof = ap numbers_of c.requires.terms ∙ kept_numbers query proof c.requires.slots in
     let right = subst (λ (ns : List ℕ). IsDocumentRight H query ns one) numbers c.in_ok-score.ensures.right in
+    let left = taken (sections_of c.loop-index.left) (sections_of c.next.new.self) one.section c.in-Some.ensures.section c.in-Some.ensures.passed_sections in
     let scores = subst (λ (terms : List PresentTerm). c.in_ok-score.score ≡ looked_score (λ i other. impact_shown one.section i) (bare_lanes terms) one.doc) c.requires.terms c.in_ok-score.ensures.score in
     record {
       tried = tries H query proof (documents_of c.args.docs) j (ids_of c.loop-index.left) (ids_of c.next.new.self) (doc_leaves_of c.loop-index.left) (doc_leaves_of c.next.new.self)
@@ -92,6 +118,14 @@ loop-index-preserved g c =
           c.noted.ensures.marks;
       room = c.noted.ensures.room ∙ c.loop-index.invariant.room;
       cost = omega (arith, c.noted.ensures.cost, c.document.ensures.cost, c.next.ensures.cost, c.loop-index.invariant.cost);
+      most = omega (
+        arith,
+        c.noted.ensures.cost,
+        c.document.ensures.most,
+        c.next.ensures.cost,
+        sum_taken items_of_section (sections_of c.loop-index.left) (sections_of c.next.new.self) one.section left,
+        c.loop-index.invariant.most,
+      );
     }
 
 pub returns-clause-right : goal.returns-clause-right

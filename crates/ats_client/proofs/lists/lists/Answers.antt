@@ -1,6 +1,8 @@
-use Rattle.std.proofs.Common.{◌≡◌, ◌+◌, ◌++◌, ◌∙◌, ℕ, List, [], ◌∷◌, length, drop, replicate, sym, ap, subst, arith}
+use Rattle.std.proofs.Common.{◌≡◌, ◌<◌, ◌≤◌, ◌+◌, ◌++◌, ◌∙◌, ℕ, List, [], ◌∷◌, length, drop, replicate, sym, ap, subst, arith}
+use Rattle.std.specs.List.{sum_by}
 use Rattle.ats_bound.specs.Work.{Marked, zero_mark}
-use Rattle.ats_proof.specs.Value.{Prefix, present_in}
+use Rattle.ats_proof.specs.Value.{ShownEntry, Prefix, present_in, items_of_prefix}
+use Rattle.ats_proof.specs.declared.dict.DictView.{DictView}
 use Rattle.ats_proof.specs.Reading.{prefix_size, prefix_in, slots_in, lists_place}
 use Rattle.ats_proof.specs.Views.{proof_of}
 use Rattle.ats_proof.proofs.Runs.{length-parts}
@@ -11,6 +13,9 @@ use Rattle.ats_client.specs.declared.present_terms.PresentTerm.{PresentTerm}
 use Rattle.ats_client.specs.Presented.{Presented}
 use Rattle.ats_client.specs.PresentTerms.{kept_term}
 use Rattle.ats_client.specs.Noting.{Note, AreNotes, index_lane, lane_notes, notes_of}
+use Rattle.ats_client.specs.Groups.{slot_at}
+use Rattle.ats_client.proofs.Counts.{sum_taken}
+use Rattle.ats_client.proofs.Rising.{before_first, before_next}
 use Rattle.ats_client.proofs.Passing.{begins, passes_absent, passes_present, done, marks_done, free_done, rests_done, IsPassed}
 use Rattle.ats_client.proofs.lists.lists.Goals as goal
 use Rattle.ats_client.proofs.lists.lists.Goals.{in-Some+in_ok-threshold, in_default}
@@ -26,9 +31,18 @@ loop-i-init g c =
     let zeros : c.begin.new.self.marks ≡ replicate (length proof.met) zero_mark = ap (λ (w : Marked). w.marks) c.begin.ensures.marks ∙ ap (λ (n : ℕ). replicate n zero_mark) c.met.ensures in
     record {
       passed = begins g.H.HashKind.hash c.args.query.now proof (prefixes_left c.lists-left.result) c.args.terms.now c.begin.new.self.marks all enough zeros c.requires.none;
-      dict = ap entries_left c.over-walk.ensures ∙ c.dict.ensures.entries;
+      dict = ap entries_left c.over-walk.ensures.all ∙ c.dict.ensures.entries;
       room = ap (λ (w : Marked). w.room) c.begin.ensures.marks;
       cost = omega (arith, c.begin.ensures.steps, c.met.type_inv);
+      before = before_first c.over-walk.result.place proof.slots c.over-walk.ensures.place;
+      most = omega (
+        arith,
+        c.begin.ensures.steps,
+        c.met.ensures,
+        ap (λ (view : DictView). length (entries_left view)) c.over-walk.ensures.left,
+        ap (λ (dict : List ShownEntry). length dict) c.dict.ensures.entries,
+        ap (sum_by items_of_prefix) all,
+      );
     }
 
 pub list-requires-clause-notes : goal.list-requires-clause-notes
@@ -36,6 +50,21 @@ list-requires-clause-notes g c =
     let proof = proof_of c.args.proof.now in
     let p = c.loop-i.invariant.passed in
     (notes_of proof.header.documents p.before, subst (λ (k : ℕ). AreNotes (length proof.met) (notes_of proof.header.documents p.before) (k + 1) [] c.loop-i.work.marks) (sym c.in-Some.ensures.number) p.notes)
+
+pub returns-in_err-threshold-clause-most : goal.returns-in_err-threshold-clause-most
+returns-in_err-threshold-clause-most g c =
+    let proof = proof_of c.args.proof.now in
+    let i = c.loop-i.i in
+    let one : Presented = presented_of c.in-Some.one in
+    let low : i < length proof.slots = omega (arith, c.loop-i-test.true, c.len-i-end.ensures.value, c.requires.each) in
+    let here : c.loop-i.walk.place ≤ (slot_at proof.slots i).index = c.loop-i.invariant.before i (omega arith) low in
+    omega (
+      arith,
+      c.list.ensures.most,
+      c.in-Some.ensures.most here,
+      sum_taken items_of_prefix (prefixes_left c.loop-i.left) (prefixes_left c.present.new.left) one.prefix c.in-Some.ensures.taken,
+      c.loop-i.invariant.most,
+    )
 
 pub loop-i-preserved : goal.loop-i-preserved
 loop-i-preserved g c =
@@ -46,6 +75,9 @@ loop-i-preserved g c =
     let left : List Prefix = prefixes_left c.loop-i.left in
     let after : List Prefix = prefixes_left c.present.new.left in
     let p = c.loop-i.invariant.passed in
+    let low : i < length proof.slots = omega (arith, c.loop-i-test.true, c.len-i-end.ensures.value, c.requires.each) in
+    let here : c.loop-i.walk.place ≤ (slot_at proof.slots i).index = c.loop-i.invariant.before i (omega arith) low in
+    let rise = c.args.proof.now.in_range.spots.rise in
     elim c.match-present.branch [
       | in-Some+in_ok-threshold w ↦
           let one : Presented = presented_of w.in-Some.one in
@@ -62,6 +94,15 @@ loop-i-preserved g c =
             dict = ap entries_left w.in-Some.ensures.dict ∙ c.loop-i.invariant.dict;
             room = ap (λ (m : Marked). m.room) w.work-is ∙ w.in_ok-threshold.ensures.room ∙ c.loop-i.invariant.room;
             cost = omega (arith, w.steps-is, w.in_ok-threshold.ensures.cost, w.in-Some.ensures.cost, c.loop-i.invariant.cost);
+            before = before_next c.present.new.walk.place proof.slots i rise (w.in-Some.ensures.before here);
+            most = omega (
+              arith,
+              w.steps-is,
+              w.in_ok-threshold.ensures.most,
+              w.in-Some.ensures.most here,
+              sum_taken items_of_prefix left after one.prefix w.in-Some.ensures.taken,
+              c.loop-i.invariant.most,
+            );
           }
       | in_default w ↦
           let passed = passes_absent H query proof i left after c.loop-i.terms c.loop-i.threshold c.loop-i.work.marks p w.in_default.ensures.none w.in_default.ensures.enough in
@@ -72,6 +113,8 @@ loop-i-preserved g c =
             dict = ap entries_left w.in_default.ensures.dict ∙ c.loop-i.invariant.dict;
             room = ap (λ (m : Marked). m.room) w.work-is ∙ c.loop-i.invariant.room;
             cost = omega (arith, w.steps-is, w.in_default.ensures.cost, c.loop-i.invariant.cost);
+            before = before_next c.present.new.walk.place proof.slots i rise (w.in_default.ensures.before here);
+            most = omega (arith, w.steps-is, w.in_default.ensures.most here, ap (sum_by items_of_prefix) w.in_default.ensures.kept, c.loop-i.invariant.most);
           }
     ]
 

@@ -1,10 +1,12 @@
-use Rattle.std.proofs.Common.{◌≡◌, ◌∙◌, List, [], length, get_or, slice_get, Some, None, sym, ap}
+use Rattle.std.proofs.Common.{◌≡◌, ◌∙◌, List, [], length, get_or, slice_get, Some, None, sym, ap, arith}
 use Rattle.std.proofs.lemmas.Bool.{not-true, not-false}
 use Rattle.std.proofs.lemmas.Option.{slice_get-get_or}
 use Rattle.ats_proof.specs.Value.{ShownEntry, Prefix}
 use Rattle.ats_proof.specs.Views.{proof_of}
 use Rattle.ats_client.specs.Seen.{shown_of}
 use Rattle.ats_client.specs.Lists.{prefix_of, prefixes_left}
+use Rattle.ats_client.proofs.Counts.{taken}
+use Rattle.ats_client.proofs.Rising.{index_is}
 use Rattle.ats_client.proofs.Presents.{none_present, one_present, entry_there, prefix_there, fewer_absent, prefixes_fewer, has_leaf, has_prefix, same_one}
 use Rattle.ats_client.proofs.presenting.present.Goals as goal
 
@@ -50,3 +52,16 @@ returns-clause-enough c =
     prefixes_fewer (proof_of c.args.proof.now).slots c.args.i (prefixes_left c.args.left.now) c.slot-slot.result c.slot-slot.ensures.slot
     (not-false c.slot-slot.result.present c.if-not-slot.false) c.requires.enough
     ∙ ap (λ (more : List Prefix). length more) (sym c.next_list.ensures.passed)
+
+pub returns-clause-taken : goal.returns-clause-taken
+returns-clause-taken c =
+    taken (prefixes_left c.args.left.now) (prefixes_left c.next_list.new.left) (prefix_of c.in-Some-next_list.list) c.in-Some-next_list.ensures.first c.next_list.ensures.passed
+
+pub returns-clause-before : goal.returns-clause-before
+returns-clause-before c low =
+    omega (arith, c.in-Some.ensures.place, index_is (proof_of c.args.proof.now).slots c.args.i c.slot-slot.result c.slot-slot.ensures.slot)
+
+pub returns-clause-most : goal.returns-clause-most
+returns-clause-most c low =
+    let at = index_is (proof_of c.args.proof.now).slots c.args.i c.slot-slot.result c.slot-slot.ensures.slot in
+    omega (arith, c.in-Some.ensures.most (omega (arith, at, low)), c.next_list.ensures.cost, c.slot-slot.ensures.cost)

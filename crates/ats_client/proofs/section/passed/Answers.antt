@@ -13,4 +13,5 @@ pub loop-i-preserved : goal.loop-i-preserved
 loop-i-preserved g c = record {
   left = one_more (g.S.Section.leaves c.args.section) (g.S.Section.leaves c.loop-i.left) _ c.loop-i._i c.pass.ensures.passed c.loop-i.invariant.left;
   cost = omega (arith, c.pass.ensures.cost, c.loop-i.invariant.cost);
+  most = omega (arith, c.pass.ensures.most, c.loop-i.invariant.most);
 }
