@@ -1,0 +1,1042 @@
+#!/usr/bin/env python3
+"""Makes the files of this folder: `vectors/make.py [PROGRAM]`, where PROGRAM is `./ats` at the top unless it is said.
+
+Every root, proof and printed line comes from the program. What this script makes itself are the changes of honest
+proofs, and the few trees that no archive has; the program then says what it thinks of them. README.md explains the
+files. Python's standard library is all that is needed.
+"""
+import copy
+import hashlib
+import json
+import subprocess
+import sys
+import tempfile
+from dataclasses import dataclass, field
+from pathlib import Path
+
+HERE = Path(__file__).resolve().parent
+TOP = HERE.parent
+LONGEST = 2**26
+NOTHING = bytes(32)
+
+
+# The program
+
+class Program:
+    """The program over files in a folder of its own."""
+
+    def __init__(self, path, folder):
+        self.path = str(path)
+        self.folder = Path(folder)
+
+    def run(self, *words):
+        done = subprocess.run([self.path, *words], cwd=self.folder, stdout=subprocess.PIPE, check=False)
+        return done.returncode, done.stdout.decode()
+
+    def done(self, *words):
+        status, text = self.run(*words)
+        if status != 0:
+            raise SystemExit(f'{words}: status {status}: {text}')
+        return text
+
+    def build(self, texts):
+        """The bytes of the index, and the root in hexadecimal."""
+        (self.folder / 'collection').write_text(json.dumps(texts), encoding='ascii')
+        root = self.done('build', 'collection', 'index').strip()
+        return (self.folder / 'index').read_bytes(), root
+
+    def rank(self, r, query):
+        return self.done('rank', 'collection', str(r), query)
+
+    def prove(self, index, algorithm, r, query):
+        (self.folder / 'index').write_bytes(index)
+        self.done('prove', 'index', algorithm, str(r), query, 'proof')
+        return (self.folder / 'proof').read_bytes()
+
+    def verify(self, root, r, query, proof):
+        """The status and the lines."""
+        (self.folder / 'proof').write_bytes(proof)
+        status, text = self.run('verify', root, str(r), query, 'proof')
+        return {'status': status, 'lines': text.splitlines()}
+
+
+# Trees
+
+def digest(data):
+    return hashlib.sha256(data).digest()
+
+
+def number(value, size):
+    return value.to_bytes(size, 'big')
+
+
+def split(count):
+    """The greatest power of two below the count."""
+    return 1 << ((count - 1).bit_length() - 1)
+
+
+def tree_root(leaves):
+    if len(leaves) == 1:
+        return digest(b'\0' + leaves[0])
+    middle = split(len(leaves))
+    return digest(b'\1' + tree_root(leaves[:middle]) + tree_root(leaves[middle:]))
+
+
+def elided(leaves, shown, start=0):
+    """The digests of the maximal subtrees without a shown position, from left to right."""
+    if not any(start <= at < start + len(leaves) for at in shown):
+        return [tree_root(leaves)]
+    if len(leaves) == 1:
+        return []
+    middle = split(len(leaves))
+    return elided(leaves[:middle], shown, start) + elided(leaves[middle:], shown, start + middle)
+
+
+def rebuilt(count, shown, digests, start=0):
+    """The root of so many leaves, of which some are shown as pairs; the digests are taken from the front."""
+    if not shown:
+        return digests.pop(0)
+    if count == 1:
+        return digest(b'\0' + shown[0][1])
+    middle = split(count)
+    left = rebuilt(middle, [leaf for leaf in shown if leaf[0] < start + middle], digests, start)
+    right = rebuilt(count - middle, [leaf for leaf in shown if leaf[0] >= start + middle], digests, start + middle)
+    return digest(b'\1' + left + right)
+
+
+def dictionary_leaf(term, count, root):
+    return number(len(term), 1) + term + number(count, 4) + root
+
+
+def terms_leaf(term, impact):
+    return number(len(term), 1) + term + number(impact, 2)
+
+
+def list_leaf(document, impact):
+    return number(document, 4) + number(impact, 2)
+
+
+def documents_leaf(count, root):
+    return number(count, 4) + root
+
+
+def root_of_header(header):
+    return digest(b'\2' + header).hex()
+
+
+# Archives
+
+class Archive:
+    """What the bytes of an index say, with all trees made anew."""
+
+    def __init__(self, index):
+        self.index = index
+        self.at = 5
+        self.texts = [self.take(self.number(4)) for _ in range(self.number(4))]
+        self.lists = {}
+        for _ in range(self.number(4)):
+            term = self.take(self.number(1))
+            self.lists[term] = [(self.number(4), self.number(2)) for _ in range(self.number(4))]
+        told = self.take(32).hex()
+        self.make_trees()
+        if self.root != told:
+            raise SystemExit('the trees of this script have another root than the program tells')
+
+    def take(self, size):
+        self.at += size
+        return self.index[self.at - size:self.at]
+
+    def number(self, size):
+        return int.from_bytes(self.take(size), 'big')
+
+    def make_trees(self):
+        entries = [(term, len(entries), tree_root([list_leaf(*entry) for entry in entries]))
+                   for term, entries in sorted(self.lists.items())]
+        self.dictionary = [(b'', 0, NOTHING), *entries, (b'\xff', 0, NOTHING)]
+        self.documents = [[(b'', 0)] for _ in self.texts]
+        for term, entries in sorted(self.lists.items()):
+            for document, impact in entries:
+                self.documents[document].append((term, impact))
+        for terms in self.documents:
+            terms.append((b'\xff', 0))
+        self.document_leaves = [documents_leaf(len(terms), tree_root([terms_leaf(*leaf) for leaf in terms]))
+                                for terms in self.documents]
+        roots = [tree_root([dictionary_leaf(*leaf) for leaf in self.dictionary]), tree_root(self.document_leaves),
+                 tree_root(self.texts)]
+        self.header = Header(1, len(self.texts), len(self.dictionary), roots)
+        self.root = root_of_header(self.header.data())
+
+    def list_leaves(self, term):
+        return [list_leaf(*entry) for entry in self.lists[term]]
+
+    def terms_section(self, document, positions):
+        """Leaves and digests of a document's terms, where these positions are shown."""
+        terms = self.documents[document]
+        leaves = [(at, *terms[at]) for at in positions]
+        return leaves, elided([terms_leaf(*leaf) for leaf in terms], positions)
+
+
+# Proofs
+
+@dataclass
+class Header:
+    version: int
+    documents: int
+    leaves: int
+    roots: list
+
+    def data(self):
+        return b''.join(data for _, data in self.fields())
+
+    def fields(self):
+        yield 'version of the header', number(self.version, 1)
+        yield 'number of documents', number(self.documents, 4)
+        yield 'number of dictionary leaves', number(self.leaves, 4)
+        for name, root in zip(('dictionary', 'documents', 'texts'), self.roots):
+            yield f'root of the {name}', root
+
+
+@dataclass
+class Prefix:
+    entries: list
+    digests: list
+
+
+@dataclass
+class Section:
+    leaves: list
+    digests: list
+    slots: list
+
+
+@dataclass
+class Proof:
+    """The fields of a proof. A count stands in `counts` by its name only where it is to be told wrong."""
+    algorithm: int
+    header: Header
+    terms: int
+    leaves: list
+    digests: list
+    slots: list
+    met: list
+    prefixes: list
+    documents: list = field(default_factory=list)
+    document_digests: list = field(default_factory=list)
+    sections: list = field(default_factory=list)
+    rows: list = field(default_factory=list)
+
+    def data(self):
+        return b''.join(data for _, data in self.fields())
+
+    def fields(self):
+        """Each field's name and bytes, in order."""
+        yield 'magic', b'ATSP'
+        yield 'version', number(1, 1)
+        yield 'algorithm', number(self.algorithm, 1)
+        yield from self.header.fields()
+        yield 'number of terms', number(self.terms, 2)
+        yield 'dictionary: number of leaves', number(len(self.leaves), 2)
+        for at, term, count, root in self.leaves:
+            yield 'dictionary leaf: position', number(at, 4)
+            yield from term_fields('dictionary leaf', term)
+            yield 'dictionary leaf: number of documents', number(count, 4)
+            yield 'dictionary leaf: root of the list', root
+        yield from digest_fields('dictionary', self.digests, 2)
+        yield from slot_fields('slot', self.slots)
+        yield 'number of met documents', number(len(self.met), 4)
+        for document in self.met:
+            yield 'met document', number(document, 4)
+        for prefix in self.prefixes:
+            yield 'list: number of entries', number(len(prefix.entries), 4)
+            for place, impact in prefix.entries:
+                yield 'entry: place among the met documents', number(place, 4)
+                yield 'entry: impact', number(impact, 2)
+            yield from digest_fields('list', prefix.digests, 2)
+        if self.algorithm == 1:
+            yield from self.document_fields()
+        yield 'number of rows', number(len(self.rows), 2)
+        for row in self.rows:
+            yield 'row: place among the met documents', number(row, 4)
+
+    def document_fields(self):
+        for count, root in self.documents:
+            yield 'documents leaf: number of leaves of its terms', number(count, 4)
+            yield 'documents leaf: root of its terms', root
+        yield from digest_fields('documents', self.document_digests, 4)
+        for section in self.sections:
+            yield 'terms: number of leaves', number(len(section.leaves), 2)
+            for at, term, impact in section.leaves:
+                yield 'terms leaf: position', number(at, 4)
+                yield from term_fields('terms leaf', term)
+                yield 'terms leaf: impact', number(impact, 2)
+            yield from digest_fields('terms', section.digests, 2)
+            yield from slot_fields('terms slot', section.slots)
+
+
+def term_fields(name, term):
+    yield f'{name}: length of the term', number(len(term), 1)
+    yield f'{name}: term', term
+
+
+def digest_fields(name, digests, size):
+    yield f'{name}: number of digests', number(len(digests), size)
+    for each in digests:
+        yield f'{name}: digest', each
+
+
+def slot_fields(name, slots):
+    for kind, index in slots:
+        yield f'{name}: kind', number(kind, 1)
+        yield f'{name}: index', number(index, 2)
+
+
+class Reader:
+    """Reads the bytes of an honest proof."""
+
+    def __init__(self, data):
+        self.data = data
+        self.at = 4
+
+    def take(self, size):
+        self.at += size
+        return self.data[self.at - size:self.at]
+
+    def number(self, size):
+        return int.from_bytes(self.take(size), 'big')
+
+    def digests(self, size):
+        return [self.take(32) for _ in range(self.number(size))]
+
+    def slots(self, count):
+        return [(self.number(1), self.number(2)) for _ in range(count)]
+
+    def proof(self):
+        self.number(1)
+        algorithm = self.number(1)
+        header = Header(self.number(1), self.number(4), self.number(4), [self.take(32) for _ in range(3)])
+        terms = self.number(2)
+        leaves = [(self.number(4), self.take(self.number(1)), self.number(4), self.take(32))
+                  for _ in range(self.number(2))]
+        digests = self.digests(2)
+        slots = self.slots(terms)
+        met = [self.number(4) for _ in range(self.number(4))]
+        present = sum(kind for kind, _ in slots)
+        proof = Proof(algorithm, header, terms, leaves, digests, slots, met, [self.prefix() for _ in range(present)])
+        if algorithm == 1:
+            proof.documents = [(self.number(4), self.take(32)) for _ in met]
+            proof.document_digests = self.digests(4)
+            proof.sections = [self.section(present) for _ in met]
+        proof.rows = [self.number(4) for _ in range(self.number(2))]
+        if proof.data() != self.data:
+            raise SystemExit('this script spells a proof in another way than the program')
+        return proof
+
+    def prefix(self):
+        entries = [(self.number(4), self.number(2)) for _ in range(self.number(4))]
+        return Prefix(entries, self.digests(2))
+
+    def section(self, present):
+        leaves = [(self.number(4), self.take(self.number(1)), self.number(2)) for _ in range(self.number(2))]
+        return Section(leaves, self.digests(2), self.slots(present))
+
+
+def with_places(proof):
+    """Each field's name, first byte and end."""
+    at = 0
+    for name, data in proof.fields():
+        yield name, at, at + len(data)
+        at += len(data)
+
+
+def patched(data, changes):
+    for start, end, hexadecimal in reversed(changes):
+        data = data[:start] + bytes.fromhex(hexadecimal) + data[end:]
+    return data
+
+
+def difference(old, new):
+    """One change that turns the old bytes into the new ones, without what they have in common at both ends."""
+    start = 0
+    while start < min(len(old), len(new)) and old[start] == new[start]:
+        start += 1
+    kept = 0
+    while kept < min(len(old), len(new)) - start and old[-1 - kept] == new[-1 - kept]:
+        kept += 1
+    return [[start, len(old) - kept, new[start:len(new) - kept].hex()]]
+
+
+# The collections and the questions
+
+def drawn_texts():
+    """Texts of small words, of which few are frequent and many are rare."""
+    state, texts = 1, []
+    for document in range(40):
+        words = []
+        for _ in range(4 + document % 7):
+            state = (6364136223846793005 * state + 1442695040888963407) % 2**64
+            words.append(f'w{((state >> 33) % 13) * ((state >> 45) % 13) // 13}')
+        texts.append(' '.join(words))
+    return texts
+
+
+COLLECTIONS = {
+    'foxes': ['red fox', 'red red hen', 'blue hen'],
+    'silent': ['!!'],
+    'street': ['Stra\u00dfe'],
+    'dogs': ["The quick brown fox doesn't jump.", 'The lazy dog sleeps. The dog dreams.'],
+    'ties': ['ant bee', 'bee ant', 'ant ant cat', 'bee cat', 'cat', 'dog bee', 'ant bee', '', '...'],
+    'beyond': [
+        'Stra\u00dfe und Gasse', 'STRASSE, Stra\u00dfe!', '\u039f\u0394\u039f\u03a3 \u03bf\u03b4\u03cc\u03c2',
+        '\u041c\u043e\u0441\u043a\u0432\u0430 \u2014 \u041c\u041e\u0421\u041a\u0412\u0410',
+        '\u6771\u4eac\u30bf\u30ef\u30fc', '\ufb01n fin \u00bd \u2167', 'na\u00efve nai\u0308ve', '\ua7ce \ua7cf',
+        "L'\u00e9t\u00e9 \u05e9\u05f4\u05e1 x\u0345y",
+    ],
+    'drawn': drawn_texts(),
+    'sample': [item['text'] for item in json.loads((TOP / 'examples/archive.json').read_text(encoding='utf-8'))],
+}
+
+QUESTIONS = {
+    'two terms': ('foxes', 1, 'red hen'), 'two terms, two rows': ('foxes', 2, 'red hen'),
+    'two terms, three rows': ('foxes', 3, 'RED hen'), 'one term': ('foxes', 5, 'fox'),
+    'absent, behind all': ('foxes', 1, 'zebra'), 'absent, before all': ('foxes', 1, 'aaa'),
+    'a term twice': ('foxes', 1, 'red hen hen'), 'bounds that differ': ('foxes', 1, 'fox red'),
+    'present and absent': ('foxes', 2, 'aaa red hen zebra'), 'more rows than documents': ('foxes', 1000, 'red'),
+    'four terms': ('foxes', 2, 'hen blue red fox'), 'a term 255 times': ('foxes', 1, 'red ' * 255),
+    '32 terms': ('foxes', 1, 'red ' + ' '.join(f'a{i}' for i in range(31))),
+    'no term in the archive': ('silent', 1, 'red'), 'folded': ('street', 1, 'STRASSE'),
+    'two documents': ('dogs', 10, 'The dog'), 'an apostrophe': ('dogs', 1, "DOESN'T"),
+    'a tie for one row': ('ties', 1, 'ant'), 'a tie for two rows': ('ties', 2, 'ant'),
+    'ties of two terms': ('ties', 3, 'ant bee'), 'a tie of many': ('ties', 4, 'bee'),
+    'two rare terms': ('ties', 1000, 'cat dog'),
+    'sharp s': ('beyond', 3, 'STRASSE'), 'Greek': ('beyond', 2, '\u039f\u0394\u039f\u03a3'),
+    'Cyrillic': ('beyond', 1, '\u043c\u043e\u0441\u043a\u0432\u0430'),
+    'Japanese': ('beyond', 2, '\u6771 \u30bf\u30ef\u30fc'), 'a ligature and numbers': ('beyond', 2, 'FIN \u00bd \u2177'),
+    'of Unicode 17': ('beyond', 1, '\ua7ce'), 'marks': ('beyond', 2, "na\u00efve l'\u00e9t\u00e9 X\u03b9Y"),
+    'a frequent word': ('drawn', 3, 'w0'), 'two drawn words': ('drawn', 2, 'w3 w5'),
+    'drawn words, one twice': ('drawn', 1, 'w1 w8 w8'),
+    'the sample': ('sample', 3, 'blood count'), 'the court': ('sample', 1, 'the court'),
+}
+
+
+def honest(program, archives):
+    """Each question by each algorithm, with the proof and the lines that verify prints of it."""
+    proofs = {}
+    for name, (archive, r, query) in QUESTIONS.items():
+        for algorithm in ('tnra', 'tra'):
+            data = program.prove(archives[archive].index, algorithm, r, query)
+            root = archives[archive].root
+            told = program.verify(root, r, query, data)
+            proofs[f'{name} by {algorithm}'] = {
+                'archive': archive, 'root': root, 'algorithm': algorithm, 'r': r, 'query': query, **told,
+                'proof': data.hex(),
+            }
+    return proofs
+
+
+# What the tables of Unicode decide
+
+WORDS = [
+    'red fox', 'RED Fox red', "doesn't", 'doesn\u2019t', "can't've", "'quoted'", 'a.b', 'example.com.', '3.14',
+    '1,000.50', '1, 2', '1.a', 'a:b', 'a\u00b7b', 'foo_bar __init__', '_', 'x-ray', 'user@example.org', 'e2e 2nd',
+    'Stra\u00dfe STRASSE', '\u1e9e', '\ufb01n', '\u0149', '\u0130stanbul', 'ISTANBUL \u0131stanbul',
+    '\u039f\u0394\u039f\u03a3 \u03bf\u03b4\u03bf\u03c2 \u03bf\u03b4\u03cc\u03c2', '\u1fb3 \u0391\u0399', '\u01c4 \u01c5 \u01c6',
+    '\u212a \u212b', '\u00e9 e\u0301', '\u041c\u041e\u0421\u041a\u0412\u0410 \u0401', '\u0540\u0561\u0575 \u0587',
+    '\u13a0 \uab70', '\u1c90 \u10d0', '\u6771\u4eac\u30bf\u30ef\u30fc', '\u3072\u3089', '\uff76\uff80\uff76\uff85',
+    '\ud55c\uad6d\uc5b4', '\u0e44\u0e17\u0e22', '\u05e9\u05f4\u05e1 \u05e9"\u05e1 a"b', '\u0633\u0644\u0627\u0645',
+    '\u0939\u093f\u0928\u094d\u0926\u0940', '\u00bd \u00b2 \u2460', '\u2160 \u2167', '\u24b6 \u24d0', '\u0345', ' \u0345',
+    'x\u0345y', '\U0001f44d \U0001f600', '1\ufe0f\u20e3', '\U0001f1e9\U0001f1ea', 'soft\u00adhyphen', 'zero\u200dwidth',
+    'zero\u200bwidth', 'a\u0000b', 'a\r\nb', '\uff11\uff12\uff13 \uff21', '\u0663\u066b\u0661\u0664', '\U0001d400',
+    'a\u0378b', '\ue000', '\ufeffa', '\u1c89 \u1c8a', '\ua7ce \ua7cf', '\ua7dd \u0277', '\U00016ea0 \U00016ebb',
+    'a' * 64, 'a' * 65, '\u00df' * 32, '\u00df' * 33, '\u0130' * 22, '\u4e00' + 'b' * 63,
+]
+
+
+def terms_of(program, text):
+    """The terms of a text with their counts, which stand in the index of the text alone."""
+    archive = Archive(program.build([text])[0])
+    impacts = {1 + 22000 * count // (10 * count + 12): count for count in range(1, 50)}
+    return [[term.decode(), impacts[entries[0][1]]] for term, entries in sorted(archive.lists.items())]
+
+
+# Numbers: documents, documents that have the term, how often each of these has it, and other words there
+
+NUMBERS = [
+    (1, 1, 1, 0), (2, 1, 1, 0), (3, 1, 1, 1), (3, 2, 1, 2), (5, 2, 3, 1), (36, 5, 2, 10), (100, 100, 3, 7),
+    (1000, 1, 1, 0), (1000, 10, 4, 60), (5000, 40, 1, 200), (65536, 1, 1, 0), (65536, 2, 7, 900), (65536, 65536, 1, 0),
+    (1, 1, 100000, 0),
+]
+
+
+def told_numbers(program, documents, having, count, others):
+    """What the program tells of a term, by its score and by its entry in the index."""
+    with_term = ' '.join(['x'] * count + ['y'] * others)
+    index, _ = program.build([with_term] * having + ['y'] * (documents - having))
+    impact = Archive(index).lists[b'x'][0][1]
+    score = int(program.rank(1, 'x').split()[2])
+    length = count + others
+    return {
+        'N': documents, 'f': having, 'idf': score // impact, 'c': count, 'len': length,
+        'T': having * length + documents - having, 'impact': impact, 'score': score,
+    }
+
+
+# What is refused by its numbers alone: R, the query, and the length of the proof
+
+# The query is the text so many times; the proof is so many zero bytes.
+INPUTS = [
+    (0, 'red', 1, 0), (1001, 'red', 1, 0), (0, '...', 1, 0), (1, '...', 1, 0), (1, '', 1, 0), (1, 'a', 65, 0),
+    (1, 'a', 4001, 0), (1, '\u00e9', 2001, 0), (1, 'a ', 256, 0), (1, ' '.join(f'a{i}' for i in range(33)), 1, 0),
+    (1, '\U0001f600', 1, 0), (1, 'red', 1, 0), (1, 'red', 1, LONGEST), (1, 'red', 1, LONGEST + 1),
+]
+
+
+def told_input(program, r, text, times, zeros):
+    answer = program.verify(NOTHING.hex(), r, text * times, bytes(zeros))
+    return {'r': r, 'text': text, 'times': times, 'zeros': zeros, **answer}
+
+
+# Changes of bytes: faults of shape
+
+RANGES = {
+    'magic': (0x41545350, 0x41545350), 'version': (1, 1), 'algorithm': (1, 2), 'version of the header': (1, 1),
+    'number of documents': (1, 65536), 'number of dictionary leaves': (2, 16777218), 'number of terms': (1, 32),
+    'dictionary: number of leaves': (1, 64), 'dictionary leaf: length of the term': (0, 64), 'slot: kind': (0, 1),
+    'number of met documents': (0, 65536), 'list: number of entries': (1, 65536),
+    'documents: number of digests': (0, 65536), 'terms: number of leaves': (1, 64),
+    'terms leaf: length of the term': (0, 64), 'terms slot: kind': (0, 1), 'number of rows': (0, 1000),
+}
+
+# Fields that stand alike in proofs of both algorithms, and behind which others come.
+COMMON = {
+    'magic', 'version', 'algorithm', 'version of the header', 'number of documents', 'number of dictionary leaves',
+    'root of the dictionary', 'root of the documents', 'root of the texts', 'number of terms',
+    'dictionary: number of leaves', 'dictionary leaf: position', 'dictionary leaf: length of the term',
+    'dictionary leaf: term', 'dictionary leaf: number of documents', 'dictionary leaf: root of the list',
+    'dictionary: number of digests', 'dictionary: digest', 'slot: kind', 'slot: index', 'number of met documents',
+}
+
+RISING = ['dictionary leaf: position', 'slot: index', 'met document', 'terms leaf: position', 'terms slot: index']
+
+
+def cuts(data, places):
+    """The bytes cut in the first field of each name, before its last byte; what both algorithms have, for one."""
+    for name, (_, end) in places.items():
+        if data[5] == 1 and name in COMMON:
+            continue
+        yield f'cut in: {name}', data[:end - 1]
+    yield 'no bytes', b''
+    yield 'cut behind the front', data[:6]
+    yield 'without the last byte', data[:-1]
+
+
+def out_of_range(data, places):
+    """The first field of each name just below its range and just above it."""
+    for name, (least, greatest) in RANGES.items():
+        if name in places:
+            start, end = places[name]
+            for value in (least - 1, greatest + 1):
+                if value >= 0:
+                    yield f'{name}: {value}', data[:start] + number(value, end - start) + data[end:]
+
+
+def not_rising(proof, data):
+    """The second field of each name as great as the first and, where it can be, less; ids and positions must rise."""
+    for name in RISING:
+        places = [(start, end) for each, start, end in with_places(proof) if each == name]
+        if len(places) < 2:
+            continue
+        (start, end), (other, last) = places[:2]
+        first = int.from_bytes(data[start:end], 'big')
+        for value in (first, first - 1):
+            if value >= 0:
+                yield f'{name}: {value} behind {first}', data[:other] + number(value, last - other) + data[last:]
+
+
+def shape_changes(data):
+    proof = Reader(data).proof()
+    places = {}
+    for name, start, end in with_places(proof):
+        if end > start:
+            places.setdefault(name, (start, end))
+    yield from cuts(data, places)
+    yield from out_of_range(data, places)
+    yield from not_rising(proof, data)
+    yield 'one byte more', data + b'\0'
+    yield 'the bytes twice', data + data
+    yield 'the other algorithm is told', data[:5] + number(3 - data[5], 1) + data[6:]
+    yield 'two faults: the first field tells', b'BTSP' + number(2, 1) + data[5:]
+    yield 'a field that is cut is not tried for its range', data[:111] + b'\0'
+
+
+# Changes of parts: refusals by the check, and what is accepted all the same
+
+def entry(at, place, impact=None):
+    """Lets an entry of a list name this place among the met documents, or have this impact too."""
+    def change(proof, which):
+        entries = proof.prefixes[which].entries
+        entries[at] = (place, entries[at][1] if impact is None else impact)
+    return change
+
+
+def with_entry(which, at, place, impact=None):
+    return lambda proof, archive: entry(at, place, impact)(proof, which)
+
+
+def shown_leaves(positions):
+    """Shows these leaves of the dictionary, with the digests that they need. Slots that are present stay with their terms."""
+    def change(proof, archive):
+        of_slots = [(kind, proof.leaves[index][0]) for kind, index in proof.slots]
+        proof.leaves = [(at, *archive.dictionary[at]) for at in positions]
+        proof.digests = elided([dictionary_leaf(*leaf) for leaf in archive.dictionary], positions)
+        proof.slots = [(kind, positions.index(at)) for kind, at in of_slots]
+    return change
+
+
+def longer_lists(counts):
+    """Shows so many entries of each list, the documents that they name, and rows for the same documents as before."""
+    def change(proof, archive):
+        terms = [leaf[1] for leaf in (proof.leaves[index] for kind, index in proof.slots if kind)]
+        documents = [proof.met[row] for row in proof.rows]
+        entries = [archive.lists[term][:count] for term, count in zip(terms, counts)]
+        proof.met = sorted({document for shown in entries for document, _ in shown})
+        proof.prefixes = [
+            Prefix([(proof.met.index(document), impact) for document, impact in shown],
+                   elided(archive.list_leaves(term), range(len(shown))))
+            for term, shown in zip(terms, entries)
+        ]
+        proof.rows = [proof.met.index(document) for document in documents]
+        if proof.algorithm == 1:
+            show_documents(proof, archive, terms)
+    return change
+
+
+def show_documents(proof, archive, terms):
+    """The leaves, digests and slots that a proof with random access shows of its met documents."""
+    leaves = archive.document_leaves
+    proof.documents = [(int.from_bytes(leaves[at][:4], 'big'), leaves[at][4:]) for at in proof.met]
+    proof.document_digests = elided(leaves, proof.met)
+    proof.sections = []
+    for document in proof.met:
+        own = [leaf[0] for leaf in archive.documents[document]]
+        spots = [own.index(term) if term in own else max(at for at, each in enumerate(own) if each < term) for term in terms]
+        positions = sorted({at for term, spot in zip(terms, spots) for at in ([spot] if term in own else [spot, spot + 1])})
+        section = Section(*archive.terms_section(document, positions), [])
+        section.slots = [(int(term in own), positions.index(spot)) for term, spot in zip(terms, spots)]
+        proof.sections.append(section)
+
+
+def more_terms(which):
+    """Shows all leaves of a met document's terms."""
+    def change(proof, archive):
+        section, document = proof.sections[which], proof.met[which]
+        spots = [section.leaves[index][0] for _, index in section.slots]
+        section.leaves, section.digests = archive.terms_section(document, range(len(archive.documents[document])))
+        section.slots = [(kind, spot) for (kind, _), spot in zip(section.slots, spots)]
+    return change
+
+
+def more_met(documents):
+    """Says that further documents are met, which no entry names."""
+    def change(proof, archive):
+        proof.met += documents
+        for _ in documents if proof.algorithm == 1 else []:
+            proof.documents.append((2, NOTHING))
+            proof.sections.append(Section([(0, b'', 0)], [], [(0, 0)] * len(proof.prefixes)))
+    return change
+
+
+def rows(*places):
+    def change(proof, archive):
+        proof.rows = list(places)
+    return change
+
+
+def assigned(part, at, value):
+    """Puts a value at a place of a list of the proof."""
+    return lambda proof, archive: getattr(proof, part).__setitem__(at, value)
+
+
+def leaf_with(part, at, which, value):
+    """Puts a value into a shown leaf, a slot or a documents leaf."""
+    def change(proof, archive):
+        leaf = list(getattr(proof, part)[at])
+        leaf[which] = value
+        getattr(proof, part)[at] = tuple(leaf)
+    return change
+
+
+def section_with(which, at, field_at, value, part='leaves'):
+    """The same in a met document's terms."""
+    def change(proof, archive):
+        items = getattr(proof.sections[which], part)
+        item = list(items[at])
+        item[field_at] = value
+        items[at] = tuple(item)
+    return change
+
+
+def absent(at):
+    """Tells a present term absent, and leaves its list out."""
+    def change(proof, archive):
+        which = sum(kind for kind, _ in proof.slots[:at])
+        proof.slots[at] = (0, proof.slots[at][1])
+        del proof.prefixes[which]
+        for section in proof.sections:
+            del section.slots[which]
+    return change
+
+
+def all_of(*changes):
+    def change(proof, archive):
+        for each in changes:
+            each(proof, archive)
+    return change
+
+
+def header_with(**parts):
+    def change(proof, archive):
+        for name, value in parts.items():
+            setattr(proof.header, name, value)
+    return change
+
+
+def digests_of(where, change):
+    """Changes the digests of the dictionary, or of a part of the proof."""
+    return lambda proof, archive: change(where(proof))
+
+
+OTHER = bytes(range(32))
+DICTIONARY = lambda proof: proof.digests
+LISTS = lambda which: lambda proof: proof.prefixes[which].digests
+DOCUMENTS = lambda proof: proof.document_digests
+TERMS = lambda which: lambda proof: proof.sections[which].digests
+DROP = lambda digests: digests.pop()
+ADD = lambda digests: digests.append(OTHER)
+BEND = lambda digests: digests.__setitem__(0, OTHER)
+
+FOXES, FOXES_3, ONE_FOX, ZEBRA = 'two terms', 'two terms, three rows', 'one term', 'absent, behind all'
+TIES, TIED, BEE, CAT_DOG = 'a tie for one row', 'a tie for two rows', 'a tie of many', 'two rare terms'
+WITH_ABSENT, EARLY, SILENT = 'present and absent', 'bounds that differ', 'no term in the archive'
+COURT = 'the court'
+
+BOTH = [
+    # the header and the number of terms
+    (FOXES, 'the header has another number of documents', header_with(documents=4)),
+    (FOXES, 'another root of the texts', lambda proof, archive: assigned('roots', 2, OTHER)(proof.header, archive)),
+    # the dictionary
+    (FOXES, 'dictionary: a position at the number of leaves', leaf_with('leaves', 1, 0, 6)),
+    (FOXES, 'dictionary: a digest too few', digests_of(DICTIONARY, DROP)),
+    (FOXES, 'dictionary: a digest too many', digests_of(DICTIONARY, ADD)),
+    (FOXES, 'dictionary: another digest', digests_of(DICTIONARY, BEND)),
+    (FOXES, 'dictionary: another number of documents of a term', leaf_with('leaves', 0, 2, 1)),
+    (FOXES, 'dictionary: another root of a list', leaf_with('leaves', 1, 3, OTHER)),
+    (FOXES, 'dictionary: another term', leaf_with('leaves', 0, 1, b'heN')),
+    (FOXES, 'dictionary: a position that needs as many digests', leaf_with('leaves', 1, 0, 5)),
+    (FOXES, 'dictionary: all leaves are shown', shown_leaves(list(range(6)))),
+    (ZEBRA, 'dictionary: all leaves are shown, for an absent term', shown_leaves(list(range(6)))),
+    # the slots
+    (FOXES, 'slot: another leaf', leaf_with('slots', 0, 1, 1)),
+    (FOXES, 'slot: no such leaf', leaf_with('slots', 1, 1, 2)),
+    (FOXES, 'slot: both are wrong', all_of(leaf_with('slots', 0, 1, 1), leaf_with('slots', 1, 1, 9))),
+    (FOXES, 'slot: a present term is told absent', absent(0)),
+    (FOXES, 'slot: a present term is told absent at the last leaf', absent(1)),
+    (ZEBRA, 'slot: no leaf behind an absent term', leaf_with('slots', 0, 1, 1)),
+    (ZEBRA, 'slot: an absent term between leaves that are no neighbours', lambda proof, archive: (
+        shown_leaves([3, 4, 5])(proof, archive), proof.leaves.pop(1), proof.slots.__setitem__(0, (0, 0)),
+        setattr(proof, 'digests', elided([dictionary_leaf(*leaf) for leaf in archive.dictionary], [3, 5])))),
+    # the lists
+    (FOXES, 'list: an entry names no met document', with_entry(0, 0, 3)),
+    (FOXES, 'list: an entry names no met document by far', with_entry(1, 0, 2**32 - 1)),
+    (FOXES, 'list: another impact', with_entry(0, 0, 2, 1064)),
+    (FOXES, 'list: another document', with_entry(0, 0, 0)),
+    (FOXES, 'list: a digest too many', digests_of(LISTS(0), ADD)),
+    (FOXES, 'list: a digest too many in the last list', digests_of(LISTS(1), ADD)),
+    (FOXES, 'list: more entries than the list has',
+     lambda proof, archive: proof.prefixes[1].entries.append((2, 1))),
+    (COURT, 'list: a digest too few', digests_of(LISTS(0), DROP)),
+    (COURT, 'list: another digest', digests_of(LISTS(1), BEND)),
+    (BEE, 'list: places 0, 0, 99', all_of(with_entry(0, 0, 0), with_entry(0, 1, 0), with_entry(0, 2, 99))),
+    (BEE, 'list: places 0, 99, 0', all_of(with_entry(0, 0, 0), with_entry(0, 1, 99), with_entry(0, 2, 0))),
+    (WITH_ABSENT, 'list: the number of a term counts absent ones', with_entry(0, 0, 2, 1)),
+    (WITH_ABSENT, 'list: a document twice', lambda proof, archive: entry(
+        1, proof.prefixes[1].entries[0][0])(proof, 1)),
+    # the met documents
+    (FOXES, 'met: a document that no entry names', more_met([9])),
+    (FOXES, 'met: two documents that no entry names', more_met([7, 9])),
+    # the rows
+    (FOXES, 'row: no met document', rows(3)),
+    (FOXES, 'row: the second names no met document', rows(1, 99)),
+    (FOXES, 'row: the document of an earlier row', rows(1, 1)),
+    (FOXES_3, 'row: places 1, 1, 99', rows(1, 1, 99)),
+    (FOXES_3, 'row: places 1, 99, 1', rows(1, 99, 1)),
+    # the answer
+    (FOXES, 'answer: two rows where one is asked for', rows(1, 0)),
+    (FOXES, 'answer: another document', rows(0)),
+    (FOXES, 'answer: no row', rows()),
+    (FOXES_3, 'answer: one row too few, where nothing unseen is left', rows(1, 0)),
+    (FOXES_3, 'answer: the first two rows exchanged', rows(0, 1, 2)),
+    (FOXES_3, 'answer: the two rows that tie exchanged', rows(1, 2, 0)),
+    (TIED, 'answer: rows exchanged', lambda proof, archive: proof.rows.reverse()),
+    (TIES, 'answer: no row', rows()),
+    (SILENT, 'answer: a row where nothing is met', rows(0)),
+    (CAT_DOG, 'answer: a row is left out', lambda proof, archive: proof.rows.pop()),
+    # more than is needed
+    (EARLY, 'longer: whole lists', longer_lists([1, 2])),
+    (TIES, 'longer: one entry more', longer_lists([2])),
+    (BEE, 'longer: the whole list', longer_lists([5])),
+    (BEE, 'longer: the whole list, and others of those that tie', all_of(longer_lists([5]), rows(4, 0, 3, 1))),
+    # two faults
+    (FOXES, 'two: header and dictionary', all_of(header_with(leaves=7), digests_of(DICTIONARY, DROP))),
+    (FOXES, 'two: dictionary and slot', all_of(digests_of(DICTIONARY, BEND), leaf_with('slots', 1, 1, 2))),
+    (FOXES, 'two: slot and entry', all_of(leaf_with('slots', 1, 1, 2), with_entry(0, 0, 3))),
+    (FOXES, 'two: root of the first list and entry of the second', all_of(with_entry(0, 0, 2, 1), with_entry(1, 0, 3))),
+    (FOXES, 'two: entry and digests of one list', all_of(with_entry(1, 1, 3), digests_of(LISTS(1), ADD))),
+    (FOXES, 'two: list and met documents', all_of(more_met([9]), with_entry(1, 1, 0, 1))),
+    (FOXES, 'two: met documents and row', all_of(more_met([9]), rows(4))),
+]
+
+TRA_ALONE = [
+    (ONE_FOX, 'documents: a digest too few', digests_of(DOCUMENTS, DROP)),
+    (ONE_FOX, 'documents: another digest', digests_of(DOCUMENTS, BEND)),
+    (FOXES, 'documents: a digest too many', digests_of(DOCUMENTS, ADD)),
+    (FOXES, 'documents: another number of terms', leaf_with('documents', 0, 0, 5)),
+    (FOXES, 'documents: another root of terms', leaf_with('documents', 2, 1, OTHER)),
+    (SILENT, 'documents: nothing is met, and no digest', digests_of(DOCUMENTS, DROP)),
+    (SILENT, 'documents: nothing is met, and another digest', digests_of(DOCUMENTS, BEND)),
+    (FOXES, 'terms: a position at the number of leaves', section_with(0, 1, 0, 4)),
+    (FOXES, 'terms: a digest too few', digests_of(TERMS(0), DROP)),
+    (FOXES, 'terms: a digest too many', digests_of(TERMS(2), ADD)),
+    (FOXES, 'terms: another digest', digests_of(TERMS(1), BEND)),
+    (FOXES, 'terms: another impact', section_with(1, 0, 2, 897)),
+    (FOXES, 'terms: another term', section_with(2, 0, 1, b'heN')),
+    (FOXES, 'terms slot: an absent term behind its neighbours', section_with(0, 0, 1, 1, 'slots')),
+    (FOXES, 'terms slot: an absent term is told present', section_with(0, 0, 0, 1, 'slots')),
+    (FOXES, 'terms slot: a present term is told absent', section_with(0, 1, 0, 0, 'slots')),
+    (FOXES, 'terms slot: no such leaf', section_with(1, 1, 1, 7, 'slots')),
+    (WITH_ABSENT, 'terms slot: the number of a term counts absent ones', section_with(1, 1, 1, 7, 'slots')),
+    (EARLY, 'terms: all leaves are shown', more_terms(0)),
+    (FOXES, 'terms: all leaves are shown of each', all_of(more_terms(0), more_terms(1), more_terms(2))),
+    (FOXES, 'answer: the threshold is above the last row', lambda proof, archive: (
+        longer_lists([1, 1])(proof, archive), setattr(proof, 'rows', [0, 1])), {'r': 2}),
+    (FOXES, 'two: met documents and documents', all_of(more_met([9]), digests_of(DOCUMENTS, ADD))),
+    (FOXES, 'two: documents and terms', all_of(leaf_with('documents', 0, 0, 5), section_with(0, 0, 2, 1))),
+    (FOXES, 'two: digests and slot of one document',
+     all_of(digests_of(TERMS(0), ADD), section_with(0, 0, 1, 1, 'slots'))),
+    (FOXES, 'two: slot of document 0 and digests of document 1',
+     all_of(section_with(0, 1, 0, 0, 'slots'), digests_of(TERMS(1), ADD))),
+    (FOXES, 'two: terms and row', all_of(section_with(2, 0, 2, 1), rows(3))),
+]
+
+# The same bytes for another question, or under another root.
+ASKED = [
+    (FOXES, 'under another root', {'root': NOTHING.hex()}),
+    (FOXES, 'for another number of terms', {'query': 'hen'}),
+    (FOXES, 'for another number of terms, under another root', {'query': 'hen', 'root': NOTHING.hex()}),
+    (FOXES, 'for another term', {'query': 'red fox'}),
+    (FOXES, 'for two rows', {'r': 2}),
+    (FOXES_3, 'for two rows', {'r': 2}),
+    (FOXES_3, 'for a thousand rows', {'r': 1000}),
+    (FOXES, 'for a term that weighs twice', {'query': 'red red hen'}),
+    (EARLY, 'for a term that weighs nine times', {'query': 'red' + ' fox' * 9}),
+    (COURT, 'for two rows', {'r': 2}),
+]
+
+
+def changed(program, archives, proofs):
+    """Changes of honest proofs, each with what the program prints of it."""
+    told = []
+
+    def tell(of, about, changes, **asked):
+        honest_one = proofs[of]
+        question = {name: asked.get(name, honest_one[name]) for name in ('root', 'r', 'query')}
+        data = patched(bytes.fromhex(honest_one['proof']), changes)
+        answer = program.verify(question['root'], question['r'], question['query'], data)
+        told.append({'of': of, 'about': about, **asked, 'changes': changes, **answer})
+
+    for algorithm in ('tnra', 'tra'):
+        of = f'{FOXES} by {algorithm}'
+        data = bytes.fromhex(proofs[of]['proof'])
+        for about, new in shape_changes(data):
+            tell(of, about, difference(data, new))
+        for name, about, change, *asked in BOTH + (TRA_ALONE if algorithm == 'tra' else []):
+            of = f'{name} by {algorithm}'
+            data = bytes.fromhex(proofs[of]['proof'])
+            proof = copy.deepcopy(Reader(data).proof())
+            change(proof, archives[proofs[of]['archive']])
+            tell(of, about, difference(data, proof.data()), **(asked[0] if asked else {}))
+        for name, about, asked in ASKED:
+            tell(f'{name} by {algorithm}', about, [], **asked)
+    return told
+
+
+# Trees that no archive has: what the check does not ask
+
+class Made:
+    """A dictionary, documents and lists at will, and the proof that shows of them what is said."""
+
+    def __init__(self, documents, **parts):
+        self.proof = Proof(2, Header(1, documents, 0, [NOTHING, NOTHING, NOTHING]), 1, [], [], [], [], [], rows=[0])
+        for name, value in parts.items():
+            setattr(self.proof, name, value)
+
+    def list_root(self, count, entries, digests=()):
+        """Shows the first entries of a list, pairs of a document and an impact, and answers its root."""
+        proof = self.proof
+        proof.prefixes.append(Prefix([(proof.met.index(each), impact) for each, impact in entries], list(digests)))
+        shown = [(at, list_leaf(*each)) for at, each in enumerate(entries)]
+        return rebuilt(count, shown, list(digests)) if count else NOTHING
+
+    def dictionary(self, count, leaves, digests=()):
+        """Shows leaves of a dictionary of so many: position, term, number of documents, root of the list."""
+        proof = self.proof
+        proof.leaves, proof.digests, proof.header.leaves = leaves, list(digests), count
+        shown = [(leaf[0], dictionary_leaf(*leaf[1:])) for leaf in leaves]
+        proof.header.roots[0] = rebuilt(count, shown, list(digests))
+
+    def documents(self, leaves, digests, sections):
+        """Shows the leaves of the met documents, and a section for each."""
+        proof = self.proof
+        proof.algorithm, proof.documents, proof.document_digests, proof.sections = 1, leaves, list(digests), sections
+        shown = [(at, documents_leaf(*leaf)) for at, leaf in zip(proof.met, leaves) if at < proof.header.documents]
+        proof.header.roots[1] = rebuilt(proof.header.documents, shown, list(digests))
+
+
+def one_list(documents, count, entries, digests=(), rows=(0,), term=b'x'):
+    """A dictionary of one term between sentinels, with this list."""
+    made = Made(documents, met=sorted({each for each, _ in entries}), slots=[(1, 0)], rows=list(rows))
+    root = made.list_root(count, entries, digests)
+    made.dictionary(3, [(1, term, count, root)], [OTHER, OTHER])
+    return made
+
+
+def random_access(documents, entries, counts, sections, digests, rows=(0,)):
+    """The same by random access: each met document has so many leaves of terms, and this section."""
+    made = one_list(documents, len(entries), entries, rows=rows)
+    leaves = []
+    for count, section in zip(counts, sections):
+        shown = [(leaf[0], terms_leaf(*leaf[1:])) for leaf in section.leaves]
+        leaves.append((count, rebuilt(count, shown, list(section.digests)) if count else NOTHING))
+    made.documents(leaves, digests, sections)
+    return made
+
+
+def whole_dictionary(leaves, places):
+    """A dictionary of these terms, all shown, of which two are present, each with a list of one entry of document 0."""
+    made = Made(5, terms=2, met=[0], slots=[(1, at) for at in places])
+    roots = {at: made.list_root(1, [(0, 100 + which)]) for which, at in enumerate(places)}
+    made.dictionary(len(leaves), [(at, term, 1, roots.get(at, OTHER)) for at, term in enumerate(leaves)])
+    return made
+
+
+def made_proofs():
+    """Each with what it shows, and its question."""
+    def has(impact):
+        return Section([(1, b'x', impact)], [OTHER, OTHER], [(1, 0)])
+    digests = lambda count: [digest(number(at, 1)) for at in range(count)]
+    yield 'a met document at the number of documents', one_list(1, 1, [(1, 5)]), 1, 'x'
+    yield 'a met document far above the number of documents', one_list(1, 1, [(2**32 - 1, 5)]), 1, 'x'
+    yield 'more entries than documents', one_list(2, 3, [(0, 7), (1, 6), (2, 5)]), 1, 'x'
+    yield 'the greatest number of entries', one_list(2, 2**32 - 1, [(0, 7)], digests(32)), 1, 'x'
+    yield 'impacts that rise', one_list(5, 2, [(0, 5), (1, 9)], rows=(1, 0)), 2, 'x'
+    yield 'impacts that rise, and not all are shown', one_list(5, 4, [(0, 5), (1, 9)], digests(1), rows=(1,)), 1, 'x'
+    yield 'an impact of 0', one_list(5, 1, [(0, 0)]), 1, 'x'
+    yield 'a last shown impact of 0, with entries behind it', one_list(5, 4, [(0, 7), (1, 0)], digests(1), (0, 1)), 9, 'x'
+    yield 'the greatest score', one_list(65536, 1, [(3, 65535)]), 1, 'x ' * 255
+    yield 'the greatest threshold', one_list(65536, 2, [(3, 65535)], digests(1)), 1, 'x ' * 255
+    yield 'impacts that rise, and the threshold is above the last row', one_list(
+        5, 4, [(0, 5), (1, 9)], digests(1), rows=(1, 0)), 2, 'x'
+    yield 'terms out of order', whole_dictionary([b'z', b'x', b'a', b'y'], [1, 3]), 1, 'y x'
+    yield 'a dictionary with no sentinel', whole_dictionary([b'x', b'y'], [0, 1]), 1, 'x y'
+    yield 'no entries in a list of none', one_list(5, 0, [(0, 5)]), 1, 'x'
+    twice = one_list(5, 1, [(0, 5)])
+    twice.dictionary(2, [(0, b'x', 9, OTHER), (1, b'x', 1, twice.proof.leaves[0][3])])
+    twice.proof.slots = [(1, 1)]
+    yield 'a term that stands twice in the dictionary', twice, 1, 'x'
+    largest = one_list(5, 1, [(0, 5)])
+    largest.dictionary(16777218, [(16777217, b'x', 1, largest.proof.leaves[0][3])], digests(2))
+    yield 'the greatest dictionary, and its last leaf', largest, 1, 'x'
+    between = Made(5, slots=[(0, 0)], rows=[])
+    between.dictionary(4, [(1, b'w', 1, OTHER), (2, b'z', 1, OTHER)], digests(2))
+    yield 'absent between terms that are no sentinels', between, 1, 'x'
+    yield 'random access: a met document at the number of documents', random_access(
+        1, [(1, 5)], [3], [has(5)], digests(1)), 1, 'x'
+    yield 'random access: the list and the document tell two impacts', random_access(
+        5, [(1, 5)], [3], [has(9)], digests(3)), 1, 'x'
+    yield 'random access: the document has not the term of its list', random_access(
+        5, [(1, 5)], [2], [Section([(0, b'', 0), (1, b'\xff', 0)], [], [(0, 0)])], digests(3)), 1, 'x'
+    yield 'random access: a document of no leaf', random_access(5, [(1, 5)], [0], [has(5)], digests(3)), 1, 'x'
+    yield 'random access: the greatest number of leaves', random_access(
+        5, [(1, 5)], [2**32 - 1], [Section([(0, b'x', 6)], digests(32), [(1, 0)])], digests(3)), 1, 'x'
+    yield 'random access: the greatest score', random_access(
+        65536, [(0, 1)], [1], [Section([(0, b'x', 65535)], [], [(1, 0)])], digests(16)), 1, 'x ' * 255
+
+
+def made_answers(program):
+    told = []
+    for about, made, r, query in made_proofs():
+        data = made.proof.data()
+        root = root_of_header(made.proof.header.data())
+        answer = program.verify(root, r, query, data)
+        told.append({'about': about, 'root': root, 'r': r, 'query': query, **answer, 'proof': data.hex()})
+    return told
+
+
+# The files
+
+REFUSALS = {
+    'other-root', 'slot-count', 'dict-misfit', 'dict-root', 'slot-wrong', 'index-out', 'repeated', 'list-misfit',
+    'list-root', 'unmet', 'docs-misfit', 'docs-root', 'terms-misfit', 'terms-root', 'term-slot', 'answer-out',
+    'answer-repeated', 'not-settled',
+}
+SHAPES = {'cut', 'magic', 'version', 'algorithm', 'count', 'order', 'trailing'}
+DOCUMENTS_ALONE = {'docs-misfit', 'docs-root', 'terms-misfit', 'terms-root', 'term-slot'}
+
+
+def look_over(told):
+    """Each refusal and each kind of fault must have come, by each algorithm that has it."""
+    for algorithm, wanted in (('tnra', REFUSALS - DOCUMENTS_ALONE), ('tra', REFUSALS)):
+        words = [each['lines'][0].split() for each in told if each['of'].endswith(algorithm) and each['status'] == 1]
+        missing = (wanted - {line[1] for line in words}) | (SHAPES - {line[2] for line in words if line[1] == 'shape'})
+        if missing:
+            raise SystemExit(f'{algorithm}: no vector for {sorted(missing)}')
+
+
+def save(name, items):
+    """A list with an item in each line, or an object with a member in each."""
+    if isinstance(items, dict):
+        lines, ends = [f'{json.dumps(key)}: {json.dumps(value)}' for key, value in items.items()], '{}'
+    else:
+        lines, ends = [json.dumps(item) for item in items], '[]'
+    (HERE / name).write_text(ends[0] + '\n' + ',\n'.join(lines) + '\n' + ends[1] + '\n', encoding='ascii')
+
+
+def main(words):
+    with tempfile.TemporaryDirectory() as folder:
+        program = Program(Path(words[0]).resolve() if words else TOP / 'ats', folder)
+        archives = {}
+        for name, texts in COLLECTIONS.items():
+            index, root = program.build(texts)
+            archives[name] = Archive(index)
+        proofs = honest(program, archives)
+        told = changed(program, archives, proofs)
+        look_over(told)
+        save('archives.json', {
+            name: {'root': archive.root, 'header': archive.header.data().hex(),
+                   **({'file': 'examples/archive.json'} if name == 'sample' else {'texts': COLLECTIONS[name]})}
+            for name, archive in archives.items()
+        })
+        save('proofs.json', proofs)
+        save('changed.json', told)
+        save('made.json', made_answers(program))
+        save('words.json', [{'text': text, 'terms': terms_of(program, text)} for text in WORDS])
+        save('numbers.json', [told_numbers(program, *each) for each in NUMBERS])
+        save('inputs.json', [told_input(program, *each) for each in INPUTS])
+        save('fields.json', {
+            name: [[start, end, label, proofs[name]['proof'][2 * start:2 * end]]
+                   for label, start, end in with_places(Reader(bytes.fromhex(proofs[name]['proof'])).proof())]
+            for name in (f'{FOXES} by tnra', f'{FOXES} by tra')
+        })
+
+
+if __name__ == '__main__':
+    main(sys.argv[1:])
