@@ -48,6 +48,16 @@ def bench_program() -> str:
     return shutil.copy(room / "out" / "ats_bench", HOME / "out" / "ats_bench")
 
 
+def cases_program() -> str:
+    """The program that plays the cases, proved and built where that is due."""
+    room = HOME / "crates" / "ats_cases"
+    built = subprocess.run(["rt", "run"], cwd=room, capture_output=True, text=True, check=False)
+    if not (room / "out" / "ats_cases").exists():
+        sys.exit(f"nothing is tried, since ats_cases could not be built:\n{built.stdout}{built.stderr}")
+    (HOME / "out").mkdir(exist_ok=True)
+    return shutil.copy(room / "out" / "ats_cases", HOME / "out" / "ats_cases")
+
+
 def run(command: list[str], wanted: int = 0) -> Run:
     """One run, which must end with the wanted status."""
     with tempfile.TemporaryFile("w+", encoding="utf-8") as printed:

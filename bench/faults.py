@@ -1,0 +1,436 @@
+"""Lets each growth and each call of the commands fail in turn, one in each run, and counts how the runs end.
+
+usage: python3 bench/faults.py [--quick] [PROGRAM [CASES]]
+
+PROGRAM is the program and CASES that of `crates/ats_cases`; without them both are proved and built where that is due.
+The program runs over real files and over loopback addresses; with --quick it does so without the runs in pieces of one
+byte. CASES plays the same commands over objects in memory, of which a refused growth is a fault. Prints a line for each
+command and for what fails: how many runs ended with which status. Each run must end with its answer, with status 6, or with
+that of an object that failed (3, 7, 8 or 10); what is printed must be a text of that status; a stored file must be
+as it was, or a prefix, or whole, and any other file as it was. Ends with status 0 where each run did.
+"""
+
+import collections
+import re
+import socket
+import struct
+import sys
+import tempfile
+import threading
+import time
+from pathlib import Path
+from typing import Iterator, NamedTuple, Optional
+
+import measure
+import tracing
+from sockets import QUERY, REQUEST, ROW, TEXTS, framed, free_port
+
+ROOT = "297978110ffb580733eaf8938f9328114690e802ab3108a3bfabc34ba2db2490"
+NO_MEMORY = framed(b"\x01\x06")  # the reply where a proof found no memory
+BEFORE = b"before"  # what a file holds before another is stored under its name
+
+SERVED = "connection 1 requests {} {}\n"
+
+
+class House(NamedTuple):
+    """The program, what its files hold, and the reply to REQUEST."""
+
+    program: str
+    folder: Path
+    files: dict[str, bytes]
+    reply: bytes
+
+
+class Command(NamedTuple):
+    """Words, the file that they store, and the answer."""
+
+    words: list[str]
+    answer: str
+    stores: Optional[str] = None
+
+    @property
+    def name(self) -> str:
+        return self.words[0]
+
+
+COMMANDS = [
+    Command(["rank", "X", "1", QUERY], ROW),
+    Command(["build", "X", "I"], ROOT + "\n", "I"),
+    Command(["root", "I"], ROOT + "\n"),
+    Command(["prove", "I", "tnra", "1", QUERY, "P"], "proof 365\n", "P"),
+    Command(["verify", ROOT, "1", QUERY, "P"], ROW),
+    Command(["audit", "I", "1", QUERY, "P"], ROW),
+    Command(["ask", ROOT, "tnra", "1", QUERY, "ADDRESS"], ROW),
+    Command(["serve", "I", "1", "ADDRESS"], "listening\n" + SERVED.format(1, "end")),
+]
+
+
+class Peer:
+    """The other end of one conversation, in a thread of its own, which bears any fault."""
+
+    def __init__(self) -> None:
+        self.came, self.is_over = b"", threading.Event()
+        self.thread = threading.Thread(target=self.try_to_talk)
+
+    def __enter__(self) -> "Peer":
+        self.thread.start()
+        return self
+
+    def __exit__(self, *_: object) -> None:
+        self.is_over.set()
+        self.thread.join()
+
+    def try_to_talk(self) -> None:
+        try:
+            self.talk()
+        except OSError:
+            pass
+
+    def talk(self) -> None:
+        """Nobody is there to talk to."""
+
+    def read(self, link: socket.socket, length: int) -> None:
+        link.settimeout(0.1)
+        while len(self.came) < length:
+            try:
+                piece = link.recv(length - len(self.came))
+            except TimeoutError:
+                if self.is_over.is_set():
+                    return
+                continue
+            if not piece:
+                return
+            self.came += piece
+
+
+class Server(Peer):
+    """Takes a request and gives the reply."""
+
+    def __init__(self, reply: bytes):
+        super().__init__()
+        self.reply, self.door = reply, socket.create_server(("127.0.0.1", 0))
+        self.port = self.door.getsockname()[1]
+
+    def talk(self) -> None:
+        self.door.settimeout(0.05)
+        with self.door:
+            while not self.is_over.is_set():
+                try:
+                    link, _ = self.door.accept()
+                except TimeoutError:
+                    continue
+                with link:
+                    self.read(link, len(REQUEST))
+                    link.sendall(self.reply)
+                    return
+
+
+class Client(Peer):
+    """Sends one request once a server is there, and takes what comes."""
+
+    def __init__(self) -> None:
+        super().__init__()
+        self.port = free_port("127.0.0.1")
+
+    def talk(self) -> None:
+        while not self.is_over.is_set():
+            try:
+                link = socket.create_connection(("127.0.0.1", self.port))
+            except ConnectionRefusedError:
+                time.sleep(0.002)
+                continue
+            with link:
+                link.sendall(REQUEST)
+                link.shutdown(socket.SHUT_WR)
+                self.read(link, 1 << 20)
+                return
+
+
+def build(program: str, folder: Path) -> House:
+    """The three short texts, their index and a proof, as the program makes them."""
+    (folder / "X").write_text(TEXTS, encoding="utf-8")
+    for words in (["build", "X", "I"], ["prove", "I", "tnra", "1", QUERY, "P"]):
+        ended = tracing.run([program, *words], folder=str(folder))
+        if ended.status != 0:
+            sys.exit(f"{words[0]} ended with status {ended.status}: {ended.printed.decode()}")
+    files = {name: (folder / name).read_bytes() for name in "XIP"}
+    return House(program, folder, files, framed(b"\x00" + files["P"]))
+
+
+def peer_of(house: House, command: Command) -> Peer:
+    if command.name == "ask":
+        return Server(house.reply)
+    return Client() if command.name == "serve" else Peer()
+
+
+def texts(command: Command) -> dict[int, list[str]]:
+    """What may be printed with each status, but for 7."""
+    if command.name != "serve":
+        return {0: [command.answer], 3: ["fault: shelf\n"], 6: ["memory\n"], 8: ["fault: link\n"]}
+    head = "listening\n"
+    faults = [head + SERVED.format(count, "fault") + "faults 1\n" for count in (0, 1)]
+    links = ["", head, *[head + SERVED.format(count, end) for count in (0, 1) for end in ("end", "cut", "fault")]]
+    return {
+        0: [command.answer],
+        3: ["fault: shelf\n"],
+        6: [lines + "memory\n" for lines in links],
+        8: [lines + "fault: link\n" for lines in links[:2]],
+        10: faults,
+    }
+
+
+def text_fits(command: Command, status: int, printed: str) -> bool:
+    known = texts(command)
+    if status == 7:
+        return any(text.startswith(printed) for some in known.values() for text in some)
+    return printed in known.get(status, [])
+
+
+def files_fit(house: House, command: Command, status: int) -> bool:
+    """The stored file is as before or a prefix, and whole where the answer was printed; any other is as before."""
+    for name, whole in house.files.items():
+        held = (house.folder / name).read_bytes()
+        if name != command.stores:
+            fits = held == whole
+        elif status == 0:
+            fits = held == whole
+        else:
+            fits = held == BEFORE or status in (3, 7) and whole.startswith(held)
+        if not fits:
+            return False
+    return {path.name for path in house.folder.iterdir()} == set(house.files)
+
+
+def talk_fits(house: House, command: Command, peer: Peer) -> bool:
+    """What a peer got is a prefix of what is right, or the reply that there is no memory."""
+    if command.name == "serve":
+        return house.reply.startswith(peer.came) or NO_MEMORY.startswith(peer.came)
+    return REQUEST.startswith(peer.came)
+
+
+def tried(house: House, command: Command, plan: tracing.Plan) -> tuple[tracing.Ended, str]:
+    """One run over fresh files, and its status, or what is wrong with it."""
+    for name, whole in house.files.items():
+        (house.folder / name).write_bytes(BEFORE if name == command.stores else whole)
+    with peer_of(house, command) as peer:
+        address = f"127.0.0.1:{getattr(peer, 'port', 0)}"
+        words = [address if word == "ADDRESS" else word for word in command.words]
+        ended = tracing.run([house.program, *words], plan, str(house.folder))
+    if ended.status is None:
+        return ended, "HANGS"
+    what = f"status {ended.status}, printed {ended.printed!r}, on standard error {ended.complained!r}"
+    if ended.complained or not text_fits(command, ended.status, ended.printed.decode()):
+        return ended, f"WRONG TEXT: {what}"
+    if not files_fit(house, command, ended.status):
+        return ended, f"WRONG FILES: {what}"
+    if not talk_fits(house, command, peer):
+        return ended, f"WRONG BYTES OVER THE LINK: {what}, {peer.came!r}"
+    return ended, str(ended.status)
+
+
+def tell(name: str, what: str, runs: collections.Counter[str]) -> bool:
+    """Prints a line of the table, and below it each run that is wrong."""
+    right = {end: count for end, count in runs.items() if end.isdigit()}
+    counts = "".join(f"{right.get(status, 0) or '-':>6}" for status in ("0", "3", "6", "7", "8", "10"))
+    print(f"{name:8}{what:26}{sum(runs.values()):>6}{counts}", flush=True)
+    for end, count in runs.items():
+        if end not in right:
+            print(f"    {count} times {end}", flush=True)
+    return len(right) == len(runs)
+
+
+def head(says: str) -> None:
+    print(f"\n{says}\n{'command':8}{'what fails':26}{'runs':>6}{'0':>6}{'3':>6}{'6':>6}{'7':>6}{'8':>6}{'10':>6}")
+
+
+def fail_in_turn(house: House, command: Command, what: str, plans: Iterator[tracing.Plan]) -> bool:
+    """Runs by one plan after another, until nothing is left that can fail."""
+    runs: collections.Counter[str] = collections.Counter()
+    for plan in plans:
+        ended, end = tried(house, command, plan)
+        if not ended.failed:
+            break
+        runs[end if end.isdigit() else f"{end}, at {ended.failed} {plan.growth or plan.call}"] += 1
+    return tell(command.name, what, runs)
+
+
+def over_real_objects(program: str, ways: list[str]) -> bool:
+    head("over real files and loopback addresses")
+    passed = True
+    with tempfile.TemporaryDirectory() as folder:
+        house = build(program, Path(folder))
+        for command in COMMANDS:
+            for way in ways:
+                counted = range(1, 1 << 20)
+                plans = {
+                    "each growth": (tracing.Plan(growth=at) for at in counted),
+                    "each call": (tracing.Plan(call=at) for at in counted),
+                    "each call, bytes singly": (tracing.Plan(call=at, pieces=True) for at in counted),
+                }
+                passed = fail_in_turn(house, command, way, plans[way]) and passed
+    return passed
+
+
+class Case(NamedTuple):
+    """A command over objects in memory, with the lines that stand before it and behind what it prints."""
+
+    before: list[str]
+    command: Command
+    printed: str
+    status: int = 0
+    after: list[str] = []
+
+
+def lines_of(text: str) -> list[str]:
+    """How a document of cases says what is printed."""
+    *lines, rest = text.split("\n")
+    return [*lines, *([f": part {rest}"] if rest else [])]
+
+
+def block(house: House, case: Case, moves: int) -> str:
+    """The case as a block of a document, in pieces of so many bytes."""
+    files = [f": bytes {name} {whole.hex()}" for name, whole in house.files.items() if name != case.command.stores]
+    files += [f": bytes Q {REQUEST.hex()}", f": bytes R {house.reply.hex()}", ": keep texts X"]
+    words = " ".join(f'"{word}"' if " " in word else word for word in case.command.words)
+    lines = [f": moves {moves}", *files, *case.before, f"$ ./ats {words}", *lines_of(case.printed)]
+    lines += [f": status {case.status}", *case.after, ": holds X texts"]
+    return "```\n" + "\n".join(lines) + "\n```\n\n"
+
+
+def play(cases: str, folder: Path, document: str, plan: tracing.Plan = tracing.Plan()) -> tracing.Ended:
+    for name, text in (("archive.json", "[]"), ("cases.md", document), ("QUERIES.md", "")):
+        (folder / name).write_text(text, encoding="utf-8")
+    return tracing.run([cases], plan, str(folder))
+
+
+def links(command: Command) -> list[str]:
+    return {"ask": [": link R"], "serve": [": link Q"]}.get(command.name, [])
+
+
+def played(command: Command, ended: tracing.Ended) -> str:
+    """The status of the command, or what is wrong with it; nothing where the growth was the player's own."""
+    printed = ended.printed.decode()
+    if ended.status == 0 and printed == "1 cases passed\n":
+        return "0"
+    told = re.fullmatch(
+        r"differs: .*\nstatus (\d+), wanted 0; (\d+) files or links differ; printed:\n(.*)wanted:\n.*0 cases passed\n",
+        printed,
+        re.DOTALL,
+    )
+    if told is None:
+        is_own = not printed or "not played: OutOfMemory" in printed or "not understood: " in printed
+        return "" if is_own else f"WRONG: status {ended.status}, printed {ended.printed!r}"
+    status, text = int(told[1]), told[3]
+    if told[2] != "0" or not text_fits(command, status, text):
+        return f"WRONG: status {status}, {told[2]} other files, printed {text!r}"
+    return str(status)
+
+
+def growths_in_memory(house: House, cases: str, folder: Path) -> bool:
+    head("over objects in memory, a growth of which is refused")
+    passed = True
+    for command in COMMANDS:
+        document = block(house, Case(links(command), command, command.answer), 4096)
+        runs: collections.Counter[str] = collections.Counter()
+        for at in range(1, 1 << 20):
+            ended = play(cases, folder, document, tracing.Plan(growth=at))
+            if not ended.failed:
+                break
+            runs[played(command, ended)] += 1
+        own = runs.pop("", 0)
+        passed = tell(command.name, f"each growth (+{own} own)", runs) and passed
+    return passed
+
+
+def shelf_cases(house: House, command: Command, reads: int) -> Iterator[Case]:
+    """The shelf fails at each call in turn: the reads, the start and the appends, each of one byte; and then not at all."""
+    whole = house.files.get(command.stores or "", b"")
+    calls = reads + (1 + len(whole) if command.stores else 0)
+    for call in range(1, max(calls + 2, 251 if command.name == "build" else 0)):
+        kept = whole[: max(call - reads - 2, 0)]
+        before, after = [f": shelf-fails {call}"], []
+        if command.stores:
+            before += [f": bytes F {(whole if call > calls else kept).hex()}", ": keep kept F"]
+            after = [f": none {command.stores}" if call < reads + 2 else f": holds {command.stores} kept"]
+        if call > calls:
+            yield Case(before, command, command.answer, 0, after)
+        else:
+            yield Case(before, command, "fault: shelf\n", 3, after)
+
+
+def sink_cases(command: Command) -> Iterator[Case]:
+    for call in range(1, len(command.answer) + 2):
+        printed = command.answer[: call - 1]
+        before = [f": sink-fails {call}", *links(command)]
+        yield Case(before, command, printed, 0 if call > len(command.answer) else 7)
+
+
+def link_cases(house: House, command: Command) -> Iterator[Case]:
+    """The link fails at each call in turn. A reader writes first; a server reads first, and at last looks for a further frame."""
+    asks = command.name == "ask"
+    write = REQUEST if asks else house.reply
+    reads = len(house.reply if asks else REQUEST)
+    first = 0 if asks else reads
+    calls = len(write) + reads + (0 if asks else 1)
+    for call in range(1, calls + 2):
+        kept = write[: max(call - 1 - first, 0)]
+        before = [f": bytes F {kept.hex()}", f": link {'R' if asks else 'Q'} {call}"]
+        if call > calls:
+            printed, status = command.answer, 0
+        elif asks:
+            printed, status = "fault: link\n", 8
+        else:
+            printed, status = "listening\n" + SERVED.format(int(call == calls), "fault") + "faults 1\n", 10
+        yield Case(before, command, printed, status, [": wrote 1 F"])
+
+
+def end_cases(command: Command) -> Iterator[Case]:
+    """The caller or the door fails at each call in turn."""
+    lines = ["fault: link\n"] if command.name == "ask" else ["fault: link\n", "listening\nfault: link\n"]
+    for call, printed in enumerate(lines, 1):
+        yield Case([*links(command), f": end-fails {call}"], command, printed, 8)
+    yield Case([*links(command), f": end-fails {len(lines) + 1}"], command, command.answer)
+
+
+def calls_in_memory(house: House, cases: str, folder: Path) -> bool:
+    print("\nover objects in memory, a call of which fails, in pieces of one byte")
+    known = {command.name: command for command in COMMANDS}
+    texts_read, index_read, proof_read = (len(house.files[name]) + 1 for name in "XIP")
+    reads = {"rank": texts_read, "build": texts_read, "root": index_read, "prove": index_read}
+    reads.update({"verify": proof_read, "audit": index_read + proof_read})
+    rows = [(name, "shelf", shelf_cases(house, known[name], count)) for name, count in reads.items()]
+    rows += [(command.name, "sink", sink_cases(command)) for command in COMMANDS]
+    rows += [(name, "link", link_cases(house, known[name])) for name in ("ask", "serve")]
+    rows += [(name, end, end_cases(known[name])) for name, end in (("ask", "caller"), ("serve", "door"))]
+    passed = True
+    for name, what, some in rows:
+        blocks = [block(house, case, 1) for case in some]
+        ended = play(cases, folder, "".join(blocks))
+        text = ended.printed.decode()
+        is_right = ended.status == 0 and text == f"{len(blocks)} cases passed\n"
+        print(f"{name:8}{what:8}{len(blocks):>6} cases: {'each as wanted' if is_right else 'WRONG: ' + text[:2000]}", flush=True)
+        passed = is_right and passed
+    return passed
+
+
+def over_memory(program: str, cases: str) -> bool:
+    with tempfile.TemporaryDirectory() as home, tempfile.TemporaryDirectory() as folder:
+        house = build(program, Path(home))
+        return all([growths_in_memory(house, cases, Path(folder)), calls_in_memory(house, cases, Path(folder))])
+
+
+def main() -> int:
+    named = [word for word in sys.argv[1:] if word != "--quick"]
+    ways = ["each growth", "each call", "each call, bytes singly"]
+    if "--quick" in sys.argv[1:]:
+        ways.pop()
+    program = named[0] if named else measure.program()
+    cases = named[1] if len(named) > 1 else measure.cases_program()
+    passed = over_memory(program, cases)
+    passed = over_real_objects(program, ways) and passed
+    print("\neach run ended as it may" if passed else "\nWRONG runs are told above")
+    return 0 if passed else 1
+
+
+if __name__ == "__main__":
+    sys.exit(main())

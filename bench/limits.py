@@ -1,0 +1,321 @@
+"""Runs the commands at their limits and on hostile files, and tells what each run took.
+
+usage: python3 bench/limits.py [PROGRAM]
+
+PROGRAM is the program; without it, it is proved and built where that is due. Makes collections at the limits (65,536
+documents, texts of 2^20 bytes, 16 MiB of text), answers queries of up to 32 terms with up to 1,000 rows over them, and
+hands the program files that promise more than they hold, nest deeply or are as long as they may be. Prints for each run
+its status, its first line, its seconds and the most memory that it held, and whether that is as it should be. At the
+limits memory is there: no run ends with status 6. A hostile file is refused in memory in proportion to its length, at most
+what stands beside it. Ends with status 0 where all is as it should be. Needs 4 GiB of memory and 3 GiB of disk.
+"""
+
+import json
+import os
+import resource
+import socket
+import struct
+import subprocess
+import sys
+import tempfile
+import threading
+import time
+from pathlib import Path
+from typing import Callable, Iterator, NamedTuple, Optional, Union
+
+import corpora
+import measure
+import too_long
+from sockets import free_port
+
+MIB = corpora.MIB
+LIMIT = 300  # seconds of one run
+MEMORY = 4 << 30  # bytes of address space of one run
+ROWS = 1000
+MAX_PROOF = 1 << 26
+MAX_INDEX = 1 << 29
+NO_ROOT = "00" * 32
+
+
+class Ended(NamedTuple):
+    """How a run ended: None where it was ended at the limit."""
+
+    status: Optional[int]
+    lines: list[str]
+    seconds: float
+    peak: int
+
+
+class Table:
+    """The runs so far, each in a line."""
+
+    def __init__(self, program: str, folder: Path):
+        self.program, self.folder, self.wrong = program, folder, 0
+        print(f"{'run':66}{'status':>6}{'seconds':>9}{'MiB':>7}  first line")
+
+    def run(self, *words: str) -> Ended:
+        """One run in the folder."""
+        with tempfile.TemporaryFile("w+", encoding="utf-8") as printed:
+            start = time.perf_counter()
+            limits = lambda: resource.setrlimit(resource.RLIMIT_AS, (MEMORY, MEMORY))
+            process = subprocess.Popen([self.program, *words], stdout=printed, cwd=self.folder, preexec_fn=limits)
+            killer = threading.Timer(LIMIT, os.kill, [process.pid, 9])
+            killer.start()
+            _, status, used = os.wait4(process.pid, 0)
+            seconds = time.perf_counter() - start
+            killer.cancel()
+            process.returncode = os.waitstatus_to_exitcode(status)
+            printed.seek(0)
+            lines = printed.read().splitlines()
+        return Ended(None if seconds >= LIMIT else process.returncode, lines, seconds, used.ru_maxrss * 1024)
+
+    def tell(self, says: str, ended: Ended, wrong: str) -> None:
+        first = ended.lines[0][:48] if ended.lines else ""
+        status = "-" if ended.status is None else ended.status
+        print(f"{says[:65]:66}{status:>6}{ended.seconds:>9.2f}{ended.peak / MIB:>7.0f}  {first}", flush=True)
+        if wrong:
+            self.wrong += 1
+            print(f"    WRONG: {wrong}", flush=True)
+
+    def wanted(self, says: str, words: list[str], status: int = 0, first: Optional[str] = None, rows: Optional[int] = None, peak: Optional[int] = None) -> Ended:
+        """A run that is to end so: with the status, the first line, so many rows, and at most so much memory held."""
+        ended = self.run(*words)
+        wrong = []
+        if ended.status != status:
+            wrong.append(f"wanted is status {status}")
+        if first is not None and ended.lines[:1] != [first]:
+            wrong.append(f"wanted is {first!r}")
+        if rows is not None and len(ended.lines) != rows:
+            wrong.append(f"{len(ended.lines)} rows, wanted are {rows}")
+        if peak is not None and ended.peak > peak:
+            wrong.append(f"wanted are at most {peak / MIB:.0f} MiB")
+        self.tell(says, ended, "; ".join(wrong))
+        return ended
+
+    def same(self, says: str, came: object, wanted: object) -> None:
+        if came != wanted:
+            self.wrong += 1
+            print(f"    WRONG: {says} differ", flush=True)
+
+
+def scores(lines: list[str]) -> list[tuple[str, ...]]:
+    """The bounds of each row."""
+    return [tuple(line.split()[2:]) for line in lines]
+
+
+def ask(table: Table, says: str, index: str, root: str, algorithm: str, query: str, rows: list[str]) -> None:
+    """Asks a server of its own; its seconds are those of the reader."""
+    address = f"127.0.0.1:{free_port('127.0.0.1')}"
+    server = subprocess.Popen([table.program, "serve", index, "1", address], stdout=subprocess.PIPE, cwd=table.folder, text=True)
+    killer = threading.Timer(2 * LIMIT, os.kill, [server.pid, 9])
+    killer.start()
+    assert server.stdout is not None
+    server.stdout.readline()
+    ended = table.wanted(says, ["ask", root, algorithm, str(ROWS), query, address], rows=len(rows))
+    table.same("the rows of ask and verify", ended.lines, rows)
+    lines = server.stdout.read().splitlines()
+    _, status, used = os.wait4(server.pid, 0)
+    killer.cancel()
+    server.returncode = os.waitstatus_to_exitcode(status)
+    served = Ended(server.returncode, lines, 0, used.ru_maxrss * 1024)
+    table.tell("    and its server", served, "" if lines == ["connection 1 requests 1 end"] and server.returncode == 0 else "the server")
+
+
+def answers(table: Table, name: str, index: str, root: str, query: str, best: list[str], algorithms: tuple[str, ...], served: bool) -> None:
+    """Proves, verifies, audits and asks one query with 1,000 rows, and compares all with the plain ranking."""
+    for algorithm in algorithms:
+        proved = table.wanted(f"{name}: prove by {algorithm}", ["prove", index, algorithm, str(ROWS), query, "P"])
+        if proved.status != 0:
+            continue
+        rows = table.wanted(f"{name}: verify by {algorithm}", ["verify", root, str(ROWS), query, "P"], rows=len(best)).lines
+        if algorithm == "tra":
+            table.same("the scores of verify and rank", scores(rows), scores(best))
+        audited = table.wanted(f"{name}: audit by {algorithm}", ["audit", index, str(ROWS), query, "P"], rows=len(best)).lines
+        table.same("the rows of audit and verify", audited, rows)
+        if served:
+            ask(table, f"{name}: ask by {algorithm}", index, root, algorithm, query, rows)
+
+
+def at_limits(table: Table) -> None:
+    words = corpora.vocabulary(corpora.SHAPES["notes"].vocabulary)
+    corpora.write(str(table.folder / "X"), corpora.SHAPES["notes"], corpora.MAX_TEXTS)
+    root = table.wanted("16 MiB of notes: build", ["build", "X", "I"]).lines[0]
+    table.wanted("16 MiB of notes: root", ["root", "I"], first=root)
+    for name, query, algorithms, served in (
+        ("16 MiB of notes, 2 terms", " ".join(words[:2]), ("tnra", "tra"), True),
+        ("16 MiB of notes, 32 terms", " ".join(words[:32]), ("tnra",), True),
+        ("16 MiB of notes, 32 rare terms", " ".join(words[15_000:15_032]), ("tnra", "tra"), False),
+    ):
+        best = table.wanted(f"{name}: rank", ["rank", "X", str(ROWS), query]).lines
+        answers(table, name, "I", root, query, best, algorithms, served)
+    table.wanted("16 MiB of notes, 33 terms: rank", ["rank", "X", "1", " ".join(words[:33])], 4, "input: query of 33 terms")
+
+    too_long.write(table.folder / "X")
+    root = table.wanted("65,536 documents: build", ["build", "X", "I"]).lines[0]
+    query = " ".join(letter + "c" for letter in too_long.LETTERS[:10])
+    best = table.wanted("65,536 documents, 10 terms: rank", ["rank", "X", str(ROWS), query], rows=ROWS).lines
+    answers(table, "65,536 documents, 10 terms", "I", root, query, best, ("tra",), True)
+
+    text = "".join(f"w{word} " for word in range(1 << 18))[: corpora.MAX_TEXT]
+    (table.folder / "X").write_text(json.dumps([text] * 16), encoding="utf-8")
+    root = table.wanted("16 texts of 2^20 bytes: build", ["build", "X", "I"]).lines[0]
+    best = table.wanted("16 texts of 2^20 bytes: rank", ["rank", "X", str(ROWS), "w7 w70000"], rows=16).lines
+    answers(table, "16 texts of 2^20 bytes", "I", root, "w7 w70000", best, ("tnra", "tra"), True)
+    (table.folder / "X").write_text(json.dumps([text + "x"]), encoding="utf-8")
+    table.wanted("a text of 2^20 + 1 bytes: build", ["build", "X", "N"], 4, "input: text 0 too long")
+
+
+def repeated(front: bytes, unit: bytes, back: bytes, length: int) -> Iterator[bytes]:
+    """A file of nearly that length: the unit as often as it fits."""
+    times = (length - len(front) - len(back)) // len(unit)
+    yield front
+    part = unit * (MIB // len(unit))
+    while times >= MIB // len(unit):
+        yield part
+        times -= MIB // len(unit)
+    yield unit * times + back
+
+
+class Hostile(NamedTuple):
+    """A file, what is said of it, and how many bytes may be held for each of its own."""
+
+    says: str
+    pieces: Union[bytes, Iterator[bytes]]
+    first: str
+    times: int = 4
+
+
+def collections() -> Iterator[Hostile]:
+    longest = 1 << 26
+    yield Hostile("64 MiB of [[[[", repeated(b"", b"[", b"", longest), "input: not json")
+    yield Hostile('64 MiB of {"a":{"a":', repeated(b"", b'{"a":', b"", longest), "input: not json")
+    yield Hostile("one string of 64 MiB", repeated(b'["', b"a", b'"]', longest), "input: text 0 too long")
+    yield Hostile("a string of 64 MiB that does not end", repeated(b'["', b"a", b"", longest), "input: not json")
+    yield Hostile("16 million empty strings", repeated(b'[""', b',""', b"]", 3 * 16_000_000 + 1), "input: 16000000 documents", 64)
+    yield Hostile("64 MiB of numbers", repeated(b"[0", b",0", b"]", longest), "input: item 0", 64)
+    yield Hostile("64 MiB of empty arrays", repeated(b"[[]", b",[]", b"]", longest), "input: item 0", 64)
+    yield Hostile("64 MiB of small objects", repeated(b'[{"a":0}', b',{"a":0}', b"]", longest), "input: item 0", 64)
+    yield Hostile("a number of 64 MiB", repeated(b"[", b"1", b"]", longest), "input: not json")
+    yield Hostile("64 MiB and a byte of blanks", repeated(b"", b" ", b"", longest + 1), "input: longer than 67108864")
+
+
+FRONT = b"ATSI\x01"
+
+
+def number(value: int) -> bytes:
+    return struct.pack(">I", value)
+
+
+def indexes() -> Iterator[Hostile]:
+    yield Hostile("an index of 2^32 - 1 texts", FRONT + b"\xff" * 4, "input: index at 5")
+    yield Hostile("an index of 65,536 texts with none of them", FRONT + number(65_536), "input: index at 9")
+    yield Hostile("an index of a text of 2^32 - 1 bytes", FRONT + number(1) + b"\xff" * 4, "input: index at 9")
+    yield Hostile("an index of a text of 2^20 bytes with none of them", FRONT + number(1) + number(MIB), "input: index at 13")
+    yield Hostile("an index of 2^32 - 1 terms", FRONT + number(1) + number(0) + b"\xff" * 4, "input: index at 13")
+    terms = FRONT + number(1) + number(1) + b"a" + number(1) + b"\x01a" + b"\xff" * 4
+    yield Hostile("an index of a term of 2^32 - 1 entries", terms, "input: index at 20")
+    yield Hostile("an index of 2^29 bytes of nothing", repeated(b"", b"\0", b"", MAX_INDEX), "input: index at 0")
+    yield Hostile("an index of 2^29 + 1 bytes", repeated(b"", b"\0", b"", MAX_INDEX + 1), f"input: longer than {MAX_INDEX}")
+    behind = FRONT + number(1) + number(1) + b"a"
+    yield Hostile("a text and 2^29 bytes behind it", repeated(behind, b"\0", b"", MAX_INDEX), "input: index at 17")
+
+
+HEADER = b"\x01" + number(65_536) + number(16_777_218) + b"\xaa" * 96
+
+
+def front(terms: int) -> bytes:
+    return b"ATSP\x01\x01" + HEADER + struct.pack(">H", terms)
+
+
+def dictionary(leaves: int, digests: int) -> bytes:
+    """Leaves with terms of 64 bytes, and digests."""
+    each = b"".join(number(at) + b"\x40" + b"t" * 64 + b"\xff" * 4 + b"\xbb" * 32 for at in range(leaves))
+    return struct.pack(">H", leaves) + each + struct.pack(">H", digests) + b"\xcc" * 32 * digests
+
+
+SLOTS = b"\x01\x00\x00" * 32
+
+
+def greatest() -> Iterator[Hostile]:
+    """Proofs in which one count after another is the greatest, and nothing follows it."""
+    told = front(32)
+    yield Hostile("a proof of 65,535 terms", front(65_535), f"refused: shape count {len(told) - 2}")
+    yield Hostile("a proof of 65,535 leaves", told + b"\xff\xff", f"refused: shape count {len(told)}")
+    yield Hostile("a proof of 64 leaves with none of them", told + b"\0\x40", f"refused: shape cut {len(told) + 2}")
+    leaves = told + dictionary(64, 0)[:-2]
+    yield Hostile("a proof of 65,535 digests with none of them", leaves + b"\xff\xff", f"refused: shape cut {len(leaves) + 2}")
+    slots = leaves + b"\xff\xff" + b"\xcc" * 32 * 65_535 + SLOTS
+    yield Hostile("a proof of 2^32 - 1 met documents", slots + b"\xff" * 4, f"refused: shape count {len(slots)}")
+    yield Hostile("a proof of 65,536 met documents with none of them", slots + number(65_536), f"refused: shape cut {len(slots) + 4}")
+    met = slots + number(65_536) + b"".join(map(number, range(65_536)))
+    yield Hostile("a proof of 2^32 - 1 entries", met + b"\xff" * 4, f"refused: shape count {len(met)}")
+    yield Hostile("a proof of 65,536 entries with none of them", met + number(65_536), f"refused: shape cut {len(met) + 4}")
+    lists = met + (number(65_536) + b"".join(number(at) + b"\xff\xff" for at in range(65_536)) + b"\0\0") * 32
+    documents = lists + (b"\xff" * 4 + b"\xdd" * 32) * 65_536
+    yield Hostile("a proof of 2^32 - 1 digests", documents + b"\xff" * 4, f"refused: shape count {len(documents)}")
+    digests = documents + number(65_536) + b"\xee" * 32 * 65_536
+    yield Hostile("a proof of 65,536 digests and no terms", digests, f"refused: shape cut {len(digests)}")
+    section = b"\0\x01" + number(0) + b"\x40" + b"t" * 64 + b"\xff\xff" + b"\0\0" + b"\0\0\0" * 32
+    room = MAX_PROOF - len(digests)
+    sections = section * (room // len(section))
+    cut = len(digests) + len(sections)
+    yield Hostile("a proof of 2^26 bytes, cut in its sections", digests + sections + section[: room % len(section)], f"refused: shape cut {cut}", 4)
+    small = b"\0\x01" + number(0) + b"\0" + b"\xff\xff" + b"\0\0" + b"\0\0\0" * 32
+    whole = documents + number(0) + small * 65_536 + struct.pack(">H", 1000) + b"\0\0\0\0" * 1000
+    yield Hostile(f"a whole proof of {len(whole)} bytes, 32 lists of 65,536", whole, "refused: other-root")
+    yield Hostile("the same with a byte more", whole + b"\0", f"refused: shape trailing {len(whole)}")
+    yield Hostile("2^26 + 1 bytes", repeated(whole, b"\0", b"", MAX_PROOF + 1), f"refused: shape long {MAX_PROOF}")
+
+
+def hostile_files(table: Table) -> None:
+    words: list[tuple[Callable[[], Iterator[Hostile]], list[str], int]] = [
+        (collections, ["rank", "H", "1", "a"], 4),
+        (indexes, ["root", "H"], 4),
+        (greatest, ["verify", NO_ROOT, "1000", " ".join(f"q{at}" for at in range(32)), "H"], 1),
+    ]
+    path = table.folder / "H"
+    for kinds, command, status in words:
+        for one in kinds():
+            with open(path, "wb") as file:
+                for piece in [one.pieces] if isinstance(one.pieces, bytes) else one.pieces:
+                    file.write(piece)
+            length = path.stat().st_size
+            table.wanted(f"{command[0]}: {one.says}", command, status, one.first, peak=16 * MIB + one.times * length)
+    path.unlink()
+
+
+def hostile_peers(table: Table) -> None:
+    """Peers that promise a reply of the greatest length, and send nothing, or as many bytes of nothing."""
+    for says, reply, wanted, status, peak in (
+        ("nothing of the 2^26 + 1 bytes that it promises", number(MAX_PROOF + 1), "peer: short 4 67108869", 9, 16),
+        ("a reply of 2^26 + 1 bytes", number(MAX_PROOF + 1) + b"\0" * (MAX_PROOF + 1), "refused: shape magic 0", 1, 16 + 4 * 64),
+        ("2^32 - 1 bytes promised", b"\xff" * 4, "peer: long 4294967295", 9, 16),
+    ):
+        with socket.create_server(("127.0.0.1", 0)) as door:
+
+            def peer() -> None:
+                link, _ = door.accept()
+                with link:
+                    link.recv(64)
+                    link.sendall(reply)
+
+            thread = threading.Thread(target=peer)
+            thread.start()
+            address = f"127.0.0.1:{door.getsockname()[1]}"
+            table.wanted(f"ask: {says}", ["ask", NO_ROOT, "tra", "1", "a", address], status, wanted, peak=peak * MIB)
+            thread.join()
+
+
+def main() -> int:
+    program = os.path.abspath(sys.argv[1]) if len(sys.argv) > 1 else measure.program()
+    with tempfile.TemporaryDirectory() as folder:
+        table = Table(program, Path(folder))
+        hostile_files(table)
+        hostile_peers(table)
+        at_limits(table)
+    print("all is as it should be" if table.wrong == 0 else f"{table.wrong} are not as they should be")
+    return 1 if table.wrong else 0
+
+
+if __name__ == "__main__":
+    sys.exit(main())

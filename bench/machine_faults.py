@@ -1,0 +1,415 @@
+"""Runs the program into faults of a real machine, and tells what each leaves.
+
+usage: python3 bench/machine_faults.py [PROGRAM]
+
+PROGRAM is the program; without it, it is proved and built where that is due. Tries a full disk, standard outputs that
+take nothing, what is no plain file in place of one, files that may not be read or written, files that change while they are
+read, and ends by `kill -9` while a command stores. Prints for each the status, what was printed and what is left, and
+whether that is as it should be: a stored file that is not whole is a prefix, and no command takes it for whole. Ends with
+status 0 where all is. As root it mounts a small disk in memory and runs as nobody where permissions count; else it says what
+it cannot try.
+"""
+
+import os
+import random
+import resource
+import shutil
+import signal
+import subprocess
+import sys
+import tempfile
+import threading
+import time
+from pathlib import Path
+from typing import Callable, NamedTuple, Optional
+
+import corpora
+import measure
+import tracing
+from sockets import QUERY, ROW, TEXTS, Differs, Skipped, expect, free_port
+
+ROOT = "297978110ffb580733eaf8938f9328114690e802ab3108a3bfabc34ba2db2490"
+WAIT = 5  # seconds after which a command that waits is ended
+LIMIT = 120
+KILLS = 60
+NOBODY = 65534
+DISK = 64 << 10  # bytes of the small disk
+BEFORE = b"before"
+KILLED = -signal.SIGKILL
+
+
+class House(NamedTuple):
+    """The program in a folder that anyone may enter, three short texts, and a larger collection."""
+
+    program: str
+    folder: Path
+    index: bytes
+    proof: bytes
+    large_index: bytes
+
+
+class Done(NamedTuple):
+    """How a run ended: None where it still waited and was ended."""
+
+    status: Optional[int]
+    printed: str
+
+
+def run(house: House, *words: str, patience: float = LIMIT, **how: object) -> Done:
+    given = {"stdout": subprocess.PIPE, "stdin": subprocess.DEVNULL, "stderr": subprocess.DEVNULL, "cwd": house.folder, **how}
+    with subprocess.Popen([house.program, *words], **given) as process:  # type: ignore[call-overload]
+        try:
+            printed = process.communicate(timeout=patience)[0]
+            return Done(process.returncode, (printed or b"").decode())
+        except subprocess.TimeoutExpired:
+            process.kill()
+            return Done(None, (process.communicate()[0] or b"").decode())
+
+
+def build(program: str, folder: Path) -> House:
+    """The programs' own work, on files that nothing goes wrong with."""
+    folder.chmod(0o755)
+    own = shutil.copy(program, folder / "ats")
+    os.chmod(own, 0o755)
+    (folder / "X").write_text(TEXTS, encoding="utf-8")
+    corpora.write(str(folder / "LARGE"), corpora.SHAPES["notes"], 2 * corpora.MIB)
+    house = House(own, folder, b"", b"", b"")
+    for words, printed in (
+        (["build", "X", "I"], ROOT + "\n"),
+        (["prove", "I", "tnra", "1", QUERY, "P"], "proof 365\n"),
+        (["build", "LARGE", "L"], None),
+    ):
+        done = run(house, *words)
+        expect(" ".join(words), (done.status, printed or done.printed), (0, done.printed))
+    return house._replace(index=(folder / "I").read_bytes(), proof=(folder / "P").read_bytes(), large_index=(folder / "L").read_bytes())
+
+
+def left(path: Path, whole: bytes, before: Optional[bytes] = None) -> str:
+    """What a file is that was to become the whole one."""
+    if not path.exists():
+        return "no file"
+    held = path.read_bytes()
+    if before is not None and held == before:
+        return "the file as before"
+    if held == whole:
+        return "the whole file"
+    if whole.startswith(held):
+        return f"a prefix of {len(held)} of {len(whole)} bytes" if held else "an empty file"
+    raise Differs(f"{path.name} holds {len(held)} bytes that are no prefix of the whole")
+
+
+def refused_prefix(house: House, path: Path, what: str, is_index: bool) -> None:
+    """A prefix is refused by whoever reads it."""
+    if is_index:
+        done = run(house, "root", str(path))
+        expect(f"root of {what}", (done.status, done.printed.startswith("input: index at ")), (4, True))
+    else:
+        done = run(house, "verify", ROOT, "1", QUERY, str(path))
+        expect(f"verify of {what}", (done.status, done.printed.startswith("refused: shape cut ")), (1, True))
+
+
+COMMANDS = [
+    (["rank", "X", "1", QUERY], ROW),
+    (["build", "X", "N"], ROOT + "\n"),
+    (["root", "I"], ROOT + "\n"),
+    (["prove", "I", "tnra", "1", QUERY, "N"], "proof 365\n"),
+    (["verify", ROOT, "1", QUERY, "P"], ROW),
+    (["audit", "I", "1", QUERY, "P"], ROW),
+]
+
+
+def every_command(house: House, wanted: Done, **how: object) -> str:
+    """Each command ends so, and those that store have stored the whole file."""
+    for words, _ in COMMANDS:
+        new = house.folder / "N"
+        new.unlink(missing_ok=True)
+        done = run(house, *words, **how)
+        expect(" ".join(words[:1]), done, wanted)
+        if "N" in words:
+            expect(f"{words[0]} leaves", left(new, house.index if words[0] == "build" else house.proof), "the whole file")
+    return f"status {wanted.status}, {wanted.printed!r}; build and prove leave the whole file"
+
+
+def output_full(house: House) -> str:
+    with open("/dev/full", "wb") as full:
+        return every_command(house, Done(7, ""), stdout=full)
+
+
+def output_closed(house: House) -> str:
+    return every_command(house, Done(7, ""), stdout=None, preexec_fn=lambda: os.close(1))
+
+
+def all_closed(house: House) -> str:
+    return every_command(house, Done(7, ""), stdin=None, stdout=None, stderr=None, preexec_fn=lambda: os.closerange(0, 3))
+
+
+def output_gone(house: House) -> str:
+    reading, writing = os.pipe()
+    os.close(reading)
+    try:
+        return every_command(house, Done(7, ""), stdout=writing)
+    finally:
+        os.close(writing)
+
+
+def server_output_closed(house: House) -> str:
+    address = f"127.0.0.1:{free_port('127.0.0.1')}"
+    done = run(house, "serve", "I", "1", address, stdout=None, preexec_fn=lambda: os.close(1))
+    expect("serve", done, Done(7, ""))
+    return "status 7; it does not wait for a reader"
+
+
+def stores_into(house: House, path: Path, whole: bytes, words: list[str], **how: object) -> str:
+    """A store that does not end: what is told, what is left, and that it is refused."""
+    before = path.read_bytes() if path.exists() else None
+    done = run(house, *words, **how)
+    what = left(path, whole, before)
+    if what.startswith(("a prefix", "an empty")):
+        refused_prefix(house, path, what, words[0] == "build")
+        what += ", which is refused where it is read"
+    return f"{words[0]}: status {done.status}, {done.printed!r}, leaves {what}"
+
+
+def full_disk(house: House) -> str:
+    if os.geteuid() != 0:
+        raise Skipped("only root can mount a small disk; see the limit of a file's length")
+    disk = house.folder / "disk"
+    disk.mkdir(exist_ok=True)
+    mounted = subprocess.run(["mount", "-t", "tmpfs", "-o", f"size={DISK}", "ats-faults", str(disk)], capture_output=True, check=False)
+    if mounted.returncode != 0:
+        raise Skipped(f"no disk can be mounted here: {mounted.stderr.decode().strip()}")
+    try:
+        said = [stores_into(house, disk / "L", house.large_index, ["build", "LARGE", str(disk / "L")])]
+        expect("the prefix", (disk / "L").read_bytes(), house.large_index[:DISK])
+        said.append(stores_into(house, disk / "P", house.proof, ["prove", "I", "tnra", "1", QUERY, str(disk / "P")]))
+        expect("the empty proof", (disk / "P").read_bytes(), b"")
+    finally:
+        subprocess.run(["umount", str(disk)], check=True)
+        disk.rmdir()
+    for one in said:
+        expect("status", "status 3, 'fault: shelf\\n'" in one, True)
+    return "; ".join(said)
+
+
+def limited(length: int, handler: signal.Handlers) -> Callable[[], None]:
+    def prepare() -> None:
+        signal.signal(signal.SIGXFSZ, handler)
+        resource.setrlimit(resource.RLIMIT_FSIZE, (length, length))
+        resource.setrlimit(resource.RLIMIT_CORE, (0, 0))
+
+    return prepare
+
+
+def long_file(house: House) -> str:
+    """A file that may not grow further, where the system's signal for that is ignored, and where it is not."""
+    path, said = house.folder / "N", []
+    for handler, status in ((signal.SIG_IGN, "3, 'fault: shelf\\n'"), (signal.SIG_DFL, f"{-signal.SIGXFSZ}, ''")):
+        for words, whole, length in (
+            (["build", "LARGE", "N"], house.large_index, 100_000),
+            (["prove", "I", "tnra", "1", QUERY, "N"], house.proof, 100),
+        ):
+            path.write_bytes(BEFORE)
+            one = stores_into(house, path, whole, words, preexec_fn=limited(length, handler), restore_signals=False)
+            expect(words[0], f"status {status}," in one, True)
+            said.append(f"{one} ({'signal ignored' if handler == signal.SIG_IGN else 'ended by the signal'})")
+    return "; ".join(said)
+
+
+FAULT = Done(3, "fault: shelf\n")
+
+
+def not_a_file(house: House) -> str:
+    """A folder, a name below a file, and a name that is too long: in place of a file that is read, and of one that is stored."""
+    folder = house.folder / "folder"
+    folder.mkdir(exist_ok=True)
+    for name in ("folder", "X/below", "a" * 300, "nowhere/file", ""):
+        for words in (["rank", name, "1", QUERY], ["root", name], ["verify", ROOT, "1", QUERY, name], ["audit", "I", "1", QUERY, name]):
+            expect(f"{words[0]} of {name[:9]!r}", run(house, *words), FAULT)
+        for words in (["build", "X", name], ["prove", "I", "tnra", "1", QUERY, name]):
+            expect(f"{words[0]} into {name[:9]!r}", run(house, *words), FAULT)
+    expect("the folder", list(folder.iterdir()), [])
+    folder.rmdir()
+    return "status 3, 'fault: shelf'; nothing is changed"
+
+
+def permissions(house: House) -> str:
+    if os.geteuid() != 0:
+        how: dict[str, object] = {}
+    else:
+        how = {"user": NOBODY, "group": NOBODY, "extra_groups": []}
+    open_folder, hidden, fixed = house.folder / "open", house.folder / "hidden", house.folder / "open" / "fixed"
+    open_folder.mkdir(exist_ok=True)
+    open_folder.chmod(0o777)
+    hidden.write_text(TEXTS, encoding="utf-8")
+    fixed.write_bytes(BEFORE)
+    hidden.chmod(0)
+    fixed.chmod(0o444)
+    expect("rank of what may not be read", run(house, "rank", "hidden", "1", QUERY, **how), FAULT)
+    for words in (["build", "X"], ["prove", "I", "tnra", "1", QUERY]):
+        expect(f"{words[0]} into what may not be written", run(house, *words, "open/fixed", **how), FAULT)
+        if how:
+            expect(f"{words[0]} into a folder of others", run(house, *words, "other", **how), FAULT)
+            expect("a file there", (house.folder / "other").exists(), False)
+    expect("the file", left(fixed, house.index, BEFORE), "the file as before")
+    expect("build where nobody may", run(house, "build", "X", "open/index", **how), Done(0, ROOT + "\n"))
+    hidden.chmod(0o600)
+    shutil.rmtree(open_folder)
+    return "status 3, 'fault: shelf'; the file is as before"
+
+
+def pipes(house: House) -> str:
+    """A named pipe to which nobody comes, one that somebody reads or writes, and standard input."""
+    pipe = house.folder / "pipe"
+    os.mkfifo(pipe)
+    for words in (["rank", "pipe", "1", QUERY], ["build", "X", "pipe"]):
+        expect(f"{words[0]} with nobody there", run(house, *words, patience=WAIT), Done(None, ""))
+
+    def write() -> None:
+        try:
+            pipe.write_text(TEXTS, encoding="utf-8")
+        except BrokenPipeError:
+            pass
+
+    writer = threading.Thread(target=write)
+    writer.start()
+    expect("rank of what is written", run(house, "rank", "pipe", "1", QUERY, patience=WAIT), FAULT)
+    writer.join()
+    taken: list[bytes] = []
+    holder = os.open(pipe, os.O_RDWR)
+    done = run(house, "build", "X", "pipe", patience=WAIT)
+    taken.append(os.read(holder, 1 << 16))
+    os.close(holder)
+    expect("build into what is read", (done, taken[0]), (Done(0, ROOT + "\n"), house.index))
+    pipe.unlink()
+    with subprocess.Popen(["cat", house.folder / "X"], stdout=subprocess.PIPE) as cat:
+        expect("rank of standard input", run(house, "rank", "/dev/stdin", "1", QUERY, stdin=cat.stdout), FAULT)
+    return "waits until somebody opens the other end; what is read then is refused (status 3, 'fault: shelf'), what is stored goes through"
+
+
+def devices(house: House) -> str:
+    expect("rank of /dev/null", run(house, "rank", "/dev/null", "1", QUERY), Done(4, "input: not json\n"))
+    expect("root of /dev/null", run(house, "root", "/dev/null"), Done(4, "input: index at 0\n"))
+    expect("rank of /dev/zero", run(house, "rank", "/dev/zero", "1", QUERY), Done(4, "input: longer than 67108864\n"))
+    expect("verify of /dev/zero", run(house, "verify", ROOT, "1", QUERY, "/dev/zero"), Done(1, "refused: shape long 67108864\n"))
+    expect("build into /dev/full", run(house, "build", "X", "/dev/full"), FAULT)
+    return "/dev/null is an empty file, /dev/zero one that is too long, /dev/full a full disk"
+
+
+def changes(house: House) -> str:
+    """The file that is read is cut, emptied, taken away or made longer before each of the program's calls in turn."""
+    path, counts = house.folder / "C", {}
+    kinds: dict[str, Callable[[bytes], None]] = {
+        "cut": lambda whole: os.truncate(path, len(whole) // 2),
+        "emptied": lambda whole: os.truncate(path, 0),
+        "taken away": lambda whole: path.unlink(missing_ok=True),
+        "longer": lambda whole: path.write_bytes(whole + b" "),
+    }
+    for words, whole, answer in (
+        (["rank", "C", "1", QUERY], TEXTS.encode(), ROW),
+        (["root", "C"], house.index, ROOT + "\n"),
+        (["verify", ROOT, "1", QUERY, "C"], house.proof, ROW),
+    ):
+        for kind, change in kinds.items():
+            for pieces in (False, True):
+                for call in range(1, 1 << 20):
+                    path.write_bytes(whole)
+                    plan = tracing.Plan(call=call, pieces=pieces, act=lambda: change(whole))
+                    ended = tracing.run([house.program, *words], plan, str(house.folder))
+                    if not ended.failed:
+                        break
+                    printed = ended.printed.decode()
+                    fits = {
+                        0: printed == answer,
+                        1: printed.startswith("refused: shape "),
+                        3: printed == "fault: shelf\n",
+                        4: printed == "input: not json\n" or printed.startswith("input: index at "),
+                    }
+                    expect(f"{words[0]} of a file {kind} before call {call}, {ended}", fits.get(ended.status or 0, False), True)
+                    counts[ended.status] = counts.get(ended.status, 0) + 1
+    path.unlink(missing_ok=True)
+    told = ", ".join(f"{count} with status {status}" for status, count in sorted(counts.items()))
+    return f"{sum(counts.values())} runs: {told}; what was read is judged as it was read"
+
+
+def killed_at_each_call(house: House) -> str:
+    """`kill -9` before each of the program's calls in turn, in pieces of one byte."""
+    path, found = house.folder / "N", {}
+    for words, whole in ((["build", "X", "N"], house.index), (["prove", "I", "tnra", "1", QUERY, "N"], house.proof)):
+        for call in range(1, 1 << 20):
+            path.write_bytes(BEFORE)
+            ended = tracing.run([house.program, *words], tracing.Plan(call=call, pieces=True, kill=True), str(house.folder))
+            if not ended.failed:
+                break
+            expect("status", ended.status, KILLED)
+            what = left(path, whole, BEFORE)
+            if what.startswith(("a prefix", "an empty")):
+                refused_prefix(house, path, what, words[0] == "build")
+            kind = " ".join(what.split()[:2])
+            found[kind] = found.get(kind, 0) + 1
+    return f"{sum(found.values())} runs leave {found}; each prefix is refused"
+
+
+def killed_at_random(house: House) -> str:
+    """`kill -9` at random times over a larger index: a third over the whole run, the others around its end, when it stores."""
+    path, found, rng = house.folder / "N", {}, random.Random(corpora.SEED)
+    path.unlink(missing_ok=True)
+    start = time.monotonic()
+    root = run(house, "build", "LARGE", "N").printed
+    seconds = time.monotonic() - start
+    for turn in range(KILLS):
+        path.write_bytes(BEFORE)
+        process = subprocess.Popen([house.program, "build", "LARGE", "N"], stdout=subprocess.PIPE, cwd=house.folder)
+        time.sleep(seconds * (rng.uniform(0, 1.1) if turn % 3 == 0 else rng.uniform(0.8, 1.05)))
+        process.kill()
+        printed = process.communicate()[0].decode()
+        what = left(path, house.large_index, BEFORE)
+        if what.startswith(("a prefix", "an empty")):
+            refused_prefix(house, path, what, True)
+            what = what if what.startswith("an") else "a prefix"
+        elif what == "the whole file":
+            expect("root of the whole", run(house, "root", "N"), Done(0, root))
+        if printed:
+            expect("what is left where the root was printed", (printed, what), (root, "the whole file"))
+        found[what] = found.get(what, 0) + 1
+    return f"{KILLS} runs leave {found}; each prefix is refused"
+
+
+TRIES: list[tuple[str, Callable[[House], str]]] = [
+    ("standard output is /dev/full", output_full),
+    ("standard output is closed", output_closed),
+    ("standard input, output and errors are closed", all_closed),
+    ("standard output is a pipe that nobody reads", output_gone),
+    ("a server's standard output is closed", server_output_closed),
+    ("the disk is full", full_disk),
+    ("the file may not grow further", long_file),
+    ("a folder or no name in place of a file", not_a_file),
+    ("a file without permission", permissions),
+    ("a pipe in place of a file", pipes),
+    ("a device in place of a file", devices),
+    ("a file that changes while it is read", changes),
+    ("kill -9 before each call of build and prove", killed_at_each_call),
+    ("kill -9 at random times of a larger build", killed_at_random),
+]
+
+
+def passes(house: House, says: str, one: Callable[[House], str]) -> bool:
+    try:
+        print(f"passed: {says}: {one(house)}", flush=True)
+    except Skipped as why:
+        print(f"not tried: {says}: {why}", flush=True)
+    except (Differs, OSError) as why:
+        print(f"FAILED: {says}: {why}", flush=True)
+        return False
+    return True
+
+
+def main() -> int:
+    program = sys.argv[1] if len(sys.argv) > 1 else measure.program()
+    with tempfile.TemporaryDirectory() as folder:
+        house = build(program, Path(folder))
+        failed = sum(not passes(house, says, one) for says, one in TRIES)
+    return 1 if failed else 0
+
+
+if __name__ == "__main__":
+    sys.exit(main())
