@@ -12,14 +12,12 @@ what stands beside it. Ends with status 0 where all is as it should be. Needs 4 
 
 import json
 import os
-import resource
 import socket
 import struct
 import subprocess
 import sys
 import tempfile
 import threading
-import time
 from pathlib import Path
 from typing import Callable, Iterator, NamedTuple, Optional, Union
 
@@ -29,6 +27,7 @@ import too_long
 from sockets import free_port
 
 MIB = corpora.MIB
+ONE_RUN = str(Path(__file__).resolve().parent / "one_run.py")
 LIMIT = 300  # seconds of one run
 MEMORY = 4 << 30  # bytes of address space of one run
 ROWS = 1000
@@ -53,21 +52,16 @@ class Table:
         self.program, self.folder, self.wrong = program, folder, 0
         print(f"{'run':66}{'status':>6}{'seconds':>9}{'MiB':>7}  first line")
 
-    def run(self, *words: str) -> Ended:
-        """One run in the folder."""
-        with tempfile.TemporaryFile("w+", encoding="utf-8") as printed:
-            start = time.perf_counter()
-            limits = lambda: resource.setrlimit(resource.RLIMIT_AS, (MEMORY, MEMORY))
-            process = subprocess.Popen([self.program, *words], stdout=printed, cwd=self.folder, preexec_fn=limits)
-            killer = threading.Timer(LIMIT, os.kill, [process.pid, 9])
-            killer.start()
-            _, status, used = os.wait4(process.pid, 0)
-            seconds = time.perf_counter() - start
-            killer.cancel()
-            process.returncode = os.waitstatus_to_exitcode(status)
-            printed.seek(0)
-            lines = printed.read().splitlines()
-        return Ended(None if seconds >= LIMIT else process.returncode, lines, seconds, used.ru_maxrss * 1024)
+    def start(self, *words: str) -> "subprocess.Popen[str]":
+        """A run in the folder, by a small process of its own."""
+        command = [sys.executable, ONE_RUN, str(LIMIT), str(MEMORY), self.program, *words]
+        return subprocess.Popen(command, stdout=subprocess.PIPE, stderr=subprocess.PIPE, cwd=self.folder, text=True)
+
+    def end(self, process: "subprocess.Popen[str]") -> Ended:
+        printed, told = process.communicate()
+        status, seconds, peak = told.split()[-3:]
+        ended = None if float(seconds) >= LIMIT else int(status)
+        return Ended(ended, printed.splitlines(), float(seconds), int(peak))
 
     def tell(self, says: str, ended: Ended, wrong: str) -> None:
         first = ended.lines[0][:48] if ended.lines else ""
@@ -79,7 +73,7 @@ class Table:
 
     def wanted(self, says: str, words: list[str], status: int = 0, first: Optional[str] = None, rows: Optional[int] = None, peak: Optional[int] = None) -> Ended:
         """A run that is to end so: with the status, the first line, so many rows, and at most so much memory held."""
-        ended = self.run(*words)
+        ended = self.end(self.start(*words))
         wrong = []
         if ended.status != status:
             wrong.append(f"wanted is status {status}")
@@ -106,19 +100,14 @@ def scores(lines: list[str]) -> list[tuple[str, ...]]:
 def ask(table: Table, says: str, index: str, root: str, algorithm: str, query: str, rows: list[str]) -> None:
     """Asks a server of its own; its seconds are those of the reader."""
     address = f"127.0.0.1:{free_port('127.0.0.1')}"
-    server = subprocess.Popen([table.program, "serve", index, "1", address], stdout=subprocess.PIPE, cwd=table.folder, text=True)
-    killer = threading.Timer(2 * LIMIT, os.kill, [server.pid, 9])
-    killer.start()
+    server = table.start("serve", index, "1", address)
     assert server.stdout is not None
     server.stdout.readline()
     ended = table.wanted(says, ["ask", root, algorithm, str(ROWS), query, address], rows=len(rows))
     table.same("the rows of ask and verify", ended.lines, rows)
-    lines = server.stdout.read().splitlines()
-    _, status, used = os.wait4(server.pid, 0)
-    killer.cancel()
-    server.returncode = os.waitstatus_to_exitcode(status)
-    served = Ended(server.returncode, lines, 0, used.ru_maxrss * 1024)
-    table.tell("    and its server", served, "" if lines == ["connection 1 requests 1 end"] and server.returncode == 0 else "the server")
+    served = table.end(server)
+    is_right = served.status == 0 and served.lines == ["connection 1 requests 1 end"]
+    table.tell("    and its server", served, "" if is_right else "the server")
 
 
 def answers(table: Table, name: str, index: str, root: str, query: str, best: list[str], algorithms: tuple[str, ...], served: bool) -> None:
@@ -194,7 +183,8 @@ def collections() -> Iterator[Hostile]:
     yield Hostile("16 million empty strings", repeated(b'[""', b',""', b"]", 3 * 16_000_000 + 1), "input: 16000000 documents", 64)
     yield Hostile("64 MiB of numbers", repeated(b"[0", b",0", b"]", longest), "input: item 0", 64)
     yield Hostile("64 MiB of empty arrays", repeated(b"[[]", b",[]", b"]", longest), "input: item 0", 64)
-    yield Hostile("64 MiB of small objects", repeated(b'[{"a":0}', b',{"a":0}', b"]", longest), "input: item 0", 64)
+    # An object with a member takes nearly 1 KiB, so that 64 MiB of them would take 8 GiB.
+    yield Hostile("16 MiB of small objects", repeated(b'[{"a":0}', b',{"a":0}', b"]", 1 << 24), "input: item 0", 140)
     yield Hostile("a number of 64 MiB", repeated(b"[", b"1", b"]", longest), "input: not json")
     yield Hostile("64 MiB and a byte of blanks", repeated(b"", b" ", b"", longest + 1), "input: longer than 67108864")
 
@@ -257,9 +247,8 @@ def greatest() -> Iterator[Hostile]:
     yield Hostile("a proof of 65,536 digests and no terms", digests, f"refused: shape cut {len(digests)}")
     section = b"\0\x01" + number(0) + b"\x40" + b"t" * 64 + b"\xff\xff" + b"\0\0" + b"\0\0\0" * 32
     room = MAX_PROOF - len(digests)
-    sections = section * (room // len(section))
-    cut = len(digests) + len(sections)
-    yield Hostile("a proof of 2^26 bytes, cut in its sections", digests + sections + section[: room % len(section)], f"refused: shape cut {cut}", 4)
+    sections = digests + section * (room // len(section))
+    yield Hostile("a proof of nearly 2^26 bytes, cut behind a section", sections, f"refused: shape cut {len(sections)}")
     small = b"\0\x01" + number(0) + b"\0" + b"\xff\xff" + b"\0\0" + b"\0\0\0" * 32
     whole = documents + number(0) + small * 65_536 + struct.pack(">H", 1000) + b"\0\0\0\0" * 1000
     yield Hostile(f"a whole proof of {len(whole)} bytes, 32 lists of 65,536", whole, "refused: other-root")

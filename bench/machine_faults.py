@@ -32,6 +32,8 @@ ROOT = "297978110ffb580733eaf8938f9328114690e802ab3108a3bfabc34ba2db2490"
 WAIT = 5  # seconds after which a command that waits is ended
 LIMIT = 120
 KILLS = 60
+STEP = 23  # calls, in a file that is read in pieces of one byte
+LARGE = 2 * corpora.MIB  # bytes of text of the larger collection
 NOBODY = 65534
 DISK = 64 << 10  # bytes of the small disk
 BEFORE = b"before"
@@ -72,7 +74,7 @@ def build(program: str, folder: Path) -> House:
     own = shutil.copy(program, folder / "ats")
     os.chmod(own, 0o755)
     (folder / "X").write_text(TEXTS, encoding="utf-8")
-    corpora.write(str(folder / "LARGE"), corpora.SHAPES["notes"], 2 * corpora.MIB)
+    corpora.write(str(folder / "LARGE"), corpora.SHAPES["notes"], LARGE)
     house = House(own, folder, b"", b"", b"")
     for words, printed in (
         (["build", "X", "I"], ROOT + "\n"),
@@ -296,7 +298,8 @@ def devices(house: House) -> str:
 
 
 def changes(house: House) -> str:
-    """The file that is read is cut, emptied, taken away or made longer before each of the program's calls in turn."""
+    """The file that is read is cut, emptied, taken away or made longer before the program's calls in turn: before each, and in
+    pieces of one byte before some."""
     path, counts = house.folder / "C", {}
     kinds: dict[str, Callable[[bytes], None]] = {
         "cut": lambda whole: os.truncate(path, len(whole) // 2),
@@ -311,7 +314,7 @@ def changes(house: House) -> str:
     ):
         for kind, change in kinds.items():
             for pieces in (False, True):
-                for call in range(1, 1 << 20):
+                for call in range(1, 1 << 20, STEP if pieces else 1):
                     path.write_bytes(whole)
                     plan = tracing.Plan(call=call, pieces=pieces, act=lambda: change(whole))
                     ended = tracing.run([house.program, *words], plan, str(house.folder))
@@ -333,7 +336,7 @@ def changes(house: House) -> str:
 
 def killed_at_each_call(house: House) -> str:
     """`kill -9` before each of the program's calls in turn, in pieces of one byte."""
-    path, found = house.folder / "N", {}
+    path, found, refused = house.folder / "N", {}, set()
     for words, whole in ((["build", "X", "N"], house.index), (["prove", "I", "tnra", "1", QUERY, "N"], house.proof)):
         for call in range(1, 1 << 20):
             path.write_bytes(BEFORE)
@@ -342,8 +345,9 @@ def killed_at_each_call(house: House) -> str:
                 break
             expect("status", ended.status, KILLED)
             what = left(path, whole, BEFORE)
-            if what.startswith(("a prefix", "an empty")):
+            if what.startswith(("a prefix", "an empty")) and what not in refused:
                 refused_prefix(house, path, what, words[0] == "build")
+                refused.add(what)
             kind = " ".join(what.split()[:2])
             found[kind] = found.get(kind, 0) + 1
     return f"{sum(found.values())} runs leave {found}; each prefix is refused"
