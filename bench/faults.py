@@ -201,11 +201,12 @@ def files_fit(house: House, command: Command, status: int) -> bool:
     return {path.name for path in house.folder.iterdir()} == set(house.files)
 
 
-def talk_fits(house: House, command: Command, peer: Peer) -> bool:
-    """What a peer got is a prefix of what is right, or the reply that there is no memory."""
-    if command.name == "serve":
-        return house.reply.startswith(peer.came) or NO_MEMORY.startswith(peer.came)
-    return REQUEST.startswith(peer.came)
+def talk_fits(house: House, command: Command, status: int, peer: Peer) -> bool:
+    """What a peer got is a prefix of what is right, or the reply that there is no memory; whole where the answer was printed."""
+    if command.name not in ("ask", "serve"):
+        return True
+    right = [REQUEST] if command.name == "ask" else [house.reply, NO_MEMORY]
+    return peer.came in right if status == 0 else any(whole.startswith(peer.came) for whole in right)
 
 
 def tried(house: House, command: Command, plan: tracing.Plan) -> tuple[tracing.Ended, str]:
@@ -223,7 +224,7 @@ def tried(house: House, command: Command, plan: tracing.Plan) -> tuple[tracing.E
         return ended, f"WRONG TEXT: {what}"
     if not files_fit(house, command, ended.status):
         return ended, f"WRONG FILES: {what}"
-    if not talk_fits(house, command, peer):
+    if not talk_fits(house, command, ended.status, peer):
         return ended, f"WRONG BYTES OVER THE LINK: {what}, {peer.came!r}"
     return ended, str(ended.status)
 
@@ -232,7 +233,7 @@ def tell(name: str, what: str, runs: collections.Counter[str]) -> bool:
     """Prints a line of the table, and below it each run that is wrong."""
     right = {end: count for end, count in runs.items() if end.isdigit()}
     counts = "".join(f"{right.get(status, 0) or '-':>6}" for status in ("0", "3", "6", "7", "8", "10"))
-    print(f"{name:8}{what:26}{sum(runs.values()):>6}{counts}", flush=True)
+    print(f"{name:8}{what:27}{sum(runs.values()):>6}{counts}", flush=True)
     for end, count in runs.items():
         if end not in right:
             print(f"    {count} times {end}", flush=True)
@@ -240,7 +241,7 @@ def tell(name: str, what: str, runs: collections.Counter[str]) -> bool:
 
 
 def head(says: str) -> None:
-    print(f"\n{says}\n{'command':8}{'what fails':26}{'runs':>6}{'0':>6}{'3':>6}{'6':>6}{'7':>6}{'8':>6}{'10':>6}")
+    print(f"\n{says}\n{'command':8}{'what fails':27}{'runs':>6}{'0':>6}{'3':>6}{'6':>6}{'7':>6}{'8':>6}{'10':>6}")
 
 
 def fail_in_turn(house: House, command: Command, what: str, plans: Iterator[tracing.Plan]) -> bool:
@@ -264,6 +265,7 @@ def over_real_objects(program: str, ways: list[str]) -> bool:
                 counted = range(1, 1 << 20)
                 plans = {
                     "each growth": (tracing.Plan(growth=at) for at in counted),
+                    "each growth and all later": (tracing.Plan(growth=at, onward=True) for at in counted),
                     "each call": (tracing.Plan(call=at) for at in counted),
                     "each call, bytes singly": (tracing.Plan(call=at, pieces=True) for at in counted),
                 }
@@ -421,7 +423,7 @@ def over_memory(program: str, cases: str) -> bool:
 
 def main() -> int:
     named = [word for word in sys.argv[1:] if word != "--quick"]
-    ways = ["each growth", "each call", "each call, bytes singly"]
+    ways = ["each growth", "each growth and all later", "each call", "each call, bytes singly"]
     if "--quick" in sys.argv[1:]:
         ways.pop()
     program = named[0] if named else measure.program()

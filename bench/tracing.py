@@ -50,6 +50,7 @@ class Plan(NamedTuple):
     """What is to fail. Numbers count from 1, and 0 lets nothing fail."""
 
     growth: int = 0
+    onward: bool = False  # so do all growths behind that one
     call: int = 0
     pieces: bool = False  # each read and write moves one byte at most
     kill: bool = False  # the program is killed before that call, which does not fail
@@ -248,12 +249,10 @@ class Tracer:
         registers = self.registers()
         registers.rip -= 1
         address = registers.rip
-        if self.growths == self.plan.growth:
+        if self.growths == self.plan.growth or self.failed and self.plan.onward:
             self.failed = "growth"
             registers.rax, registers.rip = 0, self.peek(registers.rsp)
             registers.rsp += 8
-            for other, word in self.words.items():
-                self.poke(other, word)
             self.put(registers)
             return
         self.put(registers)
