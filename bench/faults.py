@@ -13,7 +13,6 @@ as it was, or a prefix, or whole, and any other file as it was. Ends with status
 import collections
 import re
 import socket
-import struct
 import sys
 import tempfile
 import threading
@@ -122,6 +121,8 @@ class Server(Peer):
                 with link:
                     self.read(link, len(REQUEST))
                     link.sendall(self.reply)
+                    link.shutdown(socket.SHUT_WR)
+                    self.read(link, 1 << 20)
                     return
 
 

@@ -24,9 +24,10 @@ from pathlib import Path
 from typing import Callable, NamedTuple, Optional
 
 import corpora
+import faults
 import measure
 import tracing
-from sockets import QUERY, ROW, TEXTS, Differs, Skipped, expect, free_port
+from sockets import QUERY, REQUEST, ROW, TEXTS, Differs, Skipped, expect, framed, free_port
 
 ROOT = "297978110ffb580733eaf8938f9328114690e802ab3108a3bfabc34ba2db2490"
 WAIT = 5  # seconds after which a command that waits is ended
@@ -159,6 +160,16 @@ def server_output_closed(house: House) -> str:
     done = run(house, "serve", "I", "1", address, stdout=None, preexec_fn=lambda: os.close(1))
     expect("serve", done, Done(7, ""))
     return "status 7; it does not wait for a reader"
+
+
+def reader_output_closed(house: House) -> str:
+    """The link takes the number of the closed output, and what is printed must not go over it."""
+    with faults.Server(framed(b"\x00" + house.proof)) as peer:
+        words = ["ask", ROOT, "tnra", "1", QUERY, f"127.0.0.1:{peer.port}"]
+        done = run(house, *words, stdout=None, preexec_fn=lambda: os.close(1))
+        expect("ask", done, Done(7, ""))
+    expect("what the server got", peer.came, REQUEST)
+    return "status 7; the server gets the request alone"
 
 
 def stores_into(house: House, path: Path, whole: bytes, words: list[str], **how: object) -> str:
@@ -353,8 +364,14 @@ def killed_at_each_call(house: House) -> str:
     return f"{sum(found.values())} runs leave {found}; each prefix is refused"
 
 
+def wait_for_store(path: Path, process: "subprocess.Popen[bytes]") -> None:
+    """Waits until the file is no longer what it was, or the process has ended."""
+    while process.poll() is None and path.stat().st_size == len(BEFORE):
+        time.sleep(0.0001)
+
+
 def killed_at_random(house: House) -> str:
-    """`kill -9` at random times over a larger index: a third over the whole run, the others around its end, when it stores."""
+    """`kill -9` at random times over a larger index: a third within the whole run, the others just after the store began."""
     path, found, rng = house.folder / "N", {}, random.Random(corpora.SEED)
     path.unlink(missing_ok=True)
     start = time.monotonic()
@@ -363,18 +380,22 @@ def killed_at_random(house: House) -> str:
     for turn in range(KILLS):
         path.write_bytes(BEFORE)
         process = subprocess.Popen([house.program, "build", "LARGE", "N"], stdout=subprocess.PIPE, cwd=house.folder)
-        time.sleep(seconds * (rng.uniform(0, 1.1) if turn % 3 == 0 else rng.uniform(0.8, 1.05)))
+        if turn % 3 == 0:
+            time.sleep(rng.uniform(0, seconds))
+        else:
+            wait_for_store(path, process)
+            time.sleep(rng.uniform(0, 0.002))
         process.kill()
         printed = process.communicate()[0].decode()
         what = left(path, house.large_index, BEFORE)
         if what.startswith(("a prefix", "an empty")):
             refused_prefix(house, path, what, True)
-            what = what if what.startswith("an") else "a prefix"
         elif what == "the whole file":
             expect("root of the whole", run(house, "root", "N"), Done(0, root))
         if printed:
             expect("what is left where the root was printed", (printed, what), (root, "the whole file"))
-        found[what] = found.get(what, 0) + 1
+        kind = " ".join(what.split()[:2])
+        found[kind] = found.get(kind, 0) + 1
     return f"{KILLS} runs leave {found}; each prefix is refused"
 
 
@@ -384,6 +405,7 @@ TRIES: list[tuple[str, Callable[[House], str]]] = [
     ("standard input, output and errors are closed", all_closed),
     ("standard output is a pipe that nobody reads", output_gone),
     ("a server's standard output is closed", server_output_closed),
+    ("a reader's standard output is closed", reader_output_closed),
     ("the disk is full", full_disk),
     ("the file may not grow further", long_file),
     ("a folder or no name in place of a file", not_a_file),
