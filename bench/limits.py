@@ -249,12 +249,12 @@ def greatest() -> Iterator[Hostile]:
     yield Hostile("a proof of 2^32 - 1 digests", documents + b"\xff" * 4, f"refused: shape count {len(documents)}")
     digests = documents + number(65_536) + b"\xee" * 32 * 65_536
     yield Hostile("a proof of 65,536 digests and no terms", digests, f"refused: shape cut {len(digests)}")
-    section = b"\0\x01" + number(0) + b"\x40" + b"t" * 64 + b"\xff\xff" + b"\0\0" + b"\0\0\0" * 32
-    room = MAX_PROOF - len(digests)
-    sections = digests + section * (room // len(section))
-    yield Hostile("a proof of nearly 2^26 bytes, cut behind a section", sections, f"refused: shape cut {len(sections)}")
+    leaves = b"".join(number(at) + b"\x40" + b"t" * 64 + b"\xff\xff" for at in range(8))
+    section = b"\0\x08" + leaves + b"\0\x01" + b"\xee" * 32 + b"\0\0\0" * 32
+    answer = struct.pack(">H", 1000) + b"\0\0\0\0" * 1000
+    yield Hostile("a whole proof of nearly 2^26 bytes", digests + section * 65_536 + answer, "refused: other-root")
     small = b"\0\x01" + number(0) + b"\0" + b"\xff\xff" + b"\0\0" + b"\0\0\0" * 32
-    whole = documents + number(0) + small * 65_536 + struct.pack(">H", 1000) + b"\0\0\0\0" * 1000
+    whole = documents + number(0) + small * 65_536 + answer
     yield Hostile(f"a whole proof of {len(whole)} bytes, 32 lists of 65,536", whole, "refused: other-root")
     yield Hostile("the same with a byte more", whole + b"\0", f"refused: shape trailing {len(whole)}")
     yield Hostile("2^26 + 1 bytes", repeated(whole, b"\0", b"", MAX_PROOF + 1), f"refused: shape long {MAX_PROOF}")
