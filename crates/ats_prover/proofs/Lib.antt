@@ -3,6 +3,7 @@ pub mod Records
 pub mod Places
 pub mod Spots
 pub mod Elided
+pub mod KeptDigests
 pub mod Needed
 pub mod Fronts
 pub mod Present

@@ -1,6 +1,8 @@
 -- The lists of a query's terms, with their coefficients, and how each algorithm bounds scores by them.
 use Rattle.std.specs.Prelude.{ℕ, List, [], map, filter, nat_lt, slice_index_or}
 use Rattle.ats_impact.specs.Score.{coefficient, frequency}
+use Rattle.ats_tree.specs.Kept.{kept_digests}
+use Rattle.ats_lists.specs.Leaf.{leaf_bytes}
 use Rattle.ats_lists.specs.Lists.{list}
 use Rattle.ats_bound.specs.Cut.{bracket}
 use Rattle.ats_bound.specs.Lookup.{Table, looked_up}
@@ -29,3 +31,7 @@ impacts_of lanes i doc = impact_in doc (slice_index_or lanes i (record { coeffic
 abbrev pub bounding : Algorithm → List WholeLane → Bounding
 bounding Tnra lanes = bracket
 bounding Tra lanes = looked_up (impacts_of lanes)
+
+-- of each lane the digests of all nodes of the tree of its list
+abbrev pub list_digests : (List ℕ → List ℕ) → List WholeLane → List (List (List ℕ))
+list_digests H lanes = map (λ (lane : WholeLane). kept_digests H (map leaf_bytes lane.entries)) lanes

@@ -4,6 +4,7 @@ ghost use Rattle.std.specs.Prelude.{◌≡◌, ◌+◌, ◌≤◌, ◌<◌, ◌*
 ghost use Rattle.std.specs.List.{All, flat_map};
 ghost use Rattle.std.specs.List.Sorted.{IsStrictlyIncreasing};
 ghost use Rattle.ats_tree.specs.Elided.{elided_digests};
+ghost use Rattle.ats_tree.specs.Kept.{kept_digests};
 ghost use Rattle.ats_dict.specs.Dictionary.{IsDictionary, dict_leaves};
 ghost use Rattle.ats_proof.specs.Parts.{counted};
 ghost use Rattle.ats_proof.specs.Value.{digest_fields, entry_fields, slot_fields};
@@ -13,10 +14,10 @@ ghost use Rattle.ats_prover.specs.Writing.{put};
 use crate::fault::OutOfMemory;
 use crate::shown::{write_digests, write_slots};
 use ats_dict::{Dictionary, Spot};
-use ats_hash::{Hash32, Steps};
+use ats_hash::HashKind;
 use ats_records::ProofWriter;
 use ats_terms::Query;
-use ats_tree::{Digests, Leaves, elided};
+use ats_tree::{Digests, Leaves, Nodes};
 use std::alloc::Global;
 
 /// Where each term of the query stands in the dictionary.
@@ -59,12 +60,14 @@ fn write_leaves(
 }
 
 // The leaves at these positions, and the digests that the tree needs besides them.
-fn write_section<H: Hash32>(
+fn write_section<H: HashKind>(
     alloc: Global,
     writer: &mut ProofWriter,
     dictionary: &Dictionary,
+    nodes: &Nodes,
     positions: &[u32],
 ) -> Result<(), OutOfMemory>
+    requires nodes { nodes.now ≡ kept_digests H.hash (dict_leaves dictionary.now) }
     requires rise { IsStrictlyIncreasing positions.now }
     requires within { All (λ p. p < length dictionary.now + 2) positions.now }
     requires few { length positions.now ≤ 64 }
@@ -76,19 +79,21 @@ fn write_section<H: Hash32>(
     // A dictionary's leaves have terms of at most 64 bytes, and positions of 32 bits.
     prove!(dictionary.len() >= 2);
     let mut digests = Digests::new(alloc);
-    elided::<H, _>(dictionary, positions, &mut digests, &mut Steps::new(alloc))?;
+    nodes.elided(positions, &mut digests)?;
     write_leaves(writer, dictionary, positions)?;
     write_digests(writer, &digests)
 }
 
 /// The leaves at these positions, the digests that the tree needs besides them, and a slot for each term.
-pub(crate) fn write_terms<H: Hash32>(
+pub(crate) fn write_terms<H: HashKind>(
     alloc: Global,
     writer: &mut ProofWriter,
     dictionary: &Dictionary,
+    nodes: &Nodes,
     positions: &[u32],
     spots: &[Spot],
 ) -> Result<(), OutOfMemory>
+    requires nodes { nodes.now ≡ kept_digests H.hash (dict_leaves dictionary.now) }
     requires rise { IsStrictlyIncreasing positions.now }
     requires within { All (λ p. p < length dictionary.now + 2) positions.now }
     requires few { length positions.now ≤ 64 }
@@ -99,6 +104,6 @@ pub(crate) fn write_terms<H: Hash32>(
         ++ flat_map slot_fields (map (slot_of positions.now) spots.now))) }
     ensures size { OnOk result (writer.new.asked ≤ writer.old.asked + 2 ^ 24) }
 {
-    write_section::<H>(alloc, writer, dictionary, positions)?;
+    write_section::<H>(alloc, writer, dictionary, nodes, positions)?;
     write_slots(writer, positions, spots)
 }

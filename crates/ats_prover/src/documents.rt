@@ -14,12 +14,11 @@ ghost use Rattle.ats_prover.specs.Writing.{AreDocumentsWritten, AreSectionsWritt
 use crate::fault::OutOfMemory;
 use crate::present_terms::PresentTerms;
 use crate::shown::write_each_digest;
-use crate::terms_section::write_section;
-use ats_commit::DocLeaves;
-use ats_hash::{Hash32, HashKind, Steps};
+use crate::terms_section::{Section, write_section};
+use ats_hash::HashKind;
 use ats_index::Index;
 use ats_records::{Algorithm, ProofWriter};
-use ats_tree::{Digests, Leaves, elided};
+use ats_tree::{Digests, Leaves};
 use std::alloc::Global;
 
 // The leaf of each met document.
@@ -45,7 +44,7 @@ fn write_leaves<H: HashKind>(
 }
 
 // The leaf of each met document, and the digests that the tree of all documents needs besides them.
-fn write_tree<H: Hash32>(
+fn write_tree<H: HashKind>(
     alloc: Global,
     writer: &mut ProofWriter,
     index: &Index<H>,
@@ -62,20 +61,17 @@ fn write_tree<H: Hash32>(
     ensures few { OnOk result (length index.now.texts ≤ 65536) }
     ensures size { OnOk result (writer.new.asked ≤ writer.old.asked + 2 ^ 23) }
 {
-    // A collection has a document.
-    prove!(index.collection().documents() >= 1);
-    let leaves = DocLeaves {
-        leaves: index.doc_leaves(),
-    };
+    // A collection has few documents.
+    prove!(index.collection().documents() <= 65536);
     let mut digests = Digests::new(alloc);
-    elided::<H, _>(&leaves, met, &mut digests, &mut Steps::new(alloc))?;
+    index.docs_nodes().elided(met, &mut digests)?;
     write_leaves(writer, index, met)?;
     writer.count32(digests.len() as u32)?;
     write_each_digest(writer, &digests)
 }
 
 // Where the present terms stand in each met document.
-fn write_sections<H: Hash32>(
+fn write_sections<H: HashKind>(
     alloc: Global,
     writer: &mut ProofWriter,
     index: &Index<H>,
@@ -90,15 +86,17 @@ fn write_sections<H: Hash32>(
     ensures written { OnOk result (AreSectionsWritten H.hash index.now.texts present.now met.now writer.old writer.new) }
     ensures size { OnOk result (writer.new.asked ≤ writer.old.asked + 2 ^ 39) }
 {
+    let mut section = Section::new(alloc);
     for doc in met {
-        write_section::<H>(alloc, writer, index.doc_terms(*doc), present)?;
+        let terms = index.doc_terms(*doc);
+        write_section::<H>(writer, terms, index.doc_nodes(*doc), present, &mut section)?;
     }
     Ok(())
 }
 
 /// The leaves of the met documents, the digests that the tree of all documents needs besides them, and
 /// where the present terms stand in each; nothing where scores are not looked up.
-pub(crate) fn write_documents<H: Hash32>(
+pub(crate) fn write_documents<H: HashKind>(
     alloc: Global,
     writer: &mut ProofWriter,
     index: &Index<H>,

@@ -1,13 +1,13 @@
-//! The lists of the query's terms.
+//! The lists of the query's terms, with the kept digests of their trees.
 
-ghost use Rattle.std.specs.Prelude.{◌≡◌, ◌≤◌, ◌<◌, ◌*◌, ℕ, length, IfOk, OnOk};
+ghost use Rattle.std.specs.Prelude.{◌≡◌, ◌≤◌, ◌<◌, ◌*◌, ℕ, length, map, IfOk, OnOk};
 ghost use Rattle.std.specs.List.{All};
 ghost use Rattle.ats_impact.specs.Numbers.{idf};
 ghost use Rattle.ats_lists.specs.Lists.{IsList};
 ghost use Rattle.ats_bound.specs.Schedule.{AreWholeLanes, whole_lanes};
 ghost use Rattle.ats_commit.specs.Trees.{dictionary_of};
 ghost use Rattle.ats_prover.specs.Terms.{AreSpots};
-ghost use Rattle.ats_prover.specs.Lanes.{lanes_of};
+ghost use Rattle.ats_prover.specs.Lanes.{lanes_of, list_digests};
 
 use crate::fault::OutOfMemory;
 use ats_bound::Lane;
@@ -17,7 +17,15 @@ use ats_impact::idf;
 use ats_index::Index;
 use ats_lists::Entry;
 use ats_terms::Query;
+use ats_tree::Nodes;
 use std::alloc::Global;
+
+/// The lists of a query's terms, in the query's order: their lanes, and beside each the nodes of the list's tree.
+#[derive(Drop)]
+pub(crate) struct QueryLists<'a> {
+    pub(crate) lanes: Vec<Lane<'a>>,
+    pub(crate) nodes: Vec<&'a Nodes>,
+}
 
 // The lane of a term that stands so often in the query.
 fn lane<'a>(entries: &'a [Entry], weight: u8, documents: u32) -> Lane<'a>
@@ -35,26 +43,31 @@ fn lane<'a>(entries: &'a [Entry], weight: u8, documents: u32) -> Lane<'a>
     }
 }
 
-/// A lane for each term of the query that has a list.
-pub(crate) fn lanes<'a, H: HashKind>(
+/// The lists of the query's terms that have one.
+pub(crate) fn query_lists<'a, H: HashKind>(
     alloc: Global,
     index: &'a Index<H>,
     query: &Query,
     spots: &[Spot],
-) -> Result<Vec<Lane<'a>>, OutOfMemory>
+) -> Result<QueryLists<'a>, OutOfMemory>
     requires { AreSpots (dictionary_of H.hash index.now) query.now spots.now }
-    ensures lanes { IfOk result (λ lanes. whole_lanes lanes.items ≡ lanes_of index.now.texts query.now) }
+    ensures lanes { IfOk result (λ made. whole_lanes made.lanes.items ≡ lanes_of index.now.texts query.now) }
+    ensures nodes { IfOk result (λ made. map (λ n. n.now) made.nodes.items ≡ list_digests H.hash (whole_lanes made.lanes.items)) }
     ensures whole { OnOk result (AreWholeLanes (lanes_of index.now.texts query.now)) }
     ensures lists { OnOk result (All (λ lane. IsList 65536 lane.entries) (lanes_of index.now.texts query.now)) }
 {
     let documents = index.collection().documents();
     let lists = index.lists();
     let mut lanes = Vec::new(alloc);
+    let mut nodes = Vec::new(alloc);
     for i in 0..query.len() {
         match spots[i] {
-            Spot::At(p) => lanes.push(lane(lists.list(p - 1), query.weight(i), documents))?,
+            Spot::At(p) => {
+                lanes.push(lane(lists.list(p - 1), query.weight(i), documents))?;
+                nodes.push(index.list_nodes(p - 1))?;
+            }
             Spot::Between(_) => {}
         }
     }
-    Ok(lanes)
+    Ok(QueryLists { lanes, nodes })
 }

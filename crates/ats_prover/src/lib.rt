@@ -3,6 +3,8 @@
 //! A proof shows where the query's terms stand in the dictionary, the fronts of their lists up to where
 //! the walk ends, and the chosen answer, with the digests that bind all of it to the root.
 //! By random access it also shows where the terms stand in each met document.
+//! Nothing is hashed here: the hash function is a type without a call, and the index lends the digests of all
+//! nodes of its trees.
 //! The room stands on `ats_index` for the archive, on `ats_tnra` and `ats_tra` for the walks, and on
 //! `ats_records` and `ats_proof` for the bytes. The contracts promise that a query over an archive has one
 //! honest proof by each algorithm, no more and no fewer, which shows exactly the leaves that its terms need and

@@ -3,7 +3,7 @@
 ghost use Rattle.std.specs.Prelude.{◌≡◌, ◌+◌, ◌≤◌, ◌<◌, ◌*◌, ◌^◌, ◌++◌, ℕ, length, map, take, IfOk, OnOk};
 ghost use Rattle.std.specs.List.{All, flat_map, range_with_len};
 ghost use Rattle.std.specs.List.Sorted.{IsStrictlyIncreasing};
-ghost use Rattle.ats_tree.specs.Elided.{elided_digests};
+ghost use Rattle.ats_tree.specs.Kept.{kept_digests};
 ghost use Rattle.ats_lists.specs.Leaf.{leaf_bytes};
 ghost use Rattle.ats_lists.specs.Lists.{IsList};
 ghost use Rattle.ats_lists.specs.Layout.{whole_lists};
@@ -13,16 +13,17 @@ ghost use Rattle.ats_bound.specs.Schedule.{AreWholeLanes};
 ghost use Rattle.ats_proof.specs.Parts.{counted};
 ghost use Rattle.ats_proof.specs.Value.{id_fields, posting_fields, prefix_fields};
 ghost use Rattle.ats_prover.specs.Honest.{placed, prefix_of, prefixes};
+ghost use Rattle.ats_prover.specs.Lanes.{list_digests};
 ghost use Rattle.ats_prover.specs.Writing.{put};
 
 use crate::answer::write_met;
 use crate::fault::OutOfMemory;
 use crate::shown::{place, write_digests};
 use ats_bound::Lane;
-use ats_hash::{Hash32, Steps};
-use ats_lists::{Entry, ListLeaves};
+use ats_hash::HashKind;
+use ats_lists::Entry;
 use ats_records::ProofWriter;
-use ats_tree::{Digests, elided};
+use ats_tree::{Digests, Nodes};
 use std::alloc::Global;
 
 // Entries behind their number, each with its document's place among the met ids.
@@ -58,16 +59,18 @@ fn first(alloc: Global, count: u32) -> Result<Vec<u32>, OutOfMemory>
 }
 
 // The first entries of a list, and the digests that its tree needs besides them.
-fn write_prefix<H: Hash32>(
+fn write_prefix<H: HashKind>(
     alloc: Global,
     writer: &mut ProofWriter,
     met: &[u32],
     entries: &[Entry],
+    nodes: &Nodes,
     count: u32,
 ) -> Result<(), OutOfMemory>
     requires rise { IsStrictlyIncreasing met.now }
     requires documents { length met.now ≤ 65536 }
     requires list { IsList 65536 entries.now }
+    requires nodes { nodes.now ≡ kept_digests H.hash (map leaf_bytes entries.now) }
     requires some { 1 ≤ count }
     requires within { count ≤ length entries.now }
     requires room { writer.old.asked ≤ 2 ^ 59 }
@@ -75,25 +78,26 @@ fn write_prefix<H: Hash32>(
     ensures size { OnOk result (writer.new.asked ≤ writer.old.asked + 2 ^ 23) }
 {
     let positions = first(alloc, count)?;
-    let leaves = ListLeaves { entries };
     let mut digests = Digests::new(alloc);
-    elided::<H, _>(&leaves, &positions, &mut digests, &mut Steps::new(alloc))?;
+    nodes.elided(&positions, &mut digests)?;
     write_entries(writer, met, &entries[..count as usize])?;
     write_digests(writer, &digests)
 }
 
 /// The met documents, and of each list the first entries, as many as the cut says.
-pub(crate) fn write_lists<H: Hash32>(
+pub(crate) fn write_lists<H: HashKind>(
     alloc: Global,
     writer: &mut ProofWriter,
     met: &[u32],
     lanes: &[Lane<'_>],
+    nodes: &[&Nodes],
     cut: &[u32],
 ) -> Result<(), OutOfMemory>
     requires rise { IsStrictlyIncreasing met.now }
     requires documents { length met.now ≤ 65536 }
     requires lanes { AreWholeLanes (whole_lanes lanes.now) }
     requires lists { All (λ lane. IsList 65536 lane.entries) (whole_lanes lanes.now) }
+    requires nodes { map (λ n. n.now) nodes.now ≡ list_digests H.hash (whole_lanes lanes.now) }
     requires cut { IsCut (whole_lanes lanes.now) cut.now }
     requires room { writer.old.asked ≤ 2 ^ 58 }
     ensures fields { OnOk result (writer.new ≡ put writer.old (counted 4 id_fields met.now
@@ -102,7 +106,7 @@ pub(crate) fn write_lists<H: Hash32>(
 {
     write_met(writer, met)?;
     for (i, lane) in lanes.iter().enumerate() {
-        write_prefix::<H>(alloc, writer, met, lane.entries, cut[i])?;
+        write_prefix::<H>(alloc, writer, met, lane.entries, nodes[i], cut[i])?;
     }
     Ok(())
 }

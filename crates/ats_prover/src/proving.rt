@@ -10,7 +10,7 @@ ghost use Rattle.ats_bound.specs.Schedule.{IsCut};
 ghost use Rattle.ats_records.specs.declared.record.Algorithm.TheVariants.{Tnra};
 ghost use Rattle.ats_proof.specs.Value.{Proof};
 ghost use Rattle.ats_prover.specs.declared.fault.ProveFault.TheVariants.{OutOfMemory as MemoryWanted};
-ghost use Rattle.ats_prover.specs.Lanes.{bounding};
+ghost use Rattle.ats_prover.specs.Lanes.{bounding, list_digests};
 ghost use Rattle.ats_prover.specs.Honest.{IsHonest, IsProved, IsFault, IsAnswerWithin, length_of};
 ghost use Rattle.ats_prover.specs.Writing.{IsWalkWritten, IsWritten};
 
@@ -18,29 +18,30 @@ use crate::answer::{documents, write_answer};
 use crate::dictionary::{spots, write_terms};
 use crate::documents::write_documents;
 use crate::fault::{OutOfMemory, ProveFault};
-use crate::lanes::lanes;
+use crate::lanes::query_lists;
 use crate::prefixes::write_lists;
 use crate::present_terms::PresentTerms;
-use crate::shown::positions;
+use crate::shown::keep_positions;
 use crate::walking::walk;
 use ats_base::Bytes;
 use ats_bound::{Lane, Walk};
-use ats_hash::Hash32;
+use ats_hash::HashKind;
 use ats_impact::Top;
 use ats_index::Index;
 use ats_records::{Algorithm, ProofWriter, records_are_joined};
 use ats_terms::Query;
-use ats_tree::Leaves;
+use ats_tree::{Leaves, Nodes};
 use std::alloc::Global;
 
 // What a proof shows of where the walk ended: the met documents, the fronts of the lists, what is shown of
 // the documents, and the answer.
-fn write_walk<H: Hash32>(
+fn write_walk<H: HashKind>(
     alloc: Global,
     writer: &mut ProofWriter,
     index: &Index<H>,
     present: &PresentTerms<'_>,
     lanes: &[Lane<'_>],
+    nodes: &[&Nodes],
     walk: &Walk,
     algorithm: Algorithm,
 ) -> Result<(), OutOfMemory>
@@ -48,6 +49,7 @@ fn write_walk<H: Hash32>(
     requires terms { length present.now ≡ length lanes.now }
     requires lists { All (λ lane. IsList 65536 lane.entries) (whole_lanes lanes.now) }
     requires within { All (λ lane. All (λ (e : Posting). e.doc < length index.now.texts) lane.entries) (whole_lanes lanes.now) }
+    requires nodes { map (λ n. n.now) nodes.now ≡ list_digests H.hash (whole_lanes lanes.now) }
     requires cut { IsCut (whole_lanes lanes.now) walk.now.cut }
     requires brackets { AreBracketsBy (bounding algorithm (whole_lanes lanes.now)) (shown (whole_lanes lanes.now) walk.now.cut) walk.now.brackets }
     requires rows { length walk.now.picks ≤ 1000 }
@@ -55,13 +57,13 @@ fn write_walk<H: Hash32>(
     ensures { OnOk result (IsWalkWritten algorithm H.hash index.now.texts present.now (whole_lanes lanes.now) (map (λ (b : Bounds). b.doc) walk.now.brackets) walk.now.cut walk.now.picks writer.old writer.new) }
 {
     let met = documents(alloc, walk.brackets.as_slice())?;
-    write_lists::<H>(alloc, writer, &met, lanes, walk.cut.as_slice())?;
+    write_lists::<H>(alloc, writer, &met, lanes, nodes, walk.cut.as_slice())?;
     write_documents(alloc, writer, index, present, &met, algorithm)?;
     write_answer(writer, walk.picks.as_slice())
 }
 
 // Everything that the honest proof says.
-fn write_proof<H: Hash32>(
+fn write_proof<H: HashKind>(
     alloc: Global,
     writer: &mut ProofWriter,
     index: &Index<H>,
@@ -78,19 +80,36 @@ fn write_proof<H: Hash32>(
     prove!(index.dictionary().len() >= 2);
     prove!(top.get() <= 1000);
     let spots = spots(alloc, index.dictionary(), query)?;
-    let positions = positions(alloc, &spots)?;
+    let mut positions = Vec::new(alloc);
+    keep_positions(&spots, &mut positions)?;
     writer.front(algorithm, index.header(), query.len() as u16)?;
-    write_terms::<H>(alloc, writer, index.dictionary(), &positions, &spots)?;
+    write_terms::<H>(
+        alloc,
+        writer,
+        index.dictionary(),
+        index.dict_nodes(),
+        &positions,
+        &spots,
+    )?;
     let present = PresentTerms::of(alloc, query, &spots)?;
-    let lanes = lanes(alloc, index, query, &spots)?;
-    let end = walk(alloc, index, &present, &lanes, top, algorithm)?;
-    write_walk(alloc, writer, index, &present, &lanes, &end, algorithm)
+    let lists = query_lists(alloc, index, query, &spots)?;
+    let end = walk(alloc, index, &present, &lists.lanes, top, algorithm)?;
+    write_walk(
+        alloc,
+        writer,
+        index,
+        &present,
+        &lists.lanes,
+        &lists.nodes,
+        &end,
+        algorithm,
+    )
 }
 
 const MAX_PROOF: u64 = 1 << 26;
 
 /// The proof of the best documents of a query, of at most 2^26 bytes.
-pub fn prove<H: Hash32>(
+pub fn prove<H: HashKind>(
     alloc: Global,
     index: &Index<H>,
     query: &Query,
@@ -106,7 +125,7 @@ pub fn prove<H: Hash32>(
 }
 
 /// The proof of the best documents of a query, of at most `limit` bytes.
-pub fn prove_within<H: Hash32>(
+pub fn prove_within<H: HashKind>(
     alloc: Global,
     index: &Index<H>,
     query: &Query,

@@ -1,6 +1,6 @@
 //! Which leaves show where terms stand, and what is written of a tree of terms besides its leaves.
 
-ghost use Rattle.std.specs.Prelude.{◌≡◌, ◌+◌, ◌≤◌, ◌*◌, ◌^◌, ◌∷◌, ℕ, length, map, IfOk, OnOk};
+ghost use Rattle.std.specs.Prelude.{◌≡◌, ◌+◌, ◌≤◌, ◌*◌, ◌^◌, ◌∷◌, ℕ, length, map, OnOk};
 ghost use Rattle.std.specs.List.{All, flat_map};
 ghost use Rattle.std.specs.List.Sorted.{IsStrictlyIncreasing};
 ghost use Rattle.ats_proof.specs.Parts.{counted};
@@ -12,14 +12,13 @@ use crate::fault::OutOfMemory;
 use ats_dict::Spot;
 use ats_records::{ProofWriter, Slot};
 use ats_tree::Digests;
-use std::alloc::Global;
 
-// The positions that the terms need, term by term.
-fn all_needed(alloc: Global, spots: &[Spot]) -> Result<Vec<u32>, OutOfMemory>
+// Keeps the positions that the terms need, term by term, and nothing else.
+fn keep_all_needed(spots: &[Spot], positions: &mut Vec<u32>) -> Result<(), OutOfMemory>
     requires low { All (λ spot. lower spot ≤ 2 ^ 24) spots.now }
-    ensures { IfOk result (λ positions. positions.items ≡ flat_map needs spots.now) }
+    ensures { OnOk result (positions.new.items ≡ flat_map needs spots.now) }
 {
-    let mut positions = Vec::new(alloc);
+    positions.clear();
     for spot in spots {
         match spot {
             Spot::At(p) => positions.push(*p)?,
@@ -29,19 +28,19 @@ fn all_needed(alloc: Global, spots: &[Spot]) -> Result<Vec<u32>, OutOfMemory>
             }
         }
     }
-    Ok(positions)
+    Ok(())
 }
 
-/// The positions of the leaves that show where the terms stand.
-pub(crate) fn positions(alloc: Global, spots: &[Spot]) -> Result<Vec<u32>, OutOfMemory>
+/// Keeps the positions of the leaves that show where the terms stand, and nothing else.
+pub(crate) fn keep_positions(spots: &[Spot], positions: &mut Vec<u32>) -> Result<(), OutOfMemory>
     requires low { All (λ spot. lower spot ≤ 2 ^ 24) spots.now }
-    ensures needed { IfOk result (λ positions. AreNeeded spots.now positions.items) }
-    ensures few { IfOk result (λ positions. length positions.items ≤ 2 * length spots.now) }
+    ensures needed { OnOk result (AreNeeded spots.now positions.new.items) }
+    ensures few { OnOk result (length positions.new.items ≤ 2 * length spots.now) }
 {
-    let mut positions = all_needed(alloc, spots)?;
+    keep_all_needed(spots, positions)?;
     positions.sort_unstable();
     positions.dedup();
-    Ok(positions)
+    Ok(())
 }
 
 /// How many of some rising numbers are below this one.

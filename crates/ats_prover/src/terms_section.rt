@@ -1,9 +1,10 @@
 //! What a proof shows of the terms of a document.
 
-ghost use Rattle.std.specs.Prelude.{◌≡◌, ◌+◌, ◌≤◌, ◌<◌, ◌^◌, ◌++◌, ℕ, length, map, slice_index, IfOk, OnOk};
+ghost use Rattle.std.specs.Prelude.{◌≡◌, ◌+◌, ◌≤◌, ◌<◌, ◌^◌, ◌++◌, ℕ, length, map, slice_index, OnOk};
 ghost use Rattle.std.specs.List.{All, flat_map};
 ghost use Rattle.std.specs.List.Sorted.{IsStrictlyIncreasing};
 ghost use Rattle.ats_tree.specs.Elided.{elided_digests};
+ghost use Rattle.ats_tree.specs.Kept.{kept_digests};
 ghost use Rattle.ats_doctree.specs.Sentinels.{terms_leaves};
 ghost use Rattle.ats_proof.specs.Parts.{counted};
 ghost use Rattle.ats_proof.specs.Value.{digest_fields, slot_fields, term_fields};
@@ -13,13 +14,33 @@ ghost use Rattle.ats_prover.specs.Writing.{IsSectionWritten, put};
 
 use crate::fault::OutOfMemory;
 use crate::present_terms::PresentTerms;
-use crate::shown::{positions, write_digests, write_slots};
+use crate::shown::{keep_positions, write_digests, write_slots};
 use ats_dict::Spot;
 use ats_doctree::DocTerms;
-use ats_hash::{Hash32, Steps};
+use ats_hash::HashKind;
 use ats_records::{ProofWriter, TermLeaf};
-use ats_tree::{Digests, Leaves, elided};
+use ats_tree::{Digests, Leaves, Nodes};
 use std::alloc::Global;
+
+/// Where terms stand among one document's, and what is shown of that. It is lent from document to document, so
+/// that they share its memory.
+#[derive(Drop)]
+pub(crate) struct Section {
+    spots: Vec<Spot>,
+    positions: Vec<u32>,
+    digests: Digests,
+}
+
+impl Section {
+    /// Of no document. It takes no memory.
+    pub(crate) fn new(alloc: Global) -> Self {
+        Section {
+            spots: Vec::new(alloc),
+            positions: Vec::new(alloc),
+            digests: Digests::new(alloc),
+        }
+    }
+}
 
 // Where a term stands among a document's.
 fn spot(terms: &DocTerms, term: &[u8]) -> Spot
@@ -33,23 +54,23 @@ fn spot(terms: &DocTerms, term: &[u8]) -> Spot
     }
 }
 
-// Where each of the present terms stands among a document's.
-fn spots(
-    alloc: Global,
+// Keeps where each of the present terms stands among a document's, and nothing else.
+fn keep_spots(
     terms: &DocTerms,
     present: &PresentTerms<'_>,
-) -> Result<Vec<Spot>, OutOfMemory>
-    ensures spots { IfOk result (λ spots. HaveSpots (IsTermSpot terms.now) present.now spots.items) }
-    ensures few { IfOk result (λ spots. length spots.items ≤ 32) }
-    ensures low { IfOk result (λ spots. All (λ spot. lower spot ≤ 2 ^ 24) spots.items) }
+    spots: &mut Vec<Spot>,
+) -> Result<(), OutOfMemory>
+    ensures spots { OnOk result (HaveSpots (IsTermSpot terms.now) present.now spots.new.items) }
+    ensures few { OnOk result (length spots.new.items ≤ 32) }
+    ensures low { OnOk result (All (λ spot. lower spot ≤ 2 ^ 24) spots.new.items) }
 {
     // Positions have 32 bits, and so has the one behind a lower neighbour.
     prove!(terms.len() >= 2);
-    let mut spots = Vec::new(alloc);
+    spots.clear();
     for i in 0..present.len() {
         spots.push(spot(terms, present.term(i)))?;
     }
-    Ok(spots)
+    Ok(())
 }
 
 // The leaves at these positions, behind their number.
@@ -75,14 +96,17 @@ fn write_leaves(
     Ok(())
 }
 
-// The leaves at these positions, the digests that the tree needs besides them, and a slot for each term.
-fn write_shown<H: Hash32>(
-    alloc: Global,
+// The leaves at these positions, the digests that the tree needs besides them, and a slot for each term. Other
+// digests are forgotten.
+fn write_shown<H: HashKind>(
     writer: &mut ProofWriter,
     terms: &DocTerms,
+    nodes: &Nodes,
     positions: &[u32],
     spots: &[Spot],
+    digests: &mut Digests,
 ) -> Result<(), OutOfMemory>
+    requires nodes { nodes.now ≡ kept_digests H.hash (terms_leaves terms.now) }
     requires rise { IsStrictlyIncreasing positions.now }
     requires within { All (λ p. p < length terms.now + 2) positions.now }
     requires few { length positions.now ≤ 64 }
@@ -95,21 +119,23 @@ fn write_shown<H: Hash32>(
 {
     // A document has at most 2^20 terms.
     prove!(terms.len() >= 2);
-    let mut digests = Digests::new(alloc);
-    elided::<H, _>(terms, positions, &mut digests, &mut Steps::new(alloc))?;
+    digests.clear();
+    nodes.elided(positions, digests)?;
     write_leaves(writer, terms, positions)?;
-    write_digests(writer, &digests)?;
+    write_digests(writer, digests)?;
     write_slots(writer, positions, spots)
 }
 
 /// The leaves that show where the present terms stand among a document's, the digests that the tree of its
 /// terms needs besides them, and a slot for each present term.
-pub(crate) fn write_section<H: Hash32>(
-    alloc: Global,
+pub(crate) fn write_section<H: HashKind>(
     writer: &mut ProofWriter,
     terms: &DocTerms,
+    nodes: &Nodes,
     present: &PresentTerms<'_>,
+    section: &mut Section,
 ) -> Result<(), OutOfMemory>
+    requires nodes { nodes.now ≡ kept_digests H.hash (terms_leaves terms.now) }
     requires some { 1 ≤ length present.now }
     requires room { writer.old.asked ≤ 2 ^ 58 }
     ensures written { OnOk result (IsSectionWritten H.hash terms.now present.now writer.old writer.new) }
@@ -118,7 +144,14 @@ pub(crate) fn write_section<H: Hash32>(
     // The terms rise, and so do those of the document, which are at most 2^20.
     prove!(present.len() <= 32);
     prove!(terms.len() >= 2);
-    let spots = spots(alloc, terms, present)?;
-    let positions = positions(alloc, &spots)?;
-    write_shown::<H>(alloc, writer, terms, &positions, &spots)
+    keep_spots(terms, present, &mut section.spots)?;
+    keep_positions(&section.spots, &mut section.positions)?;
+    write_shown::<H>(
+        writer,
+        terms,
+        nodes,
+        &section.positions,
+        &section.spots,
+        &mut section.digests,
+    )
 }

@@ -14,7 +14,7 @@ loop-doc-preserved g c =
     let H = g.H.HashKind.hash in
     let i = c.loop-doc.doc-index in
     let inside : i < length c.args.met.now = omega (arith, c.loop-doc-test.true) in
-    let own = subst (λ (items : List (List ℕ × ℕ)). IsSectionWritten H items c.args.present.now c.loop-doc.writer c.write_section.new.writer) c.doc_terms.ensures c.in_ok-write_section.ensures.written in
+    let own = subst (λ (items : List (List ℕ × ℕ)). IsSectionWritten H items c.args.present.now c.loop-doc.writer c.write_section.new.writer) c.doc_terms-terms.ensures c.in_ok-write_section.ensures.written in
     record {
       written = rw add-one (sections_more H c.args.index.now.texts c.args.present.now c.args.met.now i c.args.writer.now c.loop-doc.writer c.write_section.new.writer inside c.loop-doc.invariant.written own);
       size = omega (arith, c.in_ok-write_section.ensures.size, c.loop-doc.invariant.size);

@@ -1,4 +1,4 @@
-use Rattle.std.proofs.Common.{◌≡◌, ◌<◌, ◌≤◌, ◌++◌, List, [], length, get_or, take, subst, sym, ap, ◌∙◌, arith, append-nil, take_all}
+use Rattle.std.proofs.Common.{◌≡◌, ◌<◌, ◌≤◌, ◌++◌, List, [], length, get_or, take, subst, sym, ap, ◌∙◌, arith, append-nil, take_all, ℕ, Bor}
 use Rattle.std.specs.List.{flat_map}
 use Rattle.std.proofs.lemmas.List.{length-map, get_or-map}
 use Rattle.ats_lists.specs.Lists.{IsList}
@@ -8,7 +8,7 @@ use Rattle.ats_proof.specs.Parts.{counted}
 use Rattle.ats_proof.specs.Value.{Prefix, id_fields, prefix_fields}
 use Rattle.ats_prover.specs.Honest.{prefixes}
 use Rattle.ats_prover.specs.Writing.{put}
-use Rattle.ats_prover.proofs.Fronts.{prefix_each, prefix_more}
+use Rattle.ats_prover.proofs.Fronts.{lent_at, prefix_each, prefix_more}
 use Rattle.ats_prover.proofs.prefixes.write_lists.Goals as goal
 
 pub loop-i-init : goal.loop-i-init
@@ -37,6 +37,11 @@ write_prefix-requires-clause-within g c =
     let inside : i < length c.args.lanes.now = omega (arith, c.loop-i-test.true) in
     let is = (c.requires.cut.each i none (omega (arith, inside, length-map c.args.lanes.now whole_lane))).1 in
     subst (λ (l : WholeLane). get_or c.args.cut.now i 0 ≤ length l.entries) (get_or-map whole_lane c.args.lanes.now i _ none inside) is
+
+pub write_prefix-requires-clause-nodes : goal.write_prefix-requires-clause-nodes
+write_prefix-requires-clause-nodes g c =
+    let is = lent_at g.H.HashKind.hash c.args.lanes.now c.args.nodes.now c.loop-i.i _ c.index-nodes-i.result c.requires.nodes (omega (arith, c.loop-i-test.true)) in
+    ap (λ (n : Bor (List (List ℕ))). n.now) c.index-nodes-i.is ∙ is
 
 pub loop-i-preserved : goal.loop-i-preserved
 loop-i-preserved g c =

@@ -12,6 +12,7 @@ use Rattle.ats_prover.specs.Honest.{placed}
 use Rattle.ats_prover.specs.Writing.{put}
 use Rattle.ats_prover.proofs.Elided.{prefix_few}
 use Rattle.ats_prover.proofs.Fronts.{range_rises, range_below, small_impacts}
+use Rattle.ats_prover.proofs.KeptDigests.{kept_positions}
 use Rattle.ats_prover.proofs.Putting.{put_put}
 use Rattle.ats_prover.proofs.prefixes.write_prefix.Goals as goal
 
@@ -20,9 +21,10 @@ elided-requires-clause-rising g c = subst IsStrictlyIncreasing (sym (c.deref.ens
 
 pub elided-requires-clause-below : goal.elided-requires-clause-below
 elided-requires-clause-below g c =
-    let size = length-map c.args.entries.now leaf_bytes in
-    subst (λ (ps : List ℕ). All (λ p. p < length (map leaf_bytes c.args.entries.now)) ps) (sym (c.deref.ensures.value ∙ c.in_ok-positions.ensures))
-    (range_below c.args.count (length (map leaf_bytes c.args.entries.now)) (omega (arith, size, c.requires.within)))
+    let leaves : List (List ℕ) = map leaf_bytes c.args.entries.now in
+    kept_positions g.H.HashKind.hash leaves c.args.nodes.now c.deref.result.now c.requires.nodes
+    (subst (λ (ps : List ℕ). All (λ p. p < length leaves) ps) (sym (c.deref.ensures.value ∙ c.in_ok-positions.ensures))
+    (range_below c.args.count (length leaves) (omega (arith, length-map c.args.entries.now leaf_bytes, c.requires.within))))
 
 pub write_entries-requires-clause-impacts : goal.write_entries-requires-clause-impacts
 write_entries-requires-clause-impacts g c = small_impacts c.args.entries.now c.args.count c.requires.list
@@ -35,7 +37,7 @@ write_digests-requires-clause-few g c =
     let few = prefix_few H leaves c.args.count (omega (arith, size, c.requires.list.few)) (omega (arith, size, c.requires.list.some)) c.requires.some in
     let ps : c.deref.result.now ≡ range_with_len 0 c.args.count = c.deref.ensures.value ∙ c.in_ok-positions.ensures in
     let all : c.elided.new.out ≡ elided_digests H leaves (range_with_len 0 c.args.count) =
-    c.in_ok-elided.ensures.ok ∙ ap₂ (λ (ds : List (List ℕ)) (ps : List ℕ). ds ++ elided_digests H leaves ps) c.new-digests.ensures ps in
+    c.in_ok-elided.ensures.ok H leaves c.requires.nodes ∙ ap₂ (λ (ds : List (List ℕ)) (ps : List ℕ). ds ++ elided_digests H leaves ps) c.new-digests.ensures ps in
     omega (arith, few, ap (λ (ds : List (List ℕ)). length ds) all)
 
 pub returns-clause-fields : goal.returns-clause-fields
@@ -44,7 +46,7 @@ returns-clause-fields g c =
     let leaves : List (List ℕ) = map leaf_bytes c.args.entries.now in
     let ps : c.deref.result.now ≡ range_with_len 0 c.args.count = c.deref.ensures.value ∙ c.in_ok-positions.ensures in
     let all : c.elided.new.out ≡ elided_digests H leaves (range_with_len 0 c.args.count) =
-    c.in_ok-elided.ensures.ok ∙ ap₂ (λ (ds : List (List ℕ)) (ps : List ℕ). ds ++ elided_digests H leaves ps) c.new-digests.ensures ps in
+    c.in_ok-elided.ensures.ok H leaves c.requires.nodes ∙ ap₂ (λ (ds : List (List ℕ)) (ps : List ℕ). ds ++ elided_digests H leaves ps) c.new-digests.ensures ps in
     let entries : List (List ℕ) = counted 4 posting_fields (map (placed c.args.met.now) (take c.args.count c.args.entries.now)) in
     on_ok_weaker c.write_digests.result (λ is.
     is ∙ ap (λ (w : Written). put w (counted 2 digest_fields c.elided.new.out)) c.in_ok-write_entries.ensures.fields

@@ -1,10 +1,11 @@
-use Rattle.std.proofs.Common.{◌≡◌, ◌+◌, ◌<◌, ◌≤◌, ◌^◌, ◌++◌, ℕ, List, length, map, subst, sym, ap, ap₂, ◌∙◌, arith}
+use Rattle.std.proofs.Common.{◌≡◌, ◌+◌, ◌<◌, ◌≤◌, ◌^◌, ◌++◌, ℕ, List, length, map, subst, sym, ap, ap₂, ◌∙◌, arith, Bor}
 use Rattle.std.specs.List.{All, flat_map}
 use Rattle.std.proofs.lemmas.Result.{on_ok_weaker}
 use Rattle.std.proofs.lemmas.List.{length-map}
 use Rattle.ats_impact.specs.Limits.{AreWithin}
 use Rattle.ats_impact.specs.Score.{total_terms}
 use Rattle.ats_tree.specs.Elided.{elided_digests}
+use Rattle.ats_tree.specs.Kept.{kept_digests}
 use Rattle.ats_dict.specs.Entry.{DictEntry}
 use Rattle.ats_dict.specs.Dictionary.{IsDictionary, dict_leaves}
 use Rattle.ats_dict.specs.declared.spot.Spot.{Spot}
@@ -20,7 +21,7 @@ use Rattle.ats_records.specs.Written.{Written}
 use Rattle.ats_proof.specs.Parts.{counted}
 use Rattle.ats_proof.specs.Value.{digest_fields, entry_fields, slot_fields}
 use Rattle.ats_prover.specs.Terms.{AreNeeded, AreSpots, shown_entry, slot_of}
-use Rattle.ats_prover.specs.Lanes.{bounding, lane_of, lanes_of, present}
+use Rattle.ats_prover.specs.Lanes.{bounding, lane_of, lanes_of, list_digests, present}
 use Rattle.ats_prover.specs.Present.{standing}
 use Rattle.ats_prover.specs.Honest.{IsHonest}
 use Rattle.ats_prover.specs.Writing.{IsWalkWritten, IsWritten, put}
@@ -35,14 +36,25 @@ use Rattle.ats_prover.proofs.StandingTerms.{standing_present}
 use Rattle.ats_prover.proofs.Present.{lanes_have_lists}
 use Rattle.ats_prover.proofs.proving.write_proof.Goals as goal
 
+-- the nodes that are lent, of the dictionary that is lent
+pub write_terms-requires-clause-nodes : goal.write_terms-requires-clause-nodes
+write_terms-requires-clause-nodes g c =
+    c.dict_nodes.ensures ∙ ap (λ (es : List DictEntry). kept_digests g.H.HashKind.hash (dict_leaves es)) (sym c.dictionary-3.ensures)
+
+-- the nodes that are lent, of the lists of the lanes that are lent
+pub write_walk-requires-clause-nodes : goal.write_walk-requires-clause-nodes
+write_walk-requires-clause-nodes g c =
+    ap (map (λ (n : Bor (List (List ℕ))). n.now)) c.deref-8.ensures.value ∙ c.in_ok-lists.ensures.nodes
+    ∙ sym (ap (λ (ls : List Lane). list_digests g.H.HashKind.hash (whole_lanes ls)) c.deref-7.ensures.value)
+
 pub write_terms-requires-clause-within : goal.write_terms-requires-clause-within
 write_terms-requires-clause-within g c =
     let entries = dictionary_of g.H.HashKind.hash c.args.index.now in
     let found : AreSpots entries c.args.query.now c.in_ok-spots.spots.items =
     subst (λ (es : List DictEntry). AreSpots es c.args.query.now c.in_ok-spots.spots.items) c.dictionary-2.ensures c.in_ok-spots.ensures.spots in
-    let needed : AreNeeded c.in_ok-spots.spots.items c.in_ok-positions.positions.items =
-    subst (λ (ss : List Spot). AreNeeded ss c.in_ok-positions.positions.items) c.deref.ensures.value c.in_ok-positions.ensures.needed in
-    let below = positions_below entries c.args.query.now c.in_ok-spots.spots.items c.in_ok-positions.positions.items found needed in
+    let needed : AreNeeded c.in_ok-spots.spots.items c.keep_positions.new.positions.items =
+    subst (λ (ss : List Spot). AreNeeded ss c.keep_positions.new.positions.items) c.deref.ensures.value c.in_ok-keep_positions.ensures.needed in
+    let below = positions_below entries c.args.query.now c.in_ok-spots.spots.items c.keep_positions.new.positions.items found needed in
     let size : length c.dictionary-3.result.now ≡ length entries = ap (λ (es : List DictEntry). length es) c.dictionary-3.ensures in
     λ k d inside. omega (arith, subst (λ (ps : List ℕ). All (λ p. p < length entries + 2) ps) (sym c.deref-2.ensures.value) below k d inside, size)
 
@@ -67,31 +79,31 @@ found_in H archive query lent spots same = subst (λ (es : List DictEntry). AreS
 pub walk-requires-clause-own : goal.walk-requires-clause-own
 walk-requires-clause-own g c =
     let texts = c.args.index.now.texts in
-    own_lanes g.H.HashKind.hash texts c.args.query.now c.in_ok-present.present c.in_ok-spots.spots.items c.deref-4.result.now c.deref-6.result.now c.in_ok-lanes.lanes.items
+    own_lanes g.H.HashKind.hash texts c.args.query.now c.in_ok-present.present c.in_ok-spots.spots.items c.deref-4.result.now c.deref-6.result.now c.in_ok-lists.lists.lanes.items
     (found_in g.H.HashKind.hash c.args.index.now c.args.query.now c.dictionary-2.result.now c.in_ok-spots.spots.items c.dictionary-2.ensures c.in_ok-spots.ensures.spots)
-    c.deref-4.ensures.value c.in_ok-present.ensures c.deref-6.ensures.value c.in_ok-lanes.ensures.lanes
+    c.deref-4.ensures.value c.in_ok-present.ensures c.deref-6.ensures.value c.in_ok-lists.ensures.lanes
 
 pub write_walk-requires-clause-cut : goal.write_walk-requires-clause-cut
 write_walk-requires-clause-cut g c =
     let lanes = lanes_of c.args.index.now.texts c.args.query.now in
-    let same : whole_lanes c.deref-6.result.now ≡ lanes = ap whole_lanes c.deref-6.ensures.value ∙ c.in_ok-lanes.ensures.lanes in
-    let last : whole_lanes c.deref-7.result.now ≡ lanes = ap whole_lanes c.deref-7.ensures.value ∙ c.in_ok-lanes.ensures.lanes in
+    let same : whole_lanes c.deref-6.result.now ≡ lanes = ap whole_lanes c.deref-6.ensures.value ∙ c.in_ok-lists.ensures.lanes in
+    let last : whole_lanes c.deref-7.result.now ≡ lanes = ap whole_lanes c.deref-7.ensures.value ∙ c.in_ok-lists.ensures.lanes in
     let first = subst (λ (ls : List WholeLane). IsFirstSettledBy (bounding c.args.algorithm ls) ls c.args.top c.in_ok-end.end.cut) same c.in_ok-end.ensures.cut in
-    subst (λ (ls : List WholeLane). IsCut ls c.in_ok-end.end.cut) (sym last) (scheduled_is_cut lanes first.turns c.in_ok-end.end.cut (have_entries lanes c.in_ok-lanes.ensures.whole) first.scheduled)
+    subst (λ (ls : List WholeLane). IsCut ls c.in_ok-end.end.cut) (sym last) (scheduled_is_cut lanes first.turns c.in_ok-end.end.cut (have_entries lanes c.in_ok-lists.ensures.whole) first.scheduled)
 
 pub write_walk-requires-clause-terms : goal.write_walk-requires-clause-terms
 write_walk-requires-clause-terms g c =
     let texts = c.args.index.now.texts in
-    let own = own_lanes g.H.HashKind.hash texts c.args.query.now c.in_ok-present.present c.in_ok-spots.spots.items c.deref-4.result.now c.deref-7.result.now c.in_ok-lanes.lanes.items
+    let own = own_lanes g.H.HashKind.hash texts c.args.query.now c.in_ok-present.present c.in_ok-spots.spots.items c.deref-4.result.now c.deref-7.result.now c.in_ok-lists.lists.lanes.items
     (found_in g.H.HashKind.hash c.args.index.now c.args.query.now c.dictionary-2.result.now c.in_ok-spots.spots.items c.dictionary-2.ensures c.in_ok-spots.ensures.spots)
-    c.deref-4.ensures.value c.in_ok-present.ensures c.deref-7.ensures.value c.in_ok-lanes.ensures.lanes in
+    c.deref-4.ensures.value c.in_ok-present.ensures c.deref-7.ensures.value c.in_ok-lists.ensures.lanes in
     omega (arith, ap (λ (ls : List WholeLane). length ls) own, length-map c.deref-7.result.now whole_lane, length-map c.in_ok-present.present (lane_of texts))
 
 pub write_walk-requires-clause-within : goal.write_walk-requires-clause-within
 write_walk-requires-clause-within g c =
     let texts = c.args.index.now.texts in
     let lanes = lanes_of texts c.args.query.now in
-    let last : whole_lanes c.deref-7.result.now ≡ lanes = ap whole_lanes c.deref-7.ensures.value ∙ c.in_ok-lanes.ensures.lanes in
+    let last : whole_lanes c.deref-7.result.now ≡ lanes = ap whole_lanes c.deref-7.ensures.value ∙ c.in_ok-lists.ensures.lanes in
     subst (All (λ (lane : WholeLane). All (λ (e : Entry). e.doc < length texts) lane.entries)) (sym last) (λ k d inside. (lanes_have_lists texts c.args.query.now k d inside).documents)
 
 pub returns : goal.returns
@@ -106,18 +118,18 @@ returns g c =
     let same : dictionary_of H archive ≡ entries = ap (dictionary_of H) built in
     let lanes = lanes_of texts query in
     let spots = c.in_ok-spots.spots.items in
-    let positions = c.in_ok-positions.positions.items in
+    let positions = c.keep_positions.new.positions.items in
     let cut = c.in_ok-end.end.cut in
     let brackets = c.in_ok-end.end.brackets in
     let picks = c.in_ok-end.end.picks in
     let found : AreSpots entries query spots = found_in H archive query c.dictionary-2.result.now spots c.dictionary-2.ensures c.in_ok-spots.ensures.spots in
     let dictionary : IsDictionary entries = subst IsDictionary (c.dictionary.ensures ∙ same) c.len.ensures.kept in
-    let whole : whole_lanes c.deref-6.result.now ≡ lanes = ap whole_lanes c.deref-6.ensures.value ∙ c.in_ok-lanes.ensures.lanes in
-    let last : whole_lanes c.deref-7.result.now ≡ lanes = ap whole_lanes c.deref-7.ensures.value ∙ c.in_ok-lanes.ensures.lanes in
+    let whole : whole_lanes c.deref-6.result.now ≡ lanes = ap whole_lanes c.deref-6.ensures.value ∙ c.in_ok-lists.ensures.lanes in
+    let last : whole_lanes c.deref-7.result.now ≡ lanes = ap whole_lanes c.deref-7.ensures.value ∙ c.in_ok-lists.ensures.lanes in
     let terms_are : c.in_ok-present.present ≡ present texts query = c.in_ok-present.ensures ∙ ap (standing query) c.deref-4.ensures.value ∙ standing_present H texts query spots found in
     let total : total_terms texts ≤ 2 ^ 24 = omega (arith, c.total.ensures.value, c.total.ensures.few, ap total_terms c.collection-2.ensures.same) in
     let range = header_in_range H g.H.HashKind.sized (archive_of texts) (subst AreWithin c.collection.ensures.same c.documents.ensures.within) total in
-    let positions_few : length positions ≤ 64 = omega (arith, c.in_ok-positions.ensures.few, c.in_ok-spots.ensures.few, ap (λ (ss : List Spot). length ss) c.deref.ensures.value) in
+    let positions_few : length positions ≤ 64 = omega (arith, c.in_ok-keep_positions.ensures.few, c.in_ok-spots.ensures.few, ap (λ (ss : List Spot). length ss) c.deref.ensures.value) in
     let first = subst (λ (ls : List WholeLane). IsFirstSettledBy (bounding algorithm ls) ls c.args.top cut) whole c.in_ok-end.ensures.cut in
     let bounds = subst (λ (ls : List WholeLane). AreBracketsBy (bounding algorithm ls) (shown ls cut) brackets) whole c.in_ok-end.ensures.brackets in
     let rows : length picks ≤ 1000 = omega (arith, c.in_ok-end.ensures.rows, c.get.ensures.value, c.get.ensures.few) in
@@ -137,10 +149,10 @@ returns g c =
       front = range;
       is_query = c.len-2.ensures.query;
       found = found;
-      needed = subst (λ (ss : List Spot). AreNeeded ss positions) c.deref.ensures.value c.in_ok-positions.ensures.needed;
+      needed = subst (λ (ss : List Spot). AreNeeded ss positions) c.deref.ensures.value c.in_ok-keep_positions.ensures.needed;
       positions_few = positions_few;
-      whole = c.in_ok-lanes.ensures.whole;
-      lists = c.in_ok-lanes.ensures.lists;
+      whole = c.in_ok-lists.ensures.whole;
+      lists = c.in_ok-lists.ensures.lists;
       first = first;
       bounds = bounds;
       documents = own.honest;

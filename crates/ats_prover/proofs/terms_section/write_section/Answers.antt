@@ -18,21 +18,21 @@ use Rattle.ats_prover.proofs.terms_section.write_section.Goals as goal
 pub write_shown-requires-clause-within : goal.write_shown-requires-clause-within
 write_shown-requires-clause-within g c =
     let items = c.args.terms.now in
-    let needed : AreNeeded c.in_ok-spots.spots.items c.in_ok-positions.positions.items =
-    subst (λ (ss : List Spot). AreNeeded ss c.in_ok-positions.positions.items) c.deref.ensures.value c.in_ok-positions.ensures.needed in
+    let needed : AreNeeded c.keep_spots.new.spots.items c.keep_positions.new.positions.items =
+    subst (λ (ss : List Spot). AreNeeded ss c.keep_positions.new.positions.items) c.deref.ensures.value c.in_ok-keep_positions.ensures.needed in
     subst (λ (ps : List ℕ). All (λ p. p < length items + 2) ps) (sym c.deref-2.ensures.value)
-    (all_below (IsTermSpot items) (length items) (lower_item items) c.args.present.now c.in_ok-spots.spots.items c.in_ok-positions.positions.items c.in_ok-spots.ensures.spots needed)
+    (all_below (IsTermSpot items) (length items) (lower_item items) c.args.present.now c.keep_spots.new.spots.items c.keep_positions.new.positions.items c.in_ok-keep_spots.ensures.spots needed)
 
 pub returns-clause-written : goal.returns-clause-written
 returns-clause-written g c =
     let H = g.H.HashKind.hash in
     let items = c.args.terms.now in
-    let spots = c.in_ok-spots.spots.items in
-    let positions = c.in_ok-positions.positions.items in
-    let needed : AreNeeded spots positions = subst (λ (ss : List Spot). AreNeeded ss positions) c.deref.ensures.value c.in_ok-positions.ensures.needed in
-    let few : length positions ≤ 64 = omega (arith, c.in_ok-positions.ensures.few, c.in_ok-spots.ensures.few, ap (λ (ss : List Spot). length ss) c.deref.ensures.value) in
+    let spots = c.keep_spots.new.spots.items in
+    let positions = c.keep_positions.new.positions.items in
+    let needed : AreNeeded spots positions = subst (λ (ss : List Spot). AreNeeded ss positions) c.deref.ensures.value c.in_ok-keep_positions.ensures.needed in
+    let few : length positions ≤ 64 = omega (arith, c.in_ok-keep_positions.ensures.few, c.in_ok-keep_spots.ensures.few, ap (λ (ss : List Spot). length ss) c.deref.ensures.value) in
     let Fields : List ℕ → List Spot → Written = λ (ps : List ℕ) (ss : List Spot).
     put c.args.writer.now (counted 2 term_fields (map (shown_term items) ps) ++ counted 2 digest_fields (elided_digests H (terms_leaves items) ps) ++ flat_map slot_fields (map (slot_of ps) ss)) in
     on_ok_weaker c.write_shown.result (λ is.
     written_section H g.H.HashKind.sized items c.args.present.now spots positions c.args.writer.now c.write_shown.new.writer c.len-2.ensures.kept c.requires.some c.len.ensures.rise
-    c.in_ok-spots.ensures.spots needed few (is ∙ ap₂ Fields c.deref-2.ensures.value c.deref-3.ensures.value)) c.write_shown.ensures.fields
+    c.in_ok-keep_spots.ensures.spots needed few (is ∙ ap₂ Fields c.deref-2.ensures.value c.deref-3.ensures.value)) c.write_shown.ensures.fields

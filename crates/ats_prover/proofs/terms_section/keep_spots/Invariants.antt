@@ -1,7 +1,7 @@
 use Rattle.std.proofs.Common.{take}
 use Rattle.ats_prover.specs.Documents.{IsTermSpot}
 use Rattle.ats_prover.specs.Terms.{HaveSpots}
-use Rattle.ats_prover.proofs.terms_section.spots.Given as goal
+use Rattle.ats_prover.proofs.terms_section.keep_spots.Given as goal
 
 -- the spots of the terms so far
 abbrev pub invariant-loop-i : goal.invariant-loop-i

@@ -1,7 +1,7 @@
 use Rattle.std.proofs.Common.{◌≡◌, take}
 use Rattle.std.specs.List.{flat_map}
 use Rattle.ats_prover.specs.Terms.{needs}
-use Rattle.ats_prover.proofs.shown.all_needed.Given as goal
+use Rattle.ats_prover.proofs.shown.keep_all_needed.Given as goal
 
 -- the positions of the terms so far
 abbrev pub invariant-loop-spot : goal.invariant-loop-spot
