@@ -4,7 +4,7 @@ use Rattle.ats_base.specs.Outside.{Rose, ShelfTold, Asked, Puts}
 use Rattle.ats_tree.specs.Differences.{Difference}
 use Rattle.ats_commit.specs.Ours.{TreePlace}
 use Rattle.ats_client.specs.declared.fault.Rejection.{Rejection}
-use Rattle.ats_top.specs.Words.{Command, Rank, Build, Root, Prove, Verify, Ask, Serve, Audit, command_of}
+use Rattle.ats_top.specs.Words.{TrialWords, Command, Rank, Build, Root, Prove, Verify, Ask, Serve, Audit, Trial, command_of}
 use Rattle.ats_top.specs.Stops.{End, Done, Stopped, Unprinted, status_of, status_of_stop, text_of}
 use Rattle.ats_top.specs.Outside.{Outside}
 use Rattle.ats_top.specs.Read.{Files, IsTold}
@@ -14,11 +14,12 @@ use Rattle.ats_top.specs.Refusals.{NeedsShelf, LacksFile, IsRefused}
 use Rattle.ats_top.specs.Rejected.{IsRejected}
 use Rattle.ats_top.specs.Audited.{HasCollision}
 use Rattle.ats_top.specs.Done.{IsDone, PutsPart, Changes, HasInput, IsServed}
-use Rattle.ats_top.specs.Run.{Said, HasShelfCause, IsStopped, Ends, Ended, IsStatus, SinkFailed, DoorFailed, LinkFailed, Failed, TookAll, Ran}
+use Rattle.ats_top.specs.Trial.{IsTrialServed, IsTrialRefused}
+use Rattle.ats_top.specs.Run.{Said, HasShelfCause, IsStopped, Ends, Ended, IsStatus, SinkFailed, DoorFailed, LinkFailed, Failed, TookAll, HasTried, Ran}
 use Rattle.ats_top.specs.declared.stops.InputRefusal.{InputRefusal}
 use Rattle.ats_top.specs.declared.stops.Stop.{Stop}
 use Rattle.ats_top.specs.declared.stops.Stop.TheVariants.{Usage, Shelf, Input, Rejected, Memory, Link, Peer, Faults, Collision}
-use Rattle.ats_top.proofs.Refused.{served_kept, done_kept, missing_kept, input_there, served_input}
+use Rattle.ats_top.proofs.Refused.{served_kept, done_kept, missing_kept, input_there, served_input, trial_asks, trial_kept, trial_done_kept}
 use Rattle.ats_top.proofs.LinkEnds.{links_there, links_refused, links_rejected, links_collided, links_served, links_files, unprinted_files, replied_stop, replied_done}
 use Rattle.ats_top.proofs.Rejecting.{input_kept, rejected_there, rejected_kept}
 use Rattle.ats_top.proofs.AuditEnds.{collision_input, collision_kept, collision_unserved, collision_undone}
@@ -77,6 +78,7 @@ done_input H before now (Ask words) text (answered, same) = answered.accepted.re
 done_input H before now (Verify words) text (verified, same) = (verified.asks, verified.accepted)
 done_input H before now (Serve words) text (all, same) = (all.served.archive, all.served.index)
 done_input H before now (Audit words) text (right, same) = (right.asks, (None, right.audited))
+done_input H before now (Trial words) text (tried, same) = trial_asks H words.number text tried
 
 -- all bytes are a prefix of them
 whole_part : (before now : Files) (name bytes : List ℕ) → Puts before now name bytes → PutsPart before now name bytes
@@ -108,6 +110,7 @@ done_changes H before now (Ask words) text (answered, same) = inl same
 done_changes H before now (Verify words) text (verified, same) = inl same
 done_changes H before now (Serve words) text (all, same) = inl same
 done_changes H before now (Audit words) text (right, same) = inl same
+done_changes H before now (Trial words) text (tried, same) = inl same
 
 -- of a run
 module _ (H : List ℕ → List ℕ) (said : List (List ℕ)) (before now : Outside) where
@@ -285,6 +288,24 @@ module _ (H : List ℕ → List ℕ) (said : List (List ℕ)) (before now : Outs
       → (end : End) → IsPrinted end → Ends H before now said end → IsServedBy (status_of end)
   served_end told (command, is, served) = by_end IsServedBy command is (λ text done. inr (inl refl)) (served_stop command told served)
 
+  -- a trial is done, or is refused, or wants memory
+  module _ (words : TrialWords) (P : ℕ → Type 0) (refused : (refusal : InputRefusal) → IsTrialRefused H words.number refusal → P 4) (memory : P 6) where
+    trial_stop : (text : List ℕ) (stop : Stop) → IsStopped H before now (Trial words) text stop → P (status_of_stop stop)
+    trial_stop text Usage (inl stops) = absurd stops.1
+    trial_stop text Shelf (inl stops) = elim stops.1.0 [ inl rose ↦ absurd rose.0 | inr lacks ↦ absurd lacks ]
+    trial_stop text (Input refusal) (inl stops) = refused refusal stops.1.0
+    trial_stop text (Rejected rejection) (inl stops) = absurd stops.1.0
+    trial_stop text Memory (inl stops) = memory
+    trial_stop text Link (inl stops) = absurd stops.1
+    trial_stop text (Peer fault) (inl stops) = absurd stops.1
+    trial_stop text (Faults count) (inl stops) = absurd stops.1
+    trial_stop text (Collision place ours theirs) (inl stops) = absurd stops.1.0.collision
+    trial_stop text stop (inr links) = absurd links
+
+    trial_end : command_of said ≡ Some (Trial words) → ((text : List ℕ) → IsDone H before now (Trial words) text → P 0)
+        → (end : End) → IsPrinted end → Ends H before now said end → P (status_of end)
+    trial_end is done = by_end P (Trial words) is done trial_stop
+
   -- the status that a reply decides
   abbrev Replies : ℕ → ℕ → Type 0
   Replies k status = (status ≡ k) ⊎ ((status ≡ 6) ⊎ ((status ≡ 8) × Rose before.caller.faults now.caller.faults))
@@ -387,6 +408,25 @@ module _ (H : List ℕ → List ℕ) (said : List (List ℕ)) (before now : Outs
     with_link k (inl (inr (inr links))) = inr (inr (inl links))
     with_link k (inr sinks) = inr (inr (inr sinks))
 
+    -- one of three statuses, or the sink failed
+    abbrev Tries : ℕ → Type 0
+    Tries status = (status ≡ 0) ⊎ ((status ≡ 4) ⊎ (status ≡ 6))
+
+    with_three : Tries result ⊎ SinkFailed before now result → (result ≡ 0) ⊎ ((result ≡ 4) ⊎ ((result ≡ 6) ⊎ SinkFailed before now result))
+    with_three (inl (inl is)) = inl is
+    with_three (inl (inr (inl is))) = inr (inl is)
+    with_three (inl (inr (inr is))) = inr (inr (inl is))
+    with_three (inr sinks) = inr (inr (inr sinks))
+
+    tried : Ended H said before now result → (words : TrialWords) → command_of said ≡ Some (Trial words) → HasTried H words.number before now result
+    tried ended words is = record {
+      status = with_three (tells Tries ended (trial_end words Tries (λ refusal cause. inr (inl refl)) (inr (inr refl)) is (λ text done. inl refl)));
+      complete = λ served. with_sink 0 6 (tells (λ status. (status ≡ 0) ⊎ (status ≡ 6)) ended (trial_end words (λ status. (status ≡ 0) ⊎ (status ≡ 6))
+          (λ refusal cause. absurd (trial_kept H words.number served refusal cause)) (inr refl) is (λ text done. inl refl)));
+      refused = λ refusal cause. with_sink 4 6 (tells (λ status. (status ≡ 4) ⊎ (status ≡ 6)) ended (trial_end words (λ status. (status ≡ 4) ⊎ (status ≡ 6))
+          (λ other also. inl refl) (inr refl) is (λ text done. absurd (trial_done_kept H words.number text done.0 refusal cause))));
+    }
+
     status : Ended H said before now result → IsStatus result
     status ended = elim (tells IsStatus ended (λ end printed ends. has_status end)) [
       | inl is ↦ is
@@ -404,6 +444,7 @@ module _ (H : List ℕ → List ℕ) (said : List (List ℕ)) (before now : Outs
       rejected = λ told rejection. with_faults 1 (tells (Comes 1) ended (rejected_end told rejection));
       collided = λ told collision. with_faults 5 (tells (Comes 5) ended (collided_end told collision));
       complete = λ told asks. with_door (tells IsServedBy ended (served_end told asks));
+      tried = tried ended;
       replied = λ content k decides. with_link k (tells (Replies k) ended (replied_end content k decides));
       files = files_end ended.end ended.ends;
       asked = asked served;

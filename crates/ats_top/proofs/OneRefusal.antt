@@ -1,34 +1,40 @@
 -- Words and a told file are refused as an input in one way at most.
-use Rattle.std.proofs.Common.{◌≡◌, ◌∙◌, ◌⊎◌, ◌^◌, ℕ, List, refl, sym, ap, subst, inl, inr}
+use Rattle.std.proofs.Common.{◌≡◌, ◌∙◌, ◌⊎◌, ◌^◌, ℕ, List, refl, sym, ap, subst, inl, inr, arith}
+use Rattle.std.proofs.lemmas.Bool.{cases_order}
 use Rattle.ats_base.specs.Outside.{IsLonger}
+use Rattle.ats_terms.specs.Query.{IsQueryOf}
 use Rattle.ats_terms.specs.Faults.{IsFirstFault}
 use Rattle.ats_terms.specs.declared.query.QueryFault.{QueryFault}
 use Rattle.ats_terms.specs.declared.query.QueryFault.TheVariants as query
+use Rattle.ats_impact.specs.Trial.{trial_query}
 use Rattle.ats_impact.specs.CollectionFaults.{IsFirstCollectionFault}
 use Rattle.ats_impact.specs.declared.collection.CollectionFault.{CollectionFault}
 use Rattle.ats_impact.specs.declared.collection.CollectionFault.TheVariants as collection
 use Rattle.ats_commit.specs.Archive.{Archive}
+use Rattle.ats_records.specs.declared.record.Algorithm.{Algorithm}
+use Rattle.ats_records.specs.declared.record.Algorithm.TheVariants.{Tra, Tnra}
 use Rattle.ats_index.specs.Spelling.{IsSpelling}
 use Rattle.ats_index.specs.LoadFaults.{IsLoadFault}
 use Rattle.ats_index.specs.declared.load.LoadFault.TheVariants as index
 use Rattle.ats_index.proofs.OneArchive.{one_archive}
 use Rattle.ats_index.proofs.OnePlace.{one_place}
-use Rattle.ats_prover.specs.Honest.{IsHonest, length_of}
+use Rattle.ats_prover.specs.Honest.{IsHonest, IsTooLong, length_of}
 use Rattle.ats_prover.proofs.Archives.{archive_one}
 use Rattle.ats_top.specs.Input.{AreJsonTexts, IsFirstJsonFault}
 use Rattle.ats_top.specs.declared.input.JsonFault.{JsonFault}
 use Rattle.ats_top.specs.declared.input.JsonFault.TheVariants as json
-use Rattle.ats_top.specs.Words.{ProveWords, Command, Rank, Build, Root, Prove, Verify, Ask, Serve, Audit}
+use Rattle.ats_top.specs.Words.{ProveWords, Command, Rank, Build, Root, Prove, Verify, Ask, Serve, Audit, Trial}
 use Rattle.ats_top.specs.Read.{Files, IsTold, IsFile}
 use Rattle.ats_top.specs.Stops.{stop_of_query, stop_of_json, stop_of_collection}
 use Rattle.ats_top.specs.Refusals.{IsRowCount, AsksRanking, IsCollectionRefused, IsIndexRefused, IsProvingRefused, IsRankingRefused, IsRefused}
 use Rattle.ats_top.specs.Proved.{IsProofTooLong}
+use Rattle.ats_top.specs.Trial.{trial_archive, turn, IsTrialQueryRefused, IsTrialTooLong, IsTrialRefused}
 use Rattle.ats_top.specs.declared.stops.InputRefusal.{InputRefusal}
 use Rattle.ats_top.specs.declared.stops.InputRefusal.TheVariants.{ROut, QueryTooLong, NoTerm, TooManyWords, TooManyTerms, FileTooLong, NotJson, NotArray, BadItem, NoDocuments, TooManyDocuments, TextTooLong, AllTooLong, BadIndex, ProofTooLong}
 use Rattle.ats_top.specs.declared.stops.Stop.{Stop}
 use Rattle.ats_top.specs.declared.stops.Stop.TheVariants.{Input}
 use Rattle.ats_top.proofs.JsonLemmas.{same_texts, IsJsonRefusal, no_json_fault}
-use Rattle.ats_top.proofs.Refused.{IsQueryRefusal, IsCollectionRefusal, no_query_fault, not_longer, one_file, index_kept}
+use Rattle.ats_top.proofs.Refused.{IsQueryRefusal, IsCollectionRefusal, no_query_fault, query_refusal, trial_query_kept, tried_short, not_longer, one_file, index_kept}
 use Rattle.ats_top.proofs.OneFault.{one_query_fault, one_json_fault, one_collection_fault}
 
 -- refusals of one stop are one
@@ -206,6 +212,71 @@ module _ (H : List ℕ → List ℕ) (files : Files) (told : IsTold files) (word
   one_proving_refusal : (a b : InputRefusal) → IsProvingRefused H files words a → IsProvingRefused H files words b → a ≡ b
   one_proving_refusal a b is also = one_proving_cause a b (proving_cause a is) (proving_cause b also)
 
+-- a turn is that of one query and one algorithm
+same_query : (i k : ℕ) (a b : Algorithm) → turn i a ≡ turn k b → i ≡ k
+same_query i k Tra Tra same = omega (arith, same)
+same_query i k Tra Tnra same = omega (arith, same)
+same_query i k Tnra Tra same = omega (arith, same)
+same_query i k Tnra Tnra same = omega (arith, same)
+
+same_algorithm : (i k : ℕ) (a b : Algorithm) → turn i a ≡ turn k b → a ≡ b
+same_algorithm i k Tra Tra same = refl
+same_algorithm i k Tra Tnra same = absurd (omega (arith, same))
+same_algorithm i k Tnra Tra same = absurd (omega (arith, same))
+same_algorithm i k Tnra Tnra same = refl
+
+module _ (H : List ℕ → List ℕ) (number : ℕ) where
+  one_of_queries : (a b : InputRefusal) → IsTrialQueryRefused number a → IsTrialQueryRefused number b → a ≡ b
+  one_of_queries a b is also =
+      let free = query_refusal is.fault a is.same in
+      let other = query_refusal also.fault b also.same in
+      elim (cases_order is.i also.i) [
+        | inl same ↦
+            let first : IsFirstFault (trial_query number is.i) also.fault = subst (λ (i : ℕ). IsFirstFault (trial_query number i) also.fault) (sym same) also.first in
+            same_input a b _ _ (sym is.same) (sym also.same) (ap stop_of_query (one_query_fault (trial_query number is.i) is.fault also.fault free other is.first first))
+        | inr (inl less) ↦ absurd (no_query_fault (trial_query number is.i) is.fault (also.before is.i less) is.first free)
+        | inr (inr less) ↦ absurd (no_query_fault (trial_query number also.i) also.fault (is.before also.i less) also.first other)
+      ]
+
+  -- the honest proof of a query by an algorithm has one length
+  one_long_size : (i k : ℕ) (m n : Algorithm) (q s : List (List ℕ × ℕ)) (a b : ℕ) → i ≡ k → m ≡ n → IsQueryOf (trial_query number i) q → IsQueryOf (trial_query number k) s
+      → IsTooLong H (trial_archive number) q 10 m (2 ^ 26) a → IsTooLong H (trial_archive number) s 10 n (2 ^ 26) b → a ≡ b
+  one_long_size i k m n q s a b here alike own theirs is also =
+      let query : q ≡ s = (subst (λ (j : ℕ). IsQueryOf (trial_query number j) q) here own).same ∙ sym theirs.same in
+      let honest : IsHonest H (trial_archive number) s 10 n is.proof = subst (λ (by : Algorithm). IsHonest H (trial_archive number) s 10 by is.proof) alike
+      (subst (λ (asked : List (List ℕ × ℕ)). IsHonest H (trial_archive number) asked 10 m is.proof) query is.honest) in
+      let one = archive_one H (trial_archive number) s 10 n is.proof also.proof honest also.honest in
+      is.bytes_are ∙ ap length_of one ∙ sym also.bytes_are
+
+  one_too_long : (a b : ℕ) → IsTrialTooLong H number a → IsTrialTooLong H number b → a ≡ b
+  one_too_long a b is also = elim (cases_order (turn is.i is.algorithm) (turn also.i also.algorithm)) [
+    | inl same ↦
+        one_long_size is.i also.i is.algorithm also.algorithm is.query also.query a b (same_query is.i also.i is.algorithm also.algorithm same)
+        (same_algorithm is.i also.i is.algorithm also.algorithm same) is.own also.own is.long also.long
+    | inr (inl less) ↦
+        let made = also.before is.i is.algorithm less in
+        absurd (tried_short H number is.algorithm is.i made.0 made.1 is.query a is.own is.long)
+    | inr (inr less) ↦
+        let made = is.before also.i also.algorithm less in
+        absurd (tried_short H number also.algorithm also.i made.0 made.1 also.query b also.own also.long)
+  ]
+
+  abbrev TrialCause : InputRefusal → Type 0
+  TrialCause refusal = ((bytes : ℕ) × (refusal ≡ ProofTooLong bytes) × IsTrialTooLong H number bytes) ⊎ IsTrialQueryRefused number refusal
+
+  trial_cause : (refusal : InputRefusal) → IsTrialRefused H number refusal → TrialCause refusal
+  trial_cause (ProofTooLong bytes) refused = inl (bytes, refl, refused)
+  trial_cause other refused = inr refused
+
+  one_trial_cause : (a b : InputRefusal) → TrialCause a → TrialCause b → a ≡ b
+  one_trial_cause a b (inl is) (inl also) = is.1 ∙ ap ProofTooLong (one_too_long is.0 also.0 is.2 also.2) ∙ sym also.1
+  one_trial_cause a b (inl is) (inr also) = absurd (trial_query_kept number is.2.asked b also)
+  one_trial_cause a b (inr is) (inl also) = absurd (trial_query_kept number also.2.asked a is)
+  one_trial_cause a b (inr is) (inr also) = one_of_queries a b is also
+
+  one_trial_refusal : (a b : InputRefusal) → IsTrialRefused H number a → IsTrialRefused H number b → a ≡ b
+  one_trial_refusal a b is also = one_trial_cause a b (trial_cause a is) (trial_cause b also)
+
 pub one_refusal : (H : List ℕ → List ℕ) (files : Files) (command : Command) (a b : InputRefusal) → IsTold files
     → IsRefused H files command a → IsRefused H files command b → a ≡ b
 one_refusal H files (Rank words) a b told is also =
@@ -219,3 +290,4 @@ one_refusal H files (Verify words) a b told is also = one_ranking words.r words.
 one_refusal H files (Serve words) a b told is also = one_index_refusal files words.index H told a b is also
 one_refusal H files (Audit words) a b told is also =
     one_ranking words.r words.query (IsIndexRefused H files words.index) (one_index_refusal files words.index H told) a b is also
+one_refusal H files (Trial words) a b told is also = one_trial_refusal H words.number a b is also

@@ -1,33 +1,39 @@
 -- What is within the limits is not refused, and a file that is not there is neither served nor refused.
-use Rattle.std.proofs.Common.{◌≡◌, ◌∙◌, ◌<◌, ◌≤◌, ◌^◌, ℕ, List, [], length, Option, Some, None, MatchOption, refl, sym, ap, subst, inl, inr, arith, append-nil}
+use Rattle.std.proofs.Common.{◌≡◌, ◌∙◌, ◌<◌, ◌≤◌, ◌^◌, ℕ, List, [], ◌∷◌, length, get_or, Option, Some, None, MatchOption, refl, sym, ap, subst, inl, inr, arith, append-nil}
 use Rattle.std.specs.List.{concat}
 use Rattle.ats_base.specs.Outside.{IsMissing, IsLonger}
-use Rattle.ats_terms.specs.Query.{HasQuery}
+use Rattle.ats_terms.specs.Query.{HasQuery, IsQueryOf}
 use Rattle.ats_terms.specs.Faults.{IsFirstFault}
 use Rattle.ats_terms.specs.declared.query.QueryFault.{QueryFault}
 use Rattle.ats_terms.specs.declared.query.QueryFault.TheVariants as query
 use Rattle.ats_impact.specs.Limits.{AreWithin}
+use Rattle.ats_impact.specs.Trial.{trial_query}
 use Rattle.ats_impact.specs.CollectionFaults.{IsFirstCollectionFault}
 use Rattle.ats_impact.specs.declared.collection.CollectionFault.{CollectionFault}
 use Rattle.ats_impact.specs.declared.collection.CollectionFault.TheVariants as collection
 use Rattle.ats_commit.specs.Archive.{Archive}
+use Rattle.ats_records.specs.declared.record.Algorithm.{Algorithm}
+use Rattle.ats_records.specs.declared.record.Algorithm.TheVariants.{Tra, Tnra}
 use Rattle.ats_index.specs.Spelling.{IsSpelling}
 use Rattle.ats_index.proofs.OneArchive.{one_archive}
 use Rattle.ats_index.proofs.OnePlace.{no_place}
 use Rattle.ats_proof.specs.Value.{Proof, IsProof, fields_of}
-use Rattle.ats_prover.specs.Honest.{IsHonest, length_of}
+use Rattle.ats_prover.specs.Honest.{IsHonest, IsTooLong, length_of}
 use Rattle.ats_prover.proofs.Archives.{archive_one}
 use Rattle.ats_top.specs.Input.{AreJsonTexts}
 use Rattle.ats_top.specs.declared.input.JsonFault.{JsonFault}
 use Rattle.ats_top.specs.declared.input.JsonFault.TheVariants as json
-use Rattle.ats_top.specs.Words.{ProveWords, Command, Rank, Build, Root, Prove, Verify, Ask, Serve, Audit}
+use Rattle.ats_top.specs.Words.{ProveWords, Command, Rank, Build, Root, Prove, Verify, Ask, Serve, Audit, Trial}
 use Rattle.ats_top.specs.Read.{Files, IsTold, IsFile, HasCollection, HasIndex}
 use Rattle.ats_top.specs.Refusals.{IsRowCount, AsksRanking, Asks, LacksFile, IsJsonRefused, AreTextsRefused, IsCollectionRefused, IsIndexRefused, IsProvingRefused, IsRankingRefused, IsRefused}
 use Rattle.ats_top.specs.Proved.{IsProofFor, IsProofTooLong}
+use Rattle.ats_top.specs.Trial.{trial_archive, IsTrialProof, AreTrialProofs, IsTrial, AreQueries, IsTrialQueryRefused, IsTrialTooLong, IsTrialRefused, IsTrialServed}
+use Rattle.ats_top.specs.Stops.{stop_of_query}
 use Rattle.ats_top.specs.Outside.{Outside}
 use Rattle.ats_top.specs.Done.{IsProofStored, IsDone, HasInput, IsServed}
 use Rattle.ats_top.specs.declared.stops.InputRefusal.{InputRefusal}
 use Rattle.ats_top.specs.declared.stops.InputRefusal.TheVariants.{ROut, QueryTooLong, NoTerm, TooManyWords, TooManyTerms, FileTooLong, NotJson, NotArray, BadItem, NoDocuments, TooManyDocuments, TextTooLong, AllTooLong, BadIndex, ProofTooLong}
+use Rattle.ats_top.specs.declared.stops.Stop.TheVariants.{Input}
 use Rattle.ats_top.proofs.JsonLemmas.{same_texts, IsJsonRefusal, no_json_fault}
 
 same_some : {X : Type 0} (o : Option X) (x y : X) → o ≡ Some x → o ≡ Some y → x ≡ y
@@ -142,6 +148,59 @@ proving_kept : (H : List ℕ → List ℕ) (files : Files) (words : ProveWords) 
 proving_kept H files words kept fits (ProofTooLong size) refused = fits size refused
 proving_kept H files words kept fits other refused = kept other refused
 
+-- ---- the trial
+
+-- a fault of a query that is an input's refusal is no want of memory
+pub query_refusal : (fault : QueryFault) (refusal : InputRefusal) → stop_of_query fault ≡ Input refusal → IsQueryRefusal fault
+query_refusal query.OutOfMemory refusal is = absurd (cc)
+query_refusal (query.TooLong bytes) refusal is = tt
+query_refusal query.NoTerm refusal is = tt
+query_refusal (query.TooManyWords count) refusal is = tt
+query_refusal (query.TooManyTerms distinct) refusal is = tt
+
+-- texts that are queries are not refused
+pub trial_query_kept : (number : ℕ) → AreQueries number 20 → (refusal : InputRefusal) → IsTrialQueryRefused number refusal → ⊥
+trial_query_kept number asks refusal refused =
+    no_query_fault (trial_query number refused.i) refused.fault (asks refused.i refused.inside) refused.first (query_refusal refused.fault refusal refused.same)
+
+-- nor is a trial of such texts, if no proof is too long
+pub trial_kept : (H : List ℕ → List ℕ) (number : ℕ) → IsTrialServed H number → (refusal : InputRefusal) → IsTrialRefused H number refusal → ⊥
+trial_kept H number (asks, fits) (ProofTooLong bytes) refused = fits bytes refused
+trial_kept H number (asks, fits) other refused = trial_query_kept number asks other refused
+
+-- the honest proof is one, so where it was tried it is not too long
+pub tried_short : (H : List ℕ → List ℕ) (number : ℕ) (algorithm : Algorithm) (i : ℕ) (proof : Proof) → IsTrialProof H number algorithm i proof
+    → (query : List (List ℕ × ℕ)) (bytes : ℕ) → IsQueryOf (trial_query number i) query → IsTooLong H (trial_archive number) query 10 algorithm (2 ^ 26) bytes → ⊥
+tried_short H number algorithm i proof is query bytes own long =
+    let same : is.query ≡ query = is.asked.same ∙ sym own.same in
+    let honest : IsHonest H (trial_archive number) query 10 algorithm proof =
+    subst (λ (q : List (List ℕ × ℕ)). IsHonest H (trial_archive number) q 10 algorithm proof) same is.tried.honest in
+    let one : proof ≡ long.proof = archive_one H (trial_archive number) query 10 algorithm proof long.proof honest long.honest in
+    omega (arith, is.tried.short, ap length_of one, long.bytes_are, long.beyond)
+
+proof_at : (H : List ℕ → List ℕ) (number : ℕ) (algorithm : Algorithm) (proofs : List Proof) → AreTrialProofs H number algorithm proofs
+    → (i : ℕ) → i < length proofs → (proof : Proof) × IsTrialProof H number algorithm i proof
+proof_at H number algorithm [] are i inside = absurd (omega (arith, inside))
+proof_at H number algorithm (p ∷ proofs) are i inside = (get_or (p ∷ proofs) i p, are i p inside)
+
+module _ (H : List ℕ → List ℕ) (number : ℕ) (text : List ℕ) (tried : IsTrial H number text) where
+  tried_at : (algorithm : Algorithm) (i : ℕ) → i < 20 → (proof : Proof) × IsTrialProof H number algorithm i proof
+  tried_at Tra i inside = proof_at H number Tra tried.tra tried.tra_are i (omega (arith, inside, tried.tra_each))
+  tried_at Tnra i inside = proof_at H number Tnra tried.tnra tried.tnra_are i (omega (arith, inside, tried.tnra_each))
+
+  -- what was tried are queries
+  pub trial_asks : AreQueries number 20
+  trial_asks i inside = (tried_at Tra i inside).1.asked.has
+
+  trial_fits : (bytes : ℕ) → IsTrialTooLong H number bytes → ⊥
+  trial_fits bytes long =
+      let found = tried_at long.algorithm long.i long.inside in
+      tried_short H number long.algorithm long.i found.0 found.1 long.query bytes long.own long.long
+
+  -- and are not refused
+  pub trial_done_kept : (refusal : InputRefusal) → IsTrialRefused H number refusal → ⊥
+  trial_done_kept refusal refused = trial_kept H number (trial_asks, trial_fits) refusal refused
+
 -- what is served is not refused, where the files are told
 pub served_kept : (H : List ℕ → List ℕ) (files : Files) (command : Command) → IsTold files → IsServed H files command
     → (refusal : InputRefusal) → IsRefused H files command refusal → ⊥
@@ -156,6 +215,7 @@ served_kept H files (Ask words) told served refusal refused = absurd served
 served_kept H files (Serve words) told (archive, has) refusal refused = index_kept H files words.index archive told has refusal refused
 served_kept H files (Audit words) told (asks, is) refusal refused =
     ranking_kept words.r words.query (IsIndexRefused H files words.index) asks (index_kept H files words.index is.archive told is.index) refusal refused
+served_kept H files (Trial words) told served refusal refused = trial_kept H words.number served refusal refused
 served_kept H files (Verify words) told (asks, has) refusal refused = ranking_kept words.r words.query (λ other. ⊥) asks (λ other never. never) refusal refused
 
 -- bytes that spell a proof are as many as its fields have
@@ -198,6 +258,7 @@ done_kept H before now (Serve words) text told (all, same) refusal refused =
     served_kept H before.shelf.files (Serve words) told (all.served.archive, all.served.index) refusal refused
 done_kept H before now (Audit words) text told (right, same) refusal refused =
     served_kept H before.shelf.files (Audit words) told (right.asks, right.audited) refusal refused
+done_kept H before now (Trial words) text told (tried, same) refusal refused = trial_done_kept H words.number text tried refusal refused
 done_kept H before now (Verify words) text told (verified, same) refusal refused =
     ranking_kept words.r words.query (λ other. ⊥) verified.asks (λ other never. never) refusal refused
 
@@ -228,6 +289,7 @@ lacks_asks H files (Verify words) lacks = lacks.0
 lacks_asks H files (Ask words) lacks = absurd lacks
 lacks_asks H files (Serve words) lacks = tt
 lacks_asks H files (Audit words) lacks = lacks.0
+lacks_asks H files (Trial words) lacks = absurd lacks
 
 -- and nothing is refused
 pub missing_kept : (H : List ℕ → List ℕ) (files : Files) (command : Command) → LacksFile H files command
@@ -247,6 +309,7 @@ missing_kept H files (Audit words) (asks, inl missing) refusal refused =
 missing_kept H files (Audit words) (asks, inr ((archive, has), missing)) refusal refused =
     ranking_kept words.r words.query (IsIndexRefused H files words.index) asks
     (index_kept H files words.index archive (missing_told files words.proof missing) has) refusal refused
+missing_kept H files (Trial words) lacks refusal refused = absurd lacks
 missing_kept H files (Verify words) (asks, missing) refusal refused = ranking_kept words.r words.query (λ other. ⊥) asks (λ other never. never) refusal refused
 
 -- a file of the form that the command reads is there
@@ -259,6 +322,7 @@ input_there H files (Ask words) asks lacks = absurd lacks
 input_there H files (Serve words) (archive, has) lacks = missing_file files words.index has.bytes (2 ^ 29) lacks has.file
 input_there H files (Audit words) (asks, (found, is)) (_, inl missing) = missing_file files words.index is.index.bytes (2 ^ 29) missing is.index.file
 input_there H files (Audit words) (asks, (found, is)) (_, inr (has, missing)) = missing_file files words.proof is.bytes (2 ^ 26) missing is.file
+input_there H files (Trial words) asks lacks = absurd lacks
 input_there H files (Verify words) (asks, is) lacks = missing_file files words.proof is.bytes (2 ^ 26) lacks.1 is.file
 
 pub served_input : (H : List ℕ → List ℕ) (files : Files) (command : Command) → IsServed H files command → HasInput H files command
@@ -270,3 +334,4 @@ served_input H files (Verify words) served = served
 served_input H files (Ask words) served = absurd served
 served_input H files (Serve words) served = served
 served_input H files (Audit words) (asks, is) = (asks, (None, is))
+served_input H files (Trial words) served = served.0

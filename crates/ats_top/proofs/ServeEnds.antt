@@ -2,7 +2,7 @@
 use Rattle.std.proofs.Common.{◌≡◌, ◌≤◌, ℕ, List, Result, Ok, Err, Option, Some, None, refl, sym, ap, subst, inl, inr, arith}
 use Rattle.ats_base.specs.Outside.{ShelfTold, SinkTold}
 use Rattle.ats_base.specs.Links.{CallerTold, DoorTold}
-use Rattle.ats_top.specs.Words.{ServeWords, Command, Rank, Build, Root, Prove, Verify, Ask, Serve, Audit, command_of, serving_of}
+use Rattle.ats_top.specs.Words.{ServeWords, Command, Rank, Build, Root, Prove, Verify, Ask, Serve, Audit, Trial, command_of, serving_of}
 use Rattle.ats_top.specs.Outside.{Outside}
 use Rattle.ats_top.specs.Read.{Files}
 use Rattle.ats_top.specs.Stops.{Done, Unprinted}
@@ -27,6 +27,7 @@ serving_said (Some (Prove other)) words is = absurd (cc)
 serving_said (Some (Verify other)) words is = absurd (cc)
 serving_said (Some (Ask other)) words is = absurd (cc)
 serving_said (Some (Audit other)) words is = absurd (cc)
+serving_said (Some (Trial other)) words is = absurd (cc)
 serving_said (Some (Serve other)) words is = let same : words ≡ other = cc in ap (λ (w : ServeWords). Some (Serve w)) (sym same)
 
 -- the count of the sink did not fall

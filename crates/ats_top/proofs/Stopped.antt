@@ -3,9 +3,10 @@ use Rattle.std.proofs.Common.{◌≡◌, ◌≤◌, ◌++◌, ℕ, List, [], ref
 use Rattle.std.specs.Prelude.{IfOk}
 use Rattle.ats_base.specs.Outside.{ShelfTold, SinkTold}
 use Rattle.ats_base.specs.Links.{CallerTold, DoorTold}
-use Rattle.ats_top.specs.Words.{RankWords, AskWords, Command, Rank, Ask, command_of}
+use Rattle.ats_top.specs.Words.{RankWords, AskWords, TrialWords, Command, Rank, Ask, Trial, command_of}
 use Rattle.ats_top.specs.ReadStops.{RankingStop}
 use Rattle.ats_top.specs.Refusals.{IsCollectionRefused}
+use Rattle.ats_top.specs.Trial.{IsTrialStop}
 use Rattle.ats_top.specs.Outside.{Outside}
 use Rattle.ats_top.specs.Done.{IsDone}
 use Rattle.ats_top.specs.Stops.{End, Done, Stopped, HasLine, status_of_stop, text_of_stop}
@@ -103,6 +104,23 @@ pub rank_stops : {T : Type 0} (H : List ℕ → List ℕ) (before now : ShelfTol
     → IfErr result (FilesStop H before now (Rank words))
 rank_stops H before now words (Ok _) same stops = tt
 rank_stops H before now words (Err stop) same stops = rank_stop H before now words stop same stops
+
+-- why a trial stopped is why a command stops that reads no file
+trial_stop : (H : List ℕ → List ℕ) (shelf : ShelfTold) (words : TrialWords) (stop : Stop) → IsTrialStop H words.number stop → FilesStop H shelf shelf (Trial words) stop
+trial_stop H shelf words (Input refusal) stops = (stops, refl)
+trial_stop H shelf words Memory stops = refl
+trial_stop H shelf words Usage stops = absurd stops
+trial_stop H shelf words Shelf stops = absurd stops
+trial_stop H shelf words (Rejected rejection) stops = absurd stops
+trial_stop H shelf words Link stops = absurd stops
+trial_stop H shelf words (Peer fault) stops = absurd stops
+trial_stop H shelf words (Faults count) stops = absurd stops
+trial_stop H shelf words (Collision place ours theirs) stops = absurd stops
+
+pub trial_ends : {T : Type 0} (H : List ℕ → List ℕ) (shelf : ShelfTold) (words : TrialWords) (result : Result T Stop) → IfErr result (IsTrialStop H words.number)
+    → IfErr result (FilesStop H shelf shelf (Trial words))
+trial_ends H shelf words (Ok _) stops = tt
+trial_ends H shelf words (Err stop) stops = trial_stop H shelf words stop stops
 
 module _ (H : List ℕ → List ℕ) (said : List (List ℕ)) (before now : Outside) where
   -- no memory for the line of a stop is want of memory

@@ -13,7 +13,7 @@ use Rattle.ats_index.specs.Spelling.{IsSpelling}
 use Rattle.ats_client.specs.Headline.{IsTopOrCollides}
 use Rattle.ats_client.specs.Rows.{rows_of}
 use Rattle.ats_audit.specs.Verdicts.{IsTopOrTold}
-use Rattle.ats_top.specs.Words.{RankWords, BuildWords, RootWords, ProveWords, VerifyWords, Command, Rank, Build, Root, Prove, Verify, Ask, Serve, Audit, root_word}
+use Rattle.ats_top.specs.Words.{RankWords, BuildWords, RootWords, ProveWords, VerifyWords, Command, Rank, Build, Root, Prove, Verify, Ask, Serve, Audit, Trial, root_word}
 use Rattle.ats_top.specs.Print.{lines, line_of_root, line_of_proof}
 use Rattle.ats_top.specs.Outside.{Outside}
 use Rattle.ats_top.specs.Read.{Files, HasCollection, HasIndex}
@@ -23,6 +23,7 @@ use Rattle.ats_top.specs.Served.{AreAllServed}
 use Rattle.ats_top.specs.Refusals.{AsksRanking}
 use Rattle.ats_top.specs.Asked.{IsAnswered}
 use Rattle.ats_top.specs.Audited.{IsAudited, IsAuditedRight}
+use Rattle.ats_top.specs.Trial.{AreQueries, IsTrial, IsTrialServed}
 
 -- the text is the lines of the ranking of the named file's collection, and its documents are a top answer
 pub record IsRanked (files : Files) (words : RankWords) (text : List ℕ) : Type 0 where
@@ -84,6 +85,7 @@ IsDone H before now (Verify words) text = IsVerified H before.shelf.files words 
 IsDone H before now (Ask words) text = IsAnswered H before.caller now.caller words text × (now.shelf.files ≡ before.shelf.files)
 IsDone H before now (Serve words) text = AreAllServed H before.shelf.files words before.door now.door 0 text × (now.shelf.files ≡ before.shelf.files)
 IsDone H before now (Audit words) text = IsAuditedRight H before.shelf.files words text × (now.shelf.files ≡ before.shelf.files)
+IsDone H before now (Trial words) text = IsTrial H words.number text × (now.shelf.files ≡ before.shelf.files)
 
 -- the name was given a prefix of the bytes, which may be all of them
 pub record PutsPart (before now : Files) (name bytes : List ℕ) : Type 0 where
@@ -116,8 +118,10 @@ Changes H before now (Verify words) = ⊥
 Changes H before now (Ask words) = ⊥
 Changes H before now (Serve words) = ⊥
 Changes H before now (Audit words) = ⊥
+Changes H before now (Trial words) = ⊥
 
--- what the words say is within the limits, and the named file is of the form that the command reads; a proof is one that is accepted
+-- what the words say is within the limits, and the named file is of the form that the command reads; a proof is one that is accepted;
+-- the texts of a trial's queries are queries
 abbrev pub HasInput : (List ℕ → List ℕ) → Files → Command → Type 0
 HasInput H files (Rank words) = AsksRanking words.r words.query × ((texts : List (List ℕ)) × HasCollection files words.collection texts)
 HasInput H files (Build words) = (texts : List (List ℕ)) × HasCollection files words.collection texts
@@ -127,6 +131,7 @@ HasInput H files (Verify words) = AsksRanking words.r words.query × IsAccepted 
 HasInput H files (Ask words) = AsksRanking words.r words.query
 HasInput H files (Serve words) = (archive : Archive) × HasIndex H files words.index archive
 HasInput H files (Audit words) = AsksRanking words.r words.query × ((found : Option (Difference TreePlace)) × IsAudited H files words found)
+HasInput H files (Trial words) = AreQueries words.number 20
 
 -- And no honest proof that the words ask for is too long, and the audited proof has no collision with the archive. Of `ask` no file decides, but the reply.
 abbrev pub IsServed : (List ℕ → List ℕ) → Files → Command → Type 0
@@ -138,3 +143,4 @@ IsServed H files (Verify words) = HasInput H files (Verify words)
 IsServed H files (Ask words) = ⊥
 IsServed H files (Serve words) = HasInput H files (Serve words)
 IsServed H files (Audit words) = AsksRanking words.r words.query × IsAudited H files words None
+IsServed H files (Trial words) = IsTrialServed H words.number

@@ -1,7 +1,7 @@
 -- The files that commands read and store, and what comes of the shelf by it.
 use Rattle.std.specs.Prelude.{◌≡◌, ◌⊎◌, ◌≤◌, ◌^◌, ◌++◌, ◌∷◌, ℕ, List, [], Option, Some, None}
 use Rattle.ats_base.specs.Outside.{IsMissing, ShelfTold, Ask, Asked, ReadsAtMostOnce, StoresOnce}
-use Rattle.ats_top.specs.Words.{Command, Rank, Build, Root, Prove, Verify, Ask as AskServer, Serve, Audit}
+use Rattle.ats_top.specs.Words.{Command, Rank, Build, Root, Prove, Verify, Ask as AskServer, Serve, Audit, Trial}
 
 -- what a file is read as
 pub data Form : Type 0 where
@@ -29,6 +29,7 @@ reads (Verify words) = (record { name = words.proof; form = AsProof }) ∷ []
 reads (AskServer words) = []
 reads (Serve words) = (record { name = words.index; form = AsIndex }) ∷ []
 reads (Audit words) = (record { name = words.index; form = AsIndex }) ∷ (record { name = words.proof; form = AsProof }) ∷ []
+reads (Trial words) = []
 
 -- the file that it stores, if it stores one
 abbrev pub stores : Command → Option (List ℕ)
@@ -40,6 +41,7 @@ stores (Verify words) = None
 stores (AskServer words) = None
 stores (Serve words) = None
 stores (Audit words) = None
+stores (Trial words) = None
 
 -- these files alone are read, in this order, each once at most
 abbrev pub ReadsInOrder : List InputFile → List Ask → Type 0

@@ -1,4 +1,5 @@
--- Why a command refuses its words or its file: the first limit or form that is not kept, in the order of the trials.
+-- Why a command refuses its words or its file, or a query or a proof of a trial: the first limit or form that is not kept, in the order
+-- in which they are tried.
 use Rattle.std.specs.Prelude.{◌≡◌, ◌⊎◌, ◌≤◌, ◌^◌, ℕ, List}
 use Rattle.ats_base.specs.Outside.{IsMissing, IsLonger}
 use Rattle.ats_terms.specs.Query.{HasQuery}
@@ -13,9 +14,10 @@ use Rattle.ats_index.specs.declared.load.LoadFault.TheVariants as index
 use Rattle.ats_top.specs.Input.{AreJsonTexts, IsFirstJsonFault}
 use Rattle.ats_top.specs.declared.input.JsonFault.{JsonFault}
 use Rattle.ats_top.specs.declared.input.JsonFault.TheVariants as json
-use Rattle.ats_top.specs.Words.{ProveWords, Command, Rank, Build, Root, Prove, Verify, Ask, Serve, Audit}
+use Rattle.ats_top.specs.Words.{ProveWords, Command, Rank, Build, Root, Prove, Verify, Ask, Serve, Audit, Trial}
 use Rattle.ats_top.specs.Read.{Files, IsFile, HasIndex}
 use Rattle.ats_top.specs.Proved.{IsProofTooLong}
+use Rattle.ats_top.specs.Trial.{IsTrialRefused}
 use Rattle.ats_top.specs.declared.stops.InputRefusal.{InputRefusal}
 use Rattle.ats_top.specs.declared.stops.InputRefusal.TheVariants.{ROut, QueryTooLong, NoTerm, TooManyWords, TooManyTerms, FileTooLong, NotJson, NotArray, BadItem, NoDocuments, TooManyDocuments, TextTooLong, AllTooLong, BadIndex, ProofTooLong}
 
@@ -39,10 +41,12 @@ Asks (Verify words) = AsksRanking words.r words.query
 Asks (Ask words) = AsksRanking words.r words.query
 Asks (Serve words) = Unit {0}
 Asks (Audit words) = AsksRanking words.r words.query
+Asks (Trial words) = Unit {0}
 
 -- and it comes to the shelf
 abbrev pub NeedsShelf : Command → Type 0
 NeedsShelf (Ask words) = ⊥
+NeedsShelf (Trial words) = ⊥
 NeedsShelf command = Asks command
 
 -- a file that the command reads is not there, where what is tried before it is good
@@ -56,6 +60,7 @@ LacksFile H files (Ask words) = ⊥
 LacksFile H files (Serve words) = IsMissing files words.index
 LacksFile H files (Audit words) = AsksRanking words.r words.query
     × (IsMissing files words.index ⊎ (((archive : Archive) × HasIndex H files words.index archive) × IsMissing files words.proof))
+LacksFile H files (Trial words) = ⊥
 
 -- the first refusal of the file's bytes is that of the JSON text
 abbrev pub IsJsonRefused : Files → List ℕ → JsonFault → Type 0
@@ -107,3 +112,4 @@ IsRefused H files (Verify words) refusal = IsRankingRefused words.r words.query 
 IsRefused H files (Ask words) refusal = IsRankingRefused words.r words.query (λ other. ⊥) refusal
 IsRefused H files (Serve words) refusal = IsIndexRefused H files words.index refusal
 IsRefused H files (Audit words) refusal = IsRankingRefused words.r words.query (IsIndexRefused H files words.index) refusal
+IsRefused H files (Trial words) refusal = IsTrialRefused H words.number refusal

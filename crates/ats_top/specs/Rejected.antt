@@ -8,7 +8,7 @@ use Rattle.ats_commit.specs.Root.{root_of}
 use Rattle.ats_client.specs.Bytes.{IsRejectedBytes}
 use Rattle.ats_client.specs.declared.fault.Rejection.{Rejection}
 use Rattle.ats_client.specs.declared.fault.Rejection.TheVariants.{Shape}
-use Rattle.ats_top.specs.Words.{VerifyWords, AuditWords, under, Command, Rank, Build, Root, Prove, Verify, Ask, Serve, Audit}
+use Rattle.ats_top.specs.Words.{VerifyWords, AuditWords, under, Command, Rank, Build, Root, Prove, Verify, Ask, Serve, Audit, Trial}
 use Rattle.ats_top.specs.Read.{Files, IsFile, HasIndex}
 use Rattle.ats_top.specs.Refusals.{AsksRanking}
 
@@ -44,3 +44,4 @@ IsRejected H files (Ask words) rejection = ⊥
 IsRejected H files (Verify words) rejection = AsksRanking words.r words.query × IsProofRejected H files words rejection
 IsRejected H files (Serve words) rejection = ⊥
 IsRejected H files (Audit words) rejection = AsksRanking words.r words.query × IsAuditRejected H files words rejection
+IsRejected H files (Trial words) rejection = ⊥

@@ -2,8 +2,9 @@ use Rattle.std.proofs.Common.{refl, sym, map, string_bytes, inl, inr}
 use Rattle.ats_top.specs.Done.{IsProofStored, IsVerified}
 use Rattle.ats_top.specs.Asked.{IsAnswered}
 use Rattle.ats_top.specs.Audited.{IsAuditedRight}
+use Rattle.ats_top.specs.Trial.{IsTrial}
 use Rattle.ats_top.proofs.Readings.{rank_read, root_read, verify_read}
-use Rattle.ats_top.proofs.Stopped.{files_ends, rank_stops, ask_ends, done_ends}
+use Rattle.ats_top.proofs.Stopped.{files_ends, rank_stops, ask_ends, trial_ends, done_ends}
 use Rattle.ats_top.proofs.commands.answer.Goals as goal
 
 pub returns-in-Some-Rank-clause-serves : goal.returns-in-Some-Rank-clause-serves
@@ -98,3 +99,17 @@ returns-in-Some-Ask-clause-called g c =
       | inl same ↦ inl same
       | inr called ↦ inr (_, sym is, called)
     ]
+
+pub returns-in-Some-Trial-clause-ok : goal.returns-in-Some-Trial-clause-ok
+returns-in-Some-Trial-clause-ok g c =
+    let is = rw c.in-Some-Trial.field-0-is at c.in-Some-Trial.ensures in
+    done_ends _ (g.S.Shelf.told c.args.shelf.now) (g.S.Shelf.told c.args.shelf.now) (g.C.Caller.told c.args.caller.now) (g.C.Caller.told c.args.caller.now)
+    (g.D.Door.told c.args.door.now) (g.D.Door.told c.args.door.now) (map string_bytes c.args.words.now) _ (sym is)
+    string_bytes (IsTrial _ _) c.trial.result (λ text tried was now. (tried, refl)) c.trial.ensures.ok
+
+pub returns-in-Some-Trial-clause-stop : goal.returns-in-Some-Trial-clause-stop
+returns-in-Some-Trial-clause-stop g c =
+    let is = rw c.in-Some-Trial.field-0-is at c.in-Some-Trial.ensures in
+    files_ends g.H.HashKind.hash (g.S.Shelf.told c.args.shelf.now) (g.S.Shelf.told c.args.shelf.now) (g.C.Caller.told c.args.caller.now) (g.C.Caller.told c.args.caller.now)
+    (g.D.Door.told c.args.door.now) (g.D.Door.told c.args.door.now) (map string_bytes c.args.words.now) _ (sym is) c.trial.result
+    (trial_ends g.H.HashKind.hash (g.S.Shelf.told c.args.shelf.now) _ c.trial.result c.trial.ensures.stop)

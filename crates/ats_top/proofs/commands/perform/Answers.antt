@@ -1,7 +1,20 @@
-use Rattle.std.proofs.Common.{inr}
+use Rattle.std.proofs.Common.{map, string_bytes, inl, inr}
 use Rattle.ats_top.proofs.Readings.{serve_read}
 use Rattle.ats_top.proofs.ServeEnds.{serving_said}
 use Rattle.ats_top.proofs.commands.perform.Goals as goal
 
 pub returns-in-Some-clause-serves : goal.returns-in-Some-clause-serves
 returns-in-Some-clause-serves g c = inr (_, serving_said _ _ c.in-Some.ensures, serve_read _ _ _ c.serve.ensures.reads)
+
+pub returns-in-Some-clause-ended : goal.returns-in-Some-clause-ended
+returns-in-Some-clause-ended g c =
+    c.serve.ensures.ended (map string_bytes c.args.words.now) (g.C.Caller.told c.args.caller.now) (serving_said _ _ c.in-Some.ensures)
+
+pub returns-in-Some-clause-unopened : goal.returns-in-Some-clause-unopened
+returns-in-Some-clause-unopened g c none = absurd (none (_, serving_said _ _ c.in-Some.ensures, tt))
+
+pub returns-in-Some-clause-opened : goal.returns-in-Some-clause-opened
+returns-in-Some-clause-opened g c = elim c.serve.ensures.opened [
+  | inl same ↦ inl same
+  | inr opens ↦ inr (_, serving_said _ _ c.in-Some.ensures, opens)
+]

@@ -1,9 +1,32 @@
-use Rattle.std.proofs.Common.{inl, arith}
+use Rattle.std.proofs.Common.{◌∙◌, ℕ, List, ap, subst, inl, arith}
+use Rattle.ats_base.specs.Outside.{Puts}
+use Rattle.ats_top.specs.Print.{line_of_proof}
+use Rattle.ats_top.specs.Read.{Files}
 use Rattle.ats_top.specs.Refusals.{AsksRanking}
 use Rattle.ats_top.specs.Proved.{IsProofFor}
 use Rattle.ats_top.proofs.Readings.{prove_read, prove_stored}
 use Rattle.ats_top.proofs.Stored.{proof_part}
 use Rattle.ats_top.proofs.commands.prove.Goals as goal
+
+pub returns-in-Ok-clause-ok : goal.returns-in-Ok-clause-ok
+returns-in-Ok-clause-ok g c =
+    let within = c.in_ok-rows.ensures.within in
+    let bytes : List ℕ = c.in_ok-bytes.bytes in
+    record {
+      asks = record { rows = record { some = within.0; few = within.1 }; query = c.in_ok-asked.ensures.ok.has };
+      bytes = bytes;
+      proof = record {
+        archive = _;
+        query = _;
+        index = c.in_ok-loaded.ensures.ok;
+        asked = c.in_ok-asked.ensures.ok;
+        proved = rw c.in_ok-rows.ensures.ok at c.in_ok-bytes.ensures.ok;
+        short = c.in_ok-bytes.ensures.within;
+      };
+      stored = subst (λ (files : Files). Puts files (g.S.Shelf.told c.store.new.shelf).files c.args.proof.now bytes) c.in_ok-loaded.ensures.reads.files
+          (rw c.as_slice.ensures at c.in-Ok.ensures.ok);
+      printed = c.in_ok-line.ensures ∙ ap line_of_proof c.len.ensures;
+    }
 
 pub returns-clause-stop : goal.returns-clause-stop
 returns-clause-stop g c =

@@ -1,0 +1,14 @@
+use Rattle.std.proofs.Common.{◌≡◌}
+use Rattle.ats_records.specs.declared.record.Algorithm.TheVariants.{Tra, Tnra}
+use Rattle.ats_top.specs.Trial.{IsSmall}
+use Rattle.ats_top.proofs.Tried.{AreFirst}
+use Rattle.ats_top.proofs.trial.tallies.Given as goal
+
+-- what the proofs of the queries so far come to
+abbrev pub invariant-loop-query : goal.invariant-loop-query
+invariant-loop-query g l = record {
+  tra : AreFirst g.H.HashKind.hash l.index l.queries Tra l.query-index l.tra;
+  tnra : AreFirst g.H.HashKind.hash l.index l.queries Tnra l.query-index l.tnra;
+  tra_small : IsSmall l.tra;
+  tnra_small : IsSmall l.tnra;
+}

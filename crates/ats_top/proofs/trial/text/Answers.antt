@@ -1,0 +1,13 @@
+use Rattle.std.proofs.Common.{◌≡◌, ◌+◌, ℕ, List, length, string_bytes, ap₂, ◌∙◌}
+use Rattle.ats_proof.specs.Value.{Proof}
+use Rattle.ats_top.specs.Trial.{lines_of_trial, tally_of}
+use Rattle.ats_top.specs.declared.trial.Tally.{Tally}
+use Rattle.ats_top.proofs.Tried.{lines_joined, ok_more}
+use Rattle.ats_top.proofs.trial.text.Goals as goal
+
+pub returns : goal.returns
+returns c =
+    ok_more c.format.result _ c.format.ensures.ok (λ text is first second tra tnra.
+    let right = ap₂ (λ (a b : Tally). a.right + b.right) tra tnra in
+    is ∙ lines_joined c.args.root.now (string_bytes c.in_ok-root.root) (string_bytes c.in_ok-tra.tra) (string_bytes c.in_ok-tnra.tnra) (c.args.tra.now.right + c.args.tnra.now.right) first second
+    c.in_ok-root.ensures.line (c.in_ok-tra.ensures first tra) (c.in_ok-tnra.ensures second tnra) right)

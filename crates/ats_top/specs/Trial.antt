@@ -1,0 +1,171 @@
+-- The trial of a number: the honest proofs of its queries over its texts, and what is printed of them.
+use Rattle.std.specs.Prelude.{◌≡◌, ◌+◌, ◌*◌, ◌<◌, ◌≤◌, ◌^◌, ◌++◌, ℕ, Bool, true, false, List, None, length, sum_by, slice_index_or, codes, decimal}
+use Rattle.ats_terms.specs.Query.{HasQuery, IsQueryOf}
+use Rattle.ats_terms.specs.Faults.{IsFirstFault}
+use Rattle.ats_terms.specs.declared.query.QueryFault.{QueryFault}
+use Rattle.ats_impact.specs.Trial.{trial_texts, trial_query}
+use Rattle.ats_commit.specs.Archive.{Archive, archive_of}
+use Rattle.ats_commit.specs.Root.{root_of}
+use Rattle.ats_records.specs.declared.record.Algorithm.{Algorithm}
+use Rattle.ats_records.specs.declared.record.Algorithm.TheVariants.{Tra, Tnra}
+use Rattle.ats_proof.specs.Value.{Prefix, Proof}
+use Rattle.ats_client.specs.Accepts.{Accepts}
+use Rattle.ats_client.specs.Strings.{extract}
+use Rattle.ats_audit.specs.declared.auditing.Verdict.{Verdict}
+use Rattle.ats_audit.specs.declared.auditing.Verdict.TheVariants.{Right}
+use Rattle.ats_prover.specs.Honest.{IsHonest, IsTooLong, length_of}
+use Rattle.ats_top.specs.Print.{line_of_root}
+use Rattle.ats_top.specs.Stops.{stop_of_query}
+use Rattle.ats_top.specs.declared.stops.InputRefusal.{InputRefusal}
+use Rattle.ats_top.specs.declared.stops.InputRefusal.TheVariants.{ProofTooLong}
+use Rattle.ats_top.specs.declared.stops.Stop.{Stop}
+use Rattle.ats_top.specs.declared.stops.Stop.TheVariants.{Input, Memory}
+use Rattle.ats_top.specs.declared.trial.Tally.{Tally}
+
+-- how many entries of the lists a proof shows
+abbrev pub shown_entries : Proof → ℕ
+shown_entries proof = sum_by (λ (prefix : Prefix). length prefix.entries) proof.lists
+
+abbrev pub trial_archive : ℕ → Archive
+trial_archive number = archive_of (trial_texts number)
+
+-- the proof is the honest one of a query for 10 rows, and no longer than a proof may be; it is accepted under the root
+-- of its archive, and an audit finds no clash in it
+pub record IsTried (H : List ℕ → List ℕ) (archive : Archive) (query : List (List ℕ × ℕ)) (algorithm : Algorithm) (proof : Proof) : Type 0 where
+  pub honest : IsHonest H archive query 10 algorithm proof
+  pub short : length_of proof ≤ 2 ^ 26
+  pub accepted : Accepts H (root_of H archive) query 10 proof
+  pub right : extract H archive query proof ≡ None
+
+-- so it is of the trial's query with this number
+pub record IsTrialProof (H : List ℕ → List ℕ) (number : ℕ) (algorithm : Algorithm) (i : ℕ) (proof : Proof) : Type 0 where
+  pub query : List (List ℕ × ℕ)
+  pub asked : IsQueryOf (trial_query number i) query
+  pub tried : IsTried H (trial_archive number) query algorithm proof
+
+-- they are those of the first queries, in order
+abbrev pub AreTrialProofs : (List ℕ → List ℕ) → ℕ → Algorithm → List Proof → Type 0
+AreTrialProofs H number algorithm proofs =
+    (i : ℕ) (d : Proof) → i < length proofs → IsTrialProof H number algorithm i (slice_index_or proofs i d)
+
+-- NAME accepted A entries E bytes B
+abbrev pub line_of_proofs : List ℕ → List Proof → List ℕ
+line_of_proofs name proofs =
+    name ++ (codes " accepted " ++ (decimal (length proofs) ++ (codes " entries " ++ (decimal (sum_by shown_entries proofs)
+    ++ (codes " bytes " ++ (decimal (sum_by length_of proofs) ++ codes "\n"))))))
+
+-- the five lines, of the root and of the accepted proofs by each algorithm, all of which are audited as right
+abbrev pub lines_of_trial : List ℕ → List Proof → List Proof → List ℕ
+lines_of_trial root tra tnra =
+    codes "documents 2000 terms 100000 queries 20\nroot " ++ (line_of_root root
+    ++ (line_of_proofs (codes "tra") tra ++ (line_of_proofs (codes "tnra") tnra
+    ++ (codes "audit right " ++ (decimal (length tra + length tnra) ++ codes "\n")))))
+
+-- the text is that of the trial: 20 queries, each proved by both algorithms
+pub record IsTrial (H : List ℕ → List ℕ) (number : ℕ) (text : List ℕ) : Type 0 where
+  pub tra : List Proof
+  pub tnra : List Proof
+  pub tra_each : length tra ≡ 20
+  pub tnra_each : length tnra ≡ 20
+  pub tra_are : AreTrialProofs H number Tra tra
+  pub tnra_are : AreTrialProofs H number Tnra tnra
+  pub printed : text ≡ lines_of_trial (root_of H (trial_archive number)) tra tnra
+
+-- each query has such a proof of its own, in order
+pub record AreTried (H : List ℕ → List ℕ) (archive : Archive) (queries : List (List (List ℕ × ℕ))) (algorithm : Algorithm) (proofs : List Proof) : Type 0 where
+  pub many : length proofs ≡ length queries
+  pub each : (i : ℕ) (d : List (List ℕ × ℕ)) (e : Proof) → i < length proofs → IsTried H archive (slice_index_or queries i d) algorithm (slice_index_or proofs i e)
+
+-- an audit answers that the rows are right
+abbrev pub is_right : Verdict → Bool
+is_right (Right rows) = true
+is_right _ = false
+
+-- what is counted of some proofs, each of which is accepted and audited as right
+abbrev pub tally_of : List Proof → Tally
+tally_of proofs = record {
+  accepted = length proofs;
+  entries = sum_by shown_entries proofs;
+  bytes = sum_by length_of proofs;
+  right = length proofs;
+}
+
+-- one such proof more
+abbrev pub counted : Proof → Tally → Tally
+counted proof tally = record {
+  accepted = tally.accepted + 1;
+  entries = tally.entries + shown_entries proof;
+  bytes = tally.bytes + length_of proof;
+  right = tally.right + 1;
+}
+
+-- so few proofs that all can be counted
+pub record IsSmall (tally : Tally) : Type 0 where
+  pub accepted : tally.accepted ≤ 20
+  pub entries : tally.entries ≤ 2 ^ 48 * tally.accepted
+  pub bytes : tally.bytes ≤ 2 ^ 26 * tally.accepted
+  pub right : tally.right ≤ tally.accepted
+
+-- ---- why there is none
+
+-- the first queries of the trial, so many, are queries
+abbrev pub AreQueries : ℕ → ℕ → Type 0
+AreQueries number count = (i : ℕ) → i < count → HasQuery (trial_query number i)
+
+-- the first of the 20 texts that is no query, with its fault
+pub record IsTrialQueryRefused (number : ℕ) (refusal : InputRefusal) : Type 0 where
+  pub i : ℕ
+  pub inside : i < 20
+  pub before : AreQueries number i
+  pub fault : QueryFault
+  pub first : IsFirstFault (trial_query number i) fault
+  pub same : stop_of_query fault ≡ Input refusal
+
+-- the texts are the trial's queries, in order
+abbrev pub AreTrialQueries : ℕ → List (List (List ℕ × ℕ)) → Type 0
+AreTrialQueries number queries = (i : ℕ) (d : List (List ℕ × ℕ)) → i < length queries → IsQueryOf (trial_query number i) (slice_index_or queries i d)
+
+-- a query's proof is not made: it is too long, or memory was wanted
+abbrev pub IsTryStop : (List ℕ → List ℕ) → Archive → List (List ℕ × ℕ) → Algorithm → Stop → Type 0
+IsTryStop H archive query algorithm Memory = Unit {0}
+IsTryStop H archive query algorithm (Input (ProofTooLong bytes)) = IsTooLong H archive query 10 algorithm (2 ^ 26) bytes
+IsTryStop H archive query algorithm _ = ⊥
+
+-- where a proof stands in the order of the trial: query after query, TRA first
+abbrev pub turn : ℕ → Algorithm → ℕ
+turn i Tra = 2 * i
+turn i Tnra = 2 * i + 1
+
+-- the first proof that is not made: before it are those of the queries before, and of this one's that by TRA
+pub record IsTriesStop (H : List ℕ → List ℕ) (archive : Archive) (queries : List (List (List ℕ × ℕ))) (stop : Stop) : Type 0 where
+  pub i : ℕ
+  pub algorithm : Algorithm
+  pub inside : i < length queries
+  pub stopped : (d : List (List ℕ × ℕ)) → IsTryStop H archive (slice_index_or queries i d) algorithm stop
+  pub before : (k : ℕ) (a : Algorithm) → turn k a < turn i algorithm → (d : List (List ℕ × ℕ)) → (proof : Proof) × IsTried H archive (slice_index_or queries k d) a proof
+
+-- the first honest proof that is longer than a proof may be, with its length, where all texts are queries
+pub record IsTrialTooLong (H : List ℕ → List ℕ) (number bytes : ℕ) : Type 0 where
+  pub i : ℕ
+  pub algorithm : Algorithm
+  pub inside : i < 20
+  pub asked : AreQueries number 20
+  pub before : (k : ℕ) (a : Algorithm) → turn k a < turn i algorithm → (proof : Proof) × IsTrialProof H number a k proof
+  pub query : List (List ℕ × ℕ)
+  pub own : IsQueryOf (trial_query number i) query
+  pub long : IsTooLong H (trial_archive number) query 10 algorithm (2 ^ 26) bytes
+
+-- the queries, then the proofs
+abbrev pub IsTrialRefused : (List ℕ → List ℕ) → ℕ → InputRefusal → Type 0
+IsTrialRefused H number (ProofTooLong bytes) = IsTrialTooLong H number bytes
+IsTrialRefused H number refusal = IsTrialQueryRefused number refusal
+
+-- all of its texts are queries, and no honest proof of one is too long
+abbrev pub IsTrialServed : (List ℕ → List ℕ) → ℕ → Type 0
+IsTrialServed H number = AreQueries number 20 × ((bytes : ℕ) → IsTrialTooLong H number bytes → ⊥)
+
+-- a trial ends before it is done: its refusal, or memory was wanted
+abbrev pub IsTrialStop : (List ℕ → List ℕ) → ℕ → Stop → Type 0
+IsTrialStop H number Memory = Unit {0}
+IsTrialStop H number (Input refusal) = IsTrialRefused H number refusal
+IsTrialStop H number _ = ⊥

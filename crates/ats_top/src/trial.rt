@@ -1,0 +1,198 @@
+// The trial of a number: the honest proofs of its queries over its texts, by both algorithms.
+ghost use Rattle.std.specs.Prelude.{◌≡◌, ◌<◌, ◌≤◌, ◌+◌, ◌^◌, ℕ, List, IfOk, IfErr, OnOk, length, string_bytes};
+ghost use Rattle.ats_commit.specs.Archive.{archive_of};
+ghost use Rattle.ats_impact.specs.Trial.{trial_texts};
+ghost use Rattle.ats_proof.specs.Value.{Proof};
+ghost use Rattle.ats_proof.specs.Views.{proof_of};
+ghost use Rattle.ats_records.specs.declared.record.Algorithm.TheVariants.{Tra, Tnra};
+ghost use Rattle.ats_audit.specs.Verdicts.{IsVerdict};
+ghost use Rattle.ats_audit.specs.declared.auditing.Verdict.{Verdict};
+ghost use Rattle.ats_top.specs.Trial.{shown_entries, is_right, tally_of, counted, IsSmall, IsTried, IsTryStop, IsTriesStop, AreTried, AreTrialQueries, IsTrial, IsTrialStop, line_of_proofs, lines_of_trial};
+ghost use Rattle.ats_top.specs.declared.stops.Stop.TheVariants.{Memory};
+
+use crate::print::root_line;
+use crate::read::PROOF_LIMIT;
+use crate::stops::Stop;
+use ats_audit::Verdict;
+use ats_bound::Work;
+use ats_client::check;
+use ats_hash::{Hash32, Steps};
+use ats_impact::{Collection, Top, trial_query, trial_texts};
+use ats_index::Index;
+use ats_proof::ProofView;
+use ats_prover::{Algorithm, prove_within};
+use ats_terms::Query;
+use std::alloc::{AllocError, Global};
+
+const QUERIES: u32 = 20;
+
+/// What the proofs of some queries come to: how many are accepted, with the entries that they show and their bytes, and
+/// how many an audit finds right.
+#[derive(Clone, Copy)]
+pub(crate) struct Tally {
+    pub(crate) accepted: u32,
+    pub(crate) entries: u64,
+    pub(crate) bytes: u64,
+    pub(crate) right: u32,
+}
+
+const NONE: Tally = Tally {
+    accepted: 0,
+    entries: 0,
+    bytes: 0,
+    right: 0,
+};
+
+// How many entries of the lists a proof shows.
+fn shown_entries(proof: &ProofView<'_>, steps: &mut Steps) -> u64
+    requires room { steps.old ≤ 2 ^ 63 }
+    ensures value { result ≡ shown_entries (proof_of proof.now) }
+    ensures few { result ≤ 2 ^ 48 }
+{
+    let mut lists = proof.lists();
+    let mut entries: u64 = 0;
+    'lists: while let Some(list) = lists.next(steps) {
+        entries += u64::from(list.len());
+    }
+    entries
+}
+
+// Whether an audit of the bytes of a proof answers that its rows are right.
+fn is_right<H: Hash32>(
+    alloc: Global,
+    index: &Index<H>,
+    query: &Query,
+    top: Top,
+    bytes: &[u8],
+) -> Result<bool, Stop>
+    ensures ok { IfOk result (λ right. (verdict : Verdict) × IsVerdict H.hash index.now query.now top bytes.now verdict × (right ≡ is_right verdict)) }
+    ensures stop { IfErr result (λ stop. stop ≡ Memory) }
+{
+    let Ok(verdict) = ats_audit::audit::<H>(alloc, index, query, top, bytes) else {
+        return Err(Stop::Memory);
+    };
+    Ok(matches!(verdict, Verdict::Right(_)))
+}
+
+// Proves a query by an algorithm, checks the proof under the root of the index, and audits it. What is accepted is counted,
+// and so is what is found right.
+fn count<H: Hash32>(
+    alloc: Global,
+    index: &Index<H>,
+    query: &Query,
+    top: Top,
+    algorithm: Algorithm,
+    tally: &mut Tally,
+) -> Result<(), Stop>
+    requires ten { top ≡ 10 }
+    requires small { IsSmall tally.old }
+    requires room { tally.old.accepted < 20 }
+    ensures counted { OnOk result ((proof : Proof) × IsTried H.hash index.now query.now algorithm proof × (tally.new ≡ counted proof tally.old)) }
+    ensures small { OnOk result (IsSmall tally.new) }
+    ensures stop { IfErr result (IsTryStop H.hash index.now query.now algorithm) }
+{
+    let bytes = prove_within(alloc, index, query, top, algorithm, PROOF_LIMIT)?;
+    let bytes = bytes.as_slice();
+    let Ok(proof) = ProofView::read(bytes) else {
+        return Ok(());
+    };
+    let mut steps = Steps::new(alloc);
+    let Ok(mut work) = Work::with_room(alloc, proof.met()) else {
+        return Err(Stop::Memory);
+    };
+    let accepted = check::<H>(&index.root(), query, top, &proof, &mut work, &mut steps).is_ok();
+    tally.right += u32::from(is_right::<H>(alloc, index, query, top, bytes)?);
+    if accepted {
+        let mut steps = Steps::new(alloc);
+        tally.accepted += 1;
+        tally.entries += shown_entries(&proof, &mut steps);
+        tally.bytes += bytes.len() as u64;
+    }
+    Ok(())
+}
+
+// What the proofs of all queries by both algorithms come to: TRA first, and query after query.
+fn tallies<H: Hash32>(
+    alloc: Global,
+    index: &Index<H>,
+    queries: &[Query],
+    top: Top,
+) -> Result<(Tally, Tally), Stop>
+    requires ten { top ≡ 10 }
+    requires few { length queries.now ≤ 20 }
+    ensures tra { IfOk result (λ tallies. (proofs : List Proof) × AreTried H.hash index.now queries.now Tra proofs × (tallies.0 ≡ tally_of proofs)) }
+    ensures tnra { IfOk result (λ tallies. (proofs : List Proof) × AreTried H.hash index.now queries.now Tnra proofs × (tallies.1 ≡ tally_of proofs)) }
+    ensures small { IfOk result (λ tallies. IsSmall tallies.0 × IsSmall tallies.1) }
+    ensures stop { IfErr result (IsTriesStop H.hash index.now queries.now) }
+{
+    let mut tra = NONE;
+    let mut tnra = NONE;
+    for query in queries {
+        count(alloc, index, query, top, Algorithm::Tra, &mut tra)?;
+        count(alloc, index, query, top, Algorithm::Tnra, &mut tnra)?;
+    }
+    Ok((tra, tnra))
+}
+
+// The queries of a trial.
+fn queries(alloc: Global, number: u32) -> Result<Vec<Query>, Stop>
+    ensures ok { IfOk result (λ queries. AreTrialQueries number queries.items) }
+    ensures many { IfOk result (λ queries. length queries.items ≡ 20) }
+    ensures stop { (H : List ℕ → List ℕ) → IfErr result (IsTrialStop H number) }
+{
+    let mut queries = Vec::new(alloc);
+    for i in 0..QUERIES {
+        let query = trial_query(alloc, number, i)?;
+        if queries.push(query).is_err() {
+            return Err(Stop::Memory);
+        }
+    }
+    Ok(queries)
+}
+
+// The index of the texts of a trial.
+fn index<H: Hash32>(alloc: Global, number: u32) -> Result<Index<H>, Stop>
+    ensures ok { IfOk result (λ index. index ≡ archive_of (trial_texts number)) }
+    ensures stop { IfErr result (IsTrialStop H.hash number) }
+{
+    let texts = Collection::new(alloc, trial_texts(alloc, number)?)?;
+    Ok(Index::<H>::build(alloc, texts)?)
+}
+
+fn line(alloc: Global, name: &str, tally: &Tally) -> Result<String, AllocError>
+    ensures { IfOk result (λ text. (proofs : List Proof) → tally.now ≡ tally_of proofs → string_bytes text ≡ line_of_proofs name.now proofs) }
+{
+    let (accepted, entries, bytes) = (tally.accepted, tally.entries, tally.bytes);
+    format!(in alloc; "{name} accepted {accepted} entries {entries} bytes {bytes}\n")
+}
+
+// The five lines of a trial.
+fn text(alloc: Global, root: &[u8; 32], tra: &Tally, tnra: &Tally) -> Result<String, AllocError>
+    requires small { IsSmall tra.now }
+    requires other { IsSmall tnra.now }
+    ensures { IfOk result (λ text. (first second : List Proof) → tra.now ≡ tally_of first → tnra.now ≡ tally_of second → string_bytes text ≡ lines_of_trial root.now first second) }
+{
+    let right = tra.right + tnra.right;
+    let root = root_line(alloc, root)?;
+    let tra = line(alloc, "tra", tra)?;
+    let tnra = line(alloc, "tnra", tnra)?;
+    format!(in alloc;
+        "documents 2000 terms 100000 queries 20\nroot {root}{tra}{tnra}audit right {right}\n"
+    )
+}
+
+// How many rows an answer may have.
+const ROWS: u32 = 10;
+
+/// The lines of `trial`: its queries are read, then its texts are indexed, and then each query is proved, checked and audited by
+/// each algorithm.
+pub(crate) fn trial<H: Hash32>(alloc: Global, number: u32) -> Result<String, Stop>
+    ensures ok { IfOk result (λ text. IsTrial H.hash number (string_bytes text)) }
+    ensures stop { IfErr result (IsTrialStop H.hash number) }
+{
+    let top = Top::new(ROWS)?;
+    let queries = queries(alloc, number)?;
+    let index = index::<H>(alloc, number)?;
+    let (tra, tnra) = tallies(alloc, &index, queries.as_slice(), top)?;
+    Ok(text(alloc, &index.root(), &tra, &tnra)?)
+}
