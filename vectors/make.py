@@ -391,6 +391,7 @@ COLLECTIONS = {
         '\u6771\u4eac\u30bf\u30ef\u30fc', '\ufb01n fin \u00bd \u2167', 'na\u00efve nai\u0308ve', '\ua7ce \ua7cf',
         "L'\u00e9t\u00e9 \u05e9\u05f4\u05e1 x\u0345y",
     ],
+    'planes': ['\uff21 \U00010400', '\U00010428'],
     'drawn': drawn_texts(),
     'sample': [item['text'] for item in json.loads((TOP / 'examples/archive.json').read_text(encoding='utf-8'))],
 }
@@ -412,6 +413,8 @@ QUESTIONS = {
     'Cyrillic': ('beyond', 1, '\u043c\u043e\u0441\u043a\u0432\u0430'),
     'Japanese': ('beyond', 2, '\u6771 \u30bf\u30ef\u30fc'), 'a ligature and numbers': ('beyond', 2, 'FIN \u00bd \u2177'),
     'of Unicode 17': ('beyond', 1, '\ua7ce'), 'marks': ('beyond', 2, "na\u00efve l'\u00e9t\u00e9 X\u03b9Y"),
+    'on both sides of U+10000': ('planes', 1, '\U00010428 \uff41'),
+    'absent, below U+10000': ('planes', 1, '\uff42'), 'absent, above U+10000': ('planes', 1, '\U00010429'),
     'a frequent word': ('drawn', 3, 'w0'), 'two drawn words': ('drawn', 2, 'w3 w5'),
     'drawn words, one twice': ('drawn', 1, 'w1 w8 w8'),
     'the sample': ('sample', 3, 'blood count'), 'the court': ('sample', 1, 'the court'),
@@ -448,6 +451,8 @@ WORDS = [
     'zero\u200bwidth', 'a\u0000b', 'a\r\nb', '\uff11\uff12\uff13 \uff21', '\u0663\u066b\u0661\u0664', '\U0001d400',
     'a\u0378b', '\ue000', '\ufeffa', '\u1c89 \u1c8a', '\ua7ce \ua7cf', '\ua7dd \u0277', '\U00016ea0 \U00016ebb',
     'a' * 64, 'a' * 65, '\u00df' * 32, '\u00df' * 33, '\u0130' * 22, '\u4e00' + 'b' * 63,
+    'a\u200d\U0001f600', '\u24b6\u200d\u24c2', '  \u0345', '\n\u0345', '\u0345\u0345', '\U0001f1e6\U0001f1e7\u0345',
+    "\u05d0'", '\u05d0\' \u05d0"', "a\u0308'b", '\uff41 \U00010428',
 ]
 
 
@@ -486,7 +491,9 @@ def told_numbers(program, documents, having, count, others):
 INPUTS = [
     (0, 'red', 1, 0), (1001, 'red', 1, 0), (0, '...', 1, 0), (1, '...', 1, 0), (1, '', 1, 0), (1, 'a', 65, 0),
     (1, 'a', 4001, 0), (1, '\u00e9', 2001, 0), (1, 'a ', 256, 0), (1, ' '.join(f'a{i}' for i in range(33)), 1, 0),
+    (1, ' '.join(f'a{i}' for i in range(33)) + ' ', 8, 0), (1, ' ', 4000, 0), (1, ' ', 4001, 0),
     (1, '\U0001f600', 1, 0), (1, 'red', 1, 0), (1, 'red', 1, LONGEST), (1, 'red', 1, LONGEST + 1),
+    (0, 'red', 1, LONGEST + 1), (1, '...', 1, LONGEST + 1),
 ]
 
 
@@ -527,6 +534,17 @@ def cuts(data, places):
     yield 'no bytes', b''
     yield 'cut behind the front', data[:6]
     yield 'without the last byte', data[:-1]
+
+
+def cuts_in_second_digests(data):
+    """The bytes cut in the second of the digests that stand together, before its last byte."""
+    fields = list(with_places(Reader(data).proof()))
+    ends = {}
+    for (before, _, _), (name, _, end) in zip(fields, fields[1:]):
+        if name == before and name.endswith(': digest'):
+            ends.setdefault(name, end)
+    for name, end in ends.items():
+        yield f'cut in: the second {name}', data[:end - 1]
 
 
 def out_of_range(data, places):
@@ -592,6 +610,15 @@ def shown_leaves(positions):
     return change
 
 
+def without_leaf(which):
+    """Shows one leaf of the dictionary less, with the digests that the others need."""
+    def change(proof, archive):
+        del proof.leaves[which]
+        leaves = [dictionary_leaf(*leaf) for leaf in archive.dictionary]
+        proof.digests = elided(leaves, [leaf[0] for leaf in proof.leaves])
+    return change
+
+
 def longer_lists(counts):
     """Shows so many entries of each list, the documents that they name, and rows for the same documents as before."""
     def change(proof, archive):
@@ -632,6 +659,13 @@ def more_terms(which):
         spots = [section.leaves[index][0] for _, index in section.slots]
         section.leaves, section.digests = archive.terms_section(document, range(len(archive.documents[document])))
         section.slots = [(kind, spot) for (kind, _), spot in zip(section.slots, spots)]
+    return change
+
+
+def these_terms(which, positions, slots):
+    """Shows these leaves of a met document's terms, and says these slots of them."""
+    def change(proof, archive):
+        proof.sections[which] = Section(*archive.terms_section(proof.met[which], positions), slots)
     return change
 
 
@@ -686,6 +720,13 @@ def absent(at):
     return change
 
 
+def nothing_met(proof, archive):
+    """Tells that no document is met and none is answered."""
+    proof.met, proof.documents, proof.sections, proof.rows = [], [], [], []
+    if proof.algorithm == 1:
+        proof.document_digests = [tree_root(archive.document_leaves)]
+
+
 def all_of(*changes):
     def change(proof, archive):
         for each in changes:
@@ -714,10 +755,13 @@ DROP = lambda digests: digests.pop()
 ADD = lambda digests: digests.append(OTHER)
 BEND = lambda digests: digests.__setitem__(0, OTHER)
 
-FOXES, FOXES_3, ONE_FOX, ZEBRA = 'two terms', 'two terms, three rows', 'one term', 'absent, behind all'
+FOXES, FOXES_3, ONE_FOX = 'two terms', 'two terms, three rows', 'one term'
+ZEBRA, AAA = 'absent, behind all', 'absent, before all'
 TIES, TIED, BEE, CAT_DOG = 'a tie for one row', 'a tie for two rows', 'a tie of many', 'two rare terms'
 WITH_ABSENT, EARLY, SILENT = 'present and absent', 'bounds that differ', 'no term in the archive'
-COURT = 'the court'
+COURT, RED, SAMPLE = 'the court', 'more rows than documents', 'the sample'
+
+ALL_FOXES = shown_leaves(list(range(6)))
 
 BOTH = [
     # the header and the number of terms
@@ -741,9 +785,26 @@ BOTH = [
     (FOXES, 'slot: a present term is told absent', absent(0)),
     (FOXES, 'slot: a present term is told absent at the last leaf', absent(1)),
     (ZEBRA, 'slot: no leaf behind an absent term', leaf_with('slots', 0, 1, 1)),
-    (ZEBRA, 'slot: an absent term between leaves that are no neighbours', lambda proof, archive: (
-        shown_leaves([3, 4, 5])(proof, archive), proof.leaves.pop(1), proof.slots.__setitem__(0, (0, 0)),
-        setattr(proof, 'digests', elided([dictionary_leaf(*leaf) for leaf in archive.dictionary], [3, 5])))),
+    (ZEBRA, 'slot: an absent term between leaves that are no neighbours',
+     all_of(shown_leaves([3, 4, 5]), without_leaf(1), leaf_with('slots', 0, 1, 0))),
+    (ONE_FOX, 'slot: a present term is told absent between leaves that are no neighbours, and nothing is met',
+     all_of(shown_leaves([1, 2, 3]), absent(0), without_leaf(1), leaf_with('slots', 0, 1, 0), nothing_met)),
+    (FOXES, 'slot: a present term is told absent, before its leaf',
+     all_of(ALL_FOXES, absent(0), leaf_with('slots', 0, 1, 2))),
+    (ONE_FOX, 'slot: a present term is told absent, before its leaf, and nothing is met',
+     all_of(ALL_FOXES, absent(0), leaf_with('slots', 0, 1, 1), nothing_met)),
+    (ONE_FOX, 'slot: a present term is told absent, at its leaf, and nothing is met',
+     all_of(ALL_FOXES, absent(0), nothing_met)),
+    (ONE_FOX, 'slot: a present term is told absent between two below it, and nothing is met',
+     all_of(ALL_FOXES, absent(0), leaf_with('slots', 0, 1, 0), nothing_met)),
+    (ONE_FOX, 'slot: a present term is told absent between two above it, and nothing is met',
+     all_of(ALL_FOXES, absent(0), leaf_with('slots', 0, 1, 3), nothing_met)),
+    (ZEBRA, 'slot: an absent term between two below it', all_of(ALL_FOXES, leaf_with('slots', 0, 1, 3))),
+    (AAA, 'slot: an absent term between two above it', all_of(ALL_FOXES, leaf_with('slots', 0, 1, 1))),
+    (FOXES, 'slot: index: 2 behind 3', all_of(ALL_FOXES, leaf_with('slots', 1, 1, 2))),
+    (FOXES, 'slot: index: 257, which ends in the right byte', leaf_with('slots', 1, 1, 257)),
+    (FOXES, 'slot: index: 65535', leaf_with('slots', 1, 1, 65535)),
+    (ZEBRA, 'slot: index of an absent term: 65535', leaf_with('slots', 0, 1, 65535)),
     # the lists
     (FOXES, 'list: an entry names no met document', with_entry(0, 0, 3)),
     (FOXES, 'list: an entry names no met document by far', with_entry(1, 0, 2**32 - 1)),
@@ -758,6 +819,7 @@ BOTH = [
     (BEE, 'list: places 0, 0, 99', all_of(with_entry(0, 0, 0), with_entry(0, 1, 0), with_entry(0, 2, 99))),
     (BEE, 'list: places 0, 99, 0', all_of(with_entry(0, 0, 0), with_entry(0, 1, 99), with_entry(0, 2, 0))),
     (WITH_ABSENT, 'list: the number of a term counts absent ones', with_entry(0, 0, 2, 1)),
+    (WITH_ABSENT, 'list: an entry names no met document, behind an absent term', with_entry(0, 0, 99)),
     (WITH_ABSENT, 'list: a document twice', lambda proof, archive: entry(
         1, proof.prefixes[1].entries[0][0])(proof, 1)),
     # the met documents
@@ -779,6 +841,8 @@ BOTH = [
     (TIED, 'answer: rows exchanged', lambda proof, archive: proof.rows.reverse()),
     (TIES, 'answer: no row', rows()),
     (SILENT, 'answer: a row where nothing is met', rows(0)),
+    (SAMPLE, 'answer: the last two of three rows exchanged', lambda proof, archive: (
+        proof.rows.append(proof.rows.pop(1)))),
     (CAT_DOG, 'answer: a row is left out', lambda proof, archive: proof.rows.pop()),
     # more than is needed
     (EARLY, 'longer: whole lists', longer_lists([1, 2])),
@@ -787,10 +851,16 @@ BOTH = [
     (BEE, 'longer: the whole list, and others of those that tie', all_of(longer_lists([5]), rows(4, 0, 3, 1))),
     # two faults
     (FOXES, 'two: header and dictionary', all_of(header_with(leaves=7), digests_of(DICTIONARY, DROP))),
+    (FOXES, 'two: number of terms and digests of the dictionary', digests_of(DICTIONARY, DROP), {'query': 'hen'}),
+    (FOXES, 'two: number of terms and root of the dictionary', digests_of(DICTIONARY, BEND), {'query': 'hen'}),
     (FOXES, 'two: dictionary and slot', all_of(digests_of(DICTIONARY, BEND), leaf_with('slots', 1, 1, 2))),
     (FOXES, 'two: slot and entry', all_of(leaf_with('slots', 1, 1, 2), with_entry(0, 0, 3))),
     (FOXES, 'two: root of the first list and entry of the second', all_of(with_entry(0, 0, 2, 1), with_entry(1, 0, 3))),
     (FOXES, 'two: entry and digests of one list', all_of(with_entry(1, 1, 3), digests_of(LISTS(1), ADD))),
+    (FOXES, 'two: more entries than the list has, and the last names no met document',
+     lambda proof, archive: proof.prefixes[1].entries.extend([(2, 1), (99, 1)])),
+    (FOXES, 'two: more entries than the list has, and the last names the document of the first',
+     lambda proof, archive: proof.prefixes[1].entries.append((1, 1))),
     (FOXES, 'two: list and met documents', all_of(more_met([9]), with_entry(1, 1, 0, 1))),
     (FOXES, 'two: met documents and row', all_of(more_met([9]), rows(4))),
 ]
@@ -814,6 +884,16 @@ TRA_ALONE = [
     (FOXES, 'terms slot: a present term is told absent', section_with(0, 1, 0, 0, 'slots')),
     (FOXES, 'terms slot: no such leaf', section_with(1, 1, 1, 7, 'slots')),
     (WITH_ABSENT, 'terms slot: the number of a term counts absent ones', section_with(1, 1, 1, 7, 'slots')),
+    (FOXES, 'terms slot: an absent term between two below it', these_terms(0, range(4), [(0, 0), (1, 2)])),
+    (FOXES, 'terms slot: an absent term between two above it', these_terms(0, range(4), [(0, 2), (1, 2)])),
+    (FOXES, 'terms slot: a present term is told absent, before its leaf', these_terms(0, range(4), [(0, 1), (0, 1)])),
+    (RED, 'terms slot: a present term is told absent, at its leaf', these_terms(0, range(4), [(0, 2)])),
+    (RED, 'terms slot: a present term is told absent between two below it', these_terms(0, range(4), [(0, 0)])),
+    (RED, 'terms slot: a present term is told absent between leaves that are no neighbours',
+     these_terms(0, [1, 3], [(0, 0)])),
+    (FOXES, 'terms slot: index: 0 behind 1', these_terms(0, range(4), [(0, 1), (1, 0)])),
+    (FOXES, 'terms slot: index: 257, which ends in the right byte', section_with(1, 1, 1, 257, 'slots')),
+    (FOXES, 'terms slot: index: 65535', section_with(1, 1, 1, 65535, 'slots')),
     (EARLY, 'terms: all leaves are shown', more_terms(0)),
     (FOXES, 'terms: all leaves are shown of each', all_of(more_terms(0), more_terms(1), more_terms(2))),
     (FOXES, 'answer: the threshold is above the last row', lambda proof, archive: (
@@ -825,6 +905,7 @@ TRA_ALONE = [
     (FOXES, 'two: slot of document 0 and digests of document 1',
      all_of(section_with(0, 1, 0, 0, 'slots'), digests_of(TERMS(1), ADD))),
     (FOXES, 'two: terms and row', all_of(section_with(2, 0, 2, 1), rows(3))),
+    (FOXES, 'two: slot of a document and row', all_of(section_with(0, 1, 0, 0, 'slots'), rows(3))),
 ]
 
 # The same bytes for another question, or under another root.
@@ -857,6 +938,10 @@ def changed(program, archives, proofs):
         of = f'{FOXES} by {algorithm}'
         data = bytes.fromhex(proofs[of]['proof'])
         for about, new in shape_changes(data):
+            tell(of, about, difference(data, new))
+        of = f'{COURT} by {algorithm}'
+        data = bytes.fromhex(proofs[of]['proof'])
+        for about, new in cuts_in_second_digests(data):
             tell(of, about, difference(data, new))
         for name, about, change, *asked in BOTH + (TRA_ALONE if algorithm == 'tra' else []):
             of = f'{name} by {algorithm}'
@@ -909,6 +994,18 @@ def one_list(documents, count, entries, digests=(), rows=(0,), term=b'x'):
     return made
 
 
+def two_lists(fronts, rows):
+    """Four entries of hen and three of red, of which these fronts are shown; the coefficients are 2 and 5."""
+    made = Made(4, terms=2, met=sorted({each for front in fronts for each, _ in front}), slots=[(1, 0), (1, 1)],
+                rows=list(rows))
+    leaves = []
+    for at, (term, count, front) in enumerate(zip((b'hen', b'red'), (4, 3), fronts), 1):
+        digests = elided([b'unseen'] * count, range(len(front)))
+        leaves.append((at, term, count, made.list_root(count, front, digests)))
+    made.dictionary(4, leaves, [OTHER, OTHER])
+    return made
+
+
 def random_access(documents, entries, counts, sections, digests, rows=(0,)):
     """The same by random access: each met document has so many leaves of terms, and this section."""
     made = one_list(documents, len(entries), entries, rows=rows)
@@ -926,6 +1023,22 @@ def whole_dictionary(leaves, places):
     roots = {at: made.list_root(1, [(0, 100 + which)]) for which, at in enumerate(places)}
     made.dictionary(len(leaves), [(at, term, 1, roots.get(at, OTHER)) for at, term in enumerate(leaves)])
     return made
+
+
+CUT = [(0, 900), (1, 800), (2, 10)], [(2, 300)]
+WHOLE = [(0, 900), (1, 800), (2, 10), (3, 5)], [(2, 300), (1, 200), (0, 50)]
+
+
+def bounds_apart():
+    """What the lower bounds alone, or the upper ones alone, would settle otherwise."""
+    yield 'bounds: a document with no row has its upper one above the last row, and not its lower one', two_lists(
+        CUT, [0]), 1, 'hen red'
+    yield 'bounds: the second row has its upper one above the lower one of the first, and not above its upper one', (
+        two_lists(CUT, [0, 1])), 2, 'hen red'
+    yield 'bounds: the threshold is above the lower one of the last row, and not above its upper one', two_lists(
+        ([(0, 900), (1, 100)], [(0, 300)]), [0, 1]), 2, 'hen red'
+    yield 'bounds: the threshold is as great as the last row', two_lists(
+        ([(0, 900), (1, 100)], [(0, 300), (1, 20)]), [0, 1]), 2, 'hen red'
 
 
 def made_proofs():
@@ -958,6 +1071,10 @@ def made_proofs():
     between = Made(5, slots=[(0, 0)], rows=[])
     between.dictionary(4, [(1, b'w', 1, OTHER), (2, b'z', 1, OTHER)], digests(2))
     yield 'absent between terms that are no sentinels', between, 1, 'x'
+    yield from bounds_apart()
+    yield 'whole lists of two terms', two_lists(WHOLE, [1, 0, 2]), 3, 'hen red'
+    yield 'whole lists of two terms, the last two of three rows exchanged', two_lists(
+        WHOLE, [1, 2, 0]), 3, 'hen red'
     yield 'random access: a met document at the number of documents', random_access(
         1, [(1, 5)], [3], [has(5)], digests(1)), 1, 'x'
     yield 'random access: the list and the document tell two impacts', random_access(
