@@ -1,3 +1,5 @@
+//! Links, and those who call and accept them: the network as traits.
+
 ghost use Rattle.std.specs.Prelude.{◌≡◌, ◌<◌, ◌≤◌, ◌+◌, ◌∷◌, List, [], ℕ, length, take, true, Some, is_some, option_map, IfOk, OnOk, OnErr};
 ghost use Rattle.ats_base.specs.Outside.{HasCause, MovesSome, IsCounted, moved};
 ghost use Rattle.ats_base.specs.Links.{LinkTold, CallerTold, DoorTold, Exchanged, IsAtEnd, IsNew, IsCalledAt, counted_broken, HasCalledOut, calling_out, called_back, MayNoteCall, HasAcceptedOut, noting_listen, MayNoteListen, counting_accept, accepting_out, accepted_back};

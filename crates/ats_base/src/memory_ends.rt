@@ -1,4 +1,5 @@
-// A caller and a door in memory. Each tells what it was handed, and hands out its links in the order of their adding.
+//! A caller and a door in memory. Each tells what it was handed, and hands out its links in the order of their adding.
+
 ghost use Rattle.std.specs.Prelude.{◌≡◌, ◌⊎◌, ◌≤◌, ◌<◌, ◌+◌, ◌-◌, ◌^◌, ◌++◌, ◌∷◌, [], List, ℕ, length, min, true, false, Some, None, IfOk, OnOk, OnErr, IsErr, option_map, slice_get};
 ghost use Rattle.std.specs.List.{All};
 ghost use Rattle.std.specs.Option.{option_copied};

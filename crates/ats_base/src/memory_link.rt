@@ -1,4 +1,5 @@
-// A link in memory. It tells what goes over it.
+//! A link in memory. It tells what goes over it.
+
 ghost use Rattle.std.specs.Prelude.{◌≡◌, ◌≤◌, ◌++◌, [], List, ℕ, length, take, drop, min, true, Some, None, IfOk, OnOk, OnErr, IsErr, IsTrue, ◌↔◌, ◌<◌};
 ghost use Rattle.ats_base.specs.Memory.{Device, new_device, answered, fails_next, failing_at};
 ghost use Rattle.ats_base.specs.MemoryLinks.{LinkState, told_link};

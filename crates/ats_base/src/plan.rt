@@ -1,4 +1,5 @@
-// How an object in memory counts its calls and its faults.
+//! How an object in memory counts its calls and its faults.
+
 ghost use Rattle.std.specs.Prelude.{◌≡◌, ◌≤◌, ◌<◌, ◌↔◌, IsTrue, OnOk, OnErr};
 ghost use Rattle.ats_base.specs.Memory.{Device, new_device, called, failed, fails_next, failing_at};
 

@@ -1,4 +1,5 @@
-// The check of a proof, again and again, and hashing strings of the same sizes.
+//! The check of a proof, again and again, and hashing strings of the same sizes.
+
 ghost use Rattle.std.specs.Prelude.{◌≡◌, ◌+◌, ◌≤◌, length};
 ghost use Rattle.ats_proof.specs.Views.{proof_of};
 

@@ -1,4 +1,5 @@
-// A proof with many entries, read again and again.
+//! A proof with many entries, read again and again.
+
 ghost use Rattle.std.specs.Prelude.{◌≡◌, ◌+◌, ◌*◌, ◌<◌, ◌≤◌, ◌^◌, OnOk};
 
 use ats_base::Bytes;

@@ -1,4 +1,5 @@
-// Walks over the lists of a collection, each timed beside going through the same entries once.
+//! Walks over the lists of a collection, each timed beside going through the same entries once.
+
 ghost use Rattle.std.specs.Prelude.{◌≡◌, ◌+◌, ◌*◌, ◌<◌, ◌≤◌, length, slice_index, IfOk};
 ghost use Rattle.ats_bound.specs.Schedule.{AreWholeLanes, IsWholeLane, whole_lane, whole_lanes};
 ghost use Rattle.ats_lists.specs.Lists.{IsList};

@@ -1,3 +1,5 @@
+//! Tests of settled answers and of running walks, on small lists.
+
 ghost use Rattle.std.specs.Prelude.{◌≡◌, [], ◌∷◌};
 ghost use Rattle.ats_bound.specs.Cut.{bracket, held, lane_of, threshold};
 ghost use Rattle.ats_bound.specs.Ranked.{whole_score};

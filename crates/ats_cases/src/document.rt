@@ -1,4 +1,5 @@
-// The blocks of a document: its odd parts between fences. What else it says is for people.
+//! The blocks of a document: its odd parts between fences. What else it says is for people.
+
 use crate::fault::Fault;
 use crate::player::Player;
 use crate::said::number;

@@ -1,3 +1,5 @@
+//! Why a line of a document was not played.
+
 use std::alloc::{AllocError, AllocFailed};
 
 /// Why a line of a document was not played.

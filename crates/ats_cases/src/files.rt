@@ -1,4 +1,5 @@
-// How a file comes to hold what a case needs.
+//! How a file comes to hold what a case needs.
+
 use crate::fault::Fault;
 use crate::said::{number, three, two};
 use ats_base::{Bytes, MemShelf};

@@ -1,4 +1,5 @@
-// What the lines of a block do.
+//! What the lines of a block do.
+
 use crate::fault::Fault;
 use crate::files;
 use crate::said::{number, words};

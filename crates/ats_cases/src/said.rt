@@ -1,4 +1,5 @@
-// The parts of a line.
+//! The parts of a line.
+
 use crate::fault::Fault;
 use ats_base::MemShelf;
 use std::alloc::Global;

@@ -1,4 +1,5 @@
-// What a command showed, beside what its case wants.
+//! What a command showed, beside what its case wants.
+
 ghost use Rattle.std.specs.Prelude.{◌≡◌, true};
 
 use crate::fault::Fault;

@@ -1,4 +1,5 @@
-// What a block begins with anew.
+//! What a block begins with anew.
+
 ghost use Rattle.std.specs.Prelude.{IfOk};
 ghost use Rattle.ats_base.specs.MemoryLinks.{IsUnused};
 

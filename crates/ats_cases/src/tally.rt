@@ -1,4 +1,5 @@
-// How many cases passed, and what there is to say of the others.
+//! How many cases passed, and what there is to say of the others.
+
 ghost use Rattle.std.specs.Prelude.{◌≡◌, ◌<◌};
 
 use crate::fault::Fault;

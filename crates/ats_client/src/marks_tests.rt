@@ -1,3 +1,5 @@
+//! Tests of the marks of a check.
+
 use crate::met::met;
 use crate::refusal::Refusal;
 use crate::rows::rows;

@@ -1,3 +1,5 @@
+//! Tests of the check on a proof made by hand, right and changed.
+
 use super::*;
 use crate::tests::examples::{FOX_RED, RED_HEN, RED_HEN_LOOKED_UP, ROOT, ZEBRA, ZEBRA_FAR};
 use ats_bound::Work;

@@ -1,3 +1,5 @@
+//! Tests of the dictionary and the header.
+
 use super::*;
 use ats_hash::{Sha, Steps};
 use ats_tree::{Leaves, root};

@@ -1,3 +1,5 @@
+//! The leaf of a document in the documents tree.
+
 ghost use Rattle.std.specs.Prelude.{◌≡◌};
 ghost use Rattle.ats_doctree.specs.DocumentLeaf.{doc_leaf_bytes};
 

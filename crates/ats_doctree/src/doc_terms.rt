@@ -1,3 +1,5 @@
+//! The terms of a document, as the leaves of its tree.
+
 ghost use Rattle.std.specs.Prelude.{◌≡◌, ◌≢◌, ◌+◌, ◌<◌, ◌≤◌, ◌^◌, ◌∷◌, [], List, ℕ, length, take, slice_index, slice_index_or, IfOk};
 ghost use Rattle.ats_terms.specs.Terms.{terms};
 ghost use Rattle.ats_terms.specs.Query.{counted};

@@ -1,3 +1,5 @@
+//! Want of memory.
+
 /// Memory was wanted and not there.
 #[derive(Clone, Copy, Debug, PartialEq, Eq)]
 pub struct OutOfMemory;

@@ -1,3 +1,5 @@
+//! Where a term stands, or would stand.
+
 /// Where a term stands among the leaves of a document's terms. Positions count from 0 and include the
 /// sentinels.
 #[derive(Clone, Copy, Debug, PartialEq, Eq)]

@@ -1,3 +1,5 @@
+//! Tests of the terms of a document.
+
 use super::*;
 use ats_hash::{Sha, Steps};
 use ats_impact::{Collection, Texts};

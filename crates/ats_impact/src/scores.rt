@@ -1,4 +1,5 @@
-// The scores of documents, from one table of how often each of them has each term of a query.
+//! The scores of documents, from one table of how often each of them has each term of a query.
+
 ghost use Rattle.std.specs.Prelude.{◌≡◌, ◌≤◌, ◌<◌, ◌+◌, ◌^◌, [], List, ℕ, length, map, count_by, nat_lt, slice_index, slice_index_or, if◌then◌else◌, IfOk};
 ghost use Rattle.std.specs.List.{All};
 ghost use Rattle.std.specs.Str.{bytes_eq};

@@ -1,3 +1,5 @@
+//! How many rows an answer may have.
+
 ghost use Rattle.std.specs.Prelude.{◌≡◌, ◌⊎◌, ◌≤◌, ◌<◌, ℕ, IfOk, OnOk, IfErr};
 
 use std::marker::Model;

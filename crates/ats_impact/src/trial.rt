@@ -1,4 +1,5 @@
-// The texts and queries of a trial, whose words are drawn from a sequence of numbers.
+//! The texts and queries of a trial, whose words are drawn from a sequence of numbers.
+
 ghost use Rattle.std.specs.Prelude.{◌≡◌, ◌⊎◌, ◌+◌, ◌*◌, ◌<◌, string_bytes, IfOk, OnOk, IfErr};
 ghost use Rattle.ats_terms.specs.Terms.{terms};
 ghost use Rattle.ats_terms.specs.Counted.{Counts};

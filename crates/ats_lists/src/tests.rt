@@ -1,3 +1,5 @@
+//! Tests of the inverted lists.
+
 use crate::{Entry, ListLeaves, Lists, ListsBuilder, OutOfMemory};
 use ats_hash::{Sha, Steps};
 use ats_impact::{Collection, Texts};

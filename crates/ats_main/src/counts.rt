@@ -1,4 +1,5 @@
-// How often a real object was called, and how often it failed.
+//! How often a real object was called, and how often it failed.
+
 ghost use Rattle.std.specs.Prelude.{◌≡◌, ◌<◌, ◌≤◌, ◌↔◌, ◌+◌, ◌-◌, ◌^◌, min, IsTrue};
 ghost use Rattle.ats_base.specs.Outside.{Rose, IsCounted};
 

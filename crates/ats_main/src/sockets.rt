@@ -1,4 +1,5 @@
-// The real links, caller and door: TCP over the system's network. They tell no content, and no call of theirs loops.
+//! The real links, caller and door: TCP over the system's network. They tell no content, and no call of theirs loops.
+
 ghost use Rattle.std.specs.Prelude.{◌≡◌, true, None, is_some, IfOk};
 
 use crate::counts::{Counts, Faults};

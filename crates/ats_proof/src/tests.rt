@@ -1,3 +1,5 @@
+//! Tests of the reader, on proofs written by hand.
+
 ghost use Rattle.std.specs.Prelude.{◌≤◌, ◌<◌, ◌+◌, ◌^◌};
 
 use super::*;

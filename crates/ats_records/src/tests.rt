@@ -1,3 +1,5 @@
+//! Tests of the writer.
+
 ghost use Rattle.std.specs.Prelude.{◌≡◌, ◌+◌, ◌≤◌, length, OnOk};
 
 use super::*;

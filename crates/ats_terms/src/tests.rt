@@ -1,3 +1,5 @@
+//! Tests of the terms of texts and queries.
+
 use crate::{OutOfMemory, Query, QueryFault, TermCounts, Terms};
 use std::alloc::{AllocError, Global};
 use std::process::Abort;

@@ -1,3 +1,5 @@
+//! Tests of the walk by lists alone.
+
 use crate::walk;
 use ats_bound::{Bracket, Lane};
 use ats_impact::Top;

@@ -1,4 +1,5 @@
-// The answers of a server that has an index.
+//! The answers of a server that has an index.
+
 ghost use Rattle.std.specs.Prelude.{◌≡◌};
 ghost use Rattle.ats_top.specs.Answering.{gives, code_of_query, code_of_proof};
 

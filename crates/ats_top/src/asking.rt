@@ -1,4 +1,5 @@
-// One question over the network, and the check of its reply.
+//! One question over the network, and the check of its reply.
+
 ghost use Rattle.std.specs.Prelude.{◌≡◌, ◌⊎◌, ◌≤◌, ℕ, List, length, Ok, IfOk, IfErr, string_bytes};
 ghost use Rattle.ats_top.specs.Refusals.{AsksRanking};
 ghost use Rattle.ats_top.specs.Conversation.{Converses, ConversationStop, IsRanged, Calls};

@@ -1,4 +1,5 @@
-// The audit of a proof against an index, and the lines of its answer.
+//! The audit of a proof against an index, and the lines of its answer.
+
 ghost use Rattle.std.specs.Prelude.{◌≡◌, List, IfOk, IfErr, string_bytes};
 ghost use Rattle.ats_impact.specs.declared.rank.Row.{Row};
 ghost use Rattle.ats_audit.specs.Verdicts.{IsFoundRight};

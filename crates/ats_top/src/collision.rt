@@ -1,4 +1,5 @@
-// What is printed where a proof and an archive hold two different strings with one digest.
+//! What is printed where a proof and an archive hold two different strings with one digest.
+
 ghost use Rattle.std.specs.Prelude.{◌≡◌, IfOk, string_bytes};
 ghost use Rattle.ats_top.specs.CollisionLines.{tree_words, lines_of_collision};
 

@@ -1,4 +1,5 @@
-// The files that commands read.
+//! The files that commands read.
+
 ghost use Rattle.std.specs.Prelude.{◌≤◌, ◌^◌, IfOk, IfErr};
 ghost use Rattle.ats_top.specs.Read.{IsFile, HasCollection, HasIndex};
 ghost use Rattle.ats_top.specs.Reading.{Reads};

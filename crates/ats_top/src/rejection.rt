@@ -1,4 +1,5 @@
-// What is printed where a proof is refused.
+//! What is printed where a proof is refused.
+
 ghost use Rattle.std.specs.Prelude.{◌≡◌, IfOk, string_bytes};
 ghost use Rattle.ats_top.specs.RejectionLines.{kind_word, refusal_words, line_of_rejection};
 

@@ -1,4 +1,5 @@
-// Links that come to a door, served one after another.
+//! Links that come to a door, served one after another.
+
 ghost use Rattle.std.specs.Prelude.{◌≡◌, ◌⊎◌, ◌≤◌, ◌^◌, ◌∷◌, ℕ, Some, List, [], true, string_bytes, IfOk, IfErr, OnOk, OnErr};
 ghost use Rattle.ats_base.specs.Links.{CallerTold};
 ghost use Rattle.ats_top.specs.Answering.{gives};

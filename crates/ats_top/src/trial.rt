@@ -1,4 +1,5 @@
-// The trial of a number: the honest proofs of its queries over its texts, by both algorithms.
+//! The trial of a number: the honest proofs of its queries over its texts, by both algorithms.
+
 ghost use Rattle.std.specs.Prelude.{◌≡◌, ◌<◌, ◌≤◌, ◌+◌, ◌^◌, ℕ, List, IfOk, IfErr, OnOk, length, string_bytes};
 ghost use Rattle.ats_commit.specs.Archive.{archive_of};
 ghost use Rattle.ats_impact.specs.Trial.{trial_texts};

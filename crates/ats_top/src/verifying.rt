@@ -1,4 +1,5 @@
-// The check of a proof, and the lines of its answer.
+//! The check of a proof, and the lines of its answer.
+
 ghost use Rattle.std.specs.Prelude.{◌≡◌, ◌^◌, List, IfOk, IfErr, string_bytes};
 ghost use Rattle.ats_terms.specs.Query.{IsQuery};
 ghost use Rattle.ats_impact.specs.declared.rank.Row.{Row};

@@ -1,3 +1,5 @@
+//! Tests of the walk that looks impacts up.
+
 ghost use Rattle.std.specs.Prelude.{◌==◌, slice_index, if◌then◌else◌};
 
 use crate::{RandomAccess, walk};

@@ -1,3 +1,5 @@
+//! Want of memory.
+
 use std::alloc::AllocFailed;
 
 /// Memory was wanted and not there.

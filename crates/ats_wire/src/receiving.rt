@@ -1,3 +1,5 @@
+//! A buffer, filled from a link.
+
 ghost use Rattle.std.specs.Prelude.{◌<◌, ℕ, slice_index};
 ghost use Rattle.ats_wire.specs.Moving.{Fills};
 

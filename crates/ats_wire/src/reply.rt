@@ -1,3 +1,5 @@
+//! What a server replies, and who answers.
+
 ghost use Rattle.std.specs.Prelude.{◌↔◌};
 ghost use Rattle.ats_wire.specs.Requests.{Question};
 ghost use Rattle.ats_wire.specs.Replies.{IsShort};

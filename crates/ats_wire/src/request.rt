@@ -1,3 +1,5 @@
+//! A request, read from the bytes of its frame.
+
 ghost use Rattle.std.specs.Prelude.{◌≡◌, ◌≢◌, ◌≤◌, ℕ, List, length, IfOk, IfErr, IfSome, IfNone};
 ghost use Rattle.ats_records.specs.declared.record.Algorithm.{Algorithm};
 ghost use Rattle.ats_wire.specs.Requests.{Spells, Asks, IsRefused, algorithm_byte};

@@ -1,3 +1,5 @@
+//! The room for one frame.
+
 use crate::memory::OutOfMemory;
 use std::alloc::Global;
 

@@ -1,3 +1,5 @@
+//! One connection, from its first frame to its end.
+
 ghost use Rattle.std.specs.Prelude.{◌≡◌, ◌≤◌, ◌<◌, ◌^◌, ◌↔◌, ◌∷◌, [], ℕ, List, length, take, OnOk, OnErr, IfOk, IfErr, MatchResult};
 ghost use Rattle.ats_wire.specs.Requests.{Question, framed};
 ghost use Rattle.ats_wire.specs.Replies.{Answers, IsShort, reply_bytes};
