@@ -121,13 +121,6 @@ impl<H: HashKind> Index<H> {
         &self.leaves[doc as usize]
     }
 
-    // A counter for the calls that count their steps, where nobody asks for the number.
-    pub(crate) fn steps(&self) -> Steps
-        ensures { result ≡ 0 }
-    {
-        Steps::new(self.alloc)
-    }
-
     /// The leaves of all documents in the documents tree, in the order of documents: 1 to 65,536.
     pub fn doc_leaves(&self) -> &[DocLeaf]
         ensures leaves { result.now ≡ all_leaves H.hash self.now.texts }

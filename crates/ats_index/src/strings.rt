@@ -14,7 +14,7 @@ use ats_commit::{DocLeaves, OwnStrings, string_of_header};
 use ats_hash::Hash32;
 use ats_lists::ListLeaves;
 use ats_terms::Query;
-use ats_tree::{HashedString, Place, Tree, string_at};
+use ats_tree::{HashedString, Place, Tree};
 
 impl<H: Hash32> Index<H> {
     /// The string that stands at a place in the archive's own trees. There is none where the path leaves the
@@ -28,12 +28,9 @@ impl<H: Hash32> Index<H> {
         match place.tree {
             Tree::Header => self.header_string(place),
             Tree::Dictionary => {
-                string_at::<H, _>(
-                    self.dictionary(),
-                    place.depth,
-                    place.turns,
-                    &mut self.steps(),
-                )
+                let leaves = self.dictionary();
+                self.dict_nodes()
+                    .string_at::<H, _>(leaves, place.depth, place.turns)
             }
             Tree::List { term } => self.list_string(query.term(term as usize), place),
             Tree::Documents => self.documents_string(place),
@@ -62,7 +59,8 @@ impl<H: Hash32> Index<H> {
                 let leaves = ListLeaves {
                     entries: lists.list(i),
                 };
-                string_at::<H, _>(&leaves, place.depth, place.turns, &mut self.steps())
+                self.list_nodes(i)
+                    .string_at::<H, _>(&leaves, place.depth, place.turns)
             }
             None => None,
         }
@@ -76,7 +74,8 @@ impl<H: Hash32> Index<H> {
         let leaves = DocLeaves {
             leaves: self.doc_leaves(),
         };
-        string_at::<H, _>(&leaves, place.depth, place.turns, &mut self.steps())
+        self.docs_nodes()
+            .string_at::<H, _>(&leaves, place.depth, place.turns)
     }
 
     // A string of the tree of a document's terms.
@@ -87,12 +86,9 @@ impl<H: Hash32> Index<H> {
         if doc >= self.collection().documents() {
             return None;
         }
-        string_at::<H, _>(
-            self.doc_terms(doc),
-            place.depth,
-            place.turns,
-            &mut self.steps(),
-        )
+        let leaves = self.doc_terms(doc);
+        self.doc_nodes(doc)
+            .string_at::<H, _>(leaves, place.depth, place.turns)
     }
 }
 

@@ -1,19 +1,22 @@
 -- The digests of all nodes of a tree: how many there are, where they begin, and where those of the parts are.
-use Rattle.std.proofs.Common.{◌≡◌, ℕ, zero, suc, ◌+◌, ◌-◌, ◌*◌, ◌/◌, ◌%◌, ◌^◌, ◌<◌, ◌≤◌, List, [], ◌∷◌, ◌++◌, length, take, drop, get_or, refl, sym, ◌∙◌, ap, arith, inl, inr, Some}
+use Rattle.std.proofs.Common.{◌≡◌, ℕ, zero, suc, ◌+◌, ◌-◌, ◌*◌, ◌/◌, ◌%◌, ◌^◌, ◌<◌, ◌≤◌, List, [], ◌∷◌, ◌++◌, length, take, drop, get_or, refl, sym, ◌∙◌, ap, ap₂, arith, inl, inr, Some}
 use Rattle.std.specs.List.{All, slice_get}
 use Rattle.std.proofs.Math.ListN.{set}
 use Rattle.std.proofs.Math.Nat.{two-pow-succ}
 use Rattle.std.proofs.Math.Seq.{take-length, take-append_seam, drop-append_seam, set-append_seam}
 use Rattle.std.proofs.lemmas.Bool.{cases_lt}
 use Rattle.std.proofs.lemmas.Nat.{pow_pos}
-use Rattle.std.proofs.lemmas.List.{drop_more, length-take, length-drop, length-append, append_assoc, take_all, take-take}
+use Rattle.std.proofs.lemmas.List.{drop_more, length-take, length-drop, length-append, append_assoc, take_all, take-take, get_or-take, get_or-drop}
 use Rattle.std.proofs.lemmas.List.Elements.{All-append, All-nil, All-cons}
 use Rattle.ats_tree.specs.Tree.{Tree, empty, leaf, node, tree_within, tree_of, digest_of, mth, IsPowerOfTwo}
 use Rattle.ats_tree.specs.Shown.{places}
 use Rattle.ats_tree.specs.Elided.{shown_with, elided_of, elided_digests}
 use Rattle.ats_tree.specs.Kept.{digests_of, kept_digests, IsNodeList}
+use Rattle.ats_tree.specs.Paths.{Path, path_of}
+use Rattle.ats_tree.specs.Strings.{string_at}
 use Rattle.ats_tree.proofs.Trees.{below_power, within-cut, within-suc, of-within, of-cut, of-one}
 use Rattle.ats_tree.proofs.RootLemmas.{part-tree-cut}
+use Rattle.ats_tree.proofs.TurnLemmas.{string-node}
 
 -- the first digest is that of the tree
 first-of : (H : List ℕ → List ℕ) (t : Tree (List ℕ)) (d other : List ℕ) → 0 < length (digests_of H t)
@@ -43,7 +46,7 @@ kept-part-one : (H : List ℕ → List ℕ) (from n : ℕ) (ds : List (List ℕ)
 kept-part-one H from n ds one within =
     let less : from < length ds = omega arith in rw (one, drop_more ds from [] less) (kept-one H (get_or ds from []))
 
-pub kept-part-cut : (H : List ℕ → List ℕ) (from k n : ℕ) (ds : List (List ℕ)) → IsPowerOfTwo k → k < n → n ≤ 2 * k → from + n ≤ length ds
+kept-part-cut : (H : List ℕ → List ℕ) (from k n : ℕ) (ds : List (List ℕ)) → IsPowerOfTwo k → k < n → n ≤ 2 * k → from + n ≤ length ds
     → kept_digests H (take n (drop from ds)) ≡ mth H (take n (drop from ds))
     ∷ (kept_digests H (take k (drop from ds)) ++ kept_digests H (take (n - k) (drop (from + k) ds)))
 kept-part-cut H from k n ds power below largest within = kept-node H _ _ _ (part-tree-cut from k n ds power below largest within)
@@ -134,7 +137,7 @@ append-node H from k n place ds before opened left right z d power below largest
 
 -- ---- where the parts are
 
-pub left-part : (ds a b : List (List ℕ)) (d : List ℕ) (k : ℕ) → ds ≡ d ∷ (a ++ b) → length a + 1 ≡ 2 * k → take (2 * k - 1) (drop 1 ds) ≡ a
+left-part : (ds a b : List (List ℕ)) (d : List ℕ) (k : ℕ) → ds ≡ d ∷ (a ++ b) → length a + 1 ≡ 2 * k → take (2 * k - 1) (drop 1 ds) ≡ a
 left-part ds a b d k is count =
     let size : 2 * k - 1 ≡ length a = omega arith in rw (is, size) (take-append_seam a b)
 
@@ -142,12 +145,58 @@ right-rest : (ds a b : List (List ℕ)) (d : List ℕ) (k : ℕ) → ds ≡ d �
 right-rest ds a b d k is count =
     let size : 2 * k ≡ suc (length a) = omega arith in rw (is, size) (drop-append_seam a b)
 
-pub right-part : (ds a b : List (List ℕ)) (d : List ℕ) (k : ℕ) → ds ≡ d ∷ (a ++ b) → length a + 1 ≡ 2 * k
+right-part : (ds a b : List (List ℕ)) (d : List ℕ) (k : ℕ) → ds ≡ d ∷ (a ++ b) → length a + 1 ≡ 2 * k
     → take (length ds - 2 * k) (drop (2 * k) ds) ≡ b
 right-part ds a b d k is count =
     let rest : drop (2 * k) ds ≡ b = right-rest ds a b d k is count
     in let few : length b ≤ length ds - 2 * k = omega (arith, length-drop (2 * k) ds, ap length rest)
     in rw rest (take_all (length ds - 2 * k) b few)
+
+module _ (H : List ℕ → List ℕ) (from k n : ℕ) (leaves ds : List (List ℕ)) (power : IsPowerOfTwo k) (below : k < n) (largest : n ≤ 2 * k)
+    (within : from + n ≤ length leaves) (same : ds ≡ kept_digests H (take n (drop from leaves))) where
+  abbrev pub left_kept : List (List ℕ)
+  left_kept = kept_digests H (take k (drop from leaves))
+
+  abbrev pub right_kept : List (List ℕ)
+  right_kept = kept_digests H (take (n - k) (drop (from + k) leaves))
+
+  two-parts : ds ≡ mth H (take n (drop from leaves)) ∷ (left_kept ++ right_kept)
+  two-parts = same ∙ kept-part-cut H from k n leaves power below largest within
+
+  left-count : length left_kept + 1 ≡ 2 * k
+  left-count =
+      let size : length (take k (drop from leaves)) ≡ k = omega (arith, length-take k (drop from leaves), length-drop from leaves)
+      in let some : 1 ≤ length (take k (drop from leaves)) = omega arith
+      in omega (arith, length-kept H (take k (drop from leaves)) some)
+
+  -- the digests of the left part
+  pub left-of-kept : take (2 * k - 1) (drop 1 ds) ≡ left_kept
+  left-of-kept = left-part ds left_kept right_kept _ k two-parts left-count
+
+  -- the digests of the right part
+  pub right-of-kept : take (length ds - 2 * k) (drop (2 * k) ds) ≡ right_kept
+  right-of-kept = right-part ds left_kept right_kept _ k two-parts left-count
+
+  -- the digests of the two parts make the string at the root
+  pub string-of-kept : (depth turns : ℕ) (x y : List ℕ) → length ds + 1 ≡ 2 * n → depth ≡ 0
+      → string_at H (tree_of (take n (drop from leaves))) (path_of depth turns) ≡ Some (1 ∷ get_or ds 1 x ++ get_or ds (2 * k) y)
+  string-of-kept depth turns x y nodes root =
+      let one : List (List ℕ) = take (2 * k - 1) (drop 1 ds)
+      in let other : List (List ℕ) = take (length ds - 2 * k) (drop (2 * k) ds)
+      in let one_some : 0 < length one = omega (arith, length-take (2 * k - 1) (drop 1 ds), length-drop 1 ds)
+      in let other_some : 0 < length other = omega (arith, length-take (length ds - 2 * k) (drop (2 * k) ds), length-drop (2 * k) ds)
+      in let one_begins : 0 < 2 * k - 1 = omega arith
+      in let other_begins : 0 < length ds - 2 * k = omega arith
+      in let first : 2 * k ≡ 2 * k + 0 = omega arith
+      in let left : get_or ds 1 x ≡ mth H (take k (drop from leaves)) =
+      kept-first H _ one _ x one_some
+      (sym (get_or-drop 1 ds 0 x) ∙ sym (get_or-take (2 * k - 1) (drop 1 ds) 0 x one_begins)) left-of-kept
+      in let right : get_or ds (2 * k) y ≡ mth H (take (n - k) (drop (from + k) leaves)) =
+      kept-first H _ other _ y other_some
+      (ap (λ i. get_or ds i y) first ∙ sym (get_or-drop (2 * k) ds 0 y)
+      ∙ sym (get_or-take (length ds - 2 * k) (drop (2 * k) ds) 0 y other_begins)) right-of-kept
+      in string-node H from k n depth turns leaves power below largest within root
+      ∙ ap₂ (λ (a b : List ℕ). Some (1 ∷ a ++ b)) (sym left) (sym right)
 
 -- ---- what stands in front stays
 
@@ -164,12 +213,23 @@ kept-some H [] some = absurd (omega arith)
 kept-some H (x ∷ xs) some = omega arith
 
 -- how many leaves there are
-pub kept-leaves : (H : List ℕ → List ℕ) (leaves ds : List (List ℕ)) → length ds % 2 ≡ 1 → ds ≡ kept_digests H leaves
+kept-leaves : (H : List ℕ → List ℕ) (leaves ds : List (List ℕ)) → length ds % 2 ≡ 1 → ds ≡ kept_digests H leaves
     → length ds / 2 + 1 ≡ length leaves
 kept-leaves H leaves ds odd same =
     let sizes : length ds ≡ length (kept_digests H leaves) = ap length same
     in let some : 0 < length (kept_digests H leaves) = omega arith
     in omega (arith, length-kept H leaves (kept-some H leaves some))
+
+-- that, where the digests are seen through a view, and counted there
+pub kept-number : (H : List ℕ → List ℕ) (leaves ds view : List (List ℕ)) (count : ℕ) → length ds % 2 ≡ 1 → ds ≡ view → count ≡ length view
+    → view ≡ kept_digests H leaves → count / 2 + 1 ≡ length leaves
+kept-number H leaves ds view count odd seen counts same =
+    let size : count ≡ length ds = counts ∙ ap length (sym seen)
+    in rw size (kept-leaves H leaves ds odd (seen ∙ same))
+
+pub string-whole : (H : List ℕ → List ℕ) (leaves : List (List ℕ)) (n : ℕ) (path : Path) → n ≡ length leaves
+    → string_at H (tree_of (take n (drop 0 leaves))) path ≡ string_at H (tree_of leaves) path
+string-whole H leaves n path whole = rw whole (ap (λ (xs : List (List ℕ)). string_at H (tree_of xs) path) (take-length leaves))
 
 pub elided-whole : (H : List ℕ → List ℕ) (leaves : List (List ℕ)) (n : ℕ) (ps : List ℕ) → n ≡ length leaves
     → elided_of H (tree_of (places 0 n (shown_with leaves ps))) (tree_of (take n (drop 0 leaves))) ≡ elided_digests H leaves ps

@@ -21,14 +21,20 @@ part-leaf : (from n : ℕ) (ds : List (List ℕ)) → n ≡ 1 → from + n ≤ l
 part-leaf from n ds one within =
     let less : from < length ds = omega arith in rw (one, drop_more ds from [] less) (of-one (get_or ds from []))
 
-pub string-leaf : (H : List ℕ → List ℕ) (from n : ℕ) (ds : List (List ℕ)) → n ≡ 1 → from + n ≤ length ds
-    → string_at H (tree_of (take n (drop from ds))) [] ≡ Some (0 ∷ get_or ds from [])
-string-leaf H from n ds one within = ap (λ t. string_at H t []) (part-leaf from n ds one within)
+-- at the root no turn is left
+at-root : (H : List ℕ → List ℕ) (t : Tree (List ℕ)) (depth turns : ℕ) → depth ≡ 0 → string_at H t (path_of depth turns) ≡ string_at H t []
+at-root H t depth turns root = ap (λ d. string_at H t (path_of d turns)) root
 
-pub string-node : (H : List ℕ → List ℕ) (from k n : ℕ) (ds : List (List ℕ)) → IsPowerOfTwo k → k < n → n ≤ 2 * k → from + n ≤ length ds
-    → string_at H (tree_of (take n (drop from ds))) []
+pub string-leaf : (H : List ℕ → List ℕ) (from n depth turns : ℕ) (ds : List (List ℕ)) → n ≡ 1 → from + n ≤ length ds → depth ≡ 0
+    → string_at H (tree_of (take n (drop from ds))) (path_of depth turns) ≡ Some (0 ∷ get_or ds from [])
+string-leaf H from n depth turns ds one within root =
+    at-root H _ depth turns root ∙ ap (λ t. string_at H t []) (part-leaf from n ds one within)
+
+pub string-node : (H : List ℕ → List ℕ) (from k n depth turns : ℕ) (ds : List (List ℕ)) → IsPowerOfTwo k → k < n → n ≤ 2 * k
+    → from + n ≤ length ds → depth ≡ 0 → string_at H (tree_of (take n (drop from ds))) (path_of depth turns)
     ≡ Some (1 ∷ mth H (take k (drop from ds)) ++ mth H (take (n - k) (drop (from + k) ds)))
-string-node H from k n ds power below largest within = ap (λ t. string_at H t []) (part-tree-cut from k n ds power below largest within)
+string-node H from k n depth turns ds power below largest within root =
+    at-root H _ depth turns root ∙ ap (λ t. string_at H t []) (part-tree-cut from k n ds power below largest within)
 
 -- below a leaf there is nothing
 pub string-past : (H : List ℕ → List ℕ) (from n depth further turns : ℕ) (ds : List (List ℕ)) → n ≡ 1 → from + n ≤ length ds

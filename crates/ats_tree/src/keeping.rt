@@ -6,13 +6,18 @@ ghost use Rattle.ats_tree.specs.Tree.{mth, tree_of};
 ghost use Rattle.ats_tree.specs.Shown.{places};
 ghost use Rattle.ats_tree.specs.Elided.{shown_with, elided_of, elided_digests};
 ghost use Rattle.ats_tree.specs.Kept.{kept_digests, IsNodeList};
+ghost use Rattle.ats_tree.specs.Nodes.{by_path};
 ghost use Rattle.ats_tree.specs.Part.{RisesWithin};
+ghost use Rattle.ats_tree.specs.Paths.{path_of};
+ghost use Rattle.ats_tree.specs.Strings.{node_string};
 
 use crate::cut::cut_of;
 use crate::digests::{Digests, OutOfMemory};
 use crate::eliding::count_below;
+use crate::hashed_string::HashedString;
 use crate::hashing::Leaves;
-use ats_hash::{Hash32, Steps};
+use crate::node_strings::{ShortLeaves, string_of_part};
+use ats_hash::{Hash32, HashKind, Steps};
 use std::alloc::Global;
 use std::marker::Model;
 
@@ -82,6 +87,23 @@ impl Nodes {
             out.truncate(before);
         }
         outcome
+    }
+
+    /// The string that is hashed at the node to which `depth` turns lead from the root of the tree of the
+    /// leaves, where there is such a node. The lowest binary digits of `turns` are the turns, highest first:
+    /// 0 is left and 1 is right. It takes no memory, and nothing is hashed.
+    pub fn string_at<H: HashKind, L: ShortLeaves>(
+        &self,
+        leaves: &L,
+        depth: u8,
+        turns: u32,
+    ) -> Option<HashedString>
+        requires kept { self.now ≡ kept_digests H.hash (L.items leaves.now) }
+        requires shallow { depth ≤ 32 }
+        ensures { result ≡ node_string H.hash (L.items leaves.now) (by_path (path_of depth turns)) }
+    {
+        let n = self.len() / 2 + 1;
+        string_of_part::<H, L>(self.digests.as_slice(), leaves, 0, n, depth, turns)
     }
 }
 

@@ -8,7 +8,7 @@ use Rattle.ats_tree.specs.Part.{RisesWithin}
 use Rattle.ats_tree.specs.Elided.{shown_with, elided_of}
 use Rattle.ats_tree.specs.Kept.{kept_digests}
 use Rattle.ats_tree.proofs.ElidedLemmas.{front-rises, back-rises, elided-none, elided-one, elided-cut}
-use Rattle.ats_tree.proofs.KeptLemmas.{HasSize, kept-first, kept-part-cut, length-kept, left-part, right-part, front-front}
+use Rattle.ats_tree.proofs.KeptLemmas.{HasSize, kept-first, left-of-kept, right-of-kept, front-front}
 use Rattle.ats_tree.proofs.keeping.+elide_kept.Goals as goal
 
 -- what the left part asks for
@@ -61,13 +61,10 @@ returns-in_ok-elide_kept-clause-ok t c H leaves within kept =
     in let k : ℕ = c.cut_of-k.result
     in let ne : length ps ≡ 0 → ⊥ = eqb-false _ _ (sym c.if-is_empty.ensures)
     in let some : 0 < length ps = omega arith
-    in let a : List (List ℕ) = kept_digests H (take k (drop c.args.from leaves))
-    in let b : List (List ℕ) = kept_digests H (take (c.args.n - k) (drop (c.args.from + k) leaves))
-    in let front_size : length (take k (drop c.args.from leaves)) ≡ k =
-    omega (arith, length-take k (drop c.args.from leaves), length-drop c.args.from leaves, c.cut_of-k.ensures.below)
-    in let many : 1 ≤ length (take k (drop c.args.from leaves)) = omega (arith, c.cut_of-k.ensures.largest, c.requires.nodes)
-    in let count : length a + 1 ≡ 2 * k = omega (arith, length-kept H (take k (drop c.args.from leaves)) many)
-    in let cut = kept ∙ kept-part-cut H c.args.from k c.args.n leaves c.cut_of-k.ensures.power c.cut_of-k.ensures.below c.cut_of-k.ensures.largest within
+    in let left_digests = left-of-kept H c.args.from k c.args.n leaves ds
+    c.cut_of-k.ensures.power c.cut_of-k.ensures.below c.cut_of-k.ensures.largest within kept
+    in let right_digests = right-of-kept H c.args.from k c.args.n leaves ds
+    c.cut_of-k.ensures.power c.cut_of-k.ensures.below c.cut_of-k.ensures.largest within kept
     in let left_within : c.args.from + k ≤ length leaves = omega arith
     in let right_within : c.args.from + k + (c.args.n - k) ≤ length leaves = omega arith
     in let left : List (List ℕ) = elided_of H
@@ -82,11 +79,11 @@ returns-in_ok-elide_kept-clause-ok t c H leaves within kept =
     (elided-cut H leaves c.args.from k c.args.n c.count_below.result ps c.count_below.ensures.value
     c.cut_of-k.ensures.power c.cut_of-k.ensures.below c.cut_of-k.ensures.largest within some c.requires.rising)
     in let joined : c.elide_kept.new.out ++ right ≡ c.args.out.now ++ whole =
-    ap (λ z. z ++ right) {y = c.args.out.now ++ left} (c.in_ok-elide_kept.ensures.ok H leaves left_within (left-part ds a b _ k cut count))
+    ap (λ z. z ++ right) {y = c.args.out.now ++ left} (c.in_ok-elide_kept.ensures.ok H leaves left_within left_digests)
     ∙ append_assoc c.args.out.now left right
     ∙ ap (λ z. c.args.out.now ++ z) (sym both)
     in let Holds : List (List ℕ) → Type 0 = λ z. OnOk c.elide_kept-else-n-eq1.result (c.elide_kept-else-n-eq1.new.out ≡ z)
-    in subst Holds joined (c.elide_kept-else-n-eq1.ensures.ok H leaves right_within (right-part ds a b _ k cut count))
+    in subst Holds joined (c.elide_kept-else-n-eq1.ensures.ok H leaves right_within right_digests)
 
 pub returns-in_ok-elide_kept-clause-front : goal.returns-in_ok-elide_kept-clause-front
 returns-in_ok-elide_kept-clause-front t c =

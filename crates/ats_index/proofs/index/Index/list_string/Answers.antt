@@ -6,7 +6,7 @@ pub returns-in-Some : goal.returns-in-Some
 returns-in-Some g c =
     let found = rw c.lists-lists.ensures at c.in-Some.ensures.found in
     let entries = rw c.lists-lists.ensures at (c.list.ensures.value ([], [])) in
-    c.string_at.ensures.value
+    c.string_at.ensures
     ∙ list_found g.H.HashKind.hash c.args.self.now c.args.term.now c.in-Some.i c.list.result.now _ found.0 found.1 entries
 
 pub returns-in-None : goal.returns-in-None

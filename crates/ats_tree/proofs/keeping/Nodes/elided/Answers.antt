@@ -2,7 +2,7 @@ use Rattle.std.proofs.Common.{◌≡◌, ℕ, ◌+◌, ◌/◌, ◌<◌, ◌≤�
 use Rattle.std.specs.List.{All}
 use Rattle.ats_tree.specs.Kept.{kept_digests}
 use Rattle.ats_tree.proofs.Positions.{within-increasing}
-use Rattle.ats_tree.proofs.KeptLemmas.{kept-leaves, kept-whole, elided-whole}
+use Rattle.ats_tree.proofs.KeptLemmas.{kept-number, kept-whole, elided-whole}
 use Rattle.ats_tree.proofs.keeping.Nodes.elided.Goals as goal
 
 pub elide_kept-outcome-requires-clause-rising : goal.elide_kept-outcome-requires-clause-rising
@@ -16,8 +16,7 @@ returns-else-is_err-clause-ok c H leaves kept =
     let n : ℕ = c.len.result / 2 + 1
     in let ds : List (List ℕ) = c.self.inside.digests.items
     in let same : ds ≡ kept_digests H leaves = c.self.view_is ∙ kept
-    in let size : c.len.result ≡ length ds = c.len.ensures ∙ ap length (sym c.self.view_is)
-    in let whole : n ≡ length leaves = rw size (kept-leaves H leaves ds c.self.invariant.odd same)
+    in let whole : n ≡ length leaves = kept-number H leaves ds _ _ c.self.invariant.odd c.self.view_is c.len.ensures kept
     in let within : 0 + n ≤ length leaves = omega arith
     in let part : c.as_slice.result.now ≡ kept_digests H (take n (drop 0 leaves)) =
     c.as_slice.ensures.value ∙ same ∙ kept-whole H leaves n whole
