@@ -3,15 +3,20 @@ use Rattle.std.proofs.Common.{◌≡◌, ◌⊎◌, ◌∙◌, ℕ, List, length
 use Rattle.std.specs.Prelude.{IfOk, IfErr}
 use Rattle.ats_base.specs.Outside.{Rose}
 use Rattle.ats_base.specs.Links.{CallerTold}
-use Rattle.ats_terms.specs.Query.{IsQuery}
+use Rattle.ats_terms.specs.Query.{IsQuery, IsQueryOf}
 use Rattle.ats_impact.specs.declared.rank.Row.{Row}
 use Rattle.ats_client.specs.Bytes.{IsAcceptedBytes, AreVerifiedRows}
 use Rattle.ats_client.specs.declared.fault.Rejection.{Rejection}
+use Rattle.ats_client.specs.declared.fault.Rejection.TheVariants.{Shape}
 use Rattle.ats_client.proofs.OneRejection.{accepted_kept}
 use Rattle.ats_audit.proofs.Told.{told}
+use Rattle.ats_grammar.specs.declared.fault.ShapeFault.{ShapeFault}
+use Rattle.ats_wire.specs.Requests.{Question}
+use Rattle.ats_wire.specs.declared.feeding.Fed.{Fed}
+use Rattle.ats_wire.specs.declared.feeding.Fed.TheVariants.{Whole, Refused}
 use Rattle.ats_top.specs.Words.{AskWords}
 use Rattle.ats_top.specs.Print.{lines}
-use Rattle.ats_top.specs.Conversation.{reply_fault}
+use Rattle.ats_top.specs.Conversation.{Converses, ConversesFed, reply_fault}
 use Rattle.ats_top.specs.Asked.{question_of, IsReplied, IsReplyAccepted, IsReplyRejected, IsReplyFault, IsAnswered, AskStop, Decides}
 use Rattle.ats_top.specs.Refusals.{AsksRanking, IsRankingRefused}
 use Rattle.ats_top.specs.ReadStops.{BytesStop}
@@ -23,7 +28,31 @@ use Rattle.ats_top.specs.declared.stops.Stop.TheVariants.{Usage, Shelf, Input, R
 use Rattle.ats_top.proofs.Refused.{ranking_kept}
 use Rattle.ats_top.proofs.Conversing.{one_reply}
 
+module _ (address : List ℕ) (question : Question) (before now : CallerTold) where
+  kept : (bytes : List ℕ) → ConversesFed address question before now (Whole bytes) → Converses address question before now (Ok bytes)
+  kept bytes (came, conversation, (same, spelled)) = subst (λ (b : List ℕ). Converses address question before now (Ok b)) (sym same) conversation
+
+  -- bytes that are kept are those of the reply
+  pub whole_reply : (fed : Fed) (bytes : List ℕ) → fed ≡ Whole bytes → ConversesFed address question before now fed
+      → Converses address question before now (Ok bytes)
+  whole_reply fed bytes is brought = kept bytes (subst (ConversesFed address question before now) is brought)
+
 module _ (H : List ℕ → List ℕ) (before now : CallerTold) (words : AskWords) where
+  -- a reply whose bytes have this fault, which is told before they are kept
+  refused_reply : (query : List (List ℕ × ℕ)) (fault : ShapeFault) → AsksRanking words.r words.query → IsQueryOf words.query query
+      → ConversesFed words.address (question_of words) before now (Refused fault) → IsReplyRejected H before now words (Shape fault)
+  refused_reply query fault asks asked (bytes, conversation, bad) = record {
+    query = query;
+    bytes = bytes;
+    replied = record { asks = asks; asked = asked; conversation = conversation };
+    rejected = bad;
+  }
+
+  pub refused_stops : (query : List (List ℕ × ℕ)) (fed : Fed) (fault : ShapeFault) → fed ≡ Refused fault → AsksRanking words.r words.query → IsQueryOf words.query query
+      → ConversesFed words.address (question_of words) before now fed → AskStop H before now words (Rejected (Shape fault))
+  refused_stops query fed fault is asks asked brought =
+      refused_reply query fault asks asked (subst (ConversesFed words.address (question_of words) before now) is brought)
+
   module _ (query : List (List ℕ × ℕ)) (bytes : List ℕ) (replied : IsReplied before now words query bytes) where
     bytes_stop : (stop : Stop) → BytesStop H words.root query words.r bytes stop → AskStop H before now words stop
     bytes_stop Usage stops = absurd stops

@@ -1,11 +1,13 @@
 -- A conversation: an address is called, one question is asked over the link that comes, and the link is given back.
-use Rattle.std.specs.Prelude.{◌≡◌, ◌<◌, ◌≤◌, ◌⊎◌, ◌^◌, ℕ, List, is_some, option_map, Result, Err}
+use Rattle.std.specs.Prelude.{◌≡◌, ◌<◌, ◌≤◌, ◌⊎◌, ◌^◌, ℕ, List, is_some, option_map, Result, Ok, Err}
 use Rattle.ats_base.specs.Outside.{Rose}
 use Rattle.ats_base.specs.Links.{LinkTold, CallerTold, IsNew, IsCalledAt, MayNoteCall, calling_out, called_back, counted_broken}
 use Rattle.ats_wire.specs.Requests.{Question}
 use Rattle.ats_wire.specs.Asking.{IsAsked, IsHeard}
+use Rattle.ats_wire.specs.Feeding.{IsFed}
 use Rattle.ats_wire.specs.declared.asking.AskFault.{AskFault}
 use Rattle.ats_wire.specs.declared.asking.AskFault.TheVariants.{ShortReply, LongReply, BadReply, PeerRefused, ReadFault, WriteFault}
+use Rattle.ats_wire.specs.declared.feeding.Fed.{Fed}
 use Rattle.ats_top.specs.declared.stops.PeerFault.{PeerFault}
 use Rattle.ats_top.specs.declared.stops.PeerFault.TheVariants.{Short, Long, Bad, Refused}
 use Rattle.ats_top.specs.declared.stops.Stop.{Stop}
@@ -23,6 +25,10 @@ pub record Converses (address : List ℕ) (question : Question) (before now : Ca
   pub content : now.content ≡ option_map (called_back back) (option_map (calling_out address) before.content)
   pub later : before.faults ≤ count
   pub counted : now.faults ≡ counted_broken back.faults count
+
+-- a whole reply came with the bytes of a proof, of which this is told
+abbrev pub ConversesFed : (address : List ℕ) → Question → (before now : CallerTold) → Fed → Type 0
+ConversesFed address question before now fed = (bytes : List ℕ) × Converses address question before now (Ok bytes) × IsFed fed bytes
 
 -- the address was called, and no link came
 pub record CallsInVain (address : List ℕ) (before now : CallerTold) : Type 0 where

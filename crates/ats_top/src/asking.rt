@@ -1,19 +1,20 @@
 //! One question over the network, and the check of its reply.
 
-ghost use Rattle.std.specs.Prelude.{◌≡◌, ◌⊎◌, ◌≤◌, ℕ, List, length, Ok, IfOk, IfErr, string_bytes};
+ghost use Rattle.std.specs.Prelude.{◌≡◌, ◌⊎◌, ◌≤◌, length, IfOk, IfErr, string_bytes};
 ghost use Rattle.ats_top.specs.Refusals.{AsksRanking};
-ghost use Rattle.ats_top.specs.Conversation.{Converses, ConversationStop, IsRanged, Calls};
+ghost use Rattle.ats_top.specs.Conversation.{ConversesFed, ConversationStop, IsRanged, Calls};
 ghost use Rattle.ats_top.specs.Asked.{IsAnswered, AskStop};
 ghost use Rattle.ats_top.specs.Stops.{stop_of_asking};
 
 use crate::stops::{PeerFault, Stop};
 use crate::verifying::answered;
-use ats_base::{Bytes, Caller};
+use ats_base::Caller;
+use ats_client::Rejection;
 use ats_hash::Hash32;
 use ats_impact::Top;
 use ats_prover::Algorithm;
 use ats_terms::Query;
-use ats_wire::{AskFault, ask_once};
+use ats_wire::{AskFault, Fed, ask_fed};
 use std::alloc::Global;
 
 // Why a question that got no proof stops its command.
@@ -32,7 +33,8 @@ fn stop_of(fault: AskFault) -> Stop
     }
 }
 
-// Calls the address, asks the question over the link that comes, and gives the link back, whatever came of it.
+// Calls the address, asks the question over the link that comes, and gives the link back, whatever came of it. What
+// stands behind the first fault of a proof is not kept.
 fn converse<C: Caller>(
     alloc: Global,
     algorithm: Algorithm,
@@ -40,19 +42,20 @@ fn converse<C: Caller>(
     query: &str,
     address: &str,
     caller: &mut C,
-) -> Result<Bytes, Stop>
+) -> Result<Fed, Stop>
     requires { length query.now ≤ 4000 }
-    ensures ok { IfOk result (λ bytes. Converses address.now (record { algorithm = algorithm; top = top; query = query.now }) (C.told caller.old) (C.told caller.new) (Ok bytes)) }
+    ensures ok { IfOk result (ConversesFed address.now (record { algorithm = algorithm; top = top; query = query.now })
+        (C.told caller.old) (C.told caller.new)) }
     ensures stop { IfErr result (ConversationStop address.now (record { algorithm = algorithm; top = top; query = query.now }) (C.told caller.old) (C.told caller.new)) }
     ensures calls { Calls address.now (record { algorithm = algorithm; top = top; query = query.now }) (C.told caller.old) (C.told caller.new) }
 {
     let Ok(mut link) = caller.call(address) else {
         return Err(Stop::Link);
     };
-    let reply = ask_once(alloc, &mut link, algorithm, top, query);
+    let reply = ask_fed(alloc, &mut link, algorithm, top, query);
     caller.give_back(link);
     match reply {
-        Ok(bytes) => Ok(bytes),
+        Ok(fed) => Ok(fed),
         Err(fault) => Err(stop_of(fault)),
     }
 }
@@ -75,6 +78,9 @@ pub(crate) fn ask<H: Hash32, C: Caller>(
 {
     let rows = Top::new(r)?;
     let asked = Query::read(alloc, query)?;
-    let bytes = converse(alloc, algorithm, rows, query, address, caller)?;
-    answered::<H>(alloc, bytes.as_slice(), root, &asked, rows)
+    let fed = converse(alloc, algorithm, rows, query, address, caller)?;
+    match fed {
+        Fed::Whole(bytes) => answered::<H>(alloc, bytes.as_slice(), root, &asked, rows),
+        Fed::Refused(fault) => Err(Stop::Rejected(Rejection::Shape(fault))),
+    }
 }
