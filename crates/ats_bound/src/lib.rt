@@ -28,8 +28,6 @@ mod picks;
 mod running;
 mod scored;
 mod settling;
-#[cfg(test)]
-mod tests;
 mod turns;
 mod walk;
 mod watch;

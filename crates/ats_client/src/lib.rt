@@ -25,8 +25,6 @@ mod leaf;
 mod listing;
 mod lists;
 mod marking;
-#[cfg(test)]
-mod marks_tests;
 mod met;
 mod one_tree;
 mod opening;
@@ -39,8 +37,6 @@ mod section;
 mod settled;
 mod slots;
 mod term;
-#[cfg(test)]
-mod tests;
 mod verifying;
 mod walk;
 

@@ -25,6 +25,4 @@ mod commitment;
 mod documents;
 mod laws;
 mod own_strings;
-#[cfg(test)]
-mod tests;
 mod texts;

@@ -19,5 +19,3 @@ mod header;
 mod laws;
 mod pieces;
 mod spot;
-#[cfg(test)]
-mod tests;

@@ -14,8 +14,6 @@ mod doc_terms;
 mod laws;
 mod memory;
 mod spot;
-#[cfg(test)]
-mod tests;
 
 pub use doc_leaf::DocLeaf;
 pub use doc_terms::DocTerms;

@@ -15,8 +15,6 @@ mod laws;
 mod leaves;
 mod lists;
 mod memory;
-#[cfg(test)]
-mod tests;
 
 pub use building::ListsBuilder;
 pub use entry::Entry;

@@ -38,6 +38,4 @@ mod places;
 mod reading;
 mod sizes;
 mod terms;
-#[cfg(test)]
-mod tests;
 mod view;

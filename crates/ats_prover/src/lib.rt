@@ -26,8 +26,6 @@ mod present_terms;
 mod proving;
 mod shown;
 mod terms_section;
-#[cfg(test)]
-mod tests;
 mod walking;
 
 pub use ats_records::Algorithm;

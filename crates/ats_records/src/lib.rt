@@ -13,8 +13,6 @@ mod laws;
 mod memory;
 mod packed;
 mod record;
-#[cfg(test)]
-mod tests;
 mod writer;
 
 pub use laws::records_are_joined;

@@ -6,8 +6,6 @@
 //! among them, and the threshold.
 #![tactic(auto)]
 
-#[cfg(test)]
-mod tests;
 mod walking;
 
 pub use walking::walk;

@@ -10,8 +10,6 @@
 
 mod access;
 mod looking;
-#[cfg(test)]
-mod tests;
 mod walking;
 
 pub use access::RandomAccess;

@@ -19,8 +19,6 @@ mod request;
 mod room;
 mod sending;
 mod serving;
-#[cfg(test)]
-mod tests;
 
 pub use asking::{AskFault, ask_once};
 pub use feeding::{Fed, ask_fed};

@@ -1,6 +1,6 @@
 //! Tests of weights, collections, the plain ranking and the draws of a trial.
 
-use crate::{
+use ats_impact::{
     Collection, CollectionFault, OutOfMemory, ROut, Row, Rows, Texts, Top, idf, impact, rank_plain,
     trial_query, trial_texts,
 };

@@ -1,6 +1,6 @@
 //! Tests of the terms of a document.
 
-use super::*;
+use ats_doctree::{DocLeaf, DocTerms, OutOfMemory, Spot};
 use ats_hash::{Sha, Steps};
 use ats_impact::{Collection, Texts};
 use ats_tree::{Leaves, root};

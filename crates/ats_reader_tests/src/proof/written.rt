@@ -4,9 +4,9 @@ ghost use Rattle.std.specs.Prelude.{◌≡◌, ◌≤◌, ◌+◌, OnOk};
 
 use super::examples::tnra;
 use super::is_the_shorter_proof;
-use crate::*;
 use ats_base::Bytes;
 use ats_dict::{DictLeaf, Header};
+use ats_proof::*;
 use ats_records::{OutOfMemory, ProofWriter};
 use std::alloc::Global;
 use std::test::*;

@@ -1,6 +1,6 @@
 //! Tests of the terms of texts and queries.
 
-use crate::{OutOfMemory, Query, QueryFault, TermCounts, Terms};
+use ats_terms::{OutOfMemory, Query, QueryFault, TermCounts, Terms};
 use std::alloc::{AllocError, Global};
 use std::process::Abort;
 use std::test::Fail;

@@ -2,10 +2,10 @@
 
 ghost use Rattle.std.specs.Prelude.{◌≡◌, ◌+◌, ◌≤◌, length, OnOk};
 
-use super::*;
 use ats_base::Bytes;
 use ats_dict::{DictLeaf, Header};
 use ats_doctree::DocLeaf;
+use ats_records::{Algorithm, OutOfMemory, ProofWriter, Slot, TermLeaf};
 use std::alloc::Global;
 use std::test::Fail;
 

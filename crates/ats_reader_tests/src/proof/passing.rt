@@ -5,9 +5,9 @@ ghost use Rattle.ats_proof.specs.SeenLists.{list_of};
 ghost use Rattle.ats_proof.specs.Views.{proof_of};
 
 use super::examples::{tnra, tra};
-use crate::*;
 use ats_hash::Steps;
 use ats_lists::Entry;
+use ats_proof::*;
 use ats_tree::Revealed;
 use std::test::*;
 

@@ -1,8 +1,8 @@
 //! Tests of the inverted lists.
 
-use crate::{Entry, ListLeaves, Lists, ListsBuilder, OutOfMemory};
 use ats_hash::{Sha, Steps};
 use ats_impact::{Collection, Texts};
+use ats_lists::{Entry, ListLeaves, Lists, ListsBuilder, OutOfMemory};
 use ats_terms::TermCounts;
 use ats_tree::root;
 use std::alloc::Global;

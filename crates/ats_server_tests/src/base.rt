@@ -1,6 +1,6 @@
 //! Tests of the forms in memory, and of what is moved over them.
 
-use crate::{
+use ats_base::{
     Bytes, Caller, Door, Failed, GatherFault, Link, MemCaller, MemDoor, MemLink, MemShelf, MemSink,
     OutOfMemory, Shelf, Sink, gather, send_all, store, write_all,
 };

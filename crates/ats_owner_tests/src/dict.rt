@@ -1,6 +1,6 @@
 //! Tests of the dictionary and the header.
 
-use super::*;
+use ats_dict::{Dictionary, Header, OutOfMemory, Spot};
 use ats_hash::{Sha, Steps};
 use ats_tree::{Leaves, root};
 use std::test::Fail;

@@ -1,8 +1,8 @@
 //! Tests of the check on a proof made by hand, right and changed.
 
-use super::*;
-use crate::tests::examples::{FOX_RED, RED_HEN, RED_HEN_LOOKED_UP, ROOT, ZEBRA, ZEBRA_FAR};
+use crate::client::examples::{FOX_RED, RED_HEN, RED_HEN_LOOKED_UP, ROOT, ZEBRA, ZEBRA_FAR};
 use ats_bound::Work;
+use ats_client::{Refusal, check, row};
 use ats_hash::{Sha, Steps};
 use ats_impact::{Row, Top};
 use ats_proof::ProofView;

@@ -4,7 +4,9 @@ ghost use Rattle.std.specs.Prelude.{◌≡◌, [], ◌∷◌};
 ghost use Rattle.ats_bound.specs.Cut.{bracket, held, lane_of, threshold};
 ghost use Rattle.ats_bound.specs.Ranked.{whole_score};
 
-use crate::{Bracket, Brackets, Cut, Lane, Mark, OutOfMemory, Picks, Walk, Work, choose, settled};
+use ats_bound::{
+    Bracket, Brackets, Cut, Lane, Mark, OutOfMemory, Picks, Walk, Work, choose, settled,
+};
 use ats_hash::Steps;
 use ats_impact::Top;
 use ats_lists::Entry;

@@ -1,12 +1,12 @@
 //! Proofs over the three texts "red fox", "red red hen" and "blue hen". Their lengths and offsets were
 //! computed by hand from the format.
 
-use super::*;
 use ats_base::Bytes;
 use ats_hash::Sha;
 use ats_impact::{Collection, Texts, Top};
 use ats_index::Index;
 use ats_proof::ProofView;
+use ats_prover::{Algorithm, ProveFault, prove, prove_within};
 use ats_terms::Query;
 use std::alloc::Global;
 use std::test::Fail;

@@ -2,9 +2,9 @@
 
 ghost use Rattle.std.specs.Prelude.{◌≤◌, ◌<◌, ◌+◌, ◌^◌};
 
-use super::*;
 use ats_hash::Steps;
 use ats_lists::Entry;
+use ats_proof::{Algorithm, DocView, ProofView, ShapeFault, ShapeKind, Slot};
 use ats_tree::Revealed;
 use examples::{tnra, tra};
 use std::alloc::{AllocError, Global};
@@ -135,44 +135,6 @@ fn the_longer_proof_is_read_back(rt: HostRuntime) -> Result<(), Fail> {
     assert_eq!(rt; hen.impact, 896);
     docs.next(&mut steps).ok_or("document 2 is met")?;
     assert!(rt; docs.next(&mut steps).is_none());
-    Ok(())
-}
-
-// Both slots of a document, where two terms are present.
-fn slots_of(doc: &DocView<'_>, steps: &mut Steps) -> Option<(Slot, Slot)>
-    requires { steps.old + 2 < 2 ^ 64 }
-    ensures { steps.new ≤ steps.old + 2 }
-{
-    if doc.present != 2 {
-        return None;
-    }
-    let first = doc.slot(0, steps);
-    let second = doc.slot(1, steps);
-    Some((first, second))
-}
-
-#[test]
-fn slots_of_a_document(rt: HostRuntime) -> Result<(), Fail> {
-    let bytes = tra(rt.alloc())?;
-    let view = ProofView::read(&bytes).map_err(|_| "it is a proof")?;
-    let mut steps = Steps::new(rt.alloc());
-    let mut docs = view.docs().ok_or("documents are shown")?;
-    let doc = docs.next(&mut steps).ok_or("document 0 is met")?;
-    assert_eq!(rt;
-        slots_of(&doc, &mut steps),
-        Some((slot(false, 0), slot(true, 1)))
-    );
-    let doc = docs.next(&mut steps).ok_or("document 1 is met")?;
-    assert_eq!(rt;
-        slots_of(&doc, &mut steps),
-        Some((slot(true, 0), slot(true, 1)))
-    );
-    let doc = docs.next(&mut steps).ok_or("document 2 is met")?;
-    assert_eq!(rt;
-        slots_of(&doc, &mut steps),
-        Some((slot(true, 0), slot(false, 0)))
-    );
-    assert_eq!(rt; steps.count(), 9);
     Ok(())
 }
 

@@ -1,9 +1,11 @@
-//! Tests of the walk by lists alone.
+//! Tests of the walk that looks impacts up.
 
-use crate::walk;
+ghost use Rattle.std.specs.Prelude.{◌==◌, slice_index, if◌then◌else◌};
+
 use ats_bound::{Bracket, Lane};
 use ats_impact::Top;
 use ats_lists::Entry;
+use ats_tra::{RandomAccess, walk};
 use std::test::Fail;
 
 // The lists of "red fox", "red red hen" and "blue hen".
@@ -34,13 +36,42 @@ const FOX: [Entry; 1] = [Entry {
     impact: 1063,
 }];
 
-fn bracket(doc: u32, lo: u64, hi: u64) -> Bracket {
-    Bracket { doc, lo, hi }
+// The impacts of the three documents in a first list and a second.
+struct Impacts {
+    first: [u16; 3],
+    second: [u16; 3],
+}
+
+impl RandomAccess for Impacts {
+    ghost table = { λ impacts lane doc. slice_index (if lane == 0 then impacts.first else impacts.second) doc };
+
+    fn impact(&self, lane: u32, doc: u32) -> u16 {
+        let row = if lane == 0 { &self.first } else { &self.second };
+        if doc < 3 { row[doc as usize] } else { 0 }
+    }
+}
+
+const HEN_AND_RED: Impacts = Impacts {
+    first: [0, 896, 1063],
+    second: [1063, 1273, 0],
+};
+
+const FOX_AND_RED: Impacts = Impacts {
+    first: [1063, 0, 0],
+    second: [1063, 1273, 0],
+};
+
+fn exact(doc: u32, score: u64) -> Bracket {
+    Bracket {
+        doc,
+        lo: score,
+        hi: score,
+    }
 }
 
 // The query "red hen".
 #[test]
-fn a_document_outside_may_win_until_lists_are_whole(rt: HostRuntime) -> Result<(), Fail> {
+fn a_known_score_settles_before_lists_are_whole(rt: HostRuntime) -> Result<(), Fail> {
     let lanes = [
         Lane {
             coefficient: 6,
@@ -51,18 +82,13 @@ fn a_document_outside_may_win_until_lists_are_whole(rt: HostRuntime) -> Result<(
             entries: &RED,
         },
     ];
-    let end = walk(rt.alloc(), &lanes, Top::new(1)?)?;
-    assert_eq!(rt; end.cut.as_slice(), [2, 2].as_slice());
-    assert_eq!(rt; end.threshold, 0);
+    let end = walk(rt.alloc(), &lanes, Top::new(1)?, &HEN_AND_RED)?;
+    assert_eq!(rt; end.cut.as_slice(), [1, 2].as_slice());
+    assert_eq!(rt; end.threshold, 6378);
     assert_eq!(rt; end.picks.as_slice(), [1].as_slice());
     assert_eq!(rt;
         end.brackets.as_slice(),
-        [
-            bracket(0, 6378, 6378),
-            bracket(1, 13014, 13014),
-            bracket(2, 6378, 6378)
-        ]
-        .as_slice()
+        [exact(0, 6378), exact(1, 13014), exact(2, 6378)].as_slice()
     );
     Ok(())
 }
@@ -80,17 +106,13 @@ fn a_weight_leads_the_walk(rt: HostRuntime) -> Result<(), Fail> {
             entries: &RED,
         },
     ];
-    let end = walk(rt.alloc(), &lanes, Top::new(1)?)?;
-    assert_eq!(rt; end.cut.as_slice(), [2, 2].as_slice());
-    assert_eq!(rt; end.picks.as_slice(), [1].as_slice());
+    let end = walk(rt.alloc(), &lanes, Top::new(1)?, &HEN_AND_RED)?;
+    assert_eq!(rt; end.cut.as_slice(), [2, 1].as_slice());
+    assert_eq!(rt; end.threshold, 7638);
+    assert_eq!(rt; end.picks.as_slice(), [0].as_slice());
     assert_eq!(rt;
         end.brackets.as_slice(),
-        [
-            bracket(0, 6378, 6378),
-            bracket(1, 18390, 18390),
-            bracket(2, 12756, 12756)
-        ]
-        .as_slice()
+        [exact(1, 18390), exact(2, 12756)].as_slice()
     );
     Ok(())
 }
@@ -108,20 +130,20 @@ fn the_first_cut_settles_the_answer(rt: HostRuntime) -> Result<(), Fail> {
             entries: &RED,
         },
     ];
-    let end = walk(rt.alloc(), &lanes, Top::new(1)?)?;
+    let end = walk(rt.alloc(), &lanes, Top::new(1)?, &FOX_AND_RED)?;
     assert_eq!(rt; end.cut.as_slice(), [1, 1].as_slice());
     assert_eq!(rt; end.threshold, 7638);
     assert_eq!(rt; end.picks.as_slice(), [0].as_slice());
     assert_eq!(rt;
         end.brackets.as_slice(),
-        [bracket(0, 12756, 20394), bracket(1, 7638, 7638)].as_slice()
+        [exact(0, 19134), exact(1, 7638)].as_slice()
     );
     Ok(())
 }
 
 #[test]
 fn no_lanes_settle_the_empty_answer(rt: HostRuntime) -> Result<(), Fail> {
-    let end = walk(rt.alloc(), &[], Top::new(1)?)?;
+    let end = walk(rt.alloc(), &[], Top::new(1)?, &HEN_AND_RED)?;
     assert_eq!(rt; end.cut.len(), 0);
     assert_eq!(rt; end.brackets.len(), 0);
     assert_eq!(rt; end.picks.len(), 0);
@@ -141,34 +163,8 @@ fn more_rows_than_documents_show_whole_lists(rt: HostRuntime) -> Result<(), Fail
             entries: &RED,
         },
     ];
-    let end = walk(rt.alloc(), &lanes, Top::new(10)?)?;
+    let end = walk(rt.alloc(), &lanes, Top::new(10)?, &HEN_AND_RED)?;
     assert_eq!(rt; end.cut.as_slice(), [2, 2].as_slice());
     assert_eq!(rt; end.picks.as_slice(), [1, 0, 2].as_slice());
-    Ok(())
-}
-
-// Each list ends with the document that the other begins with.
-#[test]
-fn a_tie_goes_to_the_first_list(rt: HostRuntime) -> Result<(), Fail> {
-    let up = [Entry { doc: 0, impact: 10 }, Entry { doc: 1, impact: 10 }];
-    let down = [Entry { doc: 1, impact: 10 }, Entry { doc: 0, impact: 10 }];
-    let lanes = [
-        Lane {
-            coefficient: 1,
-            entries: &up,
-        },
-        Lane {
-            coefficient: 1,
-            entries: &down,
-        },
-    ];
-    let end = walk(rt.alloc(), &lanes, Top::new(1)?)?;
-    assert_eq!(rt; end.cut.as_slice(), [2, 1].as_slice());
-    assert_eq!(rt; end.threshold, 10);
-    assert_eq!(rt; end.picks.as_slice(), [1].as_slice());
-    assert_eq!(rt;
-        end.brackets.as_slice(),
-        [bracket(0, 10, 20), bracket(1, 20, 20)].as_slice()
-    );
     Ok(())
 }

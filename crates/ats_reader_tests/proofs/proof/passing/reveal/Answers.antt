@@ -4,7 +4,7 @@ use Rattle.std.proofs.lemmas.List.Elements.{All-cons}
 use Rattle.ats_lists.specs.declared.entry.Entry.{Entry}
 use Rattle.ats_proof.specs.SeenLists.{list_of}
 use Rattle.ats_proof.specs.Views.{proof_of}
-use Rattle.ats_proof.proofs.tests.passing.reveal.Goals as goal
+use Rattle.ats_reader_tests.proofs.proof.passing.reveal.Goals as goal
 
 abbrev IsNamed : ℕ → Option Entry → Type 0
 IsNamed m None = Unit {0}

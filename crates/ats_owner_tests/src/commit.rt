@@ -3,7 +3,7 @@
 
 ghost use Rattle.std.specs.Prelude.{◌<◌, length};
 
-use super::*;
+use ats_commit::{DocLeaves, TextLeaves, root_of_header};
 use ats_dict::{Dictionary, Header};
 use ats_doctree::{DocLeaf, DocTerms};
 use ats_hash::{Hash32, Sha, Steps, Weak};
