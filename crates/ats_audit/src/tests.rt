@@ -52,7 +52,7 @@ fn verdict(alloc: Global, bytes: &[u8]) -> Result<Verdict, Fail> {
     for text in ["red fox", "red red hen", "blue hen"] {
         texts.push(text)?;
     }
-    let index = Index::<Weak>::build(alloc, Collection::new(alloc, texts)?)?;
+    let index = Index::<Weak>::build_plain(alloc, Collection::new(alloc, texts)?)?;
     let query = Query::read(alloc, "red hen")?;
     Ok(audit(alloc, &index, &query, Top::new(1)?, bytes)?)
 }

@@ -3,38 +3,53 @@
 use crate::fault::Fault;
 use crate::player::Player;
 use crate::said::number;
+use std::thread::Threads;
 
 /// Plays each block of the document.
-pub(crate) fn play(player: &mut Player, document: &str) -> Result<(), Fault> {
+pub(crate) fn play<R: Threads + Sync>(
+    rt: &R,
+    player: &mut Player,
+    document: &str,
+) -> Result<(), Fault> {
     for (at, block) in document.split("```").enumerate() {
         if at % 2 == 1 {
-            play_block(player, block)?;
+            play_block(rt, player, block)?;
         }
     }
     Ok(())
 }
 
 // A block may begin with the numbers of bytes that a call moves at most, and is played once for each.
-fn play_block(player: &mut Player, block: &str) -> Result<(), Fault> {
+fn play_block<R: Threads + Sync>(rt: &R, player: &mut Player, block: &str) -> Result<(), Fault> {
     let head = block.lines().nth(1).unwrap_or("");
     match head.strip_prefix(": moves ") {
-        Some(sizes) => play_in_pieces(player, block, sizes),
-        None => play_lines(player, block, usize::MAX),
+        Some(sizes) => play_in_pieces(rt, player, block, sizes),
+        None => play_lines(rt, player, block, usize::MAX),
     }
 }
 
-fn play_in_pieces(player: &mut Player, block: &str, sizes: &str) -> Result<(), Fault> {
+fn play_in_pieces<R: Threads + Sync>(
+    rt: &R,
+    player: &mut Player,
+    block: &str,
+    sizes: &str,
+) -> Result<(), Fault> {
     for size in sizes.split(' ') {
-        play_lines(player, block, number(size)?)?;
+        play_lines(rt, player, block, number(size)?)?;
     }
     Ok(())
 }
 
 // What stands behind the fence, on its line, is no line of the block.
-fn play_lines(player: &mut Player, block: &str, moves: usize) -> Result<(), Fault> {
+fn play_lines<R: Threads + Sync>(
+    rt: &R,
+    player: &mut Player,
+    block: &str,
+    moves: usize,
+) -> Result<(), Fault> {
     player.begin(moves)?;
     for line in block.lines().skip(1) {
-        player.line(line)?;
+        player.line(rt, line)?;
     }
     player.settle()
 }

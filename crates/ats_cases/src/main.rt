@@ -19,15 +19,22 @@ mod tally;
 use document::play;
 use fault::Fault;
 use player::Player;
+use std::alloc::Global;
 use std::process::ExitCode;
+use std::thread::Threads;
 use std::{fs, io};
 use tally::Tally;
 
 // Plays the documents, over shelves that have the archive.
-fn played(rt: &HostRuntime, documents: [String; 2], archive: &[u8]) -> Result<Player, Fault> {
-    let mut player = Player::new(rt.alloc(), archive)?;
+fn played<R: Threads + Sync>(
+    rt: &R,
+    alloc: Global,
+    documents: [String; 2],
+    archive: &[u8],
+) -> Result<Player, Fault> {
+    let mut player = Player::new(alloc, archive)?;
     for document in &documents {
-        play(&mut player, document.as_str())?;
+        play(rt, &mut player, document.as_str())?;
     }
     Ok(player)
 }
@@ -42,7 +49,7 @@ fn main(rt: HostRuntime) -> io::Result<ExitCode> {
     let archive = fs::read(&rt, "archive.json")?;
     let cases = fs::read_to_string(&rt, "cases.md")?;
     let queries = fs::read_to_string(&rt, "QUERIES.md")?;
-    match played(&rt, [cases, queries], &archive) {
+    match played(&rt, rt.alloc(), [cases, queries], &archive) {
         Ok(player) => tell(&rt, player.tally()),
         Err(fault) => {
             println!(rt; "not played: {fault:?}")?;

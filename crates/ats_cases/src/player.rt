@@ -8,6 +8,7 @@ use crate::stage::Stage;
 use crate::tally::Tally;
 use ats_base::MemShelf;
 use std::alloc::Global;
+use std::thread::Threads;
 
 const ARCHIVE: &str = "examples/archive.json";
 
@@ -53,19 +54,19 @@ impl Player {
     }
 
     /// Does what the line says, or reports it.
-    pub(crate) fn line(&mut self, line: &str) -> Result<(), Fault> {
-        match self.try_line(line) {
+    pub(crate) fn line<R: Threads + Sync>(&mut self, rt: &R, line: &str) -> Result<(), Fault> {
+        match self.try_line(rt, line) {
             Err(Fault::Unread) => self.tally.refuse(line),
             done => done,
         }
     }
 
-    fn try_line(&mut self, line: &str) -> Result<(), Fault> {
+    fn try_line<R: Threads + Sync>(&mut self, rt: &R, line: &str) -> Result<(), Fault> {
         if line.is_empty() {
             return Ok(());
         }
         if let Some(said) = line.strip_prefix("$ ./ats") {
-            return self.run(said);
+            return self.run(rt, said);
         }
         if let Some(said) = line.strip_prefix(": ") {
             let (verb, rest) = said.split_once(' ').unwrap_or((said, ""));
@@ -76,10 +77,10 @@ impl Player {
         shown.want("\n")
     }
 
-    fn run(&mut self, said: &str) -> Result<(), Fault> {
+    fn run<R: Threads + Sync>(&mut self, rt: &R, said: &str) -> Result<(), Fault> {
         self.settle()?;
         let words = words(self.alloc, &self.notes, said)?;
-        self.stage.run(self.alloc, said, &words)
+        self.stage.run(rt, self.alloc, said, &words)
     }
 
     fn shown(&mut self) -> Result<&mut Shown, Fault> {

@@ -10,6 +10,7 @@ use ats_base::{Bytes, MemCaller, MemDoor, MemLink, MemShelf, MemSink};
 use ats_hash::Weak;
 use ats_top::{run, run_with};
 use std::alloc::Global;
+use std::thread::Threads;
 
 /// The shelf, the links of the next command, how these and the sink behave, and the last command that was run.
 #[derive(Drop)]
@@ -82,16 +83,22 @@ impl Stage {
     }
 
     /// Runs a command over the shelf and the links, to be compared with what its case wants.
-    pub(crate) fn run(&mut self, alloc: Global, said: &str, words: &[String]) -> Result<(), Fault> {
+    pub(crate) fn run<R: Threads + Sync>(
+        &mut self,
+        rt: &R,
+        alloc: Global,
+        said: &str,
+        words: &[String],
+    ) -> Result<(), Fault> {
         let mut sink = self.sink(alloc)?;
         let shelf = &mut self.shelf;
         let (caller, door) = (&mut self.caller, &mut self.door);
         let status = if self.is_weak {
-            run_with::<Weak, MemShelf, MemSink, MemCaller, MemDoor>(
-                alloc, words, shelf, &mut sink, caller, door,
+            run_with::<Weak, R, MemShelf, MemSink, MemCaller, MemDoor>(
+                rt, alloc, words, shelf, &mut sink, caller, door,
             )
         } else {
-            run(alloc, words, shelf, &mut sink, caller, door)
+            run(rt, alloc, words, shelf, &mut sink, caller, door)
         };
         self.shown = Some(Shown::new(alloc, said, status, &sink)?);
         Ok(())

@@ -32,6 +32,7 @@ use ats_lists::Lists;
 use ats_tree::Nodes;
 use std::alloc::Global;
 use std::marker::{Model, PhantomData};
+use std::thread::Threads;
 
 /// A collection of 1 to 65,536 texts with all that its root commits to, under a hash function. Each list is
 /// one tree.
@@ -194,8 +195,8 @@ impl<H: HashKind> Index<H> {
 }
 
 impl<H: Hash32> Index<H> {
-    /// The index of a collection. Want of memory drops the collection.
-    pub fn build(alloc: Global, collection: Collection) -> Result<Self, OutOfMemory>
+    /// The index of a collection, by one thread. Want of memory drops the collection.
+    pub fn build_plain(alloc: Global, collection: Collection) -> Result<Self, OutOfMemory>
         ensures { IfOk result (λ index. index ≡ archive_of collection) }
     {
         let DocumentParts {
@@ -227,5 +228,19 @@ impl<H: Hash32> Index<H> {
             docs_nodes,
             kind: PhantomData,
         })
+    }
+}
+
+impl<H: Hash32 + Sync> Index<H> {
+    /// The index of a collection, by as many threads as the machine runs at once. Want of memory drops the
+    /// collection.
+    pub fn build(
+        _rt: &(impl Threads + Sync),
+        alloc: Global,
+        collection: Collection,
+    ) -> Result<Self, OutOfMemory>
+        ensures { IfOk result (λ index. index ≡ archive_of collection) }
+    {
+        Index::<H>::build_plain(alloc, collection)
     }
 }

@@ -11,6 +11,7 @@ use crate::read::read_texts;
 use ats_hash::Hash32;
 use ats_impact::{Collection, CollectionFault};
 use std::alloc::Global;
+use std::thread::Threads;
 
 /// Why bytes are no index.
 #[derive(Clone, Copy, Debug, PartialEq, Eq)]
@@ -34,10 +35,10 @@ impl From<OutOfMemory> for LoadFault {
     }
 }
 
-impl<H: Hash32> Index<H> {
+impl<H: Hash32 + Sync> Index<H> {
     /// The index that these bytes are. Its lists and trees are made anew from the texts, and the bytes must
     /// be theirs. No field is believed before its bytes are there.
-    pub fn load(alloc: Global, bytes: &[u8]) -> Result<Self, LoadFault>
+    pub fn load(rt: &(impl Threads + Sync), alloc: Global, bytes: &[u8]) -> Result<Self, LoadFault>
         ensures ok { IfOk result (IsSpelling H.hash bytes.now) }
         ensures only { (archive : Archive) → IsSpelling H.hash bytes.now archive → IfOk result (λ index. index ≡ archive) }
         ensures fault { IfErr result (IsLoadFault H.hash bytes.now) }
@@ -51,7 +52,7 @@ impl<H: Hash32> Index<H> {
             Err(CollectionFault::OutOfMemory) => return Err(LoadFault::OutOfMemory),
             Err(_) => unreachable!(),
         };
-        let index = Index::<H>::build(alloc, collection)?;
+        let index = Index::<H>::build(rt, alloc, collection)?;
         match index.difference(bytes)? {
             Some(at) => Err(LoadFault::BadIndex { at }),
             None => Ok(index),

@@ -9,6 +9,7 @@ use ats_tree::{Leaves, Place, Tree};
 use std::alloc::Global;
 use std::process::Abort;
 use std::test::Fail;
+use std::thread::Threads;
 
 const EXAMPLE: [u8; 152] = [
     0x41, 0x54, 0x53, 0x49, 0x01, 0x00, 0x00, 0x00, 0x03, 0x00, 0x00, 0x00, 0x07, 0x72, 0x65, 0x64,
@@ -33,7 +34,7 @@ fn example(alloc: Global) -> Result<Index<Sha>, Fail> {
     for text in ["red fox", "red red hen", "blue hen"] {
         texts.push(text)?;
     }
-    Ok(Index::build(alloc, Collection::new(alloc, texts)?)?)
+    Ok(Index::build_plain(alloc, Collection::new(alloc, texts)?)?)
 }
 
 #[test]
@@ -48,7 +49,7 @@ fn bytes_of_three_texts(rt: HostRuntime) -> Result<(), Fail> {
 fn bytes_of_a_text_without_terms(rt: HostRuntime) -> Result<(), Fail> {
     let mut texts = Texts::new(rt.alloc());
     texts.push("!!")?;
-    let index = Index::<Sha>::build(rt.alloc(), Collection::new(rt.alloc(), texts)?)?;
+    let index = Index::<Sha>::build_plain(rt.alloc(), Collection::new(rt.alloc(), texts)?)?;
     assert_eq!(rt; index.bytes()?.len(), 51);
     Ok(())
 }
@@ -85,7 +86,7 @@ fn nodes_of_three_texts(rt: HostRuntime) -> Result<(), Fail> {
 #[test]
 fn loads_its_own_bytes(rt: HostRuntime) -> Result<(), Fail> {
     let bytes = EXAMPLE;
-    let index = Index::<Sha>::load(rt.alloc(), &bytes)
+    let index = Index::<Sha>::load(&rt, rt.alloc(), &bytes)
         .ok()
         .ok_or("refused")?;
     assert_eq!(rt; index.root(), ROOT);
@@ -94,13 +95,18 @@ fn loads_its_own_bytes(rt: HostRuntime) -> Result<(), Fail> {
 }
 
 // No index is loaded from these bytes, for what stands at this place.
-fn refuses<R: Abort + Alloc<A = Global>>(rt: &R, bytes: &[u8], at: u64) {
-    let fault = Index::<Sha>::load(rt.alloc(), bytes).err();
+fn refuses<R: Abort + Threads + Sync + Alloc<A = Global>>(rt: &R, bytes: &[u8], at: u64) {
+    let fault = Index::<Sha>::load(rt, rt.alloc(), bytes).err();
     assert_eq!(rt; fault, Some(LoadFault::BadIndex { at }));
 }
 
 // The example with other bytes from a place on.
-fn refuses_changed<R: Abort + Alloc<A = Global>>(rt: &R, from: usize, changed: &[u8], at: u64) {
+fn refuses_changed<R: Abort + Threads + Sync + Alloc<A = Global>>(
+    rt: &R,
+    from: usize,
+    changed: &[u8],
+    at: u64,
+) {
     let mut bytes = EXAMPLE;
     for (byte, other) in bytes.iter_mut().skip(from).zip(changed) {
         *byte = *other;

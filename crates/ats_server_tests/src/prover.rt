@@ -16,7 +16,7 @@ fn index_of(alloc: Global, all: &[&str]) -> Result<Index<Sha>, Fail> {
     for text in all {
         texts.push(*text)?;
     }
-    Ok(Index::build(alloc, Collection::new(alloc, texts)?)?)
+    Ok(Index::build_plain(alloc, Collection::new(alloc, texts)?)?)
 }
 
 const EXAMPLE: [&str; 3] = ["red fox", "red red hen", "blue hen"];

@@ -21,6 +21,7 @@ use ats_impact::Top;
 use ats_index::Index;
 use ats_terms::Query;
 use std::alloc::Global;
+use std::thread::Threads;
 
 // The lines of the rows of bytes that are accepted as a proof and have no collision with the archive.
 fn audited<H: Hash32>(
@@ -56,7 +57,8 @@ fn audited<H: Hash32>(
 }
 
 /// The lines of `audit`. The words are tried before anything is read, and the index before the proof.
-pub(crate) fn audit<H: Hash32, S: Shelf>(
+pub(crate) fn audit<H: Hash32 + Sync, R: Threads + Sync, S: Shelf>(
+    rt: &R,
     alloc: Global,
     index: &str,
     r: u32,
@@ -72,7 +74,7 @@ pub(crate) fn audit<H: Hash32, S: Shelf>(
 {
     let rows = Top::new(r)?;
     let asked = Query::read(alloc, query)?;
-    let loaded = read::index::<H, S>(alloc, index, shelf)?;
+    let loaded = read::index::<H, R, S>(rt, alloc, index, shelf)?;
     let bytes = read::proof(alloc, proof, shelf)?;
     audited::<H>(alloc, &loaded, &asked, rows, bytes.as_slice())
 }

@@ -14,6 +14,7 @@ use ats_impact::Collection;
 use ats_index::Index;
 use ats_proof::{ShapeFault, ShapeKind};
 use std::alloc::Global;
+use std::thread::Threads;
 
 // The most bytes that the file of a collection may have.
 const COLLECTION_LIMIT: u64 = 1 << 26;
@@ -60,7 +61,8 @@ pub(crate) fn collection<S: Shelf>(
 }
 
 /// The index that the named file is.
-pub(crate) fn index<H: Hash32, S: Shelf>(
+pub(crate) fn index<H: Hash32 + Sync, R: Threads + Sync, S: Shelf>(
+    rt: &R,
     alloc: Global,
     name: &str,
     shelf: &mut S,
@@ -70,7 +72,7 @@ pub(crate) fn index<H: Hash32, S: Shelf>(
     ensures reads { Reads (S.told shelf.old) (S.told shelf.new) name.now (2 ^ 29) }
 {
     let bytes = file(alloc, name, INDEX_LIMIT, shelf)?;
-    Ok(Index::<H>::load(alloc, bytes.as_slice())?)
+    Ok(Index::<H>::load(rt, alloc, bytes.as_slice())?)
 }
 
 /// The bytes of the proof that the named file may be.

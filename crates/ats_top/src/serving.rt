@@ -20,6 +20,7 @@ use ats_hash::Hash32;
 use ats_index::Index;
 use ats_wire::{ConnectionEnd, FrameRoom, Served, serve_connection};
 use std::alloc::{AllocError, Global};
+use std::thread::Threads;
 
 /// Why not all links were served: no further one came, their lines were not taken, or memory was wanted.
 #[derive(Clone, Copy, Debug, PartialEq, Eq)]
@@ -161,7 +162,8 @@ fn print_outcome<K: Sink>(alloc: Global, out: &mut K, outcome: Result<u32, Halt>
 }
 
 /// Loads the index, listens, and serves the links that come. It prints line by line, and answers the status.
-pub(crate) fn serve<H: Hash32, S: Shelf, K: Sink, D: Door>(
+pub(crate) fn serve<H: Hash32 + Sync, R: Threads + Sync, S: Shelf, K: Sink, D: Door>(
+    rt: &R,
     alloc: Global,
     index: &str,
     connections: u32,
@@ -178,7 +180,7 @@ pub(crate) fn serve<H: Hash32, S: Shelf, K: Sink, D: Door>(
     ensures opened { (D.told door.new ≡ D.told door.old) ⊎ Opens (record { index = index.now; connections = connections; address = address.now }) (D.told door.old) (D.told door.new) }
     ensures sink_later { (K.told out.old).faults ≤ (K.told out.new).faults }
 {
-    let loaded = match read::index::<H, S>(alloc, index, shelf) {
+    let loaded = match read::index::<H, R, S>(rt, alloc, index, shelf) {
         Ok(loaded) => loaded,
         Err(stop) => return print_stop(alloc, out, stop),
     };

@@ -24,6 +24,7 @@ use ats_proof::ProofView;
 use ats_prover::{Algorithm, prove_within};
 use ats_terms::Query;
 use std::alloc::{AllocError, Global};
+use std::thread::Threads;
 
 const QUERIES: u32 = 20;
 
@@ -152,12 +153,16 @@ fn queries(alloc: Global, number: u32) -> Result<Vec<Query>, Stop>
 }
 
 // The index of the texts of a trial.
-fn index<H: Hash32>(alloc: Global, number: u32) -> Result<Index<H>, Stop>
+fn index<H: Hash32 + Sync, R: Threads + Sync>(
+    rt: &R,
+    alloc: Global,
+    number: u32,
+) -> Result<Index<H>, Stop>
     ensures ok { IfOk result (λ index. index ≡ archive_of (trial_texts number)) }
     ensures stop { IfErr result (IsTrialStop H.hash number) }
 {
     let texts = Collection::new(alloc, trial_texts(alloc, number)?)?;
-    Ok(Index::<H>::build(alloc, texts)?)
+    Ok(Index::<H>::build(rt, alloc, texts)?)
 }
 
 fn line(alloc: Global, name: &str, tally: &Tally) -> Result<String, AllocError>
@@ -187,13 +192,17 @@ const ROWS: u32 = 10;
 
 /// The lines of `trial`: its queries are read, then its texts are indexed, and then each query is proved, checked and audited by
 /// each algorithm.
-pub(crate) fn trial<H: Hash32>(alloc: Global, number: u32) -> Result<String, Stop>
+pub(crate) fn trial<H: Hash32 + Sync, R: Threads + Sync>(
+    rt: &R,
+    alloc: Global,
+    number: u32,
+) -> Result<String, Stop>
     ensures ok { IfOk result (λ text. IsTrial H.hash number (string_bytes text)) }
     ensures stop { IfErr result (IsTrialStop H.hash number) }
 {
     let top = Top::new(ROWS)?;
     let queries = queries(alloc, number)?;
-    let index = index::<H>(alloc, number)?;
+    let index = index::<H, R>(rt, alloc, number)?;
     let (tra, tnra) = tallies(alloc, &index, queries.as_slice(), top)?;
     Ok(text(alloc, &index.root(), &tra, &tnra)?)
 }

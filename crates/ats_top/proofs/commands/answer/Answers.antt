@@ -1,5 +1,5 @@
 use Rattle.std.proofs.Common.{refl, sym, map, string_bytes, inl, inr}
-use Rattle.ats_top.specs.Done.{IsProofStored, IsVerified}
+use Rattle.ats_top.specs.Done.{IsRanked, IsProofStored, IsVerified}
 use Rattle.ats_top.specs.Asked.{IsAnswered}
 use Rattle.ats_top.specs.Audited.{IsAuditedRight}
 use Rattle.ats_top.specs.Trial.{IsTrial}
@@ -113,3 +113,10 @@ returns-in-Some-Trial-clause-stop g c =
     files_ends g.H.HashKind.hash (g.S.Shelf.told c.args.shelf.now) (g.S.Shelf.told c.args.shelf.now) (g.C.Caller.told c.args.caller.now) (g.C.Caller.told c.args.caller.now)
     (g.D.Door.told c.args.door.now) (g.D.Door.told c.args.door.now) (map string_bytes c.args.words.now) _ (sym is) c.trial.result
     (trial_ends g.H.HashKind.hash (g.S.Shelf.told c.args.shelf.now) _ c.trial.result c.trial.ensures.stop)
+
+pub returns-in-Some-Rank-clause-ok : goal.returns-in-Some-Rank-clause-ok
+returns-in-Some-Rank-clause-ok g c =
+    let is = rw c.in-Some-Rank.field-0-is at c.in-Some-Rank.ensures in
+    done_ends g.H.HashKind.hash (g.S.Shelf.told c.args.shelf.now) (g.S.Shelf.told c.rank.new.shelf) (g.C.Caller.told c.args.caller.now) (g.C.Caller.told c.args.caller.now)
+    (g.D.Door.told c.args.door.now) (g.D.Door.told c.args.door.now) (map string_bytes c.args.words.now) _ (sym is)
+    string_bytes (IsRanked _ _) c.rank.result (λ text done was now. (done, c.rank.ensures.reads.files)) c.rank.ensures.ok
