@@ -1,3 +1,4 @@
+pub mod Collected
 pub mod Entries
 pub mod Whole
 pub mod Writing

@@ -1,6 +1,6 @@
 //! The dictionary of some lists, and the nodes of its tree and of theirs.
 
-ghost use Rattle.std.specs.Prelude.{◌≡◌, ◌<◌, ◌≤◌, length, map, IfOk};
+ghost use Rattle.std.specs.Prelude.{◌≡◌, ◌<◌, [], length, map, slice_index_or, IfOk};
 ghost use Rattle.ats_tree.specs.Kept.{kept_digests};
 ghost use Rattle.ats_dict.specs.Dictionary.{dict_leaves};
 ghost use Rattle.ats_lists.specs.Layout.{whole_lists};
@@ -16,21 +16,33 @@ use ats_lists::{Entry, ListLeaves, Lists};
 use ats_tree::{Leaves, Nodes};
 use std::alloc::Global;
 
-/// A dictionary, and the nodes of each list's tree.
-#[derive(Drop)]
-pub(crate) struct ListParts {
-    pub(crate) dictionary: Dictionary,
-    pub(crate) nodes: Vec<Nodes>,
+/// The nodes of the tree of list `i`, counted from 0.
+pub(crate) fn nodes_of_list<H: Hash32>(
+    alloc: Global,
+    lists: &Lists,
+    i: u32,
+) -> Result<Nodes, OutOfMemory>
+    requires { i < length lists.now }
+    ensures { IfOk result (λ nodes. nodes ≡ kept_digests H.hash (map leaf_bytes (slice_index_or lists.now i ([], [])).1)) }
+{
+    let leaves = ListLeaves {
+        entries: lists.list(i),
+    };
+    Ok(Nodes::of::<H, _>(alloc, &leaves, &mut Steps::new(alloc))?)
 }
 
-// The nodes of a list's tree.
-fn nodes_of<H: Hash32>(alloc: Global, entries: &[Entry]) -> Result<Nodes, OutOfMemory>
-    requires some { 1 ≤ length entries.now }
-    requires few { length entries.now ≤ 65536 }
-    ensures { IfOk result (λ nodes. nodes ≡ kept_digests H.hash (map leaf_bytes entries.now)) }
+/// The nodes of the tree of each list, by one thread.
+pub(crate) fn nodes_of_lists<H: Hash32>(
+    alloc: Global,
+    lists: &Lists,
+) -> Result<Vec<Nodes>, OutOfMemory>
+    ensures { IfOk result (λ nodes. nodes.items ≡ all_list_digests H.hash lists.now) }
 {
-    let leaves = ListLeaves { entries };
-    Ok(Nodes::of::<H, _>(alloc, &leaves, &mut Steps::new(alloc))?)
+    let mut nodes = Vec::with_capacity(alloc, lists.len() as usize)?;
+    for i in 0..lists.len() {
+        nodes.push(nodes_of_list::<H>(alloc, lists, i)?)?;
+    }
+    Ok(nodes)
 }
 
 // The root of a list, which its nodes begin with.
@@ -41,24 +53,22 @@ fn root_of<H: HashKind>(entries: &[Entry], nodes: &Nodes) -> [u8; 32]
     nodes.root()
 }
 
-/// The dictionary that has an entry for each list.
-pub(crate) fn dictionary_of<H: Hash32>(
+/// The dictionary that has an entry for each list, from the nodes of their trees.
+pub(crate) fn dictionary_of<H: HashKind>(
     alloc: Global,
     lists: &Lists,
-) -> Result<ListParts, OutOfMemory>
-    ensures dictionary { IfOk result (λ made. made.dictionary ≡ map (dict_entry H.hash whole_lists) lists.now) }
-    ensures nodes { IfOk result (λ made. made.nodes.items ≡ all_list_digests H.hash lists.now) }
+    nodes: &[Nodes],
+) -> Result<Dictionary, OutOfMemory>
+    requires { nodes.now ≡ all_list_digests H.hash lists.now }
+    ensures { IfOk result (λ made. made ≡ map (dict_entry H.hash whole_lists) lists.now) }
 {
     let mut dictionary = Dictionary::new(alloc);
-    let mut nodes = Vec::with_capacity(alloc, lists.len() as usize)?;
     for i in 0..lists.len() {
         let entries = lists.list(i);
-        let kept = nodes_of::<H>(alloc, entries)?;
-        let root = root_of::<H>(entries, &kept);
+        let root = root_of::<H>(entries, &nodes[i as usize]);
         dictionary.push(lists.term(i), entries.len() as u32, &root)?;
-        nodes.push(kept)?;
     }
-    Ok(ListParts { dictionary, nodes })
+    Ok(dictionary)
 }
 
 /// The nodes of a dictionary's tree.

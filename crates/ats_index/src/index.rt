@@ -12,15 +12,18 @@ ghost use Rattle.ats_commit.specs.Archive.{archive_of};
 ghost use Rattle.ats_commit.specs.Trees.{dictionary_of, documents_of};
 ghost use Rattle.ats_commit.specs.Root.{root_of};
 ghost use Rattle.ats_commit.specs.Own.{AreTexts};
-ghost use Rattle.ats_index.specs.Parts.{all_leaves, header_parts, leaf_of_terms};
+ghost use Rattle.ats_index.specs.Parts.{all_leaves, all_terms, header_parts, leaf_of_terms};
+ghost use Rattle.ats_index.specs.Kept.{all_list_digests, all_term_digests};
 ghost use Rattle.ats_index.specs.Spelling.{IsSpelling, index_bytes};
 ghost use Rattle.ats_index.specs.LoadFaults.{IsDifference};
 
 use crate::build::header_of;
 use crate::compare::{Comparer, Takes};
-use crate::dictionary::{ListParts, dictionary_nodes, dictionary_of};
+use crate::dictionary::{dictionary_nodes, dictionary_of, nodes_of_lists};
+use crate::doc_leaves::{leaves_of, nodes_of_documents};
 use crate::documents::{DocumentParts, counted};
 use crate::memory::OutOfMemory;
+use crate::parallel::{counted_by_threads, nodes_of_all_lists};
 use crate::write::{put_lists, put_texts};
 use ats_base::Bytes;
 use ats_commit::root_of_header;
@@ -195,21 +198,27 @@ impl<H: HashKind> Index<H> {
 }
 
 impl<H: Hash32> Index<H> {
-    /// The index of a collection, by one thread. Want of memory drops the collection.
-    pub fn build_plain(alloc: Global, collection: Collection) -> Result<Self, OutOfMemory>
+    // The index of a collection from its lists, the terms of its documents, and the nodes of all their trees.
+    fn assembled(
+        alloc: Global,
+        collection: Collection,
+        parts: DocumentParts,
+        list_nodes: Vec<Nodes>,
+    ) -> Result<Self, OutOfMemory>
+        requires lists { parts.lists ≡ lists_of collection }
+        requires terms { parts.terms.items ≡ all_terms collection }
+        requires term_nodes { parts.term_nodes.items ≡ all_term_digests H.hash collection }
+        requires list_nodes { list_nodes.items ≡ all_list_digests H.hash (lists_of collection) }
         ensures { IfOk result (λ index. index ≡ archive_of collection) }
     {
         let DocumentParts {
             lists,
             terms,
             term_nodes,
-            leaves,
-            docs_nodes,
-        } = counted::<H>(alloc, &collection)?;
-        let ListParts {
-            dictionary,
-            nodes: list_nodes,
-        } = dictionary_of::<H>(alloc, &lists)?;
+        } = parts;
+        let leaves = leaves_of::<H>(alloc, &terms, &term_nodes)?;
+        let docs_nodes = nodes_of_documents::<H>(alloc, &leaves)?;
+        let dictionary = dictionary_of::<H>(alloc, &lists, &list_nodes)?;
         let dict_nodes = dictionary_nodes::<H>(alloc, &dictionary)?;
         let header = header_of::<H>(alloc, &collection, &dictionary, &dict_nodes, &docs_nodes);
         let root = root_of_header::<H>(&header, &mut Steps::new(alloc));
@@ -229,18 +238,29 @@ impl<H: Hash32> Index<H> {
             kind: PhantomData,
         })
     }
+
+    /// The index of a collection, by one thread. Want of memory drops the collection.
+    pub fn build_plain(alloc: Global, collection: Collection) -> Result<Self, OutOfMemory>
+        ensures { IfOk result (λ index. index ≡ archive_of collection) }
+    {
+        let parts = counted::<H>(alloc, &collection)?;
+        let list_nodes = nodes_of_lists::<H>(alloc, &parts.lists)?;
+        Index::<H>::assembled(alloc, collection, parts, list_nodes)
+    }
 }
 
 impl<H: Hash32 + Sync> Index<H> {
     /// The index of a collection, by as many threads as the machine runs at once. Want of memory drops the
     /// collection.
     pub fn build(
-        _rt: &(impl Threads + Sync),
+        rt: &(impl Threads + Sync),
         alloc: Global,
         collection: Collection,
     ) -> Result<Self, OutOfMemory>
         ensures { IfOk result (λ index. index ≡ archive_of collection) }
     {
-        Index::<H>::build_plain(alloc, collection)
+        let parts = counted_by_threads::<H, _>(rt, alloc, &collection)?;
+        let list_nodes = nodes_of_all_lists::<H>(rt, alloc, &parts.lists)?;
+        Index::<H>::assembled(alloc, collection, parts, list_nodes)
     }
 }

@@ -14,11 +14,13 @@
 mod build;
 mod compare;
 mod dictionary;
+mod doc_leaves;
 mod documents;
 mod index;
 mod laws;
 mod load;
 mod memory;
+mod parallel;
 mod read;
 mod strings;
 #[cfg(test)]

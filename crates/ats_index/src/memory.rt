@@ -30,6 +30,12 @@ impl From<ats_lists::OutOfMemory> for OutOfMemory {
     }
 }
 
+impl From<ats_doctree::OutOfMemory> for OutOfMemory {
+    fn from(_: ats_doctree::OutOfMemory) -> Self {
+        OutOfMemory
+    }
+}
+
 impl From<ats_dict::OutOfMemory> for OutOfMemory {
     fn from(_: ats_dict::OutOfMemory) -> Self {
         OutOfMemory

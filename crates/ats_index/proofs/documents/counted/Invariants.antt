@@ -2,14 +2,12 @@ use Rattle.std.proofs.Common.{◌≡◌, take, map}
 use Rattle.ats_tree.specs.Kept.{kept_digests}
 use Rattle.ats_doctree.specs.Impacts.{text_terms}
 use Rattle.ats_doctree.specs.Sentinels.{terms_leaves}
-use Rattle.ats_index.specs.Parts.{leaf_of_terms}
 use Rattle.ats_index.proofs.documents.counted.Given as goal
 
--- the documents so far are added, and have their terms, the digests of these, and leaves
+-- the documents so far are added, and have their terms and the digests of these
 abbrev pub invariant-loop-doc : goal.invariant-loop-doc
 invariant-loop-doc g l = record {
   added : l.builder ≡ (l.collection, l.doc);
   terms : l.terms.items ≡ map (text_terms l.collection) (take l.doc l.collection);
   term_nodes : l.term_nodes.items ≡ map (λ text. kept_digests g.H.HashKind.hash (terms_leaves (text_terms l.collection text))) (take l.doc l.collection);
-  leaves : l.leaves.items ≡ map (λ text. leaf_of_terms g.H.HashKind.hash (text_terms l.collection text)) (take l.doc l.collection);
 }
