@@ -1,9 +1,9 @@
 //! The index of a collection: its lists, its dictionary, the terms of its documents, and its root.
 //!
 //! An owner builds an index from a collection once, and a server answers queries from it.
-//! The room stands on `ats_lists`, `ats_dict` and `ats_doctree`, whose parts it makes from one count of each
-//! document's terms, and on `ats_commit`, which says what they are together. Each tree is hashed once, and the
-//! digests of its nodes are kept and lent, but those of the texts. The contracts promise that an index is seen as
+//! The room stands on `ats_lists`, `ats_dict` and `ats_doctree`, whose parts it makes, by one thread or by several,
+//! and on `ats_commit`, which says what they are together. Each tree is hashed once, and the digests of its nodes
+//! are kept and lent, but those of the texts. The contracts promise that both builds answer one index, seen as
 //! its archive alone, that each part is that archive's under the hash function, the digests among them, that its
 //! bytes are one spelling, that bytes are the spelling of one archive at most, that bytes are loaded exactly
 //! where they are the spelling of some archive, or else refused at one place: that of the first bad field up to
