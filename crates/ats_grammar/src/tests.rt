@@ -255,6 +255,68 @@ fn each_field_has_its_faults(rt: HostRuntime) -> Result<(), Fail> {
     faults(&rt, rt.alloc(), &tra(rt.alloc())?, &TRA)
 }
 
+// Numbers that nobody chose.
+#[derive(Drop)]
+struct Dice {
+    state: u32,
+}
+
+impl Dice {
+    fn roll(&mut self) -> usize {
+        self.state = self
+            .state
+            .wrapping_mul(1_664_525)
+            .wrapping_add(1_013_904_223);
+        (self.state >> 16) as usize
+    }
+}
+
+// Puts other bytes in some places, where the bytes have them, and cuts some of the ends.
+fn spoil(bytes: &mut Vec<u8>, dice: &mut Dice) {
+    for _place in 0..dice.roll() % 3 {
+        if let Some(byte) = bytes.get_mut(dice.roll() % 1024) {
+            *byte = (dice.roll() % 4) as u8;
+        }
+    }
+    bytes.truncate(dice.roll() % 2048);
+}
+
+// What is said of the bytes where they come in pieces of chosen sizes, one byte at least while there is one.
+fn fed_by_chance(bytes: &[u8], dice: &mut Dice) -> Result<(), ShapeFault> {
+    let mut feeder = Feeder::new(bytes.len() as u64)?;
+    let mut rest = bytes;
+    for _piece in 0..bytes.len() {
+        let (piece, behind) = rest.split_at((1 + dice.roll() % 40).min(rest.len()));
+        if piece.len() as u64 > feeder.length - feeder.fed {
+            return Ok(());
+        }
+        feeder.feed(piece)?;
+        rest = behind;
+    }
+    feeder.finish()
+}
+
+#[test]
+fn cuts_change_nothing(rt: HostRuntime) -> Result<(), Fail> {
+    let mut dice = Dice { state: 1 };
+    let mut right: u32 = 0;
+    for round in 0..400 {
+        let mut bytes = if round % 2 == 0 {
+            tnra(rt.alloc())?
+        } else {
+            tra(rt.alloc())?
+        };
+        spoil(&mut bytes, &mut dice);
+        let said = fed_by_chance(&bytes, &mut dice);
+        assert_eq!(rt; said, scan(&bytes));
+        if said.is_ok() {
+            right = right.saturating_add(1);
+        }
+    }
+    assert!(rt; right > 50 && right < 350);
+    Ok(())
+}
+
 fn crosses_threads<T: Send + Sync>(_value: &T) {}
 
 #[test]
