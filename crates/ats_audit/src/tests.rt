@@ -47,12 +47,16 @@ fn with(alloc: Global, impact: [u8; 2], row: u8) -> Result<Vec<u8>, Fail> {
     Ok(bytes)
 }
 
-fn verdict(alloc: Global, bytes: &[u8]) -> Result<Verdict, Fail> {
+fn archive(alloc: Global) -> Result<Index<Weak>, Fail> {
     let mut texts = Texts::new(alloc);
     for text in ["red fox", "red red hen", "blue hen"] {
         texts.push(text)?;
     }
-    let index = Index::<Weak>::build_plain(alloc, Collection::new(alloc, texts)?)?;
+    Ok(Index::<Weak>::build_plain(alloc, Collection::new(alloc, texts)?)?)
+}
+
+fn verdict(alloc: Global, bytes: &[u8]) -> Result<Verdict, Fail> {
+    let index = archive(alloc)?;
     let query = Query::read(alloc, "red hen")?;
     Ok(audit(alloc, &index, &query, Top::new(1)?, bytes)?)
 }
@@ -98,6 +102,33 @@ fn other_bytes_are_refused(rt: HostRuntime) -> Result<(), Fail> {
         matches!(
             verdict(alloc, &bytes)?,
             Verdict::Refused(ats_client::Refusal::ListRoot { term: 0 })
+        )
+    );
+    Ok(())
+}
+
+#[test]
+fn verdicts_have_the_order_of_jobs(rt: HostRuntime) -> Result<(), Fail> {
+    let alloc = rt.alloc();
+    let index = archive(alloc)?;
+    let honest = with(alloc, [0x04, 0x27], 1)?;
+    let mut jobs = Vec::new(alloc);
+    for bytes in [&FORGED[..364], honest.as_slice(), &FORGED[..]] {
+        jobs.push(Job {
+            query: Query::read(alloc, "red hen")?,
+            top: Top::new(1)?,
+            bytes,
+        })?;
+    }
+    let verdicts = sweep(&rt, alloc, &index, jobs.as_slice())?;
+    assert!(rt;
+        matches!(
+            verdicts.as_slice(),
+            [
+                Verdict::BadShape(_),
+                Verdict::Right(_),
+                Verdict::Collision { .. }
+            ]
         )
     );
     Ok(())

@@ -1,0 +1,75 @@
+//! The audits of many proofs against one index.
+
+ghost use Rattle.std.specs.Prelude.{◌≡◌, IfOk, length};
+ghost use Rattle.std.specs.List.{AllZip};
+ghost use Rattle.ats_audit.specs.Sweeps.{IsVerdictOf};
+
+use crate::auditing::{Verdict, audit};
+use ats_hash::Hash32;
+use ats_impact::{OutOfMemory, Top};
+use ats_index::Index;
+use ats_terms::Query;
+use rayon::prelude::*;
+use std::alloc::Global;
+use std::marker::Model;
+use std::thread::Threads;
+
+/// The bytes of a proof that are to be audited, with the query and the number of rows that they are to answer.
+#[derive(Drop)]
+pub struct Job<'a> {
+    pub query: Query,
+    pub top: Top,
+    pub bytes: &'a [u8],
+}
+
+/// A list of verdicts.
+#[derive(Drop)]
+pub struct Verdicts {
+    items: Vec<Verdict>,
+}
+
+impl Model for Verdicts {
+    ghost use Rattle.std.specs.Prelude.{List};
+    ghost use Rattle.ats_audit.specs.declared.auditing.Verdict.{Verdict};
+
+    ghost Value = { List Verdict };
+
+    ghost view = { λ v. v.items.items };
+}
+
+impl Verdicts {
+    pub fn len(&self) -> usize
+        ensures { result ≡ length self.now }
+    {
+        self.items.len()
+    }
+
+    pub fn as_slice(&self) -> &[Verdict]
+        ensures { result.now ≡ self.now }
+    {
+        self.items.as_slice()
+    }
+}
+
+/// Audits each job against one index, as [`audit`] does, and gives the verdicts in the order of the jobs.
+///
+/// The jobs are shared among threads, one by one, and each job takes memory of its own.
+pub fn sweep<H: Hash32 + Sync, R: Threads + Sync>(
+    rt: &R,
+    alloc: Global,
+    index: &Index<H>,
+    jobs: &[Job<'_>],
+) -> Result<Verdicts, OutOfMemory>
+    ensures { IfOk result (AllZip (IsVerdictOf H.hash index.now) jobs.now) }
+{
+    let verdicts = jobs
+        .par_iter()
+        .with_min_len(1)
+        .map(
+            |job: &Job<'_>| -> Result<Verdict, OutOfMemory>
+                ensures { IfOk result (IsVerdictOf H.hash index.entry.now job.now) }
+            { audit(alloc, index, &job.query, job.top, job.bytes) },
+        )
+        .collect::<Result<Vec<Verdict>, OutOfMemory>>(rt, alloc)?;
+    Ok(Verdicts { items: verdicts? })
+}
