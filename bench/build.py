@@ -1,13 +1,16 @@
-"""Times `build` over collections of 1, 4 and 16 MiB, beside the hashing alone.
+"""Times `build` over collections of 1, 4 and 16 MiB, beside the hashing alone, and builds by one thread and by several.
 
 usage: python3 bench/build.py [SHAPE ..]
 
 Prints, for each shape, the seconds, how they grow, and how they stand against the time that the
-SHA-256 blocks of the index's trees take alone; then the most memory that a run held. Ends with 0 where
-all that is wanted is met, and with 1 where something is not. Without SHAPE it goes through three.
+SHA-256 blocks of the index's trees take alone; then the most memory that a run held; and for 16 MiB how the call
+that builds stands by several threads against one, one against the blocks, and `root`, which loads the index, against
+`build`. Ends with 0 where all that is wanted is met, and with 1 where something is not. Without SHAPE it goes
+through three.
 """
 
 import json
+import os
 import sys
 import tempfile
 from collections import Counter
@@ -22,6 +25,11 @@ GROWTH = 1.2  # over the growth of the input
 AGAINST_BLOCKS = 2.5
 PEAK = 1 << 30  # bytes, for 16 MiB of short texts
 NODES = 2_000_000
+PROCESSORS = 4  # with fewer, threads are not judged
+TIMES = 3  # of each call that builds
+THREADS = 0.35  # the time of several threads over that of one
+ONE_THREAD = 1.35  # over the time of the blocks
+LOAD = 1.1  # over the time of `build`
 
 
 def blocks_of(length: int) -> int:
@@ -62,7 +70,28 @@ def build(program: str, path: Path) -> measure.Run:
     return best
 
 
-def measured(program: str, block: float, name: str, folder: str) -> bool:
+def seconds_of_threads(bench: str, path: Path) -> tuple[float, float]:
+    """Of the call that builds: by one thread and by several, the fastest of some."""
+    texts = path.with_suffix(".txt")
+    texts.write_text("".join(text + "\n" for text in json.loads(path.read_text(encoding="utf-8"))), encoding="utf-8")
+    lines = measure.run([bench, "build", str(texts), str(TIMES)]).printed.splitlines()[:-1]
+    times = [[int(word) / 1e6 for word in line.split()] for line in lines]
+    return min(time[0] for time in times), min(time[1] for time in times)
+
+
+def judge_threads(program: str, bench: str, path: Path, blocks: float, built: float) -> bool:
+    """Several threads against one, and loading against building."""
+    one, several = seconds_of_threads(bench, path)
+    processors = len(os.sched_getaffinity(0))
+    print(f"  the call alone: {one:.3f} s by one thread, {several:.3f} s by {processors} processors")
+    met = measure.judge("  one thread / the blocks alone", one / blocks, ONE_THREAD)
+    if processors >= PROCESSORS:
+        met &= measure.judge("  several threads / one", several / one, THREADS)
+    loaded = measure.best([program, "root", str(path.with_suffix(".index"))]).seconds
+    return met & measure.judge("  root, which loads / build", loaded / built, LOAD)
+
+
+def measured(program: str, bench: str, block: float, name: str, folder: str) -> bool:
     """One shape."""
     shape = corpora.SHAPES[name]
     print(f"build over {shape.says} ({name}); best of {measure.RUNS} runs each")
@@ -78,6 +107,7 @@ def measured(program: str, block: float, name: str, folder: str) -> bool:
         met &= measure.judge("  time / that of its blocks alone", run.seconds / (blocks * block), AGAINST_BLOCKS)
     for (early, late), (small, large) in zip(zip(times, times[1:]), zip(text, text[1:])):
         met &= measure.judge("  growth of the time / growth of the input", late / early / (large / small), GROWTH)
+    met &= judge_threads(program, bench, path, blocks * block, times[-1])
     if name == "notes":
         met &= measure.judge("  memory in GiB", run.peak / PEAK, 1.0)
     return met
@@ -90,7 +120,7 @@ def main() -> int:
     print(f"SHA-256: {block * 1e6:.3f} us a block, {1 / block:.0f} blocks a second, best of {measure.RUNS} runs\n")
     try:
         with tempfile.TemporaryDirectory() as folder:
-            met = [measured(program, block, name, folder) for name in names]
+            met = [measured(program, bench, block, name, folder) for name in names]
     except measure.TooSlow:
         print(f"\na run took more than {measure.LIMIT} s: NOT MET")
         return 1

@@ -1,9 +1,10 @@
-"""Times the reading of proofs with 10^5 and 10^6 entries, beside hashing the same bytes.
+"""Times the reading of proofs with 10^5 and 10^6 entries, beside hashing the same bytes and feeding them in pieces.
 
 usage: python3 bench/read.py
 
-Prints what one reading takes, how that grows from 10^5 to 10^6 entries, and how fast bytes are read
-beside SHA-256 over the same bytes. Ends with 0 where both wanted ratios are met, and else with 1.
+Prints what one reading takes, how that grows from 10^5 to 10^6 entries, how fast bytes are read
+beside SHA-256 over the same bytes, and what it takes to feed them in pieces of 64 KiB and byte by byte.
+Ends with 0 where all wanted ratios are met, and else with 1.
 """
 
 import sys
@@ -13,6 +14,7 @@ import measure
 TERMS = 32
 WANTED_GROWTH = 12.0
 WANTED_SPEED = 1.0
+WANTED_PIECES = ((65_536, 1.1), (1, 10.0))  # the bytes of a piece, and the time over that of reading the bytes whole
 WORK = 40_000_000  # entries that are read in one run
 
 
@@ -22,27 +24,38 @@ def size(entries: int) -> int:
     return front + leaf + numbers + TERMS * (3 + 4 + 2) + 6 * (entries // TERMS) * TERMS
 
 
-def seconds(bench: str, job: str, entries: int, times: int) -> float:
+def seconds(bench: str, job: list[str], times: int) -> float:
     """Of one time: the making of the proof is in both runs, and drops out."""
-    some = measure.best([bench, job, str(entries), str(times)]).seconds
-    none = measure.best([bench, job, str(entries), "0"]).seconds
+    some = measure.best([bench, *job, str(times)]).seconds
+    none = measure.best([bench, *job, "0"]).seconds
     return (some - none) / times
+
+
+def pieces_are_met(bench: str, read: float) -> bool:
+    """Whether feeding the longer proof in pieces takes no longer than wanted, each of them judged."""
+    met = []
+    for piece, wanted in WANTED_PIECES:
+        fed = seconds(bench, ["feed", "1000000", str(piece)], 20)
+        print(f"feeding it in pieces of {piece} bytes: {fed * 1e3:.3f} ms")
+        met.append(measure.judge(f"time in pieces of {piece} / time of reading", fed / read, wanted))
+    return all(met)
 
 
 def main() -> int:
     bench = measure.bench_program()
     reads = {}
     for entries in (100_000, 1_000_000):
-        reads[entries] = seconds(bench, "read", entries, WORK // entries)
+        reads[entries] = seconds(bench, ["read", str(entries)], WORK // entries)
         print(f"reading {entries:9} entries, {size(entries):9} bytes: {reads[entries] * 1e3:.3f} ms")
-    hashed = seconds(bench, "digest", 1_000_000, 20)
+    hashed = seconds(bench, ["digest", "1000000"], 20)
     print(f"hashing the bytes of the last one: {hashed * 1e3:.3f} ms")
     speed = size(1_000_000) / reads[1_000_000] / 1e6
     print(f"bytes a second: {speed:.0f} million read, {size(1_000_000) / hashed / 1e6:.0f} million hashed")
     growth = measure.judge("time(10^6) / time(10^5)", reads[1_000_000] / reads[100_000], WANTED_GROWTH)
     faster = measure.judge("time of reading / time of hashing", reads[1_000_000] / hashed, WANTED_SPEED)
-    print("both ratios are met" if growth and faster else "not both ratios are met")
-    return 0 if growth and faster else 1
+    met = pieces_are_met(bench, reads[1_000_000]) and growth and faster
+    print("all ratios are met" if met else "not all ratios are met")
+    return 0 if met else 1
 
 
 if __name__ == "__main__":

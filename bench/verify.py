@@ -1,10 +1,11 @@
-"""Times the check of proofs by both algorithms, beside hashing strings of the same sizes.
+"""Times the check of proofs by both algorithms, beside hashing strings of the same sizes, and their audit.
 
 usage: python3 bench/verify.py
 
 Prints, for queries of few and of many matches over 16 MiB of text, the bytes of the proof by each algorithm
-and number of rows; for ten rows also what one check takes, and that over the time of the digests that it
-makes. Ends with status 0 where that ratio is as wanted for each long proof by `tra`, and else with 1.
+and number of rows; for ten rows also what one check takes, that over the time of the digests that it makes,
+and the time of an audit over that of a check, beside loading the index. Ends with status 0 where the first
+ratio is as wanted for each long proof by `tra`, and the second for each proof, and else with 1.
 """
 
 import sys
@@ -24,6 +25,8 @@ TIMED_ROWS = 10
 WANTED = 1.5  # of a check to its digests, for proofs by `tra` that are long
 LONG = 300_000  # bytes
 WORK = 3_000_000  # digests that are made in one run
+AUDIT_WANTED = 3.0  # of an audit to a check of the same proof
+AUDITS = 20  # in one run, each beside a check, of which the fastest counts
 
 # Words by their place in the order of frequency.
 QUERIES = {
@@ -126,6 +129,15 @@ def ratio(bench: str, proved: Proved) -> float:
     return check / hashed
 
 
+def audit_ratio(bench: str, index: Path, proved: Proved) -> float:
+    """Prints what one audit takes beside one check, in one run. Answers the first over the second."""
+    words = ["audit", str(index), str(proved.rows), proved.query, str(proved.path), str(AUDITS)]
+    lines = [line.split() for line in measure.run([bench, *words]).printed.splitlines()[:-1]]
+    check, audit = (min(int(line[k]) for line in lines) for k in (0, 1))
+    print(f"    one audit {audit / 1e3:.3f} ms, one check beside it {check / 1e3:.3f} ms")
+    return audit / check
+
+
 def measured(program: str, bench: str, index: Path, name: str, query: str) -> bool:
     """One query, by both algorithms and each number of rows."""
     met = True
@@ -140,6 +152,7 @@ def measured(program: str, bench: str, index: Path, name: str, query: str) -> bo
                 met &= measure.judge("    check / digests", over, WANTED)
             else:
                 print(f"    check / digests: {over:.2f}")
+            met &= measure.judge("    audit / check", audit_ratio(bench, index, proved), AUDIT_WANTED)
     return met
 
 

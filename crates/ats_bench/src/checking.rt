@@ -13,8 +13,8 @@ use ats_terms::Query;
 use std::alloc::Global;
 use std::fs;
 
-// The steps of one check, nothing where the proof is refused.
-fn check_once(
+/// The steps of one check, nothing where the proof is refused.
+pub(crate) fn check_once(
     alloc: Global,
     root: &[u8; 32],
     query: &Query,

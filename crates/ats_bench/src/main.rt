@@ -2,27 +2,37 @@
 //!
 //! `nodes COUNT` hashes so many inner nodes of a tree, each of 65 bytes with its tag, and prints how many digests
 //! were counted; `read ENTRIES TIMES` writes a proof that shows so many entries of lists, reads it so many times, and
-//! prints how many items were read in all; `digest ENTRIES TIMES` hashes the bytes of that proof so many times, and
+//! prints how many items were read in all; `feed ENTRIES PIECE TIMES` feeds that proof so many times in pieces of so many
+//! bytes, and prints how many bytes were fed; `digest ENTRIES TIMES` hashes the bytes of that proof so many times, and
 //! prints how many digests were counted; `walk ALGORITHM ROWS TEXTS QUERIES` walks for each query of a file over
 //! the texts of another, both a line each, and prints for each the rows, the entries that are shown, the documents
 //! among them, and the microseconds of the walk and of one pass over these entries; `check ROWS QUERY PROOF TIMES`
 //! checks the proof of a file so many times, and prints how many steps were counted; `strings SIZES TIMES` hashes a
-//! string for each byte of a file, which is its size, so many times over, and prints how many digests were counted.
+//! string for each byte of a file, which is its size, so many times over, and prints how many digests were counted;
+//! `audit INDEX ROWS QUERY PROOF TIMES` checks the proof of a file so many times and audits it against the index of
+//! another, and prints for each time the microseconds of the check and of the audit.
+//! `build TEXTS TIMES` builds the index of a file's texts, a line each, by one thread and by several, and loads it, so
+//! many times, and prints for each time the microseconds of the three.
 //! The program promises nothing that the rooms below it do not promise. Each kind of work may change as a script
 //! needs it.
 #![tactic(auto)]
 
 ghost use Rattle.std.specs.Prelude.{◌≡◌, ◌+◌, ◌<◌, ◌^◌};
 
+mod auditing;
+mod building;
 mod checking;
 mod reading;
 mod walking;
 
 use ats_hash::{Hash32, Sha, Steps};
+use auditing::time_audits;
+use building::time_builds;
 use checking::{check_proof, hash_strings};
-use reading::{hash_proof, read_proof};
+use reading::{feed_proof, hash_proof, read_proof};
 use std::alloc::Global;
 use std::process::ExitCode;
+use std::thread::Threads;
 use std::{env, io};
 use walking::time_walks;
 
@@ -53,7 +63,7 @@ fn number(word: &String) -> Option<u32> {
 }
 
 // Does what the words say, and answers the count.
-fn work(rt: &HostRuntime, words: &[String]) -> Option<u64> {
+fn work(rt: &HostRuntime, threads: &(impl Threads + Sync), words: &[String]) -> Option<u64> {
     let alloc = rt.alloc();
     match words {
         [job, algorithm, rows, texts, queries] if job.as_str() == "walk" => time_walks(
@@ -67,6 +77,9 @@ fn work(rt: &HostRuntime, words: &[String]) -> Option<u64> {
         [job, entries, times] if job.as_str() == "read" => {
             read_proof(alloc, number(entries)?, number(times)?)
         }
+        [job, entries, piece, times] if job.as_str() == "feed" => {
+            feed_proof(alloc, number(entries)?, number(piece)?, number(times)?)
+        }
         [job, entries, times] if job.as_str() == "digest" => {
             hash_proof(alloc, number(entries)?, number(times)?)
         }
@@ -77,8 +90,20 @@ fn work(rt: &HostRuntime, words: &[String]) -> Option<u64> {
             proof.as_str(),
             number(times)?,
         ),
+        [job, index, rows, query, proof, times] if job.as_str() == "audit" => time_audits(
+            rt,
+            threads,
+            index.as_str(),
+            number(rows)?,
+            query.as_str(),
+            proof.as_str(),
+            number(times)?,
+        ),
         [job, sizes, times] if job.as_str() == "strings" => {
             hash_strings(rt, sizes.as_str(), number(times)?)
+        }
+        [job, texts, times] if job.as_str() == "build" => {
+            time_builds(rt, threads, texts.as_str(), number(times)?)
         }
         _ => None,
     }
@@ -86,7 +111,7 @@ fn work(rt: &HostRuntime, words: &[String]) -> Option<u64> {
 
 fn main(rt: HostRuntime) -> io::Result<ExitCode> {
     let words = words(&rt)?;
-    match work(&rt, &words) {
+    match work(&rt, &rt, &words) {
         Some(count) => {
             println!(rt; "{count}")?;
             Ok(ExitCode::from(0))

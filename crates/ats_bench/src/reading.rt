@@ -1,11 +1,11 @@
-//! A proof with many entries, read again and again.
+//! A proof with many entries, read again and again, whole and in pieces.
 
 ghost use Rattle.std.specs.Prelude.{◌≡◌, ◌+◌, ◌*◌, ◌<◌, ◌≤◌, ◌^◌, OnOk};
 
 use ats_base::Bytes;
 use ats_dict::{DictLeaf, Header};
 use ats_hash::{Hash32, Sha, Steps};
-use ats_proof::{Algorithm, ProofView, Slot};
+use ats_proof::{Algorithm, Feeder, ProofView, Slot};
 use ats_records::{OutOfMemory, ProofWriter};
 use std::alloc::Global;
 
@@ -99,6 +99,32 @@ pub(crate) fn read_proof(alloc: Global, entries: u32, times: u32) -> Option<u64>
         items = items.wrapping_add(view.items());
     }
     Some(items)
+}
+
+// Feeds bytes in pieces of this size, the last of which may be shorter.
+fn feed(bytes: &[u8], size: usize) -> Option<()>
+    requires { 1 ≤ size }
+{
+    let mut feeder = Feeder::new(bytes.len() as u64).ok()?;
+    let mut rest = bytes;
+    'pieces: while !rest.is_empty() {
+        let (piece, behind) = rest.split_at(size.min(rest.len()));
+        feeder.feed(piece).ok()?;
+        rest = behind;
+    }
+    feeder.finish().ok()
+}
+
+/// Feeds a proof so many times in pieces of so many bytes, and answers how many bytes were fed.
+pub(crate) fn feed_proof(alloc: Global, entries: u32, piece: u32, times: u32) -> Option<u64> {
+    let bytes = proof_of(alloc, entries)?;
+    let size = piece.max(1) as usize;
+    let mut fed: u64 = 0;
+    for _time in 0..times {
+        feed(bytes.as_slice(), size)?;
+        fed = fed.wrapping_add(bytes.len() as u64);
+    }
+    Some(fed)
 }
 
 /// Hashes the bytes of a proof so many times, and answers how many digests were counted.

@@ -114,7 +114,8 @@ fn collection(rt: &HostRuntime, path: &str) -> Option<Collection> {
     Collection::new(rt.alloc(), texts).ok()
 }
 
-fn micros(rt: &HostRuntime, start: &Instant) -> Option<u128> {
+/// The microseconds since then.
+pub(crate) fn micros(rt: &HostRuntime, start: &Instant) -> Option<u128> {
     Some(start.elapsed(rt).ok()?.as_micros())
 }
 
