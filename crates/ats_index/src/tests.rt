@@ -2,11 +2,13 @@
 //! impacts, RFC 6962, section 2.1, and the layout of the leaves and of the fields.
 
 use super::*;
+use ats_base::Bytes;
 use ats_hash::{Hash32, Sha, Steps};
-use ats_impact::{Collection, Texts};
+use ats_impact::{Collection, Texts, trial_texts};
 use ats_terms::Query;
 use ats_tree::{Leaves, Place, Tree};
 use std::alloc::Global;
+use std::ops::Range;
 use std::process::Abort;
 use std::test::Fail;
 use std::thread::Threads;
@@ -219,6 +221,59 @@ fn strings_at_the_roots(rt: HostRuntime) -> Result<(), Fail> {
     ];
     for (tree, digest) in roots {
         assert_eq!(rt; digest_at(rt.alloc(), &index, &query, tree), digest);
+    }
+    Ok(())
+}
+
+// Some texts of a collection, each cut to so many bytes.
+fn part(
+    alloc: Global,
+    all: &Collection,
+    docs: Range<u32>,
+    size: usize,
+) -> Result<Collection, Fail> {
+    let mut texts = Texts::new(alloc);
+    for doc in docs {
+        if doc < all.documents() {
+            texts.push(all.text(doc).get(..size).unwrap_or(""))?;
+        }
+    }
+    Ok(Collection::new(alloc, texts)?)
+}
+
+// The bytes of the index that one thread builds, and of the one that several build.
+fn built(
+    rt: &(impl Threads + Sync),
+    alloc: Global,
+    one: Collection,
+    same: Collection,
+) -> Result<(Bytes, Bytes), Fail> {
+    let plain = Index::<Sha>::build_plain(alloc, one)?;
+    let index = Index::<Sha>::build(rt, alloc, same)?;
+    Ok((plain.bytes()?, index.bytes()?))
+}
+
+#[test]
+fn threads_build_what_one_builds(rt: HostRuntime) -> Result<(), Fail> {
+    let alloc = rt.alloc();
+    let one = Collection::new(alloc, trial_texts(alloc, 0)?)?;
+    let same = Collection::new(alloc, trial_texts(alloc, 0)?)?;
+    let (plain, bytes) = built(&rt, alloc, one, same)?;
+    assert_eq!(rt; bytes.as_slice(), plain.as_slice());
+    Ok(())
+}
+
+// Collections of 1 to 34 texts of 0 to 110 bytes, some of whose last words are cut.
+#[test]
+fn threads_build_small_collections(rt: HostRuntime) -> Result<(), Fail> {
+    let alloc = rt.alloc();
+    let all = Collection::new(alloc, trial_texts(alloc, 7)?)?;
+    for size in 0..12 {
+        let docs = 100 * size..103 * size + 1;
+        let one = part(alloc, &all, docs.clone()?, 10 * size as usize)?;
+        let same = part(alloc, &all, docs, 10 * size as usize)?;
+        let (plain, bytes) = built(&rt, alloc, one, same)?;
+        assert_eq!(rt; bytes.as_slice(), plain.as_slice());
     }
     Ok(())
 }
