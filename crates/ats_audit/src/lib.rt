@@ -13,8 +13,6 @@
 mod auditing;
 mod laws;
 mod sweeping;
-#[cfg(test)]
-mod tests;
 
 pub use auditing::{Verdict, audit};
 pub use laws::accepted_answers_are_audited;

@@ -23,8 +23,6 @@ mod memory;
 mod parallel;
 mod read;
 mod strings;
-#[cfg(test)]
-mod tests;
 mod write;
 
 pub use index::Index;

@@ -16,6 +16,10 @@ mod hash;
 #[cfg(test)]
 mod impact;
 #[cfg(test)]
+mod index;
+#[cfg(test)]
 mod lists;
 #[cfg(test)]
 mod terms;
+#[cfg(test)]
+mod tree;

@@ -1,10 +1,10 @@
 //! The example of three texts. An independent program computed its bytes from the definitions: words and
 //! impacts, RFC 6962, section 2.1, and the layout of the leaves and of the fields.
 
-use super::*;
 use ats_base::Bytes;
 use ats_hash::{Hash32, Sha, Steps};
 use ats_impact::{Collection, Texts, trial_texts};
+use ats_index::{Index, LoadFault, OutOfMemory};
 use ats_terms::Query;
 use ats_tree::{Leaves, Place, Tree};
 use std::alloc::Global;

@@ -4,8 +4,8 @@
 ghost use Rattle.std.specs.Prelude.{◌<◌, ◌≤◌};
 
 use super::slices::{SliceLeaves, SliceRevealed};
-use crate::{Digests, OutOfMemory, elided, rebuild, root};
 use ats_hash::{Sha, Steps};
+use ats_tree::{Digests, OutOfMemory, elided, rebuild, root};
 use std::test::Fail;
 
 const LEAVES: [&[u8]; 8] = [

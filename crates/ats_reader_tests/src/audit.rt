@@ -1,7 +1,7 @@
 //! The audit over the weak hash, under which strings of one sum have one digest. An independent program computed
 //! the bytes from RFC 6962, section 2.1, and from the layout of proofs.
 
-use super::*;
+use ats_audit::{Job, Verdict, audit, sweep};
 use ats_hash::Weak;
 use ats_impact::{Collection, Texts, Top};
 use ats_index::Index;
