@@ -1,5 +1,6 @@
 #!/usr/bin/env python3
-"""Makes the files of this folder: `vectors/make.py [PROGRAM]`, where PROGRAM is `./ats` at the top unless it is said.
+"""Makes the files of this folder, and the copies that the gate plays: `vectors/make.py [PROGRAM]`, where PROGRAM is
+`./ats` at the top unless it is said.
 
 Every root, proof and printed line comes from the program. What this script makes itself are the changes of honest
 proofs, and the few trees that no archive has; the program then says what it thinks of them. README.md explains the
@@ -16,6 +17,7 @@ from pathlib import Path
 
 HERE = Path(__file__).resolve().parent
 TOP = HERE.parent
+PLAYED = TOP / 'crates' / 'ats_cases' / 'data'
 LONGEST = 2**26
 NOTHING = bytes(32)
 
@@ -1124,7 +1126,9 @@ def save(name, items):
         lines, ends = [f'{json.dumps(key)}: {json.dumps(value)}' for key, value in items.items()], '{}'
     else:
         lines, ends = [json.dumps(item) for item in items], '[]'
-    (HERE / name).write_text(ends[0] + '\n' + ',\n'.join(lines) + '\n' + ends[1] + '\n', encoding='ascii')
+    text = ends[0] + '\n' + ',\n'.join(lines) + '\n' + ends[1] + '\n'
+    for folder in (HERE, PLAYED):
+        (folder / name).write_text(text, encoding='ascii')
 
 
 def main(words):

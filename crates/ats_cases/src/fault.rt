@@ -1,13 +1,13 @@
-//! Why a line of a document was not played.
+//! Why a line of a document, or a file, was not played.
 
 use std::alloc::{AllocError, AllocFailed};
 
-/// Why a line of a document was not played.
+/// Why a line of a document, or a file, was not played.
 #[derive(Clone, Copy, Debug, PartialEq, Eq)]
 pub(crate) enum Fault {
     /// Memory was wanted and not there.
     OutOfMemory,
-    /// The line says nothing that is known, or names what is not there.
+    /// The line or the file says nothing that is known, or names what is not there.
     Unread,
 }
 
@@ -26,5 +26,23 @@ impl<T: Drop> From<AllocFailed<T>> for Fault {
 impl From<ats_base::OutOfMemory> for Fault {
     fn from(_: ats_base::OutOfMemory) -> Self {
         Fault::OutOfMemory
+    }
+}
+
+impl From<ats_terms::OutOfMemory> for Fault {
+    fn from(_: ats_terms::OutOfMemory) -> Self {
+        Fault::OutOfMemory
+    }
+}
+
+impl From<serde_json::Error> for Fault {
+    fn from(_: serde_json::Error) -> Self {
+        Fault::Unread
+    }
+}
+
+impl From<std::io::Error> for Fault {
+    fn from(_: std::io::Error) -> Self {
+        Fault::Unread
     }
 }

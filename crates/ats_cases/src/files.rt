@@ -51,7 +51,8 @@ pub(crate) fn patch(alloc: Global, shelf: &mut MemShelf, line: &str) -> Result<(
     Ok(())
 }
 
-fn spliced(
+/// These bytes with others in place of those from one place to another.
+pub(crate) fn spliced(
     alloc: Global,
     whole: &[u8],
     from: usize,

@@ -1,56 +1,100 @@
-//! Plays the cases of the commands, which are kept as data, and prints how many passed.
+//! Plays the cases of the commands and the vectors for other clients, which are kept as data, and prints how many passed.
 //!
 //! The cases stand in the documents of `data/`: what is said to the program, and then what it prints, its status, the
-//! files that it leaves, and what it writes over links. `cases.md` says how one is written; `QUERIES.md` is a page for newcomers, which is played as it
-//! stands. The room stands on `ats_top` for the commands, on `ats_base` for files and links in memory, and on `ats_hash` for a
-//! second hash function. It promises nothing but its count: a case counts as passed only where all is as its document
-//! says. Each case that differs is printed. The words in which a case is written may change with the documents.
+//! files that it leaves, and what it writes over links. `cases.md` says how one is written; `QUERIES.md` is a page for
+//! newcomers, which is played as it stands. The vectors are the JSON files there, which `vectors/README.md` tells field by
+//! field: each entry is put to the commands, or to the calls of terms and numbers. The room stands on `ats_top` for the
+//! commands, on `ats_base` for files and links in memory, on `ats_terms` and `ats_impact` for terms and numbers, and on
+//! `ats_hash` for SHA-256 and for a second hash function. It promises nothing but its counts: a case or a vector counts as
+//! passed only where all is as its file says. Each one that differs is printed. The words in which a case is written may
+//! change with the documents.
 #![tactic(auto)]
 
+mod asker;
 mod document;
 mod fault;
 mod files;
+mod json;
+mod numbers;
 mod player;
 mod said;
 mod shown;
 mod stage;
 mod tally;
+mod vectors;
 
+use asker::Asker;
 use document::play;
 use fault::Fault;
 use player::Player;
-use std::alloc::Global;
+use serde_json::Value;
 use std::process::ExitCode;
 use std::thread::Threads;
 use std::{fs, io};
 use tally::Tally;
+use vectors::{play_listed, play_named};
 
-// Plays the documents, over shelves that have the archive.
-fn played<R: Threads + Sync>(
-    rt: &R,
-    alloc: Global,
-    documents: [String; 2],
-    archive: &[u8],
-) -> Result<Player, Fault> {
-    let mut player = Player::new(alloc, archive)?;
-    for document in &documents {
-        play(rt, &mut player, document.as_str())?;
-    }
-    Ok(player)
+const NAMED: [&str; 3] = ["archives.json", "proofs.json", "fields.json"];
+
+const LISTED: [&str; 5] = [
+    "changed.json",
+    "made.json",
+    "words.json",
+    "numbers.json",
+    "inputs.json",
+];
+
+fn tell(rt: &HostRuntime, tally: &Tally, what: &str) -> Result<bool, Fault> {
+    let (report, passed) = (tally.report(), tally.passed());
+    println!(rt; "{report}{passed} {what} passed")?;
+    Ok(report.is_empty())
 }
 
-fn tell(rt: &HostRuntime, tally: &Tally) -> io::Result<ExitCode> {
-    let (report, passed) = (tally.report(), tally.passed());
-    println!(rt; "{report}{passed} cases passed")?;
-    Ok(ExitCode::from(if report.is_empty() { 0 } else { 1 }))
+// Plays the documents, over shelves that have the archive.
+fn play_cases(
+    rt: &HostRuntime,
+    threads: &(impl Threads + Sync),
+    archive: &[u8],
+) -> Result<bool, Fault> {
+    let mut player = Player::new(rt.alloc(), archive)?;
+    for name in ["cases.md", "QUERIES.md"] {
+        play(threads, &mut player, fs::read_to_string(rt, name)?.as_str())?;
+    }
+    tell(rt, player.tally(), "cases")
+}
+
+fn read(rt: &HostRuntime, name: &str) -> Result<Value, Fault> {
+    let text = fs::read_to_string(rt, name)?;
+    Ok(Value::from_str(rt.alloc(), text.as_str())?)
+}
+
+// Plays the files of the vectors, over one shelf.
+fn play_vectors(
+    rt: &HostRuntime,
+    threads: &(impl Threads + Sync),
+    archive: &[u8],
+) -> Result<bool, Fault> {
+    let proofs = read(rt, "proofs.json")?;
+    let mut asker = Asker::new(rt.alloc());
+    asker.put("examples/archive.json", archive)?;
+    for name in NAMED {
+        play_named(threads, &mut asker, name, &read(rt, name)?, &proofs)?;
+    }
+    for name in LISTED {
+        play_listed(threads, &mut asker, name, &read(rt, name)?, &proofs)?;
+    }
+    tell(rt, asker.tally(), "vectors")
+}
+
+fn played(rt: &HostRuntime, threads: &(impl Threads + Sync)) -> Result<bool, Fault> {
+    let archive = fs::read(rt, "archive.json")?;
+    let are_passed = play_cases(rt, threads, &archive)?;
+    Ok(play_vectors(rt, threads, &archive)? && are_passed)
 }
 
 fn main(rt: HostRuntime) -> io::Result<ExitCode> {
-    let archive = fs::read(&rt, "archive.json")?;
-    let cases = fs::read_to_string(&rt, "cases.md")?;
-    let queries = fs::read_to_string(&rt, "QUERIES.md")?;
-    match played(&rt, rt.alloc(), [cases, queries], &archive) {
-        Ok(player) => tell(&rt, player.tally()),
+    match played(&rt, &rt) {
+        Ok(is_passed) => Ok(ExitCode::from(if is_passed { 0 } else { 1 })),
         Err(fault) => {
             println!(rt; "not played: {fault:?}")?;
             Ok(ExitCode::from(1))

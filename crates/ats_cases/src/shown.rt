@@ -1,6 +1,6 @@
-//! What a command showed, beside what its case wants.
+//! What a command showed, beside what its case or its vector wants.
 
-ghost use Rattle.std.specs.Prelude.{◌≡◌, true};
+ghost use Rattle.std.specs.Prelude.{◌≡◌, ◌≢◌, true, false};
 
 use crate::fault::Fault;
 use ats_base::{Bytes, MemSink};
@@ -45,8 +45,10 @@ impl Shown {
         Ok(())
     }
 
-    /// Notes whether a file, or what a link wrote, is as it is wanted.
-    pub(crate) fn note_fit(&mut self, fits: bool) {
+    /// Notes whether a file, what a link wrote, or what no command tells is as it is wanted.
+    pub(crate) fn note_fit(&mut self, fits: bool)
+        ensures { fits ≡ false → self.new.misfits ≢ 0 }
+    {
         if !fits {
             self.misfits = self.misfits.saturating_add(1);
         }
@@ -70,7 +72,7 @@ impl Shown {
         let wanted = str::from_utf8(self.wanted.as_slice()).unwrap_or("(no text)");
         let (said, misfits) = (&self.said, self.misfits);
         format!(in alloc;
-            "differs: {said}\nstatus {status}, wanted {wanted_status}; {misfits} files or links differ; printed:\n{printed}wanted:\n{wanted}"
+            "differs: {said}\nstatus {status}, wanted {wanted_status}; {misfits} files, links or numbers differ; printed:\n{printed}wanted:\n{wanted}"
         )
     }
 }

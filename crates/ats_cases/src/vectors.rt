@@ -1,0 +1,217 @@
+//! The entries of the vectors' files, each put to the program.
+
+use crate::asker::{Asker, Question};
+use crate::fault::Fault;
+use crate::files::spliced;
+use crate::json::{bytes, count, items, part, text, whole};
+use crate::numbers::{Numbers, repeated};
+use ats_hash::{Hash32, Sha, Steps};
+use ats_impact::idf;
+use ats_terms::{TermCounts, Terms};
+use serde_json::Value;
+use std::alloc::Global;
+use std::thread::Threads;
+
+const COLLECTION: &str = "collection";
+
+const NO_ROOT: &str = "0000000000000000000000000000000000000000000000000000000000000000";
+
+/// Plays each entry of a file whose entries have names.
+pub(crate) fn play_named(
+    threads: &(impl Threads + Sync),
+    asker: &mut Asker,
+    file: &str,
+    entries: &Value,
+    proofs: &Value,
+) -> Result<(), Fault> {
+    for (name, entry) in entries.as_object().ok_or(Fault::Unread)?.iter() {
+        match file {
+            "archives.json" => play_archive(threads, asker, name.as_str(), entry)?,
+            "proofs.json" => play_proof(threads, asker, name.as_str(), entry)?,
+            _ => play_fields(asker, name.as_str(), entry, proofs)?,
+        }
+    }
+    Ok(())
+}
+
+/// Plays each entry of a file that is a list.
+pub(crate) fn play_listed(
+    threads: &(impl Threads + Sync),
+    asker: &mut Asker,
+    file: &str,
+    entries: &Value,
+    proofs: &Value,
+) -> Result<(), Fault> {
+    for entry in items(entries)? {
+        match file {
+            "changed.json" => play_changed(threads, asker, entry, proofs)?,
+            "made.json" => play_made(threads, asker, entry)?,
+            "words.json" => play_words(asker, entry)?,
+            "numbers.json" => play_numbers(threads, asker, entry)?,
+            _ => play_input(threads, asker, entry)?,
+        }
+    }
+    Ok(())
+}
+
+// The root that is printed is the header's digest too.
+fn play_archive(
+    threads: &(impl Threads + Sync),
+    asker: &mut Asker,
+    name: &str,
+    entry: &Value,
+) -> Result<(), Fault> {
+    let collection = put_collection(asker, entry)?;
+    let mut shown = asker.ask(threads, name, &["build", collection, name])?;
+    shown.want(text(entry, "root")?)?;
+    shown.want("\n")?;
+    shown.note_fit(is_root_of_header(asker.alloc, entry)?);
+    asker.count(&shown)
+}
+
+fn put_collection<'v>(asker: &mut Asker, entry: &'v Value) -> Result<&'v str, Fault> {
+    let Some(texts) = entry.get("texts") else {
+        return text(entry, "file");
+    };
+    let file = texts.to_string(asker.alloc)?;
+    asker.put(COLLECTION, file.as_bytes())?;
+    Ok(COLLECTION)
+}
+
+fn is_root_of_header(alloc: Global, entry: &Value) -> Result<bool, Fault> {
+    let (root, header) = (bytes(alloc, entry, "root")?, bytes(alloc, entry, "header")?);
+    let mut steps = Steps::new(alloc);
+    let digest = Sha::digest2(2, &header, &[], &mut steps);
+    Ok(digest.as_slice() == root.as_slice())
+}
+
+// A proof is counted as made and as checked.
+fn play_proof(
+    threads: &(impl Threads + Sync),
+    asker: &mut Asker,
+    name: &str,
+    entry: &Value,
+) -> Result<(), Fault> {
+    let proof = bytes(asker.alloc, entry, "proof")?;
+    asker.prove(threads, name, entry, &proof)?;
+    asker.verify(threads, name, &Question::of(entry, entry)?, &proof, entry)
+}
+
+fn play_fields(asker: &mut Asker, name: &str, fields: &Value, proofs: &Value) -> Result<(), Fault> {
+    let proof = bytes(asker.alloc, part(proofs, name)?, "proof")?;
+    let mut shown = asker.compare(name)?;
+    for field in items(fields)? {
+        shown.note_fit(is_field(asker.alloc, &proof, field)?);
+    }
+    asker.count(&shown)
+}
+
+// A field is its start, its end, what it is, and its bytes.
+fn is_field(alloc: Global, proof: &[u8], field: &Value) -> Result<bool, Fault> {
+    let (start, end) = (whole(field, 0)? as usize, whole(field, 1)? as usize);
+    let wanted = bytes(alloc, field, 3)?;
+    let behind = proof.get(start..).ok_or(Fault::Unread)?;
+    Ok(behind.get(..end.saturating_sub(start)) == Some(wanted.as_slice()))
+}
+
+fn play_changed(
+    threads: &(impl Threads + Sync),
+    asker: &mut Asker,
+    entry: &Value,
+    proofs: &Value,
+) -> Result<(), Fault> {
+    let (of, about) = (text(entry, "of")?, text(entry, "about")?);
+    let honest = part(proofs, of)?;
+    let proof = changed(
+        asker.alloc,
+        bytes(asker.alloc, honest, "proof")?,
+        part(entry, "changes")?,
+    )?;
+    let about = format!(in asker.alloc; "{of}, {about}")?;
+    asker.verify(
+        threads,
+        about.as_str(),
+        &Question::of(entry, honest)?,
+        &proof,
+        entry,
+    )
+}
+
+// A change is a start, an end, and the bytes that stand there then. There is one, or none.
+fn changed(alloc: Global, honest: Vec<u8>, changes: &Value) -> Result<Vec<u8>, Fault> {
+    let Some(change) = changes.get(0) else {
+        return Ok(honest);
+    };
+    let (start, end) = (whole(change, 0)? as usize, whole(change, 1)? as usize);
+    let others = bytes(alloc, change, 2)?;
+    let made = spliced(alloc, &honest, start, end, &others)?;
+    Ok(Vec::from_slice(alloc, made.as_slice())?)
+}
+
+fn play_made(
+    threads: &(impl Threads + Sync),
+    asker: &mut Asker,
+    entry: &Value,
+) -> Result<(), Fault> {
+    let proof = bytes(asker.alloc, entry, "proof")?;
+    asker.verify(
+        threads,
+        text(entry, "about")?,
+        &Question::of(entry, entry)?,
+        &proof,
+        entry,
+    )
+}
+
+fn play_words(asker: &mut Asker, entry: &Value) -> Result<(), Fault> {
+    let (text, wanted) = (text(entry, "text")?, items(part(entry, "terms")?)?);
+    let counts = TermCounts::of(asker.alloc, &Terms::of(asker.alloc, text)?)?;
+    let mut shown = asker.compare(text)?;
+    shown.note_fit(counts.len() == wanted.len());
+    for (at, pair) in wanted.iter().enumerate() {
+        shown.note_fit(has_term(&counts, at, pair)?);
+    }
+    asker.count(&shown)
+}
+
+fn has_term(counts: &TermCounts, at: usize, pair: &Value) -> Result<bool, Fault> {
+    let (term, times) = (text(pair, 0)?, whole(pair, 1)?);
+    Ok(
+        at < counts.len()
+            && counts.term(at) == term.as_bytes()
+            && u64::from(counts.count(at)) == times,
+    )
+}
+
+fn play_numbers(
+    threads: &(impl Threads + Sync),
+    asker: &mut Asker,
+    entry: &Value,
+) -> Result<(), Fault> {
+    let (numbers, score) = (Numbers::of(entry)?, whole(entry, "score")?);
+    asker.put(COLLECTION, numbers.file(asker.alloc)?.as_bytes())?;
+    let about = entry.to_string(asker.alloc)?;
+    let mut shown = asker.ask(threads, about.as_str(), &["rank", COLLECTION, "1", "x"])?;
+    shown.want(format!(in asker.alloc; "1 0 {score} {score}\n")?.as_str())?;
+    shown.note_fit(idf(numbers.documents, numbers.having) == count(entry, "idf")?);
+    let impact = numbers.impact().ok_or(Fault::Unread)?;
+    shown.note_fit(u32::from(impact) == count(entry, "impact")?);
+    asker.count(&shown)
+}
+
+// The query is the text, so many times over; the proof is so many bytes 0.
+fn play_input(
+    threads: &(impl Threads + Sync),
+    asker: &mut Asker,
+    entry: &Value,
+) -> Result<(), Fault> {
+    let query = repeated(asker.alloc, text(entry, "text")?, whole(entry, "times")?)?;
+    let proof = vec![in asker.alloc; 0u8; whole(entry, "zeros")? as usize]?;
+    let question = Question {
+        root: NO_ROOT,
+        r: whole(entry, "r")?,
+        query: query.as_str(),
+    };
+    let about = entry.to_string(asker.alloc)?;
+    asker.verify(threads, about.as_str(), &question, &proof, entry)
+}
