@@ -22,6 +22,7 @@ ghost use Rattle.ats_client.specs.Strings.{hashed_header, strings_in, list_strin
 use crate::one_tree::OneTree;
 use crate::present::Present;
 use crate::presenting::present;
+use crate::taken::Taken;
 use crate::walk::Walk;
 use ats_commit::{OwnStrings, root_of_header, string_of_header};
 use ats_hash::{Hash32, Steps};
@@ -45,7 +46,8 @@ pub struct Clash {
 
 /// The first clash between an archive's own strings and those that rebuilding a proof hashes: the header's
 /// string comes first, then those of the dictionary, of each shown list in the order of terms, of the documents
-/// tree, and of each met document's terms. It takes no memory.
+/// tree, and of each met document's terms. Sections that are all the archive's own are not hashed; where there is
+/// no memory for comparing them, they are.
 pub fn first_clash<'a, H: Hash32, O: OwnStrings<H>>(
     alloc: Global,
     own: &O,
@@ -116,7 +118,7 @@ fn header<'a, H: Hash32, O: OwnStrings<H>>(
 }
 
 // The strings of one tree, which rebuilds.
-fn in_tree<'a, H: Hash32, O: OwnStrings<H>, R: Revealed<'a>>(
+fn in_tree<'a, H: Hash32, O: OwnStrings<H>, R: Revealed<'a> + Copy>(
     own: &O,
     query: &Query,
     tree: Tree,
@@ -133,6 +135,14 @@ fn in_tree<'a, H: Hash32, O: OwnStrings<H>, R: Revealed<'a>>(
     ensures place { IfSome result HasPlace }
     ensures cost { steps.new ≤ steps.old + 2 ^ 35 }
 {
+    let mut taken = Taken {
+        section: *revealed,
+        lends: PhantomData,
+    };
+    // What is all the archive's own need not be hashed.
+    if own.has_shown(tree, leaves, query, &mut taken) {
+        return None;
+    }
     let nodes: OneTree<'_, H, O> = OneTree {
         own,
         query,

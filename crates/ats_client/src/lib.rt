@@ -36,6 +36,7 @@ mod rows;
 mod section;
 mod settled;
 mod slots;
+mod taken;
 mod term;
 mod verifying;
 mod walk;

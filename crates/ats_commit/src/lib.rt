@@ -7,7 +7,8 @@
 //! The room stands on `ats_lists`, `ats_doctree` and `ats_dict`, which make the leaves of those trees, and
 //! says from plain definitions over the archive what they are together. The contracts promise the root of a
 //! header in one step, and the leaves of the documents and texts trees byte by byte. [`OwnStrings`] is the
-//! contract of whoever has an archive and tells the strings of its trees. The laws say what the
+//! contract of whoever has an archive and tells the strings of its trees, and whether what a proof shows of a tree
+//! ([`ShownTree`]) is its own. The laws say what the
 //! definitions mean. How leaves are lent may change without asking; the bytes may not.
 #![tactic(auto)]
 
@@ -19,10 +20,12 @@ pub use laws::{
     own_leaves_tell_lists, own_strings_stand_in_trees, roots_bind_headers,
 };
 pub use own_strings::OwnStrings;
+pub use shown_tree::ShownTree;
 pub use texts::TextLeaves;
 
 mod commitment;
 mod documents;
 mod laws;
 mod own_strings;
+mod shown_tree;
 mod texts;

@@ -1,13 +1,16 @@
 //! The strings of an archive's own trees, by their places.
 
-ghost use Rattle.std.specs.Prelude.{◌≡◌, ◌≤◌};
+ghost use Rattle.std.specs.Prelude.{◌≡◌, ◌≤◌, length, All, IsTrue};
+ghost use Rattle.ats_tree.specs.Differences.{IsOurs};
+ghost use Rattle.ats_tree.specs.Strings.{node_strings};
 ghost use Rattle.ats_commit.specs.Archive.{Archive};
 ghost use Rattle.ats_commit.specs.Ours.{ours};
 ghost use Rattle.ats_commit.specs.Places.{tree_place, IsOfQuery};
 
+use crate::shown_tree::ShownTree;
 use ats_hash::Hash32;
 use ats_terms::Query;
-use ats_tree::{HashedString, Place};
+use ats_tree::{HashedString, Place, Tree};
 
 /// Who has an archive, and so the byte strings that are hashed in its trees.
 pub trait OwnStrings<H: Hash32> {
@@ -20,4 +23,16 @@ pub trait OwnStrings<H: Hash32> {
         requires shallow { place.now.depth ≤ 32 }
         requires asked { IsOfQuery query.now place.now.tree }
         ensures { result ≡ ours H.hash (archive self.now) query.now (tree_place place.now) };
+
+    /// Whether what is shown of a tree of `n` leaves is the archive's own, by comparing alone: nothing is hashed.
+    /// A yes is certain, and spares whoever asks the search of the tree. A no is always allowed, and decides nothing: it is
+    /// the answer of who does not look, and where memory is wanted for looking.
+    fn has_shown<S: ShownTree>(&self, tree: Tree, n: u32, query: &Query, shown: &mut S) -> bool
+        requires asked { IsOfQuery query.now tree }
+        requires short { All (λ s. length s.1 ≤ 127) (S.shown shown.old) }
+        ensures { IsTrue result → All (IsOurs (λ node. ours H.hash (archive self.now) query.now (record { tree = tree; node = node })))
+            (node_strings H.hash n (S.shown shown.old) (S.digests shown.old)) }
+    {
+        false
+    }
 }

@@ -14,3 +14,4 @@ pub mod TermBytes
 pub mod Vocabulary
 pub mod Size
 pub mod StringLemmas
+pub mod ShownLemmas

@@ -43,7 +43,7 @@ use std::thread::Threads;
 /// It keeps its allocator, and the digests of all nodes of its trees but that of the texts: about 64 bytes a leaf.
 #[derive(Drop)]
 pub struct Index<H: HashKind> {
-    alloc: Global,
+    pub(crate) alloc: Global,
     collection: Collection,
     lists: Lists,
     dictionary: Dictionary,

@@ -22,6 +22,7 @@ mod load;
 mod memory;
 mod parallel;
 mod read;
+mod shown;
 mod strings;
 mod write;
 

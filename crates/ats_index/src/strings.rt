@@ -1,6 +1,8 @@
 //! The strings of an index's own trees, by their places.
 
-ghost use Rattle.std.specs.Prelude.{◌≡◌, ◌≤◌, []};
+ghost use Rattle.std.specs.Prelude.{◌≡◌, ◌≤◌, [], length, All, IsTrue};
+ghost use Rattle.ats_tree.specs.Differences.{IsOurs};
+ghost use Rattle.ats_tree.specs.Strings.{node_strings};
 ghost use Rattle.ats_tree.specs.Nodes.{by_path};
 ghost use Rattle.ats_tree.specs.Paths.{path_of};
 ghost use Rattle.ats_tree.specs.declared.hashed.Tree.TheVariants.{Header as HeaderTree, Documents as DocumentsTree, Terms as TermsTree};
@@ -10,7 +12,8 @@ ghost use Rattle.ats_commit.specs.Ours.{own_string, ours};
 ghost use Rattle.ats_commit.specs.Places.{tree_place, IsOfQuery};
 
 use crate::index::Index;
-use ats_commit::{DocLeaves, OwnStrings, string_of_header};
+use crate::shown::is_own;
+use ats_commit::{DocLeaves, OwnStrings, ShownTree, string_of_header};
 use ats_hash::Hash32;
 use ats_lists::ListLeaves;
 use ats_terms::Query;
@@ -90,6 +93,49 @@ impl<H: Hash32> Index<H> {
         self.doc_nodes(doc)
             .string_at::<H, _>(leaves, place.depth, place.turns)
     }
+
+    // Whether what is shown of a term's list is its own.
+    fn has_entries<S: ShownTree>(&self, term: &[u8], n: u32, shown: &mut S) -> bool
+        requires short { All (λ s. length s.1 ≤ 127) (S.shown shown.old) }
+        ensures { IsTrue result → All (IsOurs (list_string H.hash self.now.layout (list self.now.texts term.now)))
+            (node_strings H.hash n (S.shown shown.old) (S.digests shown.old)) }
+    {
+        let lists = self.lists();
+        match lists.find(term) {
+            Some(i) => {
+                let entries = lists.list(i);
+                let leaves = ListLeaves { entries };
+                is_own::<H, _, S>(self.alloc, self.list_nodes(i), &leaves, n, shown)
+            }
+            None => false,
+        }
+    }
+
+    // Whether what is shown of the documents tree is its own.
+    fn has_documents<S: ShownTree>(&self, n: u32, shown: &mut S) -> bool
+        requires short { All (λ s. length s.1 ≤ 127) (S.shown shown.old) }
+        ensures { IsTrue result → All (IsOurs (own_string H.hash self.now [] DocumentsTree))
+            (node_strings H.hash n (S.shown shown.old) (S.digests shown.old)) }
+    {
+        let leaves = DocLeaves {
+            leaves: self.doc_leaves(),
+        };
+        is_own::<H, _, S>(self.alloc, self.docs_nodes(), &leaves, n, shown)
+    }
+
+    // Whether what is shown of a document's terms is its own.
+    fn has_terms<S: ShownTree>(&self, doc: u32, n: u32, shown: &mut S) -> bool
+        requires short { All (λ s. length s.1 ≤ 127) (S.shown shown.old) }
+        ensures { IsTrue result → All (IsOurs (own_string H.hash self.now [] (TermsTree doc)))
+            (node_strings H.hash n (S.shown shown.old) (S.digests shown.old)) }
+    {
+        if doc < self.collection().documents() {
+            let leaves = self.doc_terms(doc);
+            is_own::<H, _, S>(self.alloc, self.doc_nodes(doc), leaves, n, shown)
+        } else {
+            false
+        }
+    }
 }
 
 impl<H: Hash32> OwnStrings<H> for Index<H> {
@@ -97,5 +143,18 @@ impl<H: Hash32> OwnStrings<H> for Index<H> {
 
     fn hashed_string(&self, place: &Place, query: &Query) -> Option<HashedString> {
         Index::<H>::hashed_string(self, place, query)
+    }
+
+    fn has_shown<S: ShownTree>(&self, tree: Tree, n: u32, query: &Query, shown: &mut S) -> bool {
+        match tree {
+            Tree::Header => false,
+            Tree::Dictionary => {
+                let leaves = self.dictionary();
+                is_own::<H, _, S>(self.alloc, self.dict_nodes(), leaves, n, shown)
+            }
+            Tree::List { term } => self.has_entries(query.term(term as usize), n, shown),
+            Tree::Documents => self.has_documents(n, shown),
+            Tree::Terms { doc } => self.has_terms(doc, n, shown),
+        }
     }
 }

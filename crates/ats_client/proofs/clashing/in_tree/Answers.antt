@@ -1,5 +1,8 @@
-use Rattle.std.proofs.Common.{List, ℕ, Some, None}
+use Rattle.std.proofs.Common.{None, sym}
+use Rattle.ats_tree.specs.Strings.{node_strings}
+use Rattle.ats_tree.proofs.OwnStrings.{own-none}
 use Rattle.ats_commit.specs.Ours.{ours}
+use Rattle.ats_client.specs.Strings.{in_tree}
 use Rattle.ats_client.proofs.Sections.{in_one_tree}
 use Rattle.ats_client.proofs.clashing.in_tree.Goals as goal
 
@@ -10,3 +13,11 @@ returns-in-Some-clause-clash g c =
 pub returns-in-None-clause-clash : goal.returns-in-None-clause-clash
 returns-in-None-clause-clash g c =
     in_one_tree g.H.HashKind.hash (ours g.H.HashKind.hash (g.O.OwnStrings.archive c.args.own.now) c.args.query.now) c.args.tree _ None c.in-None.ensures.clash
+
+pub returns-then-has_shown-clause-clash : goal.returns-then-has_shown-clause-clash
+returns-then-has_shown-clause-clash g c =
+    let H = g.H.HashKind.hash in
+    let own = ours H (g.O.OwnStrings.archive c.args.own.now) c.args.query.now in
+    let strings = node_strings H c.args.leaves (g.R.Revealed.shown c.args.revealed.now) (g.R.Revealed.digests c.args.revealed.now) in
+    in_one_tree H own c.args.tree strings None
+    (sym (own-none H (λ node. own (in_tree c.args.tree node)) strings (c.has_shown.ensures c.if-has_shown.true)))
