@@ -2,7 +2,7 @@
 
 use crate::fault::Fault;
 use crate::files;
-use crate::said::{number, words};
+use crate::said::{number, two, words};
 use crate::shown::Shown;
 use crate::stage::Stage;
 use crate::tally::Tally;
@@ -92,6 +92,7 @@ impl Player {
         match verb {
             "status" => self.want_status(rest),
             "part" => self.shown()?.want(rest),
+            "lines" => self.want_lines(rest),
             "holds" | "size" | "none" | "wrote" => self.want_file(verb, rest),
             _ => self.prepare(verb, rest),
         }
@@ -100,6 +101,19 @@ impl Player {
     fn want_status(&mut self, rest: &str) -> Result<(), Fault> {
         let status = rest.parse::<u8>().map_err(|_| Fault::Unread)?;
         self.shown()?.want_status(status);
+        Ok(())
+    }
+
+    // `COUNT TEXT`: so many lines, each with its number.
+    fn want_lines(&mut self, rest: &str) -> Result<(), Fault> {
+        let (count, text) = two(rest)?;
+        let alloc = self.alloc;
+        let shown = self.shown()?;
+        for at in 0..number(count)? {
+            let place = at + 1;
+            let line = format!(in alloc; "{place} {text}\n")?;
+            shown.want(line.as_str())?;
+        }
         Ok(())
     }
 

@@ -24,7 +24,7 @@ use Rattle.ats_top.specs.Stops.{status_of_stop}
 use Rattle.ats_top.specs.declared.stops.InputRefusal.{InputRefusal}
 use Rattle.ats_top.specs.declared.stops.PeerFault.{PeerFault}
 use Rattle.ats_top.specs.declared.stops.Stop.{Stop}
-use Rattle.ats_top.specs.declared.stops.Stop.TheVariants.{Usage, Shelf, Input, Rejected, Memory, Link, Peer, Faults, Collision}
+use Rattle.ats_top.specs.declared.stops.Stop.TheVariants.{Usage, Shelf, Input, Rejected, Memory, Link, Peer, Faults, Collision, Swept}
 use Rattle.ats_top.proofs.Refused.{ranking_kept}
 use Rattle.ats_top.proofs.Conversing.{one_reply}
 
@@ -64,6 +64,7 @@ module _ (H : List ℕ → List ℕ) (before now : CallerTold) (words : AskWords
     bytes_stop (Peer fault) stops = absurd stops
     bytes_stop (Faults count) stops = absurd stops
     bytes_stop (Collision place ours theirs) stops = absurd stops
+    bytes_stop (Swept lines collides) stops = absurd stops
 
     -- bytes that were refused
     pub bytes_stops : {T : Type 0} (result : Result T Stop) → IfErr result (BytesStop H words.root query words.r bytes)
@@ -107,6 +108,7 @@ module _ (H : List ℕ → List ℕ) (before now : CallerTold) (words : AskWords
   refused_asks refusal cause (Peer fault) stops = absurd (asked_refused stops.asks refusal cause)
   refused_asks refusal cause (Faults count) stops = absurd stops
   refused_asks refusal cause (Collision place ours theirs) stops = absurd stops
+  refused_asks refusal cause (Swept lines collides) stops = absurd stops
 
   module _ (tells : IsSome before.content) where
     same_bytes : (query other : List (List ℕ × ℕ)) (bytes more : List ℕ) → IsReplied before now words query bytes → IsReplied before now words other more → bytes ≡ more
@@ -157,6 +159,7 @@ module _ (H : List ℕ → List ℕ) (before now : CallerTold) (words : AskWords
     stop_decides k decides (Peer fault) stops = fault_decides k decides fault stops
     stop_decides k decides (Faults count) stops = absurd stops
     stop_decides k decides (Collision place ours theirs) stops = absurd stops
+    stop_decides k decides (Swept lines collides) stops = absurd stops
 
     -- a status that a reply may decide is no other
     comes_one : (k status : ℕ) → (status ≡ 0) ⊎ ((status ≡ 1) ⊎ (status ≡ 9)) → Comes k status → k ≡ status

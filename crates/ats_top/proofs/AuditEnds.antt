@@ -26,8 +26,9 @@ use Rattle.ats_top.specs.Run.{FilesStop}
 use Rattle.ats_top.specs.declared.stops.InputRefusal.{InputRefusal}
 use Rattle.ats_top.specs.declared.stops.InputRefusal.TheVariants.{FileTooLong, BadIndex}
 use Rattle.ats_top.specs.declared.stops.Stop.{Stop}
-use Rattle.ats_top.specs.declared.stops.Stop.TheVariants.{Usage, Shelf, Input, Rejected, Memory, Link, Peer, Faults, Collision}
-use Rattle.ats_top.proofs.Refused.{one_file, ranking_kept, index_kept}
+use Rattle.ats_top.specs.declared.stops.Stop.TheVariants.{Usage, Shelf, Input, Rejected, Memory, Link, Peer, Faults, Collision, Swept}
+use Rattle.ats_top.proofs.ToldFiles.{one_file, index_kept}
+use Rattle.ats_top.proofs.Refused.{ranking_kept}
 use Rattle.ats_top.proofs.Rejecting.{told_archive}
 
 -- a stop that is passed on keeps its cause
@@ -54,6 +55,7 @@ module _ (H : List ℕ → List ℕ) (before now : ShelfTold) (words : AuditWord
   index_stops (Peer fault) stops = absurd stops
   index_stops (Faults count) stops = absurd stops
   index_stops (Collision place ours theirs) stops = absurd stops
+  index_stops (Swept lines collides) stops = absurd stops
 
 module _ (H : List ℕ → List ℕ) (before mid now : ShelfTold) (words : AuditWords) (asks : AsksRanking words.r words.query) (was : mid.files ≡ before.files) (same : now.files ≡ mid.files)
     (archive : Archive) (index : HasIndex H before.files words.index archive) where
@@ -73,6 +75,7 @@ module _ (H : List ℕ → List ℕ) (before mid now : ShelfTold) (words : Audit
   proof_stops later (Peer fault) stops = absurd stops
   proof_stops later (Faults count) stops = absurd stops
   proof_stops later (Collision place ours theirs) stops = absurd stops
+  proof_stops later (Swept lines collides) stops = absurd stops
 
   module _ (query : List (List ℕ × ℕ)) (bytes : List ℕ) (asked : IsQueryOf words.query query) (gathered : IsFile mid.files words.proof (2 ^ 26) bytes) where
     file : IsFile before.files words.proof (2 ^ 26) bytes
@@ -88,6 +91,7 @@ module _ (H : List ℕ → List ℕ) (before mid now : ShelfTold) (words : Audit
     verdict_stop Link stops = absurd stops
     verdict_stop (Peer fault) stops = absurd stops
     verdict_stop (Faults count) stops = absurd stops
+    verdict_stop (Swept lines collides) stops = absurd stops
     verdict_stop (Collision place ours theirs) (found, turns) =
         let two = extract-collides H archive query found.proof _ found.found in (
           record {
@@ -153,7 +157,7 @@ one_audited H files words a b told x y =
     let alike : extract H x.archive x.query x.proof ≡ extract H y.archive y.query y.proof = cc in
     sym x.is ∙ alike ∙ y.is
 
-other_found : (collision : Difference TreePlace) → None ≡ Some collision → ⊥
+pub other_found : (collision : Difference TreePlace) → None ≡ Some collision → ⊥
 other_found collision is = cc
 
 module _ (H : List ℕ → List ℕ) where

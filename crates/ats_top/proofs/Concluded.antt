@@ -1,27 +1,31 @@
 -- What follows from how a command ended and what it printed.
-use Rattle.std.proofs.Common.{◌≡◌, ◌≢◌, ◌⊎◌, ◌≤◌, ◌∙◌, ℕ, List, length, Some, None, IsSome, refl, sym, ap, subst, inl, inr, arith, take_all}
+use Rattle.std.proofs.Common.{◌≡◌, ◌≢◌, ◌⊎◌, ◌≤◌, ◌∙◌, ℕ, Bool, true, false, List, length, string_bytes, String, Global, Some, None, IsSome, refl, sym, ap, subst, inl, inr, arith, take_all, if◌then◌else◌}
 use Rattle.ats_base.specs.Outside.{Rose, ShelfTold, Asked, Puts}
 use Rattle.ats_tree.specs.Differences.{Difference}
 use Rattle.ats_commit.specs.Ours.{TreePlace}
 use Rattle.ats_client.specs.declared.fault.Rejection.{Rejection}
-use Rattle.ats_top.specs.Words.{TrialWords, Command, Rank, Build, Root, Prove, Verify, Ask, Serve, Audit, Trial, command_of}
+use Rattle.ats_top.specs.Words.{SweepWords, TrialWords, Command, Rank, Build, Root, Prove, Verify, Ask, Serve, Audit, Sweep, Trial, command_of}
 use Rattle.ats_top.specs.Stops.{End, Done, Stopped, Unprinted, status_of, status_of_stop, text_of}
 use Rattle.ats_top.specs.Outside.{Outside}
 use Rattle.ats_top.specs.Read.{Files, IsTold}
 use Rattle.ats_top.specs.Calling.{HasCalled, HasOpened, ReplyDecides}
-use Rattle.ats_top.specs.Reading.{reads, AsksFor, IsFirstMissing, Serves}
+use Rattle.ats_top.specs.Reading.{reads, AsksFor, IsFirstMissing, ReadsAlone, Serves}
 use Rattle.ats_top.specs.Refusals.{NeedsShelf, LacksFile, IsRefused}
 use Rattle.ats_top.specs.Rejected.{IsRejected}
 use Rattle.ats_top.specs.Audited.{HasCollision}
 use Rattle.ats_top.specs.Done.{IsDone, PutsPart, Changes, HasInput, IsServed}
+use Rattle.ats_top.specs.Findings.{Finding, AreFound, IsSwept, SweepStops, status_of_findings}
 use Rattle.ats_top.specs.Trial.{IsTrialServed, IsTrialRefused}
 use Rattle.ats_top.specs.Run.{Said, HasShelfCause, IsStopped, Ends, Ended, IsStatus, SinkFailed, DoorFailed, LinkFailed, Failed, TookAll, HasTried, Ran}
 use Rattle.ats_top.specs.declared.stops.InputRefusal.{InputRefusal}
 use Rattle.ats_top.specs.declared.stops.Stop.{Stop}
-use Rattle.ats_top.specs.declared.stops.Stop.TheVariants.{Usage, Shelf, Input, Rejected, Memory, Link, Peer, Faults, Collision}
+use Rattle.ats_top.specs.declared.stops.Stop.TheVariants.{Usage, Shelf, Input, Rejected, Memory, Link, Peer, Faults, Collision, Swept}
 use Rattle.ats_top.proofs.Refused.{served_kept, done_kept, missing_kept, input_there, served_input, trial_asks, trial_kept, trial_done_kept}
 use Rattle.ats_top.proofs.LinkEnds.{links_there, links_refused, links_rejected, links_collided, links_served, links_files, unprinted_files, replied_stop, replied_done}
 use Rattle.ats_top.proofs.Rejecting.{input_kept, rejected_there, rejected_kept}
+use Rattle.ats_top.proofs.SweepKept.{found_kept}
+use Rattle.ats_top.proofs.OneSweep.{one_sweep_status}
+use Rattle.ats_top.proofs.SweepEnds.{never_right, swept_input, swept_kept, swept_unrejected, swept_uncollided, swept_unserved}
 use Rattle.ats_top.proofs.AuditEnds.{collision_input, collision_kept, collision_unserved, collision_undone}
 
 -- the words of a command are one
@@ -42,6 +46,7 @@ never_done Link = omega arith
 never_done (Peer fault) = omega arith
 never_done (Faults count) = omega arith
 never_done (Collision place ours theirs) = omega arith
+never_done (Swept lines collides) = never_right collides
 
 -- each end has a status
 has_status : (end : End) → IsStatus (status_of end)
@@ -51,6 +56,8 @@ has_status (Stopped text Usage) = inr (inr (inl refl))
 has_status (Stopped text Shelf) = inr (inr (inr (inl refl)))
 has_status (Stopped text (Input refusal)) = inr (inr (inr (inr (inl refl))))
 has_status (Stopped text (Collision place ours theirs)) = inr (inr (inr (inr (inr (inl refl)))))
+has_status (Stopped text (Swept lines false)) = inr (inl refl)
+has_status (Stopped text (Swept lines true)) = inr (inr (inr (inr (inr (inl refl)))))
 has_status (Stopped text Memory) = inr (inr (inr (inr (inr (inr (inl refl))))))
 has_status (Unprinted text) = inr (inr (inr (inr (inr (inr (inr (inl refl)))))))
 has_status (Stopped text Link) = inr (inr (inr (inr (inr (inr (inr (inr (inl refl))))))))
@@ -78,6 +85,7 @@ done_input H before now (Ask words) text (answered, same) = answered.accepted.re
 done_input H before now (Verify words) text (verified, same) = (verified.asks, verified.accepted)
 done_input H before now (Serve words) text (all, same) = (all.served.archive, all.served.index)
 done_input H before now (Audit words) text (right, same) = (right.asks, (None, right.audited))
+done_input H before now (Sweep words) text (swept, same) = (swept.findings, swept.found)
 done_input H before now (Trial words) text (tried, same) = trial_asks H words.number text tried
 
 -- all bytes are a prefix of them
@@ -110,6 +118,7 @@ done_changes H before now (Ask words) text (answered, same) = inl same
 done_changes H before now (Verify words) text (verified, same) = inl same
 done_changes H before now (Serve words) text (all, same) = inl same
 done_changes H before now (Audit words) text (right, same) = inl same
+done_changes H before now (Sweep words) text (swept, same) = inl same
 done_changes H before now (Trial words) text (tried, same) = inl same
 
 -- of a run
@@ -138,6 +147,7 @@ module _ (H : List ℕ → List ℕ) (said : List (List ℕ)) (before now : Outs
   unsaid_end none (Stopped text (Peer fault)) printed ends = absurd (no_command said ends.0 none ends.1)
   unsaid_end none (Stopped text (Faults count)) printed ends = absurd (no_command said ends.0 none ends.1)
   unsaid_end none (Stopped text (Collision place ours theirs)) printed ends = absurd (no_command said ends.0 none ends.1)
+  unsaid_end none (Stopped text (Swept lines collides)) printed ends = absurd (no_command said ends.0 none ends.1)
 
   -- what the status is of what the command of the words did, and of why it stopped, it is of their end
   module _ (P : ℕ → Type 0) (command : Command) (is : command_of said ≡ Some command)
@@ -158,6 +168,7 @@ module _ (H : List ℕ → List ℕ) (said : List (List ℕ)) (before now : Outs
     by_end (Stopped text (Peer fault)) printed ends = stop_end text (Peer fault) ends
     by_end (Stopped text (Faults count)) printed ends = stop_end text (Faults count) ends
     by_end (Stopped text (Collision place ours theirs)) printed ends = stop_end text (Collision place ours theirs) ends
+    by_end (Stopped text (Swept lines collides)) printed ends = stop_end text (Swept lines collides) ends
 
   -- of the command of these words
   module _ (command : Command) where
@@ -174,6 +185,8 @@ module _ (H : List ℕ → List ℕ) (said : List (List ℕ)) (before now : Outs
     missing_stop lacks text (Faults count) (inl stops) = absurd stops.1
     missing_stop lacks text (Collision place ours theirs) (inl stops) =
         absurd (input_there H before.shelf.files command (collision_input H before.shelf.files command _ stops.1.0.collision) lacks)
+    missing_stop lacks text (Swept lines collides) (inl stops) =
+        absurd (input_there H before.shelf.files command (swept_input H before.shelf.files command (string_bytes lines) collides stops.1.0) lacks)
     missing_stop lacks text stop (inr links) = absurd (links_there H before now command text stop links lacks)
 
     -- a fault of the shelf, where no file is missing
@@ -194,6 +207,8 @@ module _ (H : List ℕ → List ℕ) (said : List (List ℕ)) (before now : Outs
     refused_stop told refusal cause text (Faults count) (inl stops) = absurd stops.1
     refused_stop told refusal cause text (Collision place ours theirs) (inl stops) =
         absurd (collision_kept H before.shelf.files command _ told stops.1.0.collision refusal cause)
+    refused_stop told refusal cause text (Swept lines collides) (inl stops) =
+        absurd (swept_kept H before.shelf.files command (string_bytes lines) collides told stops.1.0 refusal cause)
     refused_stop told refusal cause text stop (inr links) = elim (links_refused H before now command text stop told links refusal cause) [
       | inl is ↦ inl is
       | inr memory ↦ inr (inl memory)
@@ -212,6 +227,8 @@ module _ (H : List ℕ → List ℕ) (said : List (List ℕ)) (before now : Outs
     rejected_stop told rejection cause text (Faults count) (inl stops) = absurd stops.1
     rejected_stop told rejection cause text (Collision place ours theirs) (inl stops) =
         absurd (input_kept H before.shelf.files command told (collision_input H before.shelf.files command _ stops.1.0.collision) rejection cause)
+    rejected_stop told rejection cause text (Swept lines collides) (inl stops) =
+        absurd (swept_unrejected H before.shelf.files command (string_bytes lines) collides stops.1.0 rejection cause)
     rejected_stop told rejection cause text stop (inr links) = absurd (links_rejected H before now command text stop links rejection cause)
 
     -- a proof that has a collision is told by no other run
@@ -228,6 +245,8 @@ module _ (H : List ℕ → List ℕ) (said : List (List ℕ)) (before now : Outs
     collided_stop told collision has text (Peer fault) (inl stops) = absurd stops.1
     collided_stop told collision has text (Faults count) (inl stops) = absurd stops.1
     collided_stop told collision has text (Collision place ours theirs) (inl stops) = inl refl
+    collided_stop told collision has text (Swept lines collides) (inl stops) =
+        absurd (swept_uncollided H before.shelf.files command (string_bytes lines) collides stops.1.0 collision has)
     collided_stop told collision has text stop (inr links) = absurd (links_collided H before now command text stop links collision has)
 
     -- what is within the limits is done, unless memory is wanted or the shelf or the door failed
@@ -244,6 +263,8 @@ module _ (H : List ℕ → List ℕ) (said : List (List ℕ)) (before now : Outs
     served_stop told served text (Peer fault) (inl stops) = absurd stops.1
     served_stop told served text (Faults count) (inl stops) = absurd stops.1
     served_stop told served text (Collision place ours theirs) (inl stops) = absurd (collision_unserved H before.shelf.files command _ told stops.1.0.collision served)
+    served_stop told served text (Swept lines collides) (inl stops) =
+        absurd (swept_unserved H before.shelf.files command (string_bytes lines) collides told stops.1.0 served)
     served_stop told served text stop (inr links) = elim (links_served H before now command text stop links served) [
       | inl memory ↦ inr (inr (inl memory))
       | inr door ↦ inl door
@@ -262,6 +283,7 @@ module _ (H : List ℕ → List ℕ) (said : List (List ℕ)) (before now : Outs
     files_stop text (Peer fault) (inl stops) = absurd stops.1
     files_stop text (Faults count) (inl stops) = absurd stops.1
     files_stop text (Collision place ours theirs) (inl stops) = inl stops.1.1
+    files_stop text (Swept lines collides) (inl stops) = inl stops.1.1
     files_stop text stop (inr links) = inl (links_files H before now command text stop links)
 
   missing_end : Said said (λ command. LacksFile H before.shelf.files command) → (end : End) → IsPrinted end → Ends H before now said end
@@ -300,11 +322,42 @@ module _ (H : List ℕ → List ℕ) (said : List (List ℕ)) (before now : Outs
     trial_stop text (Peer fault) (inl stops) = absurd stops.1
     trial_stop text (Faults count) (inl stops) = absurd stops.1
     trial_stop text (Collision place ours theirs) (inl stops) = absurd stops.1.0.collision
+    trial_stop text (Swept lines collides) (inl stops) = absurd stops.1.0
     trial_stop text stop (inr links) = absurd links
 
     trial_end : command_of said ≡ Some (Trial words) → ((text : List ℕ) → IsDone H before now (Trial words) text → P 0)
         → (end : End) → IsPrinted end → Ends H before now said end → P (status_of end)
     trial_end is done = by_end P (Trial words) is done trial_stop
+
+  -- a sweep comes to the status of what it finds
+  module _ (words : SweepWords) (told : IsTold before.shelf.files) (findings : List Finding) (found : AreFound H before.shelf.files words findings) where
+    abbrev Sweeps : ℕ → Type 0
+    Sweeps status = Comes (status_of_findings findings) status
+
+    sweeps : (text : List ℕ) (status : ℕ) → IsSwept H before.shelf.files words status text → Sweeps status
+    sweeps text status swept = inl (sym swept.comes ∙ one_sweep_status H before.shelf.files words swept.findings findings told swept.found found)
+
+    -- the status of not all being right
+    sweeps_so : (text : List ℕ) (lines : String Global) (collides : Bool) → IsSwept H before.shelf.files words (if collides then 5 else 1) text
+        → Sweeps (status_of_stop (Swept lines collides))
+    sweeps_so text lines collides swept = sweeps text (if collides then 5 else 1) swept
+
+    sweep_stop : (text : List ℕ) (stop : Stop) → IsStopped H before now (Sweep words) text stop → Sweeps (status_of_stop stop)
+    sweep_stop text Usage (inl stops) = absurd stops.1
+    sweep_stop text Shelf (inl stops) =
+        shelf_stop (Sweep words) (status_of_findings findings) (λ lacks. input_there H before.shelf.files (Sweep words) (findings, found) lacks) stops.1.0
+    sweep_stop text (Input refusal) (inl stops) = absurd (found_kept H before.shelf.files words findings told found refusal stops.1.0)
+    sweep_stop text (Rejected rejection) (inl stops) = absurd stops.1.0
+    sweep_stop text Memory (inl stops) = inr (inl refl)
+    sweep_stop text Link (inl stops) = absurd stops.1
+    sweep_stop text (Peer fault) (inl stops) = absurd stops.1
+    sweep_stop text (Faults count) (inl stops) = absurd stops.1
+    sweep_stop text (Collision place ours theirs) (inl stops) = absurd stops.1.0.collision
+    sweep_stop text (Swept lines collides) (inl stops) = sweeps_so (string_bytes lines) lines collides stops.1.0
+    sweep_stop text stop (inr links) = absurd links
+
+    sweep_end : command_of said ≡ Some (Sweep words) → (end : End) → IsPrinted end → Ends H before now said end → Sweeps (status_of end)
+    sweep_end is = by_end Sweeps (Sweep words) is (λ text done. sweeps text 0 done.0) sweep_stop
 
   -- the status that a reply decides
   abbrev Replies : ℕ → ℕ → Type 0
@@ -335,6 +388,7 @@ module _ (H : List ℕ → List ℕ) (said : List (List ℕ)) (before now : Outs
   files_end (Stopped text (Peer fault)) ends = stop_files text (Peer fault) ends
   files_end (Stopped text (Faults count)) ends = stop_files text (Faults count) ends
   files_end (Stopped text (Collision place ours theirs)) ends = stop_files text (Collision place ours theirs) ends
+  files_end (Stopped text (Swept lines collides)) ends = stop_files text (Swept lines collides) ends
   files_end (Unprinted text) ends = inl (unprinted_files H before now ends.0 text ends.2)
 
   abbrev Served : Type 0
@@ -343,13 +397,17 @@ module _ (H : List ℕ → List ℕ) (said : List (List ℕ)) (before now : Outs
   abbrev Unread : Type 0
   Unread = Said said (λ command. NeedsShelf command → ⊥) → now.shelf ≡ before.shelf
 
+  -- by another status than those of what is done, and of a fault of the shelf or of the sink
+  abbrev StoredNone : ℕ → Type 0
+  StoredNone result = result ≢ 0 → result ≢ 3 → result ≢ 7 → (now.shelf ≡ before.shelf) ⊎ Said said (ReadsAlone before.shelf now.shelf)
+
   abbrev Called : Type 0
   Called = (now.caller ≡ before.caller) ⊎ Said said (HasCalled before.caller now.caller)
 
   abbrev Opened : Type 0
   Opened = (now.door ≡ before.door) ⊎ Said said (HasOpened before.door now.door)
 
-  asked : Served → (now.shelf ≡ before.shelf) ⊎ Said said (λ command. Asked before.shelf.asked now.shelf.asked (AsksFor command))
+  asked : Served → (now.shelf ≡ before.shelf) ⊎ Said said (λ command. Asked before.shelf.asked now.shelf.asked (AsksFor before.shelf.files command))
   asked (inl same) = inl same
   asked (inr serves) = inr (serves.0, serves.1, serves.2.asked)
 
@@ -433,8 +491,8 @@ module _ (H : List ℕ → List ℕ) (said : List (List ℕ)) (before now : Outs
       | inr sinks ↦ inr (inr (inr (inr (inr (inr (inr (inl sinks.0)))))))
     ]
 
-    pub ran : Ended H said before now result → Served → Unread → Called → Opened → before.sink.faults ≤ now.sink.faults → Ran H said before now result
-    ran ended served unread called opened sink_later = record {
+    pub ran : Ended H said before now result → Served → Unread → Called → Opened → before.sink.faults ≤ now.sink.faults → StoredNone result → Ran H said before now result
+    ran ended served unread called opened sink_later unstored = record {
       ended = ended;
       status = status ended;
       done = done ended;
@@ -444,11 +502,14 @@ module _ (H : List ℕ → List ℕ) (said : List (List ℕ)) (before now : Outs
       rejected = λ told rejection. with_faults 1 (tells (Comes 1) ended (rejected_end told rejection));
       collided = λ told collision. with_faults 5 (tells (Comes 5) ended (collided_end told collision));
       complete = λ told asks. with_door (tells IsServedBy ended (served_end told asks));
+      swept = λ told words is findings found. with_faults (status_of_findings findings)
+          (tells (Comes (status_of_findings findings)) ended (sweep_end words told findings found is));
       tried = tried ended;
       replied = λ content k decides. with_link k (tells (Replies k) ended (replied_end content k decides));
       files = files_end ended.end ended.ends;
       asked = asked served;
       unread = unread;
+      unstored = unstored;
       called = called;
       opened = opened;
       uncounted = uncounted served;

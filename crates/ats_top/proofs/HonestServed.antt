@@ -27,36 +27,37 @@ verify_said : (root digest r query name : List ℕ) (rows : ℕ) → root_word r
     → command_of (verify_words root r query name) ≡ Some (Verify (record { root = digest; r = rows; query = query; proof = name }))
 verify_said root digest r query name rows is_root is_rows = ap₂ (said_by query name) is_root is_rows
 
+-- the bytes of an honest proof are accepted under the archive's root
+pub bytes_accepted : (H : List ℕ → List ℕ) (archive : Archive) (asked : List (List ℕ × ℕ)) (rows : ℕ) (algorithm : Algorithm) (bytes : List ℕ)
+    → (proved : IsProved H archive asked rows algorithm bytes) → IsAcceptedBytes H (root_of H archive) asked rows bytes proved.proof
+bytes_accepted H archive asked rows algorithm bytes proved =
+    record { says = proved.spells; accepts = proved_accepted H archive asked rows algorithm bytes proved proved.proof proved.spells }
+
 pub honest_served : (H : List ℕ → List ℕ) (archive : Archive) (asked : List (List ℕ × ℕ)) (rows : ℕ) (algorithm : Algorithm) (bytes : List ℕ) (files : Files) (root r query name : List ℕ)
     → IsProved H archive asked rows algorithm bytes → IsFile files name (2 ^ 26) bytes → root_word root ≡ Some (root_of H archive)
     → number_of r ≡ Some rows → IsRowCount rows → IsQueryOf query asked
     → Said (verify_words root r query name) (IsServed H files)
-honest_served H archive asked rows algorithm bytes files root r query name proved file is_root is_rows within is_query =
-    let proof = proved.proof in (
-      Verify (record { root = root_of H archive; r = rows; query = query; proof = name }),
-      verify_said root (root_of H archive) r query name rows is_root is_rows,
-      (
-        record { rows = within; query = is_query.has },
-        record {
-          query = asked;
-          asked = is_query;
-          bytes = bytes;
-          file = file;
-          proof = proof;
-          accepted = record { says = proved.spells; accepts = proved_accepted H archive asked rows algorithm bytes proved proof proved.spells };
-        },
-      ),
-    )
+honest_served H archive asked rows algorithm bytes files root r query name proved file is_root is_rows within is_query = (
+  Verify (record { root = root_of H archive; r = rows; query = query; proof = name }),
+  verify_said root (root_of H archive) r query name rows is_root is_rows,
+  (
+    record { rows = within; query = is_query.has },
+    record {
+      query = asked;
+      asked = is_query;
+      bytes = bytes;
+      file = file;
+      proof = proved.proof;
+      accepted = bytes_accepted H archive asked rows algorithm bytes proved;
+    },
+  ),
+)
 
 pub honest_replied : (H : List ℕ → List ℕ) (archive : Archive) (asked : List (List ℕ × ℕ)) (algorithm : Algorithm) (bytes : List ℕ) (words : AskWords) (before now : CallerTold)
     → IsProved H archive asked words.r algorithm bytes → words.root ≡ root_of H archive → IsRowCount words.r → IsQueryOf words.query asked
     → Converses words.address (question_of words) before now (Ok bytes) → Decides H before now words 0
 honest_replied H archive asked algorithm bytes words before now proved same within is_query conversation =
     let proof = proved.proof in
-    let accepted : IsAcceptedBytes H (root_of H archive) asked words.r bytes proof = record {
-      says = proved.spells;
-      accepts = proved_accepted H archive asked words.r algorithm bytes proved proof proved.spells;
-    } in
     inl (
       refl,
       record {
@@ -64,6 +65,6 @@ honest_replied H archive asked algorithm bytes words before now proved same with
         bytes = bytes;
         replied = record { asks = record { rows = within; query = is_query.has }; asked = is_query; conversation = conversation };
         proof = proof;
-        accepted = subst (λ (root : List ℕ). IsAcceptedBytes H root asked words.r bytes proof) (sym same) accepted;
+        accepted = subst (λ (root : List ℕ). IsAcceptedBytes H root asked words.r bytes proof) (sym same) (bytes_accepted H archive asked words.r algorithm bytes proved);
       },
     )

@@ -5,7 +5,7 @@ use Rattle.ats_base.specs.Links.{CallerTold}
 use Rattle.ats_tree.specs.Differences.{Difference}
 use Rattle.ats_commit.specs.Ours.{TreePlace}
 use Rattle.ats_client.specs.declared.fault.Rejection.{Rejection}
-use Rattle.ats_top.specs.Words.{Command, Rank, Build, Root, Prove, Verify, Ask, AskWords, Serve, Audit, Trial}
+use Rattle.ats_top.specs.Words.{Command, Rank, Build, Root, Prove, Verify, Ask, AskWords, Serve, Audit, Sweep, Trial}
 use Rattle.ats_top.specs.Outside.{Outside}
 use Rattle.ats_top.specs.Read.{IsTold}
 use Rattle.ats_top.specs.Calling.{ReplyDecides}
@@ -18,7 +18,7 @@ use Rattle.ats_top.specs.Stops.{HasLine, status_of_stop}
 use Rattle.ats_top.specs.Run.{LinksStop, IsStopped, IsUnprinted, DoorFailed}
 use Rattle.ats_top.specs.declared.stops.InputRefusal.{InputRefusal}
 use Rattle.ats_top.specs.declared.stops.Stop.{Stop}
-use Rattle.ats_top.specs.declared.stops.Stop.TheVariants.{Usage, Shelf, Input, Rejected, Memory, Link, Peer, Faults, Collision}
+use Rattle.ats_top.specs.declared.stops.Stop.TheVariants.{Usage, Shelf, Input, Rejected, Memory, Link, Peer, Faults, Collision, Swept}
 use Rattle.ats_top.proofs.Refused.{served_kept, input_there}
 use Rattle.ats_top.proofs.Linked.{serving_index, serving_status, serving_line}
 use Rattle.ats_top.proofs.AskEnds as asking
@@ -36,6 +36,7 @@ module _ (H : List ℕ → List ℕ) (before now : Outside) where
   links_there (Serve words) text stop links lacks =
       input_there H before.shelf.files (Serve words) (serving_index H before.shelf.files words before.door now.door text stop links.0) lacks
   links_there (Audit words) text stop links lacks = links
+  links_there (Sweep words) text stop links lacks = links
   links_there (Trial words) text stop links lacks = links
 
   pub links_refused : (command : Command) (text : List ℕ) (stop : Stop) → IsTold before.shelf.files → LinksStop H before now command text stop
@@ -49,6 +50,7 @@ module _ (H : List ℕ → List ℕ) (before now : Outside) where
   links_refused (Serve words) text stop told links refusal cause =
       absurd (served_kept H before.shelf.files (Serve words) told (serving_index H before.shelf.files words before.door now.door text stop links.0) refusal cause)
   links_refused (Audit words) text stop told links refusal cause = absurd links
+  links_refused (Sweep words) text stop told links refusal cause = absurd links
   links_refused (Trial words) text stop told links refusal cause = absurd links
 
   pub links_rejected : (command : Command) (text : List ℕ) (stop : Stop) → LinksStop H before now command text stop
@@ -61,6 +63,7 @@ module _ (H : List ℕ → List ℕ) (before now : Outside) where
   links_rejected (Ask words) text stop links rejection cause = cause
   links_rejected (Serve words) text stop links rejection cause = cause
   links_rejected (Audit words) text stop links rejection cause = links
+  links_rejected (Sweep words) text stop links rejection cause = links
   links_rejected (Trial words) text stop links rejection cause = links
 
   pub links_collided : (command : Command) (text : List ℕ) (stop : Stop) → LinksStop H before now command text stop
@@ -79,6 +82,7 @@ module _ (H : List ℕ → List ℕ) (before now : Outside) where
   links_served (Ask words) text stop links served = absurd served
   links_served (Serve words) text stop links served = serving_status H before.shelf.files words before.door now.door text stop links.0
   links_served (Audit words) text stop links served = absurd links
+  links_served (Sweep words) text stop links served = absurd links
   links_served (Trial words) text stop links served = absurd links
 
   -- no memory for the line of a stop is want of memory
@@ -91,6 +95,7 @@ module _ (H : List ℕ → List ℕ) (before now : Outside) where
   links_memory (Ask words) text stop has links = inl (links.0, links.2)
   links_memory (Serve words) text stop has links = inr (serving_line H before.shelf.files words before.door now.door text stop has links.0, links.1)
   links_memory (Audit words) text stop has links = absurd links
+  links_memory (Sweep words) text stop has links = absurd links
   links_memory (Trial words) text stop has links = absurd links
 
   pub unprinted_files : (command : Command) (text : List ℕ) → IsUnprinted H before now command text → now.shelf.files ≡ before.shelf.files
@@ -102,6 +107,7 @@ module _ (H : List ℕ → List ℕ) (before now : Outside) where
   unprinted_files (Ask words) text is = absurd is
   unprinted_files (Serve words) text is = is.1
   unprinted_files (Audit words) text is = absurd is
+  unprinted_files (Sweep words) text is = absurd is
   unprinted_files (Trial words) text is = absurd is
 
   -- the files are left
@@ -114,6 +120,7 @@ module _ (H : List ℕ → List ℕ) (before now : Outside) where
   links_files (Ask words) text stop links = links.2
   links_files (Serve words) text stop links = links.1
   links_files (Audit words) text stop links = absurd links
+  links_files (Sweep words) text stop links = absurd links
   links_files (Trial words) text stop links = absurd links
 
   -- the status that a reply decides comes, unless memory is wanted or the caller's count rose
@@ -133,6 +140,7 @@ module _ (H : List ℕ → List ℕ) (before now : Outside) where
     ask_stop words decides text (Peer fault) (inl stops) = absurd stops.1
     ask_stop words decides text (Faults count) (inl stops) = absurd stops.1
     ask_stop words decides text (Collision place ours theirs) (inl stops) = absurd stops.1.0.collision
+    ask_stop words decides text (Swept lines collides) (inl stops) = absurd stops.1.0
     ask_stop words decides text stop (inr links) = stop_decides H before.caller now.caller words tells k decides stop links.1
 
     pub replied_stop : (command : Command) → ReplyDecides H before.caller now.caller command k → (text : List ℕ) (stop : Stop) → IsStopped H before now command text stop
@@ -145,6 +153,7 @@ module _ (H : List ℕ → List ℕ) (before now : Outside) where
     replied_stop (Ask words) decides = ask_stop words decides
     replied_stop (Serve words) decides = absurd decides
     replied_stop (Audit words) decides = absurd decides
+    replied_stop (Sweep words) decides = absurd decides
     replied_stop (Trial words) decides = absurd decides
 
     pub replied_done : (command : Command) → ReplyDecides H before.caller now.caller command k → (text : List ℕ) → IsDone H before now command text → Replies 0
@@ -156,6 +165,7 @@ module _ (H : List ℕ → List ℕ) (before now : Outside) where
     replied_done (Ask words) decides text done = accepted_decides H before.caller now.caller words tells k decides done.0.accepted
     replied_done (Serve words) decides text done = absurd decides
     replied_done (Audit words) decides text done = absurd decides
+    replied_done (Sweep words) decides text done = absurd decides
     replied_done (Trial words) decides text done = absurd decides
 
 -- a reply decides one status
@@ -169,4 +179,5 @@ one_status H before now (Verify words) a b tells is also = absurd is
 one_status H before now (Ask words) a b tells is also = asking.one_status H before now words tells a b is also
 one_status H before now (Serve words) a b tells is also = absurd is
 one_status H before now (Audit words) a b tells is also = absurd is
+one_status H before now (Sweep words) a b tells is also = absurd is
 one_status H before now (Trial words) a b tells is also = absurd is

@@ -10,7 +10,7 @@ use Rattle.ats_top.specs.Answering.{gives}
 use Rattle.ats_top.specs.Served.{AreAllServed, ServingStop}
 use Rattle.ats_top.specs.Run.{DoorFailed}
 use Rattle.ats_top.specs.declared.stops.Stop.{Stop}
-use Rattle.ats_top.specs.declared.stops.Stop.TheVariants.{Usage, Shelf, Input, Rejected, Memory, Link, Peer, Faults, Collision}
+use Rattle.ats_top.specs.declared.stops.Stop.TheVariants.{Usage, Shelf, Input, Rejected, Memory, Link, Peer, Faults, Collision, Swept}
 use Rattle.ats_top.proofs.Opened.{faults_rise}
 
 module _ (H : List ℕ → List ℕ) (files : Files) (words : ServeWords) (before now : DoorTold) (text : List ℕ) where
@@ -26,6 +26,7 @@ module _ (H : List ℕ → List ℕ) (files : Files) (words : ServeWords) (befor
   serving_index (Rejected rejection) stops = absurd stops
   serving_index (Peer fault) stops = absurd stops
   serving_index (Collision place ours theirs) stops = absurd stops
+  serving_index (Swept lines collides) stops = absurd stops
 
   -- where links ended by a fault, the door's count of broken links rose
   broken_rose : (count : ℕ) → 0 < count → AreAllServed H files words before now count text → Rose before.broken now.broken
@@ -47,6 +48,7 @@ module _ (H : List ℕ → List ℕ) (files : Files) (words : ServeWords) (befor
   serving_status (Rejected rejection) stops = absurd stops
   serving_status (Peer fault) stops = absurd stops
   serving_status (Collision place ours theirs) stops = absurd stops
+  serving_status (Swept lines collides) stops = absurd stops
 
   -- no memory for the line of a stop is want of memory
   pub serving_line : (stop : Stop) → HasLine stop → ServingStop H files words before now text stop → ServingStop H files words before now text Memory
@@ -60,3 +62,4 @@ module _ (H : List ℕ → List ℕ) (files : Files) (words : ServeWords) (befor
   serving_line (Rejected rejection) has stops = absurd stops
   serving_line (Peer fault) has stops = absurd stops
   serving_line (Collision place ours theirs) has stops = absurd stops
+  serving_line (Swept lines collides) has stops = absurd stops

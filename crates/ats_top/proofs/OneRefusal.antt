@@ -23,10 +23,10 @@ use Rattle.ats_prover.proofs.Archives.{archive_one}
 use Rattle.ats_top.specs.Input.{AreJsonTexts, IsFirstJsonFault}
 use Rattle.ats_top.specs.declared.input.JsonFault.{JsonFault}
 use Rattle.ats_top.specs.declared.input.JsonFault.TheVariants as json
-use Rattle.ats_top.specs.Words.{ProveWords, Command, Rank, Build, Root, Prove, Verify, Ask, Serve, Audit, Trial}
+use Rattle.ats_top.specs.Words.{ProveWords, SweepWords, Command, Rank, Build, Root, Prove, Verify, Ask, Serve, Audit, Sweep, Trial}
 use Rattle.ats_top.specs.Read.{Files, IsTold, IsFile}
 use Rattle.ats_top.specs.Stops.{stop_of_query, stop_of_json, stop_of_collection}
-use Rattle.ats_top.specs.Refusals.{IsRowCount, AsksRanking, IsCollectionRefused, IsIndexRefused, IsProvingRefused, IsRankingRefused, IsRefused}
+use Rattle.ats_top.specs.Refusals.{IsRowCount, AsksRanking, IsCollectionRefused, IsIndexRefused, IsProvingRefused, IsSweepRefused, IsRankingRefused, IsRefused}
 use Rattle.ats_top.specs.Proved.{IsProofTooLong}
 use Rattle.ats_top.specs.Trial.{trial_archive, turn, IsTrialQueryRefused, IsTrialTooLong, IsTrialRefused}
 use Rattle.ats_top.specs.declared.stops.InputRefusal.{InputRefusal}
@@ -34,7 +34,9 @@ use Rattle.ats_top.specs.declared.stops.InputRefusal.TheVariants.{ROut, QueryToo
 use Rattle.ats_top.specs.declared.stops.Stop.{Stop}
 use Rattle.ats_top.specs.declared.stops.Stop.TheVariants.{Input}
 use Rattle.ats_top.proofs.JsonLemmas.{same_texts, IsJsonRefusal, no_json_fault}
-use Rattle.ats_top.proofs.Refused.{IsQueryRefusal, IsCollectionRefusal, no_query_fault, query_refusal, trial_query_kept, tried_short, not_longer, one_file, index_kept}
+use Rattle.ats_top.proofs.ToldFiles.{not_longer, one_file, index_kept}
+use Rattle.ats_top.proofs.Refused.{IsQueryRefusal, IsCollectionRefusal, no_query_fault, query_refusal, trial_query_kept, tried_short}
+use Rattle.ats_top.proofs.SweepKept.{one_list_refusal}
 use Rattle.ats_top.proofs.OneFault.{one_query_fault, one_json_fault, one_collection_fault}
 
 -- refusals of one stop are one
@@ -277,6 +279,14 @@ module _ (H : List ℕ → List ℕ) (number : ℕ) where
   one_trial_refusal : (a b : InputRefusal) → IsTrialRefused H number a → IsTrialRefused H number b → a ≡ b
   one_trial_refusal a b is also = one_trial_cause a b (trial_cause a is) (trial_cause b also)
 
+-- the index first, and then the list
+one_sweep_refusal : (H : List ℕ → List ℕ) (files : Files) (words : SweepWords) → IsTold files → (a b : InputRefusal)
+    → IsSweepRefused H files words a → IsSweepRefused H files words b → a ≡ b
+one_sweep_refusal H files words told a b (inl is) (inl also) = one_index_refusal files words.index H told a b is also
+one_sweep_refusal H files words told a b (inl is) (inr ((archive, has), also)) = absurd (index_kept H files words.index archive told has a is)
+one_sweep_refusal H files words told a b (inr ((archive, has), is)) (inl also) = absurd (index_kept H files words.index archive told has b also)
+one_sweep_refusal H files words told a b (inr (index, is)) (inr (other, also)) = one_list_refusal files words.list told a b is also
+
 pub one_refusal : (H : List ℕ → List ℕ) (files : Files) (command : Command) (a b : InputRefusal) → IsTold files
     → IsRefused H files command a → IsRefused H files command b → a ≡ b
 one_refusal H files (Rank words) a b told is also =
@@ -290,4 +300,5 @@ one_refusal H files (Verify words) a b told is also = one_ranking words.r words.
 one_refusal H files (Serve words) a b told is also = one_index_refusal files words.index H told a b is also
 one_refusal H files (Audit words) a b told is also =
     one_ranking words.r words.query (IsIndexRefused H files words.index) (one_index_refusal files words.index H told) a b is also
+one_refusal H files (Sweep words) a b told is also = one_sweep_refusal H files words told a b is also
 one_refusal H files (Trial words) a b told is also = one_trial_refusal H words.number a b is also

@@ -5,10 +5,10 @@ use Rattle.ats_commit.specs.Root.{root_of}
 use Rattle.ats_client.specs.Bytes.{IsRejectedBytes}
 use Rattle.ats_client.specs.declared.fault.Rejection.{Rejection}
 use Rattle.ats_client.proofs.OneRejection as bytes
-use Rattle.ats_top.specs.Words.{VerifyWords, under, Command, Rank, Build, Root, Prove, Verify, Ask, Serve, Audit, Trial}
+use Rattle.ats_top.specs.Words.{VerifyWords, under, Command, Rank, Build, Root, Prove, Verify, Ask, Serve, Audit, Sweep, Trial}
 use Rattle.ats_top.specs.Read.{Files, IsTold}
 use Rattle.ats_top.specs.Rejected.{IsProofRejected, IsRejected}
-use Rattle.ats_top.proofs.Refused.{not_longer, one_file}
+use Rattle.ats_top.proofs.ToldFiles.{not_longer, one_file}
 use Rattle.ats_top.proofs.Rejecting.{told_archive}
 
 one_of_proof : (H : List ℕ → List ℕ) (files : Files) (words : VerifyWords) (a b : Rejection) → IsTold files
@@ -32,6 +32,7 @@ one_rejection H files (Prove words) a b told is also = absurd is
 one_rejection H files (Ask words) a b told is also = absurd is
 one_rejection H files (Verify words) a b told is also = one_of_proof H files words a b told is.1 also.1
 one_rejection H files (Serve words) a b told is also = absurd is
+one_rejection H files (Sweep words) a b told is also = absurd is
 one_rejection H files (Trial words) a b told is also = absurd is
 one_rejection H files (Audit words) a b told (asks, (archive, has, is)) (_, (other, has', also)) =
     let archives : other ≡ archive = told_archive H files words.index other archive told has' has in

@@ -23,7 +23,7 @@ use Rattle.ats_prover.proofs.Archives.{archive_one}
 use Rattle.ats_top.specs.Input.{AreJsonTexts}
 use Rattle.ats_top.specs.declared.input.JsonFault.{JsonFault}
 use Rattle.ats_top.specs.declared.input.JsonFault.TheVariants as json
-use Rattle.ats_top.specs.Words.{ProveWords, Command, Rank, Build, Root, Prove, Verify, Ask, Serve, Audit, Trial}
+use Rattle.ats_top.specs.Words.{ProveWords, Command, Rank, Build, Root, Prove, Verify, Ask, Serve, Audit, Sweep, Trial}
 use Rattle.ats_top.specs.Read.{Files, IsTold, IsFile, HasCollection, HasIndex}
 use Rattle.ats_top.specs.Refusals.{IsRowCount, AsksRanking, Asks, LacksFile, IsJsonRefused, AreTextsRefused, IsCollectionRefused, IsIndexRefused, IsProvingRefused, IsRankingRefused, IsRefused}
 use Rattle.ats_top.specs.Proved.{IsProofFor, IsProofTooLong}
@@ -34,10 +34,9 @@ use Rattle.ats_top.specs.Done.{IsProofStored, IsDone, HasInput, IsServed}
 use Rattle.ats_top.specs.declared.stops.InputRefusal.{InputRefusal}
 use Rattle.ats_top.specs.declared.stops.InputRefusal.TheVariants.{ROut, QueryTooLong, NoTerm, TooManyWords, TooManyTerms, FileTooLong, NotJson, NotArray, BadItem, NoDocuments, TooManyDocuments, TextTooLong, AllTooLong, BadIndex, ProofTooLong}
 use Rattle.ats_top.specs.declared.stops.Stop.TheVariants.{Input}
+use Rattle.ats_top.proofs.ToldFiles.{not_longer, one_file, missing_longer, missing_file, missing_told, index_kept, index_missing}
+use Rattle.ats_top.proofs.SweepKept.{found_kept, found_there, lacking_kept}
 use Rattle.ats_top.proofs.JsonLemmas.{same_texts, IsJsonRefusal, no_json_fault}
-
-same_some : {X : Type 0} (o : Option X) (x y : X) → o ≡ Some x → o ≡ Some y → x ≡ y
-same_some o x y first second = let both = sym first ∙ second in cc
 
 -- a fault that is no want of memory
 abbrev pub IsQueryRefusal : QueryFault → Type 0
@@ -65,38 +64,6 @@ no_collection_fault texts (collection.TextTooLong doc) within fault free = omega
 no_collection_fault texts (collection.AllTooLong bytes) within fault free = omega (arith, within.small, fault.3, fault.4)
 no_collection_fault texts collection.OutOfMemory within fault free = free
 
-longer : (o : Option (List ℕ)) (bytes : List ℕ) (limit : ℕ) → o ≡ Some bytes → length bytes ≤ limit → MatchOption o ⊥ (λ file. limit < length file) → ⊥
-longer None bytes limit is short long = long
-longer (Some file) bytes limit is short long = let same : file ≡ bytes = cc in omega (arith, ap length same)
-
--- a told file that is no longer than the limit
-pub not_longer : (files : Files) (name bytes : List ℕ) (limit : ℕ) → IsTold files → IsFile files name limit bytes → IsLonger files name limit → ⊥
-not_longer None name bytes limit told file long = absurd (cc)
-not_longer (Some map) name bytes limit told file long = longer (map name) bytes limit file.held file.short long
-
--- a told file has one content
-pub one_file : (files : Files) (name first second : List ℕ) (limit other : ℕ) → IsTold files → IsFile files name limit first → IsFile files name other second → first ≡ second
-one_file None name first second limit other told one two = absurd (cc)
-one_file (Some map) name first second limit other told one two = same_some (map name) first second one.held two.held
-
-no_length : (o : Option (List ℕ)) (limit : ℕ) → o ≡ None → MatchOption o ⊥ (λ file. limit < length file) → ⊥
-no_length None limit none long = long
-no_length (Some file) limit none long = absurd (cc)
-
-pub missing_longer : (files : Files) (name : List ℕ) (limit : ℕ) → IsMissing files name → IsLonger files name limit → ⊥
-missing_longer None name limit missing long = missing
-missing_longer (Some map) name limit missing long = no_length (map name) limit missing long
-
--- a file that is not there is none
-pub missing_file : (files : Files) (name bytes : List ℕ) (limit : ℕ) → IsMissing files name → IsFile files name limit bytes → ⊥
-missing_file None name bytes limit missing file = missing
-missing_file (Some map) name bytes limit missing file = let both = sym missing ∙ file.held in cc
-
--- a shelf that tells of a missing file tells
-missing_told : (files : Files) (name : List ℕ) → IsMissing files name → IsTold files
-missing_told None name missing = absurd missing
-missing_told (Some map) name missing = refl
-
 module _ (files : Files) (told : IsTold files) (name : List ℕ) (texts : List (List ℕ)) (has : HasCollection files name texts) where
   json_kept : (fault : JsonFault) → IsJsonRefused files name fault → IsJsonRefusal fault → ⊥
   json_kept fault refused free =
@@ -121,16 +88,6 @@ module _ (files : Files) (told : IsTold files) (name : List ℕ) (texts : List (
   collection_kept (TextTooLong doc) refused = texts_kept (collection.TextTooLong doc) refused tt
   collection_kept (AllTooLong bytes) refused = texts_kept (collection.AllTooLong bytes) refused tt
   collection_kept _ refused = refused
-
--- an index is not refused
-pub index_kept : (H : List ℕ → List ℕ) (files : Files) (name : List ℕ) (archive : Archive) → IsTold files → HasIndex H files name archive
-    → (refusal : InputRefusal) → IsIndexRefused H files name refusal → ⊥
-index_kept H files name archive told has (FileTooLong limit) refused =
-    not_longer files name has.bytes (2 ^ 29) told has.file (subst (IsLonger files name) refused.0 refused.1)
-index_kept H files name archive told has (BadIndex at) (bytes, file, fault) =
-    let same = one_file files name has.bytes bytes (2 ^ 29) (2 ^ 29) told has.file file in
-    no_place H bytes at archive fault (subst (λ b. IsSpelling H b archive) same has.spelling)
-index_kept H files name archive told has _ refused = refused
 
 -- rows and a query within the limits are not refused, nor what is tried after them, if that is not
 pub ranking_kept : (r : ℕ) (text : List ℕ) (later : InputRefusal → Type 0) → AsksRanking r text → ((refusal : InputRefusal) → later refusal → ⊥)
@@ -215,6 +172,7 @@ served_kept H files (Ask words) told served refusal refused = absurd served
 served_kept H files (Serve words) told (archive, has) refusal refused = index_kept H files words.index archive told has refusal refused
 served_kept H files (Audit words) told (asks, is) refusal refused =
     ranking_kept words.r words.query (IsIndexRefused H files words.index) asks (index_kept H files words.index is.archive told is.index) refusal refused
+served_kept H files (Sweep words) told (findings, found, right) refusal refused = found_kept H files words findings told found refusal refused
 served_kept H files (Trial words) told served refusal refused = trial_kept H words.number served refusal refused
 served_kept H files (Verify words) told (asks, has) refusal refused = ranking_kept words.r words.query (λ other. ⊥) asks (λ other never. never) refusal refused
 
@@ -258,6 +216,8 @@ done_kept H before now (Serve words) text told (all, same) refusal refused =
     served_kept H before.shelf.files (Serve words) told (all.served.archive, all.served.index) refusal refused
 done_kept H before now (Audit words) text told (right, same) refusal refused =
     served_kept H before.shelf.files (Audit words) told (right.asks, right.audited) refusal refused
+done_kept H before now (Sweep words) text told (swept, same) refusal refused =
+    found_kept H before.shelf.files words swept.findings told swept.found refusal refused
 done_kept H before now (Trial words) text told (tried, same) refusal refused = trial_done_kept H words.number text tried refusal refused
 done_kept H before now (Verify words) text told (verified, same) refusal refused =
     ranking_kept words.r words.query (λ other. ⊥) verified.asks (λ other never. never) refusal refused
@@ -274,11 +234,6 @@ module _ (files : Files) (name : List ℕ) (missing : IsMissing files name) wher
   collection_missing (AllTooLong total) (bytes, texts, file, are, is) = missing_file files name bytes (2 ^ 26) missing file
   collection_missing _ refused = refused
 
-  index_missing : (H : List ℕ → List ℕ) (refusal : InputRefusal) → IsIndexRefused H files name refusal → ⊥
-  index_missing H (FileTooLong limit) refused = missing_longer files name limit missing refused.1
-  index_missing H (BadIndex at) (bytes, file, fault) = missing_file files name bytes (2 ^ 29) missing file
-  index_missing H _ refused = refused
-
 -- where a file is not there, what the words say is within the limits
 pub lacks_asks : (H : List ℕ → List ℕ) (files : Files) (command : Command) → LacksFile H files command → Asks command
 lacks_asks H files (Rank words) lacks = lacks.0
@@ -289,6 +244,7 @@ lacks_asks H files (Verify words) lacks = lacks.0
 lacks_asks H files (Ask words) lacks = absurd lacks
 lacks_asks H files (Serve words) lacks = tt
 lacks_asks H files (Audit words) lacks = lacks.0
+lacks_asks H files (Sweep words) lacks = tt
 lacks_asks H files (Trial words) lacks = absurd lacks
 
 -- and nothing is refused
@@ -309,6 +265,7 @@ missing_kept H files (Audit words) (asks, inl missing) refusal refused =
 missing_kept H files (Audit words) (asks, inr ((archive, has), missing)) refusal refused =
     ranking_kept words.r words.query (IsIndexRefused H files words.index) asks
     (index_kept H files words.index archive (missing_told files words.proof missing) has) refusal refused
+missing_kept H files (Sweep words) lacks refusal refused = lacking_kept H files words lacks refusal refused
 missing_kept H files (Trial words) lacks refusal refused = absurd lacks
 missing_kept H files (Verify words) (asks, missing) refusal refused = ranking_kept words.r words.query (λ other. ⊥) asks (λ other never. never) refusal refused
 
@@ -322,6 +279,7 @@ input_there H files (Ask words) asks lacks = absurd lacks
 input_there H files (Serve words) (archive, has) lacks = missing_file files words.index has.bytes (2 ^ 29) lacks has.file
 input_there H files (Audit words) (asks, (found, is)) (_, inl missing) = missing_file files words.index is.index.bytes (2 ^ 29) missing is.index.file
 input_there H files (Audit words) (asks, (found, is)) (_, inr (has, missing)) = missing_file files words.proof is.bytes (2 ^ 26) missing is.file
+input_there H files (Sweep words) (findings, found) lacks = found_there H files words findings found lacks
 input_there H files (Trial words) asks lacks = absurd lacks
 input_there H files (Verify words) (asks, is) lacks = missing_file files words.proof is.bytes (2 ^ 26) lacks.1 is.file
 
@@ -334,4 +292,5 @@ served_input H files (Verify words) served = served
 served_input H files (Ask words) served = absurd served
 served_input H files (Serve words) served = served
 served_input H files (Audit words) (asks, is) = (asks, (None, is))
+served_input H files (Sweep words) (findings, found, right) = (findings, found)
 served_input H files (Trial words) served = served.0

@@ -8,14 +8,15 @@ use Rattle.ats_index.proofs.OneArchive.{one_archive}
 use Rattle.ats_client.specs.Bytes.{IsAcceptedBytes}
 use Rattle.ats_client.specs.declared.fault.Rejection.{Rejection}
 use Rattle.ats_client.proofs.OneRejection.{accepted_kept}
-use Rattle.ats_top.specs.Words.{VerifyWords, under, Command, Rank, Build, Root, Prove, Verify, Ask, Serve, Audit, Trial}
+use Rattle.ats_top.specs.Words.{VerifyWords, under, Command, Rank, Build, Root, Prove, Verify, Ask, Serve, Audit, Sweep, Trial}
 use Rattle.ats_top.specs.Read.{Files, HasIndex, IsTold}
 use Rattle.ats_top.specs.Verified.{IsAccepted}
 use Rattle.ats_top.specs.Refusals.{LacksFile, IsIndexRefused, IsRefused}
 use Rattle.ats_top.specs.Rejected.{IsProofRejected, IsRejected}
 use Rattle.ats_top.specs.Done.{HasInput}
 use Rattle.ats_top.specs.declared.stops.InputRefusal.{InputRefusal}
-use Rattle.ats_top.proofs.Refused.{not_longer, one_file, missing_longer, missing_file, ranking_kept, index_kept}
+use Rattle.ats_top.proofs.ToldFiles.{not_longer, one_file, missing_longer, missing_file, index_kept}
+use Rattle.ats_top.proofs.Refused.{ranking_kept}
 
 -- a told file that is accepted is not rejected
 proof_accepted : (H : List ℕ → List ℕ) (files : Files) (words : VerifyWords) → IsTold files → IsAccepted H files words
@@ -48,6 +49,7 @@ input_kept H files (Audit words) told (asks, (found, is)) rejection (_, (archive
     let accepted = subst (λ (one : Archive). IsAcceptedBytes H (root_of H one) is.query words.r is.bytes is.proof) archives is.accepted in
     proof_accepted H files (under (root_of H archive) words) told
     (record { query = is.query; asked = is.asked; bytes = is.bytes; file = is.file; proof = is.proof; accepted = accepted }) rejection rejected
+input_kept H files (Sweep words) told has rejection rejected = rejected
 input_kept H files (Trial words) told has rejection rejected = rejected
 input_kept H files (Verify words) told (asks, is) rejection rejected = proof_accepted H files words told is rejection rejected.1
 
@@ -68,6 +70,7 @@ rejected_there H files (Serve words) lacks rejection rejected = rejected
 rejected_there H files (Audit words) (asks, inl missing) rejection (_, (archive, has, rejected)) = missing_file files words.index has.bytes (2 ^ 29) missing has.file
 rejected_there H files (Audit words) (asks, inr (index, missing)) rejection (_, (archive, has, rejected)) =
     proof_missing H files (under (root_of H archive) words) missing rejection rejected
+rejected_there H files (Sweep words) lacks rejection rejected = rejected
 rejected_there H files (Trial words) lacks rejection rejected = rejected
 rejected_there H files (Verify words) lacks rejection rejected = proof_missing H files words lacks.1 rejection rejected.1
 
@@ -82,6 +85,7 @@ rejected_kept H files (Ask words) rejection told rejected refusal refused = reje
 rejected_kept H files (Serve words) rejection told rejected refusal refused = rejected
 rejected_kept H files (Audit words) rejection told (asks, (archive, has, rejected)) refusal refused =
     ranking_kept words.r words.query (IsIndexRefused H files words.index) asks (index_kept H files words.index archive told has) refusal refused
+rejected_kept H files (Sweep words) rejection told rejected refusal refused = rejected
 rejected_kept H files (Trial words) rejection told rejected refusal refused = rejected
 rejected_kept H files (Verify words) rejection told rejected refusal refused =
     ranking_kept words.r words.query (λ other. ⊥) rejected.0 (λ other never. never) refusal refused

@@ -2,7 +2,7 @@
 use Rattle.std.proofs.Common.{◌≡◌, ◌≤◌, ℕ, List, Result, Ok, Err, Option, Some, None, refl, sym, ap, subst, inl, inr, arith}
 use Rattle.ats_base.specs.Outside.{ShelfTold, SinkTold}
 use Rattle.ats_base.specs.Links.{CallerTold, DoorTold}
-use Rattle.ats_top.specs.Words.{ServeWords, Command, Rank, Build, Root, Prove, Verify, Ask, Serve, Audit, Trial, command_of, serving_of}
+use Rattle.ats_top.specs.Words.{ServeWords, Command, Rank, Build, Root, Prove, Verify, Ask, Serve, Audit, Sweep, Trial, command_of, serving_of}
 use Rattle.ats_top.specs.Outside.{Outside}
 use Rattle.ats_top.specs.Read.{Files}
 use Rattle.ats_top.specs.Stops.{Done, Unprinted}
@@ -27,6 +27,7 @@ serving_said (Some (Prove other)) words is = absurd (cc)
 serving_said (Some (Verify other)) words is = absurd (cc)
 serving_said (Some (Ask other)) words is = absurd (cc)
 serving_said (Some (Audit other)) words is = absurd (cc)
+serving_said (Some (Sweep other)) words is = absurd (cc)
 serving_said (Some (Trial other)) words is = absurd (cc)
 serving_said (Some (Serve other)) words is = let same : words ≡ other = cc in ap (λ (w : ServeWords). Some (Serve w)) (sym same)
 
@@ -54,6 +55,7 @@ module _ (H : List ℕ → List ℕ) (said : List (List ℕ)) (words : ServeWord
   index_stop (stop.Peer fault) stops = absurd stops
   index_stop (stop.Faults count) stops = absurd stops
   index_stop (stop.Collision place ours theirs) stops = absurd stops
+  index_stop (stop.Swept lines collides) stops = absurd stops
 
   -- the index was not loaded
   pub unloaded : (why : Stop) (sink now : SinkTold) (door : DoorTold) (result : ℕ) → IndexStop H shelf later words.index why → PrintsStop sink now why result

@@ -15,7 +15,7 @@ use Rattle.ats_top.specs.Serving.{Took}
 use Rattle.ats_top.proofs.LinkEnds.{links_memory}
 use Rattle.ats_top.specs.Run.{FilesStop, Ends, Prints, PrintsStop, Ended}
 use Rattle.ats_top.specs.declared.stops.Stop.{Stop}
-use Rattle.ats_top.specs.declared.stops.Stop.TheVariants.{Usage, Shelf, Input, Rejected, Memory, Link, Peer, Faults, Collision}
+use Rattle.ats_top.specs.declared.stops.Stop.TheVariants.{Usage, Shelf, Input, Rejected, Memory, Link, Peer, Faults, Collision, Swept}
 use Rattle.ats_top.proofs.Sessions.{took_then, failed_then}
 
 -- what is told but by the sink, before and now, of a command of these words
@@ -41,6 +41,7 @@ module _ (H : List ℕ → List ℕ) (shelf later_shelf : ShelfTold) (caller lat
   files_end (Peer fault) stops = absurd stops
   files_end (Faults count) stops = absurd stops
   files_end (Collision place ours theirs) stops = λ was now. (command, is, inl (refl, stops))
+  files_end (Swept lines collides) stops = λ was now. (command, is, inl (refl, stops))
 
   -- a command that stopped by its words or files
   pub files_ends : {T : Type 0} (result : Result T Stop) → IfErr result (FilesStop H shelf later_shelf command)
@@ -69,6 +70,7 @@ module _ (H : List ℕ → List ℕ) (shelf : ShelfTold) (caller later : CallerT
   ask_end (Peer fault) stops was now = (Ask words, is, inr (refl, stops, refl))
   ask_end (Faults count) stops was now = absurd stops
   ask_end (Collision place ours theirs) stops was now = absurd stops
+  ask_end (Swept lines collides) stops was now = absurd stops
 
   pub ask_ends : {X : Type 0} (result : Result X Stop) → IfErr result (AskStop H caller later words)
       → IfErr result (λ stop. (was now : SinkTold)
@@ -98,6 +100,7 @@ rank_stop H before now words Link same stops = absurd stops
 rank_stop H before now words (Peer fault) same stops = absurd stops
 rank_stop H before now words (Faults count) same stops = absurd stops
 rank_stop H before now words (Collision place ours theirs) same stops = absurd stops
+rank_stop H before now words (Swept lines collides) same stops = absurd stops
 
 pub rank_stops : {T : Type 0} (H : List ℕ → List ℕ) (before now : ShelfTold) (words : RankWords) (result : Result T Stop) → now.files ≡ before.files
     → IfErr result (RankingStop before now words.collection words.r words.query (IsCollectionRefused before.files words.collection))
@@ -116,6 +119,7 @@ trial_stop H shelf words Link stops = absurd stops
 trial_stop H shelf words (Peer fault) stops = absurd stops
 trial_stop H shelf words (Faults count) stops = absurd stops
 trial_stop H shelf words (Collision place ours theirs) stops = absurd stops
+trial_stop H shelf words (Swept lines collides) stops = absurd stops
 
 pub trial_ends : {T : Type 0} (H : List ℕ → List ℕ) (shelf : ShelfTold) (words : TrialWords) (result : Result T Stop) → IfErr result (IsTrialStop H words.number)
     → IfErr result (FilesStop H shelf shelf (Trial words))
@@ -139,6 +143,7 @@ module _ (H : List ℕ → List ℕ) (said : List (List ℕ)) (before now : Outs
   no_line text (Faults count) has (command, is, inr links) = (command, is, links_memory H before now command text (Faults count) has links)
   no_line text (Collision place ours theirs) has (command, is, inl stops) = (command, is, inl (stops.0, stops.1.1))
   no_line text (Collision place ours theirs) has (command, is, inr links) = (command, is, links_memory H before now command text (Collision place ours theirs) has links)
+  no_line text (Swept lines collides) has ends = absurd has
 
   -- a command that stopped before it printed, and whose stop was then printed
   pub stop_ended : (stop : Stop) (result : ℕ) → Ends H before now said (Stopped [] stop) → PrintsStop before.sink now.sink stop result → Ended H said before now result

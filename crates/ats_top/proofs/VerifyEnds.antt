@@ -14,7 +14,7 @@ use Rattle.ats_top.specs.ReadStops.{ProofStop, BytesStop}
 use Rattle.ats_top.specs.Done.{IsVerified}
 use Rattle.ats_top.specs.Run.{FilesStop}
 use Rattle.ats_top.specs.declared.stops.Stop.{Stop}
-use Rattle.ats_top.specs.declared.stops.Stop.TheVariants.{Usage, Shelf, Input, Rejected, Memory, Link, Peer, Faults, Collision}
+use Rattle.ats_top.specs.declared.stops.Stop.TheVariants.{Usage, Shelf, Input, Rejected, Memory, Link, Peer, Faults, Collision, Swept}
 
 -- rows and a query that were read are within the limits
 pub asks_of : (r : ℕ) (text : List ℕ) (query : List (List ℕ × ℕ)) → (1 ≤ r) × (r ≤ 1000) → IsQueryOf text query → AsksRanking r text
@@ -33,6 +33,7 @@ module _ (H : List ℕ → List ℕ) (before now : ShelfTold) (words : VerifyWor
   file_stops (Peer fault) stops = absurd stops
   file_stops (Faults count) stops = absurd stops
   file_stops (Collision place ours theirs) stops = absurd stops
+  file_stops (Swept lines collides) stops = absurd stops
 
   module _ (query : List (List ℕ × ℕ)) (bytes : List ℕ) (asked : IsQueryOf words.query query) (file : IsFile before.files words.proof (2 ^ 26) bytes) where
     bytes_stop : (stop : Stop) → BytesStop H words.root query words.r bytes stop → FilesStop H before now (Verify words) stop
@@ -46,6 +47,7 @@ module _ (H : List ℕ → List ℕ) (before now : ShelfTold) (words : VerifyWor
     bytes_stop (Peer fault) stops = absurd stops
     bytes_stop (Faults count) stops = absurd stops
     bytes_stop (Collision place ours theirs) stops = absurd stops
+    bytes_stop (Swept lines collides) stops = absurd stops
 
     -- bytes that were refused
     pub bytes_stops : {T : Type 0} (result : Result T Stop) → IfErr result (BytesStop H words.root query words.r bytes)

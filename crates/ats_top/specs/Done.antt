@@ -13,7 +13,7 @@ use Rattle.ats_index.specs.Spelling.{IsSpelling}
 use Rattle.ats_client.specs.Headline.{IsTopOrCollides}
 use Rattle.ats_client.specs.Rows.{rows_of}
 use Rattle.ats_audit.specs.Verdicts.{IsTopOrTold}
-use Rattle.ats_top.specs.Words.{RankWords, BuildWords, RootWords, ProveWords, VerifyWords, Command, Rank, Build, Root, Prove, Verify, Ask, Serve, Audit, Trial, root_word}
+use Rattle.ats_top.specs.Words.{RankWords, BuildWords, RootWords, ProveWords, VerifyWords, Command, Rank, Build, Root, Prove, Verify, Ask, Serve, Audit, Sweep, Trial, root_word}
 use Rattle.ats_top.specs.Print.{lines, line_of_root, line_of_proof}
 use Rattle.ats_top.specs.Outside.{Outside}
 use Rattle.ats_top.specs.Read.{Files, HasCollection, HasIndex}
@@ -23,6 +23,7 @@ use Rattle.ats_top.specs.Served.{AreAllServed}
 use Rattle.ats_top.specs.Refusals.{AsksRanking}
 use Rattle.ats_top.specs.Asked.{IsAnswered}
 use Rattle.ats_top.specs.Audited.{IsAudited, IsAuditedRight}
+use Rattle.ats_top.specs.Findings.{Finding, AreFound, IsSwept, status_of_findings}
 use Rattle.ats_top.specs.Trial.{AreQueries, IsTrial, IsTrialServed}
 
 -- the text is the lines of the ranking of the named file's collection, and its documents are a top answer
@@ -85,6 +86,7 @@ IsDone H before now (Verify words) text = IsVerified H before.shelf.files words 
 IsDone H before now (Ask words) text = IsAnswered H before.caller now.caller words text × (now.shelf.files ≡ before.shelf.files)
 IsDone H before now (Serve words) text = AreAllServed H before.shelf.files words before.door now.door 0 text × (now.shelf.files ≡ before.shelf.files)
 IsDone H before now (Audit words) text = IsAuditedRight H before.shelf.files words text × (now.shelf.files ≡ before.shelf.files)
+IsDone H before now (Sweep words) text = IsSwept H before.shelf.files words 0 text × (now.shelf.files ≡ before.shelf.files)
 IsDone H before now (Trial words) text = IsTrial H words.number text × (now.shelf.files ≡ before.shelf.files)
 
 -- the name was given a prefix of the bytes, which may be all of them
@@ -118,6 +120,7 @@ Changes H before now (Verify words) = ⊥
 Changes H before now (Ask words) = ⊥
 Changes H before now (Serve words) = ⊥
 Changes H before now (Audit words) = ⊥
+Changes H before now (Sweep words) = ⊥
 Changes H before now (Trial words) = ⊥
 
 -- what the words say is within the limits, and the named file is of the form that the command reads; a proof is one that is accepted;
@@ -131,6 +134,7 @@ HasInput H files (Verify words) = AsksRanking words.r words.query × IsAccepted 
 HasInput H files (Ask words) = AsksRanking words.r words.query
 HasInput H files (Serve words) = (archive : Archive) × HasIndex H files words.index archive
 HasInput H files (Audit words) = AsksRanking words.r words.query × ((found : Option (Difference TreePlace)) × IsAudited H files words found)
+HasInput H files (Sweep words) = (findings : List Finding) × AreFound H files words findings
 HasInput H files (Trial words) = AreQueries words.number 20
 
 -- And no honest proof that the words ask for is too long, and the audited proof has no collision with the archive. Of `ask` no file decides, but the reply.
@@ -143,4 +147,5 @@ IsServed H files (Verify words) = HasInput H files (Verify words)
 IsServed H files (Ask words) = ⊥
 IsServed H files (Serve words) = HasInput H files (Serve words)
 IsServed H files (Audit words) = AsksRanking words.r words.query × IsAudited H files words None
+IsServed H files (Sweep words) = (findings : List Finding) × AreFound H files words findings × (status_of_findings findings ≡ 0)
 IsServed H files (Trial words) = IsTrialServed H words.number

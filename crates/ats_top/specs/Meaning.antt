@@ -1,5 +1,5 @@
 -- The command that the program's own value of it means.
-use Rattle.ats_top.specs.Words.{Command, Rank, Build, Root, Prove, Verify, Ask, Serve, Audit, Trial}
+use Rattle.ats_top.specs.Words.{Command, Rank, Build, Root, Prove, Verify, Ask, Serve, Audit, Sweep, Trial}
 use Rattle.ats_top.specs.declared.words.Command.{Command as Said}
 use Rattle.ats_top.specs.declared.words.Command.TheVariants as said
 
@@ -14,4 +14,5 @@ meaning (said.Ask root algorithm r query address) =
 meaning (said.Verify root r query proof) = Verify (record { root = root; r = r; query = query.now; proof = proof.now })
 meaning (said.Serve index connections address) = Serve (record { index = index.now; connections = connections; address = address.now })
 meaning (said.Audit index r query proof) = Audit (record { index = index.now; r = r; query = query.now; proof = proof.now })
+meaning (said.Sweep index list) = Sweep (record { index = index.now; list = list.now })
 meaning (said.Trial number) = Trial (record { number = number })

@@ -1,25 +1,29 @@
 -- The files that commands read and store, and what comes of the shelf by it.
-use Rattle.std.specs.Prelude.{◌≡◌, ◌⊎◌, ◌≤◌, ◌^◌, ◌++◌, ◌∷◌, ℕ, List, [], Option, Some, None}
+use Rattle.std.specs.Prelude.{◌≡◌, ◌⊎◌, ◌≤◌, ◌^◌, ◌++◌, ◌∷◌, ℕ, List, [], Option, Some, None, map}
 use Rattle.ats_base.specs.Outside.{IsMissing, ShelfTold, Ask, Asked, ReadsAtMostOnce, StoresOnce}
-use Rattle.ats_top.specs.Words.{Command, Rank, Build, Root, Prove, Verify, Ask as AskServer, Serve, Audit, Trial}
+use Rattle.ats_top.specs.Read.{Files}
+use Rattle.ats_top.specs.Listed.{Listed, IsList, names_of}
+use Rattle.ats_top.specs.Words.{Command, Rank, Build, Root, Prove, Verify, Ask as AskServer, Serve, Audit, Sweep, Trial}
 
 -- what a file is read as
 pub data Form : Type 0 where
   AsCollection : Form
   AsIndex : Form
   AsProof : Form
+  AsList : Form
 
 -- the most bytes that it may have
 abbrev pub limit_of : Form → ℕ
 limit_of AsCollection = 2 ^ 26
 limit_of AsIndex = 2 ^ 29
 limit_of AsProof = 2 ^ 26
+limit_of AsList = 2 ^ 20
 
 pub record InputFile : Type 0 where
   pub name : List ℕ
   pub form : Form
 
--- the files that a command reads, in order
+-- the files that the words of a command name to be read, in order
 abbrev pub reads : Command → List InputFile
 reads (Rank words) = (record { name = words.collection; form = AsCollection }) ∷ []
 reads (Build words) = (record { name = words.collection; form = AsCollection }) ∷ []
@@ -29,6 +33,7 @@ reads (Verify words) = (record { name = words.proof; form = AsProof }) ∷ []
 reads (AskServer words) = []
 reads (Serve words) = (record { name = words.index; form = AsIndex }) ∷ []
 reads (Audit words) = (record { name = words.index; form = AsIndex }) ∷ (record { name = words.proof; form = AsProof }) ∷ []
+reads (Sweep words) = (record { name = words.index; form = AsIndex }) ∷ (record { name = words.list; form = AsList }) ∷ []
 reads (Trial words) = []
 
 -- the file that it stores, if it stores one
@@ -41,6 +46,7 @@ stores (Verify words) = None
 stores (AskServer words) = None
 stores (Serve words) = None
 stores (Audit words) = None
+stores (Sweep words) = None
 stores (Trial words) = None
 
 -- these files alone are read, in this order, each once at most
@@ -49,18 +55,32 @@ ReadsInOrder [] asks = asks ≡ []
 ReadsInOrder (file ∷ rest) asks =
     (first : List Ask) × (later : List Ask) × (asks ≡ first ++ later) × ReadsAtMostOnce file.name (limit_of file.form) first × ReadsInOrder rest later
 
+-- the files of proofs
+abbrev pub proof_files : List (List ℕ) → List InputFile
+proof_files names = map (λ (name : List ℕ). record { name = name; form = AsProof }) names
+
+-- behind the files that its words name a sweep reads those of the proofs of its list, once that is read; no other command reads more
+abbrev pub ReadsFilesOf : Files → Command → List Ask → Type 0
+ReadsFilesOf files (Sweep words) asks = ReadsInOrder (reads (Sweep words)) asks
+    ⊎ ((listed : List Listed) × IsList files words.list listed × ReadsInOrder (reads (Sweep words) ++ proof_files (names_of listed)) asks)
+ReadsFilesOf files command asks = ReadsInOrder (reads command) asks
+
 -- this file alone is stored, once at most, if there is one to store
 abbrev pub StoresAtMostOnce : Option (List ℕ) → List Ask → Type 0
 StoresAtMostOnce None asks = asks ≡ []
 StoresAtMostOnce (Some name) asks = (asks ≡ []) ⊎ StoresOnce name asks
 
 -- the calls read the files of the command, and then store its file
-pub record AsksFor (command : Command) (asks : List Ask) : Type 0 where
+pub record AsksFor (files : Files) (command : Command) (asks : List Ask) : Type 0 where
   pub read : List Ask
   pub stored : List Ask
   pub parts : asks ≡ read ++ stored
-  pub reads : ReadsInOrder (reads command) read
+  pub reads : ReadsFilesOf files command read
   pub stores : StoresAtMostOnce (stores command) stored
+
+-- the calls read files of the command, and store none
+abbrev pub ReadsAlone : (before now : ShelfTold) → Command → Type 0
+ReadsAlone before now command = Asked before.asked now.asked (ReadsFilesOf before.files command)
 
 -- the first of the files is not there
 abbrev pub IsFirstMissing : Option (List ℕ → Option (List ℕ)) → List InputFile → Type 0
@@ -78,4 +98,4 @@ pub record Reads (before now : ShelfTold) (name : List ℕ) (limit : ℕ) : Type
 pub record Serves (before now : ShelfTold) (command : Command) : Type 0 where
   pub later : before.faults ≤ now.faults
   pub uncounted : IsFirstMissing before.files (reads command) → now.faults ≡ before.faults
-  pub asked : Asked before.asked now.asked (AsksFor command)
+  pub asked : Asked before.asked now.asked (AsksFor before.files command)

@@ -14,12 +14,14 @@ use Rattle.ats_index.specs.declared.load.LoadFault.TheVariants as index
 use Rattle.ats_top.specs.Input.{AreJsonTexts, IsFirstJsonFault}
 use Rattle.ats_top.specs.declared.input.JsonFault.{JsonFault}
 use Rattle.ats_top.specs.declared.input.JsonFault.TheVariants as json
-use Rattle.ats_top.specs.Words.{ProveWords, Command, Rank, Build, Root, Prove, Verify, Ask, Serve, Audit, Trial}
+use Rattle.ats_top.specs.Listed.{Listed, lines_of, IsList, IsBadLine, names_of}
+use Rattle.ats_top.specs.Gathered.{LacksProof, PassesLimit}
+use Rattle.ats_top.specs.Words.{ProveWords, SweepWords, Command, Rank, Build, Root, Prove, Verify, Ask, Serve, Audit, Sweep, Trial}
 use Rattle.ats_top.specs.Read.{Files, IsFile, HasIndex}
 use Rattle.ats_top.specs.Proved.{IsProofTooLong}
 use Rattle.ats_top.specs.Trial.{IsTrialRefused}
 use Rattle.ats_top.specs.declared.stops.InputRefusal.{InputRefusal}
-use Rattle.ats_top.specs.declared.stops.InputRefusal.TheVariants.{ROut, QueryTooLong, NoTerm, TooManyWords, TooManyTerms, FileTooLong, NotJson, NotArray, BadItem, NoDocuments, TooManyDocuments, TextTooLong, AllTooLong, BadIndex, ProofTooLong}
+use Rattle.ats_top.specs.declared.stops.InputRefusal.TheVariants.{ROut, QueryTooLong, NoTerm, TooManyWords, TooManyTerms, FileTooLong, NotJson, NotArray, BadItem, NoDocuments, TooManyDocuments, TextTooLong, AllTooLong, BadIndex, ProofTooLong, ListLine, ProofsTooLong}
 
 -- an answer may have 1 to 1,000 rows
 pub record IsRowCount (r : ℕ) : Type 0 where
@@ -41,6 +43,7 @@ Asks (Verify words) = AsksRanking words.r words.query
 Asks (Ask words) = AsksRanking words.r words.query
 Asks (Serve words) = Unit {0}
 Asks (Audit words) = AsksRanking words.r words.query
+Asks (Sweep words) = Unit {0}
 Asks (Trial words) = Unit {0}
 
 -- and it comes to the shelf
@@ -60,6 +63,8 @@ LacksFile H files (Ask words) = ⊥
 LacksFile H files (Serve words) = IsMissing files words.index
 LacksFile H files (Audit words) = AsksRanking words.r words.query
     × (IsMissing files words.index ⊎ (((archive : Archive) × HasIndex H files words.index archive) × IsMissing files words.proof))
+LacksFile H files (Sweep words) = IsMissing files words.index ⊎ (((archive : Archive) × HasIndex H files words.index archive)
+    × (IsMissing files words.list ⊎ ((listed : List Listed) × IsList files words.list listed × LacksProof files (names_of listed))))
 LacksFile H files (Trial words) = ⊥
 
 -- the first refusal of the file's bytes is that of the JSON text
@@ -94,6 +99,18 @@ abbrev pub IsProvingRefused : (List ℕ → List ℕ) → Files → ProveWords �
 IsProvingRefused H files words (ProofTooLong bytes) = IsProofTooLong H files words bytes
 IsProvingRefused H files words refusal = IsIndexRefused H files words.index refusal
 
+-- the named file as a list: its length, its lines, and how many bytes its proofs have together
+abbrev pub IsListRefused : Files → List ℕ → InputRefusal → Type 0
+IsListRefused files name (FileTooLong limit) = (limit ≡ 2 ^ 20) × IsLonger files name limit
+IsListRefused files name (ListLine number) = (bytes : List ℕ) × IsFile files name (2 ^ 20) bytes × IsBadLine (lines_of bytes) number
+IsListRefused files name (ProofsTooLong bytes) = (listed : List Listed) × IsList files name listed × PassesLimit files (names_of listed) bytes
+IsListRefused files name _ = ⊥
+
+-- the named index, then the named list
+abbrev pub IsSweepRefused : (List ℕ → List ℕ) → Files → SweepWords → InputRefusal → Type 0
+IsSweepRefused H files words refusal = IsIndexRefused H files words.index refusal
+    ⊎ (((archive : Archive) × HasIndex H files words.index archive) × IsListRefused files words.list refusal)
+
 -- rows, query, and then what is tried after them
 abbrev pub IsRankingRefused : ℕ → List ℕ → (InputRefusal → Type 0) → InputRefusal → Type 0
 IsRankingRefused r text later (ROut out) = (out ≡ r) × (IsRowCount out → ⊥)
@@ -112,4 +129,5 @@ IsRefused H files (Verify words) refusal = IsRankingRefused words.r words.query 
 IsRefused H files (Ask words) refusal = IsRankingRefused words.r words.query (λ other. ⊥) refusal
 IsRefused H files (Serve words) refusal = IsIndexRefused H files words.index refusal
 IsRefused H files (Audit words) refusal = IsRankingRefused words.r words.query (IsIndexRefused H files words.index) refusal
+IsRefused H files (Sweep words) refusal = IsSweepRefused H files words refusal
 IsRefused H files (Trial words) refusal = IsTrialRefused H words.number refusal

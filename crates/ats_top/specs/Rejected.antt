@@ -8,7 +8,7 @@ use Rattle.ats_commit.specs.Root.{root_of}
 use Rattle.ats_client.specs.Bytes.{IsRejectedBytes}
 use Rattle.ats_client.specs.declared.fault.Rejection.{Rejection}
 use Rattle.ats_client.specs.declared.fault.Rejection.TheVariants.{Shape}
-use Rattle.ats_top.specs.Words.{VerifyWords, AuditWords, under, Command, Rank, Build, Root, Prove, Verify, Ask, Serve, Audit, Trial}
+use Rattle.ats_top.specs.Words.{VerifyWords, AuditWords, under, Command, Rank, Build, Root, Prove, Verify, Ask, Serve, Audit, Sweep, Trial}
 use Rattle.ats_top.specs.Read.{Files, IsFile, HasIndex}
 use Rattle.ats_top.specs.Refusals.{AsksRanking}
 
@@ -34,7 +34,7 @@ abbrev pub IsAuditRejected : (List ℕ → List ℕ) → Files → AuditWords �
 IsAuditRejected H files words rejection =
     (archive : Archive) × HasIndex H files words.index archive × IsProofRejected H files (under (root_of H archive) words) rejection
 
--- what the words say is within the limits, and the proof in the file is refused so
+-- what the words say is within the limits, and the proof in the file is refused so; a sweep has many proofs, of which `AreFound` says it
 abbrev pub IsRejected : (List ℕ → List ℕ) → Files → Command → Rejection → Type 0
 IsRejected H files (Rank words) rejection = ⊥
 IsRejected H files (Build words) rejection = ⊥
@@ -44,4 +44,5 @@ IsRejected H files (Ask words) rejection = ⊥
 IsRejected H files (Verify words) rejection = AsksRanking words.r words.query × IsProofRejected H files words rejection
 IsRejected H files (Serve words) rejection = ⊥
 IsRejected H files (Audit words) rejection = AsksRanking words.r words.query × IsAuditRejected H files words rejection
+IsRejected H files (Sweep words) rejection = ⊥
 IsRejected H files (Trial words) rejection = ⊥

@@ -37,6 +37,9 @@ refusal_words (AnswerOut row) = codes "answer-out " ++ decimal row
 refusal_words (AnswerRepeated row) = codes "answer-repeated " ++ decimal row
 refusal_words NotSettled = codes "not-settled"
 
+abbrev pub rejection_words : Rejection → List ℕ
+rejection_words (Shape fault) = codes "shape " ++ (kind_word fault.kind ++ (codes " " ++ decimal fault.at))
+rejection_words (Check refusal) = refusal_words refusal
+
 abbrev pub line_of_rejection : Rejection → List ℕ
-line_of_rejection (Shape fault) = codes "refused: shape " ++ (kind_word fault.kind ++ (codes " " ++ (decimal fault.at ++ codes "\n")))
-line_of_rejection (Check refusal) = codes "refused: " ++ (refusal_words refusal ++ codes "\n")
+line_of_rejection rejection = codes "refused: " ++ (rejection_words rejection ++ codes "\n")

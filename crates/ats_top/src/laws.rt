@@ -1,6 +1,6 @@
 //! What holds of the commands together, as contracts of functions that do nothing.
 
-ghost use Rattle.std.specs.Prelude.{◌≡◌, ◌≤◌, ◌^◌, ℕ, List, length, codes, Some, IsSome};
+ghost use Rattle.std.specs.Prelude.{◌≡◌, ◌≤◌, ◌^◌, ℕ, List, All, length, codes, Some, IsSome};
 ghost use Rattle.ats_base.specs.Outside.{Holds};
 ghost use Rattle.ats_base.specs.Links.{CallerTold};
 ghost use Rattle.ats_terms.specs.Query.{IsQueryOf};
@@ -9,12 +9,15 @@ ghost use Rattle.ats_commit.specs.Root.{root_of};
 ghost use Rattle.ats_records.specs.declared.record.Algorithm.{Algorithm};
 ghost use Rattle.ats_index.specs.Spelling.{IsSpelling};
 ghost use Rattle.ats_prover.specs.Honest.{IsProved};
-ghost use Rattle.ats_top.specs.Words.{AskWords, Command, Ask, number_of, algorithm_of, root_word, root_words, prove_words, verify_words};
-ghost use Rattle.ats_top.specs.Read.{Files, IsFile, IsTold};
+ghost use Rattle.ats_top.specs.Words.{AskWords, AuditWords, SweepWords, Command, Ask, Audit, Sweep, number_of, algorithm_of, root_word, root_words, prove_words, verify_words};
+ghost use Rattle.ats_top.specs.Read.{Files, IsFile, IsTold, HasIndex};
 ghost use Rattle.ats_top.specs.Refusals.{IsRowCount, AsksRanking, IsRefused};
 ghost use Rattle.ats_top.specs.Rejected.{IsRejected};
 ghost use Rattle.ats_client.specs.declared.fault.Rejection.{Rejection};
 ghost use Rattle.ats_top.specs.declared.stops.InputRefusal.{InputRefusal};
+ghost use Rattle.ats_top.specs.Listed.{Listed, IsList, names_of};
+ghost use Rattle.ats_top.specs.Gathered.{AreAllThere};
+ghost use Rattle.ats_top.specs.Findings.{IsHonestLine};
 ghost use Rattle.ats_top.specs.Done.{HasInput, IsServed};
 ghost use Rattle.ats_top.specs.Run.{Said};
 ghost use Rattle.ats_top.specs.Conversation.{Converses};
@@ -30,6 +33,21 @@ pub fn honest_proofs_are_served<H: HashKind>()
         → IsProved H.hash archive asked rows algorithm bytes → IsFile files name (2 ^ 26) bytes → root_word root ≡ Some (root_of H.hash archive)
         → number_of r ≡ Some rows → IsRowCount rows → IsQueryOf query asked
         → Said (verify_words root r query name) (IsServed H.hash files) }
+{}
+
+/// Where a file is the honest proof of a query over the archive of an index, by either algorithm, `audit` serves it for
+/// the same query and number of rows: it has no collision with the archive.
+pub fn honest_audits_are_served<H: HashKind>()
+    ensures { (archive : Archive) (files : Files) (words : AuditWords) (asked : List (List ℕ × ℕ)) (algorithm : Algorithm) (bytes : List ℕ)
+        → HasIndex H.hash files words.index archive → IsRowCount words.r → IsQueryOf words.query asked → IsProved H.hash archive asked words.r algorithm bytes
+        → IsFile files words.proof (2 ^ 26) bytes → IsServed H.hash files (Audit words) }
+{}
+
+/// Where each line of a list asks for the honest proof of its query over the archive of the index, by either
+/// algorithm, and all the proofs are there within the limit, `sweep` serves it: each is found right.
+pub fn honest_sweeps_are_served<H: HashKind>()
+    ensures { (archive : Archive) (files : Files) (words : SweepWords) (listed : List Listed) → HasIndex H.hash files words.index archive → IsList files words.list listed
+        → AreAllThere files (names_of listed) → All (IsHonestLine H.hash files archive) listed → IsServed H.hash files (Sweep words) }
 {}
 
 /// Where a file holds the index bytes of an archive, which `build` stores, `root` serves it. So does `prove` by lists

@@ -19,14 +19,17 @@ use std::thread::Threads;
 // The most bytes that the file of a collection may have.
 const COLLECTION_LIMIT: u64 = 1 << 26;
 
+// The most bytes that the list of a sweep may have.
+const LIST_LIMIT: u64 = 1 << 20;
+
 // The most bytes that the file of an index may have.
 const INDEX_LIMIT: u64 = 1 << 29;
 
 /// The most bytes that a proof may have.
 pub(crate) const PROOF_LIMIT: u64 = 1 << 26;
 
-// The fault of a file that has more.
-const TOO_LONG: ShapeFault = ShapeFault {
+/// The fault of a file that has more.
+pub(crate) const TOO_LONG: ShapeFault = ShapeFault {
     at: PROOF_LIMIT,
     kind: ShapeKind::Long,
 };
@@ -73,6 +76,15 @@ pub(crate) fn index<H: Hash32 + Sync, R: Threads + Sync, S: Shelf>(
 {
     let bytes = file(alloc, name, INDEX_LIMIT, shelf)?;
     Ok(Index::<H>::load(rt, alloc, bytes.as_slice())?)
+}
+
+/// The bytes of the list that the named file may be.
+pub(crate) fn list<S: Shelf>(alloc: Global, name: &str, shelf: &mut S) -> Result<Bytes, Stop>
+    ensures ok { IfOk result (IsFile (S.told shelf.old).files name.now (2 ^ 20)) }
+    ensures stop { IfErr result (FileStop (S.told shelf.old) (S.told shelf.new) name.now (2 ^ 20)) }
+    ensures reads { Reads (S.told shelf.old) (S.told shelf.new) name.now (2 ^ 20) }
+{
+    file(alloc, name, LIST_LIMIT, shelf)
 }
 
 /// The bytes of the proof that the named file may be.

@@ -1,7 +1,7 @@
 //! What is printed where a proof is refused.
 
 ghost use Rattle.std.specs.Prelude.{◌≡◌, IfOk, string_bytes};
-ghost use Rattle.ats_top.specs.RejectionLines.{kind_word, refusal_words, line_of_rejection};
+ghost use Rattle.ats_top.specs.RejectionLines.{kind_word, refusal_words, rejection_words, line_of_rejection};
 
 use ats_client::{Refusal, Rejection};
 use ats_proof::{ShapeFault, ShapeKind};
@@ -22,7 +22,6 @@ fn kind_word(kind: ShapeKind) -> &'static str
     }
 }
 
-// The words of a refusal, without the line's first word.
 fn refusal_words(alloc: Global, refusal: Refusal) -> Result<String, AllocError>
     ensures { IfOk result (λ words. string_bytes words ≡ refusal_words refusal) }
 {
@@ -48,18 +47,23 @@ fn refusal_words(alloc: Global, refusal: Refusal) -> Result<String, AllocError>
     }
 }
 
-/// The line that is printed for it.
-pub(crate) fn rejection_line(alloc: Global, rejection: Rejection) -> Result<String, AllocError>
-    ensures { IfOk result (λ line. string_bytes line ≡ line_of_rejection rejection) }
+/// The words of a rejection, without the line's first word.
+pub(crate) fn rejection_words(alloc: Global, rejection: Rejection) -> Result<String, AllocError>
+    ensures { IfOk result (λ words. string_bytes words ≡ rejection_words rejection) }
 {
     match rejection {
         Rejection::Shape(ShapeFault { at, kind }) => {
             let kind = kind_word(kind);
-            format!(in alloc; "refused: shape {kind} {at}\n")
+            format!(in alloc; "shape {kind} {at}")
         }
-        Rejection::Check(refusal) => {
-            let words = refusal_words(alloc, refusal)?;
-            format!(in alloc; "refused: {words}\n")
-        }
+        Rejection::Check(refusal) => refusal_words(alloc, refusal),
     }
+}
+
+/// The line that is printed for it.
+pub(crate) fn rejection_line(alloc: Global, rejection: Rejection) -> Result<String, AllocError>
+    ensures { IfOk result (λ line. string_bytes line ≡ line_of_rejection rejection) }
+{
+    let words = rejection_words(alloc, rejection)?;
+    format!(in alloc; "refused: {words}\n")
 }

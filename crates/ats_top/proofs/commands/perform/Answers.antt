@@ -1,6 +1,7 @@
-use Rattle.std.proofs.Common.{map, string_bytes, inl, inr}
+use Rattle.std.proofs.Common.{refl, map, string_bytes, inl, inr}
 use Rattle.ats_top.proofs.Readings.{serve_read}
 use Rattle.ats_top.proofs.ServeEnds.{serving_said}
+use Rattle.ats_top.proofs.Unstored.{never_stored}
 use Rattle.ats_top.proofs.commands.perform.Goals as goal
 
 pub returns-in-Some-clause-serves : goal.returns-in-Some-clause-serves
@@ -18,3 +19,8 @@ returns-in-Some-clause-opened g c = elim c.serve.ensures.opened [
   | inl same ↦ inl same
   | inr opens ↦ inr (_, serving_said _ _ c.in-Some.ensures, opens)
 ]
+
+pub returns-in-Some-clause-unstored : goal.returns-in-Some-clause-unstored
+returns-in-Some-clause-unstored g c not_done not_shelf not_failed =
+    never_stored (g.S.Shelf.told c.args.shelf.now) (g.S.Shelf.told c.serve.new.shelf) (map string_bytes c.args.words.now) _ (serving_said _ _ c.in-Some.ensures) refl
+    (serve_read _ _ _ c.serve.ensures.reads)

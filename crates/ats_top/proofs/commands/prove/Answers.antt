@@ -1,11 +1,13 @@
 use Rattle.std.proofs.Common.{◌∙◌, ℕ, List, ap, subst, inl, arith}
 use Rattle.ats_base.specs.Outside.{Puts}
+use Rattle.ats_top.specs.Words.{Prove}
 use Rattle.ats_top.specs.Print.{line_of_proof}
 use Rattle.ats_top.specs.Read.{Files}
 use Rattle.ats_top.specs.Refusals.{AsksRanking}
 use Rattle.ats_top.specs.Proved.{IsProofFor}
-use Rattle.ats_top.proofs.Readings.{prove_read, prove_stored}
+use Rattle.ats_top.proofs.Readings.{prove_read, prove_alone, prove_stored, alone_none}
 use Rattle.ats_top.proofs.Stored.{proof_part}
+use Rattle.ats_top.proofs.Unstored.{if_unstored}
 use Rattle.ats_top.proofs.commands.prove.Goals as goal
 
 pub returns-in-Ok-clause-ok : goal.returns-in-Ok-clause-ok
@@ -61,3 +63,23 @@ returns-in-Ok-clause-serves g c =
 pub returns-clause-serves : goal.returns-clause-serves
 returns-clause-serves g c =
     prove_stored _ _ (g.S.Shelf.told c.index.new.shelf) g.H.HashKind.hash _ _ c.in_ok-loaded.ensures.ok c.in_ok-loaded.ensures.reads c.in-Err.ensures.asked c.in-Err.ensures.cause.later
+
+pub returns-in_err-loaded-clause-unstored : goal.returns-in_err-loaded-clause-unstored
+returns-in_err-loaded-clause-unstored g c = if_unstored c.from_residual-in_err-loaded.result _
+    (prove_alone _ _ (record { index = c.args.index.now; algorithm = c.args.algorithm; r = c.args.r; query = c.args.query.now; proof = c.args.proof.now }) c.index.ensures.reads)
+
+pub returns-in_err-bytes-clause-unstored : goal.returns-in_err-bytes-clause-unstored
+returns-in_err-bytes-clause-unstored g c = if_unstored c.from_residual-in_err-bytes.result _
+    (prove_alone _ _ (record { index = c.args.index.now; algorithm = c.args.algorithm; r = c.args.r; query = c.args.query.now; proof = c.args.proof.now }) c.in_ok-loaded.ensures.reads)
+
+pub returns-in_err-line-clause-unstored : goal.returns-in_err-line-clause-unstored
+returns-in_err-line-clause-unstored g c = if_unstored c.from_residual-in_err-line.result _
+    (prove_alone _ _ (record { index = c.args.index.now; algorithm = c.args.algorithm; r = c.args.r; query = c.args.query.now; proof = c.args.proof.now }) c.in_ok-loaded.ensures.reads)
+
+pub returns-in_err-rows-clause-unstored : goal.returns-in_err-rows-clause-unstored
+returns-in_err-rows-clause-unstored g c = if_unstored c.from_residual.result _
+    (alone_none (g.S.Shelf.told c.args.shelf.now) (Prove (record { index = c.args.index.now; algorithm = c.args.algorithm; r = c.args.r; query = c.args.query.now; proof = c.args.proof.now })))
+
+pub returns-in_err-asked-clause-unstored : goal.returns-in_err-asked-clause-unstored
+returns-in_err-asked-clause-unstored g c = if_unstored c.from_residual-in_err-asked.result _
+    (alone_none (g.S.Shelf.told c.args.shelf.now) (Prove (record { index = c.args.index.now; algorithm = c.args.algorithm; r = c.args.r; query = c.args.query.now; proof = c.args.proof.now })))

@@ -1,0 +1,196 @@
+-- The proofs of a list, gathered one by one.
+use Rattle.std.proofs.Common.{◌≡◌, ◌⊎◌, ◌++◌, ◌∷◌, ◌<◌, ◌≤◌, ◌+◌, ◌^◌, ℕ, suc, zero, List, [], length, map, take, drop, get_or, refl, sym, ap, subst, ◌∙◌, inl, inr, arith, append-nil, append_assoc}
+use Rattle.std.specs.List.{AllZip}
+use Rattle.std.proofs.lemmas.List.Sums.{sum_by-cons}
+use Rattle.ats_base.specs.Outside.{Rose, IsMissing, ShelfTold, Ask, Asked, ReadsAtMostOnce}
+use Rattle.ats_base.proofs.Asking.{asked_none, asked_then, asked_as}
+use Rattle.ats_top.specs.Read.{Files}
+use Rattle.ats_top.specs.Reading.{AsProof, InputFile, limit_of, ReadsInOrder, proof_files, Reads}
+use Rattle.ats_top.specs.Gathered.{IsGathered, AreGathered, LacksProof, PassesLimit, size, total}
+use Rattle.ats_top.specs.Sweeping.{entry_names, MissingStop, GatheringStop, ReadsProofs}
+use Rattle.ats_top.specs.declared.gathering.Gathered.{Gathered}
+use Rattle.ats_top.specs.declared.listing.Entry.{Entry}
+use Rattle.ats_top.specs.declared.stops.InputRefusal.TheVariants.{ProofsTooLong}
+use Rattle.ats_top.specs.declared.stops.Stop.{Stop}
+use Rattle.ats_top.specs.declared.stops.Stop.TheVariants.{Usage, Shelf, Input, Rejected, Memory, Link, Peer, Faults, Collision, Swept}
+
+-- ---- reads in order
+
+no_reads : (files : List InputFile) → ReadsInOrder files []
+no_reads [] = refl
+no_reads (file ∷ rest) = ([], [], refl, tt, no_reads rest)
+
+-- reads of the first files, and of one more
+reads_more : (files : List InputFile) (file : InputFile) (asks more : List Ask) → ReadsInOrder files asks → ReadsAtMostOnce file.name (limit_of file.form) more
+    → ReadsInOrder (files ++ file ∷ []) (asks ++ more)
+reads_more [] file asks more none reads =
+    (more, [], ap (λ (l : List Ask). l ++ more) none ∙ sym (append-nil more), reads, refl)
+reads_more (f ∷ files) file asks more (first, later, parts, one, rest) reads =
+    (first, later ++ more, ap (λ (l : List Ask). l ++ more) parts ∙ append_assoc first later more, one, reads_more files file later more rest reads)
+
+-- reads of the first files are reads of all
+reads_first : (files more : List InputFile) (asks : List Ask) → ReadsInOrder files asks → ReadsInOrder (files ++ more) asks
+reads_first [] more asks none = subst (ReadsInOrder more) (sym none) (no_reads more)
+reads_first (f ∷ files) more asks (first, later, parts, one, rest) = (first, later, parts, one, reads_first files more later rest)
+
+files_more : (names more : List (List ℕ)) → proof_files (names ++ more) ≡ proof_files names ++ proof_files more
+files_more [] more = refl
+files_more (name ∷ names) more = ap (λ (files : List InputFile). (record { name = name; form = AsProof }) ∷ files) (files_more names more)
+
+-- ---- names
+
+-- those before an entry, its own, and those behind it
+pub names_at : (entries : List Entry) (i : ℕ) (entry : Entry) → i < length entries → entry ≡ get_or entries i entry
+    → entry_names entries ≡ entry_names (take i entries) ++ entry.proof.now ∷ entry_names (drop (suc i) entries)
+names_at [] i entry less is = absurd (omega (arith, less))
+names_at (e ∷ entries) zero entry less is = ap (λ (one : Entry). one.proof.now ∷ entry_names entries) (sym is)
+names_at (e ∷ entries) (suc i) entry less is = ap (λ (names : List (List ℕ)). e.proof.now ∷ names) (names_at entries i entry (omega (arith, less)) is)
+
+names_next : (entries : List Entry) (i : ℕ) (entry : Entry) → i < length entries → entry ≡ get_or entries i entry
+    → entry_names (take (suc i) entries) ≡ entry_names (take i entries) ++ entry.proof.now ∷ []
+names_next [] i entry less is = absurd (omega (arith, less))
+names_next (e ∷ entries) zero entry less is = ap (λ (one : Entry). one.proof.now ∷ []) (sym is)
+names_next (e ∷ entries) (suc i) entry less is = ap (λ (names : List (List ℕ)). e.proof.now ∷ names) (names_next entries i entry (omega (arith, less)) is)
+
+-- ---- proofs
+
+gathered_more : (files : Files) (names : List (List ℕ)) (proofs : List Gathered) (name : List ℕ) (proof : Gathered) → AllZip (IsGathered files) names proofs
+    → IsGathered files name proof → AllZip (IsGathered files) (names ++ name ∷ []) (proofs ++ proof ∷ [])
+gathered_more files [] [] name proof are is = (is, tt)
+gathered_more files [] (p ∷ proofs) name proof are is = absurd are
+gathered_more files (n ∷ names) [] name proof are is = absurd are
+gathered_more files (n ∷ names) (p ∷ proofs) name proof are is = (are.0, gathered_more files names proofs name proof are.1 is)
+
+total_more : (proofs : List Gathered) (proof : Gathered) → total (proofs ++ proof ∷ []) ≡ total proofs + size proof
+total_more [] proof = let one = sum_by-cons size proof [] in omega (arith, one)
+total_more (p ∷ proofs) proof =
+    let first = sum_by-cons size p (proofs ++ proof ∷ []) in
+    let second = sum_by-cons size p proofs in
+    omega (arith, first, second, total_more proofs proof)
+
+-- the proofs of the first entries were gathered, and have so many bytes
+pub record AreSoFar (before now : ShelfTold) (entries : List Entry) (i : ℕ) (proofs : List Gathered) (count : ℕ) : Type 0 where
+  pub files : now.files ≡ before.files
+  pub later : before.faults ≤ now.faults
+  pub asked : Asked before.asked now.asked (ReadsInOrder (proof_files (entry_names (take i entries))))
+  pub each : AllZip (IsGathered before.files) (entry_names (take i entries)) proofs
+  pub counted : count ≡ total proofs
+  pub within : count ≤ 2 ^ 28
+
+pub none_so_far : (told : ShelfTold) (entries : List Entry) → AreSoFar told told entries 0 [] 0
+none_so_far told entries = record {
+  files = refl;
+  later = omega arith;
+  asked = asked_none told.asked (ReadsInOrder []) refl;
+  each = tt;
+  counted = refl;
+  within = omega arith;
+}
+
+module _ (before mid now : ShelfTold) (entries : List Entry) (i : ℕ) (entry : Entry) (less : i < length entries) (is : entry ≡ get_or entries i entry)
+    (proofs : List Gathered) (count : ℕ) (so_far : AreSoFar before mid entries i proofs count)
+    (reads : Reads mid now entry.proof.now (2 ^ 26)) where
+  asked_next : Asked before.asked now.asked (ReadsInOrder (proof_files (entry_names (take i entries)) ++ (record { name = entry.proof.now; form = AsProof }) ∷ []))
+  asked_next = asked_then before.asked mid.asked now.asked (ReadsInOrder (proof_files (entry_names (take i entries)))) (ReadsAtMostOnce entry.proof.now (2 ^ 26))
+      (ReadsInOrder (proof_files (entry_names (take i entries)) ++ (record { name = entry.proof.now; form = AsProof }) ∷ []))
+      so_far.asked reads.asked
+      (λ asks more first further. reads_more (proof_files (entry_names (take i entries))) (record { name = entry.proof.now; form = AsProof }) asks more first further)
+
+  -- what all calls so far are of those for all entries
+  pub reads_next : ReadsProofs before now (entry_names entries)
+  reads_next = record {
+    files = reads.files ∙ so_far.files;
+    later = omega (arith, so_far.later, reads.later);
+    asked = asked_as before.asked now.asked _ (ReadsInOrder (proof_files (entry_names entries))) asked_next
+        (λ asks first. subst (λ (files : List InputFile). ReadsInOrder files asks) (sym all_files)
+        (reads_first (proof_files (entry_names (take i entries)) ++ (record { name = entry.proof.now; form = AsProof }) ∷ [])
+        (proof_files (entry_names (drop (suc i) entries))) asks first));
+  }
+    where
+      all_files : proof_files (entry_names entries)
+          ≡ (proof_files (entry_names (take i entries)) ++ (record { name = entry.proof.now; form = AsProof }) ∷ []) ++ proof_files (entry_names (drop (suc i) entries))
+      all_files = ap proof_files (names_at entries i entry less is)
+          ∙ files_more (entry_names (take i entries)) (entry.proof.now ∷ entry_names (drop (suc i) entries))
+          ∙ sym (append_assoc (proof_files (entry_names (take i entries))) ((record { name = entry.proof.now; form = AsProof }) ∷ []) (proof_files (entry_names (drop (suc i) entries))))
+
+  gathered_first : AreGathered before.files (entry_names (take i entries)) proofs
+  gathered_first = record { each = so_far.each; within = omega (arith, so_far.counted, so_far.within) }
+
+  -- the next is not there, or want of memory
+  pub stops_at : (stop : Stop) → MissingStop mid now entry.proof.now stop → GatheringStop before now (entry_names entries) stop
+  stops_at Usage stops = absurd stops
+  stops_at Shelf (inl rose) = inl (omega (arith, so_far.later, rose))
+  stops_at Shelf (inr missing) = inr (record {
+    before = entry_names (take i entries);
+    name = entry.proof.now;
+    after = entry_names (drop (suc i) entries);
+    parts = names_at entries i entry less is;
+    proofs = proofs;
+    gathered = gathered_first;
+    missing = subst (λ (files : Files). IsMissing files entry.proof.now) so_far.files missing;
+  })
+  stops_at (Input refusal) stops = absurd stops
+  stops_at (Rejected rejection) stops = absurd stops
+  stops_at Memory stops = tt
+  stops_at Link stops = absurd stops
+  stops_at (Peer fault) stops = absurd stops
+  stops_at (Faults count) stops = absurd stops
+  stops_at (Collision place ours theirs) stops = absurd stops
+  stops_at (Swept lines collides) stops = absurd stops
+
+  module _ (proof : Gathered) (gathered : IsGathered mid.files entry.proof.now proof) where
+    gathered_last : IsGathered before.files entry.proof.now proof
+    gathered_last = subst (λ (files : Files). IsGathered files entry.proof.now proof) so_far.files gathered
+
+    -- with the next there are too many bytes
+    pub passes_at : (bytes : ℕ) → bytes ≡ count + size proof → 2 ^ 28 < bytes → PassesLimit before.files (entry_names entries) bytes
+    passes_at bytes counted passes = record {
+      before = entry_names (take i entries);
+      name = entry.proof.now;
+      after = entry_names (drop (suc i) entries);
+      parts = names_at entries i entry less is;
+      proofs = proofs;
+      gathered = gathered_first;
+      last = proof;
+      is = gathered_last;
+      counted = counted ∙ ap (λ (n : ℕ). n + size proof) so_far.counted;
+      passes = passes;
+    }
+
+    -- the next was gathered
+    pub so_far_more : (bytes : ℕ) → bytes ≡ count + size proof → bytes ≤ 2 ^ 28 → AreSoFar before now entries (i + 1) (proofs ++ proof ∷ []) bytes
+    so_far_more bytes counted within = subst (λ (n : ℕ). AreSoFar before now entries n (proofs ++ proof ∷ []) bytes) next (record {
+      files = reads.files ∙ so_far.files;
+      later = omega (arith, so_far.later, reads.later);
+      asked = subst (λ (files : List InputFile). Asked before.asked now.asked (ReadsInOrder files))
+          (sym (ap proof_files (names_next entries i entry less is) ∙ files_more (entry_names (take i entries)) (entry.proof.now ∷ []))) asked_next;
+      each = subst (λ (names : List (List ℕ)). AllZip (IsGathered before.files) names (proofs ++ proof ∷ [])) (sym (names_next entries i entry less is))
+          (gathered_more before.files (entry_names (take i entries)) proofs entry.proof.now proof so_far.each gathered_last);
+      counted = counted ∙ ap (λ (n : ℕ). n + size proof) so_far.counted ∙ sym (total_more proofs proof);
+      within = within;
+    })
+      where
+        next : suc i ≡ i + 1
+        next = omega arith
+
+take_all_entries : (entries : List Entry) (i : ℕ) → length entries ≤ i → take i entries ≡ entries
+take_all_entries [] zero past = refl
+take_all_entries [] (suc i) past = refl
+take_all_entries (e ∷ entries) zero past = absurd (omega (arith, past))
+take_all_entries (e ∷ entries) (suc i) past = ap (λ (es : List Entry). e ∷ es) (take_all_entries entries i (omega (arith, past)))
+
+-- all were gathered
+module _ (before now : ShelfTold) (entries : List Entry) (i : ℕ) (past : length entries ≤ i) (proofs : List Gathered) (count : ℕ)
+    (so_far : AreSoFar before now entries i proofs count) where
+  pub all_gathered : AreGathered before.files (entry_names entries) proofs
+  all_gathered = record {
+    each = subst (λ (es : List Entry). AllZip (IsGathered before.files) (entry_names es) proofs) (take_all_entries entries i past) so_far.each;
+    within = omega (arith, so_far.counted, so_far.within);
+  }
+
+  pub reads_all : ReadsProofs before now (entry_names entries)
+  reads_all = record {
+    files = so_far.files;
+    later = so_far.later;
+    asked = subst (λ (es : List Entry). Asked before.asked now.asked (ReadsInOrder (proof_files (entry_names es)))) (take_all_entries entries i past) so_far.asked;
+  }

@@ -1,0 +1,186 @@
+//! The audits of the proofs of a list against an index, and their lines.
+
+ghost use Rattle.std.specs.Prelude.{◌≡◌, ◌++◌, ◌||◌, true, false, IfOk, IfErr, OnOk, length, string_bytes};
+ghost use Rattle.ats_top.specs.Words.{Sweep};
+ghost use Rattle.ats_top.specs.Reading.{Serves};
+ghost use Rattle.ats_top.specs.Run.{FilesStop};
+ghost use Rattle.ats_top.specs.Findings.{FoundRefused, IsSwept, is_refused, is_collision, line_of_finding};
+ghost use Rattle.ats_top.specs.Sweeping.{AreJobs, IsReport, finding_of, found_by};
+ghost use Rattle.ats_top.specs.declared.stops.Stop.TheVariants.{Swept};
+
+use crate::gathering::{Gathered, gather_all};
+use crate::listing::{Entry, read_entries};
+use crate::read;
+use crate::rejection::rejection_words;
+use crate::stops::Stop;
+use ats_audit::{Job, Verdict};
+use ats_base::Shelf;
+use ats_client::Rejection;
+use ats_hash::Hash32;
+use std::alloc::{AllocError, Global};
+use std::thread::Threads;
+
+// The audits that the lines of a list ask for. Of a file that is too long there is nothing to be audited.
+fn jobs<'a>(
+    alloc: Global,
+    entries: Vec<Entry<'_>>,
+    proofs: &'a [Gathered],
+) -> Result<Vec<Job<'a>>, AllocError>
+    requires { length entries.items ≡ length proofs.now }
+    ensures { IfOk result (λ jobs. AreJobs entries.entry.items proofs.now jobs.items) }
+{
+    let mut jobs = Vec::new(alloc);
+    for entry in entries {
+        let bytes = proofs[jobs.len()].bytes();
+        jobs.push(Job {
+            query: entry.query,
+            top: entry.top,
+            bytes,
+        })?;
+    }
+    Ok(jobs)
+}
+
+// The line of a proof that is refused.
+fn refused_line(alloc: Global, number: usize, rejection: Rejection) -> Result<String, AllocError>
+    ensures { IfOk result (λ text. string_bytes text ≡ line_of_finding number (FoundRefused rejection)) }
+{
+    let words = rejection_words(alloc, rejection)?;
+    format!(in alloc; "{number} refused {words}\n")
+}
+
+// The line of a proof with this verdict.
+fn verdict_line(alloc: Global, number: usize, verdict: &Verdict) -> Result<String, AllocError>
+    ensures { IfOk result (λ text. string_bytes text ≡ line_of_finding number (found_by verdict.now)) }
+{
+    match verdict {
+        Verdict::BadShape(fault) => refused_line(alloc, number, Rejection::Shape(*fault)),
+        Verdict::Refused(refusal) => refused_line(alloc, number, Rejection::Check(*refusal)),
+        Verdict::Right(rows) => {
+            let count = rows.len();
+            format!(in alloc; "{number} right {count}\n")
+        }
+        Verdict::Collision { .. } => format!(in alloc; "{number} collision\n"),
+    }
+}
+
+// The line of a proof. The verdict of a file that is too long is of no account.
+fn line(
+    alloc: Global,
+    number: usize,
+    proof: &Gathered,
+    verdict: &Verdict,
+) -> Result<String, AllocError>
+    ensures { IfOk result (λ text. string_bytes text ≡ line_of_finding number (finding_of proof.now verdict.now)) }
+{
+    match proof {
+        Gathered::Long => refused_line(alloc, number, Rejection::Shape(read::TOO_LONG)),
+        Gathered::Whole(_) => verdict_line(alloc, number, verdict),
+    }
+}
+
+fn is_refused(proof: &Gathered, verdict: &Verdict) -> bool
+    ensures { result ≡ is_refused (finding_of proof.now verdict.now) }
+{
+    match proof {
+        Gathered::Long => true,
+        Gathered::Whole(_) => match verdict {
+            Verdict::BadShape(_) | Verdict::Refused(_) => true,
+            Verdict::Right(_) | Verdict::Collision { .. } => false,
+        },
+    }
+}
+
+fn is_collision(proof: &Gathered, verdict: &Verdict) -> bool
+    ensures { result ≡ is_collision (finding_of proof.now verdict.now) }
+{
+    match proof {
+        Gathered::Long => false,
+        Gathered::Whole(_) => match verdict {
+            Verdict::Collision { .. } => true,
+            Verdict::BadShape(_) | Verdict::Refused(_) | Verdict::Right(_) => false,
+        },
+    }
+}
+
+// What is said of proofs: a line for each, and whether one is refused, and whether one collides.
+#[derive(Drop)]
+struct Report {
+    lines: String,
+    refused: bool,
+    collides: bool,
+}
+
+impl Report {
+    // What is said of one more proof, with its number.
+    fn add(
+        &mut self,
+        alloc: Global,
+        number: usize,
+        proof: &Gathered,
+        verdict: &Verdict,
+    ) -> Result<(), AllocError>
+        ensures lines { OnOk result (string_bytes self.new.lines ≡ string_bytes self.old.lines ++ line_of_finding number (finding_of proof.now verdict.now)) }
+        ensures refused { OnOk result (self.new.refused ≡ (self.old.refused || is_refused (finding_of proof.now verdict.now))) }
+        ensures collides { OnOk result (self.new.collides ≡ (self.old.collides || is_collision (finding_of proof.now verdict.now))) }
+    {
+        let line = line(alloc, number, proof, verdict)?;
+        self.lines.push_str(line.as_str())?;
+        self.refused = self.refused || is_refused(proof, verdict);
+        self.collides = self.collides || is_collision(proof, verdict);
+        Ok(())
+    }
+}
+
+// What is said of all proofs, in order.
+fn report_of(alloc: Global, proofs: &[Gathered], verdicts: &[Verdict]) -> Result<Report, AllocError>
+    requires { length verdicts.now ≡ length proofs.now }
+    ensures { IfOk result (IsReport proofs.now verdicts.now) }
+{
+    let mut report = Report {
+        lines: String::new(alloc),
+        refused: false,
+        collides: false,
+    };
+    for i in 0..proofs.len() {
+        report.add(alloc, i + 1, &proofs[i], &verdicts[i])?;
+    }
+    Ok(report)
+}
+
+// Where one collides, or one is refused, not all is right.
+fn conclusion(report: Report) -> Result<String, Stop>
+    ensures ok { IfOk result (λ text. (string_bytes text ≡ string_bytes report.lines) × (report.collides ≡ false) × (report.refused ≡ false)) }
+    ensures stop { IfErr result (λ stop. (stop ≡ Swept report.lines report.collides) × ((report.collides || report.refused) ≡ true)) }
+{
+    if report.collides || report.refused {
+        return Err(Stop::Swept {
+            lines: report.lines,
+            collides: report.collides,
+        });
+    }
+    Ok(report.lines)
+}
+
+/// The lines of `sweep`. The index is read before the list, all lines are tried before a proof is gathered, and all proofs are
+/// gathered before one is audited.
+pub(crate) fn sweep<H: Hash32 + Sync, R: Threads + Sync, S: Shelf>(
+    rt: &R,
+    alloc: Global,
+    index: &str,
+    list: &str,
+    shelf: &mut S,
+) -> Result<String, Stop>
+    ensures ok { IfOk result (λ text. IsSwept H.hash (S.told shelf.old).files (record { index = index.now; list = list.now }) 0 (string_bytes text)) }
+    ensures stop { IfErr result (FilesStop H.hash (S.told shelf.old) (S.told shelf.new) (Sweep (record { index = index.now; list = list.now }))) }
+    ensures same { (S.told shelf.new).files ≡ (S.told shelf.old).files }
+    ensures serves { Serves (S.told shelf.old) (S.told shelf.new) (Sweep (record { index = index.now; list = list.now })) }
+{
+    let loaded = read::index::<H, R, S>(rt, alloc, index, shelf)?;
+    let bytes = read::list(alloc, list, shelf)?;
+    let entries = read_entries(alloc, bytes.as_slice())?;
+    let proofs = gather_all(alloc, entries.as_slice(), shelf)?;
+    let jobs = jobs(alloc, entries, proofs.as_slice())?;
+    let verdicts = ats_audit::sweep::<H, R>(rt, alloc, &loaded, jobs.as_slice())?;
+    conclusion(report_of(alloc, proofs.as_slice(), verdicts.as_slice())?)
+}
