@@ -59,6 +59,7 @@ COMMANDS = [
     Command(["prove", "I", "tnra", "1", QUERY, "P"], "proof 365\n", "P"),
     Command(["verify", ROOT, "1", QUERY, "P"], ROW),
     Command(["audit", "I", "1", QUERY, "P"], ROW),
+    Command(["sweep", "I", "L"], "1 right 1\n"),
     Command(["ask", ROOT, "tnra", "1", QUERY, "ADDRESS"], ROW),
     Command(["serve", "I", "1", "ADDRESS"], "listening\n" + SERVED.format(1, "end")),
 ]
@@ -154,7 +155,8 @@ def build(program: str, folder: Path) -> House:
         ended = tracing.run([program, *words], folder=str(folder))
         if ended.status != 0:
             sys.exit(f"{words[0]} ended with status {ended.status}: {ended.printed.decode()}")
-    files = {name: (folder / name).read_bytes() for name in "XIP"}
+    (folder / "L").write_text(f"1 P {QUERY}\n", encoding="utf-8")
+    files = {name: (folder / name).read_bytes() for name in "XIPL"}
     return House(program, folder, files, framed(b"\x00" + files["P"]))
 
 
@@ -300,8 +302,14 @@ def block(house: House, case: Case, moves: int) -> str:
     return "```\n" + "\n".join(lines) + "\n```\n\n"
 
 
+# The player plays the vectors too, of which there are none here.
+NO_VECTORS = [(f"{name}.json", "{}") for name in ("archives", "proofs", "fields")]
+NO_VECTORS += [(f"{name}.json", "[]") for name in ("changed", "made", "words", "numbers", "inputs")]
+NO_VECTOR = "0 vectors passed\n"
+
+
 def play(cases: str, folder: Path, document: str, plan: tracing.Plan = tracing.Plan()) -> tracing.Ended:
-    for name, text in (("archive.json", "[]"), ("cases.md", document), ("QUERIES.md", "")):
+    for name, text in (("archive.json", "[]"), ("cases.md", document), ("QUERIES.md", ""), *NO_VECTORS):
         (folder / name).write_text(text, encoding="utf-8")
     return tracing.run([cases], plan, str(folder))
 
@@ -313,10 +321,10 @@ def links(command: Command) -> list[str]:
 def played(command: Command, ended: tracing.Ended) -> str:
     """The status of the command, or what is wrong with it; nothing where the growth was the player's own."""
     printed = ended.printed.decode()
-    if ended.status == 0 and printed == "1 cases passed\n":
+    if ended.status == 0 and printed == "1 cases passed\n" + NO_VECTOR:
         return "0"
     told = re.fullmatch(
-        r"differs: .*\nstatus (\d+), wanted 0; (\d+) files or links differ; printed:\n(.*)wanted:\n.*0 cases passed\n",
+        r"differs: .*\nstatus (\d+), wanted 0; (\d+) files or links differ; printed:\n(.*)wanted:\n.*0 cases passed\n" + NO_VECTOR,
         printed,
         re.DOTALL,
     )
@@ -398,9 +406,10 @@ def end_cases(command: Command) -> Iterator[Case]:
 def calls_in_memory(house: House, cases: str, folder: Path) -> bool:
     print("\nover objects in memory, a call of which fails, in pieces of one byte")
     known = {command.name: command for command in COMMANDS}
-    texts_read, index_read, proof_read = (len(house.files[name]) + 1 for name in "XIP")
+    texts_read, index_read, proof_read, list_read = (len(house.files[name]) + 1 for name in "XIPL")
     reads = {"rank": texts_read, "build": texts_read, "root": index_read, "prove": index_read}
     reads.update({"verify": proof_read, "audit": index_read + proof_read})
+    reads["sweep"] = index_read + list_read + proof_read
     rows = [(name, "shelf", shelf_cases(house, known[name], count)) for name, count in reads.items()]
     rows += [(command.name, "sink", sink_cases(command)) for command in COMMANDS]
     rows += [(name, "link", link_cases(house, known[name])) for name in ("ask", "serve")]
@@ -410,7 +419,7 @@ def calls_in_memory(house: House, cases: str, folder: Path) -> bool:
         blocks = [block(house, case, 1) for case in some]
         ended = play(cases, folder, "".join(blocks))
         text = ended.printed.decode()
-        is_right = ended.status == 0 and text == f"{len(blocks)} cases passed\n"
+        is_right = ended.status == 0 and text == f"{len(blocks)} cases passed\n" + NO_VECTOR
         print(f"{name:8}{what:8}{len(blocks):>6} cases: {'each as wanted' if is_right else 'WRONG: ' + text[:2000]}", flush=True)
         passed = is_right and passed
     return passed
