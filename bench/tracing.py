@@ -2,7 +2,8 @@
 
 It traces the program by ptrace, so it wants Linux on x86-64, and a program that kept its symbols, as `rt run` leaves it.
 A growth is a call of the program's allocator; a refused one answers that there is no memory. A call that fails answers an
-error and does nothing. Counting begins where the program does, behind what the system's loader has done.
+error and does nothing. Counting begins where the program does, behind what the system's loader has done. Threads are followed,
+too: their growths and calls are counted in the order in which they come, which may differ from run to run.
 """
 
 import contextlib
@@ -32,10 +33,13 @@ CALLS = {**READS, **WRITES, **OTHERS}
 
 EIO = 5
 
-TRACEME, PEEK, POKE, CONT, STEP, GETREGS, SETREGS, SYSCALL, SETOPTIONS = 0, 1, 4, 7, 9, 12, 13, 24, 0x4200
-OPTIONS = 1 | 0x100000  # system calls are told apart from other stops; the program ends where the tracer does
+TRACEME, PEEK, POKE, CONT, GETREGS, SETREGS, SYSCALL, SETOPTIONS = 0, 1, 4, 7, 12, 13, 24, 0x4200
+# System calls are told apart from other stops; new threads are traced; the program ends where the tracer does.
+OPTIONS = 1 | 8 | 0x100000
 SYSTEM_STOP = signal.SIGTRAP | 0x80
+ANY_OF_MINE = 0x40000000 | 0x20000000  # to wait for: all threads that this thread traces
 BREAKPOINT = 0xCC
+NOTHING = bytes.fromhex("f30f1efa")  # endbr64, with which the allocators begin, and which does nothing
 
 FIELDS = "r15 r14 r13 r12 rbp rbx r11 r10 r9 r8 rax rcx rdx rsi rdi orig_rax rip cs eflags rsp ss fs_base gs_base ds es fs gs"
 
@@ -113,16 +117,22 @@ class Image(NamedTuple):
         return Image(entry, found, struct.unpack_from("<H", file, 16)[0] == 3)
 
 
+class Thread:
+    """A thread of the program."""
+
+    def __init__(self) -> None:
+        self.is_inside = False  # of a system call
+        self.answer: Optional[int] = None  # what that call is to answer
+        self.length: Optional[int] = None  # what stood in the register of its third word
+
+
 class Tracer:
     """One run. It is made and followed by one thread, as the system wants it."""
 
     def __init__(self, command: list[str], plan: Plan, folder: Optional[str], image: Image):
         self.plan, self.image = plan, image
         self.growths, self.calls, self.failed = 0, 0, ""
-        self.is_inside = False  # of a system call
-        self.answer: Optional[int] = None  # what that call is to answer
-        self.length: Optional[int] = None  # what stood in the register of its third word
-        self.words: dict[int, int] = {}  # what stands at the allocators
+        self.allocators: set[int] = set()  # where they are
         self.printed, self.complained = tempfile.TemporaryFile(), tempfile.TemporaryFile()
         self.process = subprocess.Popen(
             command,
@@ -133,6 +143,8 @@ class Tracer:
             preexec_fn=lambda: trace(TRACEME, 0),
         )
         self.pid = self.process.pid
+        self.now = self.pid  # the thread that stopped last
+        self.threads = {self.pid: Thread()}
 
     def follow(self) -> Ended:
         killer = threading.Timer(LIMIT, os.kill, [self.pid, signal.SIGKILL])
@@ -151,21 +163,26 @@ class Tracer:
             return Ended(ended, self.printed.read(), self.complained.read(), self.growths, self.calls, self.failed)
 
     def wait(self) -> int:
-        return os.waitpid(self.pid, 0)[1]
+        self.now, status = os.waitpid(-1, ANY_OF_MINE)
+        return status
+
+    @property
+    def thread(self) -> Thread:
+        return self.threads[self.now]
 
     def registers(self) -> Registers:
         registers = Registers()
-        trace(GETREGS, self.pid, 0, ctypes.addressof(registers))
+        trace(GETREGS, self.now, 0, ctypes.addressof(registers))
         return registers
 
     def put(self, registers: Registers) -> None:
-        trace(SETREGS, self.pid, 0, ctypes.addressof(registers))
+        trace(SETREGS, self.now, 0, ctypes.addressof(registers))
 
     def peek(self, address: int) -> int:
-        return trace(PEEK, self.pid, address) & (1 << 64) - 1
+        return trace(PEEK, self.now, address) & (1 << 64) - 1
 
     def poke(self, address: int, word: int) -> None:
-        trace(POKE, self.pid, address, word)
+        trace(POKE, self.now, address, word)
 
     def stop_at(self, address: int) -> int:
         """Lets the program stop there, and answers what stood there."""
@@ -189,27 +206,41 @@ class Tracer:
         registers = self.registers()
         registers.rip = entry
         self.put(registers)
-        self.words = {base + at: self.stop_at(base + at) for at in self.image.allocators}
+        self.allocators = {base + at for at in self.image.allocators}
+        for address in self.allocators:
+            if self.stop_at(address).to_bytes(8, "little")[:4] != NOTHING:
+                raise Untraceable(f"{program} has allocators that begin otherwise")
 
     def run(self) -> int:
         """Follows the program to its end, and answers the status that the system gives."""
+        looks = self.plan.growth == 0 or self.plan.pieces
         resumed = 0
         while True:
-            looks = self.plan.growth == 0 or self.plan.pieces
             with contextlib.suppress(ProcessLookupError):  # it was killed
-                trace(SYSCALL if looks else CONT, self.pid, 0, resumed)
+                trace(SYSCALL if looks else CONT, self.now, 0, resumed)
             status = self.wait()
-            if not os.WIFSTOPPED(status):
-                return status
-            stop = os.WSTOPSIG(status)
-            resumed = 0
-            if stop == SYSTEM_STOP:
-                self.is_inside = not self.is_inside
-                self.enter() if self.is_inside else self.leave()
-            elif stop == signal.SIGTRAP and self.registers().rip - 1 in self.words:
-                self.grow()
-            else:
-                resumed = stop
+            while not os.WIFSTOPPED(status):
+                if self.now == self.pid:
+                    return status
+                self.threads.pop(self.now, None)
+                status = self.wait()
+            resumed = self.stopped(status)
+
+    def stopped(self, status: int) -> int:
+        """Does what is due at a stop, and answers the signal with which the thread goes on."""
+        stop = os.WSTOPSIG(status)
+        if self.now not in self.threads:  # it begins
+            self.threads[self.now] = Thread()
+        elif stop == SYSTEM_STOP:
+            self.thread.is_inside = not self.thread.is_inside
+            self.enter() if self.thread.is_inside else self.leave()
+        elif stop == signal.SIGTRAP and status >> 16:  # it has begun a thread
+            pass
+        elif stop == signal.SIGTRAP and self.registers().rip - 1 in self.allocators:
+            self.grow()
+        else:
+            return stop
+        return 0
 
     def enter(self) -> None:
         registers = self.registers()
@@ -225,41 +256,37 @@ class Tracer:
             if self.plan.act:
                 self.plan.act()
             else:
-                self.answer = -EIO
+                self.thread.answer = -EIO
                 registers.orig_rax = (1 << 64) - 1
-        if self.answer is None and self.plan.pieces and (number in READS or number in WRITES) and registers.rdx > 1:
-            self.length, registers.rdx = registers.rdx, 1
-        elif self.answer is None:
+        if self.thread.answer is None and self.plan.pieces and (number in READS or number in WRITES) and registers.rdx > 1:
+            self.thread.length, registers.rdx = registers.rdx, 1
+        elif self.thread.answer is None:
             return
         self.put(registers)
 
     def leave(self) -> None:
-        if self.answer is None and self.length is None:
+        if self.thread.answer is None and self.thread.length is None:
             return
         registers = self.registers()
-        if self.answer is not None:
-            registers.rax = self.answer & (1 << 64) - 1
-        if self.length is not None:
-            registers.rdx = self.length
-        self.answer = self.length = None
+        if self.thread.answer is not None:
+            registers.rax = self.thread.answer & (1 << 64) - 1
+        if self.thread.length is not None:
+            registers.rdx = self.thread.length
+        self.thread.answer = self.thread.length = None
         self.put(registers)
 
     def grow(self) -> None:
         self.growths += 1
         registers = self.registers()
         registers.rip -= 1
-        address = registers.rip
         if self.growths == self.plan.growth or self.failed and self.plan.onward:
             self.failed = "growth"
             registers.rax, registers.rip = 0, self.peek(registers.rsp)
             registers.rsp += 8
             self.put(registers)
             return
+        registers.rip += len(NOTHING)
         self.put(registers)
-        self.poke(address, self.words[address])
-        trace(STEP, self.pid)
-        self.wait()
-        self.poke(address, self.words[address] & ~0xFF | BREAKPOINT)
 
 
 def run(command: list[str], plan: Plan = Plan(), folder: Optional[str] = None) -> Ended:
