@@ -324,12 +324,12 @@ def played(command: Command, ended: tracing.Ended) -> str:
     if ended.status == 0 and printed == "1 cases passed\n" + NO_VECTOR:
         return "0"
     told = re.fullmatch(
-        r"differs: .*\nstatus (\d+), wanted 0; (\d+) files or links differ; printed:\n(.*)wanted:\n.*0 cases passed\n" + NO_VECTOR,
+        r"differs: .*\nstatus (\d+), wanted 0; (\d+) files, links or numbers differ; printed:\n(.*)wanted:\n.*0 cases passed\n" + NO_VECTOR,
         printed,
         re.DOTALL,
     )
     if told is None:
-        is_own = not printed or "not played: OutOfMemory" in printed or "not understood: " in printed
+        is_own = not printed or "not played: " in printed or "not understood: " in printed
         return "" if is_own else f"WRONG: status {ended.status}, printed {ended.printed!r}"
     status, text = int(told[1]), told[3]
     if told[2] != "0" or not text_fits(command, status, text):
