@@ -19,7 +19,7 @@ MIB = 4
 LINES = 1000
 ROWS = 10
 PROCESSORS = 4
-TERMS = (0, 1, 2, 3, 4)  # of the query, by their place in the order of frequency
+TERMS = (7, 8)  # of the query, by their place in the order of frequency: 1,000 of its proofs are within a sweep's limit
 
 WANTED = 0.35  # of a sweep on four processors to one on one, beside loading
 
