@@ -4,8 +4,8 @@ use Rattle.ats_dict.specs.declared.header.Header.{Header}
 use Rattle.ats_commit.specs.Archive.{Archive}
 use Rattle.ats_commit.specs.Root.{root_of}
 use Rattle.ats_commit.proofs.Layouts.{each_archive}
-use Rattle.ats_records.specs.declared.record.Algorithm.{Algorithm}
-use Rattle.ats_records.specs.declared.record.Algorithm.TheVariants.{Tra}
+use Rattle.ats_proof.specs.declared.record.Algorithm.{Algorithm}
+use Rattle.ats_proof.specs.declared.record.Algorithm.TheVariants.{Tra}
 use Rattle.ats_proof.specs.Value.{Proof, IsProof}
 use Rattle.ats_proof.proofs.InRange.{in_range}
 use Rattle.ats_proof.proofs.Unique.{one_value}

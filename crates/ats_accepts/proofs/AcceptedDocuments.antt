@@ -16,8 +16,8 @@ use Rattle.ats_commit.specs.Archive.{archive_of}
 use Rattle.ats_commit.specs.Ours.{asked_term}
 use Rattle.ats_commit.specs.Trees.{documents_leaf, documents_of, leaf_of}
 use Rattle.ats_index.specs.Parts.{header_parts}
-use Rattle.ats_records.specs.declared.record.Algorithm.{Algorithm}
-use Rattle.ats_records.specs.declared.record.Algorithm.TheVariants.{Tra, Tnra}
+use Rattle.ats_proof.specs.declared.record.Algorithm.{Algorithm}
+use Rattle.ats_proof.specs.declared.record.Algorithm.TheVariants.{Tra, Tnra}
 use Rattle.ats_proof.specs.Value.{Documents, TermsSection}
 use Rattle.ats_proof.specs.Runs.{shown_docs}
 use Rattle.ats_client.specs.Documents.{AreDocsRooted, IsDocumentRight, documents_from, documents_in}

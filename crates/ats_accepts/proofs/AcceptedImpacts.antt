@@ -15,9 +15,9 @@ use Rattle.ats_bound.specs.declared.bracket.Bracket.{Bracket}
 use Rattle.ats_bound.specs.Cut.{ShownLane}
 use Rattle.ats_bound.specs.Ranked.{impact_in}
 use Rattle.ats_bound.proofs.Members.{has_contained}
-use Rattle.ats_records.specs.declared.record.Algorithm.{Algorithm}
-use Rattle.ats_records.specs.declared.record.Algorithm.TheVariants.{Tra, Tnra}
-use Rattle.ats_records.specs.declared.record.Slot.{Slot}
+use Rattle.ats_proof.specs.declared.record.Algorithm.{Algorithm}
+use Rattle.ats_proof.specs.declared.record.Algorithm.TheVariants.{Tra, Tnra}
+use Rattle.ats_proof.specs.declared.record.Slot.{Slot}
 use Rattle.ats_proof.specs.Value.{Documents, ShownTerm, TermsSection}
 use Rattle.ats_client.specs.Groups.{slot_at}
 use Rattle.ats_client.specs.Bracketing.{bounds_in, impact_shown, impacts_shown}

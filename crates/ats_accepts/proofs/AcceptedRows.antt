@@ -9,7 +9,7 @@ use Rattle.std.proofs.lemmas.List.Folds.{Any-from_list_any, list_any_at}
 use Rattle.ats_dict.specs.declared.header.Header.{Header}
 use Rattle.ats_lists.specs.Layout.{whole_lists}
 use Rattle.ats_commit.specs.Archive.{archive_of}
-use Rattle.ats_records.specs.declared.record.Slot.{Slot}
+use Rattle.ats_proof.specs.declared.record.Slot.{Slot}
 use Rattle.ats_commit.specs.Trees.{dictionary_of}
 use Rattle.ats_bound.specs.declared.bracket.Bracket.{Bracket}
 use Rattle.ats_bound.specs.Cut.{ShownLane, IsMet, threshold}
@@ -28,8 +28,8 @@ use Rattle.ats_client.specs.Accepts.{Accepts}
 use Rattle.ats_client.proofs.Kept.{accepts_each}
 use Rattle.ats_commit.specs.Root.{root_of}
 use Rattle.ats_commit.specs.Ours.{asked_term}
-use Rattle.ats_records.specs.declared.record.Algorithm.{Algorithm}
-use Rattle.ats_records.specs.declared.record.Algorithm.TheVariants.{Tra, Tnra}
+use Rattle.ats_proof.specs.declared.record.Algorithm.{Algorithm}
+use Rattle.ats_proof.specs.declared.record.Algorithm.TheVariants.{Tra, Tnra}
 use Rattle.ats_prover.specs.Terms.{has, place, shown_entry, slot_of}
 use Rattle.ats_prover.specs.Lanes.{bounding, lanes_of, present}
 use Rattle.ats_prover.specs.Honest.{IsHonest, prefixes}

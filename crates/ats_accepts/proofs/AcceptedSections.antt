@@ -12,7 +12,7 @@ use Rattle.ats_dict.specs.declared.spot.Spot.TheVariants.{At, Between}
 use Rattle.ats_doctree.specs.Sentinels.{term_at, terms_leaves}
 use Rattle.ats_doctree.proofs.Positions.{get_or-terms_leaves, length-terms_leaves}
 use Rattle.ats_commit.specs.Ours.{asked_term}
-use Rattle.ats_records.specs.declared.record.Slot.{Slot}
+use Rattle.ats_proof.specs.declared.record.Slot.{Slot}
 use Rattle.ats_proof.specs.Value.{ShownTerm, TermsSection}
 use Rattle.ats_proof.specs.Runs as runs
 use Rattle.ats_client.specs.Documents.{AreTermSlotsRight, present_from, term_shown}

@@ -8,7 +8,7 @@ use Rattle.std.proofs.lemmas.List.Folds.{list_any-append}
 use Rattle.ats_dict.specs.declared.spot.Spot.{Spot}
 use Rattle.ats_dict.specs.declared.spot.Spot.TheVariants.{At, Between}
 use Rattle.ats_dict.specs.Dictionary.{IsBelow}
-use Rattle.ats_records.specs.declared.record.Slot.{Slot}
+use Rattle.ats_proof.specs.declared.record.Slot.{Slot}
 use Rattle.ats_client.specs.Groups.{slot_at}
 use Rattle.ats_client.specs.Slots.{Shown, ShowsTerm}
 use Rattle.ats_prover.specs.Terms.{AreNeeded, HaveSpots, has, needs, slot_of}

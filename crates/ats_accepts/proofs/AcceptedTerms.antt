@@ -24,14 +24,14 @@ use Rattle.ats_commit.specs.Archive.{archive_of}
 use Rattle.ats_commit.specs.Trees.{dict_entry, dictionary_of}
 use Rattle.ats_commit.specs.Ours.{asked_term}
 use Rattle.ats_commit.specs.Root.{header_root, root_of}
-use Rattle.ats_records.specs.declared.record.Slot.{Slot}
+use Rattle.ats_proof.specs.declared.record.Slot.{Slot}
 use Rattle.ats_proof.specs.Value.{ShownEntry, Proof, kind_of_slot}
 use Rattle.ats_proof.specs.Runs as runs
 use Rattle.ats_client.specs.Groups.{IsOpened, IsDictionary, AreSlotsRight, dict_terms, slot_at}
 use Rattle.ats_client.specs.Presented as presented
 use Rattle.ats_client.specs.Slots as slots
 use Rattle.ats_client.specs.Slots.{ShowsTerm}
-use Rattle.ats_records.specs.declared.record.Algorithm.{Algorithm}
+use Rattle.ats_proof.specs.declared.record.Algorithm.{Algorithm}
 use Rattle.ats_prover.specs.Terms.{has, place, shown_entry, slot_of}
 use Rattle.ats_prover.specs.Lanes.{lane_of}
 use Rattle.ats_prover.specs.Honest.{IsHonest}

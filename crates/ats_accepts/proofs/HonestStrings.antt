@@ -28,9 +28,9 @@ use Rattle.ats_commit.specs.Ours.{TreePlace, asked_term, ours}
 use Rattle.ats_commit.specs.Root.{header_string}
 use Rattle.ats_commit.specs.Trees.{dictionary_of, documents_of}
 use Rattle.ats_commit.proofs.Layouts.{each_archive}
-use Rattle.ats_records.specs.declared.record.Algorithm.{Algorithm}
-use Rattle.ats_records.specs.declared.record.Slot.{Slot}
-use Rattle.ats_records.specs.declared.record.Algorithm.TheVariants.{Tra, Tnra}
+use Rattle.ats_proof.specs.declared.record.Algorithm.{Algorithm}
+use Rattle.ats_proof.specs.declared.record.Slot.{Slot}
+use Rattle.ats_proof.specs.declared.record.Algorithm.TheVariants.{Tra, Tnra}
 use Rattle.ats_bound.specs.Cut.{ShownLane, lane_of as shown_lane}
 use Rattle.ats_bound.specs.Schedule.{WholeLane, IsCut, shown}
 use Rattle.ats_proof.specs.Value.{Prefix, Proof, IsProof, Documents, ShownEntry, TermsSection}

@@ -5,8 +5,7 @@ ghost use Rattle.std.specs.Prelude.{◌≡◌, ◌+◌, ◌*◌, ◌<◌, ◌≤
 use ats_base::Bytes;
 use ats_dict::{DictLeaf, Header};
 use ats_hash::{Hash32, Sha, Steps};
-use ats_proof::{Algorithm, Feeder, ProofView, Slot};
-use ats_records::{OutOfMemory, ProofWriter};
+use ats_proof::{Algorithm, Feeder, OutOfMemory, ProofView, ProofWriter, Slot};
 use std::alloc::Global;
 
 const TERMS: u16 = 32;

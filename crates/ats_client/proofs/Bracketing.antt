@@ -1,7 +1,7 @@
 -- How the brackets of a proof are formed.
 use Rattle.std.proofs.Common.{◌≡◌, ℕ, List, Option, Some, None, refl}
-use Rattle.ats_records.specs.declared.record.Algorithm.{Algorithm}
-use Rattle.ats_records.specs.declared.record.Algorithm.TheVariants.{Tra, Tnra}
+use Rattle.ats_proof.specs.declared.record.Algorithm.{Algorithm}
+use Rattle.ats_proof.specs.declared.record.Algorithm.TheVariants.{Tra, Tnra}
 use Rattle.ats_bound.specs.Cut.{ShownLane, bracket}
 use Rattle.ats_proof.specs.Value.{Documents, Proof, algorithm_of}
 use Rattle.ats_client.specs.Bracketing.{bounds_in, bounds_of}

@@ -2,7 +2,7 @@
 use Rattle.std.proofs.Common.{◌≡◌, ◌+◌, ◌∙◌, ℕ, List, map, slice_get, Option, Some, None, option_map, true, false, refl, sym, ap, subst}
 use Rattle.std.proofs.lemmas.Option.{slice_get-map}
 use Rattle.ats_dict.specs.Dictionary.{IsBelow}
-use Rattle.ats_records.specs.declared.record.Slot.{Slot}
+use Rattle.ats_proof.specs.declared.record.Slot.{Slot}
 use Rattle.ats_tree.specs.Shown as tree
 use Rattle.ats_client.specs.Slots.{Shown, IsAt, IsBetween, ShowsTerm}
 use Rattle.ats_client.specs.Strings.{AreLeavesOf}

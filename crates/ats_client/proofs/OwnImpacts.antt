@@ -13,7 +13,7 @@ use Rattle.ats_commit.specs.Own.{IsImpactOf, AreTermNeighbours}
 use Rattle.ats_commit.proofs.OwnDocuments.{leaf_tells_impact, neighbours_tell}
 use Rattle.ats_bound.specs.Ranked.{impact_in}
 use Rattle.ats_bound.proofs.Texts.{has, listed}
-use Rattle.ats_records.specs.declared.record.Slot.{Slot}
+use Rattle.ats_proof.specs.declared.record.Slot.{Slot}
 use Rattle.ats_proof.specs.Value.{ShownTerm, TermsSection}
 use Rattle.ats_proof.specs.Ranges.{IsTermInRange}
 use Rattle.ats_proof.specs.Runs.{shown_term}

@@ -19,7 +19,7 @@ use Rattle.ats_lists.proofs.PostingLemmas.{list_is_sorted}
 use Rattle.ats_lists.proofs.WholeLemmas.{list_keeps, list_frequency}
 use Rattle.ats_dict.specs.Entry.{dict_leaf_bytes}
 use Rattle.ats_dict.specs.Dictionary.{dict_leaves}
-use Rattle.ats_records.specs.declared.record.Slot.{Slot}
+use Rattle.ats_proof.specs.declared.record.Slot.{Slot}
 use Rattle.ats_lists.specs.Layout.{Layout}
 use Rattle.ats_commit.specs.Archive.{Archive}
 use Rattle.ats_commit.specs.Trees.{dictionary_of}

@@ -4,7 +4,7 @@ use Rattle.std.proofs.Math.ListN.{get_or-map}
 use Rattle.std.specs.List.Sorted.{IsNonDecreasing}
 use Rattle.std.proofs.lemmas.List.{length-map}
 use Rattle.std.proofs.lemmas.Option.{get_or_from_slice_get}
-use Rattle.ats_records.specs.declared.record.Slot.{Slot}
+use Rattle.ats_proof.specs.declared.record.Slot.{Slot}
 use Rattle.ats_client.specs.Groups.{slot_at}
 
 -- the place is not behind that of any slot from a number on

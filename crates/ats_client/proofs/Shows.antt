@@ -7,7 +7,7 @@ use Rattle.std.proofs.lemmas.Bool.{cases_Bool, cases_order}
 use Rattle.std.proofs.lemmas.Slice.Eq.{bytes_eq-Decides}
 use Rattle.ats_terms.specs.Query.{byte_cmp}
 use Rattle.ats_dict.specs.Dictionary.{IsBelow}
-use Rattle.ats_records.specs.declared.record.Slot.{Slot}
+use Rattle.ats_proof.specs.declared.record.Slot.{Slot}
 use Rattle.ats_client.specs.Slots.{Shown, IsAt, IsBetween, Shows, ShowsTerm}
 
 -- two terms are the same or not

@@ -1,7 +1,7 @@
 -- Which slots show their terms, term by term.
 use Rattle.std.proofs.Common.{◌≡◌, ◌↔◌, ◌<◌, ◌+◌, ℕ, List, Some, slice_get, Bool, false, IsTrue, subst, below_more}
 use Rattle.std.proofs.lemmas.Option.{get_or_from_slice_get}
-use Rattle.ats_records.specs.declared.record.Slot.{Slot}
+use Rattle.ats_proof.specs.declared.record.Slot.{Slot}
 use Rattle.ats_proof.specs.Value.{ShownEntry, Proof}
 use Rattle.ats_client.specs.Slots.{ShowsTerm}
 use Rattle.ats_commit.specs.Ours.{asked_term}

@@ -6,7 +6,7 @@ use Rattle.std.proofs.lemmas.Option.{slice_get-map}
 use Rattle.std.proofs.lemmas.Slice.Eq.{bytes_eq-Decides}
 use Rattle.std.proofs.Math.Seq.{drop-nil}
 use Rattle.ats_dict.specs.Dictionary.{IsBelow}
-use Rattle.ats_records.specs.declared.record.Slot.{Slot}
+use Rattle.ats_proof.specs.declared.record.Slot.{Slot}
 use Rattle.ats_client.specs.Slots.{Shown, IsAt, IsBetween, ShowsTerm}
 
 -- the first of those left is the one at the place

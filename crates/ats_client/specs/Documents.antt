@@ -5,7 +5,7 @@ use Rattle.ats_tree.specs.Rebuild.{rebuilt}
 use Rattle.ats_dict.specs.declared.header.Header.{Header}
 use Rattle.ats_doctree.specs.declared.doc_leaf.DocLeaf.{DocLeaf}
 use Rattle.ats_commit.specs.Ours.{asked_term}
-use Rattle.ats_records.specs.declared.record.Slot.{Slot}
+use Rattle.ats_proof.specs.declared.record.Slot.{Slot}
 use Rattle.ats_proof.specs.Value.{ShownTerm, TermsSection, Documents, Proof}
 use Rattle.ats_proof.specs.Runs.{shown_docs, shown_term}
 use Rattle.ats_client.specs.declared.refusal.Refusal.{Refusal}

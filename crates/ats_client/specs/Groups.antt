@@ -7,7 +7,7 @@ use Rattle.ats_lists.specs.Layout.{Layout}
 use Rattle.ats_commit.specs.Ours.{asked_term}
 use Rattle.ats_commit.specs.Prefixes.{prefix_root}
 use Rattle.ats_commit.specs.Root.{header_root}
-use Rattle.ats_records.specs.declared.record.Slot.{Slot}
+use Rattle.ats_proof.specs.declared.record.Slot.{Slot}
 use Rattle.ats_bound.specs.declared.bracket.Bracket.{Bracket}
 use Rattle.ats_bound.specs.Cut.{ShownLane, IsMet, threshold}
 use Rattle.ats_bound.specs.Schedule.{Bounding}

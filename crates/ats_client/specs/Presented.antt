@@ -3,7 +3,7 @@ use Rattle.std.specs.Prelude.{◌+◌, ◌*◌, ℕ, List, [], ◌∷◌, map, d
 use Rattle.ats_impact.specs.Numbers.{idf}
 use Rattle.ats_dict.specs.Entry.{DictEntry}
 use Rattle.ats_dict.specs.Dictionary.{low}
-use Rattle.ats_records.specs.declared.record.Slot.{Slot}
+use Rattle.ats_proof.specs.declared.record.Slot.{Slot}
 use Rattle.ats_bound.specs.Cut.{ShownLane}
 use Rattle.ats_proof.specs.Value.{ShownEntry, Prefix, Proof}
 use Rattle.ats_proof.specs.Runs.{named}

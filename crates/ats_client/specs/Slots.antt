@@ -1,7 +1,7 @@
 -- When a slot shows that a term stands in a tree of terms, or that it does not.
 use Rattle.std.specs.Prelude.{◌≡◌, ◌+◌, ℕ, Bool, true, false, List, Some, slice_get}
 use Rattle.ats_dict.specs.Dictionary.{IsBelow}
-use Rattle.ats_records.specs.declared.record.Slot.{Slot}
+use Rattle.ats_proof.specs.declared.record.Slot.{Slot}
 use Rattle.ats_proof.specs.Value.{ShownEntry}
 
 -- a shown leaf: its position in the tree, and its term

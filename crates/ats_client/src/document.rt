@@ -5,7 +5,7 @@ ghost use Rattle.std.specs.List.{All};
 ghost use Rattle.std.specs.List.Sorted.{IsNonDecreasing};
 ghost use Rattle.ats_commit.specs.Ours.{asked_term};
 ghost use Rattle.ats_bound.specs.Lookup.{looked_score};
-ghost use Rattle.ats_records.specs.declared.record.Slot.{Slot};
+ghost use Rattle.ats_proof.specs.declared.record.Slot.{Slot};
 ghost use Rattle.ats_proof.specs.SeenDocs.{section_of};
 ghost use Rattle.ats_proof.specs.Value.{items_of_section};
 ghost use Rattle.ats_client.specs.declared.present_terms.PresentTerm.{PresentTerm};

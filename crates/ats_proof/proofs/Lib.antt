@@ -15,3 +15,4 @@ pub mod Documents
 pub mod Showing
 pub mod Unique
 pub mod InRange
+mod Appending

@@ -5,7 +5,7 @@ use Rattle.std.proofs.lemmas.List.Elements.{All-tail}
 use Rattle.ats_dict.specs.Entry.{DictEntry}
 use Rattle.ats_lists.specs.declared.entry.Entry.{Entry}
 use Rattle.ats_doctree.specs.declared.doc_leaf.DocLeaf.{DocLeaf}
-use Rattle.ats_records.specs.declared.record.Slot.{Slot}
+use Rattle.ats_proof.specs.declared.record.Slot.{Slot}
 use Rattle.ats_grammar.specs.Table.{number}
 use Rattle.ats_grammar.specs.Grammar.{proof_format}
 use Rattle.ats_grammar.proofs.Fronts.{one_spelling}

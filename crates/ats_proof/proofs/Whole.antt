@@ -7,7 +7,7 @@ use Rattle.ats_grammar.specs.Front.{Come, Spells, IsSpelling}
 use Rattle.ats_grammar.specs.declared.fault.ShapeKind.TheVariants.{Count}
 use Rattle.ats_grammar.specs.Table.{Table, End, Number}
 use Rattle.ats_grammar.specs.Grammar.{proof, proof_format, query_terms, dictionary, dict_digests, slots, met, prefixes, documents, doc_digests, term_sections, answer}
-use Rattle.ats_records.specs.declared.record.Slot.{Slot}
+use Rattle.ats_proof.specs.declared.record.Slot.{Slot}
 use Rattle.ats_proof.specs.Parts.{spelled, number_in, parts_in, counted_in, counted_size, counted}
 use Rattle.ats_proof.specs.Value.{IsProof, AreDocumentsOf, digest_fields, slot_fields, id_fields, entry_fields, prefix_fields, doc_fields, section_fields, fields_of, front_fields, header_fields, documents_fields, number_of_algorithm, kind_of_slot, present_in}
 use Rattle.ats_proof.specs.Reading.{digest_in, digest_size, slot_in, slot_size, id_in, id_size, entry_in, entry_size, prefix_in, prefix_size, doc_in, doc_size, section_in, section_size, section_slots_place, header_in, terms_in, dict_digests_place, slots_place, slots_in, met_place, met_in, lists_place, docs_place, doc_digests_place, sections_place, is_tra, answer_place, documents_in, proof_in}

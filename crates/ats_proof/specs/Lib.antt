@@ -10,3 +10,5 @@ pub mod SeenCursor
 pub mod SeenTerms
 pub mod SeenDocs
 pub mod Ranges
+pub mod Records
+pub mod Written

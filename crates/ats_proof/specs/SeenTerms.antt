@@ -1,6 +1,6 @@
 -- What the view of a document's terms says.
 use Rattle.std.specs.Prelude.{ℕ, List}
-use Rattle.ats_records.specs.declared.record.TermLeaf.{TermLeaf}
+use Rattle.ats_proof.specs.declared.record.TermLeaf.{TermLeaf}
 use Rattle.ats_proof.specs.Parts.{parts_in}
 use Rattle.ats_proof.specs.Value.{ShownTerm}
 use Rattle.ats_proof.specs.Reading.{term_size, term_in}

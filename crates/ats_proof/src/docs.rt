@@ -9,12 +9,12 @@ use crate::bytes::{digest, number_2, number_4};
 use crate::digests::counted_digests_2;
 use crate::docs_cursor::DocsCursor;
 use crate::leaves::LeafRun;
+use crate::record::Slot;
 use crate::sizes::counted_leaves_size;
 use crate::terms::TermsView;
 use crate::view::{ProofView, slot_at};
 use ats_doctree::DocLeaf;
 use ats_hash::Steps;
-use ats_records::Slot;
 
 /// The met documents that are left, in their order.
 #[derive(Clone, Copy)]

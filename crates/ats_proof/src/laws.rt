@@ -4,11 +4,11 @@ ghost use Rattle.std.specs.Prelude.{◌≡◌, ◌+◌, ◌≤◌, ◌^◌, ◌+
 ghost use Rattle.ats_grammar.specs.declared.fault.ShapeKind.TheVariants.{Trailing};
 ghost use Rattle.ats_grammar.specs.Front.{Spells, IsBad};
 ghost use Rattle.ats_grammar.specs.Grammar.{proof_format};
-ghost use Rattle.ats_records.specs.Written.{writing};
 ghost use Rattle.ats_proof.specs.Parts.{AreBytes};
 ghost use Rattle.ats_proof.specs.Ranges.{IsInRange};
 ghost use Rattle.ats_proof.specs.Reading.{proof_in};
 ghost use Rattle.ats_proof.specs.Value.{Proof, IsProof};
+ghost use Rattle.ats_proof.specs.Written.{writing, after};
 
 /// Bytes spell one proof at most.
 pub fn bytes_say_one_proof()
@@ -42,4 +42,9 @@ pub fn what_is_written_is_read()
 /// The parts of a proof keep their ranges, whatever bytes spell it.
 pub fn proofs_are_in_range()
     ensures { (bytes : List ℕ) (proof : Proof) → IsProof bytes proof → IsInRange proof }
+{}
+
+/// A record's bytes stand behind those that were asked for before it, within the limit and past it.
+pub fn records_are_joined()
+    ensures { (limit : ℕ) (bytes more : List ℕ) → after (writing limit bytes) more ≡ writing limit (bytes ++ more) }
 {}

@@ -5,8 +5,8 @@ ghost use Rattle.std.specs.Prelude.{◌≡◌, ◌<◌, ◌+◌, ◌^◌, length
 use crate::bytes::{are_bytes, number_2};
 use crate::digests::DigestRun;
 use crate::leaves::LeafRun;
+use crate::record::TermLeaf;
 use ats_hash::Steps;
-use ats_records::TermLeaf;
 use ats_tree::Revealed;
 
 /// The leaves of a document's terms that a proof shows, of which those that were passed are gone, and the

@@ -13,9 +13,9 @@ use crate::digests::counted_digests_2;
 use crate::leaves::LeafRun;
 use crate::lists::ListsView;
 use crate::places::{Begun, Ended};
+use crate::record::{Algorithm, Slot};
 use ats_dict::Header;
 use ats_hash::Steps;
-use ats_records::{Algorithm, Slot};
 
 /// A proof over its bytes, which it lends part by part.
 #[derive(Clone, Copy)]

@@ -4,8 +4,8 @@ use Rattle.ats_terms.specs.Query.{IsQuery}
 use Rattle.ats_commit.specs.Archive.{Archive}
 use Rattle.ats_commit.specs.Own.{AreTexts}
 use Rattle.ats_commit.proofs.Layouts.{each_archive}
-use Rattle.ats_records.specs.declared.record.Algorithm.{Algorithm}
-use Rattle.ats_records.specs.declared.record.Algorithm.TheVariants.{Tnra}
+use Rattle.ats_proof.specs.declared.record.Algorithm.{Algorithm}
+use Rattle.ats_proof.specs.declared.record.Algorithm.TheVariants.{Tnra}
 use Rattle.ats_proof.specs.Value.{Proof}
 use Rattle.ats_prover.specs.Honest.{IsHonest, length_of}
 use Rattle.ats_prover.proofs.Exists.{honest_exists}

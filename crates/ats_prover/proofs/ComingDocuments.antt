@@ -3,7 +3,7 @@ use Rattle.std.proofs.Common.{◌≡◌, ◌+◌, ◌<◌, ◌≤◌, ◌^◌, �
 use Rattle.std.specs.List.{All, flat_map}
 use Rattle.std.proofs.lemmas.List.Elements.{All-head, All-tail}
 use Rattle.ats_doctree.specs.declared.doc_leaf.DocLeaf.{DocLeaf}
-use Rattle.ats_records.specs.declared.record.Slot.{Slot}
+use Rattle.ats_proof.specs.declared.record.Slot.{Slot}
 use Rattle.ats_grammar.specs.declared.fault.ShapeKind.TheVariants.{Count}
 use Rattle.ats_grammar.specs.Table.{Table}
 use Rattle.ats_grammar.specs.Front.{Come}

@@ -29,8 +29,8 @@ use Rattle.ats_bound.specs.Schedule.{AreWholeLanes, IsWholeLane, WholeLane, show
 use Rattle.ats_bound.proofs.Ending.{brackets_are_narrow, first_settled_exists, looked_up_are_narrow}
 use Rattle.ats_bound.proofs.Gathered.{brackets_exist}
 use Rattle.ats_bound.proofs.Sorted.{chosen_exists, sorts}
-use Rattle.ats_records.specs.declared.record.Algorithm.{Algorithm}
-use Rattle.ats_records.specs.declared.record.Algorithm.TheVariants.{Tra, Tnra}
+use Rattle.ats_proof.specs.declared.record.Algorithm.{Algorithm}
+use Rattle.ats_proof.specs.declared.record.Algorithm.TheVariants.{Tra, Tnra}
 use Rattle.ats_proof.specs.Value.{Documents, Proof, TermsSection}
 use Rattle.ats_prover.specs.Terms.{AreNeeded, needs, shown_entry, slot_of}
 use Rattle.ats_prover.specs.Lanes.{bounding, impacts_of, lane_of, lanes_of, present}

@@ -11,7 +11,7 @@ use Rattle.ats_lists.specs.Lists.{IsList}
 use Rattle.ats_lists.specs.Layout.{whole_lists}
 use Rattle.ats_bound.specs.Schedule.{WholeLane, whole_lane, whole_lanes}
 use Rattle.ats_bound.specs.declared.lane.Lane.{Lane}
-use Rattle.ats_records.specs.Written.{Written}
+use Rattle.ats_proof.specs.Written.{Written}
 use Rattle.std.proofs.lemmas.List.{length-map, get_or-map}
 use Rattle.ats_prover.specs.Lanes.{list_digests}
 use Rattle.ats_prover.specs.Writing.{put}

@@ -10,8 +10,8 @@ use Rattle.ats_doctree.specs.Impacts.{doc_terms, text_terms}
 use Rattle.ats_doctree.specs.Sentinels.{terms_leaves}
 use Rattle.ats_doctree.specs.declared.doc_leaf.DocLeaf.{DocLeaf}
 use Rattle.ats_commit.specs.Trees.{documents_leaf, documents_of}
-use Rattle.ats_records.specs.Written.{Written}
-use Rattle.ats_records.specs.declared.record.Algorithm.TheVariants.{Tra, Tnra}
+use Rattle.ats_proof.specs.Written.{Written}
+use Rattle.ats_proof.specs.declared.record.Algorithm.TheVariants.{Tra, Tnra}
 use Rattle.ats_proof.specs.Parts.{counted}
 use Rattle.ats_proof.specs.Value.{Documents, TermsSection, digest_fields, doc_fields, section_fields}
 use Rattle.ats_prover.specs.Documents.{AreHonestSections, IsHonestSection, document_leaf}

@@ -26,8 +26,8 @@ use Rattle.ats_bound.specs.Schedule.{AreBracketsBy, Bounding, WholeLane, shown}
 use Rattle.ats_bound.proofs.One.{one_bracketing, risen_are_distinct}
 use Rattle.ats_bound.proofs.OneCut.{one_first_settled}
 use Rattle.ats_bound.proofs.OneAnswer.{one_chosen}
-use Rattle.ats_records.specs.declared.record.Algorithm.{Algorithm}
-use Rattle.ats_records.specs.declared.record.Algorithm.TheVariants.{Tra, Tnra}
+use Rattle.ats_proof.specs.declared.record.Algorithm.{Algorithm}
+use Rattle.ats_proof.specs.declared.record.Algorithm.TheVariants.{Tra, Tnra}
 use Rattle.ats_proof.specs.Value.{Documents, Proof, TermsSection}
 use Rattle.ats_terms.proofs.Order.{rises_less}
 use Rattle.ats_doctree.specs.Found as found

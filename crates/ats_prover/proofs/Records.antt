@@ -8,10 +8,10 @@ use Rattle.ats_dict.specs.Header.{header_bytes}
 use Rattle.ats_dict.specs.declared.header.Header.{Header}
 use Rattle.ats_doctree.specs.Sentinels.{leaf_bytes}
 use Rattle.ats_doctree.specs.declared.doc_leaf.DocLeaf.{DocLeaf}
-use Rattle.ats_records.specs.declared.record.Algorithm.{Algorithm}
-use Rattle.ats_records.specs.declared.record.Algorithm.TheVariants.{Tra, Tnra}
-use Rattle.ats_records.specs.declared.record.Slot.{Slot}
-use Rattle.ats_records.specs.Records.{algorithm_byte, front_record, dict_leaf_record, doc_leaf_record, slot_record, entry_record, kind_byte, term_leaf_record}
+use Rattle.ats_proof.specs.declared.record.Algorithm.{Algorithm}
+use Rattle.ats_proof.specs.declared.record.Algorithm.TheVariants.{Tra, Tnra}
+use Rattle.ats_proof.specs.declared.record.Slot.{Slot}
+use Rattle.ats_proof.specs.Records.{algorithm_byte, front_record, dict_leaf_record, doc_leaf_record, slot_record, entry_record, kind_byte, term_leaf_record}
 use Rattle.std.specs.Prelude.{Option, Some, None}
 use Rattle.ats_proof.specs.Parts.{spelled}
 use Rattle.ats_proof.specs.Value.{Documents, doc_fields, front_fields, header_fields, entry_fields, number_of_algorithm, slot_fields, posting_fields, term_fields}

@@ -4,8 +4,8 @@ use Rattle.std.specs.List.{All}
 use Rattle.std.proofs.lemmas.List.{length-map}
 use Rattle.std.proofs.lemmas.List.Elements.{All-cons}
 use Rattle.ats_doctree.specs.Impacts.{doc_terms}
-use Rattle.ats_records.specs.declared.record.Algorithm.{Algorithm}
-use Rattle.ats_records.specs.declared.record.Algorithm.TheVariants.{Tra, Tnra}
+use Rattle.ats_proof.specs.declared.record.Algorithm.{Algorithm}
+use Rattle.ats_proof.specs.declared.record.Algorithm.TheVariants.{Tra, Tnra}
 use Rattle.ats_proof.specs.Value.{AreDocumentsOf, Documents, Proof, TermsSection, present_in}
 use Rattle.ats_prover.specs.Terms.{slot_of}
 use Rattle.ats_prover.specs.Documents.{AreHonestSections, HasDocuments, IsHonestSection, IsTermSpot, document_leaf}

@@ -27,8 +27,8 @@ use Rattle.ats_commit.proofs.TermLemmas.{few_within}
 use Rattle.ats_bound.specs.declared.bracket.Bracket.{Bracket}
 use Rattle.ats_bound.specs.Schedule.{IsCut, WholeLane, shown}
 use Rattle.ats_bound.proofs.Shown.{scheduled_is_cut}
-use Rattle.ats_records.specs.declared.record.Algorithm.TheVariants.{Tnra}
-use Rattle.ats_records.specs.declared.record.Slot.{Slot}
+use Rattle.ats_proof.specs.declared.record.Algorithm.TheVariants.{Tnra}
+use Rattle.ats_proof.specs.declared.record.Slot.{Slot}
 use Rattle.ats_proof.specs.Parts.{counted, spelled}
 use Rattle.ats_proof.specs.Value.{Documents, Prefix, Proof, ShownEntry, documents_fields, front_fields, header_fields, entry_fields, digest_fields, slot_fields, id_fields, posting_fields, prefix_fields}
 use Rattle.ats_prover.specs.Terms.{shown_entry, slot_of}

@@ -1,8 +1,8 @@
 -- What was asked of a writer for one honest proof is the size of any.
 use Rattle.std.proofs.Common.{◌≡◌, ◌<◌, ◌≤◌, ℕ, List, [], ap, ◌∙◌, arith}
 use Rattle.ats_commit.specs.Archive.{Archive}
-use Rattle.ats_records.specs.Written.{Written, writing}
-use Rattle.ats_records.specs.declared.record.Algorithm.{Algorithm}
+use Rattle.ats_proof.specs.Written.{Written, writing}
+use Rattle.ats_proof.specs.declared.record.Algorithm.{Algorithm}
 use Rattle.ats_proof.specs.Value.{Proof}
 use Rattle.ats_prover.specs.Honest.{IsHonest, length_of}
 use Rattle.ats_prover.specs.Writing.{IsWritten}

@@ -35,10 +35,10 @@ use Rattle.ats_bound.specs.Chosen.{IsChosen}
 use Rattle.ats_bound.specs.Schedule.{WholeLane, AreWholeLanes, AreBracketsBy, IsFirstSettledBy, shown}
 use Rattle.ats_bound.proofs.Shown.{have_entries, scheduled_is_cut}
 use Rattle.ats_dict.specs.declared.header.Header.{Header}
-use Rattle.ats_records.specs.Records.{front_record}
-use Rattle.ats_records.specs.Written.{Written, after, writing}
-use Rattle.ats_records.specs.declared.record.Algorithm.{Algorithm}
-use Rattle.ats_records.specs.declared.record.Algorithm.TheVariants.{Tra, Tnra}
+use Rattle.ats_proof.specs.Records.{front_record}
+use Rattle.ats_proof.specs.Written.{Written, after, writing}
+use Rattle.ats_proof.specs.declared.record.Algorithm.{Algorithm}
+use Rattle.ats_proof.specs.declared.record.Algorithm.TheVariants.{Tra, Tnra}
 use Rattle.ats_proof.specs.Parts.{counted, spelled}
 use Rattle.ats_proof.specs.Value.{Documents, Proof, AreDocumentsOf, documents_fields, fields_of, front_fields, header_fields, entry_fields, digest_fields, slot_fields, id_fields, prefix_fields, kind_of_slot, number_of_algorithm, present_in}
 use Rattle.ats_prover.specs.Writing.{AreInOrder, IsWritten, put}

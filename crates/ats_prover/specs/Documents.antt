@@ -9,8 +9,8 @@ use Rattle.ats_doctree.specs.Sentinels.{item_at, terms_leaves}
 use Rattle.ats_doctree.specs.declared.doc_leaf.DocLeaf.{DocLeaf}
 use Rattle.ats_commit.specs.Trees.{documents_of}
 use Rattle.ats_index.specs.Parts.{leaf_of_terms}
-use Rattle.ats_records.specs.declared.record.Algorithm.{Algorithm}
-use Rattle.ats_records.specs.declared.record.Algorithm.TheVariants.{Tra, Tnra}
+use Rattle.ats_proof.specs.declared.record.Algorithm.{Algorithm}
+use Rattle.ats_proof.specs.declared.record.Algorithm.TheVariants.{Tra, Tnra}
 use Rattle.ats_proof.specs.Value.{Documents, ShownTerm, TermsSection}
 use Rattle.ats_prover.specs.Terms.{AreNeeded, HaveSpots, slot_of}
 

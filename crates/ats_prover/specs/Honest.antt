@@ -13,7 +13,7 @@ use Rattle.ats_index.specs.Parts.{header_parts}
 use Rattle.ats_bound.specs.declared.bracket.Bracket.{Bracket}
 use Rattle.ats_bound.specs.Chosen.{IsChosen}
 use Rattle.ats_bound.specs.Schedule.{WholeLane, AreBracketsBy, IsFirstSettledBy, shown}
-use Rattle.ats_records.specs.declared.record.Algorithm.{Algorithm}
+use Rattle.ats_proof.specs.declared.record.Algorithm.{Algorithm}
 use Rattle.ats_proof.specs.Value.{Prefix, Proof, IsProof, layout_of, fields_of}
 use Rattle.ats_prover.specs.declared.fault.ProveFault.{ProveFault}
 use Rattle.ats_prover.specs.declared.fault.ProveFault.TheVariants.{ProofTooLong, OutOfMemory}

@@ -8,8 +8,8 @@ use Rattle.ats_bound.specs.Cut.{bracket}
 use Rattle.ats_bound.specs.Lookup.{Table, looked_up}
 use Rattle.ats_bound.specs.Ranked.{impact_in}
 use Rattle.ats_bound.specs.Schedule.{Bounding, WholeLane}
-use Rattle.ats_records.specs.declared.record.Algorithm.{Algorithm}
-use Rattle.ats_records.specs.declared.record.Algorithm.TheVariants.{Tra, Tnra}
+use Rattle.ats_proof.specs.declared.record.Algorithm.{Algorithm}
+use Rattle.ats_proof.specs.declared.record.Algorithm.TheVariants.{Tra, Tnra}
 
 -- the terms that some text has
 abbrev pub present : List (List ℕ) → List (List ℕ × ℕ) → List (List ℕ × ℕ)

@@ -7,7 +7,7 @@ use Rattle.ats_dict.specs.declared.spot.Spot.TheVariants.{At, Between}
 use Rattle.ats_dict.specs.Entry.{DictEntry}
 use Rattle.ats_dict.specs.Dictionary.{entry_at}
 use Rattle.ats_dict.specs.Found.{IsSpot}
-use Rattle.ats_records.specs.declared.record.Slot.{Slot}
+use Rattle.ats_proof.specs.declared.record.Slot.{Slot}
 use Rattle.ats_proof.specs.Value.{ShownEntry}
 
 -- each term has its spot, by what a spot says of a term

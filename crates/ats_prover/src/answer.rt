@@ -8,7 +8,7 @@ ghost use Rattle.ats_prover.specs.Writing.{put};
 
 use crate::fault::OutOfMemory;
 use ats_bound::Bracket;
-use ats_records::ProofWriter;
+use ats_proof::ProofWriter;
 use std::alloc::Global;
 
 /// The documents of brackets.

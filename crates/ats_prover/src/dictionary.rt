@@ -15,7 +15,7 @@ use crate::fault::OutOfMemory;
 use crate::shown::{write_digests, write_slots};
 use ats_dict::{Dictionary, Spot};
 use ats_hash::HashKind;
-use ats_records::ProofWriter;
+use ats_proof::ProofWriter;
 use ats_terms::Query;
 use ats_tree::{Digests, Leaves, Nodes};
 use std::alloc::Global;

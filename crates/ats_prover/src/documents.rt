@@ -17,7 +17,7 @@ use crate::shown::write_each_digest;
 use crate::terms_section::{Section, write_section};
 use ats_hash::HashKind;
 use ats_index::Index;
-use ats_records::{Algorithm, ProofWriter};
+use ats_proof::{Algorithm, ProofWriter};
 use ats_tree::{Digests, Leaves};
 use std::alloc::Global;
 

@@ -43,8 +43,8 @@ impl From<ats_tree::OutOfMemory> for OutOfMemory {
     }
 }
 
-impl From<ats_records::OutOfMemory> for OutOfMemory {
-    fn from(_: ats_records::OutOfMemory) -> Self {
+impl From<ats_proof::OutOfMemory> for OutOfMemory {
+    fn from(_: ats_proof::OutOfMemory) -> Self {
         OutOfMemory
     }
 }

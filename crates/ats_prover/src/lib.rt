@@ -6,7 +6,7 @@
 //! Nothing is hashed here: the hash function is a type without a call, and the index lends the digests of all
 //! nodes of its trees.
 //! The room stands on `ats_index` for the archive, on `ats_tnra` and `ats_tra` for the walks, and on
-//! `ats_records` and `ats_proof` for the bytes. The contracts promise that a query over an archive has one
+//! `ats_proof` for the bytes. The contracts promise that a query over an archive has one
 //! honest proof by each algorithm, no more and no fewer, which shows exactly the leaves that its terms need and
 //! exactly the entries of the first settled cut. They promise that the bytes spell it, and that short of want of
 //! memory it is refused exactly where it is longer than the limit. By lists alone it never has more than 2^26
@@ -28,7 +28,7 @@ mod shown;
 mod terms_section;
 mod walking;
 
-pub use ats_records::Algorithm;
+pub use ats_proof::Algorithm;
 pub use fault::ProveFault;
 pub use laws::{
     honest_proofs_are_one, honest_proofs_are_short, honest_proofs_exist,

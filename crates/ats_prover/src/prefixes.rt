@@ -22,7 +22,7 @@ use crate::shown::{place, write_digests};
 use ats_bound::Lane;
 use ats_hash::HashKind;
 use ats_lists::Entry;
-use ats_records::ProofWriter;
+use ats_proof::ProofWriter;
 use ats_tree::{Digests, Nodes};
 use std::alloc::Global;
 

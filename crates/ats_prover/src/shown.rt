@@ -10,7 +10,7 @@ ghost use Rattle.ats_prover.specs.Writing.{IsStarted, put};
 
 use crate::fault::OutOfMemory;
 use ats_dict::Spot;
-use ats_records::{ProofWriter, Slot};
+use ats_proof::{ProofWriter, Slot};
 use ats_tree::Digests;
 
 // Keeps the positions that the terms need, term by term, and nothing else.

@@ -18,7 +18,7 @@ use crate::shown::{keep_positions, write_digests, write_slots};
 use ats_dict::Spot;
 use ats_doctree::DocTerms;
 use ats_hash::HashKind;
-use ats_records::{ProofWriter, TermLeaf};
+use ats_proof::{ProofWriter, TermLeaf};
 use ats_tree::{Digests, Leaves, Nodes};
 use std::alloc::Global;
 

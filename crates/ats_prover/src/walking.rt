@@ -12,7 +12,7 @@ use ats_bound::{Lane, Walk};
 use ats_hash::HashKind;
 use ats_impact::Top;
 use ats_index::Index;
-use ats_records::Algorithm;
+use ats_proof::Algorithm;
 use std::alloc::Global;
 
 /// Where the walk of the lists of the present terms ends.

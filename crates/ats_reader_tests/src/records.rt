@@ -5,7 +5,7 @@ ghost use Rattle.std.specs.Prelude.{◌≡◌, ◌+◌, ◌≤◌, length, OnOk}
 use ats_base::Bytes;
 use ats_dict::{DictLeaf, Header};
 use ats_doctree::DocLeaf;
-use ats_records::{Algorithm, OutOfMemory, ProofWriter, Slot, TermLeaf};
+use ats_proof::{Algorithm, OutOfMemory, ProofWriter, Slot, TermLeaf};
 use std::alloc::Global;
 use std::test::Fail;
 

@@ -5,7 +5,7 @@ ghost use Rattle.ats_wire.specs.Replies.{IsShort};
 use ats_base::{Bytes, MemLink};
 use ats_grammar::{ShapeFault, ShapeKind};
 use ats_impact::Top;
-use ats_records::Algorithm;
+use ats_proof::Algorithm;
 use ats_wire::{
     Answerer, AskFault, ConnectionEnd, Fed, FrameRoom, Reply, Request, Served, ask_fed, ask_once,
     serve_connection,

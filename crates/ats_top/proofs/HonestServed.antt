@@ -1,7 +1,7 @@
 -- A file that is an honest proof is served by `verify`, and a reply that is one is accepted by `ask`.
 use Rattle.std.proofs.Common.{◌≡◌, ◌^◌, ℕ, List, Option, Some, Ok, refl, sym, subst, inl, ap₂}
 use Rattle.std.specs.Prelude.{option_map, option_and_then}
-use Rattle.ats_records.specs.declared.record.Algorithm.{Algorithm}
+use Rattle.ats_proof.specs.declared.record.Algorithm.{Algorithm}
 use Rattle.ats_base.specs.Links.{CallerTold}
 use Rattle.ats_terms.specs.Query.{IsQueryOf}
 use Rattle.ats_commit.specs.Archive.{Archive}

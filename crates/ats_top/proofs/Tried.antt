@@ -7,13 +7,13 @@ use Rattle.std.proofs.lemmas.List.Sums.{sum_by-append, sum_by-cons, sum_by-le}
 use Rattle.std.proofs.Math.Seq.{get_or-append_seam}
 use Rattle.ats_commit.specs.Archive.{Archive}
 use Rattle.ats_commit.specs.Root.{root_of}
-use Rattle.ats_records.specs.declared.record.Algorithm.{Algorithm}
-use Rattle.ats_records.specs.declared.record.Algorithm.TheVariants.{Tra, Tnra}
+use Rattle.ats_proof.specs.declared.record.Algorithm.{Algorithm}
+use Rattle.ats_proof.specs.declared.record.Algorithm.TheVariants.{Tra, Tnra}
 use Rattle.ats_proof.specs.Ranges.{IsInRange}
 use Rattle.ats_proof.specs.Reading.{lists_place, prefix_in, prefix_size, proof_in, slots_in}
 use Rattle.ats_proof.specs.Value.{Prefix, Proof, IsProof, kind_of_slot, present_in}
 use Rattle.ats_proof.proofs.Runs.{length-parts}
-use Rattle.ats_records.specs.declared.record.Slot.{Slot}
+use Rattle.ats_proof.specs.declared.record.Slot.{Slot}
 use Rattle.ats_proof.proofs.Unique.{one_value}
 use Rattle.ats_prover.specs.Honest.{IsHonest, IsProved, length_of}
 use Rattle.ats_client.specs.Strings.{extract}

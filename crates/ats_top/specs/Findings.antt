@@ -6,7 +6,7 @@ use Rattle.ats_impact.specs.declared.rank.Row.{Row}
 use Rattle.ats_tree.specs.Differences.{Difference}
 use Rattle.ats_commit.specs.Archive.{Archive}
 use Rattle.ats_commit.specs.Ours.{TreePlace}
-use Rattle.ats_records.specs.declared.record.Algorithm.{Algorithm}
+use Rattle.ats_proof.specs.declared.record.Algorithm.{Algorithm}
 use Rattle.ats_prover.specs.Honest.{IsProved}
 use Rattle.ats_client.specs.Headline.{AreRight}
 use Rattle.ats_client.specs.Rows.{rows_of}

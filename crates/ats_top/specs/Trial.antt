@@ -6,8 +6,8 @@ use Rattle.ats_terms.specs.declared.query.QueryFault.{QueryFault}
 use Rattle.ats_impact.specs.Trial.{trial_texts, trial_query}
 use Rattle.ats_commit.specs.Archive.{Archive, archive_of}
 use Rattle.ats_commit.specs.Root.{root_of}
-use Rattle.ats_records.specs.declared.record.Algorithm.{Algorithm}
-use Rattle.ats_records.specs.declared.record.Algorithm.TheVariants.{Tra, Tnra}
+use Rattle.ats_proof.specs.declared.record.Algorithm.{Algorithm}
+use Rattle.ats_proof.specs.declared.record.Algorithm.TheVariants.{Tra, Tnra}
 use Rattle.ats_proof.specs.Value.{Prefix, Proof}
 use Rattle.ats_client.specs.Accepts.{Accepts}
 use Rattle.ats_client.specs.Strings.{extract}

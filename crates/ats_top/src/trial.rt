@@ -5,7 +5,7 @@ ghost use Rattle.ats_commit.specs.Archive.{archive_of};
 ghost use Rattle.ats_impact.specs.Trial.{trial_texts};
 ghost use Rattle.ats_proof.specs.Value.{Proof};
 ghost use Rattle.ats_proof.specs.Views.{proof_of};
-ghost use Rattle.ats_records.specs.declared.record.Algorithm.TheVariants.{Tra, Tnra};
+ghost use Rattle.ats_proof.specs.declared.record.Algorithm.TheVariants.{Tra, Tnra};
 ghost use Rattle.ats_audit.specs.Verdicts.{IsVerdict};
 ghost use Rattle.ats_audit.specs.declared.auditing.Verdict.{Verdict};
 ghost use Rattle.ats_top.specs.Trial.{shown_entries, is_right, tally_of, counted, IsSmall, IsTried, IsTryStop, IsTriesStop, AreTried, AreTrialQueries, IsTrial, IsTrialStop, line_of_proofs, lines_of_trial};

@@ -2,8 +2,8 @@
 use Rattle.std.proofs.Common.{◌⊎◌, inl, inr, ◌≡◌, ◌≤◌, ◌<◌, ◌-◌, ◌∙◌, ℕ, zero, suc, List, [], ◌∷◌, ◌++◌, length, get_or, take, drop, take_all, length-drop, refl, sym, ap, arith}
 use Rattle.std.specs.Int.{to_be_bytes, w16}
 use Rattle.byteorder.specs.Endian.{big_number}
-use Rattle.ats_records.specs.declared.record.Algorithm.{Algorithm}
-use Rattle.ats_records.specs.declared.record.Algorithm.TheVariants.{Tra, Tnra}
+use Rattle.ats_proof.specs.declared.record.Algorithm.{Algorithm}
+use Rattle.ats_proof.specs.declared.record.Algorithm.TheVariants.{Tra, Tnra}
 use Rattle.byteorder.specs.Numbers.{big_number-reads_back}
 use Rattle.ats_wire.specs.Requests.{Question, Spells, Asks, IsRefused, request_body, algorithm_byte}
 use Rattle.ats_wire.proofs.Numbers.{number_2}

@@ -2,8 +2,8 @@
 use Rattle.std.specs.Prelude.{◌≡◌, ◌⊎◌, ◌<◌, ◌≤◌, ◌^◌, ℕ, List, ◌∷◌, ◌++◌, length}
 use Rattle.std.specs.Int.{to_be_bytes, w16, w32}
 use Rattle.std.specs.Str.{IsUtf8}
-use Rattle.ats_records.specs.declared.record.Algorithm.{Algorithm}
-use Rattle.ats_records.specs.declared.record.Algorithm.TheVariants.{Tra, Tnra}
+use Rattle.ats_proof.specs.declared.record.Algorithm.{Algorithm}
+use Rattle.ats_proof.specs.declared.record.Algorithm.TheVariants.{Tra, Tnra}
 
 -- bytes with their number in front, in 4 bytes
 abbrev pub framed : List ℕ → List ℕ

@@ -11,7 +11,7 @@ use crate::request::{VERSION, byte_of};
 use crate::sending::send;
 use ats_base::{Bytes, Link};
 use ats_impact::Top;
-use ats_records::Algorithm;
+use ats_proof::Algorithm;
 use byteorder::{BigEndian, ByteOrder};
 use std::alloc::Global;
 

@@ -10,7 +10,7 @@ use crate::receiving::{Filling, fill};
 use ats_base::{Bytes, Link};
 use ats_grammar::{Feeder, ShapeFault};
 use ats_impact::Top;
-use ats_records::Algorithm;
+use ats_proof::Algorithm;
 use std::alloc::Global;
 
 /// The bytes that a reply has for a proof.

@@ -2,7 +2,7 @@
 
 ghost use Rattle.std.specs.Prelude.{◌≡◌, ℕ, List, IsSome, Result};
 ghost use Rattle.ats_base.specs.Links.{LinkTold};
-ghost use Rattle.ats_records.specs.declared.record.Algorithm.{Algorithm};
+ghost use Rattle.ats_proof.specs.declared.record.Algorithm.{Algorithm};
 ghost use Rattle.ats_wire.specs.Requests.{Question, Spells, Asks, IsRefused};
 ghost use Rattle.ats_wire.specs.Asking.{IsAsked, IsHeard};
 ghost use Rattle.ats_wire.specs.Connections.{IsServed, IsClean};

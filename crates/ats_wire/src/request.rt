@@ -1,11 +1,11 @@
 //! A request, read from the bytes of its frame.
 
 ghost use Rattle.std.specs.Prelude.{◌≡◌, ◌≢◌, ◌≤◌, ℕ, List, length, IfOk, IfErr, IfSome, IfNone};
-ghost use Rattle.ats_records.specs.declared.record.Algorithm.{Algorithm};
+ghost use Rattle.ats_proof.specs.declared.record.Algorithm.{Algorithm};
 ghost use Rattle.ats_wire.specs.Requests.{Spells, Asks, IsRefused, algorithm_byte};
 
 use ats_impact::Top;
-use ats_records::Algorithm;
+use ats_proof::Algorithm;
 use byteorder::{BigEndian, ByteOrder};
 
 // The code of a frame that spells no request, and that of one that asks for no row or too many.

@@ -6,8 +6,7 @@ use super::examples::tnra;
 use super::is_the_shorter_proof;
 use ats_base::Bytes;
 use ats_dict::{DictLeaf, Header};
-use ats_proof::*;
-use ats_records::{OutOfMemory, ProofWriter};
+use ats_proof::{OutOfMemory, ProofWriter, *};
 use std::alloc::Global;
 use std::test::*;
 

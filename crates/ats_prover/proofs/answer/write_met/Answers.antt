@@ -1,6 +1,6 @@
 use Rattle.std.proofs.Common.{◌∷◌, [], length, get_or, refl, ap, ◌∙◌, arith}
-use Rattle.ats_records.specs.Written.{after}
-use Rattle.ats_records.specs.Records.{met_record}
+use Rattle.ats_proof.specs.Written.{after}
+use Rattle.ats_proof.specs.Records.{met_record}
 use Rattle.ats_proof.specs.Parts.{spelled}
 use Rattle.ats_proof.specs.Value.{id_fields}
 use Rattle.ats_prover.proofs.Records.{spelled_4}

@@ -1,8 +1,8 @@
 use Rattle.std.proofs.Common.{◌≡◌, ◌<◌, ◌^◌, ◌∷◌, [], ℕ, List, length, map, get_or, sym, ap, ◌∙◌, arith}
 use Rattle.std.specs.List.{concat}
 use Rattle.std.proofs.lemmas.List.{length-map, get_or-map}
-use Rattle.ats_records.specs.Written.{Written, after}
-use Rattle.ats_records.specs.Records.{dict_leaf_record}
+use Rattle.ats_proof.specs.Written.{Written, after}
+use Rattle.ats_proof.specs.Records.{dict_leaf_record}
 use Rattle.ats_dict.specs.Entry.{DictEntry}
 use Rattle.ats_dict.specs.Dictionary.{entry_at}
 use Rattle.ats_proof.specs.Parts.{spelled}

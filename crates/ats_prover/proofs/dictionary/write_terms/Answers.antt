@@ -3,7 +3,7 @@ use Rattle.std.specs.List.{flat_map}
 use Rattle.std.proofs.lemmas.Result.{on_ok_weaker}
 use Rattle.ats_tree.specs.Elided.{elided_digests}
 use Rattle.ats_dict.specs.Dictionary.{dict_leaves}
-use Rattle.ats_records.specs.Written.{Written}
+use Rattle.ats_proof.specs.Written.{Written}
 use Rattle.ats_proof.specs.Parts.{counted}
 use Rattle.ats_proof.specs.Value.{digest_fields, entry_fields, slot_fields}
 use Rattle.ats_prover.specs.Terms.{shown_entry, slot_of}

@@ -5,8 +5,8 @@ use Rattle.std.proofs.lemmas.List.{length-map, get_or-map}
 use Rattle.std.proofs.lemmas.List.Elements.{All-push}
 use Rattle.ats_doctree.specs.Sentinels.{terms_leaves}
 use Rattle.ats_doctree.specs.declared.doc_leaf.DocLeaf.{DocLeaf}
-use Rattle.ats_records.specs.Written.{Written, after}
-use Rattle.ats_records.specs.Records.{doc_leaf_record}
+use Rattle.ats_proof.specs.Written.{Written, after}
+use Rattle.ats_proof.specs.Records.{doc_leaf_record}
 use Rattle.ats_proof.specs.Value.{doc_fields}
 use Rattle.ats_prover.specs.Documents.{document_leaf}
 use Rattle.ats_prover.proofs.Records.{doc_is}

@@ -3,8 +3,8 @@ use Rattle.std.specs.List.{flat_map}
 use Rattle.std.proofs.lemmas.Result.{on_ok_weaker}
 use Rattle.ats_tree.specs.Elided.{elided_digests}
 use Rattle.ats_commit.specs.Trees.{documents_of}
-use Rattle.ats_records.specs.Records.{count32_record}
-use Rattle.ats_records.specs.Written.{Written, after}
+use Rattle.ats_proof.specs.Records.{count32_record}
+use Rattle.ats_proof.specs.Written.{Written, after}
 use Rattle.ats_proof.specs.Parts.{counted, spelled}
 use Rattle.ats_proof.specs.Value.{digest_fields, doc_fields}
 use Rattle.ats_prover.specs.Documents.{document_leaf}

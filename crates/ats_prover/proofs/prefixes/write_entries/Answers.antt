@@ -2,8 +2,8 @@ use Rattle.std.proofs.Common.{ℕ, ◌<◌, ◌∷◌, [], length, map, get_or, 
 use Rattle.std.specs.List.{concat}
 use Rattle.std.proofs.lemmas.List.{length-map, get_or-map}
 use Rattle.ats_lists.specs.declared.entry.Entry.{Entry}
-use Rattle.ats_records.specs.Written.{Written, after}
-use Rattle.ats_records.specs.Records.{entry_record}
+use Rattle.ats_proof.specs.Written.{Written, after}
+use Rattle.ats_proof.specs.Records.{entry_record}
 use Rattle.ats_proof.specs.Parts.{spelled}
 use Rattle.ats_proof.specs.Value.{posting_fields}
 use Rattle.ats_prover.specs.Honest.{placed}

@@ -5,7 +5,7 @@ use Rattle.std.proofs.lemmas.Result.{on_ok_weaker}
 use Rattle.std.proofs.lemmas.List.{length-map}
 use Rattle.ats_tree.specs.Elided.{elided_digests}
 use Rattle.ats_lists.specs.Leaf.{leaf_bytes}
-use Rattle.ats_records.specs.Written.{Written}
+use Rattle.ats_proof.specs.Written.{Written}
 use Rattle.ats_proof.specs.Parts.{counted}
 use Rattle.ats_proof.specs.Value.{digest_fields, posting_fields}
 use Rattle.ats_prover.specs.Honest.{placed}

@@ -1,6 +1,6 @@
 use Rattle.std.proofs.Common.{◌≡◌, ℕ, List, [], length, sym, ap, subst, arith}
 use Rattle.std.specs.List.{concat}
-use Rattle.ats_records.specs.Written.{Written, writing}
+use Rattle.ats_proof.specs.Written.{Written, writing}
 use Rattle.ats_proof.specs.Value.{fields_of}
 use Rattle.ats_prover.specs.Honest.{length_of}
 use Rattle.ats_prover.specs.Writing.{IsWritten}

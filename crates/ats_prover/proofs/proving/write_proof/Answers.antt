@@ -17,7 +17,7 @@ use Rattle.ats_bound.specs.Schedule.{WholeLane, AreBracketsBy, IsFirstSettledBy,
 use Rattle.ats_bound.specs.declared.lane.Lane.{Lane}
 use Rattle.ats_lists.specs.declared.entry.Entry.{Entry}
 use Rattle.ats_bound.specs.Schedule.{IsCut}
-use Rattle.ats_records.specs.Written.{Written}
+use Rattle.ats_proof.specs.Written.{Written}
 use Rattle.ats_proof.specs.Parts.{counted}
 use Rattle.ats_proof.specs.Value.{digest_fields, entry_fields, slot_fields}
 use Rattle.ats_prover.specs.Terms.{AreNeeded, AreSpots, shown_entry, slot_of}
@@ -25,8 +25,8 @@ use Rattle.ats_prover.specs.Lanes.{bounding, lane_of, lanes_of, list_digests, pr
 use Rattle.ats_prover.specs.Present.{standing}
 use Rattle.ats_prover.specs.Honest.{IsHonest}
 use Rattle.ats_prover.specs.Writing.{IsWalkWritten, IsWritten, put}
-use Rattle.ats_records.specs.declared.record.Algorithm.{Algorithm}
-use Rattle.ats_records.specs.declared.record.Algorithm.TheVariants.{Tnra}
+use Rattle.ats_proof.specs.declared.record.Algorithm.{Algorithm}
+use Rattle.ats_proof.specs.declared.record.Algorithm.TheVariants.{Tnra}
 use Rattle.ats_prover.proofs.Spots.{spot_each}
 use Rattle.ats_prover.proofs.Ranges.{positions_below}
 use Rattle.ats_prover.proofs.Short.{honest_short}

@@ -7,7 +7,7 @@ use Rattle.ats_lists.specs.Lists.{IsList}
 use Rattle.ats_lists.specs.Layout.{whole_lists}
 use Rattle.ats_bound.specs.declared.bracket.Bracket.{Bracket}
 use Rattle.ats_bound.specs.Schedule.{AreBracketsBy, Bounding, WholeLane, whole_lane, whole_lanes, shown}
-use Rattle.ats_records.specs.Written.{Written}
+use Rattle.ats_proof.specs.Written.{Written}
 use Rattle.ats_proof.specs.Parts.{counted}
 use Rattle.ats_proof.specs.Value.{documents_fields, id_fields, prefix_fields}
 use Rattle.ats_prover.specs.Honest.{prefixes}

@@ -1,8 +1,8 @@
 use Rattle.std.proofs.Common.{[], ◌∷◌, ℕ, length, sym, ap, ◌∙◌, arith, append-nil}
 use Rattle.std.specs.List.{flat_map}
 use Rattle.std.proofs.lemmas.Result.{on_ok_weaker}
-use Rattle.ats_records.specs.Records.{count16_record}
-use Rattle.ats_records.specs.Written.{Written, after}
+use Rattle.ats_proof.specs.Records.{count16_record}
+use Rattle.ats_proof.specs.Written.{Written, after}
 use Rattle.ats_proof.specs.Parts.{spelled}
 use Rattle.ats_proof.specs.Value.{digest_fields}
 use Rattle.ats_prover.specs.Writing.{put}

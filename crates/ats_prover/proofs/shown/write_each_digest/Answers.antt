@@ -1,5 +1,5 @@
 use Rattle.std.proofs.Common.{[], ℕ, List, length, get_or, refl, sym, ap, ap₂, ◌∙◌, arith, append-nil}
-use Rattle.ats_records.specs.Written.{Written, after}
+use Rattle.ats_proof.specs.Written.{Written, after}
 use Rattle.ats_proof.specs.Value.{digest_fields}
 use Rattle.ats_prover.proofs.Putting.{put_more}
 use Rattle.ats_prover.proofs.shown.write_each_digest.Goals as goal

@@ -1,7 +1,7 @@
 use Rattle.std.proofs.Common.{[], ◌<◌, length, map, sym, ap, ◌∙◌, arith}
 use Rattle.std.proofs.lemmas.List.{length-map, get_or-map}
-use Rattle.ats_records.specs.Written.{Written, after}
-use Rattle.ats_records.specs.Records.{slot_record}
+use Rattle.ats_proof.specs.Written.{Written, after}
+use Rattle.ats_proof.specs.Records.{slot_record}
 use Rattle.ats_dict.specs.declared.spot.Spot.TheVariants.{At}
 use Rattle.ats_proof.specs.Value.{slot_fields}
 use Rattle.ats_prover.specs.Terms.{slot_of}

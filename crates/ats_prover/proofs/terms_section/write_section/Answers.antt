@@ -6,7 +6,7 @@ use Rattle.ats_dict.specs.declared.spot.Spot.{Spot}
 use Rattle.ats_doctree.specs.Sentinels.{terms_leaves}
 use Rattle.ats_proof.specs.Parts.{counted}
 use Rattle.ats_proof.specs.Value.{digest_fields, slot_fields, term_fields}
-use Rattle.ats_records.specs.Written.{Written}
+use Rattle.ats_proof.specs.Written.{Written}
 use Rattle.ats_prover.specs.Documents.{IsTermSpot, shown_term}
 use Rattle.ats_prover.specs.Terms.{AreNeeded, slot_of}
 use Rattle.ats_prover.specs.Writing.{put}

@@ -1,8 +1,8 @@
 //! The writer of a proof's records.
 
 ghost use Rattle.std.specs.Prelude.{◌≡◌, ◌+◌, ◌≤◌, ◌<◌, ◌^◌, ℕ, List, [], length, Some, IsOk, OnOk, OnErr, IfOk, IfErr};
-ghost use Rattle.ats_records.specs.Records.{algorithm_byte, front_record, count16_record, count32_record, dict_leaf_record, digest_record, slot_record, met_record, entry_record, doc_leaf_record, term_leaf_record, answer_record};
-ghost use Rattle.ats_records.specs.Written.{writing, after};
+ghost use Rattle.ats_proof.specs.Records.{algorithm_byte, front_record, count16_record, count32_record, dict_leaf_record, digest_record, slot_record, met_record, entry_record, doc_leaf_record, term_leaf_record, answer_record};
+ghost use Rattle.ats_proof.specs.Written.{writing, after};
 
 use crate::memory::OutOfMemory;
 use crate::packed::Packed;
@@ -30,7 +30,7 @@ pub struct ProofWriter {
 }
 
 impl Model for ProofWriter {
-    ghost use Rattle.ats_records.specs.Written.{Written, Holds};
+    ghost use Rattle.ats_proof.specs.Written.{Written, Holds};
 
     ghost Value = { Written };
 

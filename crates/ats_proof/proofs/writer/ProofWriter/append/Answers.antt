@@ -1,7 +1,7 @@
 use Rattle.std.proofs.Common.{sym, length}
-use Rattle.ats_records.proofs.Appending.{after_beyond, after_within, none_kept}
-use Rattle.ats_records.proofs.writer.ProofWriter.append.Goals as goal
-use Rattle.ats_records.proofs.writer.ProofWriter.append.Goals.{then-asked-self+in-Some-1, then-asked-self+in-None-1, else-asked-self+in-Some+in_ok-extend, else-asked-self+in_default}
+use Rattle.ats_proof.proofs.Appending.{after_beyond, after_within, none_kept}
+use Rattle.ats_proof.proofs.writer.ProofWriter.append.Goals as goal
+use Rattle.ats_proof.proofs.writer.ProofWriter.append.Goals.{then-asked-self+in-Some-1, then-asked-self+in-None-1, else-asked-self+in-Some+in_ok-extend, else-asked-self+in_default}
 
 pub returns-clause-ok : goal.returns-clause-ok
 returns-clause-ok c =

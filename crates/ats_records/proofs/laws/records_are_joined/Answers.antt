@@ -1,5 +1,0 @@
-use Rattle.ats_records.proofs.Appending.{after-writing}
-use Rattle.ats_records.proofs.laws.records_are_joined.Goals as goal
-
-pub returns : goal.returns
-returns c limit bytes more = after-writing limit bytes more
