@@ -1,5 +1,4 @@
 pub mod HeaderLemmas
 pub mod Sentinels
 pub mod Packing
-pub mod Finding
 pub mod LeafLemmas

@@ -9,7 +9,8 @@ use Rattle.std.proofs.lemmas.List.Quantifiers.{all_pairs_push}
 use Rattle.std.proofs.lemmas.Option.{slice_get-get_or}
 use Rattle.ats_dict.specs.declared.dictionary.Stored.{Stored}
 use Rattle.ats_dict.specs.Entry.{DictEntry, IsDictEntry}
-use Rattle.ats_dict.specs.Dictionary.{IsBelow, IsAboveLast, IsDictionary}
+use Rattle.ats_terms.specs.Order.{IsBelow}
+use Rattle.ats_dict.specs.Dictionary.{IsAboveLast, IsDictionary}
 use Rattle.ats_dict.specs.Packed.{front_of, entry_of, entries_of, IsPacked, ArePacked}
 
 -- a range within the bytes, when more stand behind them

@@ -1,18 +1,8 @@
 -- The dictionary of a collection: its entries in byte order of their terms, between two sentinels.
-use Rattle.std.specs.Prelude.{◌≡◌, ◌≤◌, ◌-◌, ◌^◌, ℕ, List, [], ◌∷◌, ◌++◌, length, map, replicate, slice_index_or, slice_get, IfSome}
+use Rattle.std.specs.Prelude.{◌≤◌, ◌-◌, ◌^◌, ℕ, List, [], ◌∷◌, ◌++◌, length, map, replicate, slice_index_or, slice_get, IfSome}
 use Rattle.std.specs.List.{All, AllPairs}
-use Rattle.std.specs.Cmp.Lexicographic.{slice_cmp}
-use Rattle.std.specs.Ordering.{nat_cmp}
-use Rattle.std.specs.declared.cmp.Ordering.{Ordering}
-use Rattle.std.specs.declared.cmp.Ordering.TheVariants.{Less}
+pub use Rattle.ats_terms.specs.Order.{byte_cmp, IsBelow}
 use Rattle.ats_dict.specs.Entry.{DictEntry, IsDictEntry, dict_leaf_bytes}
-
--- byte order
-abbrev pub byte_cmp : List ℕ → List ℕ → Ordering
-byte_cmp = slice_cmp nat_cmp
-
-abbrev pub IsBelow : List ℕ → List ℕ → Type 0
-IsBelow term other = byte_cmp term other ≡ Less
 
 -- at most 2 ^ 24 entries, whose terms rise strictly in byte order
 pub record IsDictionary (entries : List DictEntry) : Type 0 where

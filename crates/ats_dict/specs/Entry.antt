@@ -1,6 +1,7 @@
 -- A leaf of the dictionary, and its bytes.
-use Rattle.std.specs.Prelude.{◌≡◌, ◌<◌, ◌≤◌, ◌^◌, ℕ, List, ◌∷◌, ◌++◌, length, slice_index}
+use Rattle.std.specs.Prelude.{◌≡◌, ◌<◌, ◌^◌, ℕ, List, ◌∷◌, ◌++◌, length}
 use Rattle.std.specs.Int.{to_be_bytes, w32}
+use Rattle.ats_terms.specs.Terms.{IsTerm}
 
 -- a term, the number of documents that hold it, and the root of its list
 pub record DictEntry : Type 0 where
@@ -12,14 +13,8 @@ pub record DictEntry : Type 0 where
 unfoldable pub dict_leaf_bytes : List ℕ → ℕ → List ℕ → List ℕ
 dict_leaf_bytes term f root = length term ∷ term ++ to_be_bytes w32 f ++ root
 
--- a term has 1 to 64 bytes, of which the first is not 0xFF
-pub record IsDictTerm (term : List ℕ) : Type 0 where
-  pub some : 1 ≤ length term
-  pub few : length term ≤ 64
-  pub front : slice_index term 0 < 255
-
 -- what each entry keeps
 pub record IsDictEntry (entry : DictEntry) : Type 0 where
-  pub term : IsDictTerm entry.term
+  pub term : IsTerm entry.term
   pub number : entry.f < 2 ^ 32
   pub root : length entry.root ≡ 32

@@ -2,16 +2,15 @@
 
 ghost use Rattle.std.specs.Prelude.{◌≡◌, ◌+◌, ◌<◌, ◌≤◌, ◌^◌, ℕ, [], ◌∷◌, ◌++◌, length, drop, slice_index, OnOk, OnErr};
 ghost use Rattle.std.specs.Int.{to_be_bytes, w32};
-ghost use Rattle.ats_dict.specs.Entry.{IsDictTerm};
+ghost use Rattle.ats_terms.specs.Terms.{IsTerm};
 ghost use Rattle.ats_dict.specs.Dictionary.{IsAboveLast, IsDictionary, entry_at, term_at, zero_root, dict_leaves};
 ghost use Rattle.ats_dict.specs.Found.{IsSpot};
 
 use crate::pieces::put;
-use crate::spot::Spot;
 use ats_hash::{Hash32, Steps};
+use ats_terms::{SortedTerms, Spot};
 use ats_tree::{HashedString, Leaves, ShortLeaves};
 use std::alloc::Global;
-use std::cmp::Ordering;
 use std::marker::Model;
 
 /// Memory was wanted and was not there.
@@ -125,7 +124,7 @@ impl Dictionary {
 
     /// Puts a term behind the last one, with the number of its documents and the root of its list.
     pub fn push(&mut self, term: &[u8], f: u32, list_root: &[u8; 32]) -> Result<(), OutOfMemory>
-        requires term { IsDictTerm term.now }
+        requires term { IsTerm term.now }
         requires above { IsAboveLast self.old term.now }
         requires few { length self.old < 2 ^ 24 }
         ensures ok { OnOk result (self.new ≡ self.old ++ record { term = term.now; f = f; root = list_root.now } ∷ []) }
@@ -149,7 +148,8 @@ impl Dictionary {
     // The leaf at a position in the parts that are hashed.
     fn parts(&self, p: u32) -> Parts<'_>
         requires { p < length self.now + 2 }
-        ensures entry { entry_at self.now p ≡ record { term = drop 1 result.front.now; f = result.f; root = result.list_root } }
+        ensures entry { entry_at self.now p
+            ≡ record { term = drop 1 result.front.now; f = result.f; root = result.list_root } }
         ensures front { result.front.now ≡ length (drop 1 result.front.now) ∷ drop 1 result.front.now }
         ensures few { length result.front.now ≤ 65 }
     {
@@ -190,17 +190,21 @@ impl Dictionary {
         ensures spot { IsSpot self.now term.now result }
         ensures only { (p : ℕ) → p < length self.now + 2 → term_at self.now p ≡ term.now → result ≡ Spot.At p }
     {
-        let mut below: u32 = 0;
-        let mut above = self.len() - 1;
-        'halves: while above - below > 1 {
-            let middle = below + (above - below) / 2;
-            match term.cmp(self.leaf(middle).term) {
-                Ordering::Less => above = middle,
-                Ordering::Equal => return Spot::At(middle),
-                Ordering::Greater => below = middle,
-            }
-        }
-        Spot::Between(below)
+        ats_terms::find(self, term)
+    }
+}
+
+impl SortedTerms for Dictionary {
+    ghost count = { length };
+
+    ghost at = { term_at };
+
+    fn positions(&self) -> u32 {
+        self.len()
+    }
+
+    fn term_at(&self, p: u32) -> &[u8] {
+        self.leaf(p).term
     }
 }
 

@@ -2,16 +2,19 @@
 //! these sentences need not read how the definitions are made.
 
 ghost use Rattle.std.specs.Prelude.{◌≡◌, ◌+◌, ◌<◌, ◌≤◌, ◌^◌, ℕ, List, [], length, Some, slice_get, slice_index, slice_index_or};
+ghost use Rattle.ats_terms.specs.Order.{IsBelow};
 ghost use Rattle.ats_dict.specs.Header.{header_bytes, IsHeader};
 ghost use Rattle.ats_dict.specs.Entry.{DictEntry, dict_leaf_bytes};
-ghost use Rattle.ats_dict.specs.Dictionary.{IsBelow, IsDictionary, low, high, entry_at, term_at, leaf_of, dict_leaves};
+ghost use Rattle.ats_dict.specs.Dictionary.{IsDictionary, low, high, entry_at, term_at, leaf_of, dict_leaves};
 
 /// The leaves by their positions: the low sentinel, the entries in their order, the high sentinel.
 pub fn leaves_by_position()
     ensures count { (entries : List DictEntry) → length (dict_leaves entries) ≡ length entries + 2 }
-    ensures leaf { (entries : List DictEntry) (p : ℕ) → p < length entries + 2 → slice_get (dict_leaves entries) p ≡ Some (leaf_of (entry_at entries p)) }
+    ensures leaf { (entries : List DictEntry) (p : ℕ) → p < length entries + 2
+        → slice_get (dict_leaves entries) p ≡ Some (leaf_of (entry_at entries p)) }
     ensures first { (entries : List DictEntry) → entry_at entries 0 ≡ low }
-    ensures inner { (entries : List DictEntry) (i : ℕ) (d : DictEntry) → i < length entries → entry_at entries (i + 1) ≡ slice_index_or entries i d }
+    ensures inner { (entries : List DictEntry) (i : ℕ) (d : DictEntry) → i < length entries
+        → entry_at entries (i + 1) ≡ slice_index_or entries i d }
     ensures last { (entries : List DictEntry) → entry_at entries (length entries + 1) ≡ high }
 {}
 

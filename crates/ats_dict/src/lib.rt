@@ -3,19 +3,18 @@
 //! The dictionary is a tree with one leaf per distinct term in byte order, between a low and a high
 //! sentinel that enclose every term. A leaf binds a term to the number of its documents and to the root of
 //! its list. The header binds that tree, with those of the documents and the texts, to their numbers.
-//! The crate stands on `ats_tree`. It promises the leaves and the header byte by byte, that a term is
-//! found exactly where it stands or else strictly between two neighbours, and that headers are read back
-//! exactly where they are in range.
-//! How terms lie in memory and how they are searched may change without asking; the bytes may not.
+//! The crate stands on `ats_tree`, and on `ats_terms` for terms and the search among them. It promises the
+//! leaves and the header byte by byte, that a term is found exactly where it stands or else strictly between
+//! two neighbours, and that headers are read back exactly where they are in range.
+//! How terms lie in memory may change without asking; the bytes may not.
 #![tactic(auto)]
 
+pub use ats_terms::Spot;
 pub use dictionary::{DictLeaf, Dictionary, OutOfMemory};
 pub use header::Header;
 pub use laws::{headers_tell_their_parts, leaves_by_position, leaves_tell_their_parts, terms_rise};
-pub use spot::Spot;
 
 mod dictionary;
 mod header;
 mod laws;
 mod pieces;
-mod spot;

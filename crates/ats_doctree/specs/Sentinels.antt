@@ -1,11 +1,7 @@
 -- The leaves of a document's terms: the terms in byte order, between two sentinels.
-use Rattle.std.specs.Prelude.{◌≡◌, ℕ, List, [], ◌∷◌, ◌++◌, length, map, slice_index_or}
+use Rattle.std.specs.Prelude.{ℕ, List, [], ◌∷◌, ◌++◌, length, map, slice_index_or}
 use Rattle.std.specs.Int.{to_be_bytes, w16}
-use Rattle.std.specs.declared.cmp.Ordering.TheVariants.{Less}
-use Rattle.ats_terms.specs.Query.{byte_cmp}
-
-abbrev pub IsBelow : List ℕ → List ℕ → Type 0
-IsBelow term other = byte_cmp term other ≡ Less
+pub use Rattle.ats_terms.specs.Order.{IsBelow}
 
 -- the sentinels
 abbrev pub low : List ℕ × ℕ

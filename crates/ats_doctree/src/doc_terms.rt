@@ -8,13 +8,11 @@ ghost use Rattle.ats_doctree.specs.Sentinels.{term_at, impact_at, terms_leaves};
 ghost use Rattle.ats_doctree.specs.Found.{IsSpot};
 
 use crate::memory::OutOfMemory;
-use crate::spot::Spot;
 use ats_hash::{Hash32, Steps};
 use ats_impact::{Collection, impact};
-use ats_terms::TermCounts;
+use ats_terms::{SortedTerms, Spot, TermCounts};
 use ats_tree::{HashedString, Leaves, ShortLeaves};
 use std::alloc::Global;
-use std::cmp::Ordering;
 use std::marker::Model;
 
 /// The distinct terms of a document in byte order, each with its impact, between the two sentinels.
@@ -114,17 +112,21 @@ impl DocTerms {
         ensures spot { IsSpot self.now term.now result }
         ensures only { (p : ℕ) → p < length self.now + 2 → term_at self.now p ≡ term.now → result ≡ Spot.At p }
     {
-        let mut below: u32 = 0;
-        let mut above = self.len() - 1;
-        'halves: while above - below > 1 {
-            let middle = below + (above - below) / 2;
-            match term.cmp(self.term(middle)) {
-                Ordering::Less => above = middle,
-                Ordering::Equal => return Spot::At(middle),
-                Ordering::Greater => below = middle,
-            }
-        }
-        Spot::Between(below)
+        ats_terms::find(self, term)
+    }
+}
+
+impl SortedTerms for DocTerms {
+    ghost count = { length };
+
+    ghost at = { term_at };
+
+    fn positions(&self) -> u32 {
+        self.len()
+    }
+
+    fn term_at(&self, p: u32) -> &[u8] {
+        self.term(p)
     }
 }
 

@@ -4,11 +4,12 @@ use Rattle.std.proofs.lemmas.Bool.{lt-ltb}
 use Rattle.ats_impact.specs.Numbers.{impact}
 use Rattle.ats_impact.specs.Score.{count, total_terms}
 use Rattle.ats_terms.specs.Terms.{terms}
+use Rattle.ats_terms.proofs.Sentinels.{none_of}
 use Rattle.ats_lists.specs.Lists.{list}
 use Rattle.ats_lists.specs.Postings.{posting}
 use Rattle.ats_doctree.specs.Found.{LiesBetween, StandsAt}
 use Rattle.ats_doctree.specs.Impacts.{doc_terms}
-use Rattle.ats_doctree.specs.Sentinels.{impact_at, low}
+use Rattle.ats_doctree.specs.Sentinels.{impact_at, high, low}
 use Rattle.ats_doctree.proofs.Documents.{impact_tells, none_stands, term_stands}
 use Rattle.ats_doctree.proofs.Positions.{item_at-suc}
 use Rattle.ats_bound.specs.Ranked.{impact_in}
@@ -43,6 +44,6 @@ module _ (texts : List (List ℕ)) (term : List ℕ) (doc : ℕ) (low_doc : doc 
   -- where it lies between two, none
   pub looked_up_between : (p : ℕ) → LiesBetween items term p → impact_in doc (list texts term) ≡ 0
   looked_up_between p is =
-      let none : count term text ≡ 0 = none_stands texts doc term is.absent in
+      let none : count term text ≡ 0 = none_stands texts doc term (none_of low high items (λ (item : List ℕ × ℕ). item.0) term is.absent) in
       let no : has texts term doc doc ≡ false = ap (nat_lt 0) none in
       listed texts term doc low_doc ∙ ap (λ b. cond b (posting texts term doc).impact 0) no

@@ -10,8 +10,8 @@ use Rattle.std.proofs.lemmas.Map.Keys.{Less-from_sorted, sorted_from_strictly_in
 use Rattle.std.proofs.lemmas.Map.Lookups.{exact_unsigned}
 use Rattle.ats_lists.proofs.Rising.{same_members}
 use Rattle.ats_lists.proofs.VocabularyLemmas.{vocabulary_rises}
-use Rattle.ats_dict.specs.declared.spot.Spot.{Spot}
-use Rattle.ats_dict.specs.declared.spot.Spot.TheVariants.{At, Between}
+use Rattle.ats_terms.specs.declared.spot.Spot.{Spot}
+use Rattle.ats_terms.specs.declared.spot.Spot.TheVariants.{At, Between}
 use Rattle.ats_dict.specs.Entry.{DictEntry}
 use Rattle.ats_dict.specs.Dictionary.{IsBelow, byte_cmp, dict_leaves, low, term_at}
 use Rattle.ats_dict.specs.Found.{IsSpot, LiesBetween, StandsAt}
@@ -84,10 +84,7 @@ module _ (H : List ℕ → List ℕ) (texts : List (List ℕ)) where
   entry_lies term p is = record { within = is.within; above = is.above; below = is.below }
 
   stands_and_lies : (term : List ℕ) (p q : ℕ) → StandsAt entries term p → LiesBetween entries term q → ⊥
-  stands_and_lies term zero q stands lies = absurd (omega (arith, stands.some))
-  stands_and_lies term (suc i) q stands lies =
-      let inside : i < length entries = omega (arith, stands.within) in
-      lies.absent i low inside (sym (ap (λ (e : DictEntry). e.term) (entry_at-suc entries i low inside)) ∙ stands.same)
+  stands_and_lies term p q stands lies = lies.absent p stands
 
   -- a term stands at one position, or lies between one pair of neighbours, and never both
   one_spot : (term : List ℕ) (s t : Spot) → IsSpot entries term s → IsSpot entries term t → s ≡ t
@@ -118,10 +115,7 @@ module _ (texts : List (List ℕ)) (doc : ℕ) where
   item_lies term p is = record { within = is.within; above = is.above; below = is.below }
 
   item_stands_and_lies : (term : List ℕ) (p q : ℕ) → found.StandsAt items term p → found.LiesBetween items term q → ⊥
-  item_stands_and_lies term zero q stands lies = absurd (omega (arith, stands.some))
-  item_stands_and_lies term (suc i) q stands lies =
-      let inside : i < length items = omega (arith, stands.within) in
-      lies.absent i tree.low inside (sym (ap (λ (e : List ℕ × ℕ). e.0) (item_at-suc items i tree.low inside)) ∙ stands.same)
+  item_stands_and_lies term p q stands lies = lies.absent p stands
 
   one_term_spot : (term : List ℕ) (s t : Spot) → IsTermSpot items term s → IsTermSpot items term t → s ≡ t
   one_term_spot term (At p) (At q) first second =

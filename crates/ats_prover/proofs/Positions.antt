@@ -4,8 +4,9 @@ use Rattle.std.specs.declared.cmp.Ordering.{Ordering}
 use Rattle.std.specs.declared.cmp.Ordering.TheVariants.{Less, Equal, Greater}
 use Rattle.std.proofs.lemmas.Bool.{cases_order}
 use Rattle.std.proofs.lemmas.Cmp.{nat_list_cmp_total}
-use Rattle.ats_dict.specs.Dictionary.{IsBelow, byte_cmp}
-use Rattle.ats_dict.proofs.Finding.{above_from, same_from}
+use Rattle.ats_terms.specs.Order.{IsBelow, byte_cmp}
+use Rattle.ats_terms.proofs.Counting.{equal_from}
+use Rattle.ats_terms.proofs.Order.{above_from}
 use Rattle.ats_prover.proofs.Ranges.{not_below_itself}
 
 -- the term stands at a position from 1 to n
@@ -60,7 +61,7 @@ module _ (at : ℕ → List ℕ) (n : ℕ) (term : List ℕ) (first : IsBelow (a
   -- by how the next position's term stands to it
   next_is : (p : ℕ) (order : Ordering) → p < n → IsBelow (at p) term → byte_cmp (at (p + 1)) term ≡ order → IsFound ⊎ IsBelow (at (p + 1)) term
   next_is p Less less above is = inr is
-  next_is p Equal less above is = inl (inl (p + 1, record { some = omega arith; within = omega (arith, less); same = same_from (at (p + 1)) term is }))
+  next_is p Equal less above is = inl (inl (p + 1, record { some = omega arith; within = omega (arith, less); same = equal_from (at (p + 1)) term is }))
   next_is p Greater less above is = inl (inr (p, record { within = omega (arith, less); above = above; below = above_from (at (p + 1)) term is }))
 
   -- from a position below it on

@@ -20,7 +20,8 @@ use Rattle.ats_lists.proofs.VocabularyLemmas.{vocabulary_has, postings_frequency
 use Rattle.ats_lists.specs.Postings.{postings}
 use Rattle.ats_lists.proofs.WholeLemmas.{list_frequency, list_keeps}
 use Rattle.ats_dict.specs.Entry.{DictEntry}
-use Rattle.ats_dict.specs.Dictionary.{low, entry_at}
+use Rattle.ats_terms.proofs.Sentinels.{none_of}
+use Rattle.ats_dict.specs.Dictionary.{low, high, entry_at}
 use Rattle.ats_dict.specs.Found.{StandsAt, LiesBetween}
 use Rattle.ats_dict.proofs.Sentinels.{entry_at-suc}
 use Rattle.ats_commit.specs.Archive.{Archive}
@@ -75,7 +76,7 @@ absent_term H archive term p is =
     let none : list_any (bytes_eq term) terms ≡ false = list_any_none (bytes_eq term) terms (λ k d inside.
     let within : k < length entries = omega (arith, inside, length-map entries (λ (e : DictEntry). e.term)) in
     let at : get_or terms k d ≡ (get_or entries k low).term = get_or-map (λ (e : DictEntry). e.term) entries k low d within in
-    other term (get_or terms k d) (λ same. is.absent k low within (sym at ∙ sym same))) in
+    other term (get_or terms k d) (λ same. none_of low high entries (λ (e : DictEntry). e.term) term is.absent k low within (sym at ∙ sym same))) in
     let test : nat_lt 0 (frequency term archive.texts) ≡ false =
     ap (nat_lt 0) (sym (postings_frequency term archive.texts)) ∙ sym (vocabulary_has archive.texts term) ∙ ap (list_any (bytes_eq term)) (sym (dictionary_terms H archive)) ∙ none in
     zero_of (frequency term archive.texts) test

@@ -4,12 +4,13 @@ use Rattle.std.specs.List.{All}
 use Rattle.std.proofs.lemmas.List.Elements.{All-head, All-tail}
 use Rattle.ats_terms.specs.Terms.{IsTerm}
 use Rattle.ats_terms.proofs.Order.{rises_less}
-use Rattle.ats_dict.specs.declared.spot.Spot.{Spot}
-use Rattle.ats_dict.specs.declared.spot.Spot.TheVariants.{At, Between}
+use Rattle.ats_terms.proofs.Sentinels.{high_above, low_below, nowhere}
+use Rattle.ats_terms.specs.declared.spot.Spot.{Spot}
+use Rattle.ats_terms.specs.declared.spot.Spot.TheVariants.{At, Between}
 use Rattle.ats_dict.specs.Entry.{DictEntry}
-use Rattle.ats_dict.specs.Dictionary.{IsBelow, entry_at, low, term_at}
+use Rattle.ats_dict.specs.Dictionary.{IsBelow, entry_at, high, low, term_at}
 use Rattle.ats_dict.specs.Found.{IsSpot}
-use Rattle.ats_dict.proofs.Sentinels.{entry_at-last, entry_at-suc, high_above, low_below}
+use Rattle.ats_dict.proofs.Sentinels.{entry_at-last, entry_at-suc}
 use Rattle.ats_doctree.specs.Impacts.{doc_terms}
 use Rattle.ats_doctree.specs.Sentinels as tree
 use Rattle.ats_doctree.proofs.Documents.{doc_terms_rise}
@@ -37,7 +38,8 @@ entry_spot H texts term is =
           within = lies.1.within;
           above = lies.1.above;
           below = lies.1.below;
-          absent = none_between low entries (entry_at entries) (λ i inside. entry_at-suc entries i low inside) (λ (e : DictEntry). e.term) (entries_rise H texts) lies.0 term lies.1.within lies.1.above lies.1.below;
+          absent = nowhere low high entries (λ (e : DictEntry). e.term) term
+              (none_between low entries (entry_at entries) (λ i inside. entry_at-suc entries i low inside) (λ (e : DictEntry). e.term) (entries_rise H texts) lies.0 term lies.1.within lies.1.above lies.1.below);
         },
       )
     ]
@@ -57,8 +59,9 @@ item_spot texts doc term is =
           within = lies.1.within;
           above = lies.1.above;
           below = lies.1.below;
-          absent = none_between tree.low items (tree.item_at items) (λ i inside. item_at-suc items i tree.low inside) (λ (item : List ℕ × ℕ). item.0)
-              (λ i j less inside. rises_less items i j tree.low (doc_terms_rise texts doc) less inside) lies.0 term lies.1.within lies.1.above lies.1.below;
+          absent = nowhere tree.low tree.high items (λ (item : List ℕ × ℕ). item.0) term
+              (none_between tree.low items (tree.item_at items) (λ i inside. item_at-suc items i tree.low inside) (λ (item : List ℕ × ℕ). item.0)
+              (λ i j less inside. rises_less items i j tree.low (doc_terms_rise texts doc) less inside) lies.0 term lies.1.within lies.1.above lies.1.below);
         },
       )
     ]

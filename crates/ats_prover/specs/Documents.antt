@@ -1,8 +1,8 @@
 -- What an honest proof shows of the met documents, where their scores are looked up.
 use Rattle.std.specs.Prelude.{◌≡◌, ℕ, List, [], ◌∷◌, map, Option, Some, None}
 use Rattle.ats_tree.specs.Elided.{elided_digests}
-use Rattle.ats_dict.specs.declared.spot.Spot.{Spot}
-use Rattle.ats_dict.specs.declared.spot.Spot.TheVariants.{At, Between}
+use Rattle.ats_terms.specs.declared.spot.Spot.{Spot}
+use Rattle.ats_terms.specs.declared.spot.Spot.TheVariants.{At, Between}
 use Rattle.ats_doctree.specs.Found.{LiesBetween, StandsAt}
 use Rattle.ats_doctree.specs.Impacts.{doc_terms}
 use Rattle.ats_doctree.specs.Sentinels.{item_at, terms_leaves}

@@ -2,8 +2,8 @@
 use Rattle.std.specs.Prelude.{◌<◌, ◌≤◌, ℕ, List, [], ◌∷◌, length, map, slice_index_or}
 use Rattle.std.specs.List.{All}
 use Rattle.ats_terms.specs.Query.{Rises}
-use Rattle.ats_dict.specs.declared.spot.Spot.{Spot}
-use Rattle.ats_dict.specs.declared.spot.Spot.TheVariants.{At, Between}
+use Rattle.ats_terms.specs.declared.spot.Spot.{Spot}
+use Rattle.ats_terms.specs.declared.spot.Spot.TheVariants.{At, Between}
 
 -- the terms whose spot is a leaf, in their order
 abbrev pub standing : List (List ℕ × ℕ) → List Spot → List (List ℕ × ℕ)

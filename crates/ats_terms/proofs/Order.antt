@@ -1,13 +1,14 @@
--- The places of terms that rise.
-use Rattle.std.proofs.Common.{◌≡◌, ◌≢◌, ◌<◌, ◌≤◌, ℕ, zero, suc, List, [], ◌∷◌, length, get_or, refl, sym, subst, ◌∙◌, inl, inr, arith}
+-- Byte order, and the places of terms that rise in it.
+use Rattle.std.proofs.Common.{◌≡◌, ◌≢◌, ◌<◌, ◌≤◌, ℕ, zero, suc, List, [], ◌∷◌, length, get_or, refl, sym, ap, subst, ◌∙◌, inl, inr, arith}
 use Rattle.std.specs.List.{All}
 use Rattle.std.specs.List.Sorted.{IsNonDecreasingBy, IsPartitionPoint}
-use Rattle.std.specs.Ordering.{ordering_index}
+use Rattle.std.specs.Ordering.{ordering_index, ordering_reverse}
 use Rattle.std.specs.declared.cmp.Ordering.{Ordering}
 use Rattle.std.specs.declared.cmp.Ordering.TheVariants.{Less, Equal, Greater}
 use Rattle.std.proofs.lemmas.Bool.{cases_lt, cases_order}
 use Rattle.std.proofs.lemmas.Cmp.{nat_list_cmp_total, tied_itself}
-use Rattle.ats_terms.specs.Query.{byte_cmp, RisesFrom, Rises}
+use Rattle.ats_terms.specs.Order.{byte_cmp, IsBelow}
+use Rattle.ats_terms.specs.Query.{RisesFrom, Rises}
 use Rattle.ats_terms.proofs.Counting.{equal_from}
 
 rises_past : (term : List ℕ) (pairs : List (List ℕ × ℕ)) (j : ℕ) (d : List ℕ × ℕ) → RisesFrom term pairs → j < length pairs
@@ -29,6 +30,9 @@ rises_less (pair ∷ rest) zero zero d rises up inside = absurd (omega arith)
 rises_less (pair ∷ rest) zero (suc j) d rises up inside = rises_past pair.0 rest j d rises (omega arith)
 rises_less (pair ∷ rest) (suc i) zero d rises up inside = absurd (omega arith)
 rises_less (pair ∷ rest) (suc i) (suc j) d rises up inside = rises_less rest i j d (rises_rest pair rest rises) (omega arith) (omega arith)
+
+pub above_from : (term other : List ℕ) → byte_cmp term other ≡ Greater → IsBelow other term
+above_from term other greater = nat_list_cmp_total.antisymm other term ∙ ap ordering_reverse greater
 
 unequal : (x y : List ℕ) (o : Ordering) → byte_cmp x y ≡ o → o ≢ Equal → x ≢ y
 unequal x y o is other same = other (sym is ∙ subst (λ z. byte_cmp x z ≡ Equal) same (tied_itself nat_list_cmp_total x))

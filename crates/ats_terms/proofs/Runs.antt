@@ -10,7 +10,8 @@ use Rattle.std.proofs.lemmas.List.{get_or-map, get_or_default, length-map, take_
 use Rattle.std.proofs.lemmas.List.Elements.{All-nil, All-tail, All-push}
 use Rattle.std.proofs.lemmas.Slice.Zip.{firsts-zip, seconds-zip, get_or-zip}
 use Rattle.std.proofs.lemmas.List.Sums.{get_or-le-sum_by}
-use Rattle.ats_terms.specs.Query.{byte_cmp, put_term, counted}
+use Rattle.ats_terms.specs.Order.{byte_cmp}
+use Rattle.ats_terms.specs.Query.{put_term, counted}
 use Rattle.ats_terms.proofs.Counting.{equal_from, all_weigh}
 
 -- every term of the pairs is below this one

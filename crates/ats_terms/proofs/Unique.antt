@@ -13,7 +13,8 @@ use Rattle.std.proofs.lemmas.Cmp.{nat_list_cmp_total}
 use Rattle.std.proofs.lemmas.List.Sums.{sum_by-cons}
 use Rattle.std.proofs.lemmas.List.Elements.{All-nil, All-tail}
 use Rattle.ats_terms.specs.Terms.{IsTerm, occurrences}
-use Rattle.ats_terms.specs.Query.{byte_cmp, counted, RisesFrom, Rises}
+use Rattle.ats_terms.specs.Order.{byte_cmp}
+use Rattle.ats_terms.specs.Query.{counted, RisesFrom, Rises}
 use Rattle.ats_terms.specs.Distinct.{AreDistinct}
 use Rattle.ats_terms.specs.Counted.{weight_of, Counts}
 use Rattle.ats_terms.proofs.Counting.{equal_from, counted_counts, all_terms}

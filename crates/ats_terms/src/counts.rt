@@ -4,7 +4,8 @@ ghost use Rattle.std.specs.Prelude.{◌≡◌, ◌<◌, ◌≤◌, ◌^◌, [], 
 ghost use Rattle.std.specs.List.{All};
 ghost use Rattle.std.specs.List.Sorted.{IsPermutation, IsSorted};
 ghost use Rattle.ats_terms.specs.Terms.{IsTerm};
-ghost use Rattle.ats_terms.specs.Query.{byte_cmp, counted};
+ghost use Rattle.ats_terms.specs.Order.{byte_cmp};
+ghost use Rattle.ats_terms.specs.Query.{counted};
 ghost use Rattle.ats_terms.specs.Counted.{Counts};
 ghost use Rattle.ats_terms.specs.Distinct.{AreDistinct};
 

@@ -3,7 +3,8 @@ use Rattle.std.specs.List.{All}
 use Rattle.std.specs.List.Sorted.{IsBinarySearchResult, IsSearchInRange}
 use Rattle.std.specs.Result.{result_ok}
 use Rattle.std.proofs.lemmas.Fn.{always_returns_same}
-use Rattle.ats_terms.specs.Query.{byte_cmp, Rises}
+use Rattle.ats_terms.specs.Order.{byte_cmp}
+use Rattle.ats_terms.specs.Query.{Rises}
 use Rattle.ats_terms.proofs.Counting.{equal_from}
 use Rattle.ats_terms.proofs.Order.{compares_up, parted}
 use Rattle.ats_terms.proofs.query.Query.find.Goals as goal
