@@ -84,11 +84,14 @@ fn sentinel(front: &[u8]) -> Parts<'_>
     }
 }
 
+// The bytes of a number of documents and a root.
+const BACK_BYTES: usize = 36;
+
 // What stands behind the term in a leaf.
-fn back(f: u32, list_root: &[u8; 32]) -> [u8; 36]
+fn back(f: u32, list_root: &[u8; 32]) -> [u8; BACK_BYTES]
     ensures { result ≡ to_be_bytes w32 f ++ list_root.now }
 {
-    let mut back = [0; 36];
+    let mut back = [0; BACK_BYTES];
     put(&mut back, 0, &f.to_be_bytes());
     put(&mut back, 4, list_root);
     back

@@ -4,6 +4,7 @@ ghost use Rattle.std.specs.Prelude.{◌≡◌, ◌+◌, ◌≤◌, ◌↔◌, �
 ghost use Rattle.ats_dict.specs.Header.{header_bytes, number_at, AreInRange, IsHeader, HasHeader};
 
 use crate::pieces::put;
+use byteorder::{BigEndian, ByteOrder};
 
 /// How many documents and dictionary leaves a collection has, and the roots of its trees.
 ///
@@ -23,6 +24,20 @@ pub struct Header {
     pub texts_root: [u8; 32],
 }
 
+/// How many bytes a header has.
+pub const HEADER_BYTES: usize = 105;
+
+// Where the fields behind the version begin.
+const DOCUMENTS: usize = 1;
+
+const DICT_LEAVES: usize = 5;
+
+const DICT_ROOT: usize = 9;
+
+const DOCS_ROOT: usize = 41;
+
+const TEXTS_ROOT: usize = 73;
+
 const VERSION: u8 = 1;
 
 const MAX_DOCUMENTS: u32 = 65_536;
@@ -37,17 +52,15 @@ fn are_in_range(documents: u32, dict_leaves: u32) -> bool
 }
 
 // The number that begins at a place of a header.
-fn number_at(bytes: &[u8; 105], place: usize) -> u32
+fn number_at(bytes: &[u8; HEADER_BYTES], place: usize) -> u32
     requires { place ≤ 101 }
     ensures { result ≡ number_at bytes.now place }
 {
-    let mut number = [0; 4];
-    number.copy_from_slice(&bytes[place..place + 4]);
-    u32::from_be_bytes(number)
+    BigEndian::read_u32(&bytes[place..place + 4])
 }
 
 // The root that begins at a place of a header.
-fn root_at(bytes: &[u8; 105], place: usize) -> [u8; 32]
+fn root_at(bytes: &[u8; HEADER_BYTES], place: usize) -> [u8; 32]
     requires { place ≤ 73 }
     ensures { result ≡ slice_range bytes.now place (place + 32) }
 {
@@ -59,41 +72,49 @@ fn root_at(bytes: &[u8; 105], place: usize) -> [u8; 32]
 impl Header {
     /// Version 1 in one byte, the numbers of documents and of dictionary leaves in 4 bytes each, high byte
     /// first, and the roots of the dictionary, the documents and the texts.
-    pub fn bytes(&self) -> [u8; 105]
-        ensures { result ≡ header_bytes self.now.documents self.now.dict_leaves self.now.dict_root self.now.docs_root self.now.texts_root }
+    pub fn bytes(&self) -> [u8; HEADER_BYTES]
+        ensures { result ≡ header_bytes self.now.documents self.now.dict_leaves
+            self.now.dict_root self.now.docs_root self.now.texts_root }
     {
-        let mut bytes = [0; 105];
+        let mut bytes = [0; HEADER_BYTES];
         bytes[0] = VERSION;
-        put(&mut bytes, 1, &self.documents.to_be_bytes());
-        put(&mut bytes, 5, &self.dict_leaves.to_be_bytes());
-        put(&mut bytes, 9, &self.dict_root);
-        put(&mut bytes, 41, &self.docs_root);
-        put(&mut bytes, 73, &self.texts_root);
+        put(&mut bytes, DOCUMENTS, &self.documents.to_be_bytes());
+        put(&mut bytes, DICT_LEAVES, &self.dict_leaves.to_be_bytes());
+        put(&mut bytes, DICT_ROOT, &self.dict_root);
+        put(&mut bytes, DOCS_ROOT, &self.docs_root);
+        put(&mut bytes, TEXTS_ROOT, &self.texts_root);
         bytes
     }
 
     /// The header that these bytes are, or nothing where the version or a number is out of its range.
-    pub fn read(bytes: &[u8; 105]) -> Option<Self>
-        ensures bytes { IfSome result (λ h. bytes.now ≡ header_bytes h.documents h.dict_leaves h.dict_root h.docs_root h.texts_root) }
+    pub fn read(bytes: &[u8; HEADER_BYTES]) -> Option<Self>
+        ensures bytes { IfSome result (λ h. bytes.now
+            ≡ header_bytes h.documents h.dict_leaves h.dict_root h.docs_root h.texts_root) }
         ensures header { IfSome result (λ h. IsHeader h.documents h.dict_leaves h.dict_root h.docs_root h.texts_root) }
         ensures none { IfNone result (¬ HasHeader bytes.now) }
         ensures again { (documents dict_leaves : ℕ) (dict_root docs_root texts_root : List ℕ)
             → IsHeader documents dict_leaves dict_root docs_root texts_root
             → bytes.now ≡ header_bytes documents dict_leaves dict_root docs_root texts_root
-            → result ≡ Some (record { documents = documents; dict_leaves = dict_leaves; dict_root = dict_root; docs_root = docs_root; texts_root = texts_root }) }
+            → result ≡ Some (record {
+              documents = documents;
+              dict_leaves = dict_leaves;
+              dict_root = dict_root;
+              docs_root = docs_root;
+              texts_root = texts_root;
+            }) }
     {
         let version = bytes[0];
-        let documents = number_at(bytes, 1);
-        let dict_leaves = number_at(bytes, 5);
+        let documents = number_at(bytes, DOCUMENTS);
+        let dict_leaves = number_at(bytes, DICT_LEAVES);
         if version != VERSION || !are_in_range(documents, dict_leaves) {
             return None;
         }
         Some(Header {
             documents,
             dict_leaves,
-            dict_root: root_at(bytes, 9),
-            docs_root: root_at(bytes, 41),
-            texts_root: root_at(bytes, 73),
+            dict_root: root_at(bytes, DICT_ROOT),
+            docs_root: root_at(bytes, DOCS_ROOT),
+            texts_root: root_at(bytes, TEXTS_ROOT),
         })
     }
 }

@@ -11,7 +11,7 @@
 
 pub use ats_terms::Spot;
 pub use dictionary::{DictLeaf, Dictionary, OutOfMemory};
-pub use header::Header;
+pub use header::{HEADER_BYTES, Header};
 pub use laws::{headers_tell_their_parts, leaves_by_position, leaves_tell_their_parts, terms_rise};
 
 mod dictionary;

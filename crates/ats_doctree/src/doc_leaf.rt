@@ -3,6 +3,9 @@
 ghost use Rattle.std.specs.Prelude.{◌≡◌};
 ghost use Rattle.ats_doctree.specs.DocumentLeaf.{doc_leaf_bytes};
 
+/// How many bytes the leaf of a document has.
+pub const DOC_LEAF_BYTES: usize = 36;
+
 /// The leaf of a document in the tree of all documents.
 #[derive(Clone, Copy, Debug, PartialEq, Eq)]
 pub struct DocLeaf {
@@ -14,10 +17,10 @@ pub struct DocLeaf {
 
 impl DocLeaf {
     /// The number in 4 bytes, high byte first, then the root.
-    pub fn bytes(&self) -> [u8; 36]
+    pub fn bytes(&self) -> [u8; DOC_LEAF_BYTES]
         ensures { result ≡ doc_leaf_bytes self.now.leaves self.now.root }
     {
-        let mut bytes = [0; 36];
+        let mut bytes = [0; DOC_LEAF_BYTES];
         bytes[..4].copy_from_slice(&self.leaves.to_be_bytes());
         bytes[4..].copy_from_slice(&self.root);
         bytes

@@ -39,8 +39,11 @@ impl Model for DocTerms {
     ghost invariant = { λ d. AreCounts d.total d.len d.documents d.counts };
 }
 
+// The most bytes that a term has with its length.
+const FRONT_BYTES: usize = 65;
+
 // Puts the length of a term and then the term in front of a block.
-fn put_term(block: &mut [u8; 65], term: &[u8])
+fn put_term(block: &mut [u8; FRONT_BYTES], term: &[u8])
     requires { length term.now ≤ 64 }
     ensures { take (length term.now + 1) block.new ≡ length term.now ∷ term.now }
 {
@@ -144,7 +147,7 @@ impl Leaves for DocTerms {
 
     fn leaf_digest<H: Hash32>(&self, i: u32, steps: &mut Steps) -> [u8; 32] {
         let term = self.term(i);
-        let mut block = [0; 65];
+        let mut block = [0; FRONT_BYTES];
         put_term(&mut block, term);
         let front = &block[..term.len() + 1];
         H::digest2(0, front, &self.impact(i).to_be_bytes(), steps)

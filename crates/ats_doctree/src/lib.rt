@@ -15,7 +15,7 @@ mod laws;
 mod memory;
 
 pub use ats_terms::Spot;
-pub use doc_leaf::DocLeaf;
+pub use doc_leaf::{DOC_LEAF_BYTES, DocLeaf};
 pub use doc_terms::DocTerms;
 pub use laws::{impacts_tell_counts, leaves_by_position, leaves_tell_their_parts, terms_rise};
 pub use memory::OutOfMemory;
