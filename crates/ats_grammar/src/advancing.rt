@@ -9,21 +9,21 @@ ghost use Rattle.ats_grammar.specs.State.{in_front, in_dict, in_met, in_list, in
 use crate::state::{DictPart, DocsPart, FrontPart, ListPart, MetPart, Part, State, TermsPart};
 
 impl State {
-    // The same numbers with another field to come, which finds no term present.
-    fn before(mut self, part: Part) -> State
+    // Another field to come, which finds no term present, with the same numbers.
+    fn before(&mut self, part: Part)
         requires { pending part ≡ 0 }
-        ensures remaining { remaining result ≡ remaining_in part self }
-        ensures part { result.part ≡ part }
+        ensures remaining { remaining self.new ≡ remaining_in part self.old }
+        ensures part { self.new.part ≡ part }
     {
         self.part = part;
-        self
     }
 
     /// What stands after the field that comes next, which is this number where it is one.
-    pub(crate) fn advance(self, number: u32) -> State
-        requires { IsWithin (remaining self) number }
-        ensures part { remaining result ≡ follow (remaining self) number }
-        ensures smaller { may_be_empty result.part < may_be_empty self.part + 2 * size_of (head (remaining self)) }
+    pub(crate) fn advance(&mut self, number: u32)
+        requires { IsWithin (remaining self.old) number }
+        ensures part { remaining self.new ≡ follow (remaining self.old) number }
+        ensures smaller { may_be_empty self.new.part
+            < may_be_empty self.old.part + 2 * size_of (head (remaining self.old)) }
     {
         match self.part {
             Part::Front(part) => self.advance_in_front(part, number),
@@ -35,10 +35,11 @@ impl State {
         }
     }
 
-    fn advance_in_front(mut self, part: FrontPart, number: u32) -> State
-        requires part { self.part ≡ parts.Front part }
-        ensures part { remaining result ≡ follow (in_front part self) number }
-        ensures smaller { may_be_empty result.part < may_be_empty self.part + 2 * size_of (head (in_front part self)) }
+    fn advance_in_front(&mut self, part: FrontPart, number: u32)
+        requires part { self.old.part ≡ parts.Front part }
+        ensures part { remaining self.new ≡ follow (in_front part self.old) number }
+        ensures smaller { may_be_empty self.new.part
+            < may_be_empty self.old.part + 2 * size_of (head (in_front part self.old)) }
     {
         match part {
             FrontPart::Magic => self.before(Part::Front(FrontPart::Version)),
@@ -61,10 +62,11 @@ impl State {
         }
     }
 
-    fn advance_in_dict(mut self, part: DictPart, number: u32) -> State
-        requires part { self.part ≡ parts.Dict part }
-        ensures part { remaining result ≡ follow (in_dict part self) number }
-        ensures smaller { may_be_empty result.part < may_be_empty self.part + 2 * size_of (head (in_dict part self)) }
+    fn advance_in_dict(&mut self, part: DictPart, number: u32)
+        requires part { self.old.part ≡ parts.Dict part }
+        ensures part { remaining self.new ≡ follow (in_dict part self.old) number }
+        ensures smaller { may_be_empty self.new.part
+            < may_be_empty self.old.part + 2 * size_of (head (in_dict part self.old)) }
     {
         match part {
             DictPart::LeafCount => self.at_dict_leaves(number, 0),
@@ -84,17 +86,17 @@ impl State {
         }
     }
 
-    fn advance_in_met(mut self, part: MetPart, number: u32) -> State
-        requires part { self.part ≡ parts.Met part }
-        requires range { IsWithin (in_met part self) number }
-        ensures part { remaining result ≡ follow (in_met part self) number }
-        ensures smaller { may_be_empty result.part < may_be_empty self.part + 2 * size_of (head (in_met part self)) }
+    fn advance_in_met(&mut self, part: MetPart, number: u32)
+        requires part { self.old.part ≡ parts.Met part }
+        requires range { IsWithin (in_met part self.old) number }
+        ensures part { remaining self.new ≡ follow (in_met part self.old) number }
+        ensures smaller { may_be_empty self.new.part
+            < may_be_empty self.old.part + 2 * size_of (head (in_met part self.old)) }
     {
         match part {
             MetPart::SlotKind => {
                 self.present += number;
                 self.part = Part::Met(MetPart::SlotIndex);
-                self
             }
             MetPart::SlotIndex => self.at_slots(self.slots, number.into()),
             MetPart::MetCount => {
@@ -105,10 +107,11 @@ impl State {
         }
     }
 
-    fn advance_in_list(mut self, part: ListPart, number: u32) -> State
-        requires part { self.part ≡ parts.List part }
-        ensures part { remaining result ≡ follow (in_list part self) number }
-        ensures smaller { may_be_empty result.part < may_be_empty self.part + 2 * size_of (head (in_list part self)) }
+    fn advance_in_list(&mut self, part: ListPart, number: u32)
+        requires part { self.old.part ≡ parts.List part }
+        ensures part { remaining self.new ≡ follow (in_list part self.old) number }
+        ensures smaller { may_be_empty self.new.part
+            < may_be_empty self.old.part + 2 * size_of (head (in_list part self.old)) }
     {
         match part {
             ListPart::EntryCount => self.at_entries(number),
@@ -119,11 +122,12 @@ impl State {
         }
     }
 
-    fn advance_in_docs(mut self, part: DocsPart, number: u32) -> State
-        requires part { self.part ≡ parts.Docs part }
-        requires range { IsWithin (in_docs part self) number }
-        ensures part { remaining result ≡ follow (in_docs part self) number }
-        ensures smaller { may_be_empty result.part < may_be_empty self.part + 2 * size_of (head (in_docs part self)) }
+    fn advance_in_docs(&mut self, part: DocsPart, number: u32)
+        requires part { self.old.part ≡ parts.Docs part }
+        requires range { IsWithin (in_docs part self.old) number }
+        ensures part { remaining self.new ≡ follow (in_docs part self.old) number }
+        ensures smaller { may_be_empty self.new.part
+            < may_be_empty self.old.part + 2 * size_of (head (in_docs part self.old)) }
     {
         match part {
             DocsPart::LeafTerms => self.before(Part::Docs(DocsPart::TermsRoot)),
@@ -132,14 +136,15 @@ impl State {
             DocsPart::Digest => self.at_docs_digests(self.left),
             DocsPart::RowCount => self.at_rows(number),
             DocsPart::Row => self.at_rows(self.left),
-            DocsPart::End => self,
+            DocsPart::End => {}
         }
     }
 
-    fn advance_in_terms(mut self, part: TermsPart, number: u32) -> State
-        requires part { self.part ≡ parts.Terms part }
-        ensures part { remaining result ≡ follow (in_terms part self) number }
-        ensures smaller { may_be_empty result.part < may_be_empty self.part + 2 * size_of (head (in_terms part self)) }
+    fn advance_in_terms(&mut self, part: TermsPart, number: u32)
+        requires part { self.old.part ≡ parts.Terms part }
+        ensures part { remaining self.new ≡ follow (in_terms part self.old) number }
+        ensures smaller { may_be_empty self.new.part
+            < may_be_empty self.old.part + 2 * size_of (head (in_terms part self.old)) }
     {
         match part {
             TermsPart::LeafCount => self.at_term_leaves(number, 0),

@@ -15,7 +15,6 @@ use crate::feeder::{Feeder, Place};
 use crate::next::Next;
 use crate::stand::Stand;
 use crate::state::State;
-use crate::stepping::step;
 
 const LIMIT: u64 = 67_108_864;
 
@@ -39,11 +38,8 @@ fn read_on(from: Stand, piece: &[u8]) -> Result<Stand, Wrong>
     let mut stand = from;
     let mut rest = piece;
     'steps: loop {
-        match step(stand, rest) {
-            Ok(Some((next, after))) => {
-                stand = next;
-                rest = after;
-            }
+        match stand.step(rest) {
+            Ok(Some(after)) => rest = after,
             Ok(None) => return Ok(stand),
             Err(kind) => {
                 let left = u64::from(stand.came) + rest.len() as u64;

@@ -8,23 +8,28 @@ ghost use Rattle.ats_grammar.specs.Table.{Format};
 
 /// Bytes spell one list of fields at most.
 pub fn spellings_tell_their_fields()
-    ensures { (format : Format) (bytes : List ℕ) (fields others : List (List ℕ)) → Spells format bytes fields → Spells format bytes others → fields ≡ others }
+    ensures { (format : Format) (bytes : List ℕ) (fields others : List (List ℕ))
+        → Spells format bytes fields → Spells format bytes others → fields ≡ others }
 {}
 
 /// Where further bytes stand after what is spelled, the fault is at the first of them.
 pub fn further_bytes_are_trailing()
-    ensures { (format : Format) (bytes more : List ℕ) (fields : List (List ℕ)) → Spells format bytes fields → 1 ≤ length more → length bytes + length more ≤ format.limit
+    ensures { (format : Format) (bytes more : List ℕ) (fields : List (List ℕ))
+        → Spells format bytes fields → 1 ≤ length more → length bytes + length more ≤ format.limit
         → IsBad format (bytes ++ more) (record { at = length bytes; kind = Trailing }) }
 {}
 
 /// A fault other than a field that passes the end is that of all longer bytes too, within the limit.
 pub fn faults_stay()
-    ensures { (format : Format) (bytes more : List ℕ) (fault : ShapeFault) → IsFirst format bytes fault → fault.kind ≢ Cut → length bytes + length more ≤ format.limit
+    ensures { (format : Format) (bytes more : List ℕ) (fault : ShapeFault)
+        → IsFirst format bytes fault → fault.kind ≢ Cut → length bytes + length more ≤ format.limit
         → IsFirst format (bytes ++ more) fault }
 {}
 
 /// Bytes have one fault at most, and none where they are spelled.
 pub fn bytes_have_one_fault()
-    ensures one { (format : Format) (bytes : List ℕ) (a b : ShapeFault) → IsBad format bytes a → IsBad format bytes b → a ≡ b }
-    ensures none { (format : Format) (bytes : List ℕ) (fields : List (List ℕ)) (fault : ShapeFault) → Spells format bytes fields → IsBad format bytes fault → ⊥ }
+    ensures one { (format : Format) (bytes : List ℕ) (a b : ShapeFault)
+        → IsBad format bytes a → IsBad format bytes b → a ≡ b }
+    ensures none { (format : Format) (bytes : List ℕ) (fields : List (List ℕ)) (fault : ShapeFault)
+        → Spells format bytes fields → IsBad format bytes fault → ⊥ }
 {}

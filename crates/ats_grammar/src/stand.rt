@@ -1,8 +1,9 @@
 //! Where a reader of pieces stands.
 
-ghost use Rattle.std.specs.Prelude.{◌≡◌, ◌<◌, ◌≤◌, ◌-◌, ◌^◌};
+ghost use Rattle.std.specs.Prelude.{◌≡◌, ◌<◌, ◌≤◌, ◌+◌, ◌-◌, ◌*◌, ◌^◌};
+ghost use Rattle.ats_grammar.specs.Pending.{may_be_empty};
 ghost use Rattle.ats_grammar.specs.State.{remaining};
-ghost use Rattle.ats_grammar.specs.Table.{head, size_of};
+ghost use Rattle.ats_grammar.specs.Table.{head, follow, size_of, IsWithin};
 
 use crate::state::State;
 
@@ -29,5 +30,18 @@ impl Stand {
             came: 0,
             number: 0,
         }
+    }
+
+    /// Passes the field that comes next, which is this number where it is one.
+    pub(crate) fn pass(&mut self, number: u32)
+        requires { IsWithin (remaining self.old.state) number }
+        ensures part { remaining self.new.state ≡ follow (remaining self.old.state) number }
+        ensures smaller { may_be_empty self.new.state.part
+            < may_be_empty self.old.state.part + 2 * size_of (head (remaining self.old.state)) }
+        ensures none { (self.new.came ≡ 0) × (self.new.number ≡ 0) }
+    {
+        self.came = 0;
+        self.number = 0;
+        self.state.advance(number);
     }
 }

@@ -1,9 +1,9 @@
 //! One step of a reader of pieces.
 
-ghost use Rattle.std.specs.Prelude.{◌≡◌, ◌⊎◌, ℕ, ◌+◌, ◌≤◌, List, ◌∷◌, ◌++◌, length, IfOk, IfErr, IfSome, IfNone};
+ghost use Rattle.std.specs.Prelude.{◌≡◌, ◌⊎◌, ℕ, ◌+◌, ◌≤◌, List, ◌∷◌, ◌++◌, length, IfOk, IfErr, OnOk, OnErr, IfSome, IfNone};
 ghost use Rattle.ats_grammar.specs.declared.next.Next.TheVariants.{Number, Bytes};
 ghost use Rattle.ats_grammar.specs.Pending.{HasOwnKind};
-ghost use Rattle.ats_grammar.specs.Table.{head, size_of};
+ghost use Rattle.ats_grammar.specs.Table.{head, size_of, IsSized};
 ghost use Rattle.ats_grammar.specs.State.{remaining};
 ghost use Rattle.ats_grammar.specs.Standing.{IsAt, IsOn, IsStill, IsWrong};
 
@@ -24,103 +24,108 @@ impl Next {
     }
 }
 
-// Takes the whole field, where it is at hand and nothing of it was read.
-fn step_over<'a>(stand: Stand, rest: &'a [u8]) -> Result<Option<(Stand, &'a [u8])>, ShapeKind>
-    requires none { stand.came ≡ 0 }
-    requires all { size_of (head (remaining stand.state)) ≤ length rest.now }
-    ensures on { IfOk result (λ step. IfSome step (λ x. IsOn stand rest.now x.0 x.1.now)) }
-    ensures wait { IfOk result (λ step. IfNone step (IsStill stand rest.now)) }
-    ensures wrong { IfErr result (λ kind. (bytes : List ℕ) → IsAt bytes stand rest.now
-        → IsWrong bytes kind (stand.came + length rest.now)) }
-{
-    match take(stand.state.next(), rest) {
-        Ok(Some((number, after))) => {
-            Ok(Some((Stand::before(stand.state.advance(number)), after)))
-        }
-        Ok(None) => Ok(None),
-        Err(kind) => Err(kind),
-    }
-}
-
-// Reads one byte more of a number.
-fn step_in_number<'a>(
-    stand: Stand,
-    size: u32,
-    range: (u64, u32),
-    kind: ShapeKind,
-    byte: u8,
-) -> Result<Stand, ShapeKind>
-    requires next { head (remaining stand.state) ≡ Number size range.0 range.1 kind }
-    requires sized { (size ≡ 1) ⊎ (size ≡ 2) ⊎ (size ≡ 4) }
-    requires own { HasOwnKind (Number size range.0 range.1 kind) }
-    ensures on { IfOk result (λ after. (rest : List ℕ) → IsOn stand (byte ∷ rest) after rest) }
-    ensures wrong { IfErr result (λ kind. (bytes rest : List ℕ) → IsAt bytes stand (byte ∷ rest)
-        → IsWrong bytes kind (stand.came + 1 + length rest)) }
-{
-    let number = stand.number * 256 + u32::from(byte);
-    let came = stand.came + 1;
-    if came < size {
-        return Ok(Stand {
-            state: stand.state,
-            came,
-            number,
-        });
-    }
-    if u64::from(number) < range.0 || number > range.1 {
-        return Err(kind);
-    }
-    Ok(Stand::before(stand.state.advance(number)))
-}
-
-// Passes so many bytes of a field of any content.
-fn step_in_bytes(stand: Stand, size: u32, many: u32) -> Stand
-    requires next { head (remaining stand.state) ≡ Bytes size }
-    requires some { 1 ≤ many }
-    requires within { stand.came + many ≤ size }
-    ensures { (part rest : List ℕ) → length part ≡ many → IsOn stand (part ++ rest) result rest }
-{
-    let came = stand.came + many;
-    if came < size {
-        return Stand {
-            state: stand.state,
-            came,
-            number: 0,
-        };
-    }
-    Stand::before(stand.state.advance(0))
-}
-
-/// Goes on by a field, or into one. Where nothing more can be read, there are no bytes.
-pub(crate) fn step<'a>(stand: Stand, rest: &'a [u8]) -> Result<Option<(Stand, &'a [u8])>, ShapeKind>
-    ensures on { IfOk result (λ step. IfSome step (λ x. IsOn stand rest.now x.0 x.1.now)) }
-    ensures wait { IfOk result (λ step. IfNone step (IsStill stand rest.now)) }
-    ensures wrong { IfErr result (λ kind. (bytes : List ℕ) → IsAt bytes stand rest.now
-        → IsWrong bytes kind (stand.came + length rest.now)) }
-{
-    let next = stand.state.next();
-    if stand.came == 0 && rest.len() >= next.size() as usize {
-        return step_over(stand, rest);
-    }
-    let Some((byte, behind)) = rest.split_first() else {
-        return Ok(None);
-    };
-    match next {
-        Next::End => unreachable!(),
-        Next::Number {
-            size,
-            low,
-            high,
-            kind,
-        } => {
-            match step_in_number(stand, size, (low, high), kind, *byte) {
-                Ok(after) => Ok(Some((after, behind))),
-                Err(kind) => Err(kind),
+impl Stand {
+    // Takes the whole field, where it is at hand and nothing of it was read.
+    fn step_over<'a>(&mut self, next: Next, rest: &'a [u8]) -> Result<Option<&'a [u8]>, ShapeKind>
+        requires none { self.old.came ≡ 0 }
+        requires next { next ≡ head (remaining self.old.state) }
+        requires sized { IsSized next }
+        requires own { HasOwnKind next }
+        requires all { size_of next ≤ length rest.now }
+        ensures on { IfOk result (λ step. IfSome step (λ after. IsOn self.old rest.now self.new after.now)) }
+        ensures wait { IfOk result (λ step. IfNone step ((self.new ≡ self.old) × IsStill self.old rest.now)) }
+        ensures wrong { IfErr result (λ kind. (bytes : List ℕ) → IsAt bytes self.old rest.now
+            → IsWrong bytes kind (self.old.came + length rest.now)) }
+        ensures same { OnErr result (self.new ≡ self.old) }
+    {
+        match take(next, rest) {
+            Ok(Some((number, after))) => {
+                self.pass(number);
+                Ok(Some(after))
             }
+            Ok(None) => Ok(None),
+            Err(kind) => Err(kind),
         }
-        Next::Bytes { size } => {
-            let many = ((size - stand.came) as usize).min(rest.len());
-            let (_, after) = rest.split_at(many);
-            Ok(Some((step_in_bytes(stand, size, many as u32), after)))
+    }
+
+    // Reads one byte more of a number.
+    fn step_in_number(
+        &mut self,
+        size: u32,
+        range: (u64, u32),
+        kind: ShapeKind,
+        byte: u8,
+    ) -> Result<(), ShapeKind>
+        requires next { head (remaining self.old.state) ≡ Number size range.0 range.1 kind }
+        requires sized { (size ≡ 1) ⊎ (size ≡ 2) ⊎ (size ≡ 4) }
+        requires own { HasOwnKind (Number size range.0 range.1 kind) }
+        ensures on { OnOk result ((rest : List ℕ) → IsOn self.old (byte ∷ rest) self.new rest) }
+        ensures wrong { IfErr result (λ kind. (bytes rest : List ℕ) → IsAt bytes self.old (byte ∷ rest)
+            → IsWrong bytes kind (self.old.came + 1 + length rest)) }
+        ensures same { OnErr result (self.new ≡ self.old) }
+    {
+        let number = self.number * 256 + u32::from(byte);
+        let came = self.came + 1;
+        if came < size {
+            self.came = came;
+            self.number = number;
+            return Ok(());
+        }
+        if u64::from(number) < range.0 || number > range.1 {
+            return Err(kind);
+        }
+        self.pass(number);
+        Ok(())
+    }
+
+    // Passes so many bytes of a field of any content.
+    fn step_in_bytes(&mut self, size: u32, many: u32)
+        requires next { head (remaining self.old.state) ≡ Bytes size }
+        requires some { 1 ≤ many }
+        requires within { self.old.came + many ≤ size }
+        ensures { (part rest : List ℕ) → length part ≡ many → IsOn self.old (part ++ rest) self.new rest }
+    {
+        let came = self.came + many;
+        if came < size {
+            self.came = came;
+            self.number = 0;
+            return;
+        }
+        self.pass(0);
+    }
+
+    /// Goes on by a field, or into one. Where nothing more can be read, there are no bytes.
+    pub(crate) fn step<'a>(&mut self, rest: &'a [u8]) -> Result<Option<&'a [u8]>, ShapeKind>
+        ensures on { IfOk result (λ step. IfSome step (λ after. IsOn self.old rest.now self.new after.now)) }
+        ensures wait { IfOk result (λ step. IfNone step ((self.new ≡ self.old) × IsStill self.old rest.now)) }
+        ensures wrong { IfErr result (λ kind. (bytes : List ℕ) → IsAt bytes self.old rest.now
+            → IsWrong bytes kind (self.old.came + length rest.now)) }
+        ensures same { OnErr result (self.new ≡ self.old) }
+    {
+        let next = self.state.next();
+        if self.came == 0 && rest.len() >= next.size() as usize {
+            return self.step_over(next, rest);
+        }
+        let Some((byte, behind)) = rest.split_first() else {
+            return Ok(None);
+        };
+        match next {
+            Next::End => unreachable!(),
+            Next::Number {
+                size,
+                low,
+                high,
+                kind,
+            } => match self.step_in_number(size, (low, high), kind, *byte) {
+                Ok(()) => Ok(Some(behind)),
+                Err(kind) => Err(kind),
+            },
+            Next::Bytes { size } => {
+                let many = ((size - self.came) as usize).min(rest.len());
+                let (_, after) = rest.split_at(many);
+                self.step_in_bytes(size, many as u32);
+                Ok(Some(after))
+            }
         }
     }
 }
