@@ -25,25 +25,27 @@ struct Wrong {
     left: u64,
 }
 
-// Reads a piece to its end.
-fn read_on(from: Stand, piece: &[u8]) -> Result<Stand, Wrong>
-    requires few { length piece.now ≤ 2 ^ 26 }
-    ensures on { IfOk result (λ stand. (bytes : List ℕ) → IsAt bytes from piece.now → IsAt bytes stand []) }
-    ensures wait { IfOk result (λ stand. IsWaiting (head (remaining stand.state)) stand.came) }
-    ensures wrong { IfErr result (λ wrong. (bytes : List ℕ) → IsAt bytes from piece.now
-        → IsWrong bytes wrong.kind wrong.left) }
-    ensures inside { IfOk result (λ stand. stand.came ≤ from.came + length piece.now) }
-    ensures few { IfErr result (λ wrong. wrong.left ≤ from.came + length piece.now) }
-{
-    let mut stand = from;
-    let mut rest = piece;
-    'steps: loop {
-        match stand.step(rest) {
-            Ok(Some(after)) => rest = after,
-            Ok(None) => return Ok(stand),
-            Err(kind) => {
-                let left = u64::from(stand.came) + rest.len() as u64;
-                return Err(Wrong { kind, left });
+impl Stand {
+    // Reads a piece to its end.
+    fn read_on(&mut self, piece: &[u8]) -> Result<(), Wrong>
+        requires few { length piece.now ≤ 2 ^ 26 }
+        ensures on { OnOk result ((bytes : List ℕ) → IsAt bytes self.old piece.now → IsAt bytes self.new []) }
+        ensures wait { OnOk result (IsWaiting (head (remaining self.new.state)) self.new.came) }
+        ensures wrong { IfErr result (λ wrong. (bytes : List ℕ) → IsAt bytes self.old piece.now
+            → IsWrong bytes wrong.kind wrong.left) }
+        ensures inside { OnOk result (self.new.came ≤ self.old.came + length piece.now) }
+        ensures few { IfErr result (λ wrong. wrong.left ≤ self.old.came + length piece.now) }
+    {
+        let mut rest = piece;
+        'steps: loop {
+            match self.step(rest) {
+                Ok(Some(after)) => rest = after,
+                Ok(None) => return Ok(()),
+                Err(kind) => {
+                    let stand = *self;
+                    let left = u64::from(stand.came) + rest.len() as u64;
+                    return Err(Wrong { kind, left });
+                }
             }
         }
     }
@@ -85,29 +87,21 @@ impl Feeder {
         ensures fine { OnOk result ((bytes : List ℕ) (fault : ShapeFault) → StandsFor self.old bytes
             → IsBad proof_format (bytes ++ piece.now) fault → fault.kind ≡ Cut) }
     {
-        let from = match self.place {
-            Place::Refused(fault) => {
-                self.fed += piece.len() as u64;
-                return Err(fault);
-            }
-            Place::Reading(stand) => stand,
-        };
         let fed = self.fed + piece.len() as u64;
-        match read_on(from, piece) {
-            Ok(stand) => {
-                self.place = Place::Reading(stand);
-                self.fed = fed;
-                Ok(())
-            }
-            Err(wrong) => {
-                let fault = ShapeFault {
-                    at: fed - wrong.left,
-                    kind: wrong.kind,
-                };
-                self.place = Place::Refused(fault);
-                self.fed = fed;
-                Err(fault)
-            }
+        self.fed = fed;
+        match &mut self.place {
+            Place::Refused(fault) => Err(*fault),
+            Place::Reading(stand) => match stand.read_on(piece) {
+                Ok(()) => Ok(()),
+                Err(wrong) => {
+                    let fault = ShapeFault {
+                        at: fed - wrong.left,
+                        kind: wrong.kind,
+                    };
+                    self.place = Place::Refused(fault);
+                    Err(fault)
+                }
+            },
         }
     }
 

@@ -102,6 +102,10 @@ impl Stand {
             → IsWrong bytes kind (self.old.came + length rest.now)) }
         ensures same { OnErr result (self.new ≡ self.old) }
     {
+        // Inside a field more bytes are wanted, whatever it is.
+        if self.came > 0 && rest.is_empty() {
+            return Ok(None);
+        }
         let next = self.state.next();
         if self.came == 0 && rest.len() >= next.size() as usize {
             return self.step_over(next, rest);

@@ -1,7 +1,6 @@
-use Rattle.std.proofs.Common.{◌≤◌, ◌++◌, length-append, sym, inr, subst, arith}
+use Rattle.std.proofs.Common.{◌≤◌, ◌++◌, length-append, inr, subst, arith}
 use Rattle.ats_grammar.specs.declared.feeder.Place.{Place}
 use Rattle.ats_grammar.specs.Inside.{came_in}
-use Rattle.ats_grammar.specs.Feeding.{StandsAt}
 use Rattle.ats_grammar.proofs.Pieces.{stand_of, still_refused, at_more, only_cut, wrong_is_first}
 use Rattle.ats_grammar.proofs.feeder.Feeder.feed.Goals as goal
 
@@ -10,8 +9,7 @@ returns-in-Refused-clause-stands c bytes stands =
     let feeder = c.args.self.now in
     let piece = c.args.piece.now in (
       omega (arith, stands.0, length-append bytes piece),
-      subst (λ (p : Place). StandsAt p (bytes ++ piece)) (sym c.in-Refused.is)
-          (still_refused feeder.place c.in-Refused.fault bytes piece c.in-Refused.is stands.1 (omega (arith, stands.0, c.requires, feeder.within.1))),
+      still_refused feeder.place c.in-Refused.fault bytes piece c.in-Refused.is stands.1 (omega (arith, stands.0, c.requires, feeder.within.1)),
     )
 
 pub returns-in-Refused-clause-refused : goal.returns-in-Refused-clause-refused
@@ -26,7 +24,7 @@ returns-in-Ok-clause-fine c bytes fault stands bad =
     let piece = c.args.piece.now in
     let before = stand_of feeder.place c.in-Reading.stand bytes c.in-Reading.is stands.1 in
     let at = c.in-Ok.ensures.on (bytes ++ piece) (at_more bytes piece c.in-Reading.stand before.0) in
-    only_cut (bytes ++ piece) c.in-Ok.stand fault (omega (arith, stands.0, c.requires, feeder.within.1, length-append bytes piece)) at c.in-Ok.ensures.wait bad
+    only_cut (bytes ++ piece) c.read_on.new.self fault (omega (arith, stands.0, c.requires, feeder.within.1, length-append bytes piece)) at c.in-Ok.ensures.wait bad
 
 pub returns-in-Err-clause-stands : goal.returns-in-Err-clause-stands
 returns-in-Err-clause-stands c bytes stands =

@@ -1,11 +1,11 @@
 use Rattle.std.proofs.Common.{ℕ, ◌+◌, ◌*◌, ◌≤◌, List, length}
 use Rattle.ats_grammar.specs.Pending.{may_be_empty}
 use Rattle.ats_grammar.specs.Standing.{IsAt}
-use Rattle.ats_grammar.proofs.feeding.read_on.Given as goal
+use Rattle.ats_grammar.proofs.stand.Stand.read_on.Given as goal
 
 abbrev pub invariant-steps : goal.invariant-steps
-invariant-steps l = ((bytes : List ℕ) → IsAt bytes l.fn.from l.piece → IsAt bytes l.stand l.rest) × (l.stand.came + length l.rest ≤ l.fn.from.came + length l.piece)
+invariant-steps l = ((bytes : List ℕ) → IsAt bytes l.fn.self l.piece → IsAt bytes l.self l.rest) × (l.self.came + length l.rest ≤ l.fn.self.came + length l.piece)
 
 -- a field of no bytes comes only where a term may be empty
 abbrev pub decreases-steps : goal.decreases-steps
-decreases-steps l = may_be_empty l.stand.state.part + 2 * length l.rest
+decreases-steps l = may_be_empty l.self.state.part + 2 * length l.rest
