@@ -2,20 +2,23 @@
 use Rattle.std.specs.Prelude.{◌≡◌, ◌⊎◌, ◌<◌, ◌+◌, ◌-◌, ◌^◌, ℕ, zero, suc, min, Bool, true, List, [], ◌∷◌, ◌++◌, Option, Some, None, MatchOption, IsSome, option_map}
 use Rattle.ats_base.specs.Outside.{SinkTold}
 
--- What went over a link: the address that was called for it, where one was; the bytes read so far, those still to come, and those written.
+-- What went over a link: the address that was called for it, where one was;
+-- the bytes read so far, those still to come, and those written.
 pub record Traffic : Type 0 where
   pub address : Option (List ℕ)
   pub read : List ℕ
   pub rest : List ℕ
   pub written : List ℕ
 
--- What a link tells of itself: what went over it, where it tells it; how many calls there were; and how often it failed.
+-- What a link tells of itself: what went over it, where it tells it; how many calls there were;
+-- and how often it failed.
 pub record LinkTold : Type 0 where
   pub traffic : Option Traffic
   pub calls : ℕ
   pub faults : ℕ
 
--- What a caller tells where it tells: the links given back, as they then told of themselves; the addresses called; how many links are out.
+-- What a caller tells where it tells: the links given back, as they then told of themselves;
+-- the addresses called; how many links are out.
 pub record Calling : Type 0 where
   pub given_back : List LinkTold
   pub addresses : List (List ℕ)
@@ -45,7 +48,8 @@ Carries None now read written = now ≡ None
 Carries (Some before) now read written = (rest : List ℕ) × (before.rest ≡ read ++ rest)
     × (now ≡ Some (record before { read = before.read ++ read; rest = rest; written = before.written ++ written }))
 
--- Between two moments these bytes, which were still to come, were read, and these were written, where the link tells it.
+-- Between two moments these bytes, which were still to come, were read, and these were written,
+-- where the link tells it.
 pub record Exchanged (before now : Option Traffic) (read written : List ℕ) : Type 0 where
   pub carried : Carries before now read written
 

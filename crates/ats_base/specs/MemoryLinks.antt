@@ -46,14 +46,23 @@ pub record IsUnused (link : LinkState) : Type 0 where
 -- what a caller in memory tells
 abbrev pub told_caller : CallerState → CallerTold
 told_caller caller = record {
-  content = Some (record { given_back = map told_link caller.links.back; addresses = caller.addresses; out = caller.links.out });
+  content = Some (record {
+    given_back = map told_link caller.links.back;
+    addresses = caller.addresses;
+    out = caller.links.out;
+  });
   faults = caller.device.faults;
 }
 
 -- what a door in memory tells
 abbrev pub told_door : DoorState → DoorTold
 told_door door = record {
-  content = Some (record { given_back = map told_link door.links.back; addresses = door.addresses; accepts = door.accepts; out = door.links.out });
+  content = Some (record {
+    given_back = map told_link door.links.back;
+    addresses = door.addresses;
+    accepts = door.accepts;
+    out = door.links.out;
+  });
   is_open = door.is_open;
   faults = door.device.faults;
   broken = door.broken;

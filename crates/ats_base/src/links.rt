@@ -11,7 +11,8 @@ pub trait Link {
     /// What it tells of itself. Its counts never fall.
     ghost told: { Self → LinkTold };
 
-    /// Puts the next bytes at the front of `buf`, and says how many. None of a `buf` with room means that the input has ended.
+    /// Puts the next bytes at the front of `buf`, and says how many.
+    /// None of a `buf` with room means that the input has ended.
     fn read_some(&mut self, buf: &mut [u8]) -> Result<usize, Failed>
         ensures within { IfOk result (λ n. n ≤ length buf.new) }
         ensures bytes { Exchanged (told self.old).traffic (told self.new).traffic (take (moved result) buf.new) [] }
@@ -35,7 +36,8 @@ pub trait Caller {
     ghost told: { Self → CallerTold };
 
     fn call(&mut self, address: &str) -> Result<Self::Link, Failed>
-        ensures ok { OnOk result ((told self.new).content ≡ option_map (calling_out address.now) (told self.old).content) }
+        ensures ok { OnOk result ((told self.new).content
+            ≡ option_map (calling_out address.now) (told self.old).content) }
         ensures err { OnErr result (MayNoteCall address.now (told self.old).content (told self.new).content) }
         ensures new { IfOk result (λ link. IsNew (is_some (told self.old).content) (Self.Link.told link)) }
         ensures address { IfOk result (λ link. IsCalledAt address.now (Self.Link.told link).traffic) }
@@ -44,7 +46,8 @@ pub trait Caller {
     /// Takes a link of this caller back when its conversation is over.
     fn give_back(&mut self, link: Self::Link)
         requires { HasCalledOut (told self.old).content }
-        ensures content { (told self.new).content ≡ option_map (called_back (Self.Link.told link)) (told self.old).content }
+        ensures content { (told self.new).content
+            ≡ option_map (called_back (Self.Link.told link)) (told self.old).content }
         ensures faults { (told self.new).faults ≡ counted_broken (Self.Link.told link).faults (told self.old).faults };
 }
 
@@ -57,7 +60,8 @@ pub trait Door {
 
     /// Opens the door at the address. It stays open.
     fn listen(&mut self, address: &str) -> Result<(), Failed>
-        ensures ok { OnOk result ((told self.new).content ≡ option_map (noting_listen address.now) (told self.old).content) }
+        ensures ok { OnOk result ((told self.new).content
+            ≡ option_map (noting_listen address.now) (told self.old).content) }
         ensures err { OnErr result (MayNoteListen address.now (told self.old).content (told self.new).content) }
         ensures opens { OnOk result ((told self.new).is_open ≡ true) }
         ensures stays { OnErr result ((told self.new).is_open ≡ (told self.old).is_open) }
@@ -77,7 +81,8 @@ pub trait Door {
     /// Takes a link of this door back when its conversation is over.
     fn give_back(&mut self, link: Self::Link)
         requires { HasAcceptedOut (told self.old).content }
-        ensures content { (told self.new).content ≡ option_map (accepted_back (Self.Link.told link)) (told self.old).content }
+        ensures content { (told self.new).content
+            ≡ option_map (accepted_back (Self.Link.told link)) (told self.old).content }
         ensures stays { (told self.new).is_open ≡ (told self.old).is_open }
         ensures faults { (told self.new).faults ≡ (told self.old).faults }
         ensures broken { (told self.new).broken ≡ counted_broken (Self.Link.told link).faults (told self.old).broken };

@@ -55,8 +55,8 @@ impl Links {
         Ok(())
     }
 
-    // The room for the link's return is made here, so that its return needs none. No memory holds as many links as there are
-    // numbers.
+    // The room for the link's return is made here, so that its return needs none.
+    // No memory holds as many links as there are numbers.
     fn hand_out(&mut self) -> Result<MemLink, Failed>
         ensures first { IfOk result (λ link. self.old.waiting ≡ link ∷ self.new.waiting) }
         ensures unused { IfOk result IsUnused }
@@ -111,7 +111,11 @@ impl Model for MemCaller {
 
 impl MemCaller {
     pub fn new(alloc: Global) -> Self
-        ensures { result ≡ record { links = record { waiting = []; back = []; out = 0 }; addresses = []; device = new_device } }
+        ensures { result ≡ record {
+          links = record { waiting = []; back = []; out = 0 };
+          addresses = [];
+          device = new_device;
+        } }
     {
         MemCaller {
             alloc,
@@ -124,7 +128,8 @@ impl MemCaller {
     /// A further link to be handed out, after those before it. Want of memory drops it.
     pub fn add(&mut self, link: MemLink) -> Result<(), OutOfMemory>
         requires { IsUnused link }
-        ensures ok { OnOk result (self.new ≡ record self.old { links = record self.old.links { waiting = self.old.links.waiting ++ link ∷ [] } }) }
+        ensures ok { OnOk result (self.new
+            ≡ record self.old { links = record self.old.links { waiting = self.old.links.waiting ++ link ∷ [] } }) }
         ensures err { OnErr result (self.new ≡ self.old) }
     {
         self.links.add(link)
@@ -155,9 +160,12 @@ impl MemCaller {
 
     // The address is noted before a link is handed out, so that no link is lost where there is no memory for it.
     fn reach(&mut self, address: &str) -> Result<MemLink, Failed>
-        ensures ok { OnOk result ((told_caller self.new).content ≡ option_map (calling_out address.now) (told_caller self.old).content) }
-        ensures err { OnErr result (MayNoteCall address.now (told_caller self.old).content (told_caller self.new).content) }
-        ensures first { IfOk result (λ link. (w : LinkState) × (self.old.links.waiting ≡ w ∷ self.new.links.waiting) × (link ≡ record w { address = Some address.now })) }
+        ensures ok { OnOk result ((told_caller self.new).content
+            ≡ option_map (calling_out address.now) (told_caller self.old).content) }
+        ensures err { OnErr result
+            (MayNoteCall address.now (told_caller self.old).content (told_caller self.new).content) }
+        ensures first { IfOk result (λ link. (w : LinkState) × (self.old.links.waiting ≡ w ∷ self.new.links.waiting)
+            × (link ≡ record w { address = Some address.now })) }
         ensures unused { IfOk result IsUnused }
         ensures none { self.old.links.waiting ≡ [] → IsErr result }
         ensures out { OnOk result (self.new.links.out ≡ self.old.links.out + 1) }
@@ -185,12 +193,15 @@ impl Caller for MemCaller {
     ghost told = { told_caller };
 
     fn call(&mut self, address: &str) -> Result<MemLink, Failed>
-        ensures ok { OnOk result ((told_caller self.new).content ≡ option_map (calling_out address.now) (told_caller self.old).content) }
-        ensures err { OnErr result (MayNoteCall address.now (told_caller self.old).content (told_caller self.new).content) }
+        ensures ok { OnOk result ((told_caller self.new).content
+            ≡ option_map (calling_out address.now) (told_caller self.old).content) }
+        ensures err { OnErr result
+            (MayNoteCall address.now (told_caller self.old).content (told_caller self.new).content) }
         ensures new { IfOk result (λ link. IsNew true (told_link link)) }
         ensures address { IfOk result (λ link. IsCalledAt address.now (told_link link).traffic) }
         ensures cause { HasCause self.old.device.faults self.new.device.faults result }
-        ensures first { IfOk result (λ link. (w : LinkState) × (self.old.links.waiting ≡ w ∷ self.new.links.waiting) × (link ≡ record w { address = Some address.now })) }
+        ensures first { IfOk result (λ link. (w : LinkState) × (self.old.links.waiting ≡ w ∷ self.new.links.waiting)
+            × (link ≡ record w { address = Some address.now })) }
         ensures planned { (fails_next self.old.device ≡ true) ⊎ (self.old.links.waiting ≡ []) → IsErr result }
         ensures out { OnOk result (self.new.links.out ≡ self.old.links.out + 1) }
         ensures kept { OnErr result (self.new.links ≡ self.old.links) }
@@ -209,9 +220,11 @@ impl Caller for MemCaller {
 
     fn give_back(&mut self, link: MemLink)
         requires { 0 < self.old.links.out }
-        ensures content { (told_caller self.new).content ≡ option_map (called_back (told_link link)) (told_caller self.old).content }
+        ensures content { (told_caller self.new).content
+            ≡ option_map (called_back (told_link link)) (told_caller self.old).content }
         ensures faults { self.new.device.faults ≡ counted_broken link.device.faults self.old.device.faults }
-        ensures back { self.new.links ≡ record self.old.links { back = self.old.links.back ++ link ∷ []; out = self.old.links.out - 1 } }
+        ensures back { self.new.links
+            ≡ record self.old.links { back = self.old.links.back ++ link ∷ []; out = self.old.links.out - 1 } }
     {
         if link.has_failed() {
             self.plan.fail();
@@ -270,7 +283,8 @@ impl MemDoor {
     /// A further link to be handed out, after those before it. Want of memory drops it.
     pub fn add(&mut self, link: MemLink) -> Result<(), OutOfMemory>
         requires { IsUnused link }
-        ensures ok { OnOk result (self.new ≡ record self.old { links = record self.old.links { waiting = self.old.links.waiting ++ link ∷ [] } }) }
+        ensures ok { OnOk result (self.new
+            ≡ record self.old { links = record self.old.links { waiting = self.old.links.waiting ++ link ∷ [] } }) }
         ensures err { OnErr result (self.new ≡ self.old) }
     {
         self.links.add(link)
@@ -315,8 +329,10 @@ impl Door for MemDoor {
     ghost told = { told_door };
 
     fn listen(&mut self, address: &str) -> Result<(), Failed>
-        ensures ok { OnOk result ((told_door self.new).content ≡ option_map (noting_listen address.now) (told_door self.old).content) }
-        ensures err { OnErr result (MayNoteListen address.now (told_door self.old).content (told_door self.new).content) }
+        ensures ok { OnOk result ((told_door self.new).content
+            ≡ option_map (noting_listen address.now) (told_door self.old).content) }
+        ensures err { OnErr result
+            (MayNoteListen address.now (told_door self.old).content (told_door self.new).content) }
         ensures opens { OnOk result (self.new.is_open ≡ true) }
         ensures stays { OnErr result (self.new.is_open ≡ self.old.is_open) }
         ensures broken { self.new.broken ≡ self.old.broken }
@@ -335,8 +351,10 @@ impl Door for MemDoor {
 
     fn accept(&mut self) -> Result<MemLink, Failed>
         requires { self.old.is_open ≡ true }
-        ensures ok { OnOk result ((told_door self.new).content ≡ option_map accepting_out (told_door self.old).content) }
-        ensures err { OnErr result ((told_door self.new).content ≡ option_map counting_accept (told_door self.old).content) }
+        ensures ok { OnOk result ((told_door self.new).content
+            ≡ option_map accepting_out (told_door self.old).content) }
+        ensures err { OnErr result ((told_door self.new).content
+            ≡ option_map counting_accept (told_door self.old).content) }
         ensures new { IfOk result (λ link. IsNew true (told_link link)) }
         ensures stays { self.new.is_open ≡ self.old.is_open }
         ensures broken { self.new.broken ≡ self.old.broken }
@@ -361,11 +379,13 @@ impl Door for MemDoor {
 
     fn give_back(&mut self, link: MemLink)
         requires { 0 < self.old.links.out }
-        ensures content { (told_door self.new).content ≡ option_map (accepted_back (told_link link)) (told_door self.old).content }
+        ensures content { (told_door self.new).content
+            ≡ option_map (accepted_back (told_link link)) (told_door self.old).content }
         ensures stays { self.new.is_open ≡ self.old.is_open }
         ensures faults { self.new.device.faults ≡ self.old.device.faults }
         ensures broken { self.new.broken ≡ counted_broken link.device.faults self.old.broken }
-        ensures back { self.new.links ≡ record self.old.links { back = self.old.links.back ++ link ∷ []; out = self.old.links.out - 1 } }
+        ensures back { self.new.links
+            ≡ record self.old.links { back = self.old.links.back ++ link ∷ []; out = self.old.links.out - 1 } }
     {
         if link.has_failed() {
             self.broken = self.broken.saturating_add(1);

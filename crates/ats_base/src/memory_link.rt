@@ -13,7 +13,8 @@ use crate::plan::Plan;
 use std::alloc::Global;
 use std::marker::Model;
 
-/// A link whose input is known beforehand, and which keeps what is written. Want of memory counts as a fault of its own.
+/// A link whose input is known beforehand, and which keeps what is written.
+/// Want of memory counts as a fault of its own.
 #[derive(Drop)]
 pub struct MemLink {
     address: Option<Bytes>,
@@ -92,7 +93,8 @@ impl Link for MemLink {
 
     fn read_some(&mut self, buf: &mut [u8]) -> Result<usize, Failed>
         ensures within { IfOk result (λ n. n ≤ length buf.new) }
-        ensures bytes { Exchanged (told_link self.old).traffic (told_link self.new).traffic (take (moved result) buf.new) [] }
+        ensures bytes { Exchanged (told_link self.old).traffic (told_link self.new).traffic
+            (take (moved result) buf.new) [] }
         ensures end { IfOk result (λ n. n ≡ 0 → 0 < length buf.new → self.new.rest ≡ []) }
         ensures counted { IsCounted self.old.device.calls self.new.device.calls }
         ensures cause { HasCause self.old.device.faults self.new.device.faults result }
@@ -114,7 +116,8 @@ impl Link for MemLink {
 
     fn write_some(&mut self, bytes: &[u8]) -> Result<usize, Failed>
         ensures some { MovesSome result bytes.now }
-        ensures bytes { Exchanged (told_link self.old).traffic (told_link self.new).traffic [] (take (moved result) bytes.now) }
+        ensures bytes { Exchanged (told_link self.old).traffic (told_link self.new).traffic
+            [] (take (moved result) bytes.now) }
         ensures counted { IsCounted self.old.device.calls self.new.device.calls }
         ensures cause { HasCause self.old.device.faults self.new.device.faults result }
         ensures planned { fails_next self.old.device ≡ true → IsErr result }
