@@ -9,7 +9,8 @@ use Rattle.ats_tree.specs.declared.clashing.Clash.{Clash}
 
 -- the two strings at one node that a clash tells
 abbrev pub difference_of : Clash → Difference Node
-difference_of clash = record { place = by_path (path_of clash.depth clash.turns); ours = clash.ours; theirs = clash.theirs }
+difference_of clash =
+    record { place = by_path (path_of clash.depth clash.turns); ours = clash.ours; theirs = clash.theirs }
 
 -- the node to which further turns lead from the node of a path
 abbrev pub under : Path → Path → Node

@@ -35,7 +35,8 @@ abbrev pub IsOurs : {P : Type 0} → (P → Option (List ℕ)) → Hashed P → 
 IsOurs ours s = IfSome (ours s.place) (λ own. own ≡ s.text)
 
 -- the difference is one of the strings with another one of ours at its place, and each string before it is ours
-pub record IsFirstDifference {P : Type 0} (ours : P → Option (List ℕ)) (ss : List (Hashed P)) (c : Difference P) : Type 0 where
+pub record IsFirstDifference {P : Type 0} (ours : P → Option (List ℕ))
+    (ss : List (Hashed P)) (c : Difference P) : Type 0 where
   pub before : List (Hashed P)
   pub after : List (Hashed P)
   pub stands : ss ≡ before ++ record { place = c.place; text = c.theirs } ∷ after
@@ -45,7 +46,8 @@ pub record IsFirstDifference {P : Type 0} (ours : P → Option (List ℕ)) (ss :
 
 -- the collision of a string with ours at its place, if that is there, another one and of equal digest;
 -- else `later`
-abbrev pub collision_or : {P : Type 0} → (List ℕ → List ℕ) → Option (List ℕ) → Hashed P → Option (Difference P) → Option (Difference P)
+abbrev pub collision_or : {P : Type 0} → (List ℕ → List ℕ) → Option (List ℕ)
+    → Hashed P → Option (Difference P) → Option (Difference P)
 collision_or H None s later = later
 collision_or H (Some own) s later =
     if bytes_eq own s.text || not (bytes_eq (H own) (H s.text))
@@ -53,6 +55,7 @@ collision_or H (Some own) s later =
     else Some (record { place = s.place; ours = own; theirs = s.text })
 
 -- the first of the strings that is another one than ours at its place, with an equal digest
-abbrev pub first_collision : {P : Type 0} → (List ℕ → List ℕ) → (P → Option (List ℕ)) → List (Hashed P) → Option (Difference P)
+abbrev pub first_collision : {P : Type 0} → (List ℕ → List ℕ) → (P → Option (List ℕ))
+    → List (Hashed P) → Option (Difference P)
 first_collision H ours [] = None
 first_collision H ours (s ∷ rest) = collision_or H (ours s.place) s (first_collision H ours rest)

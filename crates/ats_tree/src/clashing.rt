@@ -51,7 +51,8 @@ pub fn first_clash<'a, H: Hash32, R: Revealed<'a>, O: OwnNodes>(
     requires short { All (λ s. length s.1 ≤ 127) (R.shown revealed.old) }
     requires room { steps.old ≤ 2 ^ 63 }
     ensures clash { option_map difference_of result
-        ≡ first_collision H.hash (O.ours own.now) (node_strings H.hash n (R.shown revealed.old) (R.digests revealed.old)) }
+        ≡ first_collision H.hash (O.ours own.now)
+        (node_strings H.hash n (R.shown revealed.old) (R.digests revealed.old)) }
     ensures place { IfSome result (λ c. c.turns < 2 ^ c.depth) }
     ensures cost { steps.new ≤ steps.old + 5 * n }
 {
@@ -85,7 +86,8 @@ fn part<H: Hash32, F: Feed, O: OwnNodes>(
     requires enough { need (tree_of (places from n (F.leaves feed.old))) ≤ length (F.others feed.old) }
     requires short { All (λ s. length s.1 ≤ 127) (F.leaves feed.old) }
     requires room { steps.old + 5 * n < 2 ^ 64 }
-    ensures whole { IsPart H.hash from n (F.leaves feed.old) (F.others feed.old) result.digest (F.leaves feed.new) (F.others feed.new) }
+    ensures whole { IsPart H.hash from n (F.leaves feed.old) (F.others feed.old)
+        result.digest (F.leaves feed.new) (F.others feed.new) }
     ensures still { F.kept feed.old feed.new }
     ensures clash { option_map difference_of result.clash ≡ first_collision H.hash (O.ours own.now)
         (part_strings H.hash (path_of depth turns) (tree_of (places from n (F.leaves feed.old))) (F.others feed.old)) }
@@ -146,7 +148,8 @@ fn clash_or<H: Hash32, O: OwnNodes>(
     requires digest { digest.now ≡ H.hash theirs }
     requires places { IfSome later (λ c. c.turns < 2 ^ c.depth) }
     requires room { steps.old + 1 < 2 ^ 64 }
-    ensures clash { option_map difference_of result ≡ collision_or H.hash (O.ours own.now (by_path (path_of depth turns)))
+    ensures clash { option_map difference_of result
+        ≡ collision_or H.hash (O.ours own.now (by_path (path_of depth turns)))
         (record { place = by_path (path_of depth turns); text = theirs }) (option_map difference_of later) }
     ensures place { IfSome result (λ c. c.turns < 2 ^ c.depth) }
     ensures cost { steps.new ≤ steps.old + 1 }

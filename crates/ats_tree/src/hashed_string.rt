@@ -26,7 +26,8 @@ impl Model for HashedString {
 
     ghost inverse = { λ text. record { bytes = text ++ replicate (128 - length text) 0; len = length text } };
 
-    ghost inverse_ok = { λ s h i. record { bytes = padded-block s.len s.bytes h i; len = padded-len s.len s.bytes h i } };
+    ghost inverse_ok = { λ s h i.
+        record { bytes = padded-block s.len s.bytes h i; len = padded-len s.len s.bytes h i } };
 }
 
 impl HashedString {
