@@ -9,7 +9,8 @@ abbrev pub IsFirstCollectionFault : List (List ℕ) → CollectionFault → Type
 IsFirstCollectionFault texts NoDocuments = length texts ≡ 0
 IsFirstCollectionFault texts (TooMany n) = (n ≡ length texts) × (65536 < n)
 IsFirstCollectionFault texts (TextTooLong doc) =
-    (1 ≤ length texts) × (length texts ≤ 65536) × (doc < length texts) × (2 ^ 20 < length (slice_index_or texts doc [])) × AllShort (take doc texts)
+    (1 ≤ length texts) × (length texts ≤ 65536) × (doc < length texts)
+    × (2 ^ 20 < length (slice_index_or texts doc [])) × AllShort (take doc texts)
 IsFirstCollectionFault texts (AllTooLong bytes) =
     (1 ≤ length texts) × (length texts ≤ 65536) × AllShort texts × (bytes ≡ sum_by length texts) × (2 ^ 24 < bytes)
 IsFirstCollectionFault texts OutOfMemory = Unit {0}

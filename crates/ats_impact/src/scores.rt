@@ -42,7 +42,8 @@ fn count_term(counts: &mut [u32], query: &Query, term: &[u8])
     requires query { IsQuery query.now }
     requires same { length counts.old ≡ length query.now }
     requires room { All (λ count. count < 2 ^ 31) counts.old }
-    ensures { (k : ℕ) → k < length query.now → slice_index counts.new k ≡ slice_index counts.old k + (if bytes_eq (slice_index_or query.now k ([], 0)).0 term.now then 1 else 0) }
+    ensures { (k : ℕ) → k < length query.now → slice_index counts.new k
+        ≡ slice_index counts.old k + (if bytes_eq (slice_index_or query.now k ([], 0)).0 term.now then 1 else 0) }
 {
     if let Some(k) = query.find(term) {
         counts[k] += 1;
@@ -116,7 +117,8 @@ fn part(collection: &Collection, document: &Document, factor: u64, count: u32) -
     requires within { count ≤ length (terms document.now) }
     requires among { length (terms document.now) ≤ total_terms collection.now }
     requires small { factor < 2 ^ 40 }
-    ensures value { (pair : List ℕ × ℕ) → factor ≡ coefficient collection.now pair → count ≡ occurrences pair.0 (terms document.now) → result ≡ part collection.now document.now pair }
+    ensures value { (pair : List ℕ × ℕ) → factor ≡ coefficient collection.now pair
+        → count ≡ occurrences pair.0 (terms document.now) → result ≡ part collection.now document.now pair }
     ensures small { result < 2 ^ 56 }
 {
     if count == 0 {
