@@ -42,8 +42,10 @@ pub record IsList (n : ℕ) (entries : List Entry) : Type 0 where
   pub documents : All (λ entry. entry.doc < n) entries
   pub impacts : All (λ entry. (1 ≤ entry.impact) × (entry.impact ≤ 2200)) entries
   -- impacts never rise, and no document stands twice
-  pub falling : (i j : ℕ) (d : Entry) → i < j → j < length entries → (slice_index_or entries j d).impact ≤ (slice_index_or entries i d).impact
-  pub once : (i j : ℕ) (d : Entry) → i < j → j < length entries → (slice_index_or entries i d).doc ≢ (slice_index_or entries j d).doc
+  pub falling : (i j : ℕ) (d : Entry) → i < j → j < length entries
+      → (slice_index_or entries j d).impact ≤ (slice_index_or entries i d).impact
+  pub once : (i j : ℕ) (d : Entry) → i < j → j < length entries
+      → (slice_index_or entries i d).doc ≢ (slice_index_or entries j d).doc
 
 -- what lists over n documents keep: the terms rise strictly in byte order
 pub record AreLists (n : ℕ) (lists : List (List ℕ × List Entry)) : Type 0 where

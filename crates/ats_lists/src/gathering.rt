@@ -67,8 +67,11 @@ impl Entries {
 // Puts an entry behind those of its term.
 fn add(alloc: Global, map: &mut TermMap, term: &[u8], entry: Entry) -> Result<(), OutOfMemory>
     requires { IsTerm term.now }
-    ensures entries { OnOk result ((q : List ℕ) → entries_at map.new q ≡ (if bytes_eq term.now q then Some (unwrap_or (entries_at map.old q) [] ++ entry ∷ []) else entries_at map.old q)) }
-    ensures terms { All (λ key. IsTerm key.items) (keys map.old) → OnOk result (All (λ key. IsTerm key.items) (keys map.new)) }
+    ensures entries { OnOk result ((q : List ℕ) → entries_at map.new q
+        ≡ (if bytes_eq term.now q then Some (unwrap_or (entries_at map.old q) [] ++ entry ∷ [])
+        else entries_at map.old q)) }
+    ensures terms { All (λ key. IsTerm key.items) (keys map.old)
+        → OnOk result (All (λ key. IsTerm key.items) (keys map.new)) }
 {
     match map.get_mut(term) {
         Some(entries) => entries.push(entry)?,

@@ -12,7 +12,8 @@ ghost use Rattle.ats_lists.specs.declared.entry.Entry.{Entry};
 /// entries are: the order has no ties.
 pub fn lists_are_sorted_postings()
     ensures sorted { (texts : List (List ℕ)) (term : List ℕ) → IsListOf texts term (list texts term) }
-    ensures only { (texts : List (List ℕ)) (term : List ℕ) (entries : List Entry) → IsListOf texts term entries → entries ≡ list texts term }
+    ensures only { (texts : List (List ℕ)) (term : List ℕ) (entries : List Entry)
+        → IsListOf texts term entries → entries ≡ list texts term }
 {}
 
 /// A list has one entry for each document that has the term.

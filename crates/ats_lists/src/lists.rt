@@ -122,7 +122,8 @@ impl Lists {
 
     /// The place of a term's list, if it has one.
     pub fn find(&self, term: &[u8]) -> Option<u32>
-        ensures found { IfSome result (λ i. (i < length self.now) × ((slice_index_or self.now i ([], [])).0 ≡ term.now)) }
+        ensures found { IfSome result (λ i. (i < length self.now)
+            × ((slice_index_or self.now i ([], [])).0 ≡ term.now)) }
         ensures none { IfNone result (All (λ list. list.0 ≢ term.now) self.now) }
     {
         let place = self.lists.binary_search_by(
