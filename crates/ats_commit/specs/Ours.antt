@@ -40,7 +40,8 @@ own_header H archive (by_path (turn ∷ path)) = None
 -- the string at a node of one of the archive's trees; a list is hashed by its layout
 abbrev pub own_string : (List ℕ → List ℕ) → Archive → List (List ℕ × ℕ) → Tree → Node → Option (List ℕ)
 own_string H archive query Header node = own_header H archive node
-own_string H archive query (ListOf term) node = list_string H archive.layout (list archive.texts (asked_term query term)) node
+own_string H archive query (ListOf term) node =
+    list_string H archive.layout (list archive.texts (asked_term query term)) node
 own_string H archive query tree node = node_string H (own_leaves H archive query tree) node
 
 -- the string that stands at a place in the archive's own trees, if one does

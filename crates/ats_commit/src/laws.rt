@@ -38,10 +38,15 @@ use ats_hash::HashKind;
 /// The dictionary has the terms that have a list, each with the number of documents that have it and the
 /// root of its list. Where each list is one tree, that is the root of this tree.
 pub fn dictionary_has_all_terms<H: HashKind>()
-    ensures terms { (archive : Archive) → map (λ entry. entry.term) (dictionary_of H.hash archive) ≡ vocabulary archive.texts }
-    ensures numbers { (archive : Archive) → All (λ entry. entry.f ≡ frequency entry.term archive.texts) (dictionary_of H.hash archive) }
-    ensures roots { (archive : Archive) → All (λ entry. entry.root ≡ list_root H.hash archive.layout (list archive.texts entry.term)) (dictionary_of H.hash archive) }
-    ensures whole { (entries : List Entry) → list_root H.hash whole_lists entries ≡ mth H.hash (map leaf_bytes entries) }
+    ensures terms { (archive : Archive) → map (λ entry. entry.term) (dictionary_of H.hash archive)
+        ≡ vocabulary archive.texts }
+    ensures numbers { (archive : Archive)
+        → All (λ entry. entry.f ≡ frequency entry.term archive.texts) (dictionary_of H.hash archive) }
+    ensures roots { (archive : Archive)
+        → All (λ entry. entry.root ≡ list_root H.hash archive.layout (list archive.texts entry.term))
+        (dictionary_of H.hash archive) }
+    ensures whole { (entries : List Entry) → list_root H.hash whole_lists entries
+        ≡ mth H.hash (map leaf_bytes entries) }
 {}
 
 /// The documents tree has a leaf for each text, with the number of leaves of its terms tree, which are its
@@ -56,19 +61,23 @@ pub fn documents_have_all_texts<H: HashKind>()
 /// Texts within the limits have a header in range, so that its bytes are read back. Its terms are
 /// few: texts in UTF-8 have no more terms than bytes, and a `Collection` tells their number.
 pub fn headers_are_in_range<H: HashKind>()
-    ensures texts { (archive : Archive) → All IsUtf8 archive.texts → AreWithin archive.texts → HasHeaderInRange H.hash archive }
-    ensures counted { (archive : Archive) → AreWithin archive.texts → total_terms archive.texts ≤ 2 ^ 24 → HasHeaderInRange H.hash archive }
+    ensures texts { (archive : Archive) → All IsUtf8 archive.texts → AreWithin archive.texts
+        → HasHeaderInRange H.hash archive }
+    ensures counted { (archive : Archive) → AreWithin archive.texts → total_terms archive.texts ≤ 2 ^ 24
+        → HasHeaderInRange H.hash archive }
 {}
 
 /// The root is the digest of the header under the tag of its layout, which is 2 where each list is one tree.
 /// The header is the version 1, the numbers of documents and of dictionary leaves, high byte first, and the
 /// roots of the dictionary, the documents and the texts, 105 bytes in all.
 pub fn roots_bind_headers<H: HashKind>()
-    ensures root { (archive : Archive) → root_of H.hash archive ≡ H.hash (header_tag archive.layout ∷ header_of H.hash archive) }
+    ensures root { (archive : Archive) → root_of H.hash archive
+        ≡ H.hash (header_tag archive.layout ∷ header_of H.hash archive) }
     ensures tag { header_tag whole_lists ≡ 2 }
     ensures header { (archive : Archive) → header_of H.hash archive
         ≡ 1 ∷ to_be_bytes w32 (length archive.texts) ++ to_be_bytes w32 (length (vocabulary archive.texts) + 2)
-        ++ mth H.hash (dict_leaves (dictionary_of H.hash archive)) ++ mth H.hash (documents_of H.hash archive.texts) ++ mth H.hash archive.texts }
+        ++ mth H.hash (dict_leaves (dictionary_of H.hash archive))
+        ++ mth H.hash (documents_of H.hash archive.texts) ++ mth H.hash archive.texts }
     ensures size { (archive : Archive) → length (header_of H.hash archive) ≡ 105 }
 {}
 
@@ -76,7 +85,8 @@ pub fn roots_bind_headers<H: HashKind>()
 pub fn own_headers_are_read<H: HashKind>()
     ensures { (archive : Archive) (header : Header) → AreTexts archive.texts
         → IsHeader header.documents header.dict_leaves header.dict_root header.docs_root header.texts_root
-        → header_bytes header.documents header.dict_leaves header.dict_root header.docs_root header.texts_root ≡ header_of H.hash archive
+        → header_bytes header.documents header.dict_leaves header.dict_root header.docs_root header.texts_root
+        ≡ header_of H.hash archive
         → IsHeaderOf H.hash archive header }
 {}
 
@@ -86,14 +96,17 @@ pub fn own_headers_are_read<H: HashKind>()
 pub fn own_leaves_tell_lists<H: HashKind>()
     ensures entry { (archive : Archive) (p : ℕ) (entry : DictEntry) → AreTexts archive.texts → IsTerm entry.term
         → entry.f < 2 ^ 32
-        → slice_get (dict_leaves (dictionary_of H.hash archive)) p ≡ Some (dict_leaf_bytes entry.term entry.f entry.root)
+        → slice_get (dict_leaves (dictionary_of H.hash archive)) p
+        ≡ Some (dict_leaf_bytes entry.term entry.f entry.root)
         → IsEntryOf H.hash archive entry }
     ensures absent { (archive : Archive) (p : ℕ) (lower upper : DictEntry) (term : List ℕ) → AreTexts archive.texts
-        → AreNeighbours (dict_leaves (dictionary_of H.hash archive)) p lower upper → IsBelow lower.term term → IsBelow term upper.term
+        → AreNeighbours (dict_leaves (dictionary_of H.hash archive)) p lower upper
+        → IsBelow lower.term term → IsBelow term upper.term
         → (list archive.texts term ≡ []) × (frequency term archive.texts ≡ 0) }
     ensures posting { (texts : List (List ℕ)) (term : List ℕ) (i : ℕ) (entry : Entry) → AreTexts texts
         → entry.doc < 2 ^ 32 → entry.impact < 2 ^ 16
-        → slice_get (map leaf_bytes (list texts term)) i ≡ Some (leaf_bytes entry) → slice_get (list texts term) i ≡ Some entry }
+        → slice_get (map leaf_bytes (list texts term)) i ≡ Some (leaf_bytes entry)
+        → slice_get (list texts term) i ≡ Some entry }
 {}
 
 /// A leaf whose bytes are those of the texts' own says of a document what its parts say: its leaf in the
@@ -107,17 +120,21 @@ pub fn own_leaves_tell_documents<H: HashKind>()
     ensures term { (texts : List (List ℕ)) (doc p : ℕ) (item : List ℕ × ℕ) → IsTerm item.0 → item.1 < 2 ^ 16
         → slice_get (terms_leaves (doc_terms texts doc)) p ≡ Some (term_bytes item) → IsImpactOf texts doc item }
     ensures absent { (texts : List (List ℕ)) (doc p : ℕ) (lower upper : List ℕ × ℕ) (term : List ℕ)
-        → AreTermNeighbours (terms_leaves (doc_terms texts doc)) p lower upper → IsBelow lower.0 term → IsBelow term upper.0
+        → AreTermNeighbours (terms_leaves (doc_terms texts doc)) p lower upper
+        → IsBelow lower.0 term → IsBelow term upper.0
         → count term (slice_index_or texts doc []) ≡ 0 }
 {}
 
 /// Shown leaves of a list that rebuild its root with some digests are the list's own, or the first string that
 /// differs from the list's has an equal digest.
 pub fn list_prefixes_are_bound<H: HashKind>()
-    ensures { (layout : Layout) (entries : List Entry) (shown : List Shown) (digests : List (List ℕ)) → RisesFrom 0 shown
-        → All (λ d. length d ≡ 32) digests → prefix_root H.hash layout (length entries) shown digests ≡ Some (list_root H.hash layout entries)
-        → MatchOption (first_difference (list_string H.hash layout entries) (prefix_strings H.hash layout (length entries) shown digests))
-        (All (λ s. slice_get (map leaf_bytes entries) s.0 ≡ Some s.1) shown) (λ c. H.hash c.theirs ≡ H.hash c.ours) }
+    ensures { (layout : Layout) (entries : List Entry) (shown : List Shown) (digests : List (List ℕ))
+        → RisesFrom 0 shown → All (λ d. length d ≡ 32) digests
+        → prefix_root H.hash layout (length entries) shown digests ≡ Some (list_root H.hash layout entries)
+        → MatchOption (first_difference
+        (list_string H.hash layout entries) (prefix_strings H.hash layout (length entries) shown digests))
+        (All (λ s. slice_get (map leaf_bytes entries) s.0 ≡ Some s.1) shown)
+        (λ c. H.hash c.theirs ≡ H.hash c.ours) }
 {}
 
 /// The header's string stands at the node with no turns, and in no tree does a string stand past its
@@ -125,12 +142,15 @@ pub fn list_prefixes_are_bound<H: HashKind>()
 /// text has, nor in the tree of a document past the last.
 pub fn own_strings_stand_in_trees<H: HashKind>()
     ensures header { (archive : Archive) (query : List (List ℕ × ℕ))
-        → ours H.hash archive query (record { tree = HeaderTree; node = by_path [] }) ≡ Some (header_tag archive.layout ∷ header_of H.hash archive) }
+        → ours H.hash archive query (record { tree = HeaderTree; node = by_path [] })
+        ≡ Some (header_tag archive.layout ∷ header_of H.hash archive) }
     ensures within { (archive : Archive) (query : List (List ℕ × ℕ)) (place : TreePlace) (h : ℕ)
-        → length (own_leaves H.hash archive query place.tree) ≤ 2 ^ h → IsSome (ours H.hash archive query place) → depth_of place.node ≤ h }
+        → length (own_leaves H.hash archive query place.tree) ≤ 2 ^ h → IsSome (ours H.hash archive query place)
+        → depth_of place.node ≤ h }
     ensures lists { (archive : Archive) (query : List (List ℕ × ℕ)) (number : ℕ) (node : Node)
         → frequency (asked_term query number) archive.texts ≡ 0
         → ours H.hash archive query (record { tree = ListTree number; node = node }) ≡ None }
-    ensures documents { (archive : Archive) (query : List (List ℕ × ℕ)) (doc : ℕ) (node : Node) → length archive.texts ≤ doc
+    ensures documents { (archive : Archive) (query : List (List ℕ × ℕ)) (doc : ℕ) (node : Node)
+        → length archive.texts ≤ doc
         → ours H.hash archive query (record { tree = TermsTree doc; node = node }) ≡ None }
 {}

@@ -25,12 +25,13 @@ pub trait OwnStrings<H: Hash32> {
         ensures { result ≡ ours H.hash (archive self.now) query.now (tree_place place.now) };
 
     /// Whether what is shown of a tree of `n` leaves is the archive's own, by comparing alone: nothing is hashed.
-    /// A yes is certain, and spares whoever asks the search of the tree. A no is always allowed, and decides nothing: it is
-    /// the answer of who does not look, and where memory is wanted for looking.
+    /// A yes is certain, and spares whoever asks the search of the tree. A no is always allowed, and decides nothing:
+    /// it is the answer of who does not look, and where memory is wanted for looking.
     fn has_shown<S: ShownTree>(&self, tree: Tree, n: u32, query: &Query, shown: &mut S) -> bool
         requires asked { IsOfQuery query.now tree }
         requires short { All (λ s. length s.1 ≤ 127) (S.shown shown.old) }
-        ensures { IsTrue result → All (IsOurs (λ node. ours H.hash (archive self.now) query.now (record { tree = tree; node = node })))
+        ensures { IsTrue result
+            → All (IsOurs (λ node. ours H.hash (archive self.now) query.now (record { tree = tree; node = node })))
             (node_strings H.hash n (S.shown shown.old) (S.digests shown.old)) }
     {
         false
