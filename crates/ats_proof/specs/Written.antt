@@ -9,7 +9,8 @@ pub record Written : Type 0 where
 
 -- these bytes were asked for, in all
 abbrev pub writing : ℕ → List ℕ → Written
-writing limit bytes = record { limit = limit; asked = length bytes; kept = if nat_lt limit (length bytes) then None else Some bytes }
+writing limit bytes =
+    record { limit = limit; asked = length bytes; kept = if nat_lt limit (length bytes) then None else Some bytes }
 
 -- more bytes behind those that are kept
 abbrev pub joined : Option (List ℕ) → List ℕ → Option (List ℕ)

@@ -128,7 +128,8 @@ impl ProofWriter {
     pub fn dict_leaf(&mut self, position: u32, leaf: &DictLeaf<'_>) -> Result<(), OutOfMemory>
         requires term { length leaf.now.term.now ≤ 64 }
         requires few { self.old.asked + 41 + length leaf.now.term.now ≤ 2 ^ 63 }
-        ensures ok { OnOk result (self.new ≡ after self.old (dict_leaf_record position leaf.now.term.now leaf.now.f leaf.now.list_root)) }
+        ensures ok { OnOk result (self.new
+            ≡ after self.old (dict_leaf_record position leaf.now.term.now leaf.now.f leaf.now.list_root)) }
         ensures size { OnOk result (self.new.asked ≡ self.old.asked + 41 + length leaf.now.term.now) }
         ensures counts { self.old.limit < self.old.asked + 41 + length leaf.now.term.now → IsOk result }
         ensures err { OnErr result (self.new ≡ self.old) }
@@ -204,7 +205,8 @@ impl ProofWriter {
     pub fn term_leaf(&mut self, position: u32, leaf: &TermLeaf<'_>) -> Result<(), OutOfMemory>
         requires term { length leaf.now.term.now ≤ 64 }
         requires few { self.old.asked + 7 + length leaf.now.term.now ≤ 2 ^ 63 }
-        ensures ok { OnOk result (self.new ≡ after self.old (term_leaf_record position leaf.now.term.now leaf.now.impact)) }
+        ensures ok { OnOk result (self.new
+            ≡ after self.old (term_leaf_record position leaf.now.term.now leaf.now.impact)) }
         ensures size { OnOk result (self.new.asked ≡ self.old.asked + 7 + length leaf.now.term.now) }
         ensures counts { self.old.limit < self.old.asked + 7 + length leaf.now.term.now → IsOk result }
         ensures err { OnErr result (self.new ≡ self.old) }
