@@ -12,7 +12,8 @@ Ascends numbers = (i j : ℕ) → i ≤ j → j < length numbers → slice_index
 -- the one at this place is no lower than those before it, and the others ascend
 pub record AscendsBut (place : ℕ) (numbers : List ℕ) : Type 0 where
   pub before : (i : ℕ) → i < place → slice_index numbers i ≤ slice_index numbers place
-  pub others : (i j : ℕ) → i ≤ j → j < length numbers → i ≢ place → j ≢ place → slice_index numbers i ≤ slice_index numbers j
+  pub others : (i j : ℕ) → i ≤ j → j < length numbers → i ≢ place → j ≢ place
+      → slice_index numbers i ≤ slice_index numbers j
 
 -- one or more, ascending
 pub record AreKept (kept : List ℕ) : Type 0 where

@@ -21,7 +21,8 @@ lane_of coefficient entries k = record { coefficient = coefficient; total = leng
 -- no entry that is not shown has a greater impact: 0 if all are shown, else the impact of the last shown
 abbrev pub rest_impact : ShownLane → ℕ
 rest_impact lane =
-    if length lane.shown == lane.total then 0 else slice_index (map (λ (entry : Entry). entry.impact) lane.shown) (length lane.shown - 1)
+    if length lane.shown == lane.total then 0
+    else slice_index (map (λ (entry : Entry). entry.impact) lane.shown) (length lane.shown - 1)
 
 -- what the entries that are not shown can add to the score of a document, at most
 abbrev pub rest : ShownLane → ℕ

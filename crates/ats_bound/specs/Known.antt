@@ -44,7 +44,8 @@ IsUnmet met doc = (slot : ℕ) → slot < length met → (met_at met slot).doc �
 -- one entry more names the document: more is known in its slot, or it takes a new one
 abbrev pub Meets : List Met → List Met → ℕ → ℕ → ℕ → Type 0
 Meets met after doc gain digit =
-    ((slot : ℕ) × (slot < length met) × ((met_at met slot).doc ≡ doc) × (after ≡ set met slot (more_of (met_at met slot) gain digit)))
+    ((slot : ℕ) × (slot < length met) × ((met_at met slot).doc ≡ doc)
+    × (after ≡ set met slot (more_of (met_at met slot) gain digit)))
     ⊎ (IsUnmet met doc × (after ≡ met ++ record { doc = doc; lo = gain; named = digit } ∷ []))
 
 -- the lower bounds

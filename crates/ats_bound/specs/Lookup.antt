@@ -12,7 +12,8 @@ Table = ℕ → ℕ → ℕ
 -- what a document scores by the table, the lists being counted from this number on
 abbrev pub looked_score_from : ℕ → Table → List ShownLane → ℕ → ℕ
 looked_score_from i table [] doc = 0
-looked_score_from i table (lane ∷ lanes) doc = lane.coefficient * table i doc + looked_score_from (i + 1) table lanes doc
+looked_score_from i table (lane ∷ lanes) doc =
+    lane.coefficient * table i doc + looked_score_from (i + 1) table lanes doc
 
 abbrev pub looked_score : Table → List ShownLane → ℕ → ℕ
 looked_score table lanes doc = looked_score_from 0 table lanes doc

@@ -12,6 +12,7 @@ PassesQuickTest brackets threshold r = (threshold ≡ 0) ⊎ (r ≤ count_by (λ
 
 -- it is told whether the chosen answer is settled at a cut, and so whether any is
 pub record TellsSettled (bounds : Bounding) (lanes : List WholeLane) (r : ℕ) (cut : List ℕ) (told : Bool) : Type 0 where
-  pub chosen : (brackets : List Bracket) (picks : List ℕ) → AreBracketsBy bounds (shown lanes cut) brackets → IsChosen brackets r picks
+  pub chosen : (brackets : List Bracket) (picks : List ℕ)
+      → AreBracketsBy bounds (shown lanes cut) brackets → IsChosen brackets r picks
       → IsTrue told ↔ IsSettled brackets picks (threshold (shown lanes cut)) r
   pub any : CanSettleBy bounds lanes r cut → IsTrue told

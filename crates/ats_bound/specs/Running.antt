@@ -38,4 +38,5 @@ DoOverlap score a b = (a.doc ≢ b.doc) × (b.lo < a.hi) × (a.lo < b.hi) × ((s
 abbrev pub IsOpenAt : ℕ → List ShownLane → List Met → Type 0
 IsOpenAt score lanes met =
     ((i : ℕ) × (i < length met) × IsAround score (bracket lanes (met_at met i).doc))
-    ⊎ ((i : ℕ) × (j : ℕ) × (i < length met) × (j < length met) × DoOverlap score (bracket lanes (met_at met i).doc) (bracket lanes (met_at met j).doc))
+    ⊎ ((i : ℕ) × (j : ℕ) × (i < length met) × (j < length met)
+    × DoOverlap score (bracket lanes (met_at met i).doc) (bracket lanes (met_at met j).doc))

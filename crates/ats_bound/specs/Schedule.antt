@@ -19,8 +19,10 @@ pub record IsWholeLane (lane : WholeLane) : Type 0 where
   pub some : 1 ≤ length lane.entries
   pub few : length lane.entries ≤ 65536
   pub impacts : All (λ (entry : Entry). 1 ≤ entry.impact) lane.entries
-  pub falling : (i j : ℕ) (d : Entry) → i < j → j < length lane.entries → (slice_index_or lane.entries j d).impact ≤ (slice_index_or lane.entries i d).impact
-  pub once : (i j : ℕ) (d : Entry) → i < j → j < length lane.entries → (slice_index_or lane.entries i d).doc ≢ (slice_index_or lane.entries j d).doc
+  pub falling : (i j : ℕ) (d : Entry) → i < j → j < length lane.entries
+      → (slice_index_or lane.entries j d).impact ≤ (slice_index_or lane.entries i d).impact
+  pub once : (i j : ℕ) (d : Entry) → i < j → j < length lane.entries
+      → (slice_index_or lane.entries i d).doc ≢ (slice_index_or lane.entries j d).doc
 
 -- one lane for each term of a query that has a list
 pub record AreWholeLanes (lanes : List WholeLane) : Type 0 where
@@ -37,7 +39,8 @@ whole_lanes lanes = map whole_lane lanes
 -- of each list from one entry to all are shown
 pub record IsCut (lanes : List WholeLane) (cut : List ℕ) : Type 0 where
   pub size : length cut ≡ length lanes
-  pub each : (i : ℕ) (d : WholeLane) → i < length lanes → (1 ≤ slice_index cut i) × (slice_index cut i ≤ length (slice_index_or lanes i d).entries)
+  pub each : (i : ℕ) (d : WholeLane) → i < length lanes
+      → (1 ≤ slice_index cut i) × (slice_index cut i ≤ length (slice_index_or lanes i d).entries)
 
 -- what a cut shows: of each list the first entries, as many as the cut says
 abbrev pub shown : List WholeLane → List ℕ → List ShownLane
@@ -57,7 +60,8 @@ IsOpen lanes cut i = length (shown_at lanes cut i).shown < (shown_at lanes cut i
 pub record IsNextLane (lanes : List WholeLane) (cut : List ℕ) (i : ℕ) : Type 0 where
   pub inside : i < length lanes
   pub more : IsOpen lanes cut i
-  pub greatest : (j : ℕ) → j < length lanes → IsOpen lanes cut j → rest (shown_at lanes cut j) ≤ rest (shown_at lanes cut i)
+  pub greatest : (j : ℕ) → j < length lanes → IsOpen lanes cut j
+      → rest (shown_at lanes cut j) ≤ rest (shown_at lanes cut i)
   pub least : (j : ℕ) → j < i → IsOpen lanes cut j → rest (shown_at lanes cut j) < rest (shown_at lanes cut i)
 
 -- one turn: the next list shows one entry more
@@ -102,7 +106,8 @@ pub record IsFirstSettledBy (bounds : Bounding) (lanes : List WholeLane) (r : �
   pub turns : ℕ
   pub scheduled : IsScheduled lanes turns cut
   pub settled : CanSettleBy bounds lanes r cut
-  pub first : (n : ℕ) (earlier : List ℕ) → n < turns → IsScheduled lanes n earlier → CanSettleBy bounds lanes r earlier → ⊥
+  pub first : (n : ℕ) (earlier : List ℕ) → n < turns
+      → IsScheduled lanes n earlier → CanSettleBy bounds lanes r earlier → ⊥
 
 -- ---- from the shown entries alone, with no random access
 

@@ -44,9 +44,11 @@ pub record AreScored (stage : Stage) (rows : ℕ) (scores : List (ℕ × ℕ)) (
 
 -- the document that the first entry of list i names
 abbrev pub first_document : List WholeLane → ℕ → ℕ
-first_document lanes i = (slice_index_or (slice_index_or lanes i (record { coefficient = 0; entries = [] })).entries 0 (record { doc = 0; impact = 0 })).doc
+first_document lanes i = (slice_index_or (slice_index_or lanes i (record { coefficient = 0; entries = [] })).entries
+    0 (record { doc = 0; impact = 0 })).doc
 
 -- each document that a first entry names has the first score that is given for it
 abbrev pub AreFirstScores : (ℕ → ℕ) → List WholeLane → List ℕ → Type 0
 AreFirstScores score lanes scores =
-    (i : ℕ) → i < length lanes → ((j : ℕ) → j < i → first_document lanes j ≢ first_document lanes i) → score (first_document lanes i) ≡ slice_index scores i
+    (i : ℕ) → i < length lanes → ((j : ℕ) → j < i → first_document lanes j ≢ first_document lanes i)
+    → score (first_document lanes i) ≡ slice_index scores i

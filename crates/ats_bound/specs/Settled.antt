@@ -42,6 +42,7 @@ pub record IsSettled (brackets : List Bracket) (picks : List ℕ) (threshold : �
   -- no row can score more than the row before it scores at least
   pub falling : (k : ℕ) → k + 1 < length picks → (row brackets picks (k + 1)).hi ≤ (row brackets picks k).lo
   -- no document outside it can score more than its last row scores at least
-  pub rest : (i : ℕ) → IsOutside brackets picks i → 0 < length picks → (bracket_at brackets i).hi ≤ (last_row brackets picks).lo
+  pub rest : (i : ℕ) → IsOutside brackets picks i → 0 < length picks
+      → (bracket_at brackets i).hi ≤ (last_row brackets picks).lo
   -- nor can a document that is not met
   pub unmet : 0 < length picks → 0 < threshold → threshold ≤ (last_row brackets picks).lo

@@ -14,7 +14,8 @@ pub record IsStand (bounds : Bounding) (lanes : List WholeLane) (r : ℕ) (count
   pub chosen : IsChosen walk.brackets r walk.picks
   pub inside : ArePicks walk.brackets walk.picks
   -- it is settled where any answer is
-  pub best : (answer : List ℕ) → ArePicks walk.brackets answer → IsSettled walk.brackets answer walk.threshold r → IsSettled walk.brackets walk.picks walk.threshold r
+  pub best : (answer : List ℕ) → ArePicks walk.brackets answer → IsSettled walk.brackets answer walk.threshold r
+      → IsSettled walk.brackets walk.picks walk.threshold r
 
 -- it stands at the first cut of the schedule at which an answer is settled, with the chosen answer
 pub record IsEnd (bounds : Bounding) (lanes : List WholeLane) (r : ℕ) (walk : Walk) : Type 0 where
@@ -26,4 +27,5 @@ pub record IsEnd (bounds : Bounding) (lanes : List WholeLane) (r : ℕ) (walk : 
 pub record IsReached (bounds : Bounding) (lanes : List WholeLane) (r : ℕ) (counts : List ℕ) : Type 0 where
   pub turns : ℕ
   pub scheduled : IsScheduled lanes turns counts
-  pub none : (n : ℕ) (earlier : List ℕ) → n < turns → IsScheduled lanes n earlier → CanSettleBy bounds lanes r earlier → ⊥
+  pub none : (n : ℕ) (earlier : List ℕ) → n < turns
+      → IsScheduled lanes n earlier → CanSettleBy bounds lanes r earlier → ⊥

@@ -79,7 +79,8 @@ impl Best {
     /// One value more.
     pub(crate) fn add(&mut self, value: u64)
         ensures size { length self.new ≡ length self.old }
-        ensures best { (all after : List ℕ) → AreBest self.old all → IsPermutation (value ∷ all) after → AreBest self.new after }
+        ensures best { (all after : List ℕ)
+            → AreBest self.old all → IsPermutation (value ∷ all) after → AreBest self.new after }
     {
         if self.values[0] < value {
             self.put(0, value);

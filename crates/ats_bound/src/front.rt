@@ -30,7 +30,8 @@ impl<'a> Model for Front<'a> {
 
     ghost view = { λ f. record { lanes = whole_lanes f.lanes.items; cut = f.counts.items } };
 
-    ghost invariant = { λ f. AreRests (record { lanes = whole_lanes f.lanes.items; cut = f.counts.items }) f.rests.items f.threshold };
+    ghost invariant = { λ f.
+        AreRests (record { lanes = whole_lanes f.lanes.items; cut = f.counts.items }) f.rests.items f.threshold };
 }
 
 /// What an entry adds to the score of its document.
@@ -65,7 +66,8 @@ impl<'a> Front<'a> {
     /// One entry of each list is shown.
     pub(crate) fn new(alloc: Global, lanes: &[Lane<'a>]) -> Result<Front<'a>, OutOfMemory>
         requires { AreWholeLanes (whole_lanes lanes.now) }
-        ensures { IfOk result (λ front. front ≡ record { lanes = whole_lanes lanes.now; cut = first_cut (whole_lanes lanes.now) }) }
+        ensures { IfOk result (λ front.
+            front ≡ record { lanes = whole_lanes lanes.now; cut = first_cut (whole_lanes lanes.now) }) }
     {
         let counts = first_counts(alloc, lanes)?;
         let rests = rests(alloc, lanes, &counts)?;

@@ -25,7 +25,8 @@ pub fn cuts_bound_scores()
         → IsMet (cut_of lanes) doc → (doc < n) × (0 < score doc) }
     ensures bracket { (n : ℕ) (score : ℕ → ℕ) (lanes : List CutLane) (doc : ℕ) → AreScores n score lanes
         → IsMet (cut_of lanes) doc → HoldsScore score (bracket (cut_of lanes) doc) }
-    ensures looked_up { (n : ℕ) (score : ℕ → ℕ) (lanes : List CutLane) (table : Table) (doc : ℕ) → AreScores n score lanes
+    ensures looked_up { (n : ℕ) (score : ℕ → ℕ) (lanes : List CutLane) (table : Table) (doc : ℕ)
+        → AreScores n score lanes
         → AreImpactsOf table (map (λ (lane : CutLane). lane.entries) lanes) → IsMet (cut_of lanes) doc
         → HoldsScore score (looked_up table (cut_of lanes) doc) }
 {}
@@ -39,7 +40,8 @@ pub fn rests_are_held_or_missing()
 /// document has adds nothing.
 pub fn scores_are_sums_over_lists()
     ensures { (texts : List (List ℕ)) (query : List (List ℕ × ℕ)) (doc : ℕ) → doc < length texts
-        → score texts query (slice_index_or texts doc []) ≡ sum_by (λ pair. coefficient texts pair * impact_in doc (list texts pair.0)) query }
+        → score texts query (slice_index_or texts doc [])
+        ≡ sum_by (λ pair. coefficient texts pair * impact_in doc (list texts pair.0)) query }
 {}
 
 /// A settled answer is a top answer, whatever the brackets are made from: they need only be those of the
@@ -67,7 +69,8 @@ pub fn walks_end_at_one_cut()
 pub fn walks_end()
     ensures cut { (bounds : Bounding) (lanes : List WholeLane) (r : ℕ) → AreNarrow bounds → AreWholeLanes lanes
         → (cut : List ℕ) × IsFirstSettledBy bounds lanes r cut }
-    ensures shown { (lanes : List WholeLane) (r : ℕ) → AreWholeLanes lanes → (cut : List ℕ) × IsFirstSettled lanes r cut }
+    ensures shown { (lanes : List WholeLane) (r : ℕ)
+        → AreWholeLanes lanes → (cut : List ℕ) × IsFirstSettled lanes r cut }
     ensures looked_up { (table : Table) (lanes : List WholeLane) (r : ℕ) → AreWholeLanes lanes
         → (cut : List ℕ) × IsFirstSettledBy (looked_up table) lanes r cut }
     ensures brackets { (bounds : Bounding) (lanes : List ShownLane) → AreNarrow bounds
@@ -78,21 +81,25 @@ pub fn walks_end()
 /// Where the two bounds of each bracket are one, the chosen answer is settled exactly where the necessary
 /// test passes. So a walk with known scores needs no other test.
 pub fn known_scores_settle_by_the_test()
-    ensures { (brackets : List Bracket) (r threshold : ℕ) (picks : List ℕ) → 1 ≤ r → All (λ (b : Bracket). b.hi ≡ b.lo) brackets
+    ensures { (brackets : List Bracket) (r threshold : ℕ) (picks : List ℕ)
+        → 1 ≤ r → All (λ (b : Bracket). b.hi ≡ b.lo) brackets
         → IsChosen brackets r picks → PassesQuickTest brackets threshold r ↔ IsSettled brackets picks threshold r }
 {}
 
 /// What is settled passes the necessary test, which is whether as many brackets as there are rows reach
 /// the threshold by their lower bounds.
 pub fn settled_answers_pass_the_test()
-    ensures { (brackets : List Bracket) (picks : List ℕ) (threshold r : ℕ) → AreBrackets brackets → ArePicks brackets picks
+    ensures { (brackets : List Bracket) (picks : List ℕ) (threshold r : ℕ)
+        → AreBrackets brackets → ArePicks brackets picks
         → IsSettled brackets picks threshold r → PassesQuickTest brackets threshold r }
 {}
 
 /// What a walk tells at a cut is what [`crate::settled`] answers of the answer that [`crate::choose`]
 /// makes there, however brackets are formed.
 pub fn walks_tell_the_chosen_answer()
-    ensures { (bounds : Bounding) (lanes : List WholeLane) (r : ℕ) (cut : List ℕ) (told answered : Bool) (brackets : List Bracket) (picks : List ℕ)
-        → TellsSettled bounds lanes r cut told → AreBracketsBy bounds (shown lanes cut) brackets → IsChosen brackets r picks
+    ensures { (bounds : Bounding) (lanes : List WholeLane) (r : ℕ) (cut : List ℕ)
+        (told answered : Bool) (brackets : List Bracket) (picks : List ℕ)
+        → TellsSettled bounds lanes r cut told → AreBracketsBy bounds (shown lanes cut) brackets
+        → IsChosen brackets r picks
         → (IsTrue answered ↔ IsSettled brackets picks (threshold (shown lanes cut)) r) → told ≡ answered }
 {}

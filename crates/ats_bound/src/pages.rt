@@ -49,7 +49,8 @@ impl Pages {
     /// Gives a document the slot below this number. For more slots than 32 bits count there is no memory.
     pub(crate) fn put(&mut self, doc: u32, number: usize) -> Result<(), OutOfMemory>
         ensures here { OnOk result ((slot : ℕ) → number ≡ slot + 1 → slot_in self.new.pages doc ≡ Some slot) }
-        ensures others { OnOk result ((other : ℕ) → other ≢ doc → slot_in self.new.pages other ≡ slot_in self.old.pages other) }
+        ensures others { OnOk result ((other : ℕ) → other ≢ doc
+            → slot_in self.new.pages other ≡ slot_in self.old.pages other) }
         ensures kept { OnErr result (self.new.pages.entries ≡ self.old.pages.entries) }
     {
         let Ok(number) = u32::try_from(number) else {

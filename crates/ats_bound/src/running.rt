@@ -61,7 +61,8 @@ fn digit(lane: u32) -> u32
 fn first_gain(lane: &Lane<'_>) -> Gain
     requires { IsWholeLane (whole_lane lane.now) }
     ensures doc { result.doc ≡ (slice_index_or lane.now.entries.now 0 record { doc = 0; impact = 0 }).doc }
-    ensures gain { result.gain ≡ lane.now.coefficient * (slice_index_or lane.now.entries.now 0 record { doc = 0; impact = 0 }).impact }
+    ensures gain { result.gain
+        ≡ lane.now.coefficient * (slice_index_or lane.now.entries.now 0 record { doc = 0; impact = 0 }).impact }
     ensures few { result.gain ≤ 34935 * 65535 }
 {
     let entry = lane.entries[0];
@@ -112,7 +113,8 @@ fn meet_first(lanes: &[Lane<'_>], known: &mut Known, best: &mut Best) -> Result<
     requires lanes { AreWholeLanes (whole_lanes lanes.now) }
     requires none { known.old ≡ [] }
     requires best { AreBest best.old [] }
-    ensures known { OnOk result (AreKnown (shown (whole_lanes lanes.now) (first_cut (whole_lanes lanes.now))) known.new) }
+    ensures known { OnOk result
+        (AreKnown (shown (whole_lanes lanes.now) (first_cut (whole_lanes lanes.now))) known.new) }
     ensures best { OnOk result (AreBest best.new (lows known.new)) }
     ensures size { length best.new ≡ length best.old }
 {
@@ -126,7 +128,8 @@ impl<'a> Running<'a> {
     /// Stands at the first cut, which shows one entry of each list.
     pub fn new(alloc: Global, lanes: &[Lane<'a>], top: Top) -> Result<Running<'a>, OutOfMemory>
         requires { AreWholeLanes (whole_lanes lanes.now) }
-        ensures { IfOk result (λ running. running ≡ record { lanes = whole_lanes lanes.now; rows = top; cut = first_cut (whole_lanes lanes.now) }) }
+        ensures { IfOk result (λ running.
+            running ≡ record { lanes = whole_lanes lanes.now; rows = top; cut = first_cut (whole_lanes lanes.now) }) }
     {
         let front = Front::new(alloc, lanes)?;
         let mut known = Known::new(alloc);
@@ -153,7 +156,11 @@ impl<'a> Running<'a> {
     pub fn advance(&mut self, lane: u32) -> Result<(), OutOfMemory>
         requires inside { lane < length self.old.lanes }
         requires more { IsOpen self.old.lanes self.old.cut lane }
-        ensures ok { OnOk result (self.new ≡ record { lanes = self.old.lanes; rows = self.old.rows; cut = set self.old.cut lane (slice_index self.old.cut lane + 1) }) }
+        ensures ok { OnOk result (self.new ≡ record {
+          lanes = self.old.lanes;
+          rows = self.old.rows;
+          cut = set self.old.cut lane (slice_index self.old.cut lane + 1);
+        }) }
         ensures err { OnErr result (self.new ≡ self.old) }
     {
         let gain = self.front.gain(lane);

@@ -61,9 +61,11 @@ fn meet(
     ensures rise { IsStrictlySortedBy nat_cmp (keys_of scores.new.entries) }
     ensures best { AreBest best.new (values_of scores.new.entries) }
     ensures size { length best.new ≡ length best.old }
-    ensures met { OnOk result ((other : ℕ) → is_some (score_in scores.new.entries other) ≡ ((doc == other) || is_some (score_in scores.old.entries other))) }
+    ensures met { OnOk result ((other : ℕ) → is_some (score_in scores.new.entries other)
+        ≡ ((doc == other) || is_some (score_in scores.old.entries other))) }
     ensures scores { OnOk result ((given : ℕ → ℕ) → All (λ pair. given pair.0 ≡ pair.1) scores.old.entries
-        → (is_some (score_in scores.old.entries doc) ≡ false → given doc ≡ score) → All (λ pair. given pair.0 ≡ pair.1) scores.new.entries) }
+        → (is_some (score_in scores.old.entries doc) ≡ false → given doc ≡ score)
+        → All (λ pair. given pair.0 ≡ pair.1) scores.new.entries) }
     ensures err { OnErr result (scores.new.entries ≡ scores.old.entries) }
 {
     if scores.contains_key(&doc) {
@@ -102,7 +104,8 @@ fn first_met(
     ensures rise { IfOk result (λ met. IsStrictlySortedBy nat_cmp (keys_of met.entries)) }
     ensures best { IfOk result (λ met. AreBest best.new (values_of met.entries)) }
     ensures size { length best.new ≡ length best.old }
-    ensures met { IfOk result (λ met. (doc : ℕ) → is_some (score_in met.entries doc) ≡ list_any (names doc) (shown (whole_lanes lanes.now) (first_cut (whole_lanes lanes.now)))) }
+    ensures met { IfOk result (λ met. (doc : ℕ) → is_some (score_in met.entries doc)
+        ≡ list_any (names doc) (shown (whole_lanes lanes.now) (first_cut (whole_lanes lanes.now)))) }
     ensures scores { IfOk result (λ met. (given : ℕ → ℕ) → AreFirstScores given (whole_lanes lanes.now) scores.now
         → All (λ pair. given pair.0 ≡ pair.1) met.entries) }
 {
@@ -124,9 +127,11 @@ impl<'a> Scored<'a> {
     ) -> Result<Scored<'a>, OutOfMemory>
         requires lanes { AreWholeLanes (whole_lanes lanes.now) }
         requires each { length scores.now ≡ length lanes.now }
-        ensures stage { IfOk result (λ walk. walk.stage ≡ record { lanes = whole_lanes lanes.now; cut = first_cut (whole_lanes lanes.now) }) }
+        ensures stage { IfOk result (λ walk.
+            walk.stage ≡ record { lanes = whole_lanes lanes.now; cut = first_cut (whole_lanes lanes.now) }) }
         ensures rows { IfOk result (λ walk. walk.rows ≡ top) }
-        ensures brackets { IfOk result (λ walk. (given : ℕ → ℕ) → AreFirstScores given (whole_lanes lanes.now) scores.now
+        ensures brackets { IfOk result (λ walk. (given : ℕ → ℕ)
+            → AreFirstScores given (whole_lanes lanes.now) scores.now
             → AreBracketsBy (exactly given) (shown_on walk.stage) walk.brackets) }
     {
         let _rows = top.get();
@@ -145,7 +150,8 @@ impl<'a> Scored<'a> {
     /// The list that shows one entry more in the next turn, counted from 0; none where all lists are
     /// whole.
     pub fn next_lane(&self) -> Option<u32>
-        ensures next { MatchOption result (threshold (shown_on self.now.stage) ≡ 0) (IsNextLane self.now.stage.lanes self.now.stage.cut) }
+        ensures next { MatchOption result (threshold (shown_on self.now.stage) ≡ 0)
+            (IsNextLane self.now.stage.lanes self.now.stage.cut) }
         ensures stage { IsStage self.now.stage }
     {
         self.front.next_lane()
@@ -162,7 +168,8 @@ impl<'a> Scored<'a> {
 
     /// The score of a document that is met; none of any other.
     pub fn score_of(&self, doc: u32) -> Option<u64>
-        ensures { MatchOption result (has_bracket doc self.now.brackets ≡ false) (λ score. Contains self.now.brackets (exact doc score)) }
+        ensures { MatchOption result (has_bracket doc self.now.brackets ≡ false)
+            (λ score. Contains self.now.brackets (exact doc score)) }
     {
         self.scores.get(&doc).copied()
     }
@@ -174,9 +181,12 @@ impl<'a> Scored<'a> {
         requires more { IsOpen self.old.stage.lanes self.old.stage.cut lane }
         ensures lanes { self.new.stage.lanes ≡ self.old.stage.lanes }
         ensures rows { self.new.rows ≡ self.old.rows }
-        ensures cut { OnOk result (self.new.stage.cut ≡ set self.old.stage.cut lane (slice_index self.old.stage.cut lane + 1)) }
-        ensures brackets { OnOk result ((given : ℕ → ℕ) → AreBracketsBy (exactly given) (shown_on self.old.stage) self.old.brackets
-            → (has_bracket (entry_on self.old.stage lane).doc self.old.brackets ≡ false → given (entry_on self.old.stage lane).doc ≡ score)
+        ensures cut { OnOk result (self.new.stage.cut
+            ≡ set self.old.stage.cut lane (slice_index self.old.stage.cut lane + 1)) }
+        ensures brackets { OnOk result ((given : ℕ → ℕ)
+            → AreBracketsBy (exactly given) (shown_on self.old.stage) self.old.brackets
+            → (has_bracket (entry_on self.old.stage lane).doc self.old.brackets ≡ false →
+            given (entry_on self.old.stage lane).doc ≡ score)
             → AreBracketsBy (exactly given) (shown_on self.new.stage) self.new.brackets) }
         ensures err { OnErr result (self.new ≡ self.old) }
     {
@@ -188,7 +198,8 @@ impl<'a> Scored<'a> {
 
     /// Whether the chosen answer is settled.
     pub fn settled(&self) -> bool
-        ensures quick { IsTrue result ↔ PassesQuickTest self.now.brackets (threshold (shown_on self.now.stage)) self.now.rows }
+        ensures quick { IsTrue result
+            ↔ PassesQuickTest self.now.brackets (threshold (shown_on self.now.stage)) self.now.rows }
         ensures tells { (bounds : Bounding) → AreBracketsBy bounds (shown_on self.now.stage) self.now.brackets
             → TellsSettled bounds self.now.stage.lanes self.now.rows self.now.stage.cut result }
     {
@@ -205,7 +216,8 @@ impl<'a> Scored<'a> {
         ensures picks { IfOk result (λ walk. IsChosen walk.brackets self.entry.rows walk.picks) }
         ensures inside { IfOk result (λ walk. ArePicks walk.brackets walk.picks) }
         ensures best { IfOk result (λ walk. (answer : List ℕ) → ArePicks walk.brackets answer
-            → IsSettled walk.brackets answer walk.threshold self.entry.rows → IsSettled walk.brackets walk.picks walk.threshold self.entry.rows) }
+            → IsSettled walk.brackets answer walk.threshold self.entry.rows
+            → IsSettled walk.brackets walk.picks walk.threshold self.entry.rows) }
     {
         let Scored {
             alloc,

@@ -54,7 +54,8 @@ fn are_all_picked(places: usize, picks: &[u32]) -> bool
 
 // Whether the answer has as many rows as it may have, or all there can be.
 fn is_whole(brackets: &[Bracket], picks: &[u32], threshold: u64, rows: usize) -> bool
-    ensures { IsTrue result ↔ ((length picks.now ≡ rows) ⊎ (((i : ℕ) → i < length brackets.now → 1 ≤ times i picks.now) × (threshold ≡ 0))) }
+    ensures { IsTrue result ↔ ((length picks.now ≡ rows)
+        ⊎ (((i : ℕ) → i < length brackets.now → 1 ≤ times i picks.now) × (threshold ≡ 0))) }
 {
     if picks.len() == rows {
         return true;
@@ -68,7 +69,8 @@ fn is_whole(brackets: &[Bracket], picks: &[u32], threshold: u64, rows: usize) ->
 // Whether no row can score more than the row before it scores at least.
 fn rows_fall(brackets: &[Bracket], picks: &[u32]) -> bool
     requires { ArePicks brackets.now picks.now }
-    ensures { IsTrue result ↔ ((k : ℕ) → k + 1 < length picks.now → (row brackets.now picks.now (k + 1)).hi ≤ (row brackets.now picks.now k).lo) }
+    ensures { IsTrue result ↔ ((k : ℕ) → k + 1 < length picks.now
+        → (row brackets.now picks.now (k + 1)).hi ≤ (row brackets.now picks.now k).lo) }
 {
     for k in 1..picks.len() {
         if picked(brackets, picks[k]).hi > picked(brackets, picks[k - 1]).lo {
