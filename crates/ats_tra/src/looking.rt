@@ -30,7 +30,8 @@ pub(crate) fn first_scores<A: RandomAccess>(
     requires { AreWholeLanes (whole_lanes lanes.now) }
     ensures size { IfOk result (λ scores. length scores.items ≡ length lanes.now) }
     ensures scores { IfOk result (λ scores. (i : ℕ) → i < length lanes.now
-        → slice_index scores.items i ≡ score_by (A.table access.now) (whole_lanes lanes.now) (first_document (whole_lanes lanes.now) i)) }
+        → slice_index scores.items i
+        ≡ score_by (A.table access.now) (whole_lanes lanes.now) (first_document (whole_lanes lanes.now) i)) }
 {
     let mut scores: Vec<u64> = Vec::new(alloc);
     for lane in lanes {

@@ -20,7 +20,8 @@ use std::alloc::Global;
 // The score of a document, which is not summed again where the document is met.
 fn score_at<A: RandomAccess>(access: &A, lanes: &[Lane<'_>], walk: &Scored<'_>, doc: u32) -> u64
     requires lanes { AreWholeLanes (whole_lanes lanes.now) }
-    requires known { AreBracketsBy (exactly (score_by (A.table access.now) (whole_lanes lanes.now))) (shown_on walk.now.stage) walk.now.brackets }
+    requires known { AreBracketsBy (exactly (score_by (A.table access.now) (whole_lanes lanes.now)))
+        (shown_on walk.now.stage) walk.now.brackets }
     ensures { result ≡ score_by (A.table access.now) (whole_lanes lanes.now) doc }
 {
     match walk.score_of(doc) {
@@ -66,8 +67,10 @@ pub fn walk<A: RandomAccess>(
     access: &A,
 ) -> Result<Walk, OutOfMemory>
     requires { AreWholeLanes (whole_lanes lanes.now) }
-    ensures cut { IfOk result (λ walk. IsFirstSettledBy (looked_up (A.table access.now)) (whole_lanes lanes.now) top walk.cut) }
-    ensures brackets { IfOk result (λ walk. AreBracketsBy (looked_up (A.table access.now)) (shown (whole_lanes lanes.now) walk.cut) walk.brackets) }
+    ensures cut { IfOk result (λ walk.
+        IsFirstSettledBy (looked_up (A.table access.now)) (whole_lanes lanes.now) top walk.cut) }
+    ensures brackets { IfOk result (λ walk.
+        AreBracketsBy (looked_up (A.table access.now)) (shown (whole_lanes lanes.now) walk.cut) walk.brackets) }
     ensures threshold { IfOk result (λ walk. walk.threshold ≡ threshold (shown (whole_lanes lanes.now) walk.cut)) }
     ensures picks { IfOk result (λ walk. IsChosen walk.brackets top walk.picks) }
     ensures settled { IfOk result (λ walk. IsSettled walk.brackets walk.picks walk.threshold top) }
