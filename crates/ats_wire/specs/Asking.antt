@@ -25,13 +25,16 @@ abbrev pub BeginsWithKind : ℕ → List ℕ → Type 0
 BeginsWithKind n [] = Unit {0}
 BeginsWithKind n (kind ∷ _) = IsKind n kind
 
--- A reply of which not all bytes came, and nothing is wrong with those that did: 4 bytes are wanted until its length is whole, and then so many more.
+-- A reply of which not all bytes came, and nothing is wrong with those that did: 4 bytes are wanted until its length is
+-- whole, and then so many more.
 abbrev pub IsBegun : List ℕ → (wanted : ℕ) → Type 0
 IsBegun read wanted =
     ((length read < 4) × (wanted ≡ 4))
-    ⊎ ((n : ℕ) × (body : List ℕ) × IsReplyLength n × (read ≡ to_be_bytes w32 n ++ body) × (length body < n) × BeginsWithKind n body × (wanted ≡ n + 4))
+    ⊎ ((n : ℕ) × (body : List ℕ) × IsReplyLength n × (read ≡ to_be_bytes w32 n ++ body)
+    × (length body < n) × BeginsWithKind n body × (wanted ≡ n + 4))
 
--- What was read where there is no proof, by the fault that is told. Nothing is read behind a whole reply, a length that is too long, or a kind that is wrong.
+-- What was read where there is no proof, by the fault that is told. Nothing is read behind a whole reply, a length that
+-- is too long, or a kind that is wrong.
 abbrev pub ReplyFault : LinkTold → LinkTold → List ℕ → AskFault → Type 0
 ReplyFault before now read (ShortReply got wanted) = (got ≡ length read) × IsBegun read wanted × IsAtEnd now.traffic
 ReplyFault before now read (LongReply n) = (read ≡ to_be_bytes w32 n) × (2 ^ 26 + 1 < n)
@@ -48,9 +51,10 @@ abbrev pub Says : LinkTold → LinkTold → List ℕ → Result (List ℕ) AskFa
 Says before now read (Ok bytes) = (read ≡ framed (0 ∷ bytes)) × (length bytes ≤ 2 ^ 26)
 Says before now read (Err fault) = ReplyFault before now read fault
 
--- What was written and read by what is told: the request's whole frame and then a reply; or a part of the frame, and nothing was read; or
--- nothing at all for want of memory.
-abbrev pub Exchanges : (frame : List ℕ) → LinkTold → LinkTold → (read written : List ℕ) → Result (List ℕ) AskFault → Type 0
+-- What was written and read by what is told: the request's whole frame and then a reply; or a part of the frame, and
+-- nothing was read; or nothing at all for want of memory.
+abbrev pub Exchanges : (frame : List ℕ) → LinkTold → LinkTold
+    → (read written : List ℕ) → Result (List ℕ) AskFault → Type 0
 Exchanges frame before now read written (Err WriteFault) =
     (read ≡ []) × Rose before.faults now.faults × ((n : ℕ) × (n < length frame) × (written ≡ take n frame))
 Exchanges frame before now read written (Err OutOfMemory) =
@@ -64,9 +68,11 @@ pub record IsAsked (question : Question) (before now : LinkTold) (result : Resul
   pub moved : Moves before now read written 1
   pub says : Exchanges (request_frame question) before now read written result
 
--- What came behind the head of a reply where not all of so many bytes did, by the fault that is told; the head has 5 bytes.
+-- What came behind the head of a reply where not all of so many bytes did,
+-- by the fault that is told; the head has 5 bytes.
 abbrev pub RestFault : LinkTold → LinkTold → (size : ℕ) → List ℕ → AskFault → Type 0
-RestFault before now size came (ShortReply got wanted) = (length came < size) × (got ≡ length came + 5) × (wanted ≡ size + 5) × IsAtEnd now.traffic
+RestFault before now size came (ShortReply got wanted) = (length came < size) × (got ≡ length came + 5)
+    × (wanted ≡ size + 5) × IsAtEnd now.traffic
 RestFault before now size came ReadFault = (length came < size) × Rose before.faults now.faults
 RestFault before now size came OutOfMemory = length came ≤ size
 RestFault before now size came fault = ⊥

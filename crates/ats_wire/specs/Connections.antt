@@ -36,29 +36,35 @@ frames turns = flat_map (λ turn. framed turn.0) turns
 abbrev pub replies : List (List ℕ × Reply) → List ℕ
 replies turns = flat_map (λ turn. reply_bytes turn.1) turns
 
--- bytes behind whole frames that are no whole frame, nor a bad length: fewer than the 4 of a length, or fewer than a good length names
+-- bytes behind whole frames that are no whole frame, nor a bad length:
+-- fewer than the 4 of a length, or fewer than a good length names
 abbrev pub IsUnfinished : List ℕ → Type 0
-IsUnfinished tail = (length tail < 4) ⊎ ((n : ℕ) × (body : List ℕ) × IsFrameLength n × (length body < n) × (tail ≡ to_be_bytes w32 n ++ body))
+IsUnfinished tail = (length tail < 4)
+    ⊎ ((n : ℕ) × (body : List ℕ) × IsFrameLength n × (length body < n) × (tail ≡ to_be_bytes w32 n ++ body))
 
 -- How reading ends behind whole frames: what was read there, and what the link tells then.
 abbrev pub EndsReading : LinkTold → LinkTold → List ℕ → ConnectionEnd → Type 0
 EndsReading before now tail Ended = (tail ≡ []) × IsAtEnd now.traffic
-EndsReading before now tail (CutFrame left) = (left ≡ length tail) × (0 < left) × IsUnfinished tail × IsAtEnd now.traffic
+EndsReading before now tail (CutFrame left) = (left ≡ length tail) × (0 < left)
+    × IsUnfinished tail × IsAtEnd now.traffic
 EndsReading before now tail (BadFrame n) = (tail ≡ to_be_bytes w32 n) × ((n < 6) ⊎ (4096 < n))
 EndsReading before now tail RequestLimit = ⊥
 EndsReading before now tail ReadFault = IsUnfinished tail × Rose before.faults now.faults
 EndsReading before now tail WriteFault = ⊥
 
--- How a connection ends behind so many whole replies: what was read behind their frames and written behind them. At the limit
--- nothing further was read, and each other end comes before it. A write fault leaves the front of one more reply.
-abbrev pub Ends : (Question → Reply → Type 0) → LinkTold → LinkTold → (requests : ℕ) → (tail part : List ℕ) → ConnectionEnd → Type 0
+-- How a connection ends behind so many whole replies: what was read behind their frames and written behind them. At the
+-- limit nothing further was read, and each other end comes before it. A write fault leaves the front of one more reply.
+abbrev pub Ends : (Question → Reply → Type 0) → LinkTold → LinkTold
+    → (requests : ℕ) → (tail part : List ℕ) → ConnectionEnd → Type 0
 Ends gives before now requests tail part RequestLimit = (requests ≡ 65536) × (tail ≡ []) × (part ≡ [])
 Ends gives before now requests tail part WriteFault =
     (requests < 65536) × Rose before.faults now.faults
-    × ((body : List ℕ) × (reply : Reply) × IsAnswered gives (body, reply) × (tail ≡ framed body) × (n : ℕ) × (n < length (reply_bytes reply)) × (part ≡ take n (reply_bytes reply)))
+    × ((body : List ℕ) × (reply : Reply) × IsAnswered gives (body, reply) × (tail ≡ framed body)
+    × (n : ℕ) × (n < length (reply_bytes reply)) × (part ≡ take n (reply_bytes reply)))
 Ends gives before now requests tail part end = (requests < 65536) × (part ≡ []) × EndsReading before now tail end
 
--- A connection was served: whole frames were read and answered, each by one whole reply, in order, and the count is theirs; then it ended.
+-- A connection was served: whole frames were read and answered, each by one whole reply, in order,
+-- and the count is theirs; then it ended.
 pub record IsServed (gives : Question → Reply → Type 0) (before now : LinkTold) (served : Served) : Type 0 where
   pub turns : List (List ℕ × Reply)
   pub tail : List ℕ

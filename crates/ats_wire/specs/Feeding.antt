@@ -14,7 +14,8 @@ abbrev pub IsFed : Fed → List ℕ → Type 0
 IsFed (Whole kept) bytes = (kept ≡ bytes) × IsSpelling proof_format bytes
 IsFed (Refused fault) bytes = IsBad proof_format bytes fault
 
--- one question was asked over the link: a whole reply with the bytes of a proof came, of which this is told, or there is none for this fault
+-- one question was asked over the link: a whole reply with the bytes of a proof came, of which this is told,
+-- or there is none for this fault
 abbrev pub IsAskedFed : Question → LinkTold → LinkTold → Result Fed AskFault → Type 0
 IsAskedFed question before now (Ok fed) = (bytes : List ℕ) × IsAsked question before now (Ok bytes) × IsFed fed bytes
 IsAskedFed question before now (Err fault) = IsAsked question before now (Err fault)

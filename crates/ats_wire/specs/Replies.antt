@@ -17,7 +17,8 @@ abbrev pub IsShort : Reply → Type 0
 IsShort (Proof bytes) = length bytes ≤ 2 ^ 26
 IsShort (Code _) = Unit {0}
 
--- The reply to a body, where these are the replies to a question: the code of its refusal, or one of those to what it asks.
+-- The reply to a body, where these are the replies to a question:
+-- the code of its refusal, or one of those to what it asks.
 abbrev pub Answers : (Question → Reply → Type 0) → List ℕ → Reply → Type 0
 Answers gives body reply =
     ((question : Question) × Asks body question × gives question reply)

@@ -19,9 +19,11 @@ abbrev pub algorithm_byte : Algorithm → ℕ
 algorithm_byte Tra = 1
 algorithm_byte Tnra = 2
 
--- the body of a request's frame: the version 1, the algorithm, the number of rows in 2 bytes, the length of the query in 2 bytes, the query
+-- the body of a request's frame: the version 1, the algorithm, the number of rows in 2 bytes,
+-- the length of the query in 2 bytes, the query
 abbrev pub request_body : Algorithm → ℕ → List ℕ → List ℕ
-request_body algorithm rows query = 1 ∷ algorithm_byte algorithm ∷ to_be_bytes w16 rows ++ (to_be_bytes w16 (length query) ++ query)
+request_body algorithm rows query =
+    1 ∷ algorithm_byte algorithm ∷ to_be_bytes w16 rows ++ (to_be_bytes w16 (length query) ++ query)
 
 -- the body of a frame spells a request, of which the number of rows may be out of range
 pub record Spells (body : List ℕ) (algorithm : Algorithm) (rows : ℕ) (query : List ℕ) : Type 0 where
@@ -39,4 +41,5 @@ pub record Asks (body : List ℕ) (question : Question) : Type 0 where
 abbrev pub IsRefused : List ℕ → ℕ → Type 0
 IsRefused body code =
     ((code ≡ 1) × ((algorithm : Algorithm) (rows : ℕ) (query : List ℕ) → Spells body algorithm rows query → ⊥))
-    ⊎ ((code ≡ 4) × ((algorithm : Algorithm) × (rows : ℕ) × (query : List ℕ) × Spells body algorithm rows query × ((rows ≡ 0) ⊎ (1000 < rows))))
+    ⊎ ((code ≡ 4) × ((algorithm : Algorithm) × (rows : ℕ) × (query : List ℕ)
+    × Spells body algorithm rows query × ((rows ≡ 0) ⊎ (1000 < rows))))

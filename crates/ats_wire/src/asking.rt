@@ -115,7 +115,8 @@ pub(crate) fn read_head<L: Link>(link: &mut L) -> Result<(u32, u8), AskFault>
     Ok((length, kind))
 }
 
-// So many bytes behind a reply's head. Memory grows as they come, so a peer that announces many and sends few costs little.
+// So many bytes behind a reply's head. Memory grows as they come,
+// so a peer that announces many and sends few costs little.
 pub(crate) fn read_rest<L: Link>(alloc: Global, link: &mut L, size: u32) -> Result<Bytes, AskFault>
     ensures ok { IfOk result (λ bytes. (length bytes ≡ size) × Moves (L.told link.old) (L.told link.new) bytes [] 0) }
     ensures err { IfErr result (λ fault. (came : List ℕ) × Moves (L.told link.old) (L.told link.new) came [] 1
@@ -144,7 +145,8 @@ pub(crate) fn read_rest<L: Link>(alloc: Global, link: &mut L, size: u32) -> Resu
 
 // A reply, up to its last byte.
 fn read_reply<L: Link>(alloc: Global, link: &mut L) -> Result<Bytes, AskFault>
-    ensures { (read : List ℕ) × Moves (L.told link.old) (L.told link.new) read [] 1 × Says (L.told link.old) (L.told link.new) read result }
+    ensures { (read : List ℕ) × Moves (L.told link.old) (L.told link.new) read [] 1
+        × Says (L.told link.old) (L.told link.new) read result }
 {
     let (length, kind) = match read_head(link) {
         Ok(head) => head,
@@ -189,7 +191,8 @@ pub fn ask_once<L: Link>(
     query: &str,
 ) -> Result<Bytes, AskFault>
     requires { length query.now ≤ 4000 }
-    ensures { IsAsked (record { algorithm = algorithm; top = top; query = query.now }) (L.told link.old) (L.told link.new) result }
+    ensures { IsAsked (record { algorithm = algorithm; top = top; query = query.now })
+        (L.told link.old) (L.told link.new) result }
 {
     match send_request(alloc, link, algorithm, top, query) {
         Ok(()) => read_reply(alloc, link),

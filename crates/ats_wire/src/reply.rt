@@ -22,7 +22,12 @@ pub trait Answerer {
 
     /// Want of memory is a code of its own.
     fn answer(&mut self, alloc: Global, request: &Request<'_>) -> Reply
-        ensures gives { gives self.old (record { algorithm = request.now.algorithm; top = request.now.top; query = request.now.query.now }) result }
+        ensures gives { gives self.old (record {
+          algorithm = request.now.algorithm;
+          top = request.now.top;
+          query = request.now.query.now;
+        }) result }
         ensures short { IsShort result }
-        ensures kept { (question : Question) (reply : Reply) → (gives self.new question reply ↔ gives self.old question reply) };
+        ensures kept { (question : Question) (reply : Reply)
+            → (gives self.new question reply ↔ gives self.old question reply) };
 }

@@ -15,8 +15,8 @@ const ROWS_OUT: u8 = 4;
 
 pub(crate) const VERSION: u8 = 1;
 
-/// What a client asks: the proof of how many of the best documents for a query, and by which algorithm. Whether the query has
-/// terms, and not too many, is not tried here.
+/// What a client asks: the proof of how many of the best documents for a query, and by which algorithm. Whether the
+/// query has terms, and not too many, is not tried here.
 #[derive(Clone, Copy, Debug)]
 pub struct Request<'a> {
     pub algorithm: Algorithm,
@@ -29,7 +29,8 @@ impl<'a> Request<'a> {
     pub fn read(frame: &'a [u8]) -> Result<Request<'a>, u8>
         requires least { 6 ≤ length frame.now }
         requires most { length frame.now ≤ 4096 }
-        ensures asks { IfOk result (λ request. Asks frame.now (record { algorithm = request.algorithm; top = request.top; query = request.query.now })) }
+        ensures asks { IfOk result (λ request.
+            Asks frame.now (record { algorithm = request.algorithm; top = request.top; query = request.query.now })) }
         ensures refused { IfErr result (λ code. IsRefused frame.now code) }
     {
         let Some((algorithm, rows, query)) = spelled(frame) else {
@@ -51,7 +52,8 @@ fn spelled(body: &[u8]) -> Option<(Algorithm, u16, &str)>
     requires least { 6 ≤ length body.now }
     requires most { length body.now ≤ 4096 }
     ensures some { IfSome result (λ found. Spells body.now found.0 found.1 found.2.now) }
-    ensures none { IfNone result ((algorithm : Algorithm) (rows : ℕ) (query : List ℕ) → Spells body.now algorithm rows query → ⊥) }
+    ensures none { IfNone result ((algorithm : Algorithm) (rows : ℕ) (query : List ℕ)
+        → Spells body.now algorithm rows query → ⊥) }
 {
     let algorithm = algorithm_of(body[1])?;
     let rows = BigEndian::read_u16(&body[2..]);

@@ -22,14 +22,15 @@ pub(crate) fn send<L: Link>(link: &mut L, bytes: &[u8]) -> Result<(), Failed>
     send_all(link, bytes)
 }
 
-// Puts the head of a frame with this kind and these bytes at the front of the room, and as many of the bytes behind it as there
-// is room for. Says how many these are.
+// Puts the head of a frame with this kind and these bytes at the front of the room, and as many of the bytes behind it
+// as there is room for. Says how many these are.
 fn pack(room: &mut [u8], kind: u8, bytes: &[u8]) -> usize
     requires room { length room.old ≡ 4096 }
     requires short { length bytes.now ≤ 2 ^ 26 }
     ensures few { result + 5 ≤ 4096 }
     ensures within { result ≤ length bytes.now }
-    ensures packed { take (result + 5) room.new ≡ to_be_bytes w32 (length bytes.now + 1) ++ kind ∷ take result bytes.now }
+    ensures packed { take (result + 5) room.new
+        ≡ to_be_bytes w32 (length bytes.now + 1) ++ kind ∷ take result bytes.now }
 {
     let front = bytes.len().min(MAX_FRAME - HEAD);
     let mut head = [0; HEAD];
@@ -40,8 +41,8 @@ fn pack(room: &mut [u8], kind: u8, bytes: &[u8]) -> usize
     front
 }
 
-// Sends a frame whose body is this kind and these bytes. The front of the bytes goes out with the head in one piece, so that a
-// short reply is one packet, and a long proof is not copied.
+// Sends a frame whose body is this kind and these bytes. The front of the bytes goes out with the head in one piece, so
+// that a short reply is one packet, and a long proof is not copied.
 fn send_frame<L: Link>(link: &mut L, room: &mut [u8], kind: u8, bytes: &[u8]) -> Result<(), Failed>
     requires room { length room.old ≡ 4096 }
     requires short { length bytes.now ≤ 2 ^ 26 }

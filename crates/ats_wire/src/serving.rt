@@ -46,8 +46,11 @@ pub struct Served {
 // Reads a frame's body to the front of the room, and says how long it is.
 fn read_frame<L: Link>(link: &mut L, room: &mut [u8]) -> Result<usize, ConnectionEnd>
     requires { length room.old ≡ 4096 }
-    ensures frame { IfOk result (λ n. IsFrameLength n × Moves (L.told link.old) (L.told link.new) (framed (take n room.new)) [] 0) }
-    ensures end { IfErr result (λ end. (tail : List ℕ) × Moves (L.told link.old) (L.told link.new) tail [] 1 × EndsReading (L.told link.old) (L.told link.new) tail end) }
+    ensures frame { IfOk result (λ n. IsFrameLength n
+        × Moves (L.told link.old) (L.told link.new) (framed (take n room.new)) [] 0) }
+    ensures end { IfErr result (λ end. (tail : List ℕ)
+        × Moves (L.told link.old) (L.told link.new) tail [] 1
+        × EndsReading (L.told link.old) (L.told link.new) tail end) }
 {
     let mut head = [0; 4];
     match fill(link, &mut head) {
@@ -74,7 +77,8 @@ fn reply_to<A: Answerer>(alloc: Global, answerer: &mut A, body: &[u8]) -> Reply
     requires { IsFrameLength (length body.now) }
     ensures answers { Answers (A.gives answerer.old) body.now result }
     ensures short { IsShort result }
-    ensures kept { (question : Question) (reply : Reply) → (A.gives answerer.new question reply ↔ A.gives answerer.old question reply) }
+    ensures kept { (question : Question) (reply : Reply)
+        → (A.gives answerer.new question reply ↔ A.gives answerer.old question reply) }
 {
     match Request::read(body) {
         Ok(request) => answerer.answer(alloc, &request),
@@ -92,9 +96,12 @@ fn answer_frame<L: Link, A: Answerer>(
 ) -> Result<(), Failed>
     requires room { length room.old ≡ 4096 }
     requires frame { IsFrameLength size }
-    ensures all { OnOk result (IsReplied (A.gives answerer.old) (L.told link.old) (L.told link.new) (take size room.old)) }
-    ensures part { OnErr result (IsCutReply (A.gives answerer.old) (L.told link.old) (L.told link.new) (take size room.old)) }
-    ensures kept { (question : Question) (reply : Reply) → (A.gives answerer.new question reply ↔ A.gives answerer.old question reply) }
+    ensures all { OnOk result
+        (IsReplied (A.gives answerer.old) (L.told link.old) (L.told link.new) (take size room.old)) }
+    ensures part { OnErr result
+        (IsCutReply (A.gives answerer.old) (L.told link.old) (L.told link.new) (take size room.old)) }
+    ensures kept { (question : Question) (reply : Reply)
+        → (A.gives answerer.new question reply ↔ A.gives answerer.old question reply) }
 {
     let reply = reply_to(alloc, answerer, &room[..size]);
     send_reply(link, room, &reply)
@@ -108,7 +115,8 @@ pub fn serve_connection<L: Link, A: Answerer>(
     room: &mut FrameRoom,
 ) -> Served
     ensures served { IsServed (A.gives answerer.old) (L.told link.old) (L.told link.new) result }
-    ensures kept { (question : Question) (reply : Reply) → (A.gives answerer.new question reply ↔ A.gives answerer.old question reply) }
+    ensures kept { (question : Question) (reply : Reply)
+        → (A.gives answerer.new question reply ↔ A.gives answerer.old question reply) }
 {
     let mut requests: u32 = 0;
     'turns: while requests < MAX_REQUESTS {
