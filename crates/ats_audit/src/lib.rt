@@ -8,6 +8,18 @@
 //! The contracts promise that a verdict is exactly what its definition says (`specs/Verdicts.antt`), that rows are called right
 //! only where they are, and that an accepted wrong answer is answered by two different strings with one digest.
 //! How the parts are put together may change without asking anyone.
+//!
+//! ```
+//! use ats_impact::Top;
+//! use ats_terms::Query;
+//!
+//! // index: that of the archive; bytes: a proof that came with an answer
+//! let query = Query::read(alloc, "red hen")?;
+//! let verdict = audit(alloc, &index, &query, Top::new(1)?, bytes)?;
+//! let is_right = matches!(verdict, Verdict::Right(_)); // true of every honest proof
+//! // jobs: a slice of `Job`, one for each of many proofs
+//! let verdicts = sweep(rt, alloc, &index, jobs)?;
+//! ```
 #![tactic(auto)]
 
 mod auditing;

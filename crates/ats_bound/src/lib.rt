@@ -11,6 +11,18 @@
 //! settled there, that a settled answer is a top answer wherever the brackets hold the scores, and that a
 //! [`Work`] begins with marks that say nothing. How places are looked up, brackets sorted, what is known
 //! kept and open answers found may change unasked.
+//!
+//! ```
+//! use ats_impact::Top;
+//!
+//! let top = Top::new(1)?;
+//! let brackets = [
+//!     Bracket { doc: 0, lo: 12756, hi: 20394 },
+//!     Bracket { doc: 1, lo: 7638, hi: 7638 },
+//! ];
+//! let picks = choose(alloc, &brackets, top)?; // [0], the place of document 0
+//! let done = settled(&brackets, picks.as_slice(), 7638, top); // true
+//! ```
 #![tactic(auto)]
 
 mod best;

@@ -12,6 +12,17 @@
 //! answer for each archive with the root, or two different strings with equal digests are in hand
 //! (`specs/Headline.antt`). In which passes leaves and entries are read, and what the marks note beside the
 //! bounds, may change without asking.
+//!
+//! ```
+//! use ats_hash::Sha;
+//! use ats_impact::Top;
+//! use ats_terms::Query;
+//!
+//! // root: that of "red fox", "red red hen" and "blue hen"; bytes: a proof for the query
+//! let query = Query::read(alloc, "red hen")?;
+//! let rows = verify::<Sha>(alloc, bytes, &root, &query, Top::new(1)?)?;
+//! let best = rows.as_slice(); // [Row { doc: 1, lower: 13014, upper: 13014 }]
+//! ```
 #![tactic(auto)]
 
 mod answer;

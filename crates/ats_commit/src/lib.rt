@@ -10,6 +10,17 @@
 //! contract of whoever has an archive and tells the strings of its trees, and whether what a proof shows of a tree
 //! ([`ShownTree`]) is its own. The laws say what the
 //! definitions mean. How leaves are lent may change without asking; the bytes may not.
+//!
+//! ```
+//! use ats_hash::{Sha, Steps};
+//! use ats_tree::root;
+//!
+//! // collection: the texts "red fox", "red red hen" and "blue hen"
+//! let texts = TextLeaves::new(&collection, 0, collection.documents());
+//! let texts_root = root::<Sha, _>(&texts, &mut Steps::new(alloc)); // 3b4702de..
+//! // header: an `ats_dict::Header` with this root and those of the other trees
+//! let published = root_of_header::<Sha>(&header, &mut Steps::new(alloc)); // 29797811..
+//! ```
 #![tactic(auto)]
 
 pub use commitment::{root_of_header, string_of_header};

@@ -7,6 +7,17 @@
 //! leaves and the header byte by byte, that a term is found exactly where it stands or else strictly between
 //! two neighbours, and that headers are read back exactly where they are in range.
 //! How terms lie in memory may change without asking; the bytes may not.
+//!
+//! ```
+//! // blue, hen: the roots of the lists of these terms
+//! let mut dictionary = Dictionary::new(alloc);
+//! dictionary.push(b"blue", 1, &blue)?;
+//! dictionary.push(b"hen", 2, &hen)?;
+//! let here = dictionary.find(b"hen"); // Spot::At(2)
+//! let gap = dictionary.find(b"fox"); // Spot::Between(1)
+//! // header: a `Header` in range
+//! let same = Header::read(&header.bytes()); // Some(header)
+//! ```
 #![tactic(auto)]
 
 pub use ats_terms::Spot;

@@ -8,6 +8,16 @@
 //! The crate stands on no other. It promises that bytes are read exactly where they are the join of a whole
 //! front, and that the fault is else the one behind the longest front.
 //! How the reader keeps its place may change without asking; the grammar and the faults may not.
+//!
+//! ```
+//! // bytes: a proof of 365 bytes; front, back: the pieces in which it came
+//! scan(bytes)?;
+//! let mut feeder = Feeder::new(365)?;
+//! feeder.feed(front)?;
+//! feeder.feed(back)?;
+//! feeder.finish()?;
+//! let fault = scan(b"ATSP\x01").err(); // Some(ShapeFault { at: 5, kind: ShapeKind::Cut })
+//! ```
 #![tactic(auto)]
 
 pub use fault::{ShapeFault, ShapeKind};

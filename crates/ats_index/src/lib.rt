@@ -9,6 +9,16 @@
 //! where they are the spelling of some archive, or else refused at one place: that of the first bad field up to
 //! the last text, or of the first difference from the index of the texts; and that the string at each place of
 //! its trees is the archive's own. How the parts are made and kept may change without asking; the bytes may not.
+//!
+//! ```
+//! use ats_hash::Sha;
+//!
+//! // collection: the texts "red fox", "red red hen" and "blue hen"
+//! let index = Index::<Sha>::build(rt, alloc, collection)?;
+//! let root = index.root(); // 29797811..
+//! let bytes = index.bytes()?; // 152 bytes
+//! let loaded = Index::<Sha>::load(rt, alloc, bytes.as_slice())?; // the same index
+//! ```
 #![tactic(auto)]
 
 mod build;

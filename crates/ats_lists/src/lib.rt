@@ -6,6 +6,15 @@
 //! leaves a list lends. The contracts promise that [`Lists::of`] answers exactly the lists that the plain
 //! counts over the texts give, in byte order of the terms, that a term is found exactly where it has a
 //! list, and the bytes of each leaf. How postings are gathered, sorted and kept may change without asking.
+//!
+//! ```
+//! // collection: the texts "red fox", "red red hen" and "blue hen"
+//! let lists = Lists::of(alloc, &collection)?;
+//! if let Some(place) = lists.find(b"hen") {
+//!     let entries = lists.list(place); // documents 2 and 1, with the impacts 1063 and 896
+//!     let leaves = ListLeaves { entries }; // the list, as the leaves of its tree
+//! }
+//! ```
 #![tactic(auto)]
 
 mod building;

@@ -10,6 +10,16 @@
 //! view says that proof, and that every slice that the views and cursors lend is the named part of the
 //! bytes; each of their counted calls is one step. A writer holds exactly its records' bytes.
 //! What a view or a writer keeps may change without asking; what it says, and the bytes, may not.
+//!
+//! ```
+//! // bytes: a proof of the best document for "red hen" in "red fox", "red red hen", "blue hen"
+//! let proof = ProofView::read(bytes)?;
+//! let met = proof.met(); // 3 documents
+//! let rows = proof.answers(); // 1
+//! let mut writer = ProofWriter::new(alloc, 1 << 26);
+//! writer.front(proof.algorithm(), &proof.header(), 2)?; // of a proof for two terms
+//! let written = writer.finish(); // Ok, with 113 bytes
+//! ```
 #![tactic(auto)]
 
 pub use ats_grammar::{Feeder, ShapeFault, ShapeKind};

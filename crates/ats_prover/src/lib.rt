@@ -12,6 +12,17 @@
 //! memory it is refused exactly where it is longer than the limit. By lists alone it never has more than 2^26
 //! bytes, and that the check accepts it then is the law of `ats_accepts`.
 //! The order in which the parts are made may change without asking; the bytes may not.
+//!
+//! ```
+//! use ats_impact::Top;
+//! use ats_terms::Query;
+//!
+//! // index: that of "red fox", "red red hen" and "blue hen"
+//! let query = Query::read(alloc, "red hen")?;
+//! let top = Top::new(1)?;
+//! let by_lists = prove(alloc, &index, &query, top, Algorithm::Tnra)?; // 365 bytes
+//! let looked_up = prove(alloc, &index, &query, top, Algorithm::Tra)?; // 751 bytes
+//! ```
 #![tactic(auto)]
 
 mod access;

@@ -4,6 +4,19 @@
 //! after turn until the chosen answer is settled. The contract of [`walk`] promises the first cut of the
 //! schedule at which any answer is settled, with the brackets of the documents met there, the chosen answer
 //! among them, and the threshold.
+//!
+//! ```
+//! use ats_bound::Lane;
+//! use ats_impact::Top;
+//!
+//! // fox, red: these terms' lists over "red fox", "red red hen" and "blue hen"
+//! let lanes = [
+//!     Lane { coefficient: 12, entries: fox },
+//!     Lane { coefficient: 6, entries: red },
+//! ];
+//! let end = walk(alloc, &lanes, Top::new(1)?)?; // at the cut [1, 1], with the threshold 7638
+//! let bounds = end.brackets.as_slice(); // 12756 to 20394 of document 0, 7638 of document 1
+//! ```
 #![tactic(auto)]
 
 mod walking;

@@ -6,6 +6,20 @@
 //! [`walk`] promises the first cut of the schedule at which any answer is settled by exact scores, with the
 //! brackets of the documents met there, each its document's score twice, the chosen answer among them, and
 //! the threshold. How scores are summed may change without asking.
+//!
+//! ```
+//! use ats_bound::Lane;
+//! use ats_impact::Top;
+//!
+//! // fox, red: these terms' lists over "red fox", "red red hen" and "blue hen"
+//! // impacts: those of all documents in both lists, by a type that is `RandomAccess`
+//! let lanes = [
+//!     Lane { coefficient: 12, entries: fox },
+//!     Lane { coefficient: 6, entries: red },
+//! ];
+//! let end = walk(alloc, &lanes, Top::new(1)?, &impacts)?; // at the cut [1, 1]
+//! let scores = end.brackets.as_slice(); // 19134 of document 0, 7638 of document 1
+//! ```
 #![tactic(auto)]
 
 mod access;

@@ -9,6 +9,18 @@
 //! contract promises what was read and written where the link tells it, and why each end and each fault comes. Which
 //! proof is right is not known here. In what pieces bytes are read and written may be changed without asking anyone
 //! upstairs; the bytes of the frames may not.
+//!
+//! ```
+//! use ats_impact::Top;
+//! use ats_proof::Algorithm;
+//!
+//! // link: to a server
+//! let bytes = ask_once(alloc, &mut link, Algorithm::Tnra, Top::new(1)?, "red hen")?;
+//! // link: to a client; answerer: whoever makes the proofs, by a type that is `Answerer`
+//! let mut room = FrameRoom::new(alloc)?;
+//! let served = serve_connection(alloc, &mut link, &mut answerer, &mut room);
+//! let requests = served.requests; // 1, of a client that asks once
+//! ```
 #![tactic(auto)]
 
 mod asking;
