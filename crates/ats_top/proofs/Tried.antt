@@ -1,5 +1,5 @@
 -- What the proofs of a trial come to.
-use Rattle.std.proofs.Common.{◌≡◌, ◌+◌, ◌*◌, ◌<◌, ◌≤◌, ◌^◌, ℕ, ◌⊎◌, true, Option, None, List, [], ◌∷◌, ◌++◌, length, drop, get_or, slice_get, sum_by, Some, refl, sym, ap, ap₂, subst, ◌∙◌, arith, inl, inr, zero-add, Result, Ok, Err, IfErr, codes, decimal}
+use Rattle.std.proofs.Common.{◌≡◌, ◌+◌, ◌*◌, ◌<◌, ◌≤◌, ◌^◌, ℕ, ◌⊎◌, true, Option, None, List, [], ◌∷◌, ◌++◌, length, drop, get_or, slice_get, sum_by, Some, refl, sym, ap, ap₂, subst, ◌∙◌, arith, inl, inr, zero-add, Result, Ok, Err, IfErr, codes, decimal, String, Global, string_bytes}
 use Rattle.std.specs.Prelude.{IfOk}
 use Rattle.std.proofs.lemmas.Bool.{cases_Bool, cases_lt, cond-false, cond-true}
 use Rattle.std.proofs.lemmas.List.{length-append, get_or_append_left, get_or_read}
@@ -38,7 +38,7 @@ use Rattle.ats_prover.specs.declared.fault.ProveFault.{ProveFault}
 use Rattle.ats_prover.specs.declared.fault.ProveFault.TheVariants as proof
 use Rattle.ats_top.specs.Stops.{stop_of_query, stop_of_collection, stop_of_proof}
 use Rattle.ats_top.specs.Print.{line_of_root}
-use Rattle.ats_top.specs.Trial.{line_of_proofs, lines_of_trial, shown_entries, trial_archive, tally_of, counted, turn, IsTried, AreTried, AreQueries, AreTrialQueries, AreTrialProofs, IsTrial, IsSmall, is_right, IsTryStop, IsTriesStop, IsTrialStop}
+use Rattle.ats_top.specs.Trial.{line_of_proofs, lines_of_trial, shown_entries, trial_archive, tally_of, counted, turn, IsTried, AreTried, AreTriedLines, AreQueries, AreTrialQueries, AreTrialProofs, IsTrial, IsSmall, is_right, IsTryStop, IsTriesStop, IsTrialStop}
 use Rattle.ats_top.specs.declared.stops.InputRefusal.TheVariants.{ROut, QueryTooLong, NoTerm, TooManyWords, TooManyTerms, FileTooLong, NotJson, NotArray, BadItem, NoDocuments, TooManyDocuments, TextTooLong, AllTooLong, BadIndex, ProofTooLong}
 use Rattle.ats_top.specs.declared.stops.Stop.{Stop}
 use Rattle.ats_top.specs.declared.stops.Stop.TheVariants.{Input, Memory}
@@ -313,6 +313,23 @@ module _ (H : List ℕ → List ℕ) (number : ℕ) (queries : List (List (List 
     tnra_are = trial_proofs Tnra tnra by_tnra;
     printed = printed;
   }
+
+  -- lines that tell of the tried proofs are the trial's
+  pub tried_ok : (index : Archive) → index ≡ trial_archive number → (asked : List (List (List ℕ × ℕ))) → asked ≡ queries → (result : Result (String Global) Stop)
+      → IfOk result (λ text. AreTriedLines H index asked (string_bytes text)) → IfOk result (λ text. IsTrial H number (string_bytes text))
+  tried_ok index own asked same (Ok text) is =
+      let here : AreTriedLines H (trial_archive number) queries (string_bytes text) = subst (λ (a : Archive). AreTriedLines H a queries (string_bytes text)) own
+      (subst (λ (qs : List (List (List ℕ × ℕ))). AreTriedLines H index qs (string_bytes text)) same is) in
+      is_trial (string_bytes text) here.tra here.tnra here.by_tra here.by_tnra here.printed
+  tried_ok index own asked same (Err stop) none = tt
+
+  -- where there are none, it is for a proof of the trial, or memory was wanted
+  pub tried_stop : (index : Archive) → index ≡ trial_archive number → (asked : List (List (List ℕ × ℕ))) → asked ≡ queries → (result : Result (String Global) Stop)
+      → IfErr result (λ stop. (stop ≡ Memory) ⊎ IsTriesStop H index asked stop) → IfErr result (IsTrialStop H number)
+  tried_stop index own asked same (Ok text) none = tt
+  tried_stop index own asked same (Err stop) (inl wanted) = subst (IsTrialStop H number) (sym wanted) tt
+  tried_stop index own asked same (Err stop) (inr stops) =
+      trial_stops stop (subst (λ (a : Archive). IsTriesStop H a queries stop) own (subst (λ (qs : List (List (List ℕ × ℕ))). IsTriesStop H index qs stop) same stops))
 
 -- ---- the lines
 

@@ -144,6 +144,14 @@ pub record IsTriesStop (H : List ℕ → List ℕ) (archive : Archive) (queries 
   pub stopped : (d : List (List ℕ × ℕ)) → IsTryStop H archive (slice_index_or queries i d) algorithm stop
   pub before : (k : ℕ) (a : Algorithm) → turn k a < turn i algorithm → (d : List (List ℕ × ℕ)) → (proof : Proof) × IsTried H archive (slice_index_or queries k d) a proof
 
+-- the lines tell of the proofs of the queries by each algorithm
+pub record AreTriedLines (H : List ℕ → List ℕ) (archive : Archive) (queries : List (List (List ℕ × ℕ))) (text : List ℕ) : Type 0 where
+  pub tra : List Proof
+  pub tnra : List Proof
+  pub by_tra : AreTried H archive queries Tra tra
+  pub by_tnra : AreTried H archive queries Tnra tnra
+  pub printed : text ≡ lines_of_trial (root_of H archive) tra tnra
+
 -- the first honest proof that is longer than a proof may be, with its length, where all texts are queries
 pub record IsTrialTooLong (H : List ℕ → List ℕ) (number bytes : ℕ) : Type 0 where
   pub i : ℕ

@@ -1,6 +1,6 @@
 //! The trial of a number: the honest proofs of its queries over its texts, by both algorithms.
 
-ghost use Rattle.std.specs.Prelude.{◌≡◌, ◌<◌, ◌≤◌, ◌+◌, ◌^◌, ℕ, List, IfOk, IfErr, OnOk, length, string_bytes};
+ghost use Rattle.std.specs.Prelude.{◌≡◌, ◌⊎◌, ◌<◌, ◌≤◌, ◌+◌, ◌^◌, ℕ, List, IfOk, IfErr, OnOk, length, string_bytes};
 ghost use Rattle.ats_commit.specs.Archive.{archive_of};
 ghost use Rattle.ats_impact.specs.Trial.{trial_texts};
 ghost use Rattle.ats_proof.specs.Value.{Proof};
@@ -8,7 +8,7 @@ ghost use Rattle.ats_proof.specs.Views.{proof_of};
 ghost use Rattle.ats_proof.specs.declared.record.Algorithm.TheVariants.{Tra, Tnra};
 ghost use Rattle.ats_audit.specs.Verdicts.{IsVerdict};
 ghost use Rattle.ats_audit.specs.declared.auditing.Verdict.{Verdict};
-ghost use Rattle.ats_top.specs.Trial.{shown_entries, is_right, tally_of, counted, IsSmall, IsTried, IsTryStop, IsTriesStop, AreTried, AreTrialQueries, IsTrial, IsTrialStop, line_of_proofs, lines_of_trial};
+ghost use Rattle.ats_top.specs.Trial.{shown_entries, is_right, tally_of, counted, IsSmall, IsTried, IsTryStop, IsTriesStop, AreTried, AreTriedLines, AreTrialQueries, IsTrial, IsTrialStop, line_of_proofs, lines_of_trial};
 ghost use Rattle.ats_top.specs.declared.stops.Stop.TheVariants.{Memory};
 
 use crate::print::root_line;
@@ -187,6 +187,22 @@ fn text(alloc: Global, root: &[u8; 32], tra: &Tally, tnra: &Tally) -> Result<Str
     )
 }
 
+// The lines of a trial of these queries against the index of its texts.
+fn tried<H: Hash32>(
+    alloc: Global,
+    index: &Index<H>,
+    queries: &[Query],
+    top: Top,
+) -> Result<String, Stop>
+    requires ten { top ≡ 10 }
+    requires few { length queries.now ≤ 20 }
+    ensures ok { IfOk result (λ text. AreTriedLines H.hash index.now queries.now (string_bytes text)) }
+    ensures stop { IfErr result (λ stop. (stop ≡ Memory) ⊎ IsTriesStop H.hash index.now queries.now stop) }
+{
+    let (tra, tnra) = tallies(alloc, index, queries, top)?;
+    Ok(text(alloc, &index.root(), &tra, &tnra)?)
+}
+
 // How many rows an answer may have.
 const ROWS: u32 = 10;
 
@@ -203,6 +219,5 @@ pub(crate) fn trial<H: Hash32 + Sync, R: Threads + Sync>(
     let top = Top::new(ROWS)?;
     let queries = queries(alloc, number)?;
     let index = index::<H, R>(rt, alloc, number)?;
-    let (tra, tnra) = tallies(alloc, &index, queries.as_slice(), top)?;
-    Ok(text(alloc, &index.root(), &tra, &tnra)?)
+    tried(alloc, &index, queries.as_slice(), top)
 }
