@@ -5,7 +5,7 @@
 //! spellings and the first fault follow from that alone, in `specs/Front.antt`. The reader keeps a few
 //! numbers that determine all that may still come; it makes one pass, and takes no memory. [`Feeder`] is that
 //! reader over pieces, which may end inside a field; [`scan`] feeds it bytes that are at hand.
-//! The crate stands on no other. It promises that bytes are read exactly where they are the join of a whole
+//! The crate stands on no other room. It promises that bytes are read exactly where they are the join of a whole
 //! front, and that the fault is else the one behind the longest front.
 //! How the reader keeps its place may change without asking; the grammar and the faults may not.
 //!

@@ -7,16 +7,17 @@ ghost use Rattle.ats_grammar.specs.Reading.{IsTaken, IsRefused};
 
 use crate::fault::ShapeKind;
 use crate::next::Next;
+use byteorder::{BigEndian, ByteOrder};
 
 // The number that these bytes are, high byte first.
 fn number_of(bytes: &[u8]) -> u32
     requires { (length bytes.now ≡ 1) ⊎ (length bytes.now ≡ 2) ⊎ (length bytes.now ≡ 4) }
     ensures { result ≡ number bytes.now }
 {
-    match bytes {
-        [a] => u32::from(*a),
-        [a, b] => u32::from(u16::from_be_bytes([*a, *b])),
-        [a, b, c, d] => u32::from_be_bytes([*a, *b, *c, *d]),
+    match bytes.len() {
+        1 => u32::from(bytes[0]),
+        2 => u32::from(BigEndian::read_u16(bytes)),
+        4 => BigEndian::read_u32(bytes),
         _ => unreachable!(),
     }
 }
