@@ -3,6 +3,7 @@
 ghost use Rattle.std.specs.Prelude.{◌≡◌, [], ◌∷◌};
 ghost use Rattle.ats_bound.specs.Cut.{bracket, held, lane_of, threshold};
 ghost use Rattle.ats_bound.specs.Ranked.{whole_score};
+ghost use Rattle.ats_server_tests.specs.Sample.{fox, hen, red};
 
 use ats_bound::{
     Bracket, Brackets, Cut, Lane, Mark, OutOfMemory, Picks, Walk, Work, choose, settled,
@@ -97,25 +98,18 @@ fn lists_keep_what_is_pushed(rt: HostRuntime) -> Result<(), Fail> {
 // What the definitions say of cuts of the lists of "hen" and "red", whose coefficients are 6, and of
 // "fox", whose coefficient is 12.
 fn sample_bounds()
-    ensures first_threshold { threshold (lane_of 6 (record { doc = 2; impact = 1063 } ∷ record { doc = 1; impact = 896 } ∷ []) 1
-        ∷ lane_of 6 (record { doc = 1; impact = 1273 } ∷ record { doc = 0; impact = 1063 } ∷ []) 1 ∷ []) ≡ 14016 }
-    ensures second_threshold { threshold (lane_of 6 (record { doc = 2; impact = 1063 } ∷ record { doc = 1; impact = 896 } ∷ []) 1
-        ∷ lane_of 6 (record { doc = 1; impact = 1273 } ∷ record { doc = 0; impact = 1063 } ∷ []) 2 ∷ []) ≡ 6378 }
-    ensures second_bracket { bracket (lane_of 6 (record { doc = 2; impact = 1063 } ∷ record { doc = 1; impact = 896 } ∷ []) 1
-        ∷ lane_of 6 (record { doc = 1; impact = 1273 } ∷ record { doc = 0; impact = 1063 } ∷ []) 2 ∷ []) 0
+    ensures first_threshold { threshold (lane_of 6 hen 1 ∷ lane_of 6 red 1 ∷ []) ≡ 14016 }
+    ensures second_threshold { threshold (lane_of 6 hen 1 ∷ lane_of 6 red 2 ∷ []) ≡ 6378 }
+    ensures second_bracket { bracket (lane_of 6 hen 1 ∷ lane_of 6 red 2 ∷ []) 0
         ≡ record { doc = 0; lo = 6378; hi = 12756 } }
-    ensures whole_bracket { bracket (lane_of 6 (record { doc = 2; impact = 1063 } ∷ record { doc = 1; impact = 896 } ∷ []) 2
-        ∷ lane_of 6 (record { doc = 1; impact = 1273 } ∷ record { doc = 0; impact = 1063 } ∷ []) 2 ∷ []) 1
+    ensures whole_bracket { bracket (lane_of 6 hen 2 ∷ lane_of 6 red 2 ∷ []) 1
         ≡ record { doc = 1; lo = 13014; hi = 13014 } }
-    ensures fox_threshold { threshold (lane_of 12 (record { doc = 0; impact = 1063 } ∷ []) 1
-        ∷ lane_of 6 (record { doc = 1; impact = 1273 } ∷ record { doc = 0; impact = 1063 } ∷ []) 1 ∷ []) ≡ 7638 }
-    ensures fox_bracket { bracket (lane_of 12 (record { doc = 0; impact = 1063 } ∷ []) 1
-        ∷ lane_of 6 (record { doc = 1; impact = 1273 } ∷ record { doc = 0; impact = 1063 } ∷ []) 1 ∷ []) 0
+    ensures fox_threshold { threshold (lane_of 12 fox 1 ∷ lane_of 6 red 1 ∷ []) ≡ 7638 }
+    ensures fox_bracket { bracket (lane_of 12 fox 1 ∷ lane_of 6 red 1 ∷ []) 0
         ≡ record { doc = 0; lo = 12756; hi = 20394 } }
-    ensures first_held { held (lane_of 6 (record { doc = 2; impact = 1063 } ∷ record { doc = 1; impact = 896 } ∷ []) 1
-        ∷ lane_of 6 (record { doc = 1; impact = 1273 } ∷ record { doc = 0; impact = 1063 } ∷ []) 1 ∷ []) 1 ≡ 7638 }
-    ensures whole_score { whole_score (record { coefficient = 6; entries = record { doc = 2; impact = 1063 } ∷ record { doc = 1; impact = 896 } ∷ []; shown = 1 }
-        ∷ record { coefficient = 6; entries = record { doc = 1; impact = 1273 } ∷ record { doc = 0; impact = 1063 } ∷ []; shown = 1 } ∷ []) 1 ≡ 13014 }
+    ensures first_held { held (lane_of 6 hen 1 ∷ lane_of 6 red 1 ∷ []) 1 ≡ 7638 }
+    ensures whole_score { whole_score (record { coefficient = 6; entries = hen; shown = 1 }
+        ∷ record { coefficient = 6; entries = red; shown = 1 } ∷ []) 1 ≡ 13014 }
 {}
 
 #[test]
