@@ -2,9 +2,9 @@
 //!
 //! `nodes COUNT` hashes so many inner nodes of a tree, each of 65 bytes with its tag, and prints how many digests
 //! were counted; `read ENTRIES TIMES` writes a proof that shows so many entries of lists, reads it so many times, and
-//! prints how many items were read in all; `feed ENTRIES PIECE TIMES` feeds that proof so many times in pieces of so many
-//! bytes, and prints how many bytes were fed; `digest ENTRIES TIMES` hashes the bytes of that proof so many times, and
-//! prints how many digests were counted; `walk ALGORITHM ROWS TEXTS QUERIES` walks for each query of a file over
+//! prints how many items were read in all; `feed ENTRIES PIECE TIMES` feeds that proof so many times in pieces of so
+//! many bytes, and prints how many bytes were fed; `digest ENTRIES TIMES` hashes the bytes of that proof so many times,
+//! and prints how many digests were counted; `walk ALGORITHM ROWS TEXTS QUERIES` walks for each query of a file over
 //! the texts of another, both a line each, and prints for each the rows, the entries that are shown, the documents
 //! among them, and the microseconds of the walk and of one pass over these entries; `check ROWS QUERY PROOF TIMES`
 //! checks the proof of a file so many times, and prints how many steps were counted; `strings SIZES TIMES` hashes a
