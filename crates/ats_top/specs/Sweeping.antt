@@ -7,9 +7,11 @@ use Rattle.ats_grammar.specs.declared.fault.ShapeKind.TheVariants as kind
 use Rattle.ats_audit.specs.declared.auditing.Verdict.{Verdict}
 use Rattle.ats_audit.specs.declared.auditing.Verdict.TheVariants as verdict
 use Rattle.ats_audit.specs.declared.sweeping.Job.{Job}
+use Rattle.ats_commit.specs.Archive.{Archive}
 use Rattle.ats_commit.specs.Places.{tree_place}
-use Rattle.ats_top.specs.Read.{Files}
-use Rattle.ats_top.specs.Reading.{ReadsInOrder, proof_files}
+use Rattle.ats_top.specs.Words.{SweepWords}
+use Rattle.ats_top.specs.Read.{Files, HasIndex, IsFile}
+use Rattle.ats_top.specs.Reading.{Reads, ReadsInOrder, proof_files}
 use Rattle.ats_top.specs.ReadStops.{IsUnread}
 use Rattle.ats_top.specs.Listed.{IsSpelled, IsBadLine}
 use Rattle.ats_top.specs.Gathered.{LacksProof, PassesLimit, content}
@@ -84,3 +86,13 @@ pub record IsReport (proofs : List Gathered) (verdicts : List Verdict) (report :
   pub lines : string_bytes report.lines ≡ lines_of_findings (findings_of proofs verdicts)
   pub refused : report.refused ≡ list_any is_refused (findings_of proofs verdicts)
   pub collides : report.collides ≡ list_any is_collision (findings_of proofs verdicts)
+
+-- the index and the list that the words name were read, in this order
+pub record AreRead (H : List ℕ → List ℕ) (before now : ShelfTold) (words : SweepWords) (archive : Archive) (list : List ℕ) : Type 0 where
+  pub first : ShelfTold
+  pub index : HasIndex H before.files words.index archive
+  pub file : IsFile before.files words.list (2 ^ 20) list
+  pub same : first.files ≡ before.files
+  pub files : now.files ≡ before.files
+  pub index_read : Reads before first words.index (2 ^ 29)
+  pub list_read : Reads first now words.list (2 ^ 20)

@@ -1,11 +1,12 @@
 //! The audits of the proofs of a list against an index, and their lines.
 
 ghost use Rattle.std.specs.Prelude.{◌≡◌, ◌++◌, ◌||◌, true, false, IfOk, IfErr, OnOk, length, string_bytes};
-ghost use Rattle.ats_top.specs.Words.{Sweep};
+ghost use Rattle.ats_base.specs.Outside.{ShelfTold};
+ghost use Rattle.ats_top.specs.Words.{Sweep, SweepWords};
 ghost use Rattle.ats_top.specs.Reading.{Serves};
 ghost use Rattle.ats_top.specs.Run.{FilesStop};
 ghost use Rattle.ats_top.specs.Findings.{FoundRefused, IsSwept, is_refused, is_collision, line_of_finding};
-ghost use Rattle.ats_top.specs.Sweeping.{AreJobs, IsReport, finding_of, found_by};
+ghost use Rattle.ats_top.specs.Sweeping.{AreJobs, AreRead, IsReport, finding_of, found_by};
 ghost use Rattle.ats_top.specs.declared.stops.Stop.TheVariants.{Swept};
 
 use crate::gathering::{Gathered, gather_all};
@@ -17,6 +18,7 @@ use ats_audit::{Job, Verdict};
 use ats_base::Shelf;
 use ats_client::Rejection;
 use ats_hash::Hash32;
+use ats_index::Index;
 use std::alloc::{AllocError, Global};
 use std::thread::Threads;
 
@@ -162,6 +164,32 @@ fn conclusion(report: Report) -> Result<String, Stop>
     Ok(report.lines)
 }
 
+// The lines of a sweep of a list against an index, both of which were read.
+fn swept<H: Hash32 + Sync, R: Threads + Sync, S: Shelf>(
+    rt: &R,
+    alloc: Global,
+    index: &Index<H>,
+    list: &[u8],
+    shelf: &mut S,
+) -> Result<String, Stop>
+    ensures ok { (before : ShelfTold) (words : SweepWords)
+        → AreRead H.hash before (S.told shelf.old) words index.now list.now
+        → IfOk result (λ text. IsSwept H.hash before.files words 0 (string_bytes text)) }
+    ensures stop { (before : ShelfTold) (words : SweepWords)
+        → AreRead H.hash before (S.told shelf.old) words index.now list.now
+        → IfErr result (FilesStop H.hash before (S.told shelf.new) (Sweep words)) }
+    ensures same { (S.told shelf.new).files ≡ (S.told shelf.old).files }
+    ensures serves { (before : ShelfTold) (words : SweepWords)
+        → AreRead H.hash before (S.told shelf.old) words index.now list.now
+        → Serves before (S.told shelf.new) (Sweep words) }
+{
+    let entries = read_entries(alloc, list)?;
+    let proofs = gather_all(alloc, entries.as_slice(), shelf)?;
+    let jobs = jobs(alloc, entries, proofs.as_slice())?;
+    let verdicts = ats_audit::sweep::<H, R>(rt, alloc, index, jobs.as_slice())?;
+    conclusion(report_of(alloc, proofs.as_slice(), verdicts.as_slice())?)
+}
+
 /// The lines of `sweep`. The index is read before the list, all lines are tried before a proof is gathered, and all proofs are
 /// gathered before one is audited.
 pub(crate) fn sweep<H: Hash32 + Sync, R: Threads + Sync, S: Shelf>(
@@ -178,9 +206,5 @@ pub(crate) fn sweep<H: Hash32 + Sync, R: Threads + Sync, S: Shelf>(
 {
     let loaded = read::index::<H, R, S>(rt, alloc, index, shelf)?;
     let bytes = read::list(alloc, list, shelf)?;
-    let entries = read_entries(alloc, bytes.as_slice())?;
-    let proofs = gather_all(alloc, entries.as_slice(), shelf)?;
-    let jobs = jobs(alloc, entries, proofs.as_slice())?;
-    let verdicts = ats_audit::sweep::<H, R>(rt, alloc, &loaded, jobs.as_slice())?;
-    conclusion(report_of(alloc, proofs.as_slice(), verdicts.as_slice())?)
+    swept::<H, R, S>(rt, alloc, &loaded, bytes.as_slice(), shelf)
 }

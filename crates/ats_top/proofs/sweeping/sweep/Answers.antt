@@ -1,21 +1,12 @@
-use Rattle.std.proofs.Common.{◌≡◌, ◌∙◌, ◌≤◌, ◌^◌, ℕ, List, length, sym, subst, arith}
+use Rattle.std.proofs.Common.{◌≡◌, ◌∙◌, ◌^◌, ℕ, List, sym, subst}
 use Rattle.std.proofs.lemmas.Result.{err_from_is_err_and}
-use Rattle.ats_audit.specs.declared.sweeping.Job.{Job}
-use Rattle.ats_audit.specs.declared.auditing.Verdict.{Verdict}
-use Rattle.ats_audit.specs.Sweeps.{IsVerdictOf}
-use Rattle.std.specs.List.{AllZip}
 use Rattle.ats_top.specs.Words.{Sweep}
 use Rattle.ats_top.specs.Read.{Files, IsFile}
-use Rattle.ats_top.specs.Gathered.{AreGathered}
-use Rattle.ats_top.specs.Sweeping.{GatheringStop, ReadsProofs, AreJobs, IsReport, entry_names}
 use Rattle.ats_top.specs.Run.{FilesStop}
-use Rattle.ats_top.specs.declared.gathering.Gathered.{Gathered}
-use Rattle.ats_top.specs.declared.listing.Entry.{Entry}
-use Rattle.ats_top.specs.declared.stops.Stop.TheVariants.{Memory}
+use Rattle.ats_top.specs.Sweeping.{AreRead}
 use Rattle.ats_top.proofs.AuditEnds.{passed_on}
-use Rattle.ats_top.proofs.JobSteps.{as_many, as_many_verdicts}
 use Rattle.ats_top.proofs.Readings.{sweep_index, sweep_list}
-use Rattle.ats_top.proofs.SweepSteps.{index_stops, list_stops, lines_stops, gather_stops, serves_all, swept_right, swept_stops}
+use Rattle.ats_top.proofs.SweepSteps.{index_stops, list_stops}
 use Rattle.ats_top.proofs.sweeping.sweep.Goals as goal
 
 pub returns-in_err-loaded-clause-stop : goal.returns-in_err-loaded-clause-stop
@@ -46,148 +37,47 @@ pub returns-in_err-bytes-clause-serves : goal.returns-in_err-bytes-clause-serves
 returns-in_err-bytes-clause-serves g c =
     sweep_list _ _ (g.S.Shelf.told c.index.new.shelf) g.H.HashKind.hash _ _ c.in_ok-loaded.ensures.ok c.index.ensures.reads c.list.ensures.reads
 
-pub returns-in_err-entries-clause-stop : goal.returns-in_err-entries-clause-stop
-returns-in_err-entries-clause-stop g c =
-    let file = subst (λ (files : Files). IsFile files c.args.list.now (2 ^ 20) c.as_slice.result.now) c.index.ensures.reads.files
-    (subst (λ (bytes : List ℕ). IsFile (g.S.Shelf.told c.index.new.shelf).files c.args.list.now (2 ^ 20) bytes) (sym c.as_slice.ensures) c.in_ok-bytes.ensures.ok) in
-    let told = err_from_is_err_and c.from_residual-in_err-entries.result c.from_residual-in_err-entries.ensures.1 in
-    passed_on (FilesStop g.H.HashKind.hash (g.S.Shelf.told c.args.shelf.now) (g.S.Shelf.told c.list.new.shelf) (Sweep (record { index = c.args.index.now; list = c.args.list.now }))) _ told.0 _ told.1 told.2
-    (lines_stops g.H.HashKind.hash (g.S.Shelf.told c.args.shelf.now) (g.S.Shelf.told c.list.new.shelf) (record { index = c.args.index.now; list = c.args.list.now }) (c.list.ensures.reads.files ∙ c.index.ensures.reads.files) c.in_ok-loaded.loaded c.in_ok-loaded.ensures.ok c.as_slice.result.now file c.in_err-entries.field-0.0 c.in_err-entries.ensures.stop)
-
-pub returns-in_err-entries-clause-same : goal.returns-in_err-entries-clause-same
-returns-in_err-entries-clause-same g c =
-    (c.list.ensures.reads.files ∙ c.index.ensures.reads.files)
-
-pub returns-in_err-entries-clause-serves : goal.returns-in_err-entries-clause-serves
-returns-in_err-entries-clause-serves g c =
-    sweep_list _ _ (g.S.Shelf.told c.index.new.shelf) g.H.HashKind.hash _ _ c.in_ok-loaded.ensures.ok c.index.ensures.reads c.list.ensures.reads
-
-pub returns-in_err-proofs-clause-stop : goal.returns-in_err-proofs-clause-stop
-returns-in_err-proofs-clause-stop g c =
-    let file = subst (λ (files : Files). IsFile files c.args.list.now (2 ^ 20) c.as_slice.result.now) c.index.ensures.reads.files
-    (subst (λ (bytes : List ℕ). IsFile (g.S.Shelf.told c.index.new.shelf).files c.args.list.now (2 ^ 20) bytes) (sym c.as_slice.ensures) c.in_ok-bytes.ensures.ok) in
-    let stops = subst (λ (es : List Entry). GatheringStop (g.S.Shelf.told c.list.new.shelf) (g.S.Shelf.told c.gather_all.new.shelf) (entry_names es) c.in_err-proofs.field-0.0) c.as_slice-2.ensures.value c.in_err-proofs.ensures.stop in
-    let told = err_from_is_err_and c.from_residual-in_err-proofs.result c.from_residual-in_err-proofs.ensures.1 in
-    passed_on (FilesStop g.H.HashKind.hash (g.S.Shelf.told c.args.shelf.now) (g.S.Shelf.told c.gather_all.new.shelf) (Sweep (record { index = c.args.index.now; list = c.args.list.now }))) _ told.0 _ told.1 told.2
-    (gather_stops g.H.HashKind.hash (g.S.Shelf.told c.args.shelf.now) (g.S.Shelf.told c.gather_all.new.shelf) (record { index = c.args.index.now; list = c.args.list.now }) (c.gather_all.ensures.reads.files ∙ c.list.ensures.reads.files ∙ c.index.ensures.reads.files) c.in_ok-loaded.loaded c.in_ok-loaded.ensures.ok c.as_slice.result.now file c.in_ok-entries.entries.items c.in_ok-entries.ensures.ok c.in_ok-entries.ensures.some c.in_ok-entries.ensures.few
-    (g.S.Shelf.told c.list.new.shelf) (c.list.ensures.reads.files ∙ c.index.ensures.reads.files) (omega (arith, c.index.ensures.reads.later, c.list.ensures.reads.later)) c.in_err-proofs.field-0.0 stops)
-
-pub returns-in_err-proofs-clause-same : goal.returns-in_err-proofs-clause-same
-returns-in_err-proofs-clause-same g c =
-    (c.gather_all.ensures.reads.files ∙ c.list.ensures.reads.files ∙ c.index.ensures.reads.files)
-
-pub returns-in_err-proofs-clause-serves : goal.returns-in_err-proofs-clause-serves
-returns-in_err-proofs-clause-serves g c =
-    let file = subst (λ (files : Files). IsFile files c.args.list.now (2 ^ 20) c.as_slice.result.now) c.index.ensures.reads.files
-    (subst (λ (bytes : List ℕ). IsFile (g.S.Shelf.told c.index.new.shelf).files c.args.list.now (2 ^ 20) bytes) (sym c.as_slice.ensures) c.in_ok-bytes.ensures.ok) in
-    let reads = subst (λ (es : List Entry). ReadsProofs (g.S.Shelf.told c.list.new.shelf) (g.S.Shelf.told c.gather_all.new.shelf) (entry_names es)) c.as_slice-2.ensures.value c.gather_all.ensures.reads in
-    serves_all g.H.HashKind.hash (g.S.Shelf.told c.args.shelf.now) (g.S.Shelf.told c.gather_all.new.shelf) (record { index = c.args.index.now; list = c.args.list.now }) (c.gather_all.ensures.reads.files ∙ c.list.ensures.reads.files ∙ c.index.ensures.reads.files) c.in_ok-loaded.loaded c.in_ok-loaded.ensures.ok c.as_slice.result.now file c.in_ok-entries.entries.items c.in_ok-entries.ensures.ok c.in_ok-entries.ensures.some c.in_ok-entries.ensures.few
-    (g.S.Shelf.told c.index.new.shelf) (g.S.Shelf.told c.list.new.shelf) c.index.ensures.reads.files c.index.ensures.reads c.list.ensures.reads reads
-
-pub returns-in_err-jobs-clause-stop : goal.returns-in_err-jobs-clause-stop
-returns-in_err-jobs-clause-stop g c =
-    let told = err_from_is_err_and c.from_residual-in_err-jobs.result c.from_residual-in_err-jobs.ensures.1 in
-    passed_on (FilesStop g.H.HashKind.hash (g.S.Shelf.told c.args.shelf.now) (g.S.Shelf.told c.gather_all.new.shelf) (Sweep (record { index = c.args.index.now; list = c.args.list.now }))) _ told.0 Memory told.1 told.2
-    (c.gather_all.ensures.reads.files ∙ c.list.ensures.reads.files ∙ c.index.ensures.reads.files)
-
-pub returns-in_err-jobs-clause-same : goal.returns-in_err-jobs-clause-same
-returns-in_err-jobs-clause-same g c =
-    (c.gather_all.ensures.reads.files ∙ c.list.ensures.reads.files ∙ c.index.ensures.reads.files)
-
-pub returns-in_err-jobs-clause-serves : goal.returns-in_err-jobs-clause-serves
-returns-in_err-jobs-clause-serves g c =
-    let file = subst (λ (files : Files). IsFile files c.args.list.now (2 ^ 20) c.as_slice.result.now) c.index.ensures.reads.files
-    (subst (λ (bytes : List ℕ). IsFile (g.S.Shelf.told c.index.new.shelf).files c.args.list.now (2 ^ 20) bytes) (sym c.as_slice.ensures) c.in_ok-bytes.ensures.ok) in
-    let reads = subst (λ (es : List Entry). ReadsProofs (g.S.Shelf.told c.list.new.shelf) (g.S.Shelf.told c.gather_all.new.shelf) (entry_names es)) c.as_slice-2.ensures.value c.gather_all.ensures.reads in
-    serves_all g.H.HashKind.hash (g.S.Shelf.told c.args.shelf.now) (g.S.Shelf.told c.gather_all.new.shelf) (record { index = c.args.index.now; list = c.args.list.now }) (c.gather_all.ensures.reads.files ∙ c.list.ensures.reads.files ∙ c.index.ensures.reads.files) c.in_ok-loaded.loaded c.in_ok-loaded.ensures.ok c.as_slice.result.now file c.in_ok-entries.entries.items c.in_ok-entries.ensures.ok c.in_ok-entries.ensures.some c.in_ok-entries.ensures.few
-    (g.S.Shelf.told c.index.new.shelf) (g.S.Shelf.told c.list.new.shelf) c.index.ensures.reads.files c.index.ensures.reads c.list.ensures.reads reads
-
-pub returns-in_err-verdicts-clause-stop : goal.returns-in_err-verdicts-clause-stop
-returns-in_err-verdicts-clause-stop g c =
-    let told = err_from_is_err_and c.from_residual-in_err-verdicts.result c.from_residual-in_err-verdicts.ensures.1 in
-    passed_on (FilesStop g.H.HashKind.hash (g.S.Shelf.told c.args.shelf.now) (g.S.Shelf.told c.gather_all.new.shelf) (Sweep (record { index = c.args.index.now; list = c.args.list.now }))) _ told.0 Memory told.1 told.2
-    (c.gather_all.ensures.reads.files ∙ c.list.ensures.reads.files ∙ c.index.ensures.reads.files)
-
-pub returns-in_err-verdicts-clause-same : goal.returns-in_err-verdicts-clause-same
-returns-in_err-verdicts-clause-same g c =
-    (c.gather_all.ensures.reads.files ∙ c.list.ensures.reads.files ∙ c.index.ensures.reads.files)
-
-pub returns-in_err-verdicts-clause-serves : goal.returns-in_err-verdicts-clause-serves
-returns-in_err-verdicts-clause-serves g c =
-    let file = subst (λ (files : Files). IsFile files c.args.list.now (2 ^ 20) c.as_slice.result.now) c.index.ensures.reads.files
-    (subst (λ (bytes : List ℕ). IsFile (g.S.Shelf.told c.index.new.shelf).files c.args.list.now (2 ^ 20) bytes) (sym c.as_slice.ensures) c.in_ok-bytes.ensures.ok) in
-    let reads = subst (λ (es : List Entry). ReadsProofs (g.S.Shelf.told c.list.new.shelf) (g.S.Shelf.told c.gather_all.new.shelf) (entry_names es)) c.as_slice-2.ensures.value c.gather_all.ensures.reads in
-    serves_all g.H.HashKind.hash (g.S.Shelf.told c.args.shelf.now) (g.S.Shelf.told c.gather_all.new.shelf) (record { index = c.args.index.now; list = c.args.list.now }) (c.gather_all.ensures.reads.files ∙ c.list.ensures.reads.files ∙ c.index.ensures.reads.files) c.in_ok-loaded.loaded c.in_ok-loaded.ensures.ok c.as_slice.result.now file c.in_ok-entries.entries.items c.in_ok-entries.ensures.ok c.in_ok-entries.ensures.some c.in_ok-entries.ensures.few
-    (g.S.Shelf.told c.index.new.shelf) (g.S.Shelf.told c.list.new.shelf) c.index.ensures.reads.files c.index.ensures.reads c.list.ensures.reads reads
-
-pub returns-in_err-report_of-clause-stop : goal.returns-in_err-report_of-clause-stop
-returns-in_err-report_of-clause-stop g c =
-    let told = err_from_is_err_and c.from_residual-in_err-report_of.result c.from_residual-in_err-report_of.ensures.1 in
-    passed_on (FilesStop g.H.HashKind.hash (g.S.Shelf.told c.args.shelf.now) (g.S.Shelf.told c.gather_all.new.shelf) (Sweep (record { index = c.args.index.now; list = c.args.list.now }))) _ told.0 Memory told.1 told.2
-    (c.gather_all.ensures.reads.files ∙ c.list.ensures.reads.files ∙ c.index.ensures.reads.files)
-
-pub returns-in_err-report_of-clause-same : goal.returns-in_err-report_of-clause-same
-returns-in_err-report_of-clause-same g c =
-    (c.gather_all.ensures.reads.files ∙ c.list.ensures.reads.files ∙ c.index.ensures.reads.files)
-
-pub returns-in_err-report_of-clause-serves : goal.returns-in_err-report_of-clause-serves
-returns-in_err-report_of-clause-serves g c =
-    let file = subst (λ (files : Files). IsFile files c.args.list.now (2 ^ 20) c.as_slice.result.now) c.index.ensures.reads.files
-    (subst (λ (bytes : List ℕ). IsFile (g.S.Shelf.told c.index.new.shelf).files c.args.list.now (2 ^ 20) bytes) (sym c.as_slice.ensures) c.in_ok-bytes.ensures.ok) in
-    let reads = subst (λ (es : List Entry). ReadsProofs (g.S.Shelf.told c.list.new.shelf) (g.S.Shelf.told c.gather_all.new.shelf) (entry_names es)) c.as_slice-2.ensures.value c.gather_all.ensures.reads in
-    serves_all g.H.HashKind.hash (g.S.Shelf.told c.args.shelf.now) (g.S.Shelf.told c.gather_all.new.shelf) (record { index = c.args.index.now; list = c.args.list.now }) (c.gather_all.ensures.reads.files ∙ c.list.ensures.reads.files ∙ c.index.ensures.reads.files) c.in_ok-loaded.loaded c.in_ok-loaded.ensures.ok c.as_slice.result.now file c.in_ok-entries.entries.items c.in_ok-entries.ensures.ok c.in_ok-entries.ensures.some c.in_ok-entries.ensures.few
-    (g.S.Shelf.told c.index.new.shelf) (g.S.Shelf.told c.list.new.shelf) c.index.ensures.reads.files c.index.ensures.reads c.list.ensures.reads reads
-
-pub returns-clause-same : goal.returns-clause-same
-returns-clause-same g c =
-    (c.gather_all.ensures.reads.files ∙ c.list.ensures.reads.files ∙ c.index.ensures.reads.files)
-
-pub returns-clause-serves : goal.returns-clause-serves
-returns-clause-serves g c =
-    let file = subst (λ (files : Files). IsFile files c.args.list.now (2 ^ 20) c.as_slice.result.now) c.index.ensures.reads.files
-    (subst (λ (bytes : List ℕ). IsFile (g.S.Shelf.told c.index.new.shelf).files c.args.list.now (2 ^ 20) bytes) (sym c.as_slice.ensures) c.in_ok-bytes.ensures.ok) in
-    let reads = subst (λ (es : List Entry). ReadsProofs (g.S.Shelf.told c.list.new.shelf) (g.S.Shelf.told c.gather_all.new.shelf) (entry_names es)) c.as_slice-2.ensures.value c.gather_all.ensures.reads in
-    serves_all g.H.HashKind.hash (g.S.Shelf.told c.args.shelf.now) (g.S.Shelf.told c.gather_all.new.shelf) (record { index = c.args.index.now; list = c.args.list.now }) (c.gather_all.ensures.reads.files ∙ c.list.ensures.reads.files ∙ c.index.ensures.reads.files) c.in_ok-loaded.loaded c.in_ok-loaded.ensures.ok c.as_slice.result.now file c.in_ok-entries.entries.items c.in_ok-entries.ensures.ok c.in_ok-entries.ensures.some c.in_ok-entries.ensures.few
-    (g.S.Shelf.told c.index.new.shelf) (g.S.Shelf.told c.list.new.shelf) c.index.ensures.reads.files c.index.ensures.reads c.list.ensures.reads reads
-
-pub jobs-requires : goal.jobs-requires
-jobs-requires g c =
-    let gathered : AreGathered (g.S.Shelf.told c.args.shelf.now).files (entry_names c.in_ok-entries.entries.items) c.in_ok-proofs.proofs.items = subst (λ (files : Files). AreGathered files (entry_names c.in_ok-entries.entries.items) c.in_ok-proofs.proofs.items) (c.list.ensures.reads.files ∙ c.index.ensures.reads.files)
-    (subst (λ (es : List Entry). AreGathered (g.S.Shelf.told c.list.new.shelf).files (entry_names es) c.in_ok-proofs.proofs.items) c.as_slice-2.ensures.value c.in_ok-proofs.ensures.ok) in
-    subst (λ (ps : List Gathered). length c.in_ok-entries.entries.items ≡ length ps) (sym c.as_slice-3.ensures.value) (as_many c.in_ok-entries.entries.items c.in_ok-proofs.proofs.items (g.S.Shelf.told c.args.shelf.now).files gathered.each)
-
-pub report_of-requires : goal.report_of-requires
-report_of-requires g c =
-    let gathered : AreGathered (g.S.Shelf.told c.args.shelf.now).files (entry_names c.in_ok-entries.entries.items) c.in_ok-proofs.proofs.items = subst (λ (files : Files). AreGathered files (entry_names c.in_ok-entries.entries.items) c.in_ok-proofs.proofs.items) (c.list.ensures.reads.files ∙ c.index.ensures.reads.files)
-    (subst (λ (es : List Entry). AreGathered (g.S.Shelf.told c.list.new.shelf).files (entry_names es) c.in_ok-proofs.proofs.items) c.as_slice-2.ensures.value c.in_ok-proofs.ensures.ok) in
-    let its : AreJobs c.in_ok-entries.entries.items c.in_ok-proofs.proofs.items c.in_ok-jobs.jobs.items = subst (λ (ps : List Gathered). AreJobs c.in_ok-entries.entries.items ps c.in_ok-jobs.jobs.items) c.as_slice-3.ensures.value c.in_ok-jobs.ensures in
-    let found : AllZip (IsVerdictOf g.H.HashKind.hash c.in_ok-loaded.loaded) c.in_ok-jobs.jobs.items c.as_slice-6.result.now = subst (λ (vs : List Verdict). AllZip (IsVerdictOf g.H.HashKind.hash c.in_ok-loaded.loaded) c.in_ok-jobs.jobs.items vs) (sym c.as_slice-6.ensures)
-    (subst (λ (js : List Job). AllZip (IsVerdictOf g.H.HashKind.hash c.in_ok-loaded.loaded) js c.in_ok-verdicts.verdicts) c.as_slice-4.ensures.value c.in_ok-verdicts.ensures) in
-    subst (λ (ps : List Gathered). length c.as_slice-6.result.now ≡ length ps) (sym c.as_slice-5.ensures.value)
-    (as_many_verdicts c.in_ok-entries.entries.items c.in_ok-proofs.proofs.items c.in_ok-jobs.jobs.items c.as_slice-6.result.now g.H.HashKind.hash c.in_ok-loaded.loaded (as_many c.in_ok-entries.entries.items c.in_ok-proofs.proofs.items (g.S.Shelf.told c.args.shelf.now).files gathered.each) its found)
-
 pub returns-clause-ok : goal.returns-clause-ok
 returns-clause-ok g c =
-    let file = subst (λ (files : Files). IsFile files c.args.list.now (2 ^ 20) c.as_slice.result.now) c.index.ensures.reads.files
-    (subst (λ (bytes : List ℕ). IsFile (g.S.Shelf.told c.index.new.shelf).files c.args.list.now (2 ^ 20) bytes) (sym c.as_slice.ensures) c.in_ok-bytes.ensures.ok) in
-    let gathered : AreGathered (g.S.Shelf.told c.args.shelf.now).files (entry_names c.in_ok-entries.entries.items) c.in_ok-proofs.proofs.items = subst (λ (files : Files). AreGathered files (entry_names c.in_ok-entries.entries.items) c.in_ok-proofs.proofs.items) (c.list.ensures.reads.files ∙ c.index.ensures.reads.files)
-    (subst (λ (es : List Entry). AreGathered (g.S.Shelf.told c.list.new.shelf).files (entry_names es) c.in_ok-proofs.proofs.items) c.as_slice-2.ensures.value c.in_ok-proofs.ensures.ok) in
-    let its : AreJobs c.in_ok-entries.entries.items c.in_ok-proofs.proofs.items c.in_ok-jobs.jobs.items = subst (λ (ps : List Gathered). AreJobs c.in_ok-entries.entries.items ps c.in_ok-jobs.jobs.items) c.as_slice-3.ensures.value c.in_ok-jobs.ensures in
-    let found : AllZip (IsVerdictOf g.H.HashKind.hash c.in_ok-loaded.loaded) c.in_ok-jobs.jobs.items c.as_slice-6.result.now = subst (λ (vs : List Verdict). AllZip (IsVerdictOf g.H.HashKind.hash c.in_ok-loaded.loaded) c.in_ok-jobs.jobs.items vs) (sym c.as_slice-6.ensures)
-    (subst (λ (js : List Job). AllZip (IsVerdictOf g.H.HashKind.hash c.in_ok-loaded.loaded) js c.in_ok-verdicts.verdicts) c.as_slice-4.ensures.value c.in_ok-verdicts.ensures) in
-    let is : IsReport c.in_ok-proofs.proofs.items c.as_slice-6.result.now c.in_ok-report_of.field-0 = subst (λ (ps : List Gathered). IsReport ps c.as_slice-6.result.now c.in_ok-report_of.field-0) c.as_slice-5.ensures.value c.in_ok-report_of.ensures in
-    swept_right g.H.HashKind.hash (g.S.Shelf.told c.args.shelf.now) (g.S.Shelf.told c.gather_all.new.shelf) (record { index = c.args.index.now; list = c.args.list.now }) (c.gather_all.ensures.reads.files ∙ c.list.ensures.reads.files ∙ c.index.ensures.reads.files) c.in_ok-loaded.loaded c.in_ok-loaded.ensures.ok c.as_slice.result.now file c.in_ok-entries.entries.items c.in_ok-entries.ensures.ok c.in_ok-entries.ensures.some c.in_ok-entries.ensures.few
-    c.in_ok-proofs.proofs.items gathered c.in_ok-jobs.jobs.items c.as_slice-6.result.now its found c.in_ok-report_of.field-0 is c.conclusion.result c.conclusion.ensures.ok
+    let are : AreRead g.H.HashKind.hash (g.S.Shelf.told c.args.shelf.now) (g.S.Shelf.told c.list.new.shelf) (record { index = c.args.index.now; list = c.args.list.now }) c.in_ok-loaded.loaded c.as_slice.result.now = record {
+      first = g.S.Shelf.told c.index.new.shelf;
+      index = c.in_ok-loaded.ensures.ok;
+      file = subst (λ (files : Files). IsFile files c.args.list.now (2 ^ 20) c.as_slice.result.now) c.index.ensures.reads.files
+          (subst (λ (bytes : List ℕ). IsFile (g.S.Shelf.told c.index.new.shelf).files c.args.list.now (2 ^ 20) bytes) (sym c.as_slice.ensures) c.in_ok-bytes.ensures.ok);
+      same = c.index.ensures.reads.files;
+      files = c.list.ensures.reads.files ∙ c.index.ensures.reads.files;
+      index_read = c.index.ensures.reads;
+      list_read = c.list.ensures.reads;
+    } in
+    c.swept.ensures.ok (g.S.Shelf.told c.args.shelf.now) (record { index = c.args.index.now; list = c.args.list.now }) are
 
 pub returns-clause-stop : goal.returns-clause-stop
 returns-clause-stop g c =
-    let file = subst (λ (files : Files). IsFile files c.args.list.now (2 ^ 20) c.as_slice.result.now) c.index.ensures.reads.files
-    (subst (λ (bytes : List ℕ). IsFile (g.S.Shelf.told c.index.new.shelf).files c.args.list.now (2 ^ 20) bytes) (sym c.as_slice.ensures) c.in_ok-bytes.ensures.ok) in
-    let gathered : AreGathered (g.S.Shelf.told c.args.shelf.now).files (entry_names c.in_ok-entries.entries.items) c.in_ok-proofs.proofs.items = subst (λ (files : Files). AreGathered files (entry_names c.in_ok-entries.entries.items) c.in_ok-proofs.proofs.items) (c.list.ensures.reads.files ∙ c.index.ensures.reads.files)
-    (subst (λ (es : List Entry). AreGathered (g.S.Shelf.told c.list.new.shelf).files (entry_names es) c.in_ok-proofs.proofs.items) c.as_slice-2.ensures.value c.in_ok-proofs.ensures.ok) in
-    let its : AreJobs c.in_ok-entries.entries.items c.in_ok-proofs.proofs.items c.in_ok-jobs.jobs.items = subst (λ (ps : List Gathered). AreJobs c.in_ok-entries.entries.items ps c.in_ok-jobs.jobs.items) c.as_slice-3.ensures.value c.in_ok-jobs.ensures in
-    let found : AllZip (IsVerdictOf g.H.HashKind.hash c.in_ok-loaded.loaded) c.in_ok-jobs.jobs.items c.as_slice-6.result.now = subst (λ (vs : List Verdict). AllZip (IsVerdictOf g.H.HashKind.hash c.in_ok-loaded.loaded) c.in_ok-jobs.jobs.items vs) (sym c.as_slice-6.ensures)
-    (subst (λ (js : List Job). AllZip (IsVerdictOf g.H.HashKind.hash c.in_ok-loaded.loaded) js c.in_ok-verdicts.verdicts) c.as_slice-4.ensures.value c.in_ok-verdicts.ensures) in
-    let is : IsReport c.in_ok-proofs.proofs.items c.as_slice-6.result.now c.in_ok-report_of.field-0 = subst (λ (ps : List Gathered). IsReport ps c.as_slice-6.result.now c.in_ok-report_of.field-0) c.as_slice-5.ensures.value c.in_ok-report_of.ensures in
-    swept_stops g.H.HashKind.hash (g.S.Shelf.told c.args.shelf.now) (g.S.Shelf.told c.gather_all.new.shelf) (record { index = c.args.index.now; list = c.args.list.now }) (c.gather_all.ensures.reads.files ∙ c.list.ensures.reads.files ∙ c.index.ensures.reads.files) c.in_ok-loaded.loaded c.in_ok-loaded.ensures.ok c.as_slice.result.now file c.in_ok-entries.entries.items c.in_ok-entries.ensures.ok c.in_ok-entries.ensures.some c.in_ok-entries.ensures.few
-    c.in_ok-proofs.proofs.items gathered c.in_ok-jobs.jobs.items c.as_slice-6.result.now its found c.in_ok-report_of.field-0 is c.conclusion.result c.conclusion.ensures.stop
+    let are : AreRead g.H.HashKind.hash (g.S.Shelf.told c.args.shelf.now) (g.S.Shelf.told c.list.new.shelf) (record { index = c.args.index.now; list = c.args.list.now }) c.in_ok-loaded.loaded c.as_slice.result.now = record {
+      first = g.S.Shelf.told c.index.new.shelf;
+      index = c.in_ok-loaded.ensures.ok;
+      file = subst (λ (files : Files). IsFile files c.args.list.now (2 ^ 20) c.as_slice.result.now) c.index.ensures.reads.files
+          (subst (λ (bytes : List ℕ). IsFile (g.S.Shelf.told c.index.new.shelf).files c.args.list.now (2 ^ 20) bytes) (sym c.as_slice.ensures) c.in_ok-bytes.ensures.ok);
+      same = c.index.ensures.reads.files;
+      files = c.list.ensures.reads.files ∙ c.index.ensures.reads.files;
+      index_read = c.index.ensures.reads;
+      list_read = c.list.ensures.reads;
+    } in
+    c.swept.ensures.stop (g.S.Shelf.told c.args.shelf.now) (record { index = c.args.index.now; list = c.args.list.now }) are
+
+pub returns-clause-serves : goal.returns-clause-serves
+returns-clause-serves g c =
+    let are : AreRead g.H.HashKind.hash (g.S.Shelf.told c.args.shelf.now) (g.S.Shelf.told c.list.new.shelf) (record { index = c.args.index.now; list = c.args.list.now }) c.in_ok-loaded.loaded c.as_slice.result.now = record {
+      first = g.S.Shelf.told c.index.new.shelf;
+      index = c.in_ok-loaded.ensures.ok;
+      file = subst (λ (files : Files). IsFile files c.args.list.now (2 ^ 20) c.as_slice.result.now) c.index.ensures.reads.files
+          (subst (λ (bytes : List ℕ). IsFile (g.S.Shelf.told c.index.new.shelf).files c.args.list.now (2 ^ 20) bytes) (sym c.as_slice.ensures) c.in_ok-bytes.ensures.ok);
+      same = c.index.ensures.reads.files;
+      files = c.list.ensures.reads.files ∙ c.index.ensures.reads.files;
+      index_read = c.index.ensures.reads;
+      list_read = c.list.ensures.reads;
+    } in
+    c.swept.ensures.serves (g.S.Shelf.told c.args.shelf.now) (record { index = c.args.index.now; list = c.args.list.now }) are
+
+pub returns-clause-same : goal.returns-clause-same
+returns-clause-same g c = c.swept.ensures.same ∙ c.list.ensures.reads.files ∙ c.index.ensures.reads.files
