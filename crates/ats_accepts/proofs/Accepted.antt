@@ -10,7 +10,7 @@ use Rattle.ats_proof.specs.Value.{Proof, IsProof}
 use Rattle.ats_proof.proofs.InRange.{in_range}
 use Rattle.ats_proof.proofs.Unique.{one_value}
 use Rattle.ats_client.specs.Accepts.{Accepts}
-use Rattle.ats_prover.specs.Honest.{IsHonest, IsProved}
+use Rattle.ats_honest.specs.Honest.{IsHonest, IsProved}
 use Rattle.ats_accepts.proofs.AcceptedRows.{honest_accepted}
 
 pub either_accepted : (H : List ℕ → List ℕ) (archive : Archive) (query : List (List ℕ × ℕ)) (r : ℕ) (algorithm : Algorithm) (proof : Proof)

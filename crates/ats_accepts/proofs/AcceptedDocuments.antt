@@ -14,15 +14,15 @@ use Rattle.ats_doctree.specs.Sentinels.{terms_leaves}
 use Rattle.ats_doctree.specs.declared.doc_leaf.DocLeaf.{DocLeaf}
 use Rattle.ats_commit.specs.Archive.{archive_of}
 use Rattle.ats_commit.specs.Ours.{asked_term}
+use Rattle.ats_commit.specs.Root.{header_parts}
 use Rattle.ats_commit.specs.Trees.{documents_leaf, documents_of, leaf_of}
-use Rattle.ats_index.specs.Parts.{header_parts}
 use Rattle.ats_proof.specs.declared.record.Algorithm.{Algorithm}
 use Rattle.ats_proof.specs.declared.record.Algorithm.TheVariants.{Tra, Tnra}
 use Rattle.ats_proof.specs.Value.{Documents, TermsSection}
 use Rattle.ats_proof.specs.Runs.{shown_docs}
 use Rattle.ats_client.specs.Documents.{AreDocsRooted, IsDocumentRight, documents_from, documents_in}
-use Rattle.ats_prover.specs.Documents.{AreHonestSections, HasDocuments, document_leaf}
-use Rattle.ats_prover.proofs.MetLeaves.{documents_each}
+use Rattle.ats_honest.specs.Documents.{AreHonestSections, HasDocuments, document_leaf}
+use Rattle.ats_honest.proofs.MetLeaves.{documents_each}
 use Rattle.ats_accepts.proofs.ShownTrees.{leaves_shown, positions_rebuild}
 use Rattle.ats_accepts.proofs.AcceptedSections.{section_rebuilds, section_shows}
 

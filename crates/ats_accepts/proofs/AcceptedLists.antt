@@ -33,11 +33,11 @@ use Rattle.ats_client.specs.Groups.{IsListRight, indexes_of, list_digest}
 use Rattle.ats_client.specs.Indexes.{AreNames}
 use Rattle.ats_client.specs.Presented.{Presented, presented, presented_from}
 use Rattle.ats_client.specs.Presented as client
-use Rattle.ats_prover.specs.Terms.{AreSpots, place, shown_entry, slot_of}
-use Rattle.ats_prover.specs.Lanes.{lane_of, lanes_of}
-use Rattle.ats_prover.specs.Honest.{placed, prefix_of, prefixes}
-use Rattle.ats_prover.proofs.Present.{HasList, with_lane, with_none}
-use Rattle.ats_prover.proofs.Fronts.{range_below, range_rises}
+use Rattle.ats_honest.specs.Terms.{AreSpots, place, shown_entry, slot_of}
+use Rattle.ats_honest.specs.Lanes.{lane_of, lanes_of}
+use Rattle.ats_honest.specs.Honest.{placed, prefix_of, prefixes}
+use Rattle.ats_honest.proofs.Present.{HasList, with_lane, with_none}
+use Rattle.ats_honest.proofs.Fronts.{range_below, range_rises}
 use Rattle.ats_accepts.proofs.AcceptedSlots.{AreShown, shown_first, shown_rest}
 use Rattle.ats_accepts.proofs.AcceptedTerms.{IsOwnEntry, honest_entry, honest_present}
 

@@ -30,14 +30,14 @@ use Rattle.ats_commit.specs.Root.{root_of}
 use Rattle.ats_commit.specs.Ours.{asked_term}
 use Rattle.ats_proof.specs.declared.record.Algorithm.{Algorithm}
 use Rattle.ats_proof.specs.declared.record.Algorithm.TheVariants.{Tra, Tnra}
-use Rattle.ats_prover.specs.Terms.{has, place, shown_entry, slot_of}
-use Rattle.ats_prover.specs.Lanes.{bounding, lanes_of, present}
-use Rattle.ats_prover.specs.Honest.{IsHonest, prefixes}
-use Rattle.ats_prover.proofs.Places.{place_at}
-use Rattle.ats_prover.proofs.MetDocuments.{met_below, met_rises}
-use Rattle.ats_prover.proofs.Spots.{spot_each}
-use Rattle.ats_prover.proofs.StandingTerms.{standing_present}
-use Rattle.ats_prover.proofs.Whole.{docs_of}
+use Rattle.ats_honest.specs.Terms.{has, place, shown_entry, slot_of}
+use Rattle.ats_honest.specs.Lanes.{bounding, lanes_of, present}
+use Rattle.ats_honest.specs.Honest.{IsHonest, prefixes}
+use Rattle.ats_honest.proofs.Places.{place_at}
+use Rattle.ats_honest.proofs.MetDocuments.{met_below, met_rises}
+use Rattle.ats_honest.proofs.Spots.{spot_each}
+use Rattle.ats_honest.proofs.StandingTerms.{standing_present}
+use Rattle.ats_honest.proofs.Whole.{docs_of}
 use Rattle.ats_bound.proofs.Members.{has_contained}
 use Rattle.ats_accepts.proofs.AcceptedSlots.{needed_shown}
 use Rattle.ats_accepts.proofs.AcceptedTerms.{honest_dictionary, honest_opened, honest_slots}
@@ -45,7 +45,7 @@ use Rattle.ats_accepts.proofs.AcceptedSections.{numbers_ask}
 use Rattle.ats_accepts.proofs.AcceptedDocuments.{honest_documents, honest_tree}
 use Rattle.ats_accepts.proofs.AcceptedImpacts.{honest_bounds}
 use Rattle.ats_accepts.proofs.AcceptedLists.{AreIn, AreFronts, front_lanes, fronts_right, show_terms}
-use Rattle.ats_prover.proofs.Present.{lanes_have_lists}
+use Rattle.ats_honest.proofs.Present.{lanes_have_lists}
 
 -- ---- the documents of brackets
 

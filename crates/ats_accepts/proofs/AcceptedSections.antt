@@ -19,11 +19,11 @@ use Rattle.ats_client.specs.Documents.{AreTermSlotsRight, present_from, term_sho
 use Rattle.ats_client.specs.Groups.{slot_at}
 use Rattle.ats_client.specs.Slots as slots
 use Rattle.ats_client.specs.Slots.{ShowsTerm}
-use Rattle.ats_prover.specs.Terms.{slot_of}
-use Rattle.ats_prover.specs.Present.{standing}
-use Rattle.ats_prover.specs.Documents.{IsHonestSection, IsTermSpot, shown_term}
-use Rattle.ats_prover.proofs.Items.{lower_item}
-use Rattle.ats_prover.proofs.Ranges.{all_below}
+use Rattle.ats_honest.specs.Terms.{slot_of}
+use Rattle.ats_honest.specs.Present.{standing}
+use Rattle.ats_honest.specs.Documents.{IsHonestSection, IsTermSpot, shown_term}
+use Rattle.ats_honest.proofs.Items.{lower_item}
+use Rattle.ats_honest.proofs.Ranges.{all_below}
 use Rattle.ats_accepts.proofs.ShownTrees.{leaves_shown, positions_rebuild}
 use Rattle.ats_accepts.proofs.AcceptedSlots.{LiesBy, leaf_at, slots_show}
 

@@ -32,14 +32,14 @@ use Rattle.ats_client.specs.Presented as presented
 use Rattle.ats_client.specs.Slots as slots
 use Rattle.ats_client.specs.Slots.{ShowsTerm}
 use Rattle.ats_proof.specs.declared.record.Algorithm.{Algorithm}
-use Rattle.ats_prover.specs.Terms.{has, place, shown_entry, slot_of}
-use Rattle.ats_prover.specs.Lanes.{lane_of}
-use Rattle.ats_prover.specs.Honest.{IsHonest}
-use Rattle.ats_prover.proofs.Spots.{spot_each}
+use Rattle.ats_honest.specs.Terms.{has, place, shown_entry, slot_of}
+use Rattle.ats_honest.specs.Lanes.{lane_of}
+use Rattle.ats_honest.specs.Honest.{IsHonest}
+use Rattle.ats_honest.proofs.Spots.{spot_each}
 use Rattle.ats_bound.proofs.Members.{has_contained}
-use Rattle.ats_prover.proofs.Ranges.{positions_below}
-use Rattle.ats_prover.proofs.Present.{list_at, standing_term}
-use Rattle.ats_prover.proofs.Whole.{lanes_each}
+use Rattle.ats_honest.proofs.Ranges.{positions_below}
+use Rattle.ats_honest.proofs.Present.{list_at, standing_term}
+use Rattle.ats_honest.proofs.Whole.{lanes_each}
 use Rattle.ats_accepts.proofs.ShownPlaces.{made_at_place}
 use Rattle.ats_accepts.proofs.ShownTrees.{leaves_shown, positions_rebuild}
 use Rattle.ats_accepts.proofs.AcceptedSlots.{IsShown, LiesBy, leaf_at, slots_show}

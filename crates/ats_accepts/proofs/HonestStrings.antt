@@ -40,12 +40,12 @@ use Rattle.ats_proof.proofs.Unique.{one_value}
 use Rattle.ats_client.specs.Documents.{documents_from}
 use Rattle.ats_client.specs.Presented.{Presented, presented, presented_from}
 use Rattle.ats_client.specs.Strings.{hashed_header, in_tree, strings_in, list_strings, terms_strings, documents_strings, strings_of, extract}
-use Rattle.ats_prover.specs.Documents.{AreHonestSections, HasDocuments, IsHonestSection, document_leaf}
-use Rattle.ats_prover.specs.Honest.{IsHonest, IsProved}
-use Rattle.ats_prover.specs.Lanes.{lanes_of, present}
-use Rattle.ats_prover.specs.Terms.{AreSpots, slot_of}
-use Rattle.ats_prover.proofs.MetLeaves.{documents_each}
-use Rattle.ats_prover.proofs.Present.{with_lane, with_none}
+use Rattle.ats_honest.specs.Documents.{AreHonestSections, HasDocuments, IsHonestSection, document_leaf}
+use Rattle.ats_honest.specs.Honest.{IsHonest, IsProved}
+use Rattle.ats_honest.specs.Lanes.{lanes_of, present}
+use Rattle.ats_honest.specs.Terms.{AreSpots, slot_of}
+use Rattle.ats_honest.proofs.MetLeaves.{documents_each}
+use Rattle.ats_honest.proofs.Present.{with_lane, with_none}
 use Rattle.ats_accepts.proofs.Accepted.{has_documents}
 use Rattle.ats_accepts.proofs.AcceptedDocuments.{documents_shown}
 use Rattle.ats_accepts.proofs.AcceptedLists.{AreFronts, AreIn, IsEntryIn, IsFront, first_in, front_shown, later_in, tail_cut}

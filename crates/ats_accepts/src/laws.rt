@@ -10,7 +10,7 @@ ghost use Rattle.ats_proof.specs.declared.record.Algorithm.TheVariants.{Tra};
 ghost use Rattle.ats_proof.specs.Value.{Proof, IsProof};
 ghost use Rattle.ats_client.specs.Accepts.{Accepts};
 ghost use Rattle.ats_client.specs.Strings.{strings_of, extract};
-ghost use Rattle.ats_prover.specs.Honest.{IsHonest, IsProved};
+ghost use Rattle.ats_honest.specs.Honest.{IsHonest, IsProved};
 
 use ats_hash::HashKind;
 

@@ -48,9 +48,9 @@ module _ (H : List ℕ → List ℕ) (sized : (bytes : List ℕ) → length (H b
       (length-mth (dict_leaves (dictionary_of H archive))) (length-mth (documents_of H archive.texts)) (length-mth archive.texts)
 
 -- the bytes of the header, one part after another
-pub header_parts : (H : List ℕ → List ℕ) (archive : Archive) → header_of H archive
+pub header_joined : (H : List ℕ → List ℕ) (archive : Archive) → header_of H archive
     ≡ 1 ∷ to_be_bytes w32 (length archive.texts) ++ to_be_bytes w32 (length (vocabulary archive.texts) + 2)
     ++ mth H (dict_leaves (dictionary_of H archive)) ++ mth H (documents_of H archive.texts) ++ mth H archive.texts
 unfolding header_bytes
-header_parts H archive =
+header_joined H archive =
     ap (λ d. header_bytes (length archive.texts) d (mth H (dict_leaves (dictionary_of H archive))) (mth H (documents_of H archive.texts)) (mth H archive.texts)) (dictionary_count H archive)

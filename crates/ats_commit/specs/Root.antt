@@ -18,6 +18,16 @@ header_of H archive =
     (mth H (documents_of H archive.texts))
     (mth H archive.texts)
 
+-- these numbers and roots, each by its name
+abbrev pub header_parts : (List ℕ → List ℕ) → Archive → Header
+header_parts H archive = record {
+  documents = length archive.texts;
+  dict_leaves = length (dict_leaves (dictionary_of H archive));
+  dict_root = mth H (dict_leaves (dictionary_of H archive));
+  docs_root = mth H (documents_of H archive.texts);
+  texts_root = mth H archive.texts;
+}
+
 -- numbers and roots that a header can have
 abbrev pub HasHeaderInRange : (List ℕ → List ℕ) → Archive → Type 0
 HasHeaderInRange H archive =

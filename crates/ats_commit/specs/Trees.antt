@@ -23,6 +23,10 @@ dictionary_of H archive = map (dict_entry H archive.layout) (lists_of archive.te
 abbrev pub documents_leaf : (List ℕ → List ℕ) → List (List ℕ) → List ℕ
 documents_leaf H leaves = doc_leaf_bytes (length leaves) (mth H leaves)
 
+-- the documents leaf of a document with these terms
+abbrev pub leaf_of_terms : (List ℕ → List ℕ) → List (List ℕ × ℕ) → DocLeaf
+leaf_of_terms H terms = record { leaves = length (terms_leaves terms); root = mth H (terms_leaves terms) }
+
 -- the leaves of the documents tree, one for each text
 abbrev pub documents_of : (List ℕ → List ℕ) → List (List ℕ) → List (List ℕ)
 documents_of H texts = map (λ text. documents_leaf H (terms_leaves (text_terms texts text))) texts

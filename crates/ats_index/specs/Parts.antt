@@ -1,22 +1,15 @@
 -- The parts of an archive's index, under a hash function H.
-use Rattle.std.specs.Prelude.{◌≡◌, ℕ, List, length, map}
-use Rattle.ats_tree.specs.Tree.{mth}
+use Rattle.std.specs.Prelude.{◌≡◌, ℕ, List, map}
 use Rattle.ats_lists.specs.Lists.{lists_of}
 use Rattle.ats_lists.specs.declared.entry.Entry.{Entry}
-use Rattle.ats_dict.specs.Dictionary.{dict_leaves}
 use Rattle.ats_dict.specs.Entry.{DictEntry}
 use Rattle.ats_dict.specs.declared.header.Header.{Header}
 use Rattle.ats_doctree.specs.Impacts.{text_terms}
-use Rattle.ats_doctree.specs.Sentinels.{terms_leaves}
 use Rattle.ats_doctree.specs.declared.doc_leaf.DocLeaf.{DocLeaf}
 use Rattle.ats_commit.specs.Archive.{Archive}
-use Rattle.ats_commit.specs.Trees.{dictionary_of, documents_of}
-use Rattle.ats_commit.specs.Root.{root_of}
+use Rattle.ats_commit.specs.Trees.{dictionary_of, leaf_of_terms}
+use Rattle.ats_commit.specs.Root.{header_parts, root_of}
 use Rattle.ats_commit.specs.Own.{AreTexts}
-
--- the documents leaf of a document with these terms
-abbrev pub leaf_of_terms : (List ℕ → List ℕ) → List (List ℕ × ℕ) → DocLeaf
-leaf_of_terms H terms = record { leaves = length (terms_leaves terms); root = mth H (terms_leaves terms) }
 
 -- the terms of each document with their impacts, in the order of documents
 abbrev pub all_terms : List (List ℕ) → List (List (List ℕ × ℕ))
@@ -25,16 +18,6 @@ all_terms texts = map (text_terms texts) texts
 -- the documents leaf of each document
 abbrev pub all_leaves : (List ℕ → List ℕ) → List (List ℕ) → List DocLeaf
 all_leaves H texts = map (λ text. leaf_of_terms H (text_terms texts text)) texts
-
--- the numbers and roots of the header
-abbrev pub header_parts : (List ℕ → List ℕ) → Archive → Header
-header_parts H archive = record {
-  documents = length archive.texts;
-  dict_leaves = length (dict_leaves (dictionary_of H archive));
-  dict_root = mth H (dict_leaves (dictionary_of H archive));
-  docs_root = mth H (documents_of H archive.texts);
-  texts_root = mth H archive.texts;
-}
 
 -- the texts are within the limits, and each part is the archive's
 pub record IsIndexOf

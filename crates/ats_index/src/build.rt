@@ -5,8 +5,8 @@ ghost use Rattle.ats_tree.specs.Kept.{kept_digests};
 ghost use Rattle.ats_dict.specs.Dictionary.{dict_leaves};
 ghost use Rattle.ats_commit.specs.Archive.{archive_of};
 ghost use Rattle.ats_commit.specs.Trees.{dictionary_of, documents_of};
+ghost use Rattle.ats_commit.specs.Root.{header_parts};
 ghost use Rattle.ats_commit.specs.Own.{AreTexts};
-ghost use Rattle.ats_index.specs.Parts.{header_parts};
 
 use ats_commit::TextLeaves;
 use ats_dict::{Dictionary, Header};

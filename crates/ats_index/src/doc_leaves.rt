@@ -3,8 +3,7 @@
 ghost use Rattle.std.specs.Prelude.{◌≡◌, ◌≤◌, length, map, IfOk};
 ghost use Rattle.ats_tree.specs.Kept.{kept_digests};
 ghost use Rattle.ats_doctree.specs.Sentinels.{terms_leaves};
-ghost use Rattle.ats_commit.specs.Trees.{leaf_of};
-ghost use Rattle.ats_index.specs.Parts.{leaf_of_terms};
+ghost use Rattle.ats_commit.specs.Trees.{leaf_of, leaf_of_terms};
 
 use crate::memory::OutOfMemory;
 use ats_commit::DocLeaves;

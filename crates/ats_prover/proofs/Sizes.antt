@@ -4,10 +4,10 @@ use Rattle.ats_commit.specs.Archive.{Archive}
 use Rattle.ats_proof.specs.Written.{Written, writing}
 use Rattle.ats_proof.specs.declared.record.Algorithm.{Algorithm}
 use Rattle.ats_proof.specs.Value.{Proof}
-use Rattle.ats_prover.specs.Honest.{IsHonest, length_of}
+use Rattle.ats_honest.specs.Honest.{IsHonest, length_of}
 use Rattle.ats_prover.specs.Writing.{IsWritten}
-use Rattle.ats_prover.proofs.Archives.{archive_one}
-use Rattle.ats_prover.proofs.Whole.{AreJoined, all_asked}
+use Rattle.ats_honest.proofs.Archives.{archive_one}
+use Rattle.ats_prover.proofs.Asked.{AreJoined, all_asked}
 
 -- so many bytes were asked for, under this limit
 pub record IsAsked (limit size : ℕ) (w : Written) : Type 0 where

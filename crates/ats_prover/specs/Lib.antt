@@ -1,6 +1,4 @@
-pub mod Terms
-pub mod Present
-pub mod Lanes
-pub mod Documents
-pub mod Honest
+pub mod Places
+pub mod Nodes
+pub mod Fault
 pub mod Writing

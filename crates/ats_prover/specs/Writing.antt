@@ -1,5 +1,5 @@
 -- Fields that are asked of a writer.
-use Rattle.std.specs.Prelude.{◌≡◌, ◌≤◌, ◌^◌, ◌++◌, ◌==◌, ℕ, List, [], length, Option}
+use Rattle.std.specs.Prelude.{◌≡◌, ◌≤◌, ◌^◌, ◌++◌, ℕ, List, [], length, Option}
 use Rattle.std.specs.List.{All, concat, flat_map}
 use Rattle.ats_lists.specs.Layout.{whole_lists}
 use Rattle.ats_commit.specs.Archive.{Archive}
@@ -7,13 +7,14 @@ use Rattle.ats_bound.specs.Schedule.{WholeLane}
 use Rattle.ats_proof.specs.Written.{Written, after}
 use Rattle.ats_proof.specs.declared.record.Algorithm.{Algorithm}
 use Rattle.ats_proof.specs.declared.record.Algorithm.TheVariants.{Tnra}
-use Rattle.ats_grammar.specs.Table.{Table, End}
+use Rattle.ats_grammar.specs.Table.{End}
 use Rattle.ats_grammar.specs.Front.{Come}
 use Rattle.ats_grammar.specs.Grammar as grammar
 use Rattle.ats_proof.specs.Parts.{counted}
-use Rattle.ats_proof.specs.Value.{Documents, Proof, TermsSection, documents_fields, fields_of, id_fields, number_of_algorithm, prefix_fields, present_in, section_fields}
-use Rattle.ats_prover.specs.Documents.{AreHonestSections, HasDocuments, IsHonestSection}
-use Rattle.ats_prover.specs.Honest.{IsHonest, length_of, prefixes}
+use Rattle.ats_proof.specs.Value.{Documents, Proof, TermsSection, documents_fields, fields_of, id_fields, prefix_fields, present_in, section_fields}
+use Rattle.ats_honest.specs.Documents.{AreHonestSections, HasDocuments, IsHonestSection}
+use Rattle.ats_honest.specs.Honest.{IsHonest, length_of, prefixes}
+use Rattle.ats_honest.specs.Order.{AreInOrder, ComesIn}
 
 -- the bytes of these fields were asked for, one field behind another
 abbrev pub put : Written → List (List ℕ) → Written
@@ -22,14 +23,6 @@ put written fields = after written (concat fields)
 -- nothing more that is asked for changes nothing, as where something was asked for before
 abbrev pub IsStarted : Written → Type 0
 IsStarted written = put written [] ≡ written
-
--- the fields of a terms section with so many slots come in the grammar's order
-abbrev pub ComesIn : ℕ → TermsSection → Type 0
-ComesIn slots section = (rest : Table) → Come (section_fields section) (grammar.term_section slots rest) rest
-
--- so do those of what is shown of so many met documents
-abbrev pub AreInOrder : (met slots : ℕ) → Option Documents → Type 0
-AreInOrder met slots docs = Come (documents_fields docs) (grammar.documents (number_of_algorithm docs == 1) met slots) grammar.answer
 
 -- the fields of an honest terms section were asked for
 pub record IsSectionWritten (H : List ℕ → List ℕ) (items terms : List (List ℕ × ℕ)) (before now : Written) : Type 0 where

@@ -1,7 +1,7 @@
 //! Impacts of the query's terms, looked up in the documents.
 
 ghost use Rattle.std.specs.Prelude.{map};
-ghost use Rattle.ats_prover.specs.Lanes.{impacts_of, lane_of};
+ghost use Rattle.ats_honest.specs.Lanes.{impacts_of, lane_of};
 
 use crate::present_terms::PresentTerms;
 use ats_doctree::Spot;

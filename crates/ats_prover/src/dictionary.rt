@@ -8,7 +8,7 @@ ghost use Rattle.ats_tree.specs.Kept.{kept_digests};
 ghost use Rattle.ats_dict.specs.Dictionary.{IsDictionary, dict_leaves};
 ghost use Rattle.ats_proof.specs.Parts.{counted};
 ghost use Rattle.ats_proof.specs.Value.{digest_fields, entry_fields, slot_fields};
-ghost use Rattle.ats_prover.specs.Terms.{AreNeeded, AreSpots, lower, needs, place, shown_entry, slot_of};
+ghost use Rattle.ats_honest.specs.Terms.{AreNeeded, AreSpots, lower, needs, place, shown_entry, slot_of};
 ghost use Rattle.ats_prover.specs.Writing.{put};
 
 use crate::fault::OutOfMemory;

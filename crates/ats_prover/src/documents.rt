@@ -8,7 +8,7 @@ ghost use Rattle.ats_commit.specs.Trees.{documents_of};
 ghost use Rattle.ats_doctree.specs.declared.doc_leaf.DocLeaf.{DocLeaf as Leaf};
 ghost use Rattle.ats_proof.specs.Parts.{counted};
 ghost use Rattle.ats_proof.specs.Value.{digest_fields, doc_fields};
-ghost use Rattle.ats_prover.specs.Documents.{document_leaf};
+ghost use Rattle.ats_honest.specs.Documents.{document_leaf};
 ghost use Rattle.ats_prover.specs.Writing.{AreDocumentsWritten, AreSectionsWritten, IsStarted, put};
 
 use crate::fault::OutOfMemory;

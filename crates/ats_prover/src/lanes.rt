@@ -6,8 +6,9 @@ ghost use Rattle.ats_impact.specs.Numbers.{idf};
 ghost use Rattle.ats_lists.specs.Lists.{IsList};
 ghost use Rattle.ats_bound.specs.Schedule.{AreWholeLanes, whole_lanes};
 ghost use Rattle.ats_commit.specs.Trees.{dictionary_of};
-ghost use Rattle.ats_prover.specs.Terms.{AreSpots};
-ghost use Rattle.ats_prover.specs.Lanes.{lanes_of, list_digests};
+ghost use Rattle.ats_honest.specs.Terms.{AreSpots};
+ghost use Rattle.ats_honest.specs.Lanes.{lanes_of};
+ghost use Rattle.ats_prover.specs.Nodes.{list_digests};
 
 use crate::fault::OutOfMemory;
 use ats_bound::Lane;

@@ -5,12 +5,11 @@
 //! By random access it also shows where the terms stand in each met document.
 //! Nothing is hashed here: the hash function is a type without a call, and the index lends the digests of all
 //! nodes of its trees.
-//! The room stands on `ats_index` for the archive, on `ats_tnra` and `ats_tra` for the walks, and on
-//! `ats_proof` for the bytes. The contracts promise that a query over an archive has one
-//! honest proof by each algorithm, no more and no fewer, which shows exactly the leaves that its terms need and
-//! exactly the entries of the first settled cut. They promise that the bytes spell it, and that short of want of
-//! memory it is refused exactly where it is longer than the limit. By lists alone it never has more than 2^26
-//! bytes, and that the check accepts it then is the law of `ats_accepts`.
+//! The room stands on `ats_honest`, which says what an honest proof is, on `ats_index` for the archive, on
+//! `ats_tnra` and `ats_tra` for the walks, and on `ats_proof` for the bytes. The contracts promise that the bytes
+//! spell the one honest proof, and that short of want of memory it is refused exactly where it is longer than the
+//! limit. By lists alone it never has more than 2^26 bytes, and that the check accepts it then is the law of
+//! `ats_accepts`.
 //! The order in which the parts are made may change without asking; the bytes may not.
 //!
 //! ```
@@ -31,7 +30,6 @@ mod dictionary;
 mod documents;
 mod fault;
 mod lanes;
-mod laws;
 mod prefixes;
 mod present_terms;
 mod proving;
@@ -41,8 +39,4 @@ mod walking;
 
 pub use ats_proof::Algorithm;
 pub use fault::ProveFault;
-pub use laws::{
-    honest_proofs_are_one, honest_proofs_are_short, honest_proofs_exist,
-    impacts_are_shown_by_documents,
-};
 pub use proving::{prove, prove_within};

@@ -12,8 +12,8 @@ ghost use Rattle.ats_bound.specs.Schedule.{IsCut};
 ghost use Rattle.ats_bound.specs.Schedule.{AreWholeLanes};
 ghost use Rattle.ats_proof.specs.Parts.{counted};
 ghost use Rattle.ats_proof.specs.Value.{id_fields, posting_fields, prefix_fields};
-ghost use Rattle.ats_prover.specs.Honest.{placed, prefix_of, prefixes};
-ghost use Rattle.ats_prover.specs.Lanes.{list_digests};
+ghost use Rattle.ats_honest.specs.Honest.{placed, prefix_of, prefixes};
+ghost use Rattle.ats_prover.specs.Nodes.{list_digests};
 ghost use Rattle.ats_prover.specs.Writing.{put};
 
 use crate::answer::write_met;

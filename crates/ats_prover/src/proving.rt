@@ -10,8 +10,10 @@ ghost use Rattle.ats_bound.specs.Schedule.{IsCut};
 ghost use Rattle.ats_proof.specs.declared.record.Algorithm.TheVariants.{Tnra};
 ghost use Rattle.ats_proof.specs.Value.{Proof};
 ghost use Rattle.ats_prover.specs.declared.fault.ProveFault.TheVariants.{OutOfMemory as MemoryWanted};
-ghost use Rattle.ats_prover.specs.Lanes.{bounding, list_digests};
-ghost use Rattle.ats_prover.specs.Honest.{IsHonest, IsProved, IsFault, IsAnswerWithin, length_of};
+ghost use Rattle.ats_honest.specs.Lanes.{bounding};
+ghost use Rattle.ats_honest.specs.Honest.{IsHonest, IsProved, length_of};
+ghost use Rattle.ats_prover.specs.Nodes.{list_digests};
+ghost use Rattle.ats_prover.specs.Fault.{IsFault, IsAnswerWithin};
 ghost use Rattle.ats_prover.specs.Writing.{IsWalkWritten, IsWritten};
 
 use crate::answer::{documents, write_answer};

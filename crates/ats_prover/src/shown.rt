@@ -5,7 +5,7 @@ ghost use Rattle.std.specs.List.{All, flat_map};
 ghost use Rattle.std.specs.List.Sorted.{IsStrictlyIncreasing};
 ghost use Rattle.ats_proof.specs.Parts.{counted};
 ghost use Rattle.ats_proof.specs.Value.{digest_fields, slot_fields};
-ghost use Rattle.ats_prover.specs.Terms.{AreNeeded, lower, needs, place, slot_of};
+ghost use Rattle.ats_honest.specs.Terms.{AreNeeded, lower, needs, place, slot_of};
 ghost use Rattle.ats_prover.specs.Writing.{IsStarted, put};
 
 use crate::fault::OutOfMemory;

@@ -3,7 +3,7 @@
 ghost use Rattle.std.specs.Prelude.{◌≡◌, ◌≤◌, map, length, IfOk};
 ghost use Rattle.ats_bound.specs.Chosen.{IsChosen};
 ghost use Rattle.ats_bound.specs.Schedule.{AreBracketsBy, AreWholeLanes, IsFirstSettledBy, shown, whole_lanes};
-ghost use Rattle.ats_prover.specs.Lanes.{bounding, lane_of};
+ghost use Rattle.ats_honest.specs.Lanes.{bounding, lane_of};
 
 use crate::access::Impacts;
 use crate::fault::OutOfMemory;

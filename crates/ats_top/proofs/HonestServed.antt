@@ -6,7 +6,7 @@ use Rattle.ats_base.specs.Links.{CallerTold}
 use Rattle.ats_terms.specs.Query.{IsQueryOf}
 use Rattle.ats_commit.specs.Archive.{Archive}
 use Rattle.ats_commit.specs.Root.{root_of}
-use Rattle.ats_prover.specs.Honest.{IsProved}
+use Rattle.ats_honest.specs.Honest.{IsProved}
 use Rattle.ats_client.specs.Bytes.{IsAcceptedBytes}
 use Rattle.ats_accepts.proofs.Accepted.{proved_accepted}
 use Rattle.ats_top.specs.Words.{AskWords, Command, Verify, number_of, root_word, verify_words, command_of}

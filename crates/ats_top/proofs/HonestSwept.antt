@@ -6,7 +6,7 @@ use Rattle.ats_proof.specs.declared.record.Algorithm.{Algorithm}
 use Rattle.ats_terms.specs.Query.{IsQuery, IsQueryOf}
 use Rattle.ats_commit.specs.Archive.{Archive}
 use Rattle.ats_commit.specs.Root.{root_of}
-use Rattle.ats_prover.specs.Honest.{IsProved}
+use Rattle.ats_honest.specs.Honest.{IsProved}
 use Rattle.ats_proof.proofs.InRange.{in_range}
 use Rattle.ats_client.specs.Headline.{AreRight, IsTopOrCollides}
 use Rattle.ats_client.specs.Rows.{rows_of}

@@ -15,7 +15,7 @@ use Rattle.ats_proof.specs.Value.{Prefix, Proof, IsProof, kind_of_slot, present_
 use Rattle.ats_proof.proofs.Runs.{length-parts}
 use Rattle.ats_proof.specs.declared.record.Slot.{Slot}
 use Rattle.ats_proof.proofs.Unique.{one_value}
-use Rattle.ats_prover.specs.Honest.{IsHonest, IsProved, length_of}
+use Rattle.ats_honest.specs.Honest.{IsHonest, IsProved, length_of}
 use Rattle.ats_client.specs.Strings.{extract}
 use Rattle.ats_client.specs.declared.fault.Rejection.TheVariants.{Shape, Check}
 use Rattle.ats_client.proofs.OneRejection.{accepted_kept}
@@ -33,7 +33,7 @@ use Rattle.ats_impact.specs.Limits.{AreWithin}
 use Rattle.ats_impact.specs.Trial.{trial_query}
 use Rattle.ats_impact.specs.declared.collection.CollectionFault.{CollectionFault}
 use Rattle.ats_impact.specs.declared.collection.CollectionFault.TheVariants as collection
-use Rattle.ats_prover.specs.Honest.{IsFault}
+use Rattle.ats_prover.specs.Fault.{IsFault}
 use Rattle.ats_prover.specs.declared.fault.ProveFault.{ProveFault}
 use Rattle.ats_prover.specs.declared.fault.ProveFault.TheVariants as proof
 use Rattle.ats_top.specs.Stops.{stop_of_query, stop_of_collection, stop_of_proof}

@@ -5,7 +5,8 @@ use Rattle.ats_terms.specs.Faults.{IsFirstFault}
 use Rattle.ats_terms.specs.declared.query.QueryFault.{QueryFault}
 use Rattle.ats_terms.specs.declared.query.QueryFault.TheVariants as query
 use Rattle.ats_commit.specs.Archive.{Archive}
-use Rattle.ats_prover.specs.Honest.{IsProved, IsFault}
+use Rattle.ats_honest.specs.Honest.{IsProved}
+use Rattle.ats_prover.specs.Fault.{IsFault}
 use Rattle.ats_prover.specs.declared.fault.ProveFault.{ProveFault}
 use Rattle.ats_prover.specs.declared.fault.ProveFault.TheVariants as proof
 use Rattle.ats_wire.specs.Requests.{Question}

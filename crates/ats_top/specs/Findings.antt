@@ -7,7 +7,7 @@ use Rattle.ats_tree.specs.Differences.{Difference}
 use Rattle.ats_commit.specs.Archive.{Archive}
 use Rattle.ats_commit.specs.Ours.{TreePlace}
 use Rattle.ats_proof.specs.declared.record.Algorithm.{Algorithm}
-use Rattle.ats_prover.specs.Honest.{IsProved}
+use Rattle.ats_honest.specs.Honest.{IsProved}
 use Rattle.ats_client.specs.Headline.{AreRight}
 use Rattle.ats_client.specs.Rows.{rows_of}
 use Rattle.ats_client.specs.declared.fault.Rejection.{Rejection}

@@ -2,7 +2,7 @@
 use Rattle.std.specs.Prelude.{◌≤◌, ◌^◌, ℕ, List, length}
 use Rattle.ats_commit.specs.Archive.{Archive}
 use Rattle.ats_terms.specs.Query.{IsQueryOf}
-use Rattle.ats_prover.specs.Honest.{IsProved, IsTooLong}
+use Rattle.ats_honest.specs.Honest.{IsProved, IsTooLong}
 use Rattle.ats_top.specs.Words.{ProveWords}
 use Rattle.ats_top.specs.Read.{Files, HasIndex}
 

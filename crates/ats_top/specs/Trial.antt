@@ -13,7 +13,7 @@ use Rattle.ats_client.specs.Accepts.{Accepts}
 use Rattle.ats_client.specs.Strings.{extract}
 use Rattle.ats_audit.specs.declared.auditing.Verdict.{Verdict}
 use Rattle.ats_audit.specs.declared.auditing.Verdict.TheVariants.{Right}
-use Rattle.ats_prover.specs.Honest.{IsHonest, IsTooLong, length_of}
+use Rattle.ats_honest.specs.Honest.{IsHonest, IsTooLong, length_of}
 use Rattle.ats_top.specs.Print.{line_of_root}
 use Rattle.ats_top.specs.Stops.{stop_of_query}
 use Rattle.ats_top.specs.declared.stops.InputRefusal.{InputRefusal}

@@ -8,7 +8,7 @@ ghost use Rattle.ats_commit.specs.Archive.{Archive};
 ghost use Rattle.ats_commit.specs.Root.{root_of};
 ghost use Rattle.ats_proof.specs.declared.record.Algorithm.{Algorithm};
 ghost use Rattle.ats_index.specs.Spelling.{IsSpelling};
-ghost use Rattle.ats_prover.specs.Honest.{IsProved};
+ghost use Rattle.ats_honest.specs.Honest.{IsProved};
 ghost use Rattle.ats_top.specs.Words.{AskWords, AuditWords, SweepWords, Command, Ask, Audit, Sweep, number_of, algorithm_of, root_word, root_words, prove_words, verify_words};
 ghost use Rattle.ats_top.specs.Read.{Files, IsFile, IsTold, HasIndex};
 ghost use Rattle.ats_top.specs.Refusals.{IsRowCount, AsksRanking, IsRefused};

@@ -1,5 +1,5 @@
 use Rattle.std.proofs.Common.{◌≡◌, take, map}
-use Rattle.ats_index.specs.Parts.{leaf_of_terms}
+use Rattle.ats_commit.specs.Trees.{leaf_of_terms}
 use Rattle.ats_index.proofs.doc_leaves.leaves_of.Given as goal
 
 -- the documents so far have leaves

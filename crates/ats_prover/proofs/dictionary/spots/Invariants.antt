@@ -1,5 +1,5 @@
 use Rattle.std.proofs.Common.{take}
-use Rattle.ats_prover.specs.Terms.{AreSpots}
+use Rattle.ats_honest.specs.Terms.{AreSpots}
 use Rattle.ats_prover.proofs.dictionary.spots.Given as goal
 
 -- the spots of the terms so far

@@ -6,9 +6,9 @@ use Rattle.ats_dict.proofs.Sentinels.{length-dict_leaves}
 use Rattle.ats_proof.specs.Written.{Written}
 use Rattle.ats_proof.specs.Parts.{counted}
 use Rattle.ats_proof.specs.Value.{digest_fields, entry_fields}
-use Rattle.ats_prover.specs.Terms.{shown_entry}
+use Rattle.ats_honest.specs.Terms.{shown_entry}
 use Rattle.ats_prover.specs.Writing.{put}
-use Rattle.ats_prover.proofs.Elided.{dictionary_few}
+use Rattle.ats_honest.proofs.Elided.{dictionary_few}
 use Rattle.ats_prover.proofs.KeptDigests.{kept_positions}
 use Rattle.ats_prover.proofs.Putting.{put_put}
 use Rattle.ats_prover.proofs.dictionary.write_section.Goals as goal

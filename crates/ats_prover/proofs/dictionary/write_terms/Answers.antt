@@ -6,7 +6,7 @@ use Rattle.ats_dict.specs.Dictionary.{dict_leaves}
 use Rattle.ats_proof.specs.Written.{Written}
 use Rattle.ats_proof.specs.Parts.{counted}
 use Rattle.ats_proof.specs.Value.{digest_fields, entry_fields, slot_fields}
-use Rattle.ats_prover.specs.Terms.{shown_entry, slot_of}
+use Rattle.ats_honest.specs.Terms.{shown_entry, slot_of}
 use Rattle.ats_prover.specs.Writing.{put}
 use Rattle.ats_prover.proofs.Putting.{put_put, started}
 use Rattle.ats_prover.proofs.dictionary.write_terms.Goals as goal

@@ -8,7 +8,7 @@ use Rattle.ats_doctree.specs.declared.doc_leaf.DocLeaf.{DocLeaf}
 use Rattle.ats_proof.specs.Written.{Written, after}
 use Rattle.ats_proof.specs.Records.{doc_leaf_record}
 use Rattle.ats_proof.specs.Value.{doc_fields}
-use Rattle.ats_prover.specs.Documents.{document_leaf}
+use Rattle.ats_honest.specs.Documents.{document_leaf}
 use Rattle.ats_prover.proofs.Records.{doc_is}
 use Rattle.ats_prover.proofs.Putting.{put_more}
 use Rattle.ats_prover.proofs.documents.write_leaves.Goals as goal

@@ -2,7 +2,8 @@ use Rattle.std.proofs.Common.{◌≡◌, ◌≤◌, length, map, take}
 use Rattle.std.specs.List.{All}
 use Rattle.ats_lists.specs.Lists.{IsList}
 use Rattle.ats_bound.specs.Schedule.{WholeLane, IsWholeLane, whole_lanes}
-use Rattle.ats_prover.specs.Lanes.{lanes_of, list_digests}
+use Rattle.ats_honest.specs.Lanes.{lanes_of}
+use Rattle.ats_prover.specs.Nodes.{list_digests}
 use Rattle.ats_prover.proofs.lanes.query_lists.Given as goal
 
 -- the lanes of the terms so far

@@ -6,7 +6,7 @@ use Rattle.ats_proof.specs.Written.{Written, after}
 use Rattle.ats_proof.specs.Records.{entry_record}
 use Rattle.ats_proof.specs.Parts.{spelled}
 use Rattle.ats_proof.specs.Value.{posting_fields}
-use Rattle.ats_prover.specs.Honest.{placed}
+use Rattle.ats_honest.specs.Honest.{placed}
 use Rattle.ats_prover.proofs.Records.{posting_is}
 use Rattle.ats_prover.proofs.Putting.{put_more}
 use Rattle.ats_prover.proofs.prefixes.write_entries.Goals as goal

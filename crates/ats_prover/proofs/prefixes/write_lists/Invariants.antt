@@ -4,7 +4,7 @@ use Rattle.ats_lists.specs.Layout.{whole_lists}
 use Rattle.ats_bound.specs.Schedule.{whole_lanes}
 use Rattle.ats_proof.specs.Parts.{counted}
 use Rattle.ats_proof.specs.Value.{id_fields, prefix_fields}
-use Rattle.ats_prover.specs.Honest.{prefixes}
+use Rattle.ats_honest.specs.Honest.{prefixes}
 use Rattle.ats_prover.specs.Writing.{put}
 use Rattle.ats_prover.proofs.prefixes.write_lists.Given as goal
 

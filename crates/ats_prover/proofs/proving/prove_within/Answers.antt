@@ -2,9 +2,9 @@ use Rattle.std.proofs.Common.{◌≡◌, ℕ, List, [], length, sym, ap, subst, 
 use Rattle.std.specs.List.{concat}
 use Rattle.ats_proof.specs.Written.{Written, writing}
 use Rattle.ats_proof.specs.Value.{fields_of}
-use Rattle.ats_prover.specs.Honest.{length_of}
+use Rattle.ats_honest.specs.Honest.{length_of}
 use Rattle.ats_prover.specs.Writing.{IsWritten}
-use Rattle.ats_prover.proofs.Whole.{all_asked, is_proved}
+use Rattle.ats_prover.proofs.Asked.{all_asked, is_proved}
 use Rattle.ats_prover.proofs.Sizes.{asked_beyond, asked_within, is_asked}
 use Rattle.ats_prover.proofs.proving.prove_within.Given
 use Rattle.ats_prover.proofs.proving.prove_within.Goals as goal

@@ -10,9 +10,9 @@ use Rattle.ats_dict.specs.Entry.{DictEntry}
 use Rattle.ats_dict.specs.Dictionary.{IsDictionary, dict_leaves}
 use Rattle.ats_terms.specs.declared.spot.Spot.{Spot}
 use Rattle.ats_commit.specs.Archive.{Archive, archive_of}
+use Rattle.ats_commit.specs.Root.{header_parts}
 use Rattle.ats_commit.specs.Trees.{dictionary_of}
 use Rattle.ats_commit.proofs.HeaderLemmas.{header_in_range}
-use Rattle.ats_index.specs.Parts.{header_parts}
 use Rattle.ats_bound.specs.Schedule.{WholeLane, AreBracketsBy, IsFirstSettledBy, shown, whole_lane, whole_lanes}
 use Rattle.ats_bound.specs.declared.lane.Lane.{Lane}
 use Rattle.ats_lists.specs.declared.entry.Entry.{Entry}
@@ -20,20 +20,22 @@ use Rattle.ats_bound.specs.Schedule.{IsCut}
 use Rattle.ats_proof.specs.Written.{Written}
 use Rattle.ats_proof.specs.Parts.{counted}
 use Rattle.ats_proof.specs.Value.{digest_fields, entry_fields, slot_fields}
-use Rattle.ats_prover.specs.Terms.{AreNeeded, AreSpots, shown_entry, slot_of}
-use Rattle.ats_prover.specs.Lanes.{bounding, lane_of, lanes_of, list_digests, present}
-use Rattle.ats_prover.specs.Present.{standing}
-use Rattle.ats_prover.specs.Honest.{IsHonest}
+use Rattle.ats_honest.specs.Terms.{AreNeeded, AreSpots, shown_entry, slot_of}
+use Rattle.ats_honest.specs.Lanes.{bounding, lane_of, lanes_of, present}
+use Rattle.ats_prover.specs.Nodes.{list_digests}
+use Rattle.ats_honest.specs.Present.{standing}
+use Rattle.ats_honest.specs.Honest.{IsHonest}
 use Rattle.ats_prover.specs.Writing.{IsWalkWritten, IsWritten, put}
 use Rattle.ats_proof.specs.declared.record.Algorithm.{Algorithm}
 use Rattle.ats_proof.specs.declared.record.Algorithm.TheVariants.{Tnra}
-use Rattle.ats_prover.proofs.Spots.{spot_each}
-use Rattle.ats_prover.proofs.Ranges.{positions_below}
-use Rattle.ats_prover.proofs.Short.{honest_short}
+use Rattle.ats_honest.proofs.Spots.{spot_each}
+use Rattle.ats_honest.proofs.Ranges.{positions_below}
+use Rattle.ats_honest.proofs.Short.{honest_short}
 use Rattle.ats_bound.proofs.Shown.{have_entries, scheduled_is_cut}
-use Rattle.ats_prover.proofs.Whole.{HasParts, as_built, docs_of, front_put, is_honest, kind_of_documents, proof_of, written}
-use Rattle.ats_prover.proofs.StandingTerms.{standing_present}
-use Rattle.ats_prover.proofs.Present.{lanes_have_lists}
+use Rattle.ats_honest.proofs.Whole.{HasParts, docs_of, is_honest, proof_of}
+use Rattle.ats_prover.proofs.Asked.{as_built, front_put, kind_of_documents, written}
+use Rattle.ats_honest.proofs.StandingTerms.{standing_present}
+use Rattle.ats_honest.proofs.Present.{lanes_have_lists}
 use Rattle.ats_prover.proofs.proving.write_proof.Goals as goal
 
 -- the nodes that are lent, of the dictionary that is lent

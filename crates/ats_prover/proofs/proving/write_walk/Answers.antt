@@ -10,9 +10,9 @@ use Rattle.ats_bound.specs.Schedule.{AreBracketsBy, Bounding, WholeLane, whole_l
 use Rattle.ats_proof.specs.Written.{Written}
 use Rattle.ats_proof.specs.Parts.{counted}
 use Rattle.ats_proof.specs.Value.{documents_fields, id_fields, prefix_fields}
-use Rattle.ats_prover.specs.Honest.{prefixes}
+use Rattle.ats_honest.specs.Honest.{prefixes}
 use Rattle.ats_prover.specs.Writing.{AreDocumentsWritten, put}
-use Rattle.ats_prover.proofs.MetDocuments.{met_rises, met_below, rising_few, lists_below, lists_some}
+use Rattle.ats_honest.proofs.MetDocuments.{met_rises, met_below, rising_few, lists_below, lists_some}
 use Rattle.ats_prover.proofs.Putting.{put_put, started}
 use Rattle.ats_prover.proofs.proving.write_walk.Goals as goal
 

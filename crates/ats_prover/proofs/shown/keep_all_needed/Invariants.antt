@@ -1,6 +1,6 @@
 use Rattle.std.proofs.Common.{◌≡◌, take}
 use Rattle.std.specs.List.{flat_map}
-use Rattle.ats_prover.specs.Terms.{needs}
+use Rattle.ats_honest.specs.Terms.{needs}
 use Rattle.ats_prover.proofs.shown.keep_all_needed.Given as goal
 
 -- the positions of the terms so far

@@ -4,7 +4,7 @@ use Rattle.ats_proof.specs.Written.{Written, after}
 use Rattle.ats_proof.specs.Records.{slot_record}
 use Rattle.ats_terms.specs.declared.spot.Spot.TheVariants.{At}
 use Rattle.ats_proof.specs.Value.{slot_fields}
-use Rattle.ats_prover.specs.Terms.{slot_of}
+use Rattle.ats_honest.specs.Terms.{slot_of}
 use Rattle.ats_prover.proofs.Records.{slot_is}
 use Rattle.ats_prover.proofs.Putting.{put_more}
 use Rattle.ats_prover.proofs.shown.write_slots.Goals as goal

@@ -1,6 +1,6 @@
 use Rattle.std.proofs.Common.{take}
-use Rattle.ats_prover.specs.Documents.{IsTermSpot}
-use Rattle.ats_prover.specs.Terms.{HaveSpots}
+use Rattle.ats_honest.specs.Documents.{IsTermSpot}
+use Rattle.ats_honest.specs.Terms.{HaveSpots}
 use Rattle.ats_prover.proofs.terms_section.keep_spots.Given as goal
 
 -- the spots of the terms so far

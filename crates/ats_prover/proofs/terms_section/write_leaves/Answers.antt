@@ -5,7 +5,7 @@ use Rattle.ats_proof.specs.Written.{Written, after}
 use Rattle.ats_proof.specs.Records.{term_leaf_record}
 use Rattle.ats_proof.specs.Parts.{spelled}
 use Rattle.ats_proof.specs.Value.{term_fields}
-use Rattle.ats_prover.specs.Documents.{shown_term}
+use Rattle.ats_honest.specs.Documents.{shown_term}
 use Rattle.ats_prover.proofs.Records.{term_is}
 use Rattle.ats_prover.proofs.Putting.{put_more}
 use Rattle.ats_prover.proofs.terms_section.write_leaves.Goals as goal

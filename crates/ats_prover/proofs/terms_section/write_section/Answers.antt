@@ -7,11 +7,12 @@ use Rattle.ats_doctree.specs.Sentinels.{terms_leaves}
 use Rattle.ats_proof.specs.Parts.{counted}
 use Rattle.ats_proof.specs.Value.{digest_fields, slot_fields, term_fields}
 use Rattle.ats_proof.specs.Written.{Written}
-use Rattle.ats_prover.specs.Documents.{IsTermSpot, shown_term}
-use Rattle.ats_prover.specs.Terms.{AreNeeded, slot_of}
+use Rattle.ats_honest.specs.Documents.{IsTermSpot, shown_term}
+use Rattle.ats_honest.specs.Terms.{AreNeeded, slot_of}
 use Rattle.ats_prover.specs.Writing.{put}
-use Rattle.ats_prover.proofs.Items.{lower_item, written_section}
-use Rattle.ats_prover.proofs.Ranges.{all_below}
+use Rattle.ats_honest.proofs.Items.{lower_item}
+use Rattle.ats_prover.proofs.MetLeaves.{written_section}
+use Rattle.ats_honest.proofs.Ranges.{all_below}
 use Rattle.ats_prover.proofs.terms_section.write_section.Goals as goal
 
 -- the positions as they are lent

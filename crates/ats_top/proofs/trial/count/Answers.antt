@@ -6,7 +6,7 @@ use Rattle.ats_proof.specs.Value.{Proof, IsProof}
 use Rattle.ats_proof.specs.Views.{proof_of}
 use Rattle.ats_proof.proofs.Unique.{one_value}
 use Rattle.ats_client.specs.Accepts.{Accepts}
-use Rattle.ats_prover.specs.Honest.{IsHonest, IsProved, length_of}
+use Rattle.ats_honest.specs.Honest.{IsHonest, IsProved, length_of}
 use Rattle.ats_audit.specs.Verdicts.{IsVerdict}
 use Rattle.ats_audit.specs.declared.auditing.Verdict.{Verdict}
 use Rattle.ats_top.specs.Trial.{IsSmall, IsTried, counted, shown_entries, is_right}

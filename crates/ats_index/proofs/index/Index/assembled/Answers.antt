@@ -9,8 +9,8 @@ use Rattle.ats_dict.specs.Entry.{DictEntry}
 use Rattle.ats_dict.specs.declared.header.Header.{Header}
 use Rattle.ats_commit.specs.Archive.{archive_of}
 use Rattle.ats_commit.specs.Root.{header_root}
-use Rattle.ats_commit.specs.Trees.{dict_entry, dictionary_of, leaf_of}
-use Rattle.ats_index.specs.Parts.{all_leaves, leaf_of_terms}
+use Rattle.ats_commit.specs.Trees.{dict_entry, dictionary_of, leaf_of, leaf_of_terms}
+use Rattle.ats_index.specs.Parts.{all_leaves}
 use Rattle.ats_index.proofs.Whole.{digests_of_terms, leaves_are_documents, leaves_of_terms}
 use Rattle.ats_index.proofs.index.Index.assembled.Goals as goal
 

@@ -1,0 +1,183 @@
+-- Each query over a collection has an honest proof by each algorithm.
+use Rattle.std.proofs.Common.{◌≡◌, ◌<◌, ◌≤◌, ℕ, Bool, nat_eq, nat_lt, List, [], ◌∷◌, length, map, get_or, Option, Some, None, refl, sym, subst, arith}
+use Rattle.std.specs.List.{All, dedup, flat_map}
+use Rattle.std.specs.Ordering.{is_lt, nat_cmp}
+use Rattle.std.proofs.Math.Nat.{mul-le-mul}
+use Rattle.std.proofs.lemmas.Cmp.{nat_cmp_total}
+use Rattle.std.proofs.lemmas.List.{get_or-map, length-map}
+use Rattle.std.proofs.lemmas.List.Elements.{All-filter}
+use Rattle.std.proofs.lemmas.List.MinMax.{ranks_by}
+use Rattle.std.proofs.lemmas.List.Sums.{get_or-le-sum_by}
+use Rattle.ats_terms.specs.Query.{IsQuery}
+use Rattle.ats_impact.specs.Numbers.{idf}
+use Rattle.ats_impact.specs.Score.{frequency}
+use Rattle.ats_lists.specs.Lists.{IsList, list}
+use Rattle.ats_lists.proofs.WholeLemmas.{list_frequency}
+use Rattle.ats_tree.specs.Elided.{elided_digests}
+use Rattle.ats_dict.specs.Dictionary.{dict_leaves}
+use Rattle.ats_terms.specs.declared.spot.Spot.{Spot}
+use Rattle.ats_doctree.specs.Impacts.{doc_terms}
+use Rattle.ats_doctree.specs.Sentinels.{terms_leaves}
+use Rattle.ats_lists.specs.Layout.{whole_lists}
+use Rattle.ats_commit.specs.Archive.{archive_of}
+use Rattle.ats_commit.specs.Own.{AreTexts}
+use Rattle.ats_commit.specs.Root.{header_parts}
+use Rattle.ats_commit.specs.Trees.{dictionary_of, documents_of}
+use Rattle.ats_bound.specs.declared.bracket.Bracket.{Bracket}
+use Rattle.ats_bound.specs.Narrow.{AreNarrow}
+use Rattle.ats_bound.specs.Schedule.{AreWholeLanes, IsWholeLane, WholeLane, shown}
+use Rattle.ats_bound.proofs.Ending.{brackets_are_narrow, first_settled_exists, looked_up_are_narrow}
+use Rattle.ats_bound.proofs.Gathered.{brackets_exist}
+use Rattle.ats_bound.proofs.Sorted.{chosen_exists, sorts}
+use Rattle.ats_proof.specs.declared.record.Algorithm.{Algorithm}
+use Rattle.ats_proof.specs.declared.record.Algorithm.TheVariants.{Tra, Tnra}
+use Rattle.ats_proof.specs.Value.{Documents, Proof, TermsSection}
+use Rattle.ats_honest.specs.Terms.{AreNeeded, needs, shown_entry, slot_of}
+use Rattle.ats_honest.specs.Lanes.{bounding, impacts_of, lane_of, lanes_of, present}
+use Rattle.ats_honest.specs.Documents.{AreHonestSections, HasDocuments, IsHonestSection, document_leaf, shown_term}
+use Rattle.ats_honest.specs.Honest.{IsHonest, prefixes}
+use Rattle.ats_honest.proofs.Needed.{are_needed}
+use Rattle.ats_honest.proofs.Present.{few_idf, lanes_few, lanes_have_lists, some_idf}
+use Rattle.ats_honest.proofs.Standing.{HasTerm, entry_spots, item_spots}
+
+-- the positions that spots need can be put in order
+needed_exist : (spots : List Spot) → (positions : List ℕ) × AreNeeded spots positions
+needed_exist spots =
+    let all : List ℕ = flat_map needs spots in
+    let order = ranks_by nat_cmp_total (λ (n : ℕ). n) in
+    let sorted = sorts (λ (m : ℕ) (n : ℕ). is_lt (nat_cmp m n)) order.one_way all in
+    (dedup nat_eq sorted.0, are_needed spots all sorted.0 (dedup nat_eq sorted.0) refl sorted.1 sorted.2 refl)
+
+-- ---- lanes
+
+-- how often a term stands in a query
+abbrev IsWeighed : List ℕ × ℕ → Type 0
+IsWeighed pair = (1 ≤ pair.1) × (pair.1 ≤ 255)
+
+lane_is_whole : (texts : List (List ℕ)) (pair : List ℕ × ℕ) → length texts ≤ 65536 → IsWeighed pair → IsList (length texts) (list texts pair.0) → IsWholeLane (lane_of texts pair)
+lane_is_whole texts pair few weighed list =
+    let f : 1 ≤ frequency pair.0 texts = omega (arith, list.some, list_frequency texts pair.0) in
+    let low : 1 ≤ idf (length texts) (frequency pair.0 texts) = some_idf (length texts) (frequency pair.0 texts) in
+    let high : idf (length texts) (frequency pair.0 texts) ≤ 128 = few_idf (length texts) (frequency pair.0 texts) few f in
+    record {
+      weighted = (omega (arith, mul-le-mul weighed.0 low), omega (arith, mul-le-mul weighed.1 high));
+      some = list.some;
+      few = omega (arith, list.few, few);
+      impacts = λ k d inside. (list.impacts k d inside).0;
+      falling = list.falling;
+      once = list.once;
+    }
+
+-- the lanes of a query are whole
+lanes_are_whole : (texts : List (List ℕ)) (query : List (List ℕ × ℕ)) → length texts ≤ 65536 → IsQuery query → AreWholeLanes (lanes_of texts query)
+lanes_are_whole texts query few is =
+    let terms : List (List ℕ × ℕ) = present texts query in
+    let has : List ℕ × ℕ → Bool = λ (pair : List ℕ × ℕ). nat_lt 0 (frequency pair.0 texts) in
+    let size : length (lanes_of texts query) ≡ length terms = length-map terms (lane_of texts) in
+    let all : All IsWeighed query = λ k d inside. (is.weighed k d inside, omega (arith, get_or-le-sum_by (λ (pair : List ℕ × ℕ). pair.1) query k d inside, is.weights)) in
+    record {
+      few = omega (arith, lanes_few texts query, is.few);
+      each = λ k d inside.
+          let pair : List ℕ × ℕ = get_or terms k ([], 0) in
+          let here : k < length terms = omega (arith, size, inside) in
+          let at : get_or (lanes_of texts query) k d ≡ lane_of texts pair = get_or-map (lane_of texts) terms k ([], 0) d here in
+          let list : IsList (length texts) (get_or (lanes_of texts query) k d).entries = lanes_have_lists texts query k d inside in
+          subst IsWholeLane (sym at) (lane_is_whole texts pair few (All-filter has IsWeighed query all k ([], 0) here) (subst (λ (lane : WholeLane). IsList (length texts) lane.entries) at list));
+    }
+
+narrow : (algorithm : Algorithm) (lanes : List WholeLane) → AreNarrow (bounding algorithm lanes)
+narrow Tnra lanes = brackets_are_narrow
+narrow Tra lanes = looked_up_are_narrow (impacts_of lanes)
+
+-- ---- documents
+
+section_exists : (H : List ℕ → List ℕ) (texts : List (List ℕ)) (terms : List (List ℕ × ℕ)) (doc : ℕ) → All HasTerm terms
+    → (section : TermsSection) × IsHonestSection H (doc_terms texts doc) terms section
+section_exists H texts terms doc all =
+    let items : List (List ℕ × ℕ) = doc_terms texts doc in
+    let spots = item_spots texts doc terms all in
+    let positions = needed_exist spots.0 in
+    let section : TermsSection = record {
+      leaves = map (shown_term items) positions.0;
+      digests = elided_digests H (terms_leaves items) positions.0;
+      slots = map (slot_of positions.0) spots.0;
+    } in (
+      section,
+      record {
+        spots = spots.0;
+        found = spots.1;
+        positions = positions.0;
+        needed = positions.1;
+        leaves = refl;
+        digests = refl;
+        slots = refl;
+      },
+    )
+
+sections_exist : (H : List ℕ → List ℕ) (texts : List (List ℕ)) (terms : List (List ℕ × ℕ)) (met : List ℕ) → All HasTerm terms
+    → (sections : List TermsSection) × AreHonestSections H texts terms met sections
+sections_exist H texts terms [] all = ([], tt)
+sections_exist H texts terms (doc ∷ met) all =
+    let here = section_exists H texts terms doc all in
+    let later = sections_exist H texts terms met all in
+    (here.0 ∷ later.0, (here.1, later.1))
+
+documents_exist : (algorithm : Algorithm) (H : List ℕ → List ℕ) (texts : List (List ℕ)) (terms : List (List ℕ × ℕ)) (met : List ℕ) → All HasTerm terms
+    → (docs : Option Documents) × HasDocuments algorithm H texts terms met docs
+documents_exist Tnra H texts terms met all = (None, refl)
+documents_exist Tra H texts terms met all =
+    let sections = sections_exist H texts terms met all in
+    let docs : Documents = record {
+      leaves = map (document_leaf H texts) met;
+      digests = elided_digests H (documents_of H texts) met;
+      sections = sections.0;
+    } in
+    (Some docs, record { leaves = refl; digests = refl; sections = sections.1 })
+
+-- ---- all together
+
+pub honest_exists : (H : List ℕ → List ℕ) (texts : List (List ℕ)) (query : List (List ℕ × ℕ)) (r : ℕ) (algorithm : Algorithm) → AreTexts texts → IsQuery query
+    → (proof : Proof) × IsHonest H (archive_of texts) query r algorithm proof
+honest_exists H texts query r algorithm are is =
+    let entries = dictionary_of H (archive_of texts) in
+    let lanes : List WholeLane = lanes_of texts query in
+    let terms : List (List ℕ × ℕ) = present texts query in
+    let has : List ℕ × ℕ → Bool = λ (pair : List ℕ × ℕ). nat_lt 0 (frequency pair.0 texts) in
+    let spots = entry_spots H texts query is.terms in
+    let positions = needed_exist spots.0 in
+    let ending = first_settled_exists (bounding algorithm lanes) lanes r (narrow algorithm lanes) (lanes_are_whole texts query are.within.few is) in
+    let made = brackets_exist (bounding algorithm lanes) (shown lanes ending.0) (λ doc. (narrow algorithm lanes (shown lanes ending.0) doc).of) in
+    let met : List ℕ = map (λ (b : Bracket). b.doc) made.0 in
+    let docs = documents_exist algorithm H texts terms met (All-filter has HasTerm query is.terms) in
+    let answer = chosen_exists made.0 r in
+    let proof : Proof = record {
+      header = header_parts H (archive_of texts);
+      dict = map (shown_entry entries) positions.0;
+      dict_digests = elided_digests H (dict_leaves entries) positions.0;
+      slots = map (slot_of positions.0) spots.0;
+      met = met;
+      lists = prefixes H whole_lists met lanes ending.0;
+      docs = docs.0;
+      answer = answer.0;
+    } in (
+      proof,
+      record {
+        spots = spots.0;
+        found = spots.1;
+        positions = positions.0;
+        needed = positions.1;
+        cut = ending.0;
+        first = ending.1;
+        brackets = made.0;
+        bounds = made.1;
+        layout = refl;
+        header = refl;
+        dict = refl;
+        dict_digests = refl;
+        slots = refl;
+        met = refl;
+        lists = refl;
+        docs = docs.1;
+        answer = answer.1;
+      },
+    )

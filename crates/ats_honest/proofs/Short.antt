@@ -1,0 +1,311 @@
+-- No honest proof of lists alone has more than 2^26 bytes.
+use Rattle.std.proofs.Common.{true, false, ◌≡◌, ◌+◌, ◌*◌, ◌^◌, ◌<◌, ◌≤◌, ◌++◌, ℕ, zero, suc, List, [], ◌∷◌, length, map, take, get_or, Option, Some, None, nat_eq, refl, sym, ap, subst, ◌∙◌, arith, inl, inr, length-append, length-take}
+use Rattle.std.specs.List.{All, concat, flat_map, range_with_len}
+use Rattle.std.proofs.lemmas.Bool.{cases_Bool, cond-true, cond-false, eq-eqb, cases_order}
+use Rattle.std.proofs.lemmas.List.{length-map, length-take-le}
+use Rattle.std.proofs.lemmas.List.Elements.{All-head, All-map, All-tail}
+use Rattle.std.proofs.lemmas.List.Folds.{concat-append}
+use Rattle.ats_tree.specs.Elided.{elided_digests, shown_with}
+use Rattle.ats_tree.specs.Rebuild.{tree_of_places}
+use Rattle.ats_tree.specs.Shown.{Shown, places, shown_at}
+use Rattle.ats_tree.specs.Tree.{tree_of}
+use Rattle.ats_tree.proofs.Places.{length-places}
+use Rattle.ats_lists.specs.Leaf.{leaf_bytes}
+use Rattle.ats_lists.specs.Lists.{IsList}
+use Rattle.ats_lists.specs.declared.entry.Entry.{Entry}
+use Rattle.ats_dict.specs.Dictionary.{dict_leaves}
+use Rattle.ats_dict.specs.Entry.{DictEntry}
+use Rattle.ats_dict.specs.Header.{IsHeader}
+use Rattle.ats_dict.specs.declared.header.Header.{Header}
+use Rattle.ats_dict.proofs.Sentinels.{length-dict_leaves}
+use Rattle.ats_lists.specs.Layout.{whole_lists}
+use Rattle.ats_commit.specs.Archive.{archive_of}
+use Rattle.ats_commit.specs.Own.{AreTexts}
+use Rattle.ats_commit.specs.Trees.{dictionary_of}
+use Rattle.ats_commit.proofs.HeaderLemmas.{header_in_range}
+use Rattle.ats_commit.proofs.TermLemmas.{few_within}
+use Rattle.ats_bound.specs.declared.bracket.Bracket.{Bracket}
+use Rattle.ats_bound.specs.Schedule.{IsCut, WholeLane, shown}
+use Rattle.ats_bound.proofs.Shown.{scheduled_is_cut}
+use Rattle.ats_proof.specs.declared.record.Algorithm.TheVariants.{Tnra}
+use Rattle.ats_proof.specs.declared.record.Slot.{Slot}
+use Rattle.ats_proof.specs.Parts.{counted, spelled}
+use Rattle.ats_proof.specs.Value.{Documents, Prefix, Proof, ShownEntry, documents_fields, front_fields, header_fields, entry_fields, digest_fields, slot_fields, id_fields, posting_fields, prefix_fields}
+use Rattle.ats_honest.specs.Terms.{shown_entry, slot_of}
+use Rattle.ats_honest.specs.Lanes.{lanes_of}
+use Rattle.ats_honest.specs.Honest.{IsHonest, length_of, placed, prefix_of, prefixes}
+use Rattle.ats_honest.proofs.Coming.{AreDigests}
+use Rattle.ats_honest.proofs.Elided.{dictionary_few, holes, holes-few, prefix_need}
+use Rattle.ats_honest.proofs.Fronts.{prefix_each}
+use Rattle.ats_honest.proofs.MetDocuments.{lists_below, met_below, met_rises, rising_few}
+use Rattle.ats_honest.proofs.Needed.{positions_few}
+use Rattle.ats_honest.proofs.OwnEntries.{own_few, own_leaves}
+use Rattle.ats_honest.proofs.Present.{HasList, lanes_few, lists_within}
+use Rattle.ats_honest.proofs.Ranges.{elided_sized, positions_below}
+use Rattle.ats_honest.proofs.Spots.{IsLeaf, leaf_among, spot_each}
+
+-- ---- the front of a list
+
+holes-cons : (o : Option (List ℕ)) (os : List (Option (List ℕ))) → holes (o ∷ os) ≡ holes (o ∷ []) + holes os
+holes-cons None os = omega arith
+holes-cons (Some x) os = omega arith
+
+-- a leaf is shown at each of the first places
+shown_front : (leaves : List (List ℕ)) (a k j : ℕ) → a ≤ j → j < a + k → (bytes : List ℕ) × (shown_at (shown_with leaves (range_with_len a k)) j ≡ Some bytes)
+shown_front leaves a zero j up low = absurd (omega (arith, up, low))
+shown_front leaves a (suc k) j up low = elim (cases_Bool (nat_eq a j)) [
+  | inl here ↦ (get_or leaves a [], cond-true _ _ _ here)
+  | inr not ↦
+      let past : a + 1 ≤ j = elim (cases_order a j) [
+        | inl same ↦
+            let clash : true ≡ false = sym (eq-eqb a j same) ∙ not in
+            absurd (cc)
+        | inr other ↦ elim other [ inl less ↦ omega (arith, less) | inr greater ↦ absurd (omega (arith, up, greater)) ]
+      ] in
+      let later = shown_front leaves (a + 1) k j past (omega (arith, low)) in
+      (later.0, cond-false _ _ _ not ∙ later.1)
+]
+
+-- so many places fewer are empty
+holes_behind : (shown : List Shown) (from n k : ℕ) → k ≤ n → ((j : ℕ) → from ≤ j → j < from + k → (bytes : List ℕ) × (shown_at shown j ≡ Some bytes)) → holes (places from n shown) + k ≤ n
+holes_behind shown from n zero within are = omega (arith, holes-few (places from n shown), length-places from n shown)
+holes_behind shown from zero (suc k) within are = absurd (omega (arith, within))
+holes_behind shown from (suc n) (suc k) within are =
+    let here = are from (omega arith) (omega arith) in
+    let none : holes (shown_at shown from ∷ []) ≡ 0 = ap (λ (o : Option (List ℕ)). holes (o ∷ [])) here.1 in
+    let later = holes_behind shown (from + 1) n k (omega (arith, within)) (λ j up low. are j (omega (arith, up)) (omega (arith, low))) in
+    omega (arith, holes-cons (shown_at shown from) (places (from + 1) n shown), none, later)
+
+-- the more entries a front shows, the fewer digests it needs
+front_few : (H : List ℕ → List ℕ) (leaves : List (List ℕ)) (k : ℕ) → length leaves ≤ 65536 → 1 ≤ k → k ≤ length leaves
+    → 6 * k + 32 * length (elided_digests H leaves (range_with_len 0 k)) ≤ 1996922
+front_few H leaves k few some within =
+    let need = prefix_need H leaves k few some in
+    let behind = holes_behind (shown_with leaves (range_with_len 0 k)) 0 (length leaves) k within (λ j up low. shown_front leaves 0 k j up low) in
+    omega (arith, need.0, need.1, behind, few)
+
+-- ---- how many bytes fields have
+
+abbrev size : List (List ℕ) → ℕ
+size fields = length (concat fields)
+
+size-append : (a b : List (List ℕ)) → size (a ++ b) ≡ size a + size b
+size-append a b = ap length (concat-append a b) ∙ length-append (concat a) (concat b)
+
+header_size : (h : Header) → IsHeader h.documents h.dict_leaves h.dict_root h.docs_root h.texts_root → size (header_fields h) ≡ 105
+header_size h is =
+    omega (
+      arith,
+      is.dict,
+      is.docs,
+      is.texts,
+      length-append h.dict_root (h.docs_root ++ (h.texts_root ++ [])),
+      length-append h.docs_root (h.texts_root ++ []),
+      length-append h.texts_root [],
+    )
+
+-- an entry whose bytes are few
+abbrev IsSmall : ShownEntry → Type 0
+IsSmall e = IsLeaf e.entry
+
+entries_size : (es : List ShownEntry) → All IsSmall es → size (flat_map entry_fields es) ≤ 105 * length es
+entries_size [] all = omega arith
+entries_size (e ∷ es) all =
+    let leaf = All-head IsSmall e es all in
+    omega (
+      arith,
+      leaf.short,
+      leaf.root,
+      entries_size es (All-tail IsSmall e es all),
+      size-append (entry_fields e) (flat_map entry_fields es),
+      length-append e.entry.term (spelled 4 e.entry.f ++ (e.entry.root ++ [])),
+      length-append e.entry.root [],
+    )
+
+digests_size : (ds : List (List ℕ)) → All (λ (d : List ℕ). length d ≡ 32) ds → size (flat_map digest_fields ds) ≡ 32 * length ds
+digests_size [] all = refl
+digests_size (d ∷ ds) all =
+    omega (
+      arith,
+      All-head (λ (d : List ℕ). length d ≡ 32) d ds all,
+      digests_size ds (All-tail (λ (d : List ℕ). length d ≡ 32) d ds all),
+      length-append d (concat (flat_map digest_fields ds)),
+    )
+
+slots_size : (slots : List Slot) → size (flat_map slot_fields slots) ≡ 3 * length slots
+slots_size [] = refl
+slots_size (s ∷ slots) = omega (arith, slots_size slots)
+
+ids_size : (ids : List ℕ) → size (flat_map id_fields ids) ≡ 4 * length ids
+ids_size [] = refl
+ids_size (id ∷ ids) = omega (arith, ids_size ids)
+
+postings_size : (es : List Entry) → size (flat_map posting_fields es) ≡ 6 * length es
+postings_size [] = refl
+postings_size (e ∷ es) = omega (arith, postings_size es)
+
+-- a prefix whose bytes are few
+record IsShort (p : Prefix) : Type 0 where
+  each : All (λ (d : List ℕ). length d ≡ 32) p.digests
+  short : 6 * length p.entries + 32 * length p.digests ≤ 1996922
+
+prefix_size : (p : Prefix) → IsShort p → size (prefix_fields p) ≤ 1996928
+prefix_size p is =
+    omega (
+      arith,
+      is.short,
+      size-append (counted 4 posting_fields p.entries) (counted 2 digest_fields p.digests),
+      postings_size p.entries,
+      digests_size p.digests is.each,
+    )
+
+prefixes_size : (ps : List Prefix) → All IsShort ps → size (flat_map prefix_fields ps) ≤ 1996928 * length ps
+prefixes_size [] all = omega arith
+prefixes_size (p ∷ ps) all =
+    omega (
+      arith,
+      prefix_size p (All-head IsShort p ps all),
+      prefixes_size ps (All-tail IsShort p ps all),
+      size-append (prefix_fields p) (flat_map prefix_fields ps),
+    )
+
+short_prefix : (H : List ℕ → List ℕ) → ((bytes : List ℕ) → length (H bytes) ≡ 32) → (met : List ℕ) (entries : List Entry) (count : ℕ) → IsList 65536 entries
+    → 1 ≤ count → count ≤ length entries → IsShort (prefix_of H whole_lists met entries count)
+short_prefix H sized met entries count is some within =
+    let shown = length-map (take count entries) (placed met) in
+    let took = length-take-le count entries within in
+    let leaves : List (List ℕ) = map leaf_bytes entries in
+    let all = length-map entries leaf_bytes in record {
+      each = elided_sized H sized (tree_of_places (length leaves) (shown_with leaves (range_with_len 0 count))) (tree_of leaves);
+      short = omega (arith, shown, took, front_few H leaves count (omega (arith, all, is.few)) some (omega (arith, all, within)));
+    }
+
+short_prefixes : (H : List ℕ → List ℕ) → ((bytes : List ℕ) → length (H bytes) ≡ 32) → (met : List ℕ) (lanes : List WholeLane) (cut : List ℕ)
+    → All (λ (lane : WholeLane). IsList 65536 lane.entries) lanes → ((i : ℕ) (d : WholeLane) → i < length lanes → (1 ≤ get_or cut i 0) × (get_or cut i 0 ≤ length (get_or lanes i d).entries))
+    → All IsShort (prefixes H whole_lists met lanes cut)
+short_prefixes H sized met [] cut lists is k d inside = absurd (omega (arith, inside))
+short_prefixes H sized met (lane ∷ lanes) [] lists is k d inside = absurd (omega (arith, inside))
+short_prefixes H sized met (lane ∷ lanes) (count ∷ cut) lists is zero d inside =
+    let first = is 0 lane (omega arith) in
+    short_prefix H sized met lane.entries count (All-head (λ (l : WholeLane). IsList 65536 l.entries) lane lanes lists) first.0 first.1
+short_prefixes H sized met (lane ∷ lanes) (count ∷ cut) lists is (suc k) d inside =
+    short_prefixes H sized met lanes cut (All-tail (λ (l : WholeLane). IsList 65536 l.entries) lane lanes lists) (λ i e less. is (suc i) e (omega (arith, less))) k d (omega (arith, inside))
+
+-- ---- the whole
+
+ten_sizes : (a b c d e f g h i j : List (List ℕ)) → size (a ++ b ++ c ++ d ++ e ++ f ++ g ++ h ++ i ++ j)
+    ≡ size a + size b + size c + size d + size e + size f + size g + size h + size i + size j
+ten_sizes a b c d e f g h i j =
+    omega (
+      arith,
+      size-append (a ++ b ++ c ++ d ++ e ++ f ++ g ++ h ++ i) j,
+      size-append (a ++ b ++ c ++ d ++ e ++ f ++ g ++ h) i,
+      size-append (a ++ b ++ c ++ d ++ e ++ f ++ g) h,
+      size-append (a ++ b ++ c ++ d ++ e ++ f) g,
+      size-append (a ++ b ++ c ++ d ++ e) f,
+      size-append (a ++ b ++ c ++ d) e,
+      size-append (a ++ b ++ c) d,
+      size-append (a ++ b) c,
+      size-append a b,
+    )
+
+add_up : (a b c d e f g h i j all : ℕ) → all ≡ a + b + c + d + e + f + g + h + i + j → a ≡ 6 → b ≡ 105 → c ≡ 2 → d ≤ 6722 → e ≤ 2097122 → f ≤ 96
+    → g ≤ 262148 → h ≤ 63901696 → i ≡ 0 → j ≤ 4002 → all ≤ 2 ^ 26
+add_up a b c d e f g h i j all sum one two three four five six seven eight nine ten = omega (arith, sum, one, two, three, four, five, six, seven, eight, nine, ten)
+
+-- what makes a proof of lists alone short
+record HasFew (proof : Proof) : Type 0 where
+  front : IsHeader proof.header.documents proof.header.dict_leaves proof.header.dict_root proof.header.docs_root proof.header.texts_root
+  entries : All IsSmall proof.dict
+  leaves : length proof.dict ≤ 64
+  others : AreDigests proof.dict_digests
+  terms : length proof.slots ≤ 32
+  met : length proof.met ≤ 65536
+  lists : All IsShort proof.lists
+  fronts : length proof.lists ≤ 32
+  alone : proof.docs ≡ None
+  rows : length proof.answer ≤ 1000
+
+few_short : (proof : Proof) → HasFew proof → length_of proof ≤ 2 ^ 26
+few_short proof is =
+    let a = front_fields proof.docs in
+    let b = header_fields proof.header in
+    let c : List (List ℕ) = spelled 2 (length proof.slots) ∷ [] in
+    let d = counted 2 entry_fields proof.dict in
+    let e = counted 2 digest_fields proof.dict_digests in
+    let f = flat_map slot_fields proof.slots in
+    let g = counted 4 id_fields proof.met in
+    let h = flat_map prefix_fields proof.lists in
+    let i = documents_fields proof.docs in
+    let j = counted 2 id_fields proof.answer in
+    let one : size a ≡ 6 = ap (λ (docs : Option Documents). size (front_fields docs)) is.alone in
+    let four : size d ≤ 6722 = omega (arith, entries_size proof.dict is.entries, is.leaves) in
+    let five : size e ≤ 2097122 = omega (arith, digests_size proof.dict_digests is.others.each, is.others.few) in
+    let six : size f ≤ 96 = omega (arith, slots_size proof.slots, is.terms) in
+    let seven : size g ≤ 262148 = omega (arith, ids_size proof.met, is.met) in
+    let eight : size h ≤ 63901696 = omega (arith, prefixes_size proof.lists is.lists, is.fronts) in
+    let nine : size i ≡ 0 = ap (λ (docs : Option Documents). size (documents_fields docs)) is.alone in
+    let ten : size j ≤ 4002 = omega (arith, ids_size proof.answer, is.rows) in
+    add_up (size a) (size b) (size c) (size d) (size e) (size f) (size g) (size h) (size i) (size j) (length_of proof) (ten_sizes a b c d e f g h i j)
+    one (header_size proof.header is.front) (omega arith) four five six seven eight nine ten
+
+-- ---- an honest proof
+
+module _ (H : List ℕ → List ℕ) (sized : (bytes : List ℕ) → length (H bytes) ≡ 32) (texts : List (List ℕ)) (query : List (List ℕ × ℕ)) (r : ℕ) (proof : Proof)
+    (are : AreTexts texts) (few : length query ≤ 32) (rows : r ≤ 1000) (honest : IsHonest H (archive_of texts) query r Tnra proof) where
+  abbrev entries : List DictEntry
+  entries = dictionary_of H (archive_of texts)
+
+  abbrev lanes : List WholeLane
+  lanes = lanes_of texts query
+
+  terms : length honest.spots ≡ length query
+  terms = spot_each entries query honest.spots honest.found
+
+  positions : length honest.positions ≤ 64
+  positions = omega (arith, positions_few honest.spots honest.positions honest.needed, terms, few)
+
+  small : All IsSmall proof.dict
+  small = subst (All IsSmall) (sym honest.dict) (All-map IsSmall (shown_entry entries) honest.positions (λ k d inside.
+      leaf_among entries (get_or honest.positions k d) (own_leaves H sized texts are.within.few)
+      (positions_below entries query honest.spots honest.positions honest.found honest.needed k d inside)))
+
+  others : AreDigests proof.dict_digests
+  others = subst AreDigests (sym honest.dict_digests) (
+      let leaves : List (List ℕ) = dict_leaves entries in
+      record {
+        few = omega (arith, dictionary_few H leaves honest.positions (omega (arith, length-dict_leaves entries, own_few H texts are)) positions);
+        each = elided_sized H sized (tree_of_places (length leaves) (shown_with leaves honest.positions)) (tree_of leaves);
+      })
+
+  lists : All (HasList 65536) lanes
+  lists = lists_within texts query are.within.few
+
+  is_cut : IsCut lanes honest.cut
+  is_cut = scheduled_is_cut lanes honest.first.turns honest.cut (λ i d inside. (lists i d inside).some) honest.first.scheduled
+
+  met : length proof.met ≤ 65536
+  met =
+      let docs : List ℕ = map (λ (b : Bracket). b.doc) honest.brackets in
+      let few = rising_few 65536 docs (met_rises (shown lanes honest.cut) honest.brackets honest.bounds)
+      (met_below 65536 lanes honest.cut honest.brackets (lists_below lanes lists) honest.bounds) in
+      omega (arith, few, ap (λ (ids : List ℕ). length ids) honest.met)
+
+  has_few : HasFew proof
+  has_few = record {
+    front = subst (λ (h : Header). IsHeader h.documents h.dict_leaves h.dict_root h.docs_root h.texts_root) (sym honest.header)
+        (header_in_range H sized (archive_of texts) are.within (few_within texts are.utf8 are.within));
+    entries = small;
+    leaves = omega (arith, ap (λ (es : List ShownEntry). length es) honest.dict, length-map honest.positions (shown_entry entries), positions);
+    others = others;
+    terms = omega (arith, ap (λ (slots : List Slot). length slots) honest.slots, length-map honest.spots (slot_of honest.positions), terms, few);
+    met = met;
+    lists = subst (All IsShort) (sym honest.lists) (short_prefixes H sized proof.met lanes honest.cut lists is_cut.each);
+    fronts = omega (arith, ap (λ (ps : List Prefix). length ps) honest.lists, prefix_each H proof.met lanes honest.cut is_cut.size, lanes_few texts query, few);
+    alone = honest.docs;
+    rows = omega (arith, ap (λ (picks : List ℕ). length picks) honest.answer.first, length-take r honest.answer.all, rows);
+  }
+
+  -- it has at most 2^26 bytes
+  pub honest_short : length_of proof ≤ 2 ^ 26
+  honest_short = few_short proof has_few

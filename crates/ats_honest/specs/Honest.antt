@@ -1,0 +1,77 @@
+-- The proof that an honest server gives of a query's best documents, by each algorithm.
+use Rattle.std.specs.Prelude.{◌≡◌, ◌<◌, ℕ, List, [], ◌∷◌, length, map, take}
+use Rattle.std.specs.List.{concat}
+use Rattle.ats_tree.specs.Elided.{elided_digests}
+use Rattle.ats_lists.specs.declared.entry.Entry.{Entry}
+use Rattle.ats_terms.specs.declared.spot.Spot.{Spot}
+use Rattle.ats_dict.specs.Dictionary.{dict_leaves}
+use Rattle.ats_lists.specs.Layout.{Layout}
+use Rattle.ats_commit.specs.Archive.{Archive}
+use Rattle.ats_commit.specs.Prefixes.{prefix_digests}
+use Rattle.ats_commit.specs.Root.{header_parts}
+use Rattle.ats_commit.specs.Trees.{dictionary_of}
+use Rattle.ats_bound.specs.declared.bracket.Bracket.{Bracket}
+use Rattle.ats_bound.specs.Chosen.{IsChosen}
+use Rattle.ats_bound.specs.Schedule.{WholeLane, AreBracketsBy, IsFirstSettledBy, shown}
+use Rattle.ats_proof.specs.declared.record.Algorithm.{Algorithm}
+use Rattle.ats_proof.specs.Value.{Prefix, Proof, IsProof, layout_of, fields_of}
+use Rattle.ats_honest.specs.Terms.{AreSpots, AreNeeded, place, shown_entry, slot_of}
+use Rattle.ats_honest.specs.Lanes.{bounding, lanes_of, present}
+use Rattle.ats_honest.specs.Documents.{HasDocuments}
+
+-- an entry that names its document by the document's place among the met ids
+abbrev pub placed : List ℕ → Entry → Entry
+placed met entry = record { doc = place met entry.doc; impact = entry.impact }
+
+-- the first entries of a list, and what the list's layout needs besides them
+abbrev pub prefix_of : (List ℕ → List ℕ) → Layout → List ℕ → List Entry → ℕ → Prefix
+prefix_of H layout met entries count = record {
+  entries = map (placed met) (take count entries);
+  digests = prefix_digests H layout entries count;
+}
+
+-- of each list the first entries, as many as the cut says
+abbrev pub prefixes : (List ℕ → List ℕ) → Layout → List ℕ → List WholeLane → List ℕ → List Prefix
+prefixes H layout met [] cut = []
+prefixes H layout met (lane ∷ lanes) [] = []
+prefixes H layout met (lane ∷ lanes) (count ∷ cut) = prefix_of H layout met lane.entries count ∷ prefixes H layout met lanes cut
+
+-- The leaves that show where the query's terms stand; the first cut of the schedule at which an answer is
+-- settled by the algorithm's brackets, with the documents that it meets and what is shown of them; and the
+-- chosen answer of at most r of them.
+pub record IsHonest (H : List ℕ → List ℕ) (archive : Archive) (query : List (List ℕ × ℕ)) (r : ℕ) (algorithm : Algorithm) (proof : Proof) : Type 0 where
+  pub spots : List Spot
+  pub found : AreSpots (dictionary_of H archive) query spots
+  pub positions : List ℕ
+  pub needed : AreNeeded spots positions
+  pub cut : List ℕ
+  pub first : IsFirstSettledBy (bounding algorithm (lanes_of archive.texts query)) (lanes_of archive.texts query) r cut
+  pub brackets : List Bracket
+  pub bounds : AreBracketsBy (bounding algorithm (lanes_of archive.texts query)) (shown (lanes_of archive.texts query) cut) brackets
+  pub layout : layout_of proof ≡ archive.layout
+  pub header : proof.header ≡ header_parts H archive
+  pub dict : proof.dict ≡ map (shown_entry (dictionary_of H archive)) positions
+  pub dict_digests : proof.dict_digests ≡ elided_digests H (dict_leaves (dictionary_of H archive)) positions
+  pub slots : proof.slots ≡ map (slot_of positions) spots
+  -- the met ids are the documents of the brackets
+  pub met : proof.met ≡ map (λ (b : Bracket). b.doc) brackets
+  pub lists : proof.lists ≡ prefixes H archive.layout proof.met (lanes_of archive.texts query) cut
+  pub docs : HasDocuments algorithm H archive.texts (present archive.texts query) proof.met proof.docs
+  pub answer : IsChosen brackets r proof.answer
+
+-- how many bytes the fields of a proof have
+abbrev pub length_of : Proof → ℕ
+length_of proof = length (concat (fields_of proof))
+
+-- the bytes spell the honest proof
+pub record IsProved (H : List ℕ → List ℕ) (archive : Archive) (query : List (List ℕ × ℕ)) (r : ℕ) (algorithm : Algorithm) (bytes : List ℕ) : Type 0 where
+  pub proof : Proof
+  pub honest : IsHonest H archive query r algorithm proof
+  pub spells : IsProof bytes proof
+
+-- the honest proof has so many bytes, which are more than the limit
+pub record IsTooLong (H : List ℕ → List ℕ) (archive : Archive) (query : List (List ℕ × ℕ)) (r : ℕ) (algorithm : Algorithm) (limit bytes : ℕ) : Type 0 where
+  pub proof : Proof
+  pub honest : IsHonest H archive query r algorithm proof
+  pub bytes_are : bytes ≡ length_of proof
+  pub beyond : limit < bytes

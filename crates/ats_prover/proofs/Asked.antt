@@ -1,0 +1,92 @@
+-- The fields of the honest proof, asked for one behind another.
+use Rattle.std.proofs.Common.{◌≡◌, ◌^◌, ◌<◌, ◌≤◌, ◌++◌, ℕ, List, [], ◌∷◌, length, map, Option, Some, None, refl, sym, ap, ap₂, ◌∙◌, append-nil}
+use Rattle.std.specs.List.{concat, flat_map}
+use Rattle.ats_tree.specs.Elided.{elided_digests}
+use Rattle.ats_dict.specs.Dictionary.{dict_leaves}
+use Rattle.ats_dict.specs.declared.header.Header.{Header}
+use Rattle.ats_terms.specs.declared.spot.Spot.{Spot}
+use Rattle.ats_lists.specs.Layout.{whole_lists}
+use Rattle.ats_commit.specs.Archive.{Archive, archive_of}
+use Rattle.ats_commit.specs.Root.{header_parts}
+use Rattle.ats_commit.specs.Trees.{dictionary_of}
+use Rattle.ats_commit.proofs.Layouts.{each_archive}
+use Rattle.ats_bound.specs.declared.bracket.Bracket.{Bracket}
+use Rattle.ats_proof.specs.Records.{front_record}
+use Rattle.ats_proof.specs.Written.{Written, after, writing}
+use Rattle.ats_proof.specs.declared.record.Algorithm.{Algorithm}
+use Rattle.ats_proof.specs.declared.record.Algorithm.TheVariants.{Tra, Tnra}
+use Rattle.ats_proof.specs.Parts.{counted, spelled}
+use Rattle.ats_proof.specs.Value.{Documents, documents_fields, fields_of, front_fields, header_fields, entry_fields, digest_fields, slot_fields, id_fields, prefix_fields, number_of_algorithm}
+use Rattle.ats_honest.specs.Terms.{shown_entry, slot_of}
+use Rattle.ats_honest.specs.Documents.{HasDocuments}
+use Rattle.ats_honest.specs.Lanes.{lanes_of}
+use Rattle.ats_honest.specs.Honest.{IsProved, length_of, prefixes}
+use Rattle.ats_honest.proofs.Whole.{HasParts, docs_of, documents_are, is_honest, lists_each, proof_comes, proof_of}
+use Rattle.ats_prover.specs.Writing.{IsWritten, put}
+use Rattle.ats_prover.proofs.Putting.{put_all}
+use Rattle.ats_prover.proofs.Records.{IsKindOf, front_is}
+
+-- the parts of the honest proof were asked for, one behind another
+pub written : (H : List ℕ → List ℕ) (texts : List (List ℕ)) (query : List (List ℕ × ℕ)) (r : ℕ) (algorithm : Algorithm) (spots : List Spot) (positions cut : List ℕ) (brackets : List Bracket) (docs : Option Documents) (picks : List ℕ) (w x y z : Written)
+    → HasParts H texts query r algorithm spots positions cut brackets docs picks
+    → x ≡ put w (front_fields docs ++ header_fields (header_parts H (archive_of texts)) ++ spelled 2 (length (map (slot_of positions) spots)) ∷ [])
+    → y ≡ put x (counted 2 entry_fields (map (shown_entry (dictionary_of H (archive_of texts))) positions) ++ counted 2 digest_fields (elided_digests H (dict_leaves (dictionary_of H (archive_of texts))) positions)
+    ++ flat_map slot_fields (map (slot_of positions) spots))
+    → z ≡ put y (counted 4 id_fields (docs_of brackets) ++ flat_map prefix_fields (prefixes H whole_lists (docs_of brackets) (lanes_of texts query) cut) ++ documents_fields docs ++ counted 2 id_fields picks)
+    → (algorithm ≡ Tnra → length_of (proof_of H texts query spots positions cut brackets docs picks) ≤ 2 ^ 26)
+    → IsWritten H (archive_of texts) query r algorithm w z
+written H texts query r algorithm spots positions cut brackets docs picks w x y z parts front terms walk short =
+    let proof = proof_of H texts query spots positions cut brackets docs picks in
+    let a : List (List ℕ) = front_fields docs ++ header_fields (header_parts H (archive_of texts)) ++ spelled 2 (length (map (slot_of positions) spots)) ∷ [] in
+    let b : List (List ℕ) = counted 2 entry_fields (map (shown_entry (dictionary_of H (archive_of texts))) positions) in
+    let c : List (List ℕ) = counted 2 digest_fields (elided_digests H (dict_leaves (dictionary_of H (archive_of texts))) positions) in
+    let d : List (List ℕ) = flat_map slot_fields (map (slot_of positions) spots) in
+    let e : List (List ℕ) = counted 4 id_fields (docs_of brackets) in
+    let f : List (List ℕ) = flat_map prefix_fields (prefixes H whole_lists (docs_of brackets) (lanes_of texts query) cut) in
+    let g : List (List ℕ) = documents_fields docs in
+    let h : List (List ℕ) = counted 2 id_fields picks in record {
+      proof = proof;
+      honest = is_honest H texts query r algorithm spots positions cut brackets docs picks parts;
+      come = proof_comes H texts query r algorithm spots positions cut brackets docs picks parts;
+      prefix_each = lists_each H texts query r algorithm spots positions cut brackets docs picks parts;
+      asked = walk ∙ ap (λ (v : Written). put v (e ++ f ++ g ++ h)) (terms ∙ ap (λ (v : Written). put v (b ++ c ++ d)) front) ∙ put_all w a b c d e f g h;
+      short = short;
+    }
+
+-- whose proofs documents stand in
+pub kind_of_documents : (H : List ℕ → List ℕ) (texts : List (List ℕ)) (terms : List (List ℕ × ℕ)) (met : List ℕ) (algorithm : Algorithm) (docs : Option Documents)
+    → HasDocuments algorithm H texts terms met docs → IsKindOf algorithm docs
+kind_of_documents H texts terms met Tnra docs are = ap number_of_algorithm (sym are)
+kind_of_documents H texts terms met Tra None are = absurd are
+kind_of_documents H texts terms met Tra (Some docs) are = refl
+
+-- the first record is the first fields
+pub front_put : (algorithm : Algorithm) (docs : Option Documents) (h own : Header) (n m : ℕ) (w : Written) → IsKindOf algorithm docs → h ≡ own → n ≡ m → own.documents < 2 ^ 32 → own.dict_leaves < 2 ^ 32 → m < 2 ^ 16
+    → after w (front_record algorithm h n) ≡ put w (front_fields docs ++ header_fields own ++ spelled 2 m ∷ [])
+front_put algorithm docs h own n m w kind header number documents leaves few =
+    ap (after w) (ap₂ (λ (x : Header) (k : ℕ). front_record algorithm x k) header number ∙ front_is algorithm docs own m kind documents leaves few)
+
+-- an index is built in the one layout
+pub as_built : (archive : Archive) → archive ≡ archive_of archive.texts
+as_built archive = each_archive (λ a. a ≡ archive_of a.texts) (λ texts. refl) archive
+
+-- ---- what a finished writer gives
+
+abbrev pub AreJoined : Type 0
+AreJoined = (limit : ℕ) (bytes more : List ℕ) → after (writing limit bytes) more ≡ writing limit (bytes ++ more)
+
+pub all_asked : AreJoined → (H : List ℕ → List ℕ) (archive : Archive) (query : List (List ℕ × ℕ)) (r : ℕ) (algorithm : Algorithm) (limit : ℕ) (w : Written) (is : IsWritten H archive query r algorithm (writing limit []) w)
+    → w ≡ writing limit (concat (fields_of is.proof))
+all_asked joined H archive query r algorithm limit w is = is.asked ∙ joined limit [] (concat (fields_of is.proof))
+
+pub is_proved : (H : List ℕ → List ℕ) (archive : Archive) (query : List (List ℕ × ℕ)) (r : ℕ) (algorithm : Algorithm) (limit : ℕ) (w : Written) (bytes : List ℕ) (is : IsWritten H archive query r algorithm (writing limit []) w)
+    → bytes ≡ concat (fields_of is.proof) → length bytes ≤ 2 ^ 26 → IsProved H archive query r algorithm bytes
+is_proved H archive query r algorithm limit w bytes is same few = record {
+  proof = is.proof;
+  honest = is.honest;
+  spells = record {
+    spells = record { whole = record { come = is.come; parts = same ∙ sym (append-nil (concat (fields_of is.proof))) }; few = few };
+    prefix_each = is.prefix_each;
+    documents = documents_are H archive query r algorithm is.proof is.honest;
+  };
+}

@@ -1,5 +1,0 @@
-use Rattle.ats_prover.proofs.Archives.{archive_one}
-use Rattle.ats_prover.proofs.laws.honest_proofs_are_one.Goals as goal
-
-pub returns : goal.returns
-returns g c archive query r algorithm a b first second = archive_one g.H.HashKind.hash archive query r algorithm a b first second

@@ -1,5 +1,0 @@
-use Rattle.ats_prover.proofs.Archives.{archive_short}
-use Rattle.ats_prover.proofs.laws.honest_proofs_are_short.Goals as goal
-
-pub returns : goal.returns
-returns g c = archive_short g.H.HashKind.hash g.H.HashKind.sized

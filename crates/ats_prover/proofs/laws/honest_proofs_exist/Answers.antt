@@ -1,5 +1,0 @@
-use Rattle.ats_prover.proofs.Archives.{archive_exists}
-use Rattle.ats_prover.proofs.laws.honest_proofs_exist.Goals as goal
-
-pub returns : goal.returns
-returns g c archive query r algorithm are is = archive_exists g.H.HashKind.hash archive query r algorithm are is
