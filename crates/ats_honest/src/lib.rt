@@ -5,7 +5,7 @@
 //! root; by random access it also shows where the terms stand in each met document.
 //! The room says so by definitions over the archive alone, and has no code but laws. It stands on `ats_commit` for
 //! the archive's trees, on `ats_bound` for settled answers, and on `ats_proof` for what a proof says, and knows
-//! neither the prover, which makes honest proofs, nor the check, which accepts them: both stand apart above it.
+//! neither the prover, which makes honest proofs, nor the check, which accepts them.
 //! The laws promise that a query over an archive has one honest proof by each algorithm, no more and no fewer, and
 //! that by lists alone it never has more than 2^26 bytes.
 //! How the laws are proved may change without asking anyone.
