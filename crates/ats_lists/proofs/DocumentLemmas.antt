@@ -1,10 +1,9 @@
 -- What one document adds to the gathered postings, term by term.
-use Rattle.std.proofs.Common.{◌≡◌, ◌≢◌, ◌<◌, ◌≤◌, ◌+◌, ℕ, Bool, true, false, cond, List, [], ◌∷◌, ◌++◌, length, get_or, map, take, drop, nat_lt, Vec, Option, Some, unwrap_or, refl, sym, ap, ap₂, subst, ◌∙◌, arith, append-nil, add-zero, zero-add}
+use Rattle.std.proofs.Common.{◌≡◌, ◌≢◌, ◌<◌, ◌≤◌, ◌+◌, ℕ, Bool, true, false, cond, List, [], ◌∷◌, ◌++◌, length, get_or, map, take, drop, nat_lt, Option, Some, unwrap_or, refl, sym, ap, ap₂, subst, ◌∙◌, arith, append-nil, add-zero, zero-add}
 use Rattle.std.specs.List.{All}
 use Rattle.std.specs.Bool.{Decides}
 use Rattle.std.specs.BTreeMap.{keys}
 use Rattle.std.specs.Str.{bytes_eq}
-use Rattle.std.specs.declared.alloc.Global.{Global}
 use Rattle.std.proofs.lemmas.Bool.Decides.{nat_tests}
 use Rattle.std.proofs.lemmas.Cmp.{nat_list_eq_equiv}
 use Rattle.std.proofs.lemmas.List.{get_or-take, get_or-drop, get_or_default, length-take, length-drop}
@@ -78,7 +77,7 @@ so_far doc texts pairs term = postings_of_first doc texts term ++ cond (nat_lt 0
 
 pub record HasPart (doc : ℕ) (texts : List (List ℕ)) (pairs : List (List ℕ × ℕ)) (map : TermMap) : Type 0 where
   pub entries : (term : List ℕ) → entries_at map term ≡ if_some (so_far doc texts pairs term)
-  pub terms : All (λ key. IsTerm key.items) (keys map)
+  pub terms : All IsTerm (keys map)
 
 some_push : {X : Type 0} (xs : List X) (x : X) → if_some (xs ++ x ∷ []) ≡ Some (xs ++ x ∷ [])
 some_push [] x = refl
@@ -153,5 +152,5 @@ part_all doc texts pairs map counts has = record {
 pub first_none : (texts : List (List ℕ)) (m : TermMap) → m.entries ≡ [] → HasFirst 0 texts m
 first_none texts m empty = record {
   entries = λ term. rw (empty, postings_none texts term) refl;
-  terms = rw empty (All-nil (λ (key : Vec ℕ Global). IsTerm key.items));
+  terms = rw empty (All-nil IsTerm);
 }

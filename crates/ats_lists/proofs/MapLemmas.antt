@@ -1,7 +1,7 @@
 -- A map whose keys are byte strings, looked up by bytes.
 use Rattle.std.proofs.Common.{◌≡◌, ℕ, Bool, true, false, cond, List, [], ◌∷◌, ◌++◌, Option, Some, unwrap_or, refl, sym, ap, subst, ◌∙◌}
 use Rattle.std.specs.Map.{lookup, IsKeyTest, AreApart, KeepsOthers}
-use Rattle.std.specs.BTreeMap.{BTreeMap, UpdatesBy, get_by}
+use Rattle.std.specs.BTreeMap.{BTreeMap, Updates, get}
 use Rattle.std.specs.Str.{bytes_eq}
 use Rattle.std.specs.Ordering.{is_eq}
 use Rattle.std.proofs.lemmas.Cmp.{nat_list_cmp_total, nat_list_eq_equiv, eq_by_cmp_equiv}
@@ -24,14 +24,13 @@ by_bytes : {W : Type 0} (f g : List ℕ → W) (bs cs : List ℕ) (w : W) (b : B
 by_bytes f g bs cs w true is here other = subst (λ l. g l ≡ w) ((bytes_eq-Decides bs cs).0 is) here
 by_bytes f g bs cs w false is here other = other refl
 
--- after a change at some bytes, where `bytes` reads a key
-pub updates_by_bytes : {K X : Type 0} (bytes : K → List ℕ) (bs : List ℕ) (m n : BTreeMap K X) (w : Option X)
-    → UpdatesBy (λ x y. byte_cmp (bytes x) (bytes y)) (λ key. byte_cmp bs (bytes key)) m n w
-    → (cs : List ℕ) → get_by (λ key. byte_cmp cs (bytes key)) n ≡ cond (bytes_eq bs cs) w (get_by (λ key. byte_cmp cs (bytes key)) m)
-updates_by_bytes {K} {X} bytes bs m n w updates cs =
-    by_bytes (λ q. get_by (λ key. byte_cmp q (bytes key)) m) (λ q. get_by (λ key. byte_cmp q (bytes key)) n) bs cs w (bytes_eq bs cs) refl updates.1
-    (λ differ. other_entries _ _ m.entries n.entries updates.3 (λ key. is_eq (byte_cmp cs (bytes key)))
-    (λ x y. (eq_by_cmp_equiv nat_list_cmp_total).congr cs (bytes x) (bytes y)) (λ key. apart bs cs (bytes key) differ))
+-- after a change at some bytes
+pub updates_by_bytes : {X : Type 0} (bs : List ℕ) (m n : BTreeMap (List ℕ) X) (w : Option X) → Updates byte_cmp m n bs w
+    → (cs : List ℕ) → get byte_cmp n cs ≡ cond (bytes_eq bs cs) w (get byte_cmp m cs)
+updates_by_bytes bs m n w updates cs =
+    by_bytes (get byte_cmp m) (get byte_cmp n) bs cs w (bytes_eq bs cs) refl updates.1
+    (λ differ. other_entries _ _ m.entries n.entries updates.3 (λ key. is_eq (byte_cmp cs key))
+    ((eq_by_cmp_equiv nat_list_cmp_total).congr cs) (λ key. apart bs cs key differ))
 
 put_case : {X : Type 0} (old new : List ℕ → Option (List X)) (bs cs : List ℕ) (x : X) (w : List X) (b : Bool) → bytes_eq bs cs ≡ b
     → new cs ≡ cond b (Some w) (old cs) → w ≡ unwrap_or (old bs) [] ++ x ∷ []

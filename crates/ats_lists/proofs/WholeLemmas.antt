@@ -1,17 +1,15 @@
 -- The lists of all terms.
-use Rattle.std.proofs.Common.{◌≡◌, ◌≢◌, ◌<◌, ◌≤◌, ◌^◌, ℕ, true, false, cond, List, [], ◌∷◌, length, get_or, map, nat_lt, Vec, Some, refl, sym, ap, subst, ◌∙◌, inl, inr, arith}
+use Rattle.std.proofs.Common.{◌≡◌, ◌≢◌, ◌<◌, ◌≤◌, ◌^◌, ℕ, true, false, List, length, get_or, map, nat_lt, sym, ap, subst, ◌∙◌, inl, inr, arith}
 use Rattle.std.specs.List.{All, IsDistinct, list_any}
 use Rattle.std.specs.List.Sorted.{IsPermutation, IsStrictlySortedBy}
-use Rattle.std.specs.Map.{lookup, keys_of}
-use Rattle.std.specs.BTreeMap.{IsOrdered, is_at, keys}
-use Rattle.std.specs.Ordering.{nat_cmp, eq_by_cmp, is_eq}
+use Rattle.std.specs.BTreeMap.{IsOrdered, keys}
+use Rattle.std.specs.Ordering.{nat_cmp, eq_by_cmp}
 use Rattle.std.specs.Str.{bytes_eq}
-use Rattle.std.specs.declared.alloc.Global.{Global}
 use Rattle.std.specs.declared.cmp.Ordering.TheVariants.{Less, Equal, Greater}
 use Rattle.std.proofs.lemmas.Bool.{cases_lt}
 use Rattle.std.proofs.lemmas.Bool.Decides.{nat_tests}
 use Rattle.std.proofs.lemmas.Cmp.{eq_by_cmp_equiv, on_total, nat_cmp_total, nat_list_eq_equiv, tied_itself}
-use Rattle.std.proofs.lemmas.List.{length-map, get_or-map}
+use Rattle.std.proofs.lemmas.List.{length-map}
 use Rattle.std.proofs.lemmas.Simd.{map-map}
 use Rattle.std.proofs.lemmas.List.Elements.{All-map, All-weaker}
 use Rattle.std.proofs.lemmas.List.Sorted.{length_permutation, All-permutation}
@@ -24,7 +22,6 @@ use Rattle.ats_lists.specs.Postings.{postings}
 use Rattle.ats_lists.specs.Lists.{by_impact, list, entry_cmp, vocabulary, lists_of, IsList, AreLists}
 use Rattle.ats_lists.specs.Gathered.{TermMap, HasFirst, doc_cmp, AreGathered}
 use Rattle.ats_lists.specs.declared.entry.Entry.{Entry}
-use Rattle.ats_lists.proofs.Rising.{rises_map, all_any}
 use Rattle.ats_lists.proofs.PostingLemmas.{postings_rise, postings_below, postings_few, postings_impacts, list_is_sorted, list_rises}
 use Rattle.ats_lists.proofs.VocabularyLemmas.{vocabulary_rises, vocabulary_few, vocabulary_has, entries_are, keys_made, postings_frequency}
 
@@ -109,59 +106,36 @@ list_frequency texts term =
 
 -- ---- the map of all documents
 
-abbrev pub read : {X : Type 0} → Vec ℕ Global × X → List ℕ × X
-read e = (e.0.items, e.1)
-
-lookup_read : {X : Type 0} (q : List ℕ) (es : List (Vec ℕ Global × X))
-    → lookup (is_at (byte_cmp q)) (map read es) ≡ lookup (is_at (λ (key : Vec ℕ Global). byte_cmp q key.items)) es
-lookup_read q [] = refl
-lookup_read q (e ∷ es) = ap (cond (is_eq (byte_cmp q e.0.items)) (Some e.1)) (lookup_read q es)
-
-keys_read : {X : Type 0} (es : List (Vec ℕ Global × X)) → map (λ (e : List ℕ × X). e.0) (map read es) ≡ map (λ key. key.items) (keys_of es)
-keys_read [] = refl
-keys_read (e ∷ es) = ap (λ t. e.0.items ∷ t) (keys_read es)
-
-read_rises : (m : TermMap) → IsOrdered (λ x y. byte_cmp x.items y.items) m → IsStrictlySortedBy byte_cmp (map (λ (e : List ℕ × List Entry). e.0) (map read m.entries))
-read_rises m ordered =
-    rw (keys_read m.entries)
-    (rises_map (λ _. Unit {0}) (λ (x y : Vec ℕ Global). byte_cmp x.items y.items) byte_cmp (λ key. key.items) (keys m) (λ y z here there less. less) (all_any (keys m)) ordered)
-
 postings_gathered : (texts : List (List ℕ)) (term : List ℕ) → AreGathered (postings texts term)
 postings_gathered texts term = record {
   rise = postings_rise (length texts) texts term;
   impacts = postings_impacts (length texts) texts term (omega arith);
 }
 
-module _ (texts : List (List ℕ)) (m : TermMap) (ordered : IsOrdered (λ x y. byte_cmp x.items y.items) m) (has : HasFirst (length texts) texts m) where
+module _ (texts : List (List ℕ)) (m : TermMap) (ordered : IsOrdered byte_cmp m) (has : HasFirst (length texts) texts m) where
   -- the map has the postings of each term of the vocabulary
-  pub read_is : map read m.entries ≡ map (λ term. (term, postings texts term)) (vocabulary texts)
-  read_is = entries_are texts (map read m.entries) (read_rises m ordered) (λ q. lookup_read q m.entries ∙ has.entries q)
+  entries_is : m.entries ≡ map (λ term. (term, postings texts term)) (vocabulary texts)
+  entries_is = entries_are texts m.entries ordered has.entries
 
   pub terms_are : All IsTerm (vocabulary texts)
   terms_are =
-      let same : map (λ key. key.items) (keys m) ≡ vocabulary texts =
-      sym (keys_read m.entries) ∙ ap (map (λ (e : List ℕ × List Entry). e.0)) read_is ∙ keys_made (postings texts) (vocabulary texts) in
-      rw same at (All-map IsTerm (λ (key : Vec ℕ Global). key.items) (keys m) has.terms)
+      let same : keys m ≡ vocabulary texts = ap (map (λ (e : List ℕ × List Entry). e.0)) entries_is ∙ keys_made (postings texts) (vocabulary texts) in
+      rw same at has.terms
 
   pub all_gathered : All (λ e. AreGathered e.1) m.entries
   all_gathered =
-      let size : length (map read m.entries) ≡ length m.entries = length-map m.entries (read {X = List Entry}) in
-      let posted : All (λ e. AreGathered e.1) (map read m.entries) =
-      rw read_is (All-map (λ (e : List ℕ × List Entry). AreGathered e.1) (λ term. (term, postings texts term)) (vocabulary texts) (λ k d inside.
-      postings_gathered texts (get_or (vocabulary texts) k d))) in
-      λ k d inside.
-      let here : AreGathered (get_or (map read m.entries) k (read d)).1 = posted k (read d) (omega (arith, size, inside)) in
-      rw (get_or-map read m.entries k d (read d) inside) at here
+      rw entries_is (All-map (λ (e : List ℕ × List Entry). AreGathered e.1) (λ term. (term, postings texts term)) (vocabulary texts) (λ k d inside.
+      postings_gathered texts (get_or (vocabulary texts) k d)))
 
   -- the map's entries, put by impact, are the lists
-  pub made_lists : map (λ e. (e.0.items, by_impact 2200 e.1)) m.entries ≡ lists_of texts
+  pub made_lists : map (λ e. (e.0, by_impact 2200 e.1)) m.entries ≡ lists_of texts
   unfolding lists_of list
   made_lists =
       let sorted : List ℕ × List Entry → List ℕ × List Entry = λ e. (e.0, by_impact 2200 e.1) in
-      sym (map-map sorted read m.entries) ∙ ap (map sorted) read_is ∙ map-map sorted (λ term. (term, postings texts term)) (vocabulary texts)
+      ap (map sorted) entries_is ∙ map-map sorted (λ term. (term, postings texts term)) (vocabulary texts)
 
   -- there are at most as many as terms
   pub few_entries : length m.entries ≤ total_terms texts
   few_entries =
       let made : List ℕ → List ℕ × List Entry = λ term. (term, postings texts term) in
-      omega (arith, length-map m.entries (read {X = List Entry}), ap length read_is, length-map (vocabulary texts) made, vocabulary_few texts)
+      omega (arith, ap length entries_is, length-map (vocabulary texts) made, vocabulary_few texts)

@@ -1,10 +1,9 @@
 -- Postings that are gathered by term, document by document.
-use Rattle.std.specs.Prelude.{◌≡◌, ◌≤◌, ℕ, List, [], ◌∷◌, Vec, Option, Some, None}
+use Rattle.std.specs.Prelude.{◌≡◌, ◌≤◌, ℕ, List, [], ◌∷◌, Option, Some, None}
 use Rattle.std.specs.List.{All}
 use Rattle.std.specs.List.Sorted.{IsStrictlySortedBy}
-use Rattle.std.specs.BTreeMap.{BTreeMap, get_by, keys}
+use Rattle.std.specs.BTreeMap.{BTreeMap, get, keys}
 use Rattle.std.specs.Ordering.{nat_cmp}
-use Rattle.std.specs.declared.alloc.Global.{Global}
 use Rattle.std.specs.declared.cmp.Ordering.{Ordering}
 use Rattle.ats_terms.specs.Terms.{IsTerm}
 use Rattle.ats_terms.specs.Query.{byte_cmp}
@@ -13,11 +12,11 @@ use Rattle.ats_lists.specs.declared.entry.Entry.{Entry}
 
 -- a map from terms to their entries
 abbrev pub TermMap : Type 0
-TermMap = BTreeMap (Vec ℕ Global) (List Entry)
+TermMap = BTreeMap (List ℕ) (List Entry)
 
 -- the entries of a term, where it has some
 abbrev pub entries_at : TermMap → List ℕ → Option (List Entry)
-entries_at map term = get_by (λ key. byte_cmp term key.items) map
+entries_at map term = get byte_cmp map term
 
 -- a list, where it has an element
 abbrev pub if_some : {X : Type 0} → List X → Option (List X)
@@ -27,7 +26,7 @@ if_some (x ∷ xs) = Some (x ∷ xs)
 -- the map has the postings of the first n documents for each term that has some
 pub record HasFirst (n : ℕ) (texts : List (List ℕ)) (map : TermMap) : Type 0 where
   pub entries : (term : List ℕ) → entries_at map term ≡ if_some (postings_of_first n texts term)
-  pub terms : All (λ key. IsTerm key.items) (keys map)
+  pub terms : All IsTerm (keys map)
 
 -- by document
 abbrev pub doc_cmp : Entry → Entry → Ordering

@@ -11,6 +11,7 @@ ghost use Rattle.ats_lists.specs.Gathered.{entries_at, AreGathered, HasFirst};
 ghost use Rattle.ats_lists.specs.Lists.{by_impact};
 
 use crate::entry::Entry;
+use crate::key::Key;
 use crate::memory::OutOfMemory;
 use ats_impact::{Collection, impact};
 use ats_terms::TermCounts;
@@ -35,7 +36,7 @@ impl Model for Entries {
 }
 
 /// The entries of each term, in the order of documents.
-pub(crate) type TermMap = BTreeMap<Vec<u8>, Entries>;
+pub(crate) type TermMap = BTreeMap<Key, Entries>;
 
 impl Entries {
     fn one(alloc: Global, entry: Entry) -> Result<Self, OutOfMemory>
@@ -65,20 +66,19 @@ impl Entries {
 }
 
 // Puts an entry behind those of its term.
-fn add(alloc: Global, map: &mut TermMap, term: &[u8], entry: Entry) -> Result<(), OutOfMemory>
-    requires { IsTerm term.now }
+fn add(alloc: Global, map: &mut TermMap, key: &Key, entry: Entry) -> Result<(), OutOfMemory>
+    requires { IsTerm key.now }
     ensures entries { OnOk result ((q : List ℕ) → entries_at map.new q
-        ≡ (if bytes_eq term.now q then Some (unwrap_or (entries_at map.old q) [] ++ entry ∷ [])
+        ≡ (if bytes_eq key.now q then Some (unwrap_or (entries_at map.old q) [] ++ entry ∷ [])
         else entries_at map.old q)) }
-    ensures terms { All (λ key. IsTerm key.items) (keys map.old)
-        → OnOk result (All (λ key. IsTerm key.items) (keys map.new)) }
+    ensures terms { All IsTerm (keys map.old) → OnOk result (All IsTerm (keys map.new)) }
 {
-    match map.get_mut(term) {
+    match map.get_mut(key) {
         Some(entries) => entries.push(entry)?,
         None => {
-            let key = Vec::from_slice(alloc, term)?;
+            let kept = Key::of(Vec::with_capacity(alloc, key.term().len())?, key.term())?;
             let entries = Entries::one(alloc, entry)?;
-            map.insert(key, entries)?;
+            map.insert(kept, entries)?;
         }
     }
     Ok(())
@@ -101,9 +101,12 @@ pub(crate) fn add_document(
     let documents = collection.documents();
     let total = collection.total();
     let len = collection.terms(doc).len() as u32;
+    let mut room = Vec::new(alloc);
     for i in 0..counts.len() {
         let impact = impact(counts.count(i), total, len, documents);
-        add(alloc, map, counts.term(i), Entry { doc, impact })?;
+        let key = Key::of(room, counts.term(i))?;
+        add(alloc, map, &key, Entry { doc, impact })?;
+        room = key.into_term();
     }
     Ok(())
 }

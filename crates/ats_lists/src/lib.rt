@@ -20,6 +20,7 @@
 mod building;
 mod entry;
 mod gathering;
+mod key;
 mod laws;
 mod leaves;
 mod lists;

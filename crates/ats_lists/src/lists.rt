@@ -72,11 +72,12 @@ impl Model for Lists {
 /// The gathered entries of each term, sorted, in byte order of the terms.
 pub(crate) fn sorted_lists(alloc: Global, gathered: TermMap) -> Result<Vec<TermList>, OutOfMemory>
     requires { All (λ e. AreGathered e.1) gathered.entries }
-    ensures { IfOk result (λ lists. lists.items ≡ map (λ e. (e.0.items, by_impact 2200 e.1)) gathered.entries) }
+    ensures { IfOk result (λ lists. lists.items ≡ map (λ e. (e.0, by_impact 2200 e.1)) gathered.entries) }
 {
     let mut lists = Vec::with_capacity(alloc, gathered.len())?;
-    for (term, entries) in gathered {
+    for (key, entries) in gathered {
         let entries = entries.sorted()?;
+        let term = key.into_term();
         lists.push(TermList { term, entries })?;
     }
     Ok(lists)

@@ -33,7 +33,7 @@ loop-i-preserved c =
     record {
       entries = part_more c.args.doc texts pairs c.loop-i.i ([], 0) (entries_at c.loop-i.map) (entries_at c.add.new.map) entry counts.rises inside some
           (entry_is c.args.doc texts pairs c.loop-i.i ([], 0) entry counts inside refl value) c.loop-i.invariant.entries
-          (rw (c.term.ensures.value ([], 0)) at c.in_ok-add.ensures.entries);
+          (rw (c.in_ok-key.ensures, c.term.ensures.value ([], 0)) at c.in_ok-add.ensures.entries);
       terms = c.in_ok-add.ensures.terms c.loop-i.invariant.terms;
     }
 

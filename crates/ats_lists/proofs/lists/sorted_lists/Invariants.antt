@@ -5,8 +5,8 @@ use Rattle.ats_lists.specs.Lists.{by_impact}
 use Rattle.ats_lists.proofs.lists.sorted_lists.Given as goal
 
 -- the lists so far and those of the entries that are left
-abbrev pub invariant-loop-term : goal.invariant-loop-term
-invariant-loop-term l = record {
-  whole : l.lists.items ++ map (λ e. (e.0.items, by_impact 2200 e.1)) l.term-iterator ≡ map (λ e. (e.0.items, by_impact 2200 e.1)) l.fn.gathered.entries;
-  gathered : All (λ e. AreGathered e.1) l.term-iterator;
+abbrev pub invariant-loop-key : goal.invariant-loop-key
+invariant-loop-key l = record {
+  whole : l.lists.items ++ map (λ e. (e.0, by_impact 2200 e.1)) l.key-iterator ≡ map (λ e. (e.0, by_impact 2200 e.1)) l.fn.gathered.entries;
+  gathered : All (λ e. AreGathered e.1) l.key-iterator;
 }

@@ -1,0 +1,92 @@
+-- Terms that are compared by the numbers of their first bytes.
+use Rattle.std.proofs.Common.{◌≡◌, ◌≢◌, ◌<◌, ◌≤◌, ◌+◌, ◌*◌, ◌^◌, ℕ, zero, suc, List, [], ◌∷◌, get_or, refl, sym, ap, subst, ◌∙◌, inl, inr, add-one, arith}
+use Rattle.std.specs.Ordering.{nat_cmp, ordering_reverse}
+use Rattle.std.specs.declared.cmp.Ordering.{Ordering}
+use Rattle.std.specs.declared.cmp.Ordering.TheVariants.{Less, Equal, Greater}
+use Rattle.std.proofs.lemmas.Bool.{cases_lt}
+use Rattle.std.proofs.lemmas.Bool.Decides.{nat_tests}
+use Rattle.std.proofs.lemmas.Cmp.{nat_cmp_total, nat_list_cmp_total, tied_itself}
+use Rattle.ats_terms.specs.Front.{front, AreBytes}
+use Rattle.ats_terms.specs.Query.{byte_cmp}
+
+-- one byte more
+pub front_more : (n : ℕ) (term : List ℕ) → front (n + 1) term ≡ front n term * 256 + get_or term n 0
+unfolding front
+front_more n term = ap (λ k. front k term) (add-one n)
+
+-- one more than the greatest number of n bytes
+pub room : ℕ → ℕ
+room zero = 1
+room (suc n) = room n * 256
+
+pub front_fits : (n : ℕ) (term : List ℕ) → AreBytes term → front n term < room n
+unfolding front room
+front_fits zero term bytes =
+    let none : front 0 term ≡ 0 = refl in
+    let one : room 0 ≡ 1 = refl in
+    omega arith
+front_fits (suc n) term bytes =
+    let more : front (suc n) term ≡ front n term * 256 + get_or term n 0 = refl in
+    let wider : room (suc n) ≡ room n * 256 = refl in
+    omega (arith, front_fits n term bytes, bytes n)
+
+pub room_fits : (n : ℕ) → n < 8 → room n * 256 ≤ 2 ^ 64
+unfolding room
+room_fits zero few = let wide : room 0 ≡ 1 = refl in omega arith
+room_fits (suc zero) few = let wide : room 1 ≡ 256 = refl in omega arith
+room_fits (suc (suc zero)) few = let wide : room 2 ≡ 65536 = refl in omega arith
+room_fits (suc (suc (suc zero))) few = let wide : room 3 ≡ 16777216 = refl in omega arith
+room_fits (suc (suc (suc (suc zero)))) few = let wide : room 4 ≡ 4294967296 = refl in omega arith
+room_fits (suc (suc (suc (suc (suc zero))))) few = let wide : room 5 ≡ 1099511627776 = refl in omega arith
+room_fits (suc (suc (suc (suc (suc (suc zero)))))) few = let wide : room 6 ≡ 281474976710656 = refl in omega arith
+room_fits (suc (suc (suc (suc (suc (suc (suc zero))))))) few = let wide : room 7 ≡ 72057594037927936 = refl in omega arith
+room_fits (suc (suc (suc (suc (suc (suc (suc (suc n)))))))) few = absurd (omega arith)
+
+-- terms with one number have the same first bytes
+same_bytes : (n : ℕ) (x y : List ℕ) → AreBytes x → AreBytes y → front n x ≡ front n y → (i : ℕ) → i < n → get_or x i 0 ≡ get_or y i 0
+unfolding front
+same_bytes zero x y xs ys same i inside = absurd (omega arith)
+same_bytes (suc n) x y xs ys same i inside =
+    let sum : front n x * 256 + get_or x n 0 ≡ front n y * 256 + get_or y n 0 = same in
+    elim (cases_lt i n) [
+      | inl before ↦ same_bytes n x y xs ys (omega (arith, sum, xs n, ys n)) i before
+      | inr last ↦
+          let here : i ≡ n = omega arith in
+          rw here (omega (arith, sum, xs n, ys n))
+    ]
+
+-- what decides is the first byte that differs
+first_less : (n : ℕ) (x y : List ℕ) → ((i : ℕ) → i < n → get_or x i 0 ≡ get_or y i 0) → get_or x n 0 < get_or y n 0 → byte_cmp x y ≡ Less
+first_less n [] [] same less = absurd (omega (arith, less))
+first_less n [] (b ∷ y) same less = refl
+first_less n (a ∷ x) [] same less = absurd (omega (arith, less))
+first_less zero (a ∷ x) (b ∷ y) same less =
+    let below : nat_cmp a b ≡ Less = grind (arith, nat_tests) in
+    rw below refl
+first_less (suc n) (a ∷ x) (b ∷ y) same less =
+    let head : a ≡ b = same 0 (omega arith) in
+    let tied : nat_cmp a b ≡ Equal = subst (λ c. nat_cmp a c ≡ Equal) head (tied_itself nat_cmp_total a) in
+    rw tied (first_less n x y (λ i inside. same (suc i) (omega arith)) less)
+
+pub front_less : (n : ℕ) (x y : List ℕ) → AreBytes x → AreBytes y → front n x < front n y → byte_cmp x y ≡ Less
+unfolding front
+front_less zero x y xs ys less = let none : 0 < 0 = less in absurd (omega (arith, none))
+front_less (suc n) x y xs ys less =
+    let sum : front n x * 256 + get_or x n 0 < front n y * 256 + get_or y n 0 = less in
+    elim (cases_lt (front n x) (front n y)) [
+      | inl before ↦ front_less n x y xs ys before
+      | inr not_before ↦
+          let same : front n x ≡ front n y = omega (arith, sum, xs n, ys n) in
+          first_less n x y (same_bytes n x y xs ys same) (omega (arith, sum, same))
+    ]
+
+-- where the numbers differ, the terms compare as they do
+pub front_decides : (n : ℕ) (x y : List ℕ) → AreBytes x → AreBytes y → (o : Ordering) → o ≡ nat_cmp (front n x) (front n y) → o ≢ Equal
+    → o ≡ byte_cmp x y
+front_decides n x y xs ys Less is other =
+    let below : front n x < front n y = grind (arith, nat_tests) in
+    sym (front_less n x y xs ys below)
+front_decides n x y xs ys Equal is other = absurd (other refl)
+front_decides n x y xs ys Greater is other =
+    let above : front n y < front n x = grind (arith, nat_tests) in
+    sym (nat_list_cmp_total.antisymm x y ∙ ap ordering_reverse (front_less n y x ys xs above))
