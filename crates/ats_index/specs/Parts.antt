@@ -1,5 +1,7 @@
 -- The parts of an archive's index, under a hash function H.
 use Rattle.std.specs.Prelude.{◌≡◌, ℕ, List, map}
+use Rattle.ats_terms.specs.Terms.{terms}
+use Rattle.ats_terms.specs.Query.{counted}
 use Rattle.ats_lists.specs.Lists.{lists_of}
 use Rattle.ats_lists.specs.declared.entry.Entry.{Entry}
 use Rattle.ats_dict.specs.Entry.{DictEntry}
@@ -10,6 +12,10 @@ use Rattle.ats_commit.specs.Archive.{Archive}
 use Rattle.ats_commit.specs.Trees.{dictionary_of, leaf_of_terms}
 use Rattle.ats_commit.specs.Root.{header_parts, root_of}
 use Rattle.ats_commit.specs.Own.{AreTexts}
+
+-- the counted terms of each document, in the order of documents
+abbrev pub all_counts : List (List ℕ) → List (List (List ℕ × ℕ))
+all_counts texts = map (λ text. counted (terms text)) texts
 
 -- the terms of each document with their impacts, in the order of documents
 abbrev pub all_terms : List (List ℕ) → List (List (List ℕ × ℕ))

@@ -4,13 +4,15 @@
 
 ghost use Rattle.std.specs.Prelude.{◌≡◌, ◌<◌, [], length, map, slice_index_or, IfOk};
 ghost use Rattle.std.specs.Thread.{IsSync};
+ghost use Rattle.ats_terms.specs.Terms.{terms};
+ghost use Rattle.ats_terms.specs.Query.{counted};
 ghost use Rattle.ats_tree.specs.Kept.{kept_digests};
 ghost use Rattle.ats_lists.specs.Leaf.{leaf_bytes};
 ghost use Rattle.ats_lists.specs.Lists.{lists_of};
 ghost use Rattle.ats_doctree.specs.Impacts.{doc_terms};
 ghost use Rattle.ats_doctree.specs.Sentinels.{terms_leaves};
 ghost use Rattle.ats_index.specs.Kept.{all_list_digests, all_term_digests};
-ghost use Rattle.ats_index.specs.Parts.{all_terms};
+ghost use Rattle.ats_index.specs.Parts.{all_counts, all_terms};
 
 use crate::dictionary::nodes_of_list;
 use crate::documents::{DocumentParts, nodes_of_terms};
@@ -18,19 +20,76 @@ use crate::memory::OutOfMemory;
 use ats_doctree::DocTerms;
 use ats_hash::Hash32;
 use ats_impact::Collection;
-use ats_lists::Lists;
+use ats_lists::{Lists, ListsBuilder};
+use ats_terms::TermCounts;
 use ats_tree::Nodes;
 use rayon::join;
 use rayon::prelude::*;
 use std::alloc::Global;
 use std::thread::Threads;
 
-/// The terms of each document.
-pub(crate) fn terms_of_documents(
+/// The counted terms of each document.
+fn counts_of_documents(
     rt: &(impl Threads + Sync),
     alloc: Global,
     collection: &Collection,
+) -> Result<Vec<TermCounts>, OutOfMemory>
+    ensures { IfOk result (λ counts. counts.items ≡ all_counts collection.now) }
+{
+    let made: Result<Vec<TermCounts>, OutOfMemory> = (0..collection.documents())
+        .into_par_iter()
+        .with_min_len(1)
+        .map(
+            |doc: u32| -> Result<TermCounts, OutOfMemory>
+                requires { doc < length collection.now }
+                ensures { IfOk result (λ counts.
+                    counts ≡ counted (terms (slice_index_or collection.entry.now doc []))) }
+            { Ok(TermCounts::of(alloc, collection.terms(doc))?) },
+        )
+        .collect(rt, alloc)?;
+    made
+}
+
+// The lists, from the counted terms of all documents.
+fn lists_of_counts(
+    alloc: Global,
+    collection: &Collection,
+    counts: &[TermCounts],
+) -> Result<Lists, OutOfMemory>
+    requires { counts.now ≡ all_counts collection.now }
+    ensures { IfOk result (λ lists. lists ≡ lists_of collection.now) }
+{
+    let mut builder = ListsBuilder::new(alloc, collection);
+    for doc in 0..collection.documents() {
+        builder = builder.add(&counts[doc as usize])?;
+    }
+    let lists = builder.finish()?;
+    Ok(lists)
+}
+
+// The terms of a document, from a copy of its counted terms.
+fn terms_of_document(
+    alloc: Global,
+    collection: &Collection,
+    counts: &[TermCounts],
+    doc: u32,
+) -> Result<DocTerms, OutOfMemory>
+    requires inside { doc < length collection.now }
+    requires counts { counts.now ≡ all_counts collection.now }
+    ensures { IfOk result (λ terms. terms ≡ doc_terms collection.now doc) }
+{
+    let counts = counts[doc as usize].copy(alloc)?;
+    Ok(DocTerms::from_counts(counts, collection, doc))
+}
+
+/// The terms of each document.
+fn terms_of_documents(
+    rt: &(impl Threads + Sync),
+    alloc: Global,
+    collection: &Collection,
+    counts: &[TermCounts],
 ) -> Result<Vec<DocTerms>, OutOfMemory>
+    requires { counts.now ≡ all_counts collection.now }
     ensures { IfOk result (λ terms. terms.items ≡ all_terms collection.now) }
 {
     let made: Result<Vec<DocTerms>, OutOfMemory> = (0..collection.documents())
@@ -38,9 +97,10 @@ pub(crate) fn terms_of_documents(
         .with_min_len(1)
         .map(
             |doc: u32| -> Result<DocTerms, OutOfMemory>
-                requires { doc < length collection.now }
+                requires inside { doc < length collection.now }
+                requires counts { counts.now ≡ all_counts collection.now }
                 ensures { IfOk result (λ terms. terms ≡ doc_terms collection.entry.now doc) }
-            { Ok(DocTerms::of(alloc, collection, doc)?) },
+            { terms_of_document(alloc, collection, counts, doc) },
         )
         .collect(rt, alloc)?;
     made
@@ -59,7 +119,7 @@ fn nodes_of_document<H: Hash32>(
 }
 
 /// The nodes of the tree of each document's terms.
-pub(crate) fn nodes_of_documents_terms<H: Hash32 + Sync>(
+fn nodes_of_documents_terms<H: Hash32 + Sync>(
     rt: &(impl Threads + Sync),
     alloc: Global,
     terms: &[DocTerms],
@@ -113,17 +173,53 @@ fn term_parts<H: Hash32 + Sync>(
     rt: &(impl Threads + Sync),
     alloc: Global,
     collection: &Collection,
+    counts: &[TermCounts],
 ) -> Result<TermParts, OutOfMemory>
+    requires { counts.now ≡ all_counts collection.now }
     ensures terms { IfOk result (λ made. made.terms.items ≡ all_terms collection.now) }
     ensures nodes { IfOk result (λ made. made.nodes.items ≡ all_term_digests H.hash collection.now) }
 {
-    let terms = terms_of_documents(rt, alloc, collection)?;
+    let terms = terms_of_documents(rt, alloc, collection, counts)?;
     let nodes = nodes_of_documents_terms::<H>(rt, alloc, &terms)?;
     Ok(TermParts { terms, nodes })
 }
 
-/// The lists, and the terms of the documents with the nodes of their trees. The lists are gathered document by
-/// document in one thread, beside those that hash. For that each document is counted twice.
+// What is made of the counted terms: the lists, which one thread gathers document by document, and beside them the
+// terms of the documents with the nodes of their trees.
+fn parts_of_counts<H: Hash32 + Sync, R: Threads + Sync>(
+    rt: &R,
+    alloc: Global,
+    collection: &Collection,
+    counts: &[TermCounts],
+) -> Result<DocumentParts, OutOfMemory>
+    requires { counts.now ≡ all_counts collection.now }
+    ensures lists { IfOk result (λ made. made.lists ≡ lists_of collection.now) }
+    ensures terms { IfOk result (λ made. made.terms.items ≡ all_terms collection.now) }
+    ensures term_nodes { IfOk result (λ made. made.term_nodes.items ≡ all_term_digests H.hash collection.now) }
+{
+    let (lists, documents) = join(
+        rt,
+        || -> Result<Lists, OutOfMemory>
+            requires { counts.now ≡ all_counts collection.now }
+            ensures { IfOk result (λ lists. lists ≡ lists_of collection.entry.now) }
+        { lists_of_counts(alloc, collection, counts) },
+        || -> Result<TermParts, OutOfMemory>
+            requires sync { IsSync R.row × IsSync H.row }
+            requires counts { counts.now ≡ all_counts collection.now }
+            ensures terms { IfOk result (λ made. made.terms.items ≡ all_terms collection.entry.now) }
+            ensures nodes { IfOk result (λ made. made.nodes.items ≡ all_term_digests H.hash collection.entry.now) }
+        { term_parts::<H>(rt, alloc, collection, counts) },
+    );
+    let lists = lists?;
+    let TermParts { terms, nodes } = documents?;
+    Ok(DocumentParts {
+        lists,
+        terms,
+        term_nodes: nodes,
+    })
+}
+
+/// The lists, and the terms of the documents with the nodes of their trees. Each document is counted once.
 pub(crate) fn counted_by_threads<H: Hash32 + Sync, R: Threads + Sync>(
     rt: &R,
     alloc: Global,
@@ -133,22 +229,6 @@ pub(crate) fn counted_by_threads<H: Hash32 + Sync, R: Threads + Sync>(
     ensures terms { IfOk result (λ made. made.terms.items ≡ all_terms collection.now) }
     ensures term_nodes { IfOk result (λ made. made.term_nodes.items ≡ all_term_digests H.hash collection.now) }
 {
-    let (lists, documents) = join(
-        rt,
-        || -> Result<Lists, OutOfMemory>
-            ensures { IfOk result (λ lists. lists ≡ lists_of collection.entry.now) }
-        { Ok(Lists::of(alloc, collection)?) },
-        || -> Result<TermParts, OutOfMemory>
-            requires { IsSync R.row × IsSync H.row }
-            ensures terms { IfOk result (λ made. made.terms.items ≡ all_terms collection.entry.now) }
-            ensures nodes { IfOk result (λ made. made.nodes.items ≡ all_term_digests H.hash collection.entry.now) }
-        { term_parts::<H>(rt, alloc, collection) },
-    );
-    let lists = lists?;
-    let TermParts { terms, nodes } = documents?;
-    Ok(DocumentParts {
-        lists,
-        terms,
-        term_nodes: nodes,
-    })
+    let counts = counts_of_documents(rt, alloc, collection)?;
+    parts_of_counts::<H, R>(rt, alloc, collection, &counts)
 }

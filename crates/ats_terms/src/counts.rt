@@ -89,6 +89,15 @@ impl TermCounts {
         Ok(made)
     }
 
+    /// The same terms and counts, in memory of their own.
+    pub fn copy(&self, alloc: Global) -> Result<Self, OutOfMemory>
+        ensures { IfOk result (λ made. made ≡ self.now) }
+    {
+        let terms = self.terms.copy(alloc)?;
+        let counts = Vec::from_slice(alloc, &self.counts)?;
+        Ok(TermCounts { terms, counts })
+    }
+
     /// The number of distinct terms.
     pub fn len(&self) -> usize
         ensures value { result ≡ length self.now }
