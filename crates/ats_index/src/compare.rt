@@ -14,7 +14,8 @@ pub(crate) trait Takes {
     ghost has: { Self → List ℕ → List ℕ → Type 0 };
 
     fn put(&mut self, piece: &[u8]) -> Result<(), OutOfMemory>
-        ensures { (about front : List ℕ) → has self.old about front → OnOk result (has self.new about (front ++ piece.now)) };
+        ensures { (about front : List ℕ) → has self.old about front
+            → OnOk result (has self.new about (front ++ piece.now)) };
 }
 
 impl Takes for Bytes {

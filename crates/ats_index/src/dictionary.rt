@@ -23,7 +23,8 @@ pub(crate) fn nodes_of_list<H: Hash32>(
     i: u32,
 ) -> Result<Nodes, OutOfMemory>
     requires { i < length lists.now }
-    ensures { IfOk result (λ nodes. nodes ≡ kept_digests H.hash (map leaf_bytes (slice_index_or lists.now i ([], [])).1)) }
+    ensures { IfOk result (λ nodes.
+        nodes ≡ kept_digests H.hash (map leaf_bytes (slice_index_or lists.now i ([], [])).1)) }
 {
     let leaves = ListLeaves {
         entries: lists.list(i),

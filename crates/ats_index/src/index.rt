@@ -67,7 +67,8 @@ impl<H: HashKind> Model for Index<H> {
 
     ghost view = { λ i. archive_of i.collection };
 
-    ghost invariant = { λ i. IsIndexOf H.hash (archive_of i.collection) i.lists i.dictionary i.terms.items i.leaves.items i.header i.root
+    ghost invariant = { λ i.
+        IsIndexOf H.hash (archive_of i.collection) i.lists i.dictionary i.terms.items i.leaves.items i.header i.root
         × AreNodesOf H.hash (archive_of i.collection) i.list_nodes.items i.term_nodes.items i.dict_nodes i.docs_nodes };
 }
 
@@ -177,7 +178,8 @@ impl<H: HashKind> Index<H> {
 
     // Puts the bytes of the index.
     fn put<W: Takes>(&self, to: &mut W) -> Result<(), OutOfMemory>
-        ensures bytes { (about : List ℕ) → W.has to.old about [] → OnOk result (W.has to.new about (index_bytes H.hash self.now)) }
+        ensures bytes { (about : List ℕ) → W.has to.old about []
+            → OnOk result (W.has to.new about (index_bytes H.hash self.now)) }
         ensures texts { AreTexts self.now.texts }
     {
         put_texts(to, &self.collection)?;
@@ -189,7 +191,9 @@ impl<H: HashKind> Index<H> {
     /// Where these bytes differ first from those of the index, if they do. The latter are not kept: they are compared
     /// while they are spelled.
     pub(crate) fn difference(&self, bytes: &[u8]) -> Result<Option<u64>, OutOfMemory>
-        ensures { IfOk result (λ found. MatchOption found (bytes.now ≡ index_bytes H.hash self.now) (IsDifference bytes.now (index_bytes H.hash self.now))) }
+        ensures { IfOk result (λ found.
+            MatchOption found (bytes.now ≡ index_bytes H.hash self.now)
+            (IsDifference bytes.now (index_bytes H.hash self.now))) }
     {
         let mut comparer = Comparer::new(bytes);
         self.put(&mut comparer)?;

@@ -11,15 +11,19 @@ use ats_hash::HashKind;
 
 /// Index bytes say one archive: no two have the same.
 pub fn index_bytes_say_one_archive<H: HashKind>()
-    ensures { (bytes : List ℕ) (archive other : Archive) → IsSpelling H.hash bytes archive → IsSpelling H.hash bytes other → archive ≡ other }
+    ensures { (bytes : List ℕ) (archive other : Archive)
+        → IsSpelling H.hash bytes archive → IsSpelling H.hash bytes other → archive ≡ other }
 {}
 
 /// Bytes are an archive's index, or a bad index at one place, and never both.
 pub fn bad_indexes_have_one_place<H: HashKind>()
-    ensures one { (bytes : List ℕ) (at other : ℕ) → IsLoadFault H.hash bytes (BadIndex at) → IsLoadFault H.hash bytes (BadIndex other) → at ≡ other }
+    ensures one { (bytes : List ℕ) (at other : ℕ)
+        → IsLoadFault H.hash bytes (BadIndex at) → IsLoadFault H.hash bytes (BadIndex other) → at ≡ other }
     ensures some { (bytes : List ℕ) → All (λ b. b < 256) bytes
-        → ((archive : Archive) × IsSpelling H.hash bytes archive) ⊎ ((at : ℕ) × IsLoadFault H.hash bytes (BadIndex at)) }
-    ensures none { (bytes : List ℕ) (at : ℕ) (archive : Archive) → IsLoadFault H.hash bytes (BadIndex at) → ¬ IsSpelling H.hash bytes archive }
+        → ((archive : Archive) × IsSpelling H.hash bytes archive)
+        ⊎ ((at : ℕ) × IsLoadFault H.hash bytes (BadIndex at)) }
+    ensures none { (bytes : List ℕ) (at : ℕ) (archive : Archive)
+        → IsLoadFault H.hash bytes (BadIndex at) → ¬ IsSpelling H.hash bytes archive }
 {}
 
 /// An index has at most 2^29 bytes, which is the most that a file of an index may have. Its texts take at most

@@ -40,7 +40,8 @@ impl<H: Hash32 + Sync> Index<H> {
     /// be theirs. No field is believed before its bytes are there.
     pub fn load(rt: &(impl Threads + Sync), alloc: Global, bytes: &[u8]) -> Result<Self, LoadFault>
         ensures ok { IfOk result (IsSpelling H.hash bytes.now) }
-        ensures only { (archive : Archive) → IsSpelling H.hash bytes.now archive → IfOk result (λ index. index ≡ archive) }
+        ensures only { (archive : Archive)
+            → IsSpelling H.hash bytes.now archive → IfOk result (λ index. index ≡ archive) }
         ensures fault { IfErr result (IsLoadFault H.hash bytes.now) }
     {
         let texts = match read_texts(alloc, bytes)? {

@@ -24,7 +24,8 @@ fn number(bytes: &[u8], low: u32, high: u32) -> Option<u32>
     ensures low { IfSome result (λ n. low ≤ n) }
     ensures high { IfSome result (λ n. n ≤ high) }
     ensures same { IfSome result (λ n. bytes.now ≡ to_be_bytes w32 n ++ drop 4 bytes.now) }
-    ensures none { IfNone result ((n : ℕ) (rest : List ℕ) → low ≤ n → n ≤ high → bytes.now ≢ to_be_bytes w32 n ++ rest) }
+    ensures none { IfNone result ((n : ℕ) (rest : List ℕ)
+        → low ≤ n → n ≤ high → bytes.now ≢ to_be_bytes w32 n ++ rest) }
 {
     if bytes.len() < 4 {
         return None;

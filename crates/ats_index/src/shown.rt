@@ -22,7 +22,8 @@ fn has_leaves<L: ShortLeaves, S: ShownTree>(
     requires short { All (λ s. length s.1 ≤ 127) (S.shown shown.old) }
     requires none { positions.old.items ≡ [] }
     requires start { steps.old ≡ 0 }
-    ensures shown { IfOk result (λ own. IsTrue own → S.shown shown.old ≡ shown_with (L.items leaves.now) positions.new.items) }
+    ensures shown { IfOk result (λ own. IsTrue own
+        → S.shown shown.old ≡ shown_with (L.items leaves.now) positions.new.items) }
     ensures below { OnOk result (All (λ p. p < length (L.items leaves.now)) positions.new.items) }
     ensures others { OnOk result (S.digests shown.new ≡ S.digests shown.old) }
     ensures cost { steps.new < 2 ^ 32 }

@@ -43,7 +43,8 @@ impl<H: Hash32> Index<H> {
 
     // The header is one string.
     fn header_string(&self, place: &Place) -> Option<HashedString>
-        ensures { result ≡ own_string H.hash self.now [] HeaderTree (by_path (path_of place.now.depth place.now.turns)) }
+        ensures { result ≡ own_string H.hash self.now [] HeaderTree
+            (by_path (path_of place.now.depth place.now.turns)) }
     {
         if place.depth > 0 {
             return None;
@@ -54,7 +55,8 @@ impl<H: Hash32> Index<H> {
     // A string of the tree of a term's list.
     fn list_string(&self, term: &[u8], place: &Place) -> Option<HashedString>
         requires { place.now.depth ≤ 32 }
-        ensures { result ≡ list_string H.hash self.now.layout (list self.now.texts term.now) (by_path (path_of place.now.depth place.now.turns)) }
+        ensures { result ≡ list_string H.hash self.now.layout (list self.now.texts term.now)
+            (by_path (path_of place.now.depth place.now.turns)) }
     {
         let lists = self.lists();
         match lists.find(term) {
@@ -72,7 +74,8 @@ impl<H: Hash32> Index<H> {
     // A string of the tree of all documents.
     fn documents_string(&self, place: &Place) -> Option<HashedString>
         requires { place.now.depth ≤ 32 }
-        ensures { result ≡ own_string H.hash self.now [] DocumentsTree (by_path (path_of place.now.depth place.now.turns)) }
+        ensures { result ≡ own_string H.hash self.now [] DocumentsTree
+            (by_path (path_of place.now.depth place.now.turns)) }
     {
         let leaves = DocLeaves {
             leaves: self.doc_leaves(),
@@ -84,7 +87,8 @@ impl<H: Hash32> Index<H> {
     // A string of the tree of a document's terms.
     fn terms_string(&self, doc: u32, place: &Place) -> Option<HashedString>
         requires { place.now.depth ≤ 32 }
-        ensures { result ≡ own_string H.hash self.now [] (TermsTree doc) (by_path (path_of place.now.depth place.now.turns)) }
+        ensures { result ≡ own_string H.hash self.now [] (TermsTree doc)
+            (by_path (path_of place.now.depth place.now.turns)) }
     {
         if doc >= self.collection().documents() {
             return None;

@@ -19,7 +19,8 @@ pub(crate) const VERSION: u8 = 1;
 #[tactic(auto, unfolding(crate::specs::Spelling::text_bytes))]
 fn put_text<W: Takes>(to: &mut W, text: &[u8]) -> Result<(), OutOfMemory>
     requires { length text.now < 2 ^ 32 }
-    ensures { (about front : List ℕ) → W.has to.old about front → OnOk result (W.has to.new about (front ++ text_bytes text.now)) }
+    ensures { (about front : List ℕ) → W.has to.old about front
+        → OnOk result (W.has to.new about (front ++ text_bytes text.now)) }
 {
     to.put(&(text.len() as u32).to_be_bytes())?;
     to.put(text)?;
@@ -28,7 +29,8 @@ fn put_text<W: Takes>(to: &mut W, text: &[u8]) -> Result<(), OutOfMemory>
 
 /// Puts the texts of a collection behind what was put, with what stands in front of them.
 pub(crate) fn put_texts<W: Takes>(to: &mut W, collection: &Collection) -> Result<(), OutOfMemory>
-    ensures { (about front : List ℕ) → W.has to.old about front → OnOk result (W.has to.new about (front ++ texts_bytes collection.now)) }
+    ensures { (about front : List ℕ) → W.has to.old about front
+        → OnOk result (W.has to.new about (front ++ texts_bytes collection.now)) }
 {
     let documents = collection.documents();
     to.put(&MAGIC)?;
@@ -42,7 +44,8 @@ pub(crate) fn put_texts<W: Takes>(to: &mut W, collection: &Collection) -> Result
 
 // Puts the entries of a list.
 fn put_entries<W: Takes>(to: &mut W, entries: &[Entry]) -> Result<(), OutOfMemory>
-    ensures { (about front : List ℕ) → W.has to.old about front → OnOk result (W.has to.new about (front ++ flat_map leaf_bytes entries.now)) }
+    ensures { (about front : List ℕ) → W.has to.old about front
+        → OnOk result (W.has to.new about (front ++ flat_map leaf_bytes entries.now)) }
 {
     for entry in entries {
         to.put(&entry.doc.to_be_bytes())?;
@@ -56,7 +59,8 @@ fn put_entries<W: Takes>(to: &mut W, entries: &[Entry]) -> Result<(), OutOfMemor
 fn put_list<W: Takes>(to: &mut W, term: &[u8], entries: &[Entry]) -> Result<(), OutOfMemory>
     requires term { length term.now ≤ 64 }
     requires few { length entries.now ≤ 65536 }
-    ensures { (about front : List ℕ) → W.has to.old about front → OnOk result (W.has to.new about (front ++ list_bytes (term.now, entries.now))) }
+    ensures { (about front : List ℕ) → W.has to.old about front
+        → OnOk result (W.has to.new about (front ++ list_bytes (term.now, entries.now))) }
 {
     to.put(&[term.len() as u8])?;
     to.put(term)?;
@@ -66,7 +70,8 @@ fn put_list<W: Takes>(to: &mut W, term: &[u8], entries: &[Entry]) -> Result<(), 
 
 /// Puts the lists behind what was put.
 pub(crate) fn put_lists<W: Takes>(to: &mut W, lists: &Lists) -> Result<(), OutOfMemory>
-    ensures { (about front : List ℕ) → W.has to.old about front → OnOk result (W.has to.new about (front ++ lists_bytes lists.now)) }
+    ensures { (about front : List ℕ) → W.has to.old about front
+        → OnOk result (W.has to.new about (front ++ lists_bytes lists.now)) }
 {
     to.put(&lists.len().to_be_bytes())?;
     for i in 0..lists.len() {
