@@ -22,7 +22,8 @@ abbrev pub question_of : AskWords → Question
 question_of words = record { algorithm = words.algorithm; top = words.r; query = words.query }
 
 -- the address of the words was asked their question, and replied these bytes of a proof
-pub record IsReplied (before now : CallerTold) (words : AskWords) (query : List (List ℕ × ℕ)) (bytes : List ℕ) : Type 0 where
+pub record IsReplied (before now : CallerTold) (words : AskWords)
+    (query : List (List ℕ × ℕ)) (bytes : List ℕ) : Type 0 where
   pub asks : AsksRanking words.r words.query
   pub asked : IsQueryOf words.query query
   pub conversation : Converses words.address (question_of words) before now (Ok bytes)
@@ -36,7 +37,8 @@ pub record IsReplyAccepted (H : List ℕ → List ℕ) (before now : CallerTold)
   pub accepted : IsAcceptedBytes H words.root query words.r bytes proof
 
 -- the bytes of the reply are rejected so
-pub record IsReplyRejected (H : List ℕ → List ℕ) (before now : CallerTold) (words : AskWords) (rejection : Rejection) : Type 0 where
+pub record IsReplyRejected (H : List ℕ → List ℕ) (before now : CallerTold)
+    (words : AskWords) (rejection : Rejection) : Type 0 where
   pub query : List (List ℕ × ℕ)
   pub bytes : List ℕ
   pub replied : IsReplied before now words query bytes
@@ -47,9 +49,9 @@ pub record IsReplyFault (before now : CallerTold) (words : AskWords) (fault : Pe
   pub asks : AsksRanking words.r words.query
   pub heard : HearsFault words.address (question_of words) before now fault
 
--- The reply is an accepted proof, the text is the lines of the rows of its answer, and for every archive with the root these rows are
--- right, or the proof and the archive hold two different strings with equal digests, and an audit of the bytes against that archive
--- answers two such strings.
+-- The reply is an accepted proof, the text is the lines of the rows of its answer, and for every archive with the root
+-- these rows are right, or the proof and the archive hold two different strings with equal digests, and an audit of the
+-- bytes against that archive answers two such strings.
 pub record IsAnswered (H : List ℕ → List ℕ) (before now : CallerTold) (words : AskWords) (text : List ℕ) : Type 0 where
   pub accepted : IsReplyAccepted H before now words
   pub headline : IsTopOrCollides H words.root accepted.query words.r accepted.proof
@@ -61,7 +63,8 @@ abbrev pub AskStop : (List ℕ → List ℕ) → (before now : CallerTold) → A
 AskStop H before now words (Input refusal) = IsRankingRefused words.r words.query (λ other. ⊥) refusal
 AskStop H before now words (Rejected rejection) = IsReplyRejected H before now words rejection
 AskStop H before now words Memory = Unit {0}
-AskStop H before now words Link = AsksRanking words.r words.query × LosesLink words.address (question_of words) before now
+AskStop H before now words Link = AsksRanking words.r words.query
+    × LosesLink words.address (question_of words) before now
 AskStop H before now words (Peer fault) = IsReplyFault before now words fault
 AskStop H before now words _ = ⊥
 

@@ -20,9 +20,10 @@ use Rattle.ats_top.specs.Refusals.{AsksRanking}
 use Rattle.ats_top.specs.declared.stops.Stop.{Stop}
 use Rattle.ats_top.specs.declared.stops.Stop.TheVariants.{Rejected, Memory, Collision}
 
--- the first named file is the index of an archive, the bytes of the second are accepted as a proof under its root, and this is
--- the first collision of the proof with the archive, or there is none
-pub record IsAudited (H : List ℕ → List ℕ) (files : Files) (words : AuditWords) (found : Option (Difference TreePlace)) : Type 0 where
+-- the first named file is the index of an archive, the bytes of the second are accepted as a proof under its root, and
+-- this is the first collision of the proof with the archive, or there is none
+pub record IsAudited (H : List ℕ → List ℕ) (files : Files) (words : AuditWords)
+    (found : Option (Difference TreePlace)) : Type 0 where
   pub archive : Archive
   pub index : HasIndex H files words.index archive
   pub query : List (List ℕ × ℕ)
@@ -42,11 +43,13 @@ pub record IsAuditedRight (H : List ℕ → List ℕ) (files : Files) (words : A
 
 -- what the words say is within the limits, and the proof has this first collision with the archive
 abbrev pub HasCollision : (List ℕ → List ℕ) → Files → Command → Difference TreePlace → Type 0
-HasCollision H files (Audit words) collision = AsksRanking words.r words.query × IsAudited H files words (Some collision)
+HasCollision H files (Audit words) collision = AsksRanking words.r words.query
+    × IsAudited H files words (Some collision)
 HasCollision H files _ collision = ⊥
 
 -- the collision is at this place, whose turns have no digit above its depth, and its strings are two with one digest
-pub record CollidesAt (H : List ℕ → List ℕ) (files : Files) (command : Command) (place : Place) (ours theirs : List ℕ) : Type 0 where
+pub record CollidesAt (H : List ℕ → List ℕ) (files : Files) (command : Command)
+    (place : Place) (ours theirs : List ℕ) : Type 0 where
   pub collision : HasCollision H files command (record { place = tree_place place; ours = ours; theirs = theirs })
   pub turns : place.turns < 2 ^ place.depth
   pub differ : ours ≢ theirs
@@ -56,6 +59,7 @@ pub record CollidesAt (H : List ℕ → List ℕ) (files : Files) (command : Com
 abbrev pub VerdictStop : (List ℕ → List ℕ) → Archive → List (List ℕ × ℕ) → ℕ → List ℕ → Stop → Type 0
 VerdictStop H archive query r bytes (Rejected rejection) = IsRejectedBytes H (root_of H archive) query r bytes rejection
 VerdictStop H archive query r bytes (Collision place ours theirs) =
-    IsFoundCollision H archive query r bytes (record { place = tree_place place; ours = ours; theirs = theirs }) × (place.turns < 2 ^ place.depth)
+    IsFoundCollision H archive query r bytes (record { place = tree_place place; ours = ours; theirs = theirs })
+    × (place.turns < 2 ^ place.depth)
 VerdictStop H archive query r bytes Memory = Unit {0}
 VerdictStop H archive query r bytes _ = ⊥

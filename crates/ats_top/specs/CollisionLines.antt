@@ -12,8 +12,10 @@ tree_words (ListOf term) = codes "list " ++ decimal term
 tree_words Documents = codes "documents"
 tree_words (Terms doc) = codes "terms " ++ decimal doc
 
--- the place, the archive's own string, and the string of the proof, a line each; strings as lower-case hexadecimal digits
+-- the place, the archive's own string, and the string of the proof, a line each;
+-- strings as lower-case hexadecimal digits
 abbrev pub lines_of_collision : Place → List ℕ → List ℕ → List ℕ
 lines_of_collision place ours theirs =
-    codes "collision " ++ (tree_words place.tree ++ (codes " depth " ++ (decimal place.depth ++ (codes " turns " ++ (decimal place.turns
+    codes "collision " ++ (tree_words place.tree
+    ++ (codes " depth " ++ (decimal place.depth ++ (codes " turns " ++ (decimal place.turns
     ++ (codes "\nours " ++ (encode_lower ours ++ (codes "\ntheirs " ++ (encode_lower theirs ++ codes "\n")))))))))

@@ -13,9 +13,10 @@ use Rattle.ats_top.specs.declared.stops.PeerFault.TheVariants.{Short, Long, Bad,
 use Rattle.ats_top.specs.declared.stops.Stop.{Stop}
 use Rattle.ats_top.specs.declared.stops.Stop.TheVariants.{Memory, Link, Peer}
 
--- The address was called, the question was asked over the link that came, with this result, and the link was given back: the link as it
--- came and as it was given back, and the caller's count between the two.
-pub record Converses (address : List ℕ) (question : Question) (before now : CallerTold) (result : Result (List ℕ) AskFault) : Type 0 where
+-- The address was called, the question was asked over the link that came, with this result, and the link was given
+-- back: the link as it came and as it was given back, and the caller's count between the two.
+pub record Converses (address : List ℕ) (question : Question) (before now : CallerTold)
+    (result : Result (List ℕ) AskFault) : Type 0 where
   pub link : LinkTold
   pub back : LinkTold
   pub count : ℕ
@@ -28,7 +29,8 @@ pub record Converses (address : List ℕ) (question : Question) (before now : Ca
 
 -- a whole reply came with the bytes of a proof, of which this is told
 abbrev pub ConversesFed : (address : List ℕ) → Question → (before now : CallerTold) → Fed → Type 0
-ConversesFed address question before now fed = (bytes : List ℕ) × Converses address question before now (Ok bytes) × IsFed fed bytes
+ConversesFed address question before now fed = (bytes : List ℕ)
+    × Converses address question before now (Ok bytes) × IsFed fed bytes
 
 -- the address was called, and no link came
 pub record CallsInVain (address : List ℕ) (before now : CallerTold) : Type 0 where
@@ -38,7 +40,8 @@ pub record CallsInVain (address : List ℕ) (before now : CallerTold) : Type 0 w
 -- the caller's count rose: no link came, or the question was not written or its reply not read for a fault
 pub record LosesLink (address : List ℕ) (question : Question) (before now : CallerTold) : Type 0 where
   pub rose : Rose before.faults now.faults
-  pub way : CallsInVain address before now ⊎ (Converses address question before now (Err ReadFault) ⊎ Converses address question before now (Err WriteFault))
+  pub way : CallsInVain address before now
+      ⊎ (Converses address question before now (Err ReadFault) ⊎ Converses address question before now (Err WriteFault))
 
 -- the fault of the reply
 abbrev pub reply_fault : PeerFault → AskFault
@@ -48,7 +51,8 @@ reply_fault (Bad size kind) = BadReply size kind
 reply_fault (Refused code) = PeerRefused code
 
 -- the reply is no proof, and has this fault
-pub record HearsFault (address : List ℕ) (question : Question) (before now : CallerTold) (fault : PeerFault) : Type 0 where
+pub record HearsFault (address : List ℕ) (question : Question) (before now : CallerTold)
+    (fault : PeerFault) : Type 0 where
   pub heard : IsHeard (Err (reply_fault fault))
   pub conversation : Converses address question before now (Err (reply_fault fault))
 
@@ -67,4 +71,5 @@ IsRanged _ = Unit {0}
 
 -- the address was called once, and a link that came is back
 abbrev pub Calls : (address : List ℕ) → Question → (before now : CallerTold) → Type 0
-Calls address question before now = CallsInVain address before now ⊎ ((result : Result (List ℕ) AskFault) × Converses address question before now result)
+Calls address question before now = CallsInVain address before now
+    ⊎ ((result : Result (List ℕ) AskFault) × Converses address question before now result)

@@ -67,8 +67,8 @@ pub record IsProofStored (H : List ℕ → List ℕ) (before now : Files) (words
   pub printed : text ≡ line_of_proof (length bytes)
 
 -- the named file is an accepted proof, the text is the lines of the rows of its answer, and for every archive with the
--- root these rows are right, or the proof and the archive hold two different strings with equal digests, and an audit of the
--- bytes against that archive answers two such strings
+-- root these rows are right, or the proof and the archive hold two different strings with equal digests, and an audit
+-- of the bytes against that archive answers two such strings
 pub record IsVerified (H : List ℕ → List ℕ) (files : Files) (words : VerifyWords) (text : List ℕ) : Type 0 where
   pub asks : AsksRanking words.r words.query
   pub accepted : IsAccepted H files words
@@ -80,13 +80,19 @@ pub record IsVerified (H : List ℕ → List ℕ) (files : Files) (words : Verif
 abbrev pub IsDone : (List ℕ → List ℕ) → Outside → Outside → Command → List ℕ → Type 0
 IsDone H before now (Rank words) text = IsRanked before.shelf.files words text × (now.shelf.files ≡ before.shelf.files)
 IsDone H before now (Build words) text = IsBuilt H before.shelf.files now.shelf.files words text
-IsDone H before now (Root words) text = IsRooted H before.shelf.files words text × (now.shelf.files ≡ before.shelf.files)
+IsDone H before now (Root words) text = IsRooted H before.shelf.files words text
+    × (now.shelf.files ≡ before.shelf.files)
 IsDone H before now (Prove words) text = IsProofStored H before.shelf.files now.shelf.files words text
-IsDone H before now (Verify words) text = IsVerified H before.shelf.files words text × (now.shelf.files ≡ before.shelf.files)
-IsDone H before now (Ask words) text = IsAnswered H before.caller now.caller words text × (now.shelf.files ≡ before.shelf.files)
-IsDone H before now (Serve words) text = AreAllServed H before.shelf.files words before.door now.door 0 text × (now.shelf.files ≡ before.shelf.files)
-IsDone H before now (Audit words) text = IsAuditedRight H before.shelf.files words text × (now.shelf.files ≡ before.shelf.files)
-IsDone H before now (Sweep words) text = IsSwept H before.shelf.files words 0 text × (now.shelf.files ≡ before.shelf.files)
+IsDone H before now (Verify words) text = IsVerified H before.shelf.files words text
+    × (now.shelf.files ≡ before.shelf.files)
+IsDone H before now (Ask words) text = IsAnswered H before.caller now.caller words text
+    × (now.shelf.files ≡ before.shelf.files)
+IsDone H before now (Serve words) text = AreAllServed H before.shelf.files words before.door now.door 0 text
+    × (now.shelf.files ≡ before.shelf.files)
+IsDone H before now (Audit words) text = IsAuditedRight H before.shelf.files words text
+    × (now.shelf.files ≡ before.shelf.files)
+IsDone H before now (Sweep words) text = IsSwept H before.shelf.files words 0 text
+    × (now.shelf.files ≡ before.shelf.files)
 IsDone H before now (Trial words) text = IsTrial H words.number text × (now.shelf.files ≡ before.shelf.files)
 
 -- the name was given a prefix of the bytes, which may be all of them
@@ -123,21 +129,25 @@ Changes H before now (Audit words) = ⊥
 Changes H before now (Sweep words) = ⊥
 Changes H before now (Trial words) = ⊥
 
--- what the words say is within the limits, and the named file is of the form that the command reads; a proof is one that is accepted;
--- the texts of a trial's queries are queries
+-- what the words say is within the limits, and the named file is of the form that the command reads; a proof is one
+-- that is accepted; the texts of a trial's queries are queries
 abbrev pub HasInput : (List ℕ → List ℕ) → Files → Command → Type 0
-HasInput H files (Rank words) = AsksRanking words.r words.query × ((texts : List (List ℕ)) × HasCollection files words.collection texts)
+HasInput H files (Rank words) = AsksRanking words.r words.query
+    × ((texts : List (List ℕ)) × HasCollection files words.collection texts)
 HasInput H files (Build words) = (texts : List (List ℕ)) × HasCollection files words.collection texts
 HasInput H files (Root words) = (archive : Archive) × HasIndex H files words.index archive
-HasInput H files (Prove words) = AsksRanking words.r words.query × ((archive : Archive) × HasIndex H files words.index archive)
+HasInput H files (Prove words) = AsksRanking words.r words.query
+    × ((archive : Archive) × HasIndex H files words.index archive)
 HasInput H files (Verify words) = AsksRanking words.r words.query × IsAccepted H files words
 HasInput H files (Ask words) = AsksRanking words.r words.query
 HasInput H files (Serve words) = (archive : Archive) × HasIndex H files words.index archive
-HasInput H files (Audit words) = AsksRanking words.r words.query × ((found : Option (Difference TreePlace)) × IsAudited H files words found)
+HasInput H files (Audit words) = AsksRanking words.r words.query
+    × ((found : Option (Difference TreePlace)) × IsAudited H files words found)
 HasInput H files (Sweep words) = (findings : List Finding) × AreFound H files words findings
 HasInput H files (Trial words) = AreQueries words.number 20
 
--- And no honest proof that the words ask for is too long, and the audited proof has no collision with the archive. Of `ask` no file decides, but the reply.
+-- And no honest proof that the words ask for is too long, and the audited proof has no collision with the archive. Of
+-- `ask` no file decides, but the reply.
 abbrev pub IsServed : (List ℕ → List ℕ) → Files → Command → Type 0
 IsServed H files (Rank words) = HasInput H files (Rank words)
 IsServed H files (Build words) = HasInput H files (Build words)
@@ -147,5 +157,6 @@ IsServed H files (Verify words) = HasInput H files (Verify words)
 IsServed H files (Ask words) = ⊥
 IsServed H files (Serve words) = HasInput H files (Serve words)
 IsServed H files (Audit words) = AsksRanking words.r words.query × IsAudited H files words None
-IsServed H files (Sweep words) = (findings : List Finding) × AreFound H files words findings × (status_of_findings findings ≡ 0)
+IsServed H files (Sweep words) = (findings : List Finding) × AreFound H files words findings
+    × (status_of_findings findings ≡ 0)
 IsServed H files (Trial words) = IsTrialServed H words.number

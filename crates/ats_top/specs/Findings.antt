@@ -24,20 +24,22 @@ pub data Finding : Type 0 where
   FoundRefused : Rejection → Finding
   FoundCollision : Difference TreePlace → Finding
 
--- what `audit` finds of these words: the rows of the answer, which are right for the archive's texts; why the proof is refused;
--- or its first collision with the archive, which is two different strings with one digest
+-- what `audit` finds of these words: the rows of the answer, which are right for the archive's texts; why the proof is
+-- refused; or its first collision with the archive, which is two different strings with one digest
 abbrev pub IsFinding : (List ℕ → List ℕ) → Files → AuditWords → Finding → Type 0
 IsFinding H files words (FoundRight rows) = (audited : IsAudited H files words None)
     × (rows ≡ rows_of audited.query audited.proof) × AreRight audited.archive.texts audited.query words.r rows
 IsFinding H files words (FoundRefused rejection) = IsAuditRejected H files words rejection
 IsFinding H files words (FoundCollision collision) =
-    IsAudited H files words (Some collision) × (collision.ours ≢ collision.theirs) × (H collision.ours ≡ H collision.theirs)
+    IsAudited H files words (Some collision)
+    × (collision.ours ≢ collision.theirs) × (H collision.ours ≡ H collision.theirs)
 
 -- the words of the audit that a line asks for
 abbrev pub audit_of : List ℕ → Listed → AuditWords
 audit_of index listed = record { index = index; r = listed.r; query = listed.query; proof = listed.proof }
 
--- the named files are an index and a list whose proofs are all there, and this is found of each in the order of the lines
+-- the named files are an index and a list whose proofs are all there,
+-- and this is found of each in the order of the lines
 pub record AreFound (H : List ℕ → List ℕ) (files : Files) (words : SweepWords) (findings : List Finding) : Type 0 where
   pub archive : Archive
   pub index : HasIndex H files words.index archive
@@ -56,12 +58,16 @@ is_collision _ = false
 
 -- a collision wins over a refusal
 abbrev pub status_of_findings : List Finding → ℕ
-status_of_findings findings = if list_any is_collision findings then 5 else if list_any is_refused findings then 1 else 0
+status_of_findings findings =
+    if list_any is_collision findings then 5
+    else if list_any is_refused findings then 1
+    else 0
 
 -- I right ROWS, where ROWS is how many there are; I refused REFUSAL; or I collision
 abbrev pub line_of_finding : ℕ → Finding → List ℕ
 line_of_finding number (FoundRight rows) = decimal number ++ (codes " right " ++ (decimal (length rows) ++ codes "\n"))
-line_of_finding number (FoundRefused rejection) = decimal number ++ (codes " refused " ++ (rejection_words rejection ++ codes "\n"))
+line_of_finding number (FoundRefused rejection) =
+    decimal number ++ (codes " refused " ++ (rejection_words rejection ++ codes "\n"))
 line_of_finding number (FoundCollision collision) = decimal number ++ codes " collision\n"
 
 -- a line for each, from this number on
@@ -73,7 +79,8 @@ abbrev pub lines_of_findings : List Finding → List ℕ
 lines_of_findings findings = finding_lines 1 findings
 
 -- what is found comes to this status, and the text is its lines
-pub record IsSwept (H : List ℕ → List ℕ) (files : Files) (words : SweepWords) (status : ℕ) (text : List ℕ) : Type 0 where
+pub record IsSwept (H : List ℕ → List ℕ) (files : Files) (words : SweepWords)
+    (status : ℕ) (text : List ℕ) : Type 0 where
   pub findings : List Finding
   pub found : AreFound H files words findings
   pub comes : status_of_findings findings ≡ status
@@ -84,7 +91,8 @@ abbrev pub SweepStops : (List ℕ → List ℕ) → Files → Command → (text 
 SweepStops H files (Sweep words) text collides = IsSwept H files words (if collides then 5 else 1) text
 SweepStops H files _ text collides = ⊥
 
--- the file of a line is the honest proof, by one of the algorithms, of what the line asks for; each query that is read is one of `IsQuery`
+-- the file of a line is the honest proof, by one of the algorithms, of what the line asks for;
+-- each query that is read is one of `IsQuery`
 pub record IsHonestLine (H : List ℕ → List ℕ) (files : Files) (archive : Archive) (line : Listed) : Type 0 where
   pub algorithm : Algorithm
   pub query : List (List ℕ × ℕ)

@@ -12,7 +12,9 @@ meaning (said.Prove index algorithm r query proof) =
 meaning (said.Ask root algorithm r query address) =
     Ask (record { root = root; algorithm = algorithm; r = r; query = query.now; address = address.now })
 meaning (said.Verify root r query proof) = Verify (record { root = root; r = r; query = query.now; proof = proof.now })
-meaning (said.Serve index connections address) = Serve (record { index = index.now; connections = connections; address = address.now })
-meaning (said.Audit index r query proof) = Audit (record { index = index.now; r = r; query = query.now; proof = proof.now })
+meaning (said.Serve index connections address) =
+    Serve (record { index = index.now; connections = connections; address = address.now })
+meaning (said.Audit index r query proof) =
+    Audit (record { index = index.now; r = r; query = query.now; proof = proof.now })
 meaning (said.Sweep index list) = Sweep (record { index = index.now; list = list.now })
 meaning (said.Trial number) = Trial (record { number = number })

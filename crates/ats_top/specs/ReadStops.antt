@@ -21,7 +21,8 @@ StopsBy before now name refused Memory = Unit {0}
 StopsBy before now name refused _ = ⊥
 
 abbrev pub FileStop : (before now : ShelfTold) → List ℕ → (limit : ℕ) → Stop → Type 0
-FileStop before now name limit stop = StopsBy before now name (λ refusal. (refusal ≡ FileTooLong limit) × IsLonger before.files name limit) stop
+FileStop before now name limit stop =
+    StopsBy before now name (λ refusal. (refusal ≡ FileTooLong limit) × IsLonger before.files name limit) stop
 
 abbrev pub CollectionStop : (before now : ShelfTold) → List ℕ → Stop → Type 0
 CollectionStop before now name stop = StopsBy before now name (IsCollectionRefused before.files name) stop
@@ -30,7 +31,8 @@ abbrev pub IndexStop : (List ℕ → List ℕ) → (before now : ShelfTold) → 
 IndexStop H before now name stop = StopsBy before now name (IsIndexRefused H before.files name) stop
 
 -- the rows and the query are tried first, then the named file and what is made of it
-abbrev pub RankingStop : (before now : ShelfTold) → List ℕ → (r : ℕ) (text : List ℕ) → (InputRefusal → Type 0) → Stop → Type 0
+abbrev pub RankingStop : (before now : ShelfTold) → List ℕ → (r : ℕ) (text : List ℕ)
+    → (InputRefusal → Type 0) → Stop → Type 0
 RankingStop before now name r text later Shelf = AsksRanking r text × IsUnread before now name
 RankingStop before now name r text later (Input refusal) = IsRankingRefused r text later refusal
 RankingStop before now name r text later Memory = Unit {0}

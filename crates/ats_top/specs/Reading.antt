@@ -32,8 +32,10 @@ reads (Prove words) = (record { name = words.index; form = AsIndex }) ∷ []
 reads (Verify words) = (record { name = words.proof; form = AsProof }) ∷ []
 reads (AskServer words) = []
 reads (Serve words) = (record { name = words.index; form = AsIndex }) ∷ []
-reads (Audit words) = (record { name = words.index; form = AsIndex }) ∷ (record { name = words.proof; form = AsProof }) ∷ []
-reads (Sweep words) = (record { name = words.index; form = AsIndex }) ∷ (record { name = words.list; form = AsList }) ∷ []
+reads (Audit words) = (record { name = words.index; form = AsIndex })
+    ∷ (record { name = words.proof; form = AsProof }) ∷ []
+reads (Sweep words) = (record { name = words.index; form = AsIndex })
+    ∷ (record { name = words.list; form = AsList }) ∷ []
 reads (Trial words) = []
 
 -- the file that it stores, if it stores one
@@ -53,16 +55,19 @@ stores (Trial words) = None
 abbrev pub ReadsInOrder : List InputFile → List Ask → Type 0
 ReadsInOrder [] asks = asks ≡ []
 ReadsInOrder (file ∷ rest) asks =
-    (first : List Ask) × (later : List Ask) × (asks ≡ first ++ later) × ReadsAtMostOnce file.name (limit_of file.form) first × ReadsInOrder rest later
+    (first : List Ask) × (later : List Ask) × (asks ≡ first ++ later)
+    × ReadsAtMostOnce file.name (limit_of file.form) first × ReadsInOrder rest later
 
 -- the files of proofs
 abbrev pub proof_files : List (List ℕ) → List InputFile
 proof_files names = map (λ (name : List ℕ). record { name = name; form = AsProof }) names
 
--- behind the files that its words name a sweep reads those of the proofs of its list, once that is read; no other command reads more
+-- behind the files that its words name a sweep reads those of the proofs of its list, once that is read;
+-- no other command reads more
 abbrev pub ReadsFilesOf : Files → Command → List Ask → Type 0
 ReadsFilesOf files (Sweep words) asks = ReadsInOrder (reads (Sweep words)) asks
-    ⊎ ((listed : List Listed) × IsList files words.list listed × ReadsInOrder (reads (Sweep words) ++ proof_files (names_of listed)) asks)
+    ⊎ ((listed : List Listed) × IsList files words.list listed
+    × ReadsInOrder (reads (Sweep words) ++ proof_files (names_of listed)) asks)
 ReadsFilesOf files command asks = ReadsInOrder (reads command) asks
 
 -- this file alone is stored, once at most, if there is one to store

@@ -1,5 +1,5 @@
--- Why a command refuses its words or its file, or a query or a proof of a trial: the first limit or form that is not kept, in the order
--- in which they are tried.
+-- Why a command refuses its words or its file, or a query or a proof of a trial: the first limit or form that is not
+-- kept, in the order in which they are tried.
 use Rattle.std.specs.Prelude.{◌≡◌, ◌⊎◌, ◌≤◌, ◌^◌, ℕ, List}
 use Rattle.ats_base.specs.Outside.{IsMissing, IsLonger}
 use Rattle.ats_terms.specs.Query.{HasQuery}
@@ -62,9 +62,12 @@ LacksFile H files (Verify words) = AsksRanking words.r words.query × IsMissing 
 LacksFile H files (Ask words) = ⊥
 LacksFile H files (Serve words) = IsMissing files words.index
 LacksFile H files (Audit words) = AsksRanking words.r words.query
-    × (IsMissing files words.index ⊎ (((archive : Archive) × HasIndex H files words.index archive) × IsMissing files words.proof))
-LacksFile H files (Sweep words) = IsMissing files words.index ⊎ (((archive : Archive) × HasIndex H files words.index archive)
-    × (IsMissing files words.list ⊎ ((listed : List Listed) × IsList files words.list listed × LacksProof files (names_of listed))))
+    × (IsMissing files words.index
+    ⊎ (((archive : Archive) × HasIndex H files words.index archive) × IsMissing files words.proof))
+LacksFile H files (Sweep words) = IsMissing files words.index
+    ⊎ (((archive : Archive) × HasIndex H files words.index archive)
+    × (IsMissing files words.list
+    ⊎ ((listed : List Listed) × IsList files words.list listed × LacksProof files (names_of listed))))
 LacksFile H files (Trial words) = ⊥
 
 -- the first refusal of the file's bytes is that of the JSON text
@@ -91,7 +94,8 @@ IsCollectionRefused files name _ = ⊥
 -- the named file as an index: its length, and the place where it is the index of no archive
 abbrev pub IsIndexRefused : (List ℕ → List ℕ) → Files → List ℕ → InputRefusal → Type 0
 IsIndexRefused H files name (FileTooLong limit) = (limit ≡ 2 ^ 29) × IsLonger files name limit
-IsIndexRefused H files name (BadIndex at) = (bytes : List ℕ) × IsFile files name (2 ^ 29) bytes × IsLoadFault H bytes (index.BadIndex at)
+IsIndexRefused H files name (BadIndex at) = (bytes : List ℕ) × IsFile files name (2 ^ 29) bytes
+    × IsLoadFault H bytes (index.BadIndex at)
 IsIndexRefused H files name _ = ⊥
 
 -- the named index, then the length of the honest proof
@@ -102,8 +106,10 @@ IsProvingRefused H files words refusal = IsIndexRefused H files words.index refu
 -- the named file as a list: its length, its lines, and how many bytes its proofs have together
 abbrev pub IsListRefused : Files → List ℕ → InputRefusal → Type 0
 IsListRefused files name (FileTooLong limit) = (limit ≡ 2 ^ 20) × IsLonger files name limit
-IsListRefused files name (ListLine number) = (bytes : List ℕ) × IsFile files name (2 ^ 20) bytes × IsBadLine (lines_of bytes) number
-IsListRefused files name (ProofsTooLong bytes) = (listed : List Listed) × IsList files name listed × PassesLimit files (names_of listed) bytes
+IsListRefused files name (ListLine number) = (bytes : List ℕ) × IsFile files name (2 ^ 20) bytes
+    × IsBadLine (lines_of bytes) number
+IsListRefused files name (ProofsTooLong bytes) = (listed : List Listed) × IsList files name listed
+    × PassesLimit files (names_of listed) bytes
 IsListRefused files name _ = ⊥
 
 -- the named index, then the named list
@@ -121,13 +127,15 @@ IsRankingRefused r text later (TooManyTerms distinct) = IsRowCount r × IsFirstF
 IsRankingRefused r text later refusal = AsksRanking r text × later refusal
 
 abbrev pub IsRefused : (List ℕ → List ℕ) → Files → Command → InputRefusal → Type 0
-IsRefused H files (Rank words) refusal = IsRankingRefused words.r words.query (IsCollectionRefused files words.collection) refusal
+IsRefused H files (Rank words) refusal =
+    IsRankingRefused words.r words.query (IsCollectionRefused files words.collection) refusal
 IsRefused H files (Build words) refusal = IsCollectionRefused files words.collection refusal
 IsRefused H files (Root words) refusal = IsIndexRefused H files words.index refusal
 IsRefused H files (Prove words) refusal = IsRankingRefused words.r words.query (IsProvingRefused H files words) refusal
 IsRefused H files (Verify words) refusal = IsRankingRefused words.r words.query (λ other. ⊥) refusal
 IsRefused H files (Ask words) refusal = IsRankingRefused words.r words.query (λ other. ⊥) refusal
 IsRefused H files (Serve words) refusal = IsIndexRefused H files words.index refusal
-IsRefused H files (Audit words) refusal = IsRankingRefused words.r words.query (IsIndexRefused H files words.index) refusal
+IsRefused H files (Audit words) refusal =
+    IsRankingRefused words.r words.query (IsIndexRefused H files words.index) refusal
 IsRefused H files (Sweep words) refusal = IsSweepRefused H files words refusal
 IsRefused H files (Trial words) refusal = IsTrialRefused H words.number refusal

@@ -25,9 +25,10 @@ pub record FailedToListen (address : List ℕ) (before now : DoorTold) : Type 0 
   pub cause : Rose before.faults now.faults
   pub later : before.faults ≤ now.faults
 
--- The named file is the index of an archive, the door listened at the address of the words, and these sessions were had, of which
--- each request was answered from that archive.
-pub record HasServed (H : List ℕ → List ℕ) (files : Files) (words : ServeWords) (before now : DoorTold) (sessions : List Session) : Type 0 where
+-- The named file is the index of an archive, the door listened at the address of the words, and these sessions were
+-- had, of which each request was answered from that archive.
+pub record HasServed (H : List ℕ → List ℕ) (files : Files) (words : ServeWords)
+    (before now : DoorTold) (sessions : List Session) : Type 0 where
   pub archive : Archive
   pub index : HasIndex H files words.index archive
   pub opened : DoorTold
@@ -40,7 +41,8 @@ abbrev pub serving_text : List Session → List ℕ
 serving_text sessions = codes "listening\n" ++ session_lines sessions
 
 -- all links that the words say were served, so many of them broken off by a fault, and the text tells it
-pub record AreAllServed (H : List ℕ → List ℕ) (files : Files) (words : ServeWords) (before now : DoorTold) (faults : ℕ) (text : List ℕ) : Type 0 where
+pub record AreAllServed (H : List ℕ → List ℕ) (files : Files) (words : ServeWords)
+    (before now : DoorTold) (faults : ℕ) (text : List ℕ) : Type 0 where
   pub sessions : List Session
   pub served : HasServed H files words before now sessions
   pub all : length sessions ≡ words.connections
@@ -48,7 +50,8 @@ pub record AreAllServed (H : List ℕ → List ℕ) (files : Files) (words : Ser
   pub printed : text ≡ serving_text sessions
 
 -- `accept` failed before all links that the words say were served
-pub record IsDoorBroken (H : List ℕ → List ℕ) (files : Files) (words : ServeWords) (before now : DoorTold) (text : List ℕ) : Type 0 where
+pub record IsDoorBroken (H : List ℕ → List ℕ) (files : Files) (words : ServeWords)
+    (before now : DoorTold) (text : List ℕ) : Type 0 where
   pub sessions : List Session
   pub mid : DoorTold
   pub served : HasServed H files words before mid sessions
@@ -57,7 +60,8 @@ pub record IsDoorBroken (H : List ℕ → List ℕ) (files : Files) (words : Ser
   pub printed : text ≡ serving_text sessions
 
 -- memory was wanted for a line behind this text, which tells all sessions, or all but the last
-pub record IsLineUnmade (H : List ℕ → List ℕ) (files : Files) (words : ServeWords) (before now : DoorTold) (text : List ℕ) : Type 0 where
+pub record IsLineUnmade (H : List ℕ → List ℕ) (files : Files) (words : ServeWords)
+    (before now : DoorTold) (text : List ℕ) : Type 0 where
   pub sessions : List Session
   pub told : List Session
   pub served : HasServed H files words before now sessions
@@ -65,20 +69,22 @@ pub record IsLineUnmade (H : List ℕ → List ℕ) (files : Files) (words : Ser
   pub printed : text ≡ serving_text told
 
 -- the text tells these sessions, but was not taken whole
-pub record IsServingUnprinted (H : List ℕ → List ℕ) (files : Files) (words : ServeWords) (before now : DoorTold) (text : List ℕ) : Type 0 where
+pub record IsServingUnprinted (H : List ℕ → List ℕ) (files : Files) (words : ServeWords)
+    (before now : DoorTold) (text : List ℕ) : Type 0 where
   pub sessions : List Session
   pub served : HasServed H files words before now sessions
   pub printed : text ≡ serving_text sessions
 
 -- the named file is the index of an archive, but the door did not listen
-pub record IsDoorShut (H : List ℕ → List ℕ) (files : Files) (words : ServeWords) (before now : DoorTold) (text : List ℕ) : Type 0 where
+pub record IsDoorShut (H : List ℕ → List ℕ) (files : Files) (words : ServeWords)
+    (before now : DoorTold) (text : List ℕ) : Type 0 where
   pub archive : Archive
   pub index : HasIndex H files words.index archive
   pub failed : FailedToListen words.address before now
   pub printed : text ≡ []
 
--- What came of serving where the index was loaded: all links that the words say were served; or the door failed, or the sink; or memory was
--- wanted for a line.
+-- What came of serving where the index was loaded: all links that the words say were served; or the door failed, or the
+-- sink; or memory was wanted for a line.
 abbrev pub Attends : (List ℕ → List ℕ) → Files → ServeWords → (before now : DoorAndSink) → Result ℕ Halt → Type 0
 Attends H files words before now (Ok faults) =
     (text : List ℕ) × Took before.sink now.sink text × AreAllServed H files words before.door now.door faults text
@@ -86,19 +92,22 @@ Attends H files words before now (Err Door) =
     (text : List ℕ) × Took before.sink now.sink text
     × (IsDoorShut H files words before.door now.door text ⊎ IsDoorBroken H files words before.door now.door text)
 Attends H files words before now (Err Sink) =
-    (text : List ℕ) × FailedToTake before.sink now.sink text × IsServingUnprinted H files words before.door now.door text
+    (text : List ℕ) × FailedToTake before.sink now.sink text
+    × IsServingUnprinted H files words before.door now.door text
 Attends H files words before now (Err Memory) =
     (text : List ℕ) × Took before.sink now.sink text × IsLineUnmade H files words before.door now.door text
 
 -- Why serving stopped behind this text, where the index was loaded; want of memory is free.
 abbrev pub ServingStop : (List ℕ → List ℕ) → Files → ServeWords → (before now : DoorTold) → List ℕ → Stop → Type 0
-ServingStop H files words before now text stop.Link = IsDoorShut H files words before now text ⊎ IsDoorBroken H files words before now text
-ServingStop H files words before now text (stop.Faults count) = (0 < count) × AreAllServed H files words before now count text
+ServingStop H files words before now text stop.Link = IsDoorShut H files words before now text
+    ⊎ IsDoorBroken H files words before now text
+ServingStop H files words before now text (stop.Faults count) = (0 < count)
+    × AreAllServed H files words before now count text
 ServingStop H files words before now text stop.Memory = IsLineUnmade H files words before now text
 ServingStop H files words before now text _ = ⊥
 
--- What a door that tells tells then: the address was listened at once at most, `accept` was called so many times at most, and each link that
--- came is back.
+-- What a door that tells tells then: the address was listened at once at most, `accept` was called so many times at
+-- most, and each link that came is back.
 pub record KeepsOpening (address : List ℕ) (connections : ℕ) (before now : Opening) : Type 0 where
   pub addresses : (now.addresses ≡ before.addresses) ⊎ (now.addresses ≡ before.addresses ++ address ∷ [])
   pub accepts : now.accepts ≤ before.accepts + connections
@@ -106,7 +115,8 @@ pub record KeepsOpening (address : List ℕ) (connections : ℕ) (before now : O
 
 abbrev pub KeepsContent : (address : List ℕ) (connections : ℕ) (before now : Option Opening) → Type 0
 KeepsContent address connections None now = now ≡ None
-KeepsContent address connections (Some before) now = (opening : Opening) × (now ≡ Some opening) × KeepsOpening address connections before opening
+KeepsContent address connections (Some before) now = (opening : Opening) × (now ≡ Some opening)
+    × KeepsOpening address connections before opening
 
 -- what serving leaves of the door
 pub record Opens (words : ServeWords) (before now : DoorTold) : Type 0 where

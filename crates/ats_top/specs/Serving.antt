@@ -32,7 +32,8 @@ abbrev pub broken_after : ℕ → Session → ℕ
 broken_after before session = counted_broken session.left.faults before
 
 -- These sessions were had at the door, one after another, and nothing else.
-pub record HadSessions (gives : Question → Reply → Type 0) (sessions : List Session) (before now : DoorTold) : Type 0 where
+pub record HadSessions (gives : Question → Reply → Type 0) (sessions : List Session)
+    (before now : DoorTold) : Type 0 where
   pub each : All (IsSession gives (is_some before.content)) sessions
   pub content : now.content ≡ option_map (λ opening. fold after_session opening sessions) before.content
   pub broken : now.broken ≡ fold broken_after before.broken sessions
@@ -68,12 +69,14 @@ end_word WriteFault = codes "fault"
 -- connection I requests K END
 abbrev pub line_of_session : ℕ → Served → List ℕ
 line_of_session number served =
-    codes "connection " ++ (decimal number ++ (codes " requests " ++ (decimal served.requests ++ (codes " " ++ (end_word served.end ++ codes "\n")))))
+    codes "connection " ++ (decimal number ++ (codes " requests " ++ (decimal served.requests
+    ++ (codes " " ++ (end_word served.end ++ codes "\n")))))
 
 -- a line for each session, numbers from this one on
 abbrev pub session_lines_from : ℕ → List Session → List ℕ
 session_lines_from number [] = []
-session_lines_from number (session ∷ sessions) = line_of_session number session.served ++ session_lines_from (number + 1) sessions
+session_lines_from number (session ∷ sessions) = line_of_session number session.served
+    ++ session_lines_from (number + 1) sessions
 
 abbrev pub session_lines : List Session → List ℕ
 session_lines sessions = session_lines_from 1 sessions
@@ -102,20 +105,25 @@ IsUntold before now text Door = ⊥
 IsUntold before now text Sink = FailedToTake before now text
 IsUntold before now text Memory = now ≡ before
 
--- How the serving of so many links ended behind these sessions: all were served, and so many ended by a fault; or `accept` failed; or the sink
--- did; or memory was wanted for the line of the last of them.
-abbrev pub EndsServing : (Question → Reply → Type 0) → ℕ → (before now : DoorAndSink) → List Session → Result ℕ Halt → Type 0
+-- How the serving of so many links ended behind these sessions: all were served, and so many ended by a fault; or
+-- `accept` failed; or the sink did; or memory was wanted for the line of the last of them.
+abbrev pub EndsServing : (Question → Reply → Type 0) → ℕ
+    → (before now : DoorAndSink) → List Session → Result ℕ Halt → Type 0
 EndsServing gives connections before now sessions (Ok faults) =
     (length sessions ≡ connections) × (faults ≡ faults_of sessions)
     × HadSessions gives sessions before.door now.door × Took before.sink now.sink (session_lines sessions)
 EndsServing gives connections before now sessions (Err Door) =
-    (length sessions < connections) × ((mid : DoorTold) × HadSessions gives sessions before.door mid × FailedToAccept mid now.door)
+    (length sessions < connections)
+    × ((mid : DoorTold) × HadSessions gives sessions before.door mid × FailedToAccept mid now.door)
     × Took before.sink now.sink (session_lines sessions)
 EndsServing gives connections before now sessions (Err Sink) =
-    (length sessions ≤ connections) × HadSessions gives sessions before.door now.door × FailedToTake before.sink now.sink (session_lines sessions)
+    (length sessions ≤ connections) × HadSessions gives sessions before.door now.door
+    × FailedToTake before.sink now.sink (session_lines sessions)
 EndsServing gives connections before now sessions (Err Memory) =
     (length sessions ≤ connections) × HadSessions gives sessions before.door now.door
-    × ((told : List Session) × (last : Session) × (sessions ≡ told ++ last ∷ []) × Took before.sink now.sink (session_lines told))
+    × ((told : List Session) × (last : Session) × (sessions ≡ told ++ last ∷ [])
+    × Took before.sink now.sink (session_lines told))
 
 abbrev pub ServesLinks : (Question → Reply → Type 0) → ℕ → (before now : DoorAndSink) → Result ℕ Halt → Type 0
-ServesLinks gives connections before now result = (sessions : List Session) × EndsServing gives connections before now sessions result
+ServesLinks gives connections before now result = (sessions : List Session)
+    × EndsServing gives connections before now sessions result

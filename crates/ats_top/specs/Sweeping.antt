@@ -71,7 +71,8 @@ abbrev pub found_by : Verdict → Finding
 found_by (verdict.BadShape fault) = FoundRefused (Shape fault)
 found_by (verdict.Refused refusal) = FoundRefused (Check refusal)
 found_by (verdict.Right rows) = FoundRight rows
-found_by (verdict.Collision place ours theirs) = FoundCollision (record { place = tree_place place; ours = ours; theirs = theirs })
+found_by (verdict.Collision place ours theirs) =
+    FoundCollision (record { place = tree_place place; ours = ours; theirs = theirs })
 
 -- of a file that is too long the verdict is of no account
 abbrev pub finding_of : Gathered → Verdict → Finding

@@ -31,14 +31,16 @@ trial_archive number = archive_of (trial_texts number)
 
 -- the proof is the honest one of a query for 10 rows, and no longer than a proof may be; it is accepted under the root
 -- of its archive, and an audit finds no clash in it
-pub record IsTried (H : List ℕ → List ℕ) (archive : Archive) (query : List (List ℕ × ℕ)) (algorithm : Algorithm) (proof : Proof) : Type 0 where
+pub record IsTried (H : List ℕ → List ℕ) (archive : Archive) (query : List (List ℕ × ℕ))
+    (algorithm : Algorithm) (proof : Proof) : Type 0 where
   pub honest : IsHonest H archive query 10 algorithm proof
   pub short : length_of proof ≤ 2 ^ 26
   pub accepted : Accepts H (root_of H archive) query 10 proof
   pub right : extract H archive query proof ≡ None
 
 -- so it is of the trial's query with this number
-pub record IsTrialProof (H : List ℕ → List ℕ) (number : ℕ) (algorithm : Algorithm) (i : ℕ) (proof : Proof) : Type 0 where
+pub record IsTrialProof (H : List ℕ → List ℕ) (number : ℕ)
+    (algorithm : Algorithm) (i : ℕ) (proof : Proof) : Type 0 where
   pub query : List (List ℕ × ℕ)
   pub asked : IsQueryOf (trial_query number i) query
   pub tried : IsTried H (trial_archive number) query algorithm proof
@@ -51,7 +53,8 @@ AreTrialProofs H number algorithm proofs =
 -- NAME accepted A entries E bytes B
 abbrev pub line_of_proofs : List ℕ → List Proof → List ℕ
 line_of_proofs name proofs =
-    name ++ (codes " accepted " ++ (decimal (length proofs) ++ (codes " entries " ++ (decimal (sum_by shown_entries proofs)
+    name ++ (codes " accepted " ++ (decimal (length proofs)
+    ++ (codes " entries " ++ (decimal (sum_by shown_entries proofs)
     ++ (codes " bytes " ++ (decimal (sum_by length_of proofs) ++ codes "\n"))))))
 
 -- the five lines, of the root and of the accepted proofs by each algorithm, all of which are audited as right
@@ -72,9 +75,11 @@ pub record IsTrial (H : List ℕ → List ℕ) (number : ℕ) (text : List ℕ) 
   pub printed : text ≡ lines_of_trial (root_of H (trial_archive number)) tra tnra
 
 -- each query has such a proof of its own, in order
-pub record AreTried (H : List ℕ → List ℕ) (archive : Archive) (queries : List (List (List ℕ × ℕ))) (algorithm : Algorithm) (proofs : List Proof) : Type 0 where
+pub record AreTried (H : List ℕ → List ℕ) (archive : Archive) (queries : List (List (List ℕ × ℕ)))
+    (algorithm : Algorithm) (proofs : List Proof) : Type 0 where
   pub many : length proofs ≡ length queries
-  pub each : (i : ℕ) (d : List (List ℕ × ℕ)) (e : Proof) → i < length proofs → IsTried H archive (slice_index_or queries i d) algorithm (slice_index_or proofs i e)
+  pub each : (i : ℕ) (d : List (List ℕ × ℕ)) (e : Proof) → i < length proofs
+      → IsTried H archive (slice_index_or queries i d) algorithm (slice_index_or proofs i e)
 
 -- an audit answers that the rows are right
 abbrev pub is_right : Verdict → Bool
@@ -123,7 +128,8 @@ pub record IsTrialQueryRefused (number : ℕ) (refusal : InputRefusal) : Type 0 
 
 -- the texts are the trial's queries, in order
 abbrev pub AreTrialQueries : ℕ → List (List (List ℕ × ℕ)) → Type 0
-AreTrialQueries number queries = (i : ℕ) (d : List (List ℕ × ℕ)) → i < length queries → IsQueryOf (trial_query number i) (slice_index_or queries i d)
+AreTrialQueries number queries = (i : ℕ) (d : List (List ℕ × ℕ)) → i < length queries
+    → IsQueryOf (trial_query number i) (slice_index_or queries i d)
 
 -- a query's proof is not made: it is too long, or memory was wanted
 abbrev pub IsTryStop : (List ℕ → List ℕ) → Archive → List (List ℕ × ℕ) → Algorithm → Stop → Type 0
@@ -137,12 +143,14 @@ turn i Tra = 2 * i
 turn i Tnra = 2 * i + 1
 
 -- the first proof that is not made: before it are those of the queries before, and of this one's that by TRA
-pub record IsTriesStop (H : List ℕ → List ℕ) (archive : Archive) (queries : List (List (List ℕ × ℕ))) (stop : Stop) : Type 0 where
+pub record IsTriesStop (H : List ℕ → List ℕ) (archive : Archive) (queries : List (List (List ℕ × ℕ)))
+    (stop : Stop) : Type 0 where
   pub i : ℕ
   pub algorithm : Algorithm
   pub inside : i < length queries
   pub stopped : (d : List (List ℕ × ℕ)) → IsTryStop H archive (slice_index_or queries i d) algorithm stop
-  pub before : (k : ℕ) (a : Algorithm) → turn k a < turn i algorithm → (d : List (List ℕ × ℕ)) → (proof : Proof) × IsTried H archive (slice_index_or queries k d) a proof
+  pub before : (k : ℕ) (a : Algorithm) → turn k a < turn i algorithm
+      → (d : List (List ℕ × ℕ)) → (proof : Proof) × IsTried H archive (slice_index_or queries k d) a proof
 
 -- the lines tell of the proofs of the queries by each algorithm
 pub record AreTriedLines (H : List ℕ → List ℕ) (archive : Archive) (queries : List (List (List ℕ × ℕ))) (text : List ℕ) : Type 0 where

@@ -46,8 +46,10 @@ fn converse<C: Caller>(
     requires { length query.now ≤ 4000 }
     ensures ok { IfOk result (ConversesFed address.now (record { algorithm = algorithm; top = top; query = query.now })
         (C.told caller.old) (C.told caller.new)) }
-    ensures stop { IfErr result (ConversationStop address.now (record { algorithm = algorithm; top = top; query = query.now }) (C.told caller.old) (C.told caller.new)) }
-    ensures calls { Calls address.now (record { algorithm = algorithm; top = top; query = query.now }) (C.told caller.old) (C.told caller.new) }
+    ensures stop { IfErr result (ConversationStop address.now
+        (record { algorithm = algorithm; top = top; query = query.now }) (C.told caller.old) (C.told caller.new)) }
+    ensures calls { Calls address.now (record { algorithm = algorithm; top = top; query = query.now })
+        (C.told caller.old) (C.told caller.new) }
 {
     let Ok(mut link) = caller.call(address) else {
         return Err(Stop::Link);
@@ -70,10 +72,14 @@ pub(crate) fn ask<H: Hash32, C: Caller>(
     address: &str,
     caller: &mut C,
 ) -> Result<String, Stop>
-    ensures ok { IfOk result (λ text. IsAnswered H.hash (C.told caller.old) (C.told caller.new) (record { root = root.now; algorithm = algorithm; r = r; query = query.now; address = address.now }) (string_bytes text)) }
-    ensures stop { IfErr result (AskStop H.hash (C.told caller.old) (C.told caller.new) (record { root = root.now; algorithm = algorithm; r = r; query = query.now; address = address.now })) }
+    ensures ok { IfOk result (λ text. IsAnswered H.hash (C.told caller.old) (C.told caller.new)
+        (record { root = root.now; algorithm = algorithm; r = r; query = query.now; address = address.now })
+        (string_bytes text)) }
+    ensures stop { IfErr result (AskStop H.hash (C.told caller.old) (C.told caller.new)
+        (record { root = root.now; algorithm = algorithm; r = r; query = query.now; address = address.now })) }
     ensures calls { (C.told caller.new ≡ C.told caller.old)
-        ⊎ (AsksRanking r query.now × Calls address.now (record { algorithm = algorithm; top = r; query = query.now }) (C.told caller.old) (C.told caller.new)) }
+        ⊎ (AsksRanking r query.now × Calls address.now (record { algorithm = algorithm; top = r; query = query.now })
+        (C.told caller.old) (C.told caller.new)) }
     ensures uncalled { (AsksRanking r query.now → ⊥) → caller.new ≡ caller.old }
 {
     let rows = Top::new(r)?;

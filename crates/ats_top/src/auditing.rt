@@ -31,7 +31,8 @@ fn audited<H: Hash32>(
     top: Top,
     bytes: &[u8],
 ) -> Result<String, Stop>
-    ensures ok { IfOk result (λ text. (rows : List Row) × IsFoundRight H.hash index.now query.now top bytes.now rows × (string_bytes text ≡ lines rows)) }
+    ensures ok { IfOk result (λ text. (rows : List Row)
+        × IsFoundRight H.hash index.now query.now top bytes.now rows × (string_bytes text ≡ lines rows)) }
     ensures stop { IfErr result (VerdictStop H.hash index.now query.now top bytes.now) }
 {
     let Ok(verdict) = ats_audit::audit::<H>(alloc, index, query, top, bytes) else {
@@ -66,10 +67,13 @@ pub(crate) fn audit<H: Hash32 + Sync, R: Threads + Sync, S: Shelf>(
     proof: &str,
     shelf: &mut S,
 ) -> Result<String, Stop>
-    ensures ok { IfOk result (λ text. IsAuditedRight H.hash (S.told shelf.old).files (record { index = index.now; r = r; query = query.now; proof = proof.now }) (string_bytes text)) }
-    ensures stop { IfErr result (FilesStop H.hash (S.told shelf.old) (S.told shelf.new) (Audit (record { index = index.now; r = r; query = query.now; proof = proof.now }))) }
+    ensures ok { IfOk result (λ text. IsAuditedRight H.hash (S.told shelf.old).files
+        (record { index = index.now; r = r; query = query.now; proof = proof.now }) (string_bytes text)) }
+    ensures stop { IfErr result (FilesStop H.hash (S.told shelf.old) (S.told shelf.new)
+        (Audit (record { index = index.now; r = r; query = query.now; proof = proof.now }))) }
     ensures same { (S.told shelf.new).files ≡ (S.told shelf.old).files }
-    ensures serves { Serves (S.told shelf.old) (S.told shelf.new) (Audit (record { index = index.now; r = r; query = query.now; proof = proof.now })) }
+    ensures serves { Serves (S.told shelf.old) (S.told shelf.new)
+        (Audit (record { index = index.now; r = r; query = query.now; proof = proof.now })) }
     ensures unread { (AsksRanking r query.now → ⊥) → shelf.new ≡ shelf.old }
 {
     let rows = Top::new(r)?;

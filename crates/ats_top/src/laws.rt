@@ -29,8 +29,10 @@ use ats_hash::HashKind;
 /// Where a file is the honest proof of a query over an archive, by either algorithm, `verify` serves it under the
 /// word of the archive's root, for the same query and number of rows.
 pub fn honest_proofs_are_served<H: HashKind>()
-    ensures { (archive : Archive) (asked : List (List ℕ × ℕ)) (rows : ℕ) (algorithm : Algorithm) (bytes : List ℕ) (files : Files) (root r query name : List ℕ)
-        → IsProved H.hash archive asked rows algorithm bytes → IsFile files name (2 ^ 26) bytes → root_word root ≡ Some (root_of H.hash archive)
+    ensures { (archive : Archive) (asked : List (List ℕ × ℕ)) (rows : ℕ) (algorithm : Algorithm) (bytes : List ℕ)
+        (files : Files) (root r query name : List ℕ)
+        → IsProved H.hash archive asked rows algorithm bytes
+        → IsFile files name (2 ^ 26) bytes → root_word root ≡ Some (root_of H.hash archive)
         → number_of r ≡ Some rows → IsRowCount rows → IsQueryOf query asked
         → Said (verify_words root r query name) (IsServed H.hash files) }
 {}
@@ -38,30 +40,39 @@ pub fn honest_proofs_are_served<H: HashKind>()
 /// Where a file is the honest proof of a query over the archive of an index, by either algorithm, `audit` serves it for
 /// the same query and number of rows: it has no collision with the archive.
 pub fn honest_audits_are_served<H: HashKind>()
-    ensures { (archive : Archive) (files : Files) (words : AuditWords) (asked : List (List ℕ × ℕ)) (algorithm : Algorithm) (bytes : List ℕ)
-        → HasIndex H.hash files words.index archive → IsRowCount words.r → IsQueryOf words.query asked → IsProved H.hash archive asked words.r algorithm bytes
+    ensures { (archive : Archive) (files : Files) (words : AuditWords)
+        (asked : List (List ℕ × ℕ)) (algorithm : Algorithm) (bytes : List ℕ)
+        → HasIndex H.hash files words.index archive → IsRowCount words.r → IsQueryOf words.query asked
+        → IsProved H.hash archive asked words.r algorithm bytes
         → IsFile files words.proof (2 ^ 26) bytes → IsServed H.hash files (Audit words) }
 {}
 
 /// Where each line of a list asks for the honest proof of its query over the archive of the index, by either
 /// algorithm, and all the proofs are there within the limit, `sweep` serves it: each is found right.
 pub fn honest_sweeps_are_served<H: HashKind>()
-    ensures { (archive : Archive) (files : Files) (words : SweepWords) (listed : List Listed) → HasIndex H.hash files words.index archive → IsList files words.list listed
-        → AreAllThere files (names_of listed) → All (IsHonestLine H.hash files archive) listed → IsServed H.hash files (Sweep words) }
+    ensures { (archive : Archive) (files : Files) (words : SweepWords) (listed : List Listed)
+        → HasIndex H.hash files words.index archive → IsList files words.list listed
+        → AreAllThere files (names_of listed) → All (IsHonestLine H.hash files archive) listed
+        → IsServed H.hash files (Sweep words) }
 {}
 
 /// Where a file holds the index bytes of an archive, which `build` stores, `root` serves it. So does `prove` by lists
 /// alone, for a query and a number of rows within the limits: no proof that they ask for is too long. By either
 /// algorithm `prove` serves it wherever the honest proof has no more bytes than a proof may have.
 pub fn built_indexes_are_served<H: HashKind>()
-    ensures root { (archive : Archive) (bytes : List ℕ) (files : Files) (name : List ℕ) → IsSpelling H.hash bytes archive → Holds files name bytes
+    ensures root { (archive : Archive) (bytes : List ℕ) (files : Files) (name : List ℕ)
+        → IsSpelling H.hash bytes archive → Holds files name bytes
         → Said (root_words name) (IsServed H.hash files) }
-    ensures prove { (archive : Archive) (bytes : List ℕ) (files : Files) (name : List ℕ) → IsSpelling H.hash bytes archive → Holds files name bytes
+    ensures prove { (archive : Archive) (bytes : List ℕ) (files : Files) (name : List ℕ)
+        → IsSpelling H.hash bytes archive → Holds files name bytes
         → (rows : ℕ) (r query proof : List ℕ) → number_of r ≡ Some rows → AsksRanking rows query
         → Said (prove_words name (codes "tnra") r query proof) (IsServed H.hash files) }
-    ensures either { (archive : Archive) (bytes : List ℕ) (files : Files) (name : List ℕ) → IsTold files → IsSpelling H.hash bytes archive → Holds files name bytes
-        → (algorithm : Algorithm) (asked : List (List ℕ × ℕ)) (rows : ℕ) (honest : List ℕ) → IsProved H.hash archive asked rows algorithm honest → length honest ≤ 2 ^ 26
-        → (word r query proof : List ℕ) → algorithm_of word ≡ Some algorithm → number_of r ≡ Some rows → IsRowCount rows → IsQueryOf query asked
+    ensures either { (archive : Archive) (bytes : List ℕ) (files : Files) (name : List ℕ)
+        → IsTold files → IsSpelling H.hash bytes archive → Holds files name bytes
+        → (algorithm : Algorithm) (asked : List (List ℕ × ℕ)) (rows : ℕ) (honest : List ℕ)
+        → IsProved H.hash archive asked rows algorithm honest → length honest ≤ 2 ^ 26
+        → (word r query proof : List ℕ) → algorithm_of word ≡ Some algorithm → number_of r ≡ Some rows
+        → IsRowCount rows → IsQueryOf query asked
         → Said (prove_words name word r query proof) (IsServed H.hash files) }
 {}
 
@@ -83,12 +94,15 @@ pub fn commands_have_one_refusal<H: HashKind>()
         → IsServed H.hash files command → IsRefused H.hash files command refusal → ⊥ }
 {}
 
-/// Where the bytes that `ask` got are the honest proof of its query over an archive with its root, by either algorithm, its
-/// reply decides status 0.
+/// Where the bytes that `ask` got are the honest proof of its query over an archive with its root, by either algorithm,
+/// its reply decides status 0.
 pub fn honest_replies_are_accepted<H: HashKind>()
-    ensures { (archive : Archive) (asked : List (List ℕ × ℕ)) (algorithm : Algorithm) (bytes : List ℕ) (words : AskWords) (before now : CallerTold)
-        → IsProved H.hash archive asked words.r algorithm bytes → words.root ≡ root_of H.hash archive → IsRowCount words.r → IsQueryOf words.query asked
-        → Converses words.address (question_of words) before now (Ok bytes) → ReplyDecides H.hash before now (Ask words) 0 }
+    ensures { (archive : Archive) (asked : List (List ℕ × ℕ)) (algorithm : Algorithm) (bytes : List ℕ)
+        (words : AskWords) (before now : CallerTold)
+        → IsProved H.hash archive asked words.r algorithm bytes → words.root ≡ root_of H.hash archive
+        → IsRowCount words.r → IsQueryOf words.query asked
+        → Converses words.address (question_of words) before now (Ok bytes)
+        → ReplyDecides H.hash before now (Ask words) 0 }
 {}
 
 /// Where the caller tells, what came over the link of a command decides one status at most.

@@ -51,7 +51,8 @@ fn count_lines(bytes: &[u8]) -> usize
 
 // R, PROOF and QUERY of a line that spells them.
 fn parts(line: &[u8]) -> Option<(u32, &str, &str)>
-    ensures { MatchOption result ((listed : Listed) → IsSpelled line.now listed → ⊥) (λ parts. IsSpelledAs line.now parts.0 parts.1.now parts.2.now) }
+    ensures { MatchOption result ((listed : Listed) → IsSpelled line.now listed → ⊥)
+        (λ parts. IsSpelledAs line.now parts.0 parts.1.now parts.2.now) }
 {
     let Ok(text) = str::from_utf8(line) else {
         return None;
@@ -73,7 +74,8 @@ fn parts(line: &[u8]) -> Option<(u32, &str, &str)>
 
 // What a line asks for, if it does.
 fn read_line<'a>(alloc: Global, line: &'a [u8]) -> Result<Option<Entry<'a>>, Stop>
-    ensures ok { IfOk result (λ found. MatchOption found ((listed : Listed) → IsListed line.now listed → ⊥) (IsEntry line.now)) }
+    ensures ok { IfOk result (λ found.
+        MatchOption found ((listed : Listed) → IsListed line.now listed → ⊥) (IsEntry line.now)) }
     ensures stop { IfErr result (λ stop. stop ≡ Memory) }
 {
     let Some((r, proof, query)) = parts(line) else {

@@ -64,7 +64,8 @@ fn serve_link<H: Hash32, D: Door>(
     door: &mut D,
 ) -> Result<Served, Failed>
     requires { (D.told door.old).is_open ≡ true }
-    ensures had { IfOk result (λ served. (session : Session) × (session.served ≡ served) × HadSessions (gives H.hash index.now) (session ∷ []) (D.told door.old) (D.told door.new)) }
+    ensures had { IfOk result (λ served. (session : Session) × (session.served ≡ served)
+        × HadSessions (gives H.hash index.now) (session ∷ []) (D.told door.old) (D.told door.new)) }
     ensures failed { OnErr result (FailedToAccept (D.told door.old) (D.told door.new)) }
     ensures stays { (D.told door.new).is_open ≡ true }
 {
@@ -89,8 +90,8 @@ fn announce<K: Sink>(alloc: Global, number: u32, served: Served, out: &mut K) ->
     }
 }
 
-/// Serves so many links that come to the open door, one after another, and hands a line for each to the sink. Says how many ended
-/// by a fault.
+/// Serves so many links that come to the open door, one after another, and hands a line for each to the sink.
+/// Says how many ended by a fault.
 pub(crate) fn serve_links<H: Hash32, K: Sink, D: Door>(
     alloc: Global,
     index: &Index<H>,
@@ -100,7 +101,9 @@ pub(crate) fn serve_links<H: Hash32, K: Sink, D: Door>(
     door: &mut D,
 ) -> Result<u32, Halt>
     requires { (D.told door.old).is_open ≡ true }
-    ensures { ServesLinks (gives H.hash index.now) connections (record { door = D.told door.old; sink = K.told out.old }) (record { door = D.told door.new; sink = K.told out.new }) result }
+    ensures { ServesLinks (gives H.hash index.now) connections
+        (record { door = D.told door.old; sink = K.told out.old })
+        (record { door = D.told door.new; sink = K.told out.new }) result }
 {
     let mut faults: u32 = 0;
     for before in 0..connections {
@@ -132,7 +135,8 @@ pub(crate) fn attend<H: Hash32, K: Sink, D: Door>(
 ) -> Result<u32, Halt>
     ensures { (files : Files) (name : List ℕ) → HasIndex H.hash files name index.now
         → Attends H.hash files (record { index = name; connections = connections; address = address.now })
-        (record { door = D.told door.old; sink = K.told out.old }) (record { door = D.told door.new; sink = K.told out.new }) result }
+        (record { door = D.told door.old; sink = K.told out.old })
+        (record { door = D.told door.new; sink = K.told out.new }) result }
 {
     if door.listen(address).is_err() {
         return Err(Halt::Door);
@@ -172,12 +176,16 @@ pub(crate) fn serve<H: Hash32 + Sync, R: Threads + Sync, S: Shelf, K: Sink, D: D
     out: &mut K,
     door: &mut D,
 ) -> u8
-    ensures ended { (said : List (List ℕ)) (caller : CallerTold) → command_of said ≡ Some (Serve (record { index = index.now; connections = connections; address = address.now }))
+    ensures ended { (said : List (List ℕ)) (caller : CallerTold)
+        → command_of said
+        ≡ Some (Serve (record { index = index.now; connections = connections; address = address.now }))
         → Ended H.hash said
         (record { shelf = S.told shelf.old; sink = K.told out.old; caller = caller; door = D.told door.old })
         (record { shelf = S.told shelf.new; sink = K.told out.new; caller = caller; door = D.told door.new }) result }
     ensures reads { Reads (S.told shelf.old) (S.told shelf.new) index.now (2 ^ 29) }
-    ensures opened { (D.told door.new ≡ D.told door.old) ⊎ Opens (record { index = index.now; connections = connections; address = address.now }) (D.told door.old) (D.told door.new) }
+    ensures opened { (D.told door.new ≡ D.told door.old)
+        ⊎ Opens (record { index = index.now; connections = connections; address = address.now })
+        (D.told door.old) (D.told door.new) }
     ensures sink_later { (K.told out.old).faults ≤ (K.told out.new).faults }
 {
     let loaded = match read::index::<H, R, S>(rt, alloc, index, shelf) {

@@ -122,9 +122,12 @@ impl Report {
         proof: &Gathered,
         verdict: &Verdict,
     ) -> Result<(), AllocError>
-        ensures lines { OnOk result (string_bytes self.new.lines ≡ string_bytes self.old.lines ++ line_of_finding number (finding_of proof.now verdict.now)) }
-        ensures refused { OnOk result (self.new.refused ≡ (self.old.refused || is_refused (finding_of proof.now verdict.now))) }
-        ensures collides { OnOk result (self.new.collides ≡ (self.old.collides || is_collision (finding_of proof.now verdict.now))) }
+        ensures lines { OnOk result (string_bytes self.new.lines
+            ≡ string_bytes self.old.lines ++ line_of_finding number (finding_of proof.now verdict.now)) }
+        ensures refused { OnOk result (self.new.refused
+            ≡ (self.old.refused || is_refused (finding_of proof.now verdict.now))) }
+        ensures collides { OnOk result (self.new.collides
+            ≡ (self.old.collides || is_collision (finding_of proof.now verdict.now))) }
     {
         let line = line(alloc, number, proof, verdict)?;
         self.lines.push_str(line.as_str())?;
@@ -152,8 +155,10 @@ fn report_of(alloc: Global, proofs: &[Gathered], verdicts: &[Verdict]) -> Result
 
 // Where one collides, or one is refused, not all is right.
 fn conclusion(report: Report) -> Result<String, Stop>
-    ensures ok { IfOk result (λ text. (string_bytes text ≡ string_bytes report.lines) × (report.collides ≡ false) × (report.refused ≡ false)) }
-    ensures stop { IfErr result (λ stop. (stop ≡ Swept report.lines report.collides) × ((report.collides || report.refused) ≡ true)) }
+    ensures ok { IfOk result (λ text. (string_bytes text ≡ string_bytes report.lines)
+        × (report.collides ≡ false) × (report.refused ≡ false)) }
+    ensures stop { IfErr result (λ stop. (stop ≡ Swept report.lines report.collides)
+        × ((report.collides || report.refused) ≡ true)) }
 {
     if report.collides || report.refused {
         return Err(Stop::Swept {
@@ -190,8 +195,8 @@ fn swept<H: Hash32 + Sync, R: Threads + Sync, S: Shelf>(
     conclusion(report_of(alloc, proofs.as_slice(), verdicts.as_slice())?)
 }
 
-/// The lines of `sweep`. The index is read before the list, all lines are tried before a proof is gathered, and all proofs are
-/// gathered before one is audited.
+/// The lines of `sweep`. The index is read before the list, all lines are tried before a proof is gathered, and all
+/// proofs are gathered before one is audited.
 pub(crate) fn sweep<H: Hash32 + Sync, R: Threads + Sync, S: Shelf>(
     rt: &R,
     alloc: Global,
@@ -199,10 +204,13 @@ pub(crate) fn sweep<H: Hash32 + Sync, R: Threads + Sync, S: Shelf>(
     list: &str,
     shelf: &mut S,
 ) -> Result<String, Stop>
-    ensures ok { IfOk result (λ text. IsSwept H.hash (S.told shelf.old).files (record { index = index.now; list = list.now }) 0 (string_bytes text)) }
-    ensures stop { IfErr result (FilesStop H.hash (S.told shelf.old) (S.told shelf.new) (Sweep (record { index = index.now; list = list.now }))) }
+    ensures ok { IfOk result (λ text. IsSwept H.hash (S.told shelf.old).files
+        (record { index = index.now; list = list.now }) 0 (string_bytes text)) }
+    ensures stop { IfErr result (FilesStop H.hash (S.told shelf.old) (S.told shelf.new)
+        (Sweep (record { index = index.now; list = list.now }))) }
     ensures same { (S.told shelf.new).files ≡ (S.told shelf.old).files }
-    ensures serves { Serves (S.told shelf.old) (S.told shelf.new) (Sweep (record { index = index.now; list = list.now })) }
+    ensures serves { Serves (S.told shelf.old) (S.told shelf.new)
+        (Sweep (record { index = index.now; list = list.now })) }
 {
     let loaded = read::index::<H, R, S>(rt, alloc, index, shelf)?;
     let bytes = read::list(alloc, list, shelf)?;

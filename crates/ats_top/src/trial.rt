@@ -67,7 +67,8 @@ fn is_right<H: Hash32>(
     top: Top,
     bytes: &[u8],
 ) -> Result<bool, Stop>
-    ensures ok { IfOk result (λ right. (verdict : Verdict) × IsVerdict H.hash index.now query.now top bytes.now verdict × (right ≡ is_right verdict)) }
+    ensures ok { IfOk result (λ right. (verdict : Verdict)
+        × IsVerdict H.hash index.now query.now top bytes.now verdict × (right ≡ is_right verdict)) }
     ensures stop { IfErr result (λ stop. stop ≡ Memory) }
 {
     let Ok(verdict) = ats_audit::audit::<H>(alloc, index, query, top, bytes) else {
@@ -76,8 +77,8 @@ fn is_right<H: Hash32>(
     Ok(matches!(verdict, Verdict::Right(_)))
 }
 
-// Proves a query by an algorithm, checks the proof under the root of the index, and audits it. What is accepted is counted,
-// and so is what is found right.
+// Proves a query by an algorithm, checks the proof under the root of the index, and audits it. What is accepted is
+// counted, and so is what is found right.
 fn count<H: Hash32>(
     alloc: Global,
     index: &Index<H>,
@@ -89,7 +90,8 @@ fn count<H: Hash32>(
     requires ten { top ≡ 10 }
     requires small { IsSmall tally.old }
     requires room { tally.old.accepted < 20 }
-    ensures counted { OnOk result ((proof : Proof) × IsTried H.hash index.now query.now algorithm proof × (tally.new ≡ counted proof tally.old)) }
+    ensures counted { OnOk result ((proof : Proof)
+        × IsTried H.hash index.now query.now algorithm proof × (tally.new ≡ counted proof tally.old)) }
     ensures small { OnOk result (IsSmall tally.new) }
     ensures stop { IfErr result (IsTryStop H.hash index.now query.now algorithm) }
 {
@@ -122,8 +124,10 @@ fn tallies<H: Hash32>(
 ) -> Result<(Tally, Tally), Stop>
     requires ten { top ≡ 10 }
     requires few { length queries.now ≤ 20 }
-    ensures tra { IfOk result (λ tallies. (proofs : List Proof) × AreTried H.hash index.now queries.now Tra proofs × (tallies.0 ≡ tally_of proofs)) }
-    ensures tnra { IfOk result (λ tallies. (proofs : List Proof) × AreTried H.hash index.now queries.now Tnra proofs × (tallies.1 ≡ tally_of proofs)) }
+    ensures tra { IfOk result (λ tallies. (proofs : List Proof)
+        × AreTried H.hash index.now queries.now Tra proofs × (tallies.0 ≡ tally_of proofs)) }
+    ensures tnra { IfOk result (λ tallies. (proofs : List Proof)
+        × AreTried H.hash index.now queries.now Tnra proofs × (tallies.1 ≡ tally_of proofs)) }
     ensures small { IfOk result (λ tallies. IsSmall tallies.0 × IsSmall tallies.1) }
     ensures stop { IfErr result (IsTriesStop H.hash index.now queries.now) }
 {
@@ -166,7 +170,8 @@ fn index<H: Hash32 + Sync, R: Threads + Sync>(
 }
 
 fn line(alloc: Global, name: &str, tally: &Tally) -> Result<String, AllocError>
-    ensures { IfOk result (λ text. (proofs : List Proof) → tally.now ≡ tally_of proofs → string_bytes text ≡ line_of_proofs name.now proofs) }
+    ensures { IfOk result (λ text. (proofs : List Proof)
+        → tally.now ≡ tally_of proofs → string_bytes text ≡ line_of_proofs name.now proofs) }
 {
     let (accepted, entries, bytes) = (tally.accepted, tally.entries, tally.bytes);
     format!(in alloc; "{name} accepted {accepted} entries {entries} bytes {bytes}\n")
@@ -176,7 +181,9 @@ fn line(alloc: Global, name: &str, tally: &Tally) -> Result<String, AllocError>
 fn text(alloc: Global, root: &[u8; 32], tra: &Tally, tnra: &Tally) -> Result<String, AllocError>
     requires small { IsSmall tra.now }
     requires other { IsSmall tnra.now }
-    ensures { IfOk result (λ text. (first second : List Proof) → tra.now ≡ tally_of first → tnra.now ≡ tally_of second → string_bytes text ≡ lines_of_trial root.now first second) }
+    ensures { IfOk result (λ text. (first second : List Proof)
+        → tra.now ≡ tally_of first → tnra.now ≡ tally_of second
+        → string_bytes text ≡ lines_of_trial root.now first second) }
 {
     let right = tra.right + tnra.right;
     let root = root_line(alloc, root)?;
@@ -206,8 +213,8 @@ fn tried<H: Hash32>(
 // How many rows an answer may have.
 const ROWS: u32 = 10;
 
-/// The lines of `trial`: its queries are read, then its texts are indexed, and then each query is proved, checked and audited by
-/// each algorithm.
+/// The lines of `trial`: its queries are read, then its texts are indexed, and then each query is proved, checked and
+/// audited by each algorithm.
 pub(crate) fn trial<H: Hash32 + Sync, R: Threads + Sync>(
     rt: &R,
     alloc: Global,

@@ -30,7 +30,8 @@ pub(crate) fn answered<H: Hash32>(
     query: &Query,
     top: Top,
 ) -> Result<String, Stop>
-    ensures ok { IfOk result (λ text. (rows : List Row) × AreVerifiedRows H.hash root.now query.now top bytes.now rows × (string_bytes text ≡ lines rows)) }
+    ensures ok { IfOk result (λ text. (rows : List Row)
+        × AreVerifiedRows H.hash root.now query.now top bytes.now rows × (string_bytes text ≡ lines rows)) }
     ensures stop { IfErr result (BytesStop H.hash root.now query.now top bytes.now) }
     ensures asked { IsQuery query.now }
 {
@@ -55,8 +56,10 @@ pub(crate) fn verify<H: Hash32, S: Shelf>(
     proof: &str,
     shelf: &mut S,
 ) -> Result<String, Stop>
-    ensures ok { IfOk result (λ text. IsVerified H.hash (S.told shelf.old).files (record { root = root.now; r = r; query = query.now; proof = proof.now }) (string_bytes text)) }
-    ensures stop { IfErr result (FilesStop H.hash (S.told shelf.old) (S.told shelf.new) (Verify (record { root = root.now; r = r; query = query.now; proof = proof.now }))) }
+    ensures ok { IfOk result (λ text. IsVerified H.hash (S.told shelf.old).files
+        (record { root = root.now; r = r; query = query.now; proof = proof.now }) (string_bytes text)) }
+    ensures stop { IfErr result (FilesStop H.hash (S.told shelf.old) (S.told shelf.new)
+        (Verify (record { root = root.now; r = r; query = query.now; proof = proof.now }))) }
     ensures reads { Reads (S.told shelf.old) (S.told shelf.new) proof.now (2 ^ 26) }
     ensures unread { (AsksRanking r query.now → ⊥) → shelf.new ≡ shelf.old }
 {
