@@ -2,7 +2,6 @@
 
 ghost use Rattle.std.specs.Prelude.{ℕ, List, IfOk};
 ghost use Rattle.ats_client.specs.Accepts.{Accepts};
-ghost use Rattle.ats_proof.specs.Views.{proof_of};
 ghost use Rattle.ats_audit.specs.Verdicts.{IsVerdict};
 
 use ats_client::{Clash, Refusal, Rejection, VerifyFault, check_rows, first_clash};

@@ -1,7 +1,6 @@
 //! The check of a proof, again and again, and hashing strings of the same sizes.
 
 ghost use Rattle.std.specs.Prelude.{◌≡◌, ◌+◌, ◌≤◌, length};
-ghost use Rattle.ats_proof.specs.Views.{proof_of};
 
 use ats_bound::Work;
 use ats_client::check;
@@ -22,7 +21,7 @@ pub(crate) fn check_once(
     proof: &ProofView<'_>,
     work: &mut Work,
 ) -> Option<u64>
-    requires { length (proof_of proof.now).met ≤ work.old.room }
+    requires { length proof.now.met ≤ work.old.room }
     ensures { work.new.room ≡ work.old.room }
 {
     let mut steps = Steps::new(alloc);

@@ -1,7 +1,6 @@
 //! The rows of an answer that was checked.
 
 ghost use Rattle.std.specs.Prelude.{◌≡◌, ◌+◌, ◌≤◌, ◌<◌, ◌^◌, ℕ, List, length};
-ghost use Rattle.ats_proof.specs.Views.{proof_of};
 ghost use Rattle.ats_client.specs.Rows.{IsLeft, row_of, row_bracket};
 
 use crate::settled::upper;
@@ -14,10 +13,11 @@ use ats_proof::ProofView;
 ///
 /// The marks and the threshold are those that an accepted check of this proof leaves.
 pub fn row(proof: &ProofView<'_>, work: &Work, threshold: u64, i: u32, steps: &mut Steps) -> Row
-    requires left { (query : List (List ℕ × ℕ)) × IsLeft query (proof_of proof.now) work.now.marks threshold }
-    requires within { i < length (proof_of proof.now).answer }
+    requires left { (query : List (List ℕ × ℕ)) × IsLeft query proof.now work.now.marks threshold }
+    requires within { i < length proof.now.answer }
     requires count { steps.old ≤ 2 ^ 63 }
-    ensures row { (query : List (List ℕ × ℕ)) → IsLeft query (proof_of proof.now) work.now.marks threshold → result ≡ row_of (row_bracket query (proof_of proof.now) i) }
+    ensures row { (query : List (List ℕ × ℕ)) → IsLeft query proof.now work.now.marks threshold
+        → result ≡ row_of (row_bracket query proof.now i) }
     ensures cost { steps.new ≡ steps.old + 3 }
 {
     let index = proof.answer(i, steps);

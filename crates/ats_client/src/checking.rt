@@ -4,7 +4,6 @@ ghost use Rattle.std.specs.Prelude.{◌≡◌, ◌≤◌, ◌+◌, ◌*◌, ◌^
 ghost use Rattle.ats_terms.specs.Query.{IsQuery};
 ghost use Rattle.ats_bound.specs.Cut.{threshold as threshold_of};
 ghost use Rattle.ats_proof.specs.Value.{items_of};
-ghost use Rattle.ats_proof.specs.Views.{proof_of};
 ghost use Rattle.ats_client.specs.Presented.{lanes_of};
 ghost use Rattle.ats_client.specs.Bracketing.{bounds_of};
 ghost use Rattle.ats_client.specs.Accepts.{Accepts, IsFirstRefusal};
@@ -36,16 +35,17 @@ fn checked<'a, H: Hash32>(
     work: &mut Work,
     steps: &mut Steps,
 ) -> Result<u64, Refusal>
-    requires work { length (proof_of proof.now).met ≤ work.old.room }
+    requires work { length proof.now.met ≤ work.old.room }
     requires count { steps.old ≤ 2 ^ 62 }
-    ensures accepts { OnOk result (Accepts H.hash root.now query.now top (proof_of proof.now)) }
+    ensures accepts { OnOk result (Accepts H.hash root.now query.now top proof.now) }
     ensures asked { OnOk result (IsQuery query.now) }
-    ensures threshold { IfOk result (λ threshold. threshold ≡ threshold_of (lanes_of query.now (proof_of proof.now))) }
-    ensures marks { OnOk result (AreMarks (bounds_of (proof_of proof.now)) (lanes_of query.now (proof_of proof.now)) (proof_of proof.now).met work.new.marks) }
-    ensures left { IfOk result (λ threshold. IsLeft query.now (proof_of proof.now) work.new.marks threshold) }
-    ensures refused { IfErr result (λ refusal. IsFirstRefusal H.hash root.now query.now top (proof_of proof.now) refusal) }
+    ensures threshold { IfOk result (λ threshold. threshold ≡ threshold_of (lanes_of query.now proof.now)) }
+    ensures marks { OnOk result
+        (AreMarks (bounds_of proof.now) (lanes_of query.now proof.now) proof.now.met work.new.marks) }
+    ensures left { IfOk result (λ threshold. IsLeft query.now proof.now work.new.marks threshold) }
+    ensures refused { IfErr result (λ refusal. IsFirstRefusal H.hash root.now query.now top proof.now refusal) }
     ensures room { work.new.room ≡ work.old.room }
-    ensures steps { steps.new ≤ steps.old + 8 * items_of (proof_of proof.now) + 64 }
+    ensures steps { steps.new ≤ steps.old + 8 * items_of proof.now + 64 }
 {
     opened::<H>(root, query, proof, steps)?;
     dictionary::<H>(proof, steps)?;
@@ -75,17 +75,19 @@ pub fn check<'a, H: Hash32>(
     work: &mut Work,
     steps: &mut Steps,
 ) -> Result<u64, Refusal>
-    requires work { length (proof_of proof.now).met ≤ work.old.room }
+    requires work { length proof.now.met ≤ work.old.room }
     requires count { steps.old ≤ 2 ^ 62 }
-    ensures accepts { OnOk result (Accepts H.hash root.now query.now top (proof_of proof.now)) }
-    ensures headline { OnOk result (IsTopOrCollides H.hash root.now query.now top (proof_of proof.now)) }
-    ensures exact { Accepts H.hash root.now query.now top (proof_of proof.now) → IsOk result }
-    ensures threshold { IfOk result (λ threshold. threshold ≡ threshold_of (lanes_of query.now (proof_of proof.now))) }
-    ensures marks { OnOk result (AreMarks (bounds_of (proof_of proof.now)) (lanes_of query.now (proof_of proof.now)) (proof_of proof.now).met work.new.marks) }
-    ensures left { IfOk result (λ threshold. IsLeft query.now (proof_of proof.now) work.new.marks threshold) }
-    ensures refused { IfErr result (λ refusal. IsFirstRefusal H.hash root.now query.now top (proof_of proof.now) refusal) }
+    ensures accepts { OnOk result (Accepts H.hash root.now query.now top proof.now) }
+    ensures headline { OnOk result (IsTopOrCollides H.hash root.now query.now top proof.now) }
+    ensures exact { Accepts H.hash root.now query.now top proof.now → IsOk result }
+    ensures threshold { IfOk result (λ threshold. threshold ≡ threshold_of (lanes_of query.now proof.now)) }
+    ensures marks { OnOk result
+        (AreMarks (bounds_of proof.now) (lanes_of query.now proof.now) proof.now.met work.new.marks) }
+    ensures left { IfOk result (λ threshold. IsLeft query.now proof.now work.new.marks threshold) }
+    ensures refused { IfErr result (λ refusal. IsFirstRefusal H.hash root.now query.now top proof.now refusal) }
     ensures room { work.new.room ≡ work.old.room }
-    ensures steps { steps.new ≤ steps.old + 8 * items_of (proof_of proof.now) + 64 }
+    ensures steps { steps.new ≤ steps.old + 8 * items_of proof.now + 64 }
 {
+    proof.is_spelled();
     checked::<H>(root, query, top, proof, work, steps)
 }

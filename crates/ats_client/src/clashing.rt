@@ -10,7 +10,6 @@ ghost use Rattle.ats_proof.specs.Ranges.{IsSectionInRange, AreDocumentsInRange};
 ghost use Rattle.ats_proof.specs.Runs.{shown_entry};
 ghost use Rattle.ats_proof.specs.SeenDocs.{documents_of, ids_of};
 ghost use Rattle.ats_proof.specs.Value.{layout_of};
-ghost use Rattle.ats_proof.specs.Views.{proof_of};
 ghost use Rattle.ats_client.specs.Documents.{IsDocsTree, IsTermsTree, documents_from, met_documents};
 ghost use Rattle.ats_client.specs.Groups.{IsDictionary, AreSlotsRight, IsListRight, AreListsRight};
 ghost use Rattle.ats_client.specs.Lists.{presented_of};
@@ -54,8 +53,9 @@ pub fn first_clash<'a, H: Hash32, O: OwnStrings<H>>(
     query: &Query,
     proof: &ProofView<'a>,
 ) -> Result<Option<Clash>, OutOfMemory>
-    requires { AreRebuilt H.hash query.now (proof_of proof.now) }
-    ensures clash { IfOk result (λ clash. option_map difference_of clash ≡ extract H.hash (O.archive own.now) query.now (proof_of proof.now)) }
+    requires { AreRebuilt H.hash query.now proof.now }
+    ensures clash { IfOk result
+        (λ clash. option_map difference_of clash ≡ extract H.hash (O.archive own.now) query.now proof.now) }
     ensures place { IfOk result (λ clash. IfSome clash HasPlace) }
 {
     let mut steps = Steps::new(alloc);
@@ -69,9 +69,9 @@ fn in_proof<'a, H: Hash32, O: OwnStrings<H>>(
     proof: &ProofView<'a>,
     steps: &mut Steps,
 ) -> Option<Clash>
-    requires rebuilt { AreRebuilt H.hash query.now (proof_of proof.now) }
+    requires rebuilt { AreRebuilt H.hash query.now proof.now }
     requires room { steps.old ≤ 2 ^ 32 }
-    ensures clash { option_map difference_of result ≡ extract H.hash (O.archive own.now) query.now (proof_of proof.now) }
+    ensures clash { option_map difference_of result ≡ extract H.hash (O.archive own.now) query.now proof.now }
     ensures place { IfSome result HasPlace }
 {
     if let Some(clash) = header::<H, O>(own, query, proof, steps) {
@@ -95,7 +95,8 @@ fn header<'a, H: Hash32, O: OwnStrings<H>>(
 ) -> Option<Clash>
     requires room { steps.old ≤ 2 ^ 63 }
     ensures clash { option_map difference_of result
-        ≡ first_collision H.hash (ours H.hash (O.archive own.now) query.now) (hashed_header (layout_of (proof_of proof.now)) (proof_of proof.now).header ∷ []) }
+        ≡ first_collision H.hash (ours H.hash (O.archive own.now) query.now)
+        (hashed_header (layout_of proof.now) proof.now.header ∷ []) }
     ensures place { IfSome result HasPlace }
     ensures cost { steps.new ≤ steps.old + 2 }
 {
@@ -131,7 +132,8 @@ fn in_tree<'a, H: Hash32, O: OwnStrings<H>, R: Revealed<'a> + Copy>(
     requires short { All (λ s. length s.1 ≤ 127) (R.shown revealed.old) }
     requires room { steps.old ≤ 2 ^ 63 }
     ensures clash { option_map difference_of result
-        ≡ first_collision H.hash (ours H.hash (O.archive own.now) query.now) (strings_in H.hash tree leaves (R.shown revealed.old) (R.digests revealed.old)) }
+        ≡ first_collision H.hash (ours H.hash (O.archive own.now) query.now)
+        (strings_in H.hash tree leaves (R.shown revealed.old) (R.digests revealed.old)) }
     ensures place { IfSome result HasPlace }
     ensures cost { steps.new ≤ steps.old + 2 ^ 35 }
 {
@@ -170,13 +172,15 @@ fn dictionary<'a, H: Hash32, O: OwnStrings<H>>(
     proof: &ProofView<'a>,
     steps: &mut Steps,
 ) -> Option<Clash>
-    requires kept { IsDictionary H.hash (proof_of proof.now) }
+    requires kept { IsDictionary H.hash proof.now }
     requires room { steps.old ≤ 2 ^ 63 }
     ensures clash { option_map difference_of result ≡ first_collision H.hash (ours H.hash (O.archive own.now) query.now)
-        (strings_in H.hash Tree.Dictionary (proof_of proof.now).header.dict_leaves (map shown_entry (proof_of proof.now).dict) (proof_of proof.now).dict_digests) }
+        (strings_in H.hash Tree.Dictionary proof.now.header.dict_leaves
+        (map shown_entry proof.now.dict) proof.now.dict_digests) }
     ensures place { IfSome result HasPlace }
     ensures cost { steps.new ≤ steps.old + 2 ^ 35 }
 {
+    proof.is_spelled();
     let leaves = proof.header().dict_leaves;
     let mut section = proof.dict();
     in_tree::<H, O, _>(own, query, Tree::Dictionary, leaves, &mut section, steps)
@@ -193,10 +197,10 @@ fn list<'a, H: Hash32, O: OwnStrings<H>>(
 ) -> Option<Clash>
     requires number { one.now.number < length query.now }
     requires few { one.now.number < 32 }
-    requires right { IsListRight H.hash (layout_of (proof_of proof.now)) (proof_of proof.now).met (presented_of one.now) }
+    requires right { IsListRight H.hash (layout_of proof.now) proof.now.met (presented_of one.now) }
     requires room { steps.old ≤ 2 ^ 63 }
     ensures clash { option_map difference_of result ≡ first_collision H.hash (ours H.hash (O.archive own.now) query.now)
-        (list_strings H.hash (layout_of (proof_of proof.now)) (proof_of proof.now).met (presented_of one.now)) }
+        (list_strings H.hash (layout_of proof.now) proof.now.met (presented_of one.now)) }
     ensures place { IfSome result HasPlace }
     ensures cost { steps.new ≤ steps.old + 2 ^ 35 }
 {
@@ -214,15 +218,16 @@ fn lists<'a, H: Hash32, O: OwnStrings<H>>(
     proof: &ProofView<'a>,
     steps: &mut Steps,
 ) -> Option<Clash>
-    requires each { length (proof_of proof.now).slots ≡ length query.now }
-    requires slots { AreSlotsRight query.now (proof_of proof.now) }
-    requires right { AreListsRight H.hash query.now (proof_of proof.now) }
+    requires each { length proof.now.slots ≡ length query.now }
+    requires slots { AreSlotsRight query.now proof.now }
+    requires right { AreListsRight H.hash query.now proof.now }
     requires room { steps.old ≤ 2 ^ 62 }
     ensures clash { option_map difference_of result ≡ first_collision H.hash (ours H.hash (O.archive own.now) query.now)
-        (flat_map (list_strings H.hash (layout_of (proof_of proof.now)) (proof_of proof.now).met) (presented query.now (proof_of proof.now))) }
+        (flat_map (list_strings H.hash (layout_of proof.now) proof.now.met) (presented query.now proof.now)) }
     ensures place { IfSome result HasPlace }
     ensures cost { steps.new ≤ steps.old + 2 ^ 41 }
 {
+    proof.is_spelled();
     let mut walk = Walk::over(proof.dict());
     let mut left = proof.lists();
     for i in 0..query.len() {
@@ -242,13 +247,14 @@ fn documents<'a, H: Hash32, O: OwnStrings<H>>(
     proof: &ProofView<'a>,
     steps: &mut Steps,
 ) -> Option<Clash>
-    requires tree { IsDocsTree H.hash (proof_of proof.now) }
-    requires terms { All (IsTermsTree H.hash) (met_documents (proof_of proof.now)) }
+    requires tree { IsDocsTree H.hash proof.now }
+    requires terms { All (IsTermsTree H.hash) (met_documents proof.now) }
     requires room { steps.old ≤ 2 ^ 62 }
     ensures clash { option_map difference_of result ≡ first_collision H.hash (ours H.hash (O.archive own.now) query.now)
-        (documents_strings H.hash (proof_of proof.now).header (proof_of proof.now).met (proof_of proof.now).docs) }
+        (documents_strings H.hash proof.now.header proof.now.met proof.now.docs) }
     ensures place { IfSome result HasPlace }
 {
+    proof.is_spelled();
     let docs = proof.docs()?;
     let leaves = proof.header().documents;
     let mut section = docs.revealed(proof);
@@ -273,14 +279,17 @@ fn each<'a, H: Hash32, O: OwnStrings<H>>(
     proof: &ProofView<'a>,
     steps: &mut Steps,
 ) -> Option<Clash>
-    requires met { ids_of docs ≡ (proof_of proof.now).met }
+    requires met { ids_of docs ≡ proof.now.met }
     requires range { AreDocumentsInRange (documents_of docs) }
-    requires right { All (IsTermsTree H.hash) (documents_from (proof_of proof.now).met (documents_of docs).leaves (documents_of docs).sections) }
+    requires right { All (IsTermsTree H.hash)
+        (documents_from proof.now.met (documents_of docs).leaves (documents_of docs).sections) }
     requires room { steps.old ≤ 2 ^ 62 + 2 ^ 50 }
     ensures clash { option_map difference_of result ≡ first_collision H.hash (ours H.hash (O.archive own.now) query.now)
-        (flat_map (terms_strings H.hash) (documents_from (proof_of proof.now).met (documents_of docs.entry).leaves (documents_of docs.entry).sections)) }
+        (flat_map (terms_strings H.hash)
+        (documents_from proof.now.met (documents_of docs.entry).leaves (documents_of docs.entry).sections)) }
     ensures place { IfSome result HasPlace }
 {
+    proof.is_spelled();
     let mut left = docs;
     for _index in 0..proof.met() {
         let Some(doc) = left.next(steps) else {
@@ -304,7 +313,8 @@ fn terms<'a, H: Hash32, O: OwnStrings<H>>(
     requires right { IsTermsTree H.hash (document_of doc.now) }
     requires room { steps.old ≤ 2 ^ 63 }
     ensures clash { option_map difference_of result
-        ≡ first_collision H.hash (ours H.hash (O.archive own.now) query.now) (terms_strings H.hash (document_of doc.now)) }
+        ≡ first_collision H.hash (ours H.hash (O.archive own.now) query.now)
+        (terms_strings H.hash (document_of doc.now)) }
     ensures place { IfSome result HasPlace }
     ensures cost { steps.new ≤ steps.old + 2 ^ 35 }
 {

@@ -60,10 +60,14 @@ fn impact<'a>(
     requires number { number < length query.now }
     requires leaves { terms_left walk.old.all ≡ (section_of doc.now).leaves }
     requires room { steps.old ≤ 2 ^ 62 + 2 ^ 58 }
-    ensures right { OnOk result (ShowsTerm (map term_shown (section_of doc.now).leaves) (asked_term query.now number) (slot_at (section_of doc.now).slots i)) }
+    ensures right { OnOk result
+        (ShowsTerm (map term_shown (section_of doc.now).leaves) (asked_term query.now number)
+        (slot_at (section_of doc.now).slots i)) }
     ensures impact { IfOk result (λ impact. impact ≡ impact_shown (section_of doc.now) i) }
     ensures told { IfErr result (λ refusal. refusal ≡ TermSlot (document_of doc.now).doc number) }
-    ensures wrong { IfErr result (λ refusal. ¬ ShowsTerm (map term_shown (section_of doc.now).leaves) (asked_term query.now number) (slot_at (section_of doc.now).slots i)) }
+    ensures wrong { IfErr result (λ refusal.
+        ¬ ShowsTerm (map term_shown (section_of doc.now).leaves)
+        (asked_term query.now number) (slot_at (section_of doc.now).slots i)) }
     ensures leaves { walk.new.all ≡ walk.old.all }
     ensures place { walk.new.place ≡ (slot_at (section_of doc.now).slots i).index }
     ensures cost { steps.new ≤ steps.old + 2 ^ 18 }
@@ -98,7 +102,9 @@ fn score<'a>(
     requires numbers { All (λ (term : PresentTerm). term.number < length query.now) terms.now }
     requires room { steps.old ≤ 2 ^ 62 + 2 ^ 57 }
     ensures right { OnOk result (AreTermSlotsRight query.now (numbers_of terms.now) (section_of doc.now)) }
-    ensures score { IfOk result (λ score. score ≡ looked_score (λ i other. impact_shown (section_of doc.now) i) (bare_lanes terms.now) (document_of doc.now).doc) }
+    ensures score { IfOk result (λ score. score
+        ≡ looked_score (λ i other. impact_shown (section_of doc.now) i) (bare_lanes terms.now)
+        (document_of doc.now).doc) }
     ensures small { IfOk result (λ score. score ≤ 2 ^ 38) }
     ensures fault { IfErr result (IsTermSlotsFault query.now (numbers_of terms.now) (document_of doc.now)) }
     ensures cost { steps.new ≤ steps.old + 2 ^ 23 }
@@ -130,9 +136,12 @@ pub(crate) fn document<'a, H: Hash32>(
     requires numbers { All (λ (term : PresentTerm). term.number < length query.now) terms.now }
     requires room { steps.old ≤ 2 ^ 62 + 2 ^ 56 }
     ensures right { OnOk result (IsDocumentRight H.hash query.now (numbers_of terms.now) (document_of doc.now)) }
-    ensures score { IfOk result (λ score. score ≡ looked_score (λ i other. impact_shown (section_of doc.now) i) (bare_lanes terms.now) (document_of doc.now).doc) }
+    ensures score { IfOk result (λ score. score
+        ≡ looked_score (λ i other. impact_shown (section_of doc.now) i) (bare_lanes terms.now)
+        (document_of doc.now).doc) }
     ensures small { IfOk result (λ score. score ≤ 2 ^ 38) }
-    ensures fault { IfErr result (IsFirstFault (document_rules H.hash query.now (numbers_of terms.now) (document_of doc.now))) }
+    ensures fault { IfErr result
+        (IsFirstFault (document_rules H.hash query.now (numbers_of terms.now) (document_of doc.now))) }
     ensures cost { steps.new ≤ steps.old + 2 ^ 35 }
     ensures most { steps.new ≤ steps.old + 4 * items_of_section (section_of doc.now) + 1 }
 {

@@ -5,7 +5,6 @@ ghost use Rattle.ats_bound.specs.Cut.{bracket, threshold as threshold_of};
 ghost use Rattle.ats_bound.specs.Work.{mark_at};
 ghost use Rattle.ats_proof.specs.SeenDocs.{documents_of, ids_of};
 ghost use Rattle.ats_proof.specs.Value.{AreDocuments, present_in, items_of_section, items_of_documents};
-ghost use Rattle.ats_proof.specs.Views.{proof_of};
 ghost use Rattle.ats_client.specs.Bracketing.{bounds_of};
 ghost use Rattle.ats_client.specs.Documents.{IsDocsTree, IsDocsFault, AreDocumentsRight, IsDocumentsFault};
 ghost use Rattle.ats_client.specs.Marked.{AreMarks, AreNoted};
@@ -27,10 +26,10 @@ pub(crate) fn documents_tree<H: Hash32>(
     steps: &mut Steps,
 ) -> Result<(), Refusal>
     requires room { steps.old ≤ 2 ^ 63 }
-    ensures kept { OnOk result (IsDocsTree H.hash (proof_of proof.now)) }
-    ensures fault { IfErr result (IsDocsFault H.hash (proof_of proof.now)) }
+    ensures kept { OnOk result (IsDocsTree H.hash proof.now) }
+    ensures fault { IfErr result (IsDocsFault H.hash proof.now) }
     ensures cost { steps.new ≤ steps.old + 2 ^ 34 }
-    ensures most { steps.new ≤ steps.old + 3 * items_of_documents (proof_of proof.now).docs + 1 }
+    ensures most { steps.new ≤ steps.old + 3 * items_of_documents proof.now.docs + 1 }
 {
     let Some(docs) = proof.docs() else {
         return Ok(());
@@ -52,7 +51,12 @@ fn noted(work: &mut Work, index: u32, score: u64, threshold: u64, steps: &mut St
     requires inside { index < length work.old.marks }
     requires room { steps.old ≤ 2 ^ 63 }
     ensures marks { work.new.marks ≡ slice_set work.old.marks index
-        (record { lo = score; held = threshold; list = (mark_at work.old.marks index).list; row = (mark_at work.old.marks index).row }) }
+        (record {
+          lo = score;
+          held = threshold;
+          list = (mark_at work.old.marks index).list;
+          row = (mark_at work.old.marks index).row;
+        }) }
     ensures room { work.new.room ≡ work.old.room }
     ensures cost { steps.new ≤ steps.old + 2 }
 {
@@ -76,24 +80,26 @@ fn each<'a, H: Hash32>(
     work: &mut Work,
     steps: &mut Steps,
 ) -> Result<(), Refusal>
-    requires docs { (proof_of proof.now).docs ≡ Some (documents_of docs) }
-    requires met { ids_of docs ≡ (proof_of proof.now).met }
-    requires parts { AreDocuments (length (proof_of proof.now).met) (present_in (proof_of proof.now).slots) (documents_of docs) }
-    requires slots { length (proof_of proof.now).slots ≡ length query.now }
-    requires terms { terms.now ≡ kept_terms query.now (proof_of proof.now) }
-    requires marks { AreMarks bracket (lanes_of query.now (proof_of proof.now)) (proof_of proof.now).met work.old.marks }
+    requires docs { proof.now.docs ≡ Some (documents_of docs) }
+    requires met { ids_of docs ≡ proof.now.met }
+    requires parts { AreDocuments (length proof.now.met) (present_in proof.now.slots) (documents_of docs) }
+    requires slots { length proof.now.slots ≡ length query.now }
+    requires terms { terms.now ≡ kept_terms query.now proof.now }
+    requires marks { AreMarks bracket (lanes_of query.now proof.now) proof.now.met work.old.marks }
     requires free { AreNoted [] work.old.marks }
-    requires threshold { threshold ≡ threshold_of (lanes_of query.now (proof_of proof.now)) }
+    requires threshold { threshold ≡ threshold_of (lanes_of query.now proof.now) }
     requires room { steps.old ≤ 2 ^ 62 + 2 ^ 50 }
-    ensures right { OnOk result (AreDocumentsRight H.hash query.now (proof_of proof.now)) }
-    ensures marks { OnOk result (AreMarks (bounds_of (proof_of proof.now)) (lanes_of query.now (proof_of proof.now)) (proof_of proof.now).met work.new.marks) }
+    ensures right { OnOk result (AreDocumentsRight H.hash query.now proof.now) }
+    ensures marks { OnOk result
+        (AreMarks (bounds_of proof.now) (lanes_of query.now proof.now) proof.now.met work.new.marks) }
     ensures free { OnOk result (AreNoted [] work.new.marks) }
-    ensures fault { IfErr result (IsDocumentsFault H.hash query.now (proof_of proof.now)) }
+    ensures fault { IfErr result (IsDocumentsFault H.hash query.now proof.now) }
     ensures room { work.new.room ≡ work.old.room }
     ensures cost { steps.new ≤ steps.old + 2 ^ 52 }
     ensures most { steps.new
-        ≤ steps.old + 4 * length (proof_of proof.now).met + 4 * sum_by items_of_section (documents_of docs.entry).sections }
+        ≤ steps.old + 4 * length proof.now.met + 4 * sum_by items_of_section (documents_of docs.entry).sections }
 {
+    proof.is_spelled();
     let mut left = docs;
     for index in 0..proof.met() {
         let Some(doc) = left.next(steps) else {
@@ -116,19 +122,20 @@ pub(crate) fn documents<H: Hash32>(
     work: &mut Work,
     steps: &mut Steps,
 ) -> Result<(), Refusal>
-    requires slots { length (proof_of proof.now).slots ≡ length query.now }
-    requires terms { terms.now ≡ kept_terms query.now (proof_of proof.now) }
-    requires marks { AreMarks bracket (lanes_of query.now (proof_of proof.now)) (proof_of proof.now).met work.old.marks }
+    requires slots { length proof.now.slots ≡ length query.now }
+    requires terms { terms.now ≡ kept_terms query.now proof.now }
+    requires marks { AreMarks bracket (lanes_of query.now proof.now) proof.now.met work.old.marks }
     requires free { AreNoted [] work.old.marks }
-    requires threshold { threshold ≡ threshold_of (lanes_of query.now (proof_of proof.now)) }
+    requires threshold { threshold ≡ threshold_of (lanes_of query.now proof.now) }
     requires room { steps.old ≤ 2 ^ 62 + 2 ^ 50 }
-    ensures right { OnOk result (AreDocumentsRight H.hash query.now (proof_of proof.now)) }
-    ensures marks { OnOk result (AreMarks (bounds_of (proof_of proof.now)) (lanes_of query.now (proof_of proof.now)) (proof_of proof.now).met work.new.marks) }
+    ensures right { OnOk result (AreDocumentsRight H.hash query.now proof.now) }
+    ensures marks { OnOk result
+        (AreMarks (bounds_of proof.now) (lanes_of query.now proof.now) proof.now.met work.new.marks) }
     ensures free { OnOk result (AreNoted [] work.new.marks) }
-    ensures fault { IfErr result (IsDocumentsFault H.hash query.now (proof_of proof.now)) }
+    ensures fault { IfErr result (IsDocumentsFault H.hash query.now proof.now) }
     ensures room { work.new.room ≡ work.old.room }
     ensures cost { steps.new ≤ steps.old + 2 ^ 52 }
-    ensures most { steps.new ≤ steps.old + 4 * items_of_documents (proof_of proof.now).docs }
+    ensures most { steps.new ≤ steps.old + 4 * items_of_documents proof.now.docs }
 {
     match proof.docs() {
         Some(docs) => each::<H>(docs, query, proof, terms, threshold, work, steps),

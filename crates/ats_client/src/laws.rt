@@ -24,26 +24,35 @@ use ats_hash::HashKind;
 /// of an archive down, all that they show is the archive's own, or the first string of the proof that differs
 /// from the archive's has an equal digest; `extract` finds that string.
 pub fn rebuilt_sections_are_bound<H: HashKind>()
-    ensures bound { (archive : Archive) (query : List (List ℕ × ℕ)) (bytes : List ℕ) (proof : Proof) → AreTexts archive.texts → IsQuery query
-        → IsProof bytes proof → AreRooted H.hash (root_of H.hash archive) query proof → IsBound H.hash archive query proof }
-    ensures extract { (archive : Archive) (query : List (List ℕ × ℕ)) (bytes : List ℕ) (proof : Proof) → AreTexts archive.texts → IsQuery query
+    ensures bound { (archive : Archive) (query : List (List ℕ × ℕ)) (bytes : List ℕ) (proof : Proof)
+        → AreTexts archive.texts → IsQuery query
         → IsProof bytes proof → AreRooted H.hash (root_of H.hash archive) query proof
-        → extract H.hash archive query proof ≡ first_difference (ours H.hash archive query) (strings_of H.hash query proof) }
+        → IsBound H.hash archive query proof }
+    ensures extract { (archive : Archive) (query : List (List ℕ × ℕ)) (bytes : List ℕ) (proof : Proof)
+        → AreTexts archive.texts → IsQuery query
+        → IsProof bytes proof → AreRooted H.hash (root_of H.hash archive) query proof
+        → extract H.hash archive query proof
+        ≡ first_difference (ours H.hash archive query) (strings_of H.hash query proof) }
 {}
 
 /// What an accepted proof shows belongs to every archive with the root, or the first string of the proof that
 /// differs from the archive's has an equal digest; `extract` finds that string.
 pub fn shown_leaves_are_bound<H: HashKind>()
-    ensures bound { (archive : Archive) (query : List (List ℕ × ℕ)) (r : ℕ) (bytes : List ℕ) (proof : Proof) → AreTexts archive.texts → IsQuery query
-        → IsProof bytes proof → Accepts H.hash (root_of H.hash archive) query r proof → IsBound H.hash archive query proof }
-    ensures extract { (archive : Archive) (query : List (List ℕ × ℕ)) (r : ℕ) (bytes : List ℕ) (proof : Proof) → AreTexts archive.texts → IsQuery query
+    ensures bound { (archive : Archive) (query : List (List ℕ × ℕ)) (r : ℕ) (bytes : List ℕ) (proof : Proof)
+        → AreTexts archive.texts → IsQuery query
         → IsProof bytes proof → Accepts H.hash (root_of H.hash archive) query r proof
-        → extract H.hash archive query proof ≡ first_difference (ours H.hash archive query) (strings_of H.hash query proof) }
+        → IsBound H.hash archive query proof }
+    ensures extract { (archive : Archive) (query : List (List ℕ × ℕ)) (r : ℕ) (bytes : List ℕ) (proof : Proof)
+        → AreTexts archive.texts → IsQuery query
+        → IsProof bytes proof → Accepts H.hash (root_of H.hash archive) query r proof
+        → extract H.hash archive query proof
+        ≡ first_difference (ours H.hash archive query) (strings_of H.hash query proof) }
 {}
 
 /// Where all that an accepted proof shows is an archive's own, its rows are right for the archive's texts.
 pub fn own_leaves_make_rows_right<H: HashKind>()
-    ensures { (archive : Archive) (query : List (List ℕ × ℕ)) (r : ℕ) (bytes : List ℕ) (proof : Proof) → AreTexts archive.texts → IsQuery query
+    ensures { (archive : Archive) (query : List (List ℕ × ℕ)) (r : ℕ) (bytes : List ℕ) (proof : Proof)
+        → AreTexts archive.texts → IsQuery query
         → IsProof bytes proof → Accepts H.hash (root_of H.hash archive) query r proof → IsOwn H.hash archive query proof
         → AreRight archive.texts query r (rows_of query proof) }
 {}
@@ -51,7 +60,8 @@ pub fn own_leaves_make_rows_right<H: HashKind>()
 /// The headline: the rows of an accepted proof are right for each archive with the root, or `extract` finds
 /// two different strings with equal digests.
 pub fn accepted_answers_are_top<H: HashKind>()
-    ensures { (root : List ℕ) (query : List (List ℕ × ℕ)) (r : ℕ) (bytes : List ℕ) (proof : Proof) → IsQuery query → IsProof bytes proof
+    ensures { (root : List ℕ) (query : List (List ℕ × ℕ)) (r : ℕ) (bytes : List ℕ) (proof : Proof)
+        → IsQuery query → IsProof bytes proof
         → Accepts H.hash root query r proof → IsTopOrCollides H.hash root query r proof }
 {}
 
@@ -66,9 +76,12 @@ pub fn proofs_have_one_refusal<H: HashKind>()
 /// What is shown of the met documents keeps its rules or has one first failure, and not both: the documents tree,
 /// and then the documents one after another, each with its tree and its slots.
 pub fn documents_have_one_fault<H: HashKind>()
-    ensures tree_one { (proof : Proof) (a b : Refusal) → IsDocsFault H.hash proof a → IsDocsFault H.hash proof b → a ≡ b }
-    ensures tree_none { (proof : Proof) (refusal : Refusal) → IsDocsTree H.hash proof → IsDocsFault H.hash proof refusal → ⊥ }
-    ensures tree_some { (proof : Proof) → IsDocsTree H.hash proof ⊎ ((refusal : Refusal) × IsDocsFault H.hash proof refusal) }
+    ensures tree_one { (proof : Proof) (a b : Refusal)
+        → IsDocsFault H.hash proof a → IsDocsFault H.hash proof b → a ≡ b }
+    ensures tree_none { (proof : Proof) (refusal : Refusal)
+        → IsDocsTree H.hash proof → IsDocsFault H.hash proof refusal → ⊥ }
+    ensures tree_some { (proof : Proof)
+        → IsDocsTree H.hash proof ⊎ ((refusal : Refusal) × IsDocsFault H.hash proof refusal) }
     ensures one { (query : List (List ℕ × ℕ)) (proof : Proof) (a b : Refusal)
         → IsDocumentsFault H.hash query proof a → IsDocumentsFault H.hash query proof b → a ≡ b }
     ensures none { (query : List (List ℕ × ℕ)) (proof : Proof) (refusal : Refusal)
@@ -81,6 +94,7 @@ pub fn documents_have_one_fault<H: HashKind>()
 pub fn bytes_have_one_rejection<H: HashKind>()
     ensures one { (root : List ℕ) (query : List (List ℕ × ℕ)) (r : ℕ) (bytes : List ℕ) (a b : Rejection)
         → IsRejectedBytes H.hash root query r bytes a → IsRejectedBytes H.hash root query r bytes b → a ≡ b }
-    ensures none { (root : List ℕ) (query : List (List ℕ × ℕ)) (r : ℕ) (bytes : List ℕ) (proof : Proof) (rejection : Rejection)
+    ensures none { (root : List ℕ) (query : List (List ℕ × ℕ)) (r : ℕ) (bytes : List ℕ) (proof : Proof)
+        (rejection : Rejection)
         → IsAcceptedBytes H.hash root query r bytes proof → IsRejectedBytes H.hash root query r bytes rejection → ⊥ }
 {}

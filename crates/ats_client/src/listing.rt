@@ -4,7 +4,6 @@ ghost use Rattle.std.specs.Prelude.{◌≡◌, ◌<◌, ◌≤◌, ◌+◌, ◌*
 ghost use Rattle.std.specs.List.{All};
 ghost use Rattle.ats_bound.specs.Cut.{rest};
 ghost use Rattle.ats_proof.specs.Value.{layout_of, items_of_prefix};
-ghost use Rattle.ats_proof.specs.Views.{proof_of};
 ghost use Rattle.ats_client.specs.Groups.{IsListRight, IsListFault, IsListRootFault, list_digest};
 ghost use Rattle.ats_client.specs.Noting.{Note, AreNotes, index_lane, lane_notes};
 ghost use Rattle.ats_client.specs.Lists.{prefix_of, presented_of};
@@ -25,10 +24,12 @@ fn rooted<'a, H: Hash32>(
     proof: &ProofView<'a>,
     steps: &mut Steps,
 ) -> Result<(), Refusal>
-    requires named { All (λ e. e.doc < length (proof_of proof.now).met) (prefix_of one.now.list).entries }
+    requires named { All (λ e. e.doc < length proof.now.met) (prefix_of one.now.list).entries }
     requires room { steps.old ≤ 2 ^ 63 }
-    ensures kept { OnOk result (list_digest H.hash (layout_of (proof_of proof.now)) (proof_of proof.now).met (presented_of one.now) ≡ Some (presented_of one.now).entry.root) }
-    ensures fault { IfErr result (IsListRootFault H.hash (layout_of (proof_of proof.now)) (proof_of proof.now).met (presented_of one.now)) }
+    ensures kept { OnOk result
+        (list_digest H.hash (layout_of proof.now) proof.now.met (presented_of one.now)
+        ≡ Some (presented_of one.now).entry.root) }
+    ensures fault { IfErr result (IsListRootFault H.hash (layout_of proof.now) proof.now.met (presented_of one.now)) }
     ensures cost { steps.new ≤ steps.old + 2 ^ 34 }
     ensures most { steps.new
         ≤ steps.old + 3 * length (prefix_of one.now.list).entries + 2 * length (prefix_of one.now.list).digests + 1 }
@@ -43,8 +44,8 @@ fn rooted<'a, H: Hash32>(
     Ok(())
 }
 
-/// Tries the prefix of a present term with this coefficient, and notes its entries. It answers what the entries outside the
-/// prefix can add to a score, at most.
+/// Tries the prefix of a present term with this coefficient, and notes its entries. It answers what the
+/// entries outside the prefix can add to a score, at most.
 pub(crate) fn list<'a, H: Hash32>(
     one: &Present<'a>,
     coefficient: u32,
@@ -53,15 +54,19 @@ pub(crate) fn list<'a, H: Hash32>(
     steps: &mut Steps,
 ) -> Result<u64, Refusal>
     requires number { one.now.number < 32 }
-    requires coefficient { coefficient ≡ (kept_term (proof_of proof.now).header.documents (presented_of one.now)).coefficient }
+    requires coefficient { coefficient ≡ (kept_term proof.now.header.documents (presented_of one.now)).coefficient }
     requires small { coefficient ≤ 2 ^ 17 }
-    requires notes { (notes : List Note) × AreNotes (length (proof_of proof.now).met) notes (one.now.number + 1) [] work.old.marks }
+    requires notes { (notes : List Note)
+        × AreNotes (length proof.now.met) notes (one.now.number + 1) [] work.old.marks }
     requires room { steps.old ≤ 2 ^ 62 + 2 ^ 45 }
-    ensures fault { IfErr result (IsListFault H.hash (layout_of (proof_of proof.now)) (proof_of proof.now).met (presented_of one.now)) }
-    ensures right { OnOk result (IsListRight H.hash (layout_of (proof_of proof.now)) (proof_of proof.now).met (presented_of one.now)) }
-    ensures notes { OnOk result ((notes : List Note) → AreNotes (length (proof_of proof.now).met) notes (one.now.number + 1) [] work.old.marks
-        → AreNotes (length (proof_of proof.now).met) (notes ++ lane_notes (index_lane (proof_of proof.now).header.documents (presented_of one.now))) (one.now.number + 2) [] work.new.marks) }
-    ensures rest { IfOk result (λ most. most ≡ rest (index_lane (proof_of proof.now).header.documents (presented_of one.now))) }
+    ensures fault { IfErr result (IsListFault H.hash (layout_of proof.now) proof.now.met (presented_of one.now)) }
+    ensures right { OnOk result (IsListRight H.hash (layout_of proof.now) proof.now.met (presented_of one.now)) }
+    ensures notes { OnOk result
+        ((notes : List Note) → AreNotes (length proof.now.met) notes (one.now.number + 1) [] work.old.marks
+        → AreNotes (length proof.now.met)
+        (notes ++ lane_notes (index_lane proof.now.header.documents (presented_of one.now)))
+        (one.now.number + 2) [] work.new.marks) }
+    ensures rest { IfOk result (λ most. most ≡ rest (index_lane proof.now.header.documents (presented_of one.now))) }
     ensures small { IfOk result (λ most. most ≤ 2 ^ 33) }
     ensures room { work.new.room ≡ work.old.room }
     ensures cost { steps.new ≤ steps.old + 2 ^ 36 }

@@ -3,7 +3,6 @@
 ghost use Rattle.std.specs.Prelude.{◌≡◌, ◌<◌, ◌≤◌, ◌+◌, ◌*◌, ◌^◌, sum_by, [], length, OnOk, IfOk, IfErr};
 ghost use Rattle.ats_bound.specs.Cut.{bracket, threshold as threshold_of};
 ghost use Rattle.ats_proof.specs.Value.{items_of_prefix};
-ghost use Rattle.ats_proof.specs.Views.{proof_of};
 ghost use Rattle.ats_client.specs.Presented.{lanes_of};
 ghost use Rattle.ats_client.specs.PresentTerms.{kept_terms};
 ghost use Rattle.ats_client.specs.Groups.{AreSlotsRight, AreListsRight, IsListsFault};
@@ -28,24 +27,25 @@ pub(crate) fn lists<'a, H: Hash32>(
     work: &mut Work,
     steps: &mut Steps,
 ) -> Result<u64, Refusal>
-    requires each { length (proof_of proof.now).slots ≡ length query.now }
-    requires right { AreSlotsRight query.now (proof_of proof.now) }
+    requires each { length proof.now.slots ≡ length query.now }
+    requires right { AreSlotsRight query.now proof.now }
     requires none { terms.old ≡ [] }
-    requires work { length (proof_of proof.now).met ≤ work.old.room }
+    requires work { length proof.now.met ≤ work.old.room }
     requires room { steps.old ≤ 2 ^ 62 + 2 ^ 42 }
-    ensures fault { IfErr result (IsListsFault H.hash query.now (proof_of proof.now)) }
-    ensures right { OnOk result (AreListsRight H.hash query.now (proof_of proof.now)) }
-    ensures terms { OnOk result (terms.new ≡ kept_terms query.now (proof_of proof.now)) }
-    ensures marks { OnOk result (AreMarks bracket (lanes_of query.now (proof_of proof.now)) (proof_of proof.now).met work.new.marks) }
+    ensures fault { IfErr result (IsListsFault H.hash query.now proof.now) }
+    ensures right { OnOk result (AreListsRight H.hash query.now proof.now) }
+    ensures terms { OnOk result (terms.new ≡ kept_terms query.now proof.now) }
+    ensures marks { OnOk result (AreMarks bracket (lanes_of query.now proof.now) proof.now.met work.new.marks) }
     ensures free { OnOk result (AreNoted [] work.new.marks) }
-    ensures threshold { IfOk result (λ threshold. threshold ≡ threshold_of (lanes_of query.now (proof_of proof.now))) }
+    ensures threshold { IfOk result (λ threshold. threshold ≡ threshold_of (lanes_of query.now proof.now)) }
     ensures small { IfOk result (λ threshold. threshold < 2 ^ 48) }
     ensures room { work.new.room ≡ work.old.room }
     ensures cost { steps.new ≤ steps.old + 2 ^ 42 }
     ensures most { steps.new
-        ≤ steps.old + length (proof_of proof.now).met + length (proof_of proof.now).dict + 4 * length (proof_of proof.now).slots
-        + 6 * sum_by items_of_prefix (proof_of proof.now).lists }
+        ≤ steps.old + length proof.now.met + length proof.now.dict + 4 * length proof.now.slots
+        + 6 * sum_by items_of_prefix proof.now.lists }
 {
+    proof.is_spelled();
     work.begin(proof.met(), steps);
     let mut walk = Walk::over(proof.dict());
     let mut left = proof.lists();

@@ -18,7 +18,8 @@ use ats_proof::ListView;
 #[tactic(auto, unfolding(crate::specs::Lists::prefix_of))]
 pub(crate) fn rest_impact(list: &ListView<'_>, total: u32, steps: &mut Steps) -> u16
     requires room { steps.old ≤ 2 ^ 63 }
-    ensures value { result ≡ rest_impact (record { coefficient = 0; total = total; shown = (prefix_of list.now).entries }) }
+    ensures value { result
+        ≡ rest_impact (record { coefficient = 0; total = total; shown = (prefix_of list.now).entries }) }
     ensures cost { steps.new ≤ steps.old + 1 }
 {
     let len = list.len();
@@ -36,7 +37,11 @@ fn noted(work: &mut Work, index: u32, list: u32, gain: u64, rest: u64, steps: &m
     requires held { (mark_at work.old.marks index).held + rest < 2 ^ 64 }
     requires room { steps.old ≤ 2 ^ 63 }
     ensures first { IsTrue result ↔ ((mark_at work.old.marks index).list ≢ list) }
-    ensures marks { IsTrue result → work.new ≡ record { marks = slice_set work.old.marks index (with_note (mark_at work.old.marks index) list gain rest); room = work.old.room } }
+    ensures marks { IsTrue result
+        → work.new ≡ record {
+          marks = slice_set work.old.marks index (with_note (mark_at work.old.marks index) list gain rest);
+          room = work.old.room;
+        } }
     ensures room { work.new.room ≡ work.old.room }
     ensures cost { steps.new ≤ steps.old + 2 }
 {
@@ -81,7 +86,9 @@ pub(crate) fn entries(
     ensures fault { IfErr result (IsEntryFault met (presented_of one.now)) }
     ensures names { OnOk result (AreNames met (indexes_of (prefix_of one.now.list).entries)) }
     ensures notes { OnOk result ((notes : List Note) → AreNotes met notes (one.now.number + 1) [] work.old.marks
-        → AreNotes met (notes ++ map (note coefficient rest) (prefix_of one.now.list).entries) (one.now.number + 1) (indexes_of (prefix_of one.now.list).entries) work.new.marks) }
+        → AreNotes met
+        (notes ++ map (note coefficient rest) (prefix_of one.now.list).entries) (one.now.number + 1)
+        (indexes_of (prefix_of one.now.list).entries) work.new.marks) }
     ensures room { work.new.room ≡ work.old.room }
     ensures cost { steps.new ≤ steps.old + 2 ^ 34 }
     ensures most { steps.new ≤ steps.old + 3 * length (prefix_of one.now.list).entries }

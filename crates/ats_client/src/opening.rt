@@ -3,7 +3,6 @@
 ghost use Rattle.std.specs.Prelude.{◌≡◌, ◌≤◌, ◌+◌, ◌*◌, ◌^◌, length, OnOk, IfErr};
 ghost use Rattle.ats_tree.specs.Rebuild.{rebuilt};
 ghost use Rattle.ats_terms.specs.Query.{IsQuery};
-ghost use Rattle.ats_proof.specs.Views.{proof_of};
 ghost use Rattle.ats_client.specs.Groups.{IsOpened, IsOpeningFault, IsDictionary, IsDictFault};
 
 use crate::refusal::Refusal;
@@ -38,9 +37,9 @@ pub(crate) fn opened<H: Hash32>(
     steps: &mut Steps,
 ) -> Result<(), Refusal>
     requires room { steps.old ≤ 2 ^ 63 }
-    ensures kept { OnOk result (IsOpened H.hash root.now query.now (proof_of proof.now)) }
+    ensures kept { OnOk result (IsOpened H.hash root.now query.now proof.now) }
     ensures asked { OnOk result (IsQuery query.now) }
-    ensures fault { IfErr result (IsOpeningFault H.hash root.now query.now (proof_of proof.now)) }
+    ensures fault { IfErr result (IsOpeningFault H.hash root.now query.now proof.now) }
     ensures cost { steps.new ≤ steps.old + 1 }
 {
     if root_of_header::<H>(&proof.header(), steps) != *root {
@@ -56,11 +55,11 @@ pub(crate) fn opened<H: Hash32>(
 /// Tries that the dictionary section is part of the header's dictionary.
 pub(crate) fn dictionary<H: Hash32>(proof: &ProofView<'_>, steps: &mut Steps) -> Result<(), Refusal>
     requires room { steps.old ≤ 2 ^ 63 }
-    ensures kept { OnOk result (IsDictionary H.hash (proof_of proof.now)) }
-    ensures fault { IfErr result (IsDictFault H.hash (proof_of proof.now)) }
+    ensures kept { OnOk result (IsDictionary H.hash proof.now) }
+    ensures fault { IfErr result (IsDictFault H.hash proof.now) }
     ensures cost { steps.new ≤ steps.old + 2 ^ 34 }
     ensures most { steps.new
-        ≤ steps.old + 3 * length (proof_of proof.now).dict + 2 * length (proof_of proof.now).dict_digests + 1 }
+        ≤ steps.old + 3 * length proof.now.dict + 2 * length proof.now.dict_digests + 1 }
 {
     let header = proof.header();
     let mut section = proof.dict();

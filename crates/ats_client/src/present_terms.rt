@@ -29,7 +29,8 @@ impl Model for PresentTerms {
 
     ghost view = { λ p. take p.len p.terms };
 
-    ghost invariant = { λ p. (p.len ≤ 32) × (length p.terms ≡ 32) × All (λ (t : PresentTerm). t.coefficient ≤ 2 ^ 17) (take p.len p.terms) };
+    ghost invariant = { λ p. (p.len ≤ 32) × (length p.terms ≡ 32)
+        × All (λ (t : PresentTerm). t.coefficient ≤ 2 ^ 17) (take p.len p.terms) };
 }
 
 impl PresentTerms {

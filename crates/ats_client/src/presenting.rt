@@ -2,7 +2,6 @@
 
 ghost use Rattle.std.specs.Prelude.{◌≡◌, ◌<◌, ◌≤◌, ◌+◌, ◌^◌, ◌∷◌, length, drop, slice_get, option_map, IfSome, IfNone};
 ghost use Rattle.ats_proof.specs.Value.{present_in};
-ghost use Rattle.ats_proof.specs.Views.{proof_of};
 ghost use Rattle.ats_client.specs.Presented.{presented_from};
 ghost use Rattle.ats_client.specs.Groups.{IsSlotRight, slot_at};
 ghost use Rattle.ats_client.specs.Lists.{prefix_of, prefixes_left, presented_of};
@@ -35,24 +34,28 @@ pub(crate) fn present<'a>(
     steps: &mut Steps,
 ) -> Option<Present<'a>>
     requires inside { i < length query.now }
-    requires each { length (proof_of proof.now).slots ≡ length query.now }
-    requires right { IsSlotRight query.now (proof_of proof.now) i }
-    requires dict { entries_left walk.old.all ≡ (proof_of proof.now).dict }
-    requires enough { present_in (drop i (proof_of proof.now).slots) ≡ length (prefixes_left left.old) }
+    requires each { length proof.now.slots ≡ length query.now }
+    requires right { IsSlotRight query.now proof.now i }
+    requires dict { entries_left walk.old.all ≡ proof.now.dict }
+    requires enough { present_in (drop i proof.now.slots) ≡ length (prefixes_left left.old) }
     requires room { steps.old ≤ 2 ^ 62 + 2 ^ 45 }
-    ensures some { IfSome result (λ one. presented_from (proof_of proof.now).dict i (drop i query.now) (drop i (proof_of proof.now).slots) (prefixes_left left.old)
-        ≡ presented_of one ∷ presented_from (proof_of proof.now).dict (i + 1) (drop (i + 1) query.now) (drop (i + 1) (proof_of proof.now).slots) (prefixes_left left.new)) }
+    ensures some { IfSome result
+        (λ one. presented_from proof.now.dict i (drop i query.now) (drop i proof.now.slots) (prefixes_left left.old)
+        ≡ presented_of one ∷ presented_from proof.now.dict (i + 1)
+        (drop (i + 1) query.now) (drop (i + 1) proof.now.slots) (prefixes_left left.new)) }
     ensures number { IfSome result (λ one. one.number ≡ i) }
-    ensures none { IfNone result (presented_from (proof_of proof.now).dict i (drop i query.now) (drop i (proof_of proof.now).slots) (prefixes_left left.old)
-        ≡ presented_from (proof_of proof.now).dict (i + 1) (drop (i + 1) query.now) (drop (i + 1) (proof_of proof.now).slots) (prefixes_left left.new)) }
-    ensures enough { present_in (drop (i + 1) (proof_of proof.now).slots) ≡ length (prefixes_left left.new) }
+    ensures none { IfNone result
+        (presented_from proof.now.dict i (drop i query.now) (drop i proof.now.slots) (prefixes_left left.old)
+        ≡ presented_from proof.now.dict (i + 1)
+        (drop (i + 1) query.now) (drop (i + 1) proof.now.slots) (prefixes_left left.new)) }
+    ensures enough { present_in (drop (i + 1) proof.now.slots) ≡ length (prefixes_left left.new) }
     ensures dict { walk.new.all ≡ walk.old.all }
     ensures taken { IfSome result (λ one. prefixes_left left.old ≡ prefix_of one.list ∷ prefixes_left left.new) }
     ensures kept { IfNone result (prefixes_left left.new ≡ prefixes_left left.old) }
-    ensures before { walk.old.place ≤ (slot_at (proof_of proof.now).slots i).index
-        → walk.new.place ≤ (slot_at (proof_of proof.now).slots i).index }
+    ensures before { walk.old.place ≤ (slot_at proof.now.slots i).index
+        → walk.new.place ≤ (slot_at proof.now.slots i).index }
     ensures cost { steps.new ≤ steps.old + 2 ^ 17 }
-    ensures most { walk.old.place ≤ (slot_at (proof_of proof.now).slots i).index
+    ensures most { walk.old.place ≤ (slot_at proof.now.slots i).index
         → steps.new + length (entries_left walk.new.left) ≤ steps.old + length (entries_left walk.old.left) + 2 }
 {
     let slot = proof.slot(i, steps);

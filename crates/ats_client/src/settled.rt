@@ -4,7 +4,6 @@ ghost use Rattle.std.specs.Prelude.{◌≡◌, ◌⊎◌, ◌↔◌, ◌+◌, �
 ghost use Rattle.std.specs.List.{All};
 ghost use Rattle.ats_bound.specs.Cut.{ShownLane, threshold as threshold_of};
 ghost use Rattle.ats_bound.specs.Schedule.{Bounding};
-ghost use Rattle.ats_proof.specs.Views.{proof_of};
 ghost use Rattle.ats_client.specs.Bounds.{upper, AreBelow, lower_before, AreFalling, AreOthersWithin};
 ghost use Rattle.ats_client.specs.Groups.{AreRowsRight, IsAnswerSettled};
 ghost use Rattle.ats_client.specs.Marked.{AreMarks, AreNoted};
@@ -34,15 +33,15 @@ fn is_whole(rows: u32, most: u32, met: u32, threshold: u64) -> bool
 // What the last row scores at least, the greatest number where there is none. Nothing if some row can
 // score more than the row before it scores at least.
 fn last_lower(proof: &ProofView<'_>, work: &Work, threshold: u64, steps: &mut Steps) -> Option<u64>
-    requires rows { All (λ index. index < length work.now.marks) (proof_of proof.now).answer }
+    requires rows { All (λ index. index < length work.now.marks) proof.now.answer }
     requires below { AreBelow threshold work.now.marks }
     requires count { steps.old ≤ 2 ^ 63 }
     ensures falling { MatchOption result
-        (¬ AreFalling threshold work.now.marks (proof_of proof.now).answer (length (proof_of proof.now).answer))
-        (λ score. AreFalling threshold work.now.marks (proof_of proof.now).answer (length (proof_of proof.now).answer)
-        × (score ≡ lower_before work.now.marks (proof_of proof.now).answer (length (proof_of proof.now).answer))) }
+        (¬ AreFalling threshold work.now.marks proof.now.answer (length proof.now.answer))
+        (λ score. AreFalling threshold work.now.marks proof.now.answer (length proof.now.answer)
+        × (score ≡ lower_before work.now.marks proof.now.answer (length proof.now.answer))) }
     ensures least { steps.old ≤ steps.new }
-    ensures most { steps.new ≤ steps.old + 2 * length (proof_of proof.now).answer }
+    ensures most { steps.new ≤ steps.old + 2 * length proof.now.answer }
 {
     let mut score = u64::MAX;
     for k in 0..proof.answers() {
@@ -84,15 +83,17 @@ pub(crate) fn settled(
     top: Top,
     steps: &mut Steps,
 ) -> bool
-    requires marks { (bounds : Bounding) × (lanes : List ShownLane) × AreMarks bounds lanes (proof_of proof.now).met work.now.marks × (threshold ≡ threshold_of lanes) }
+    requires marks { (bounds : Bounding) × (lanes : List ShownLane)
+        × AreMarks bounds lanes proof.now.met work.now.marks × (threshold ≡ threshold_of lanes) }
     requires small { threshold < 2 ^ 48 }
-    requires rows { AreRowsRight (proof_of proof.now).met (proof_of proof.now).answer }
-    requires noted { AreNoted (proof_of proof.now).answer work.now.marks }
+    requires rows { AreRowsRight proof.now.met proof.now.answer }
+    requires noted { AreNoted proof.now.answer work.now.marks }
     requires count { steps.old ≤ 2 ^ 62 + 2 ^ 56 }
-    ensures settled { (bounds : Bounding) (lanes : List ShownLane) → AreMarks bounds lanes (proof_of proof.now).met work.now.marks → threshold ≡ threshold_of lanes
-        → (IsTrue result ↔ IsAnswerSettled bounds lanes (proof_of proof.now).met (proof_of proof.now).answer top) }
+    ensures settled { (bounds : Bounding) (lanes : List ShownLane)
+        → AreMarks bounds lanes proof.now.met work.now.marks → threshold ≡ threshold_of lanes
+        → (IsTrue result ↔ IsAnswerSettled bounds lanes proof.now.met proof.now.answer top) }
     ensures least { steps.old ≤ steps.new }
-    ensures most { steps.new ≤ steps.old + 2 * length (proof_of proof.now).answer + length (proof_of proof.now).met }
+    ensures most { steps.new ≤ steps.old + 2 * length proof.now.answer + length proof.now.met }
 {
     let met = proof.met();
     if !is_whole(proof.answers(), top.get(), met, threshold) {

@@ -1,7 +1,6 @@
 //! The slots of the query's terms.
 
 ghost use Rattle.std.specs.Prelude.{◌≡◌, ◌≤◌, ◌+◌, ◌*◌, ◌^◌, OnOk, IfErr, length};
-ghost use Rattle.ats_proof.specs.Views.{proof_of};
 ghost use Rattle.ats_client.specs.Groups.{AreSlotsRight, IsSlotsFault};
 
 use crate::refusal::Refusal;
@@ -12,13 +11,14 @@ use ats_terms::Query;
 
 /// Tries that the slot of each term shows it in the dictionary section.
 pub(crate) fn slots(query: &Query, proof: &ProofView<'_>, steps: &mut Steps) -> Result<(), Refusal>
-    requires each { length (proof_of proof.now).slots ≡ length query.now }
+    requires each { length proof.now.slots ≡ length query.now }
     requires room { steps.old ≤ 2 ^ 62 + 2 ^ 40 }
-    ensures kept { OnOk result (AreSlotsRight query.now (proof_of proof.now)) }
-    ensures fault { IfErr result (IsSlotsFault query.now (proof_of proof.now)) }
+    ensures kept { OnOk result (AreSlotsRight query.now proof.now) }
+    ensures fault { IfErr result (IsSlotsFault query.now proof.now) }
     ensures cost { steps.new ≤ steps.old + 2 ^ 24 }
-    ensures most { steps.new ≤ steps.old + length (proof_of proof.now).dict + 2 * length (proof_of proof.now).slots }
+    ensures most { steps.new ≤ steps.old + length proof.now.dict + 2 * length proof.now.slots }
 {
+    proof.is_spelled();
     let mut walk = Walk::over(proof.dict());
     for i in 0..query.len() {
         let slot = proof.slot(i as u32, steps);

@@ -1,7 +1,6 @@
 //! The check of bytes, up to the rows of the answer.
 
 ghost use Rattle.std.specs.Prelude.{◌≡◌, ℕ, List, OnOk, IfOk, IfErr};
-ghost use Rattle.ats_proof.specs.Views.{proof_of, bytes_of};
 ghost use Rattle.ats_client.specs.Accepts.{Accepts};
 ghost use Rattle.ats_client.specs.Headline.{IsTopOrCollides};
 ghost use Rattle.ats_client.specs.Rows.{IsLeft, rows_of};
@@ -24,8 +23,9 @@ fn answer_rows(
     work: &Work,
     threshold: u64,
 ) -> Result<Rows, OutOfMemory>
-    requires left { (query : List (List ℕ × ℕ)) × IsLeft query (proof_of proof.now) work.now.marks threshold }
-    ensures rows { (query : List (List ℕ × ℕ)) → IsLeft query (proof_of proof.now) work.now.marks threshold → IfOk result (λ rows. rows ≡ rows_of query (proof_of proof.now)) }
+    requires left { (query : List (List ℕ × ℕ)) × IsLeft query proof.now work.now.marks threshold }
+    ensures rows { (query : List (List ℕ × ℕ)) → IsLeft query proof.now work.now.marks threshold
+        → IfOk result (λ rows. rows ≡ rows_of query proof.now) }
 {
     let mut steps = Steps::new(alloc);
     let mut rows = Rows::new(alloc);
@@ -44,10 +44,10 @@ pub fn check_rows<H: Hash32>(
     top: Top,
     proof: &ProofView<'_>,
 ) -> Result<Rows, VerifyFault>
-    ensures accepts { OnOk result (Accepts H.hash root.now query.now top (proof_of proof.now)) }
-    ensures headline { OnOk result (IsTopOrCollides H.hash root.now query.now top (proof_of proof.now)) }
-    ensures rows { IfOk result (λ rows. rows ≡ rows_of query.now (proof_of proof.now)) }
-    ensures fault { IfErr result (IsProofFault H.hash root.now query.now top (proof_of proof.now)) }
+    ensures accepts { OnOk result (Accepts H.hash root.now query.now top proof.now) }
+    ensures headline { OnOk result (IsTopOrCollides H.hash root.now query.now top proof.now) }
+    ensures rows { IfOk result (λ rows. rows ≡ rows_of query.now proof.now) }
+    ensures fault { IfErr result (IsProofFault H.hash root.now query.now top proof.now) }
 {
     let mut steps = Steps::new(alloc);
     let mut work = Work::with_room(alloc, proof.met())?;

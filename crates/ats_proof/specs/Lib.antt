@@ -5,7 +5,6 @@ pub mod Runs
 pub mod Seen
 pub mod SeenLists
 pub mod Told
-pub mod Views
 pub mod SeenCursor
 pub mod SeenTerms
 pub mod SeenDocs

@@ -3,7 +3,7 @@ use Rattle.std.specs.Prelude.{◌≡◌, ◌≤◌, ◌+◌, ◌^◌, ℕ, Bool,
 use Rattle.ats_proof.specs.declared.places.Begun.{Begun}
 use Rattle.ats_proof.specs.declared.places.Ended.{Ended}
 use Rattle.ats_proof.specs.Parts.{counted_size}
-use Rattle.ats_proof.specs.Value.{items_of, items_of_documents, present_in}
+use Rattle.ats_proof.specs.Value.{IsProof, items_of, items_of_documents, present_in}
 use Rattle.ats_proof.specs.Reading.{id_size, is_tra, terms_in, slots_in, met_in, dict_digests_place, slots_place, met_place, lists_place, docs_place, doc_digests_place, sections_place, answer_place, documents_in, proof_in}
 
 -- the bytes have room for their parts
@@ -37,3 +37,4 @@ pub record IsPlaced (bytes : List ℕ) (tra : Bool) (begun : Begun) (ended : End
   pub rest : IsEnded bytes tra ended
   pub docs_at : docs ≡ docs_place bytes
   pub counted : items ≡ items_of (proof_in bytes)
+  pub spelled : IsProof bytes (proof_in bytes)

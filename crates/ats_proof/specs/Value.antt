@@ -137,6 +137,10 @@ pub record IsProof (bytes : List ℕ) (proof : Proof) : Type 0 where
   pub prefix_each : length proof.lists ≡ present_in proof.slots
   pub documents : AreDocumentsOf proof proof.docs
 
+-- some bytes spell the proof
+abbrev pub IsSpelled : Proof → Type 0
+IsSpelled proof = (bytes : List ℕ) × IsProof bytes proof
+
 -- ---- how many items there are
 
 abbrev pub items_of_prefix : Prefix → ℕ

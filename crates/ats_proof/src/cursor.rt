@@ -33,12 +33,11 @@ impl<'a> ListView<'a> {
     ghost use Rattle.ats_proof.specs.Seen.{digests_of};
     ghost use Rattle.ats_proof.specs.SeenLists.{list_of};
     ghost use Rattle.ats_proof.specs.SeenCursor.{list_leaves_of};
-    ghost use Rattle.ats_proof.specs.Views.{proof_of};
 
     /// The entries as leaves, whose documents are the proof's. Each entry names a met document.
     pub fn revealed(&self, proof: &ProofView<'a>) -> ListCursor<'a>
-        requires { All (λ e. e.doc < length (proof_of proof.now).met) (list_of self.now).entries }
-        ensures shown { list_leaves_of result ≡ shown_list 0 (proof_of proof.now).met (list_of self.now).entries }
+        requires { All (λ e. e.doc < length proof.now.met) (list_of self.now).entries }
+        ensures shown { list_leaves_of result ≡ shown_list 0 proof.now.met (list_of self.now).entries }
         ensures digests { digests_of result.digests ≡ (list_of self.now).digests }
     {
         ListCursor {

@@ -30,7 +30,8 @@ fn cut_digests(left: u32, bytes: &[u8]) -> (DigestRun<'_>, &[u8])
 /// The digests whose number stands before them in two bytes, and the bytes after them.
 pub(crate) fn counted_digests_2(bytes: &[u8]) -> (DigestRun<'_>, &[u8])
     requires { counted_size 2 digest_size bytes.now ≤ length bytes.now }
-    ensures digests { parts_in digest_size digest_in result.0.left result.0.bytes.now ≡ counted_in 2 digest_size digest_in bytes.now }
+    ensures digests { parts_in digest_size digest_in result.0.left result.0.bytes.now
+        ≡ counted_in 2 digest_size digest_in bytes.now }
     ensures rest { result.1.now ≡ drop (counted_size 2 digest_size bytes.now) bytes.now }
 {
     let left = u32::from(number_2(bytes));
@@ -41,7 +42,8 @@ pub(crate) fn counted_digests_2(bytes: &[u8]) -> (DigestRun<'_>, &[u8])
 /// The digests whose number stands before them in four bytes, and the bytes after them.
 pub(crate) fn counted_digests_4(bytes: &[u8]) -> (DigestRun<'_>, &[u8])
     requires { counted_size 4 digest_size bytes.now ≤ length bytes.now }
-    ensures digests { parts_in digest_size digest_in result.0.left result.0.bytes.now ≡ counted_in 4 digest_size digest_in bytes.now }
+    ensures digests { parts_in digest_size digest_in result.0.left result.0.bytes.now
+        ≡ counted_in 4 digest_size digest_in bytes.now }
     ensures rest { result.1.now ≡ drop (counted_size 4 digest_size bytes.now) bytes.now }
 {
     let left = number_4(bytes);

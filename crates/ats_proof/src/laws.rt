@@ -22,20 +22,23 @@ pub fn proofs_have_one_spelling()
 
 /// Bytes that are fields by the grammar spell a proof: the one that is read from them, part by part.
 pub fn spellings_say_proofs()
-    ensures { (bytes : List ℕ) (fields : List (List ℕ)) → AreBytes bytes → Spells proof_format bytes fields → IsProof bytes (proof_in bytes) }
+    ensures { (bytes : List ℕ) (fields : List (List ℕ))
+        → AreBytes bytes → Spells proof_format bytes fields → IsProof bytes (proof_in bytes) }
 {}
 
 /// Where further bytes stand behind a proof's spelling, the fault is at the first of them.
 pub fn further_bytes_are_trailing()
-    ensures { (bytes more : List ℕ) (proof : Proof) → IsProof bytes proof → 1 ≤ length more → length bytes + length more ≤ 2 ^ 26
+    ensures { (bytes more : List ℕ) (proof : Proof) → IsProof bytes proof
+        → 1 ≤ length more → length bytes + length more ≤ 2 ^ 26
         → IsBad proof_format (bytes ++ more) (record { at = length bytes; kind = Trailing }) }
 {}
 
-/// Where a writer was asked for the bytes of a proof, and they are within its limit, it keeps them; and whatever it keeps then
-/// is read as that proof and no other.
+/// Where a writer was asked for the bytes of a proof, and they are within its limit, it keeps them; and
+/// whatever it keeps then is read as that proof and no other.
 pub fn what_is_written_is_read()
     ensures kept { (limit : ℕ) (bytes : List ℕ) → length bytes ≤ limit → (writing limit bytes).kept ≡ Some bytes }
-    ensures read { (limit : ℕ) (bytes kept : List ℕ) (proof other : Proof) → IsProof bytes proof → (writing limit bytes).kept ≡ Some kept
+    ensures read { (limit : ℕ) (bytes kept : List ℕ) (proof other : Proof) → IsProof bytes proof
+        → (writing limit bytes).kept ≡ Some kept
         → IsProof kept proof × (IsProof kept other → other ≡ proof) }
 {}
 

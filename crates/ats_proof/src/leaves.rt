@@ -50,7 +50,8 @@ impl<'a> LeafRun<'a> {
     pub(crate) fn first(&self) -> CutLeaf<'a>
         requires { 0 < self.now.left }
         ensures front { result.front.now ≡ take (1 + term_length_in self.now.bytes.now) (drop 4 self.now.bytes.now) }
-        ensures back { result.back.now ≡ take self.now.behind (drop (5 + term_length_in self.now.bytes.now) self.now.bytes.now) }
+        ensures back { result.back.now
+            ≡ take self.now.behind (drop (5 + term_length_in self.now.bytes.now) self.now.bytes.now) }
         ensures size { length result.back.now ≡ self.now.behind }
         ensures whole { result.front.now ++ result.back.now ≡ first_leaf (leaves_of self.now) }
         ensures rest { result.rest.now ≡ drop (leaf_size self.now.behind self.now.bytes.now) self.now.bytes.now }

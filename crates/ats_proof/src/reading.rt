@@ -1,6 +1,6 @@
 //! Reading a whole proof.
 
-ghost use Rattle.std.specs.Prelude.{◌≡◌, Err, IsOkAnd, IfOk, IfErr};
+ghost use Rattle.std.specs.Prelude.{◌≡◌, Ok, Err, IfOk, IfErr};
 ghost use Rattle.ats_grammar.specs.declared.fault.ShapeFault.{ShapeFault};
 ghost use Rattle.ats_grammar.specs.Front.{IsBad, IsSpelling};
 ghost use Rattle.ats_grammar.specs.Grammar.{proof_format};
@@ -23,13 +23,11 @@ fn are_a_proof(bytes: &[u8])
 
 impl<'a> ProofView<'a> {
     ghost use Rattle.ats_proof.specs.Value.{Proof};
-    ghost use Rattle.ats_proof.specs.Views.{proof_of, bytes_of};
 
     // The view of bytes that spell a proof.
     fn of(bytes: &'a [u8]) -> ProofView<'a>
         requires { IsSpelling proof_format bytes.now }
-        ensures proof { IsProof bytes.now (proof_of result) }
-        ensures lent { bytes_of result ≡ bytes.now }
+        ensures { IsProof bytes.now result }
     {
         are_a_proof(bytes);
         let tra = number_1(bytes.split_at(5).1) == 1;
@@ -58,10 +56,9 @@ impl<'a> ProofView<'a> {
 
     /// Reads the bytes of a proof from left to right, and tells the first fault where they spell none.
     pub fn read(bytes: &'a [u8]) -> Result<ProofView<'a>, ShapeFault>
-        ensures spelled { IfOk result (λ view. IsProof bytes.now (proof_of view)) }
-        ensures accepted { (proof : Proof) → IsProof bytes.now proof → IsOkAnd result (λ view. proof_of view ≡ proof) }
-        ensures lent { IfOk result (λ view. bytes_of view ≡ bytes.now) }
-        ensures refused { IfErr result (λ fault. IsBad proof_format bytes.now fault) }
+        ensures spelled { IfOk result (IsProof bytes.now) }
+        ensures accepted { (proof : Proof) → IsProof bytes.now proof → result ≡ Ok proof }
+        ensures refused { IfErr result (IsBad proof_format bytes.now) }
         ensures exact { (fault : ShapeFault) → IsBad proof_format bytes.now fault → result ≡ Err fault }
     {
         match scan(bytes) {

@@ -149,7 +149,8 @@ pub(crate) fn sections_sum(present: u32, count: u32, bytes: &[u8]) -> Sum
     requires few { length bytes.now ≤ 2 ^ 26 }
     requires fits { total_size (section_size present) count bytes.now ≤ length bytes.now }
     ensures size { result.size ≡ total_size (section_size present) count bytes.now }
-    ensures items { result.items ≡ sum_by items_of_section (parts_in (section_size present) (section_in present) count bytes.now) }
+    ensures items { result.items
+        ≡ sum_by items_of_section (parts_in (section_size present) (section_in present) count bytes.now) }
     ensures few { result.items ≤ 2 ^ 26 }
 {
     let mut left = count;

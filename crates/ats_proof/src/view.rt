@@ -3,9 +3,7 @@
 ghost use Rattle.std.specs.Prelude.{◌≡◌, ◌<◌, ◌≤◌, ◌+◌, ◌*◌, ◌^◌, ℕ, List, length, map, take, drop, slice_get, Some};
 ghost use Rattle.ats_grammar.specs.Table.{number};
 ghost use Rattle.ats_proof.specs.Parts.{parts_in};
-ghost use Rattle.ats_proof.specs.Reading.{slot_size, slot_in, met_place, proof_in};
-ghost use Rattle.ats_proof.specs.Ranges.{IsInRange};
-ghost use Rattle.ats_proof.specs.Told.{IsPlaced};
+ghost use Rattle.ats_proof.specs.Reading.{slot_size, slot_in, met_place};
 
 use crate::bytes::{digest, nth, number_1, number_2, number_4};
 use crate::dict::DictView;
@@ -16,9 +14,10 @@ use crate::places::{Begun, Ended};
 use crate::record::{Algorithm, Slot};
 use ats_dict::Header;
 use ats_hash::Steps;
+use std::marker::Model;
 
 /// A proof over its bytes, which it lends part by part.
-#[derive(Clone, Copy)]
+#[derive(Clone, Drop)]
 pub struct ProofView<'a> {
     pub(crate) bytes: &'a [u8],
     pub(crate) tra: bool,
@@ -26,21 +25,39 @@ pub struct ProofView<'a> {
     pub(crate) docs: usize,
     pub(crate) ended: Ended,
     pub(crate) items: u64,
-    pub ghost placed: { IsPlaced bytes.now tra begun ended docs items },
-    pub ghost in_range: { IsInRange (proof_in bytes.now) },
+}
+
+impl<'a> Model for ProofView<'a> {
+    ghost use Rattle.ats_proof.specs.Reading.{proof_in};
+    ghost use Rattle.ats_proof.specs.Told.{IsPlaced};
+    ghost use Rattle.ats_proof.specs.Value.{Proof};
+
+    ghost Value = { Proof };
+
+    ghost view = { λ v. proof_in v.bytes.now };
+
+    ghost invariant = { λ v. IsPlaced v.bytes.now v.tra v.begun v.ended v.docs v.items };
 }
 
 impl<'a> ProofView<'a> {
     ghost use Rattle.std.specs.Prelude.{None, true, false};
-    ghost use Rattle.ats_proof.specs.Value.{algorithm_of, items_of, present_in};
-    ghost use Rattle.ats_proof.specs.Views.{proof_of, bytes_of};
+    ghost use Rattle.ats_proof.specs.Value.{IsProof, IsSpelled, algorithm_of, items_of, present_in};
+    ghost use Rattle.ats_proof.specs.Ranges.{IsInRange};
     ghost use Rattle.ats_proof.specs.Runs.{shown_entry};
     ghost use Rattle.ats_proof.specs.Seen.{entries_of, digests_of, leaves_of};
     ghost use Rattle.ats_proof.specs.SeenLists.{lists_of};
 
+    /// What holds of every proof that was read.
+    pub fn is_spelled(&self)
+        ensures spelled { IsSpelled self.now }
+        ensures range { IsInRange self.now }
+    {
+        let _ = &self.bytes;
+    }
+
     /// Which algorithm made the proof.
     pub fn algorithm(&self) -> Algorithm
-        ensures { result ≡ algorithm_of (proof_of self.now) }
+        ensures { result ≡ algorithm_of self.now }
     {
         if self.tra {
             return Algorithm::Tra;
@@ -50,7 +67,7 @@ impl<'a> ProofView<'a> {
 
     /// The header of the collection.
     pub fn header(&self) -> Header
-        ensures { result ≡ (proof_of self.now).header }
+        ensures { result ≡ self.now.header }
     {
         Header {
             documents: number_4(self.bytes.split_at(7).1),
@@ -63,16 +80,16 @@ impl<'a> ProofView<'a> {
 
     /// How many terms the query has.
     pub fn terms(&self) -> u32
-        ensures { result ≡ length (proof_of self.now).slots }
+        ensures { result ≡ length self.now.slots }
     {
         self.begun.terms
     }
 
     /// The slot of a query term.
     pub fn slot(&self, i: u32, steps: &mut Steps) -> Slot
-        requires within { i < length (proof_of self.now).slots }
+        requires within { i < length self.now.slots }
         requires room { steps.old + 1 < 2 ^ 64 }
-        ensures slot { slice_get (proof_of self.now).slots i ≡ Some result }
+        ensures slot { slice_get self.now.slots i ≡ Some result }
         ensures cost { steps.new ≡ steps.old + 1 }
     {
         steps.tick();
@@ -81,18 +98,19 @@ impl<'a> ProofView<'a> {
 
     /// How many documents are met.
     pub fn met(&self) -> u32
-        ensures { result ≡ length (proof_of self.now).met }
+        ensures { result ≡ length self.now.met }
     {
         self.begun.met
     }
 
     /// The four bytes of the number of a met document.
     pub fn met_id(&self, i: u32, steps: &mut Steps) -> &'a [u8]
-        requires within { i < length (proof_of self.now).met }
+        requires within { i < length self.now.met }
         requires room { steps.old + 1 < 2 ^ 64 }
-        ensures id { slice_get (proof_of self.now).met i ≡ Some (number result.now) }
+        ensures id { slice_get self.now.met i ≡ Some (number result.now) }
         ensures size { length result.now ≡ 4 }
-        ensures lent { result.now ≡ take 4 (drop (met_place (bytes_of self.now) + 4 + 4 * i) (bytes_of self.now)) }
+        ensures lent { (bytes : List ℕ) → IsProof bytes self.now
+            → result.now ≡ take 4 (drop (met_place bytes + 4 + 4 * i) bytes) }
         ensures cost { steps.new ≡ steps.old + 1 }
     {
         steps.tick();
@@ -102,16 +120,16 @@ impl<'a> ProofView<'a> {
 
     /// How many rows the answer has.
     pub fn answers(&self) -> u32
-        ensures { result ≡ length (proof_of self.now).answer }
+        ensures { result ≡ length self.now.answer }
     {
         u32::from(number_2(self.bytes.split_at(self.ended.answer).1))
     }
 
     /// The met index of a row.
     pub fn answer(&self, i: u32, steps: &mut Steps) -> u32
-        requires within { i < length (proof_of self.now).answer }
+        requires within { i < length self.now.answer }
         requires room { steps.old + 1 < 2 ^ 64 }
-        ensures row { slice_get (proof_of self.now).answer i ≡ Some result }
+        ensures row { slice_get self.now.answer i ≡ Some result }
         ensures cost { steps.new ≡ steps.old + 1 }
     {
         steps.tick();
@@ -121,16 +139,16 @@ impl<'a> ProofView<'a> {
 
     /// The number of digests, leaves, slots, met ids, entries and rows.
     pub fn items(&self) -> u64
-        ensures { result ≡ items_of (proof_of self.now) }
+        ensures { result ≡ items_of self.now }
     {
         self.items
     }
 
     /// The dictionary section.
     pub fn dict(&self) -> DictView<'a>
-        ensures entries { entries_of result ≡ (proof_of self.now).dict }
-        ensures shown { leaves_of result.leaves ≡ map shown_entry (proof_of self.now).dict }
-        ensures digests { digests_of result.digests ≡ (proof_of self.now).dict_digests }
+        ensures entries { entries_of result ≡ self.now.dict }
+        ensures shown { leaves_of result.leaves ≡ map shown_entry self.now.dict }
+        ensures digests { digests_of result.digests ≡ self.now.dict_digests }
     {
         let left = u32::from(number_2(self.bytes.split_at(113).1));
         let (digests, _) = counted_digests_2(self.bytes.split_at(self.begun.dict_digests).1);
@@ -146,7 +164,7 @@ impl<'a> ProofView<'a> {
 
     /// The prefixes.
     pub fn lists(&self) -> ListsView<'a>
-        ensures { lists_of result ≡ (proof_of self.now).lists }
+        ensures { lists_of result ≡ self.now.lists }
     {
         ListsView {
             left: self.begun.present,

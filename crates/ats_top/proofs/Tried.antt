@@ -10,9 +10,7 @@ use Rattle.ats_commit.specs.Root.{root_of}
 use Rattle.ats_proof.specs.declared.record.Algorithm.{Algorithm}
 use Rattle.ats_proof.specs.declared.record.Algorithm.TheVariants.{Tra, Tnra}
 use Rattle.ats_proof.specs.Ranges.{IsInRange}
-use Rattle.ats_proof.specs.Reading.{lists_place, prefix_in, prefix_size, proof_in, slots_in}
-use Rattle.ats_proof.specs.Value.{Prefix, Proof, IsProof, kind_of_slot, present_in}
-use Rattle.ats_proof.proofs.Runs.{length-parts}
+use Rattle.ats_proof.specs.Value.{Prefix, Proof, IsProof, IsSpelled, kind_of_slot}
 use Rattle.ats_proof.specs.declared.record.Slot.{Slot}
 use Rattle.ats_proof.proofs.Unique.{one_value}
 use Rattle.ats_honest.specs.Honest.{IsHonest, IsProved, length_of}
@@ -67,13 +65,12 @@ kind_few slot = elim (cases_Bool slot.present) [
 ]
 
 -- there are no more lists than slots
-pub lists_few : (bytes : List ℕ) → IsInRange (proof_in bytes) → length (proof_in bytes).lists ≤ 32
-lists_few bytes range =
-    let slots : List Slot = slots_in bytes in
+pub lists_few : (proof : Proof) → IsSpelled proof → IsInRange proof → length proof.lists ≤ 32
+lists_few proof spelled range =
     omega (
       arith,
-      length-parts prefix_size prefix_in (present_in slots) (drop (lists_place bytes) bytes),
-      sum_by-le kind_of_slot 1 slots (λ k d inside. kind_few (get_or slots k d)),
+      spelled.1.prefix_each,
+      sum_by-le kind_of_slot 1 proof.slots (λ k d inside. kind_few (get_or proof.slots k d)),
       range.spots.few,
     )
 

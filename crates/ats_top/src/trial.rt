@@ -4,7 +4,6 @@ ghost use Rattle.std.specs.Prelude.{◌≡◌, ◌⊎◌, ◌<◌, ◌≤◌, �
 ghost use Rattle.ats_commit.specs.Archive.{archive_of};
 ghost use Rattle.ats_impact.specs.Trial.{trial_texts};
 ghost use Rattle.ats_proof.specs.Value.{Proof};
-ghost use Rattle.ats_proof.specs.Views.{proof_of};
 ghost use Rattle.ats_proof.specs.declared.record.Algorithm.TheVariants.{Tra, Tnra};
 ghost use Rattle.ats_audit.specs.Verdicts.{IsVerdict};
 ghost use Rattle.ats_audit.specs.declared.auditing.Verdict.{Verdict};
@@ -48,9 +47,10 @@ const NONE: Tally = Tally {
 // How many entries of the lists a proof shows.
 fn shown_entries(proof: &ProofView<'_>, steps: &mut Steps) -> u64
     requires room { steps.old ≤ 2 ^ 63 }
-    ensures value { result ≡ shown_entries (proof_of proof.now) }
+    ensures value { result ≡ shown_entries proof.now }
     ensures few { result ≤ 2 ^ 48 }
 {
+    proof.is_spelled();
     let mut lists = proof.lists();
     let mut entries: u64 = 0;
     'lists: while let Some(list) = lists.next(steps) {

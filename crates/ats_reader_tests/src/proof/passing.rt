@@ -2,7 +2,6 @@
 
 ghost use Rattle.std.specs.Prelude.{◌≡◌, ◌≤◌, ◌<◌, ◌+◌, ◌^◌, length, slice_get, Some};
 ghost use Rattle.ats_proof.specs.SeenLists.{list_of};
-ghost use Rattle.ats_proof.specs.Views.{proof_of};
 
 use super::examples::{tnra, tra};
 use ats_hash::Steps;
@@ -116,8 +115,8 @@ fn reveal<'a>(
     requires two { length (list_of list.now).entries ≡ 2 }
     requires first { slice_get (list_of list.now).entries 0 ≡ Some first }
     requires second { slice_get (list_of list.now).entries 1 ≡ Some second }
-    requires first_met { first.doc < length (proof_of view.now).met }
-    requires second_met { second.doc < length (proof_of view.now).met }
+    requires first_met { first.doc < length view.now.met }
+    requires second_met { second.doc < length view.now.met }
 {
     list.revealed(view)
 }

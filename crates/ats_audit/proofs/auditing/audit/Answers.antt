@@ -3,7 +3,6 @@ use Rattle.std.specs.Option.{option_map}
 use Rattle.ats_commit.specs.Archive.{Archive}
 use Rattle.ats_commit.specs.Root.{root_of}
 use Rattle.ats_proof.specs.Value.{Proof}
-use Rattle.ats_proof.specs.Views.{proof_of}
 use Rattle.ats_client.specs.Accepts.{Accepts}
 use Rattle.ats_client.specs.Headline.{AreRight, IsTopOrCollides}
 use Rattle.ats_client.specs.Sections.{difference_of}
@@ -17,7 +16,7 @@ returns-in-None g c =
     let H = g.H.HashKind.hash in
     let archive : Archive = c.args.index.now in
     let query = c.args.query.now in
-    let proof : Proof = proof_of c.in-Ok.proof in
+    let proof : Proof = c.in-Ok.proof in
     let none : extract H archive query proof ≡ None = sym c.in_ok-clash.ensures.clash ∙ ap (option_map difference_of) c.in-None.is in
     let headline : IsTopOrCollides H (root_of H archive) query c.args.top proof =
     subst (λ (root : List ℕ). IsTopOrCollides H root query c.args.top proof) c.root-root.ensures c.in-Ok-check_rows.ensures.headline in

@@ -1,7 +1,6 @@
 use Rattle.std.proofs.Common.{◌≤◌, length}
-use Rattle.ats_proof.specs.Views.{proof_of}
 use Rattle.ats_bench.proofs.checking.check_proof.Given as goal
 
 -- each check leaves the room for its marks
 abbrev pub invariant-loop-time : goal.invariant-loop-time
-invariant-loop-time l = length (proof_of l.proof).met ≤ l.work.room
+invariant-loop-time l = length l.proof.met ≤ l.work.room

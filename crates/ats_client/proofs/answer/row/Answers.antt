@@ -7,7 +7,6 @@ use Rattle.ats_bound.specs.declared.work.Mark.{Mark}
 use Rattle.ats_bound.specs.Cut.{ShownLane}
 use Rattle.ats_bound.specs.Schedule.{Bounding}
 use Rattle.ats_proof.specs.Value.{Proof}
-use Rattle.ats_proof.specs.Views.{proof_of}
 use Rattle.ats_client.specs.Bracketing.{bounds_of}
 use Rattle.ats_client.proofs.Bracketing.{own_doc}
 use Rattle.ats_client.specs.Bounds.{upper}
@@ -35,7 +34,7 @@ row_is doc lower upper b same_doc same_lower same_upper =
 
 pub upper-requires-clause-held : goal.upper-requires-clause-held
 upper-requires-clause-held c =
-    let proof : Proof = proof_of c.args.proof.now in
+    let proof : Proof = c.args.proof.now in
     let query : List (List ℕ × ℕ) = c.requires.left.0 in
     let left : IsLeft query proof c.args.work.now.marks c.args.threshold = c.requires.left.1 in
     let index : ℕ = c.answer-index.result in
@@ -44,7 +43,7 @@ upper-requires-clause-held c =
 
 pub upper-requires-clause-small : goal.upper-requires-clause-small
 upper-requires-clause-small c =
-    let proof : Proof = proof_of c.args.proof.now in
+    let proof : Proof = c.args.proof.now in
     let query : List (List ℕ × ℕ) = c.requires.left.0 in
     let left : IsLeft query proof c.args.work.now.marks c.args.threshold = c.requires.left.1 in
     let index : ℕ = c.answer-index.result in
@@ -53,7 +52,7 @@ upper-requires-clause-small c =
 
 pub returns-clause-row : goal.returns-clause-row
 returns-clause-row c query left =
-    let proof : Proof = proof_of c.args.proof.now in
+    let proof : Proof = c.args.proof.now in
     let lanes : List ShownLane = lanes_of query proof in
     let bounds : Bounding = bounds_of proof in
     let marks : List Mark = c.args.work.now.marks in

@@ -1,17 +1,13 @@
-use Rattle.std.proofs.Common.{◌≡◌, ℕ, List, length, drop, Result, Ok, Err}
+use Rattle.std.proofs.Common.{ℕ, Result, Ok, Err}
 use Rattle.std.specs.Result.{OnOk}
-use Rattle.ats_proof.specs.Value.{Proof, present_in}
-use Rattle.ats_proof.specs.Reading.{prefix_size, prefix_in, lists_place, is_tra}
-use Rattle.ats_proof.specs.Views.{proof_of}
-use Rattle.ats_proof.proofs.Runs.{length-parts}
-use Rattle.ats_proof.proofs.Whole.{documents_whole}
+use Rattle.ats_proof.specs.Value.{IsProof, Proof}
 use Rattle.ats_client.specs.declared.refusal.Refusal.{Refusal}
 use Rattle.ats_client.proofs.OneRefusal.{accepted}
 use Rattle.ats_client.proofs.Headline.{top_or_collides}
 use Rattle.ats_client.proofs.checking.check.Goals as goal
 
 pub returns-clause-exact : goal.returns-clause-exact
-returns-clause-exact g c = accepted g.H.HashKind.hash c.args.root.now c.args.query.now c.args.top (proof_of c.args.proof.now) c.checked.result c.checked.ensures.refused
+returns-clause-exact g c = accepted g.H.HashKind.hash c.args.root.now c.args.query.now c.args.top c.args.proof.now c.checked.result c.checked.ensures.refused
 
 on_both : (P Q R : Type 0) (result : Result ℕ Refusal) → (P → Q → R) → OnOk result P → OnOk result Q → OnOk result R
 on_both P Q R (Ok threshold) made p q = made p q
@@ -19,9 +15,8 @@ on_both P Q R (Err refusal) made p q = p
 
 pub returns-clause-headline : goal.returns-clause-headline
 returns-clause-headline g c =
-    let proof : Proof = proof_of c.args.proof.now in
-    let bytes : List ℕ = c.args.proof.now.bytes.now in
-    let size : length proof.lists ≡ present_in proof.slots = length-parts prefix_size prefix_in (present_in proof.slots) (drop (lists_place bytes) bytes) in
+    let proof : Proof = c.args.proof.now in
+    let is : IsProof c.is_spelled.ensures.spelled.0 proof = c.is_spelled.ensures.spelled.1 in
     on_both _ _ _ c.checked.result
-    (λ accepts asked. top_or_collides g.H.HashKind.hash g.H.HashKind.sized c.args.root.now c.args.query.now c.args.top proof asked c.args.proof.now.in_range size (documents_whole (is_tra bytes) bytes) accepts)
+    (λ accepts asked. top_or_collides g.H.HashKind.hash g.H.HashKind.sized c.args.root.now c.args.query.now c.args.top proof asked c.is_spelled.ensures.range is.prefix_each is.documents accepts)
     c.checked.ensures.accepts c.checked.ensures.asked

@@ -3,7 +3,6 @@ use Rattle.std.specs.List.{sum_by}
 use Rattle.std.proofs.lemmas.Result.{err_from_is_err_and}
 use Rattle.ats_bound.specs.Cut.{ShownLane, bracket}
 use Rattle.ats_proof.specs.Value.{Proof, items_of, items_of_prefix, items_of_documents}
-use Rattle.ats_proof.specs.Views.{proof_of}
 use Rattle.ats_client.specs.Accepts.{IsFirstRefusal}
 use Rattle.ats_client.specs.Bracketing.{bounds_of}
 use Rattle.ats_client.specs.Groups.{IsAnswerSettled}
@@ -14,7 +13,7 @@ use Rattle.ats_client.proofs.checking.checked.Goals as goal
 
 pub returns-in_err-met-clause-refused : goal.returns-in_err-met-clause-refused
 returns-in_err-met-clause-refused g c =
-    let proof : Proof = proof_of c.args.proof.now in
+    let proof : Proof = c.args.proof.now in
     let lanes : List ShownLane = lanes_of c.args.query.now proof in
     let fault = fails_met g.H.HashKind.hash c.args.root.now c.args.query.now c.args.top proof c.in_ok-opened.ensures.kept c.in_ok-dictionary.ensures.kept c.in_ok-slots.ensures.kept
     c.in_ok-threshold.ensures.right c.in_err-met.field-0.0 (c.in_err-met.ensures.unmet bracket lanes c.in_ok-threshold.ensures.marks) in
@@ -23,7 +22,7 @@ returns-in_err-met-clause-refused g c =
 
 pub returns-in_err-documents_tree-clause-refused : goal.returns-in_err-documents_tree-clause-refused
 returns-in_err-documents_tree-clause-refused g c =
-    let proof : Proof = proof_of c.args.proof.now in
+    let proof : Proof = c.args.proof.now in
     let lanes : List ShownLane = lanes_of c.args.query.now proof in
     let fault = fails_tree g.H.HashKind.hash c.args.root.now c.args.query.now c.args.top proof c.in_ok-opened.ensures.kept c.in_ok-dictionary.ensures.kept c.in_ok-slots.ensures.kept
     c.in_ok-threshold.ensures.right (c.in_ok-met.ensures.all bracket lanes c.in_ok-threshold.ensures.marks) c.in_err-documents_tree.field-0.0 c.in_err-documents_tree.ensures.fault in
@@ -32,7 +31,7 @@ returns-in_err-documents_tree-clause-refused g c =
 
 pub returns-in_err-documents-clause-refused : goal.returns-in_err-documents-clause-refused
 returns-in_err-documents-clause-refused g c =
-    let proof : Proof = proof_of c.args.proof.now in
+    let proof : Proof = c.args.proof.now in
     let lanes : List ShownLane = lanes_of c.args.query.now proof in
     let fault = fails_documents g.H.HashKind.hash c.args.root.now c.args.query.now c.args.top proof c.in_ok-opened.ensures.kept c.in_ok-dictionary.ensures.kept c.in_ok-slots.ensures.kept
     c.in_ok-threshold.ensures.right (c.in_ok-met.ensures.all bracket lanes c.in_ok-threshold.ensures.marks) c.in_ok-documents_tree.ensures.kept
@@ -42,7 +41,7 @@ returns-in_err-documents-clause-refused g c =
 
 pub returns-in_err-rows-clause-refused : goal.returns-in_err-rows-clause-refused
 returns-in_err-rows-clause-refused g c =
-    let proof : Proof = proof_of c.args.proof.now in
+    let proof : Proof = c.args.proof.now in
     let lanes : List ShownLane = lanes_of c.args.query.now proof in
     let fault = fails_rows g.H.HashKind.hash c.args.root.now c.args.query.now c.args.top proof c.in_ok-opened.ensures.kept c.in_ok-dictionary.ensures.kept c.in_ok-slots.ensures.kept
     c.in_ok-threshold.ensures.right (c.in_ok-met.ensures.all bracket lanes c.in_ok-threshold.ensures.marks) c.in_ok-documents_tree.ensures.kept c.in_ok-documents.ensures.right
@@ -66,7 +65,7 @@ rows-requires-clause-count g c =
 
 pub settled-requires-clause-marks : goal.settled-requires-clause-marks
 settled-requires-clause-marks g c =
-    let proof : Proof = proof_of c.args.proof.now in
+    let proof : Proof = c.args.proof.now in
     let lanes : List ShownLane = lanes_of c.args.query.now proof in
     (bounds_of proof, lanes, c.rows.ensures.marks (bounds_of proof) lanes c.in_ok-documents.ensures.marks, c.in_ok-threshold.ensures.threshold)
 
@@ -87,7 +86,7 @@ settled-requires-clause-count g c =
 
 pub returns-then-not-settled-clause-refused : goal.returns-then-not-settled-clause-refused
 returns-then-not-settled-clause-refused g c =
-    let proof : Proof = proof_of c.args.proof.now in
+    let proof : Proof = c.args.proof.now in
     let lanes : List ShownLane = lanes_of c.args.query.now proof in
     let marks = c.rows.ensures.marks (bounds_of proof) lanes c.in_ok-documents.ensures.marks in
     let test = c.settled.ensures.settled (bounds_of proof) lanes marks c.in_ok-threshold.ensures.threshold in
@@ -98,7 +97,7 @@ returns-then-not-settled-clause-refused g c =
 
 pub returns-clause-accepts : goal.returns-clause-accepts
 returns-clause-accepts g c =
-    let proof : Proof = proof_of c.args.proof.now in
+    let proof : Proof = c.args.proof.now in
     let lanes : List ShownLane = lanes_of c.args.query.now proof in
     let marks = c.rows.ensures.marks (bounds_of proof) lanes c.in_ok-documents.ensures.marks in
     accepts_each g.H.HashKind.hash c.args.root.now c.args.query.now c.args.top proof
@@ -108,7 +107,7 @@ returns-clause-accepts g c =
 
 pub returns-clause-marks : goal.returns-clause-marks
 returns-clause-marks g c =
-    let proof : Proof = proof_of c.args.proof.now in
+    let proof : Proof = c.args.proof.now in
     c.rows.ensures.marks (bounds_of proof) (lanes_of c.args.query.now proof) c.in_ok-documents.ensures.marks
 
 pub returns-clause-left : goal.returns-clause-left
@@ -131,7 +130,7 @@ pub returns-in_err-opened-clause-steps : goal.returns-in_err-opened-clause-steps
 returns-in_err-opened-clause-steps g c =
     omega (
       arith,
-      items_are (proof_of c.args.proof.now),
+      items_are c.args.proof.now,
       c.opened.ensures.cost,
     )
 
@@ -139,7 +138,7 @@ pub returns-in_err-dictionary-clause-steps : goal.returns-in_err-dictionary-clau
 returns-in_err-dictionary-clause-steps g c =
     omega (
       arith,
-      items_are (proof_of c.args.proof.now),
+      items_are c.args.proof.now,
       c.opened.ensures.cost,
       c.dictionary.ensures.most,
     )
@@ -148,7 +147,7 @@ pub returns-in_err-slots-clause-steps : goal.returns-in_err-slots-clause-steps
 returns-in_err-slots-clause-steps g c =
     omega (
       arith,
-      items_are (proof_of c.args.proof.now),
+      items_are c.args.proof.now,
       c.opened.ensures.cost,
       c.dictionary.ensures.most,
       c.slots.ensures.most,
@@ -158,7 +157,7 @@ pub returns-in_err-threshold-clause-steps : goal.returns-in_err-threshold-clause
 returns-in_err-threshold-clause-steps g c =
     omega (
       arith,
-      items_are (proof_of c.args.proof.now),
+      items_are c.args.proof.now,
       c.opened.ensures.cost,
       c.dictionary.ensures.most,
       c.slots.ensures.most,
@@ -169,7 +168,7 @@ pub returns-in_err-met-clause-steps : goal.returns-in_err-met-clause-steps
 returns-in_err-met-clause-steps g c =
     omega (
       arith,
-      items_are (proof_of c.args.proof.now),
+      items_are c.args.proof.now,
       c.opened.ensures.cost,
       c.dictionary.ensures.most,
       c.slots.ensures.most,
@@ -181,7 +180,7 @@ pub returns-in_err-documents_tree-clause-steps : goal.returns-in_err-documents_t
 returns-in_err-documents_tree-clause-steps g c =
     omega (
       arith,
-      items_are (proof_of c.args.proof.now),
+      items_are c.args.proof.now,
       c.opened.ensures.cost,
       c.dictionary.ensures.most,
       c.slots.ensures.most,
@@ -194,7 +193,7 @@ pub returns-in_err-documents-clause-steps : goal.returns-in_err-documents-clause
 returns-in_err-documents-clause-steps g c =
     omega (
       arith,
-      items_are (proof_of c.args.proof.now),
+      items_are c.args.proof.now,
       c.opened.ensures.cost,
       c.dictionary.ensures.most,
       c.slots.ensures.most,
@@ -208,7 +207,7 @@ pub returns-in_err-rows-clause-steps : goal.returns-in_err-rows-clause-steps
 returns-in_err-rows-clause-steps g c =
     omega (
       arith,
-      items_are (proof_of c.args.proof.now),
+      items_are c.args.proof.now,
       c.opened.ensures.cost,
       c.dictionary.ensures.most,
       c.slots.ensures.most,
@@ -223,7 +222,7 @@ pub returns-then-not-settled-clause-steps : goal.returns-then-not-settled-clause
 returns-then-not-settled-clause-steps g c =
     omega (
       arith,
-      items_are (proof_of c.args.proof.now),
+      items_are c.args.proof.now,
       c.opened.ensures.cost,
       c.dictionary.ensures.most,
       c.slots.ensures.most,
@@ -239,7 +238,7 @@ pub returns-clause-steps : goal.returns-clause-steps
 returns-clause-steps g c =
     omega (
       arith,
-      items_are (proof_of c.args.proof.now),
+      items_are c.args.proof.now,
       c.opened.ensures.cost,
       c.dictionary.ensures.most,
       c.slots.ensures.most,

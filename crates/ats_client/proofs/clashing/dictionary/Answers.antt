@@ -1,14 +1,13 @@
-use Rattle.std.proofs.Common.{◌≡◌, ◌≤◌, List, ℕ, length, refl, sym, ap, subst, arith}
+use Rattle.std.proofs.Common.{◌≤◌, length, refl, sym, ap, subst, arith}
 use Rattle.std.specs.List.{All}
 use Rattle.ats_tree.specs.Shown.{Shown}
 use Rattle.ats_dict.specs.declared.header.Header.{Header}
-use Rattle.ats_proof.specs.Views.{proof_of}
 use Rattle.ats_client.proofs.Sections.{rebuilds_by, dictionary-short}
 use Rattle.ats_client.proofs.clashing.dictionary.Goals as goal
 
 pub in_tree-requires : goal.in_tree-requires
 in_tree-requires g c κs =
-    let proof = proof_of c.args.proof.now in (
+    let proof = c.args.proof.now in (
       (refl, tt),
       (
         tt,
@@ -16,7 +15,7 @@ in_tree-requires g c κs =
           rebuilds_by g.H.HashKind.hash c.header-leaves.result.dict_leaves proof.header.dict_leaves _ _ _ _ proof.header.dict_root
               (ap (λ (h : Header). h.dict_leaves) c.header-leaves.ensures) c.dict-section.ensures.shown c.dict-section.ensures.digests c.requires.kept,
           (
-            subst (All (λ (s : Shown). length s.1 ≤ 127)) (sym c.dict-section.ensures.shown) (dictionary-short proof.dict c.args.proof.now.in_range.terms.each),
+            subst (All (λ (s : Shown). length s.1 ≤ 127)) (sym c.dict-section.ensures.shown) (dictionary-short proof.dict c.is_spelled.ensures.range.terms.each),
             omega (arith, c.requires.room),
           ),
         ),

@@ -1,4 +1,4 @@
-use Rattle.std.proofs.Common.{◌≡◌, ◌≤◌, ◌∙◌, ℕ, List, length, Option, Some, None, refl, sym, ap, subst, arith}
+use Rattle.std.proofs.Common.{◌≤◌, ◌∙◌, length, Option, refl, sym, ap, subst, arith}
 use Rattle.std.specs.List.{All}
 use Rattle.std.specs.Option.{option_map}
 use Rattle.ats_tree.specs.Shown.{Shown}
@@ -8,7 +8,6 @@ use Rattle.ats_proof.specs.Ranges.{AreDocumentsInRange}
 use Rattle.ats_proof.specs.Seen.{digests_of}
 use Rattle.ats_proof.specs.SeenDocs.{documents_of, docs_leaves_of}
 use Rattle.ats_proof.specs.Value.{Documents, Proof}
-use Rattle.ats_proof.specs.Views.{proof_of}
 use Rattle.ats_client.specs.Documents.{IsTermsTree, documents_in}
 use Rattle.ats_client.specs.Sections.{difference_of}
 use Rattle.ats_client.proofs.Sections.{documents-short, documents_found, documents_later, documents_rebuild}
@@ -16,9 +15,9 @@ use Rattle.ats_client.proofs.clashing.documents.Goals as goal
 
 pub in_tree-requires : goal.in_tree-requires
 in_tree-requires g c κs =
-    let proof : Proof = proof_of c.args.proof.now in
+    let proof : Proof = c.args.proof.now in
     let docs : Documents = documents_of c.in_ok-docs.docs in
-    let range : AreDocumentsInRange docs = c.args.proof.now.in_range.shown docs c.in_ok-docs.ensures.documents in (
+    let range : AreDocumentsInRange docs = c.is_spelled.ensures.range.shown docs c.in_ok-docs.ensures.documents in (
       (refl, tt),
       (
         tt,
@@ -36,23 +35,23 @@ in_tree-requires g c κs =
 
 pub returns-in-Some-clause-clash : goal.returns-in-Some-clause-clash
 returns-in-Some-clause-clash g c =
-    let proof : Proof = proof_of c.args.proof.now in
+    let proof : Proof = c.args.proof.now in
     documents_found g.H.HashKind.hash (ours g.H.HashKind.hash (g.O.OwnStrings.archive c.args.own.now) c.args.query.now) proof.header proof.met proof.docs (documents_of c.in_ok-docs.docs)
     c.header-leaves.result.documents (docs_leaves_of c.revealed-section.result) (digests_of c.revealed-section.result.digests) c.in_ok-docs.ensures.documents
     (ap (λ (h : Header). h.documents) c.header-leaves.ensures) (c.revealed-section.ensures.shown ∙ c.in_ok-docs.ensures.whole) c.revealed-section.ensures.digests
     (difference_of c.in-Some.clash) c.in-Some.ensures.clash
 
 pub each-requires-clause-range : goal.each-requires-clause-range
-each-requires-clause-range g c = c.args.proof.now.in_range.shown (documents_of c.in_ok-docs.docs) c.in_ok-docs.ensures.documents
+each-requires-clause-range g c = c.is_spelled.ensures.range.shown (documents_of c.in_ok-docs.docs) c.in_ok-docs.ensures.documents
 
 pub each-requires-clause-right : goal.each-requires-clause-right
 each-requires-clause-right g c =
-    let proof : Proof = proof_of c.args.proof.now in
+    let proof : Proof = c.args.proof.now in
     subst (λ (d : Option Documents). All (IsTermsTree g.H.HashKind.hash) (documents_in proof.met d)) c.in_ok-docs.ensures.documents c.requires.terms
 
 pub returns-clause-clash : goal.returns-clause-clash
 returns-clause-clash g c =
-    let proof : Proof = proof_of c.args.proof.now in
+    let proof : Proof = c.args.proof.now in
     documents_later g.H.HashKind.hash (ours g.H.HashKind.hash (g.O.OwnStrings.archive c.args.own.now) c.args.query.now) proof.header proof.met proof.docs (documents_of c.in_ok-docs.docs)
     c.header-leaves.result.documents (docs_leaves_of c.revealed-section.result) (digests_of c.revealed-section.result.digests) c.in_ok-docs.ensures.documents
     (ap (λ (h : Header). h.documents) c.header-leaves.ensures) (c.revealed-section.ensures.shown ∙ c.in_ok-docs.ensures.whole) c.revealed-section.ensures.digests

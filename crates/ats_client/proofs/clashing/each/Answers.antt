@@ -1,4 +1,4 @@
-use Rattle.std.proofs.Common.{◌≡◌, ◌+◌, ◌∙◌, ℕ, List, [], ◌∷◌, drop, Some, sym, ap, subst, arith}
+use Rattle.std.proofs.Common.{◌≡◌, ◌∙◌, ℕ, List, ◌∷◌, drop, sym, ap, subst, arith}
 use Rattle.std.specs.List.{All, flat_map}
 use Rattle.std.proofs.lemmas.List.{drop-drop}
 use Rattle.std.proofs.lemmas.List.Elements.{All-head, All-tail}
@@ -7,8 +7,7 @@ use Rattle.ats_commit.specs.Ours.{ours}
 use Rattle.ats_doctree.specs.declared.doc_leaf.DocLeaf.{DocLeaf}
 use Rattle.ats_proof.specs.Ranges.{IsSectionInRange}
 use Rattle.ats_proof.specs.SeenDocs.{ids_of, doc_leaves_of, sections_of, section_of, leaf_of, doc_of}
-use Rattle.ats_proof.specs.Value.{TermsSection, Proof}
-use Rattle.ats_proof.specs.Views.{proof_of}
+use Rattle.ats_proof.specs.Value.{TermsSection}
 use Rattle.ats_client.specs.Documents.{MetDocument, documents_from, IsTermsTree}
 use Rattle.ats_client.specs.Sections.{difference_of}
 use Rattle.ats_client.specs.SeenTerms.{document_of}
@@ -64,6 +63,6 @@ loop-index-preserved g c =
           ∙ ap (λ (ones : List MetDocument). first_collision H (ours H (g.O.OwnStrings.archive c.args.own.now) c.args.query.now) (flat_map (terms_strings H) ones)) rest;
       right = subst (All (IsTermsTree H)) rest (All-tail (IsTermsTree H) (document_of c.in-Some.doc) more (subst (All (IsTermsTree H)) front c.loop-index.invariant.right));
       range = subst (All IsSectionInRange) (sym c.in-Some.ensures.passed_sections) (later_all IsSectionInRange sections c.loop-index.invariant.range);
-      ids_left = c.in-Some.ensures.passed_ids ∙ ap (drop 1) c.loop-index.invariant.ids_left ∙ drop-drop 1 c.loop-index._index (proof_of c.args.proof.now).met;
+      ids_left = c.in-Some.ensures.passed_ids ∙ ap (drop 1) c.loop-index.invariant.ids_left ∙ drop-drop 1 c.loop-index._index c.args.proof.now.met;
       cost = omega (arith, c.terms.ensures.cost, c.next.ensures.cost, c.loop-index.invariant.cost);
     }

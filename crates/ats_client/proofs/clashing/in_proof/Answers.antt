@@ -1,23 +1,20 @@
-use Rattle.std.proofs.Common.{◌≡◌, List, ℕ, Option, Some, None, refl}
+use Rattle.std.proofs.Common.{Some, None, refl}
 use Rattle.std.specs.Option.{option_map}
-use Rattle.ats_tree.specs.Differences.{first_collision}
-use Rattle.ats_commit.specs.Ours.{ours}
-use Rattle.ats_proof.specs.Views.{proof_of}
 use Rattle.ats_client.specs.Sections.{difference_of}
 use Rattle.ats_client.proofs.Sections.{extract-parts}
 use Rattle.ats_client.proofs.clashing.in_proof.Goals as goal
 
 pub returns-in-Some-dictionary-clause-clash : goal.returns-in-Some-dictionary-clause-clash
 returns-in-Some-dictionary-clause-clash g c =
-    extract-parts g.H.HashKind.hash (g.O.OwnStrings.archive c.args.own.now) c.args.query.now (proof_of c.args.proof.now) None (Some (difference_of c.in-Some-dictionary.clash)) _ _
+    extract-parts g.H.HashKind.hash (g.O.OwnStrings.archive c.args.own.now) c.args.query.now c.args.proof.now None (Some (difference_of c.in-Some-dictionary.clash)) _ _
     c.in_default.ensures.clash c.in-Some-dictionary.ensures.clash refl refl
 
 pub returns-in-Some-lists-clause-clash : goal.returns-in-Some-lists-clause-clash
 returns-in-Some-lists-clause-clash g c =
-    extract-parts g.H.HashKind.hash (g.O.OwnStrings.archive c.args.own.now) c.args.query.now (proof_of c.args.proof.now) None None (Some (difference_of c.in-Some-lists.clash)) _
+    extract-parts g.H.HashKind.hash (g.O.OwnStrings.archive c.args.own.now) c.args.query.now c.args.proof.now None None (Some (difference_of c.in-Some-lists.clash)) _
     c.in_default.ensures.clash c.in_default-dictionary.ensures.clash c.in-Some-lists.ensures.clash refl
 
 pub returns-clause-clash : goal.returns-clause-clash
 returns-clause-clash g c =
-    extract-parts g.H.HashKind.hash (g.O.OwnStrings.archive c.args.own.now) c.args.query.now (proof_of c.args.proof.now) None None None (option_map difference_of c.documents.result)
+    extract-parts g.H.HashKind.hash (g.O.OwnStrings.archive c.args.own.now) c.args.query.now c.args.proof.now None None None (option_map difference_of c.documents.result)
     c.in_default.ensures.clash c.in_default-dictionary.ensures.clash c.in_default-lists.ensures.clash c.documents.ensures.clash

@@ -1,7 +1,6 @@
-use Rattle.std.proofs.Common.{◌≡◌, ◌≤◌, List, ℕ, length, refl, sym, ap, subst, arith}
+use Rattle.std.proofs.Common.{◌≤◌, length, refl, sym, subst, arith}
 use Rattle.std.specs.List.{All}
 use Rattle.ats_tree.specs.Shown.{Shown}
-use Rattle.ats_proof.specs.Views.{proof_of}
 use Rattle.ats_client.specs.Lists.{prefix_of, presented_of}
 use Rattle.ats_client.proofs.Listed.{names_inside}
 use Rattle.ats_client.proofs.Sections.{rebuilds_by, list-short}
@@ -9,12 +8,12 @@ use Rattle.ats_client.proofs.clashing.list.Goals as goal
 
 pub revealed-section-requires : goal.revealed-section-requires
 unfolding prefix_of
-revealed-section-requires g c = names_inside (length (proof_of c.args.proof.now).met) (prefix_of c.args.one.now.list).entries c.requires.right.names
+revealed-section-requires g c = names_inside (length c.args.proof.now.met) (prefix_of c.args.one.now.list).entries c.requires.right.names
 
 pub in_tree-requires : goal.in_tree-requires
 unfolding prefix_of
 in_tree-requires g c κs =
-    let proof = proof_of c.args.proof.now in (
+    let proof = c.args.proof.now in (
       (refl, tt),
       (
         c.requires.number,

@@ -1,14 +1,9 @@
-use Rattle.std.proofs.Common.{◌≡◌, ◌+◌, ◌<◌, ◌∙◌, ℕ, List, [], ◌∷◌, length, drop, Option, Some, None, refl, sym, ap, subst, arith}
+use Rattle.std.proofs.Common.{◌≡◌, ◌+◌, ◌∙◌, ℕ, List, length, drop, sym, ap, subst, arith}
 use Rattle.std.specs.List.{All, flat_map}
-use Rattle.std.specs.Option.{option_map}
 use Rattle.std.proofs.lemmas.List.Elements.{All-head, All-tail}
-use Rattle.std.proofs.Math.ListN.{drop_of_length-le}
-use Rattle.ats_tree.specs.Differences.{Hashed, Difference, first_collision}
-use Rattle.ats_commit.specs.Ours.{TreePlace, ours}
+use Rattle.ats_tree.specs.Differences.{first_collision}
+use Rattle.ats_commit.specs.Ours.{ours}
 use Rattle.ats_proof.specs.Value.{Prefix, Proof, present_in, layout_of}
-use Rattle.ats_proof.specs.Reading.{prefix_size, prefix_in, slots_in, lists_place}
-use Rattle.ats_proof.specs.Views.{proof_of}
-use Rattle.ats_proof.proofs.Runs.{length-parts}
 use Rattle.ats_client.specs.Groups.{IsListRight}
 use Rattle.ats_client.specs.Lists.{prefixes_left, presented_of}
 use Rattle.ats_client.specs.Presented.{Presented, presented, presented_from}
@@ -24,10 +19,9 @@ unfolding prefixes_left entries_left
 loop-i-init g c =
     let H = g.H.HashKind.hash in
     let query = c.args.query.now in
-    let proof : Proof = proof_of c.args.proof.now in
-    let bytes = c.args.proof.now.bytes.now in
+    let proof : Proof = c.args.proof.now in
     let all : prefixes_left c.lists-left.result ≡ proof.lists = c.lists-left.ensures in
-    let size : length proof.lists ≡ present_in proof.slots = length-parts prefix_size prefix_in (present_in (slots_in bytes)) (drop (lists_place bytes) bytes) in
+    let size : length proof.lists ≡ present_in proof.slots = c.is_spelled.ensures.spelled.1.prefix_each in
     let here : presented query proof ≡ presented_from proof.dict 0 query proof.slots (prefixes_left c.lists-left.result) =
     ap (λ (l : List Prefix). presented_from proof.dict 0 query proof.slots l) (sym all) in
     record {
@@ -40,7 +34,7 @@ loop-i-init g c =
 
 pub list-requires-clause-right : goal.list-requires-clause-right
 list-requires-clause-right g c =
-    let proof : Proof = proof_of c.args.proof.now in
+    let proof : Proof = c.args.proof.now in
     let i : ℕ = c.loop-i.i in
     let after : List Presented = presented_from proof.dict (i + 1) (drop (i + 1) c.args.query.now) (drop (i + 1) proof.slots) (prefixes_left c.present.new.left) in
     All-head (IsListRight g.H.HashKind.hash (layout_of proof) proof.met) (presented_of c.in-Some.one) after
@@ -50,7 +44,7 @@ pub returns-in-Some-list-clause-clash : goal.returns-in-Some-list-clause-clash
 returns-in-Some-list-clause-clash g c =
     let H = g.H.HashKind.hash in
     let query = c.args.query.now in
-    let proof : Proof = proof_of c.args.proof.now in
+    let proof : Proof = c.args.proof.now in
     let i : ℕ = c.loop-i.i in
     let left : List Presented = presented_from proof.dict i (drop i query) (drop i proof.slots) (prefixes_left c.loop-i.left) in
     let after : List Presented = presented_from proof.dict (i + 1) (drop (i + 1) query) (drop (i + 1) proof.slots) (prefixes_left c.present.new.left) in
@@ -62,7 +56,7 @@ pub loop-i-preserved : goal.loop-i-preserved
 loop-i-preserved g c =
     let H = g.H.HashKind.hash in
     let query = c.args.query.now in
-    let proof : Proof = proof_of c.args.proof.now in
+    let proof : Proof = c.args.proof.now in
     let i : ℕ = c.loop-i.i in
     let left : List Presented = presented_from proof.dict i (drop i query) (drop i proof.slots) (prefixes_left c.loop-i.left) in
     let after : List Presented = presented_from proof.dict (i + 1) (drop (i + 1) query) (drop (i + 1) proof.slots) (prefixes_left c.present.new.left) in

@@ -6,7 +6,6 @@ use Rattle.ats_bound.specs.Lookup.{looked_score}
 use Rattle.ats_proof.specs.SeenDocs.{documents_of, ids_of, doc_leaves_of, sections_of, section_of}
 use Rattle.ats_proof.specs.Value.{TermsSection, Documents, Proof, present_in, items_of_section}
 use Rattle.ats_proof.specs.Ranges.{IsSectionInRange}
-use Rattle.ats_proof.specs.Views.{proof_of}
 use Rattle.ats_client.specs.declared.present_terms.PresentTerm.{PresentTerm}
 use Rattle.ats_client.specs.declared.refusal.Refusal.{Refusal}
 use Rattle.ats_client.specs.Bracketing.{impact_shown}
@@ -30,7 +29,7 @@ no_document j met ids is low none =
 
 pub loop-index-init : goal.loop-index-init
 loop-index-init g c = record {
-  tried = begins g.H.HashKind.hash c.args.query.now (proof_of c.args.proof.now) (documents_of c.args.docs) (ids_of c.args.docs) (doc_leaves_of c.args.docs) (sections_of c.args.docs)
+  tried = begins g.H.HashKind.hash c.args.query.now c.args.proof.now (documents_of c.args.docs) (ids_of c.args.docs) (doc_leaves_of c.args.docs) (sections_of c.args.docs)
       c.args.work.now.marks c.requires.met refl refl c.requires.marks c.requires.free;
   room = refl;
   cost = omega arith;
@@ -39,14 +38,14 @@ loop-index-init g c = record {
 
 pub unreachable-requires : goal.unreachable-requires
 unreachable-requires g c =
-    let proof : Proof = proof_of c.args.proof.now in
+    let proof : Proof = c.args.proof.now in
     let t = c.loop-index.invariant.tried in
     no_document c.loop-index.index proof.met (ids_of c.loop-index.left) t.ids_left (omega (arith, c.loop-index-test.true, c.met-index-end.ensures)) c.in_default.ensures.doc
 
 pub document-requires-clause-each : goal.document-requires-clause-each
 document-requires-clause-each g c =
     let query = c.args.query.now in
-    let proof : Proof = proof_of c.args.proof.now in
+    let proof : Proof = c.args.proof.now in
     let docs : Documents = documents_of c.args.docs in
     let t = c.loop-index.invariant.tried in
     let section : TermsSection = section_of c.in-Some.doc in
@@ -57,25 +56,25 @@ document-requires-clause-each g c =
 
 pub document-requires-clause-spots : goal.document-requires-clause-spots
 document-requires-clause-spots g c =
-    let proof : Proof = proof_of c.args.proof.now in
+    let proof : Proof = c.args.proof.now in
     let docs : Documents = documents_of c.args.docs in
     let section : TermsSection = section_of c.in-Some.doc in
     let at = first_at g.H.HashKind.hash c.args.query.now proof docs docs.sections (sections_of c.loop-index.left) c.loop-index.index section c.loop-index.invariant.tried.sections_left c.in-Some.ensures.section in
-    (at_place IsSectionInRange docs.sections c.loop-index.index section (c.args.proof.now.in_range.shown docs c.requires.docs).sections at).spots
+    (at_place IsSectionInRange docs.sections c.loop-index.index section (c.is_spelled.ensures.range.shown docs c.requires.docs).sections at).spots
 
 pub document-requires-clause-numbers : goal.document-requires-clause-numbers
 document-requires-clause-numbers g c =
-    subst (All (λ (term : PresentTerm). term.number < length c.args.query.now)) (sym c.requires.terms) (kept_within c.args.query.now (proof_of c.args.proof.now) c.requires.slots)
+    subst (All (λ (term : PresentTerm). term.number < length c.args.query.now)) (sym c.requires.terms) (kept_within c.args.query.now c.args.proof.now c.requires.slots)
 
 pub document-requires-clause-room : goal.document-requires-clause-room
 document-requires-clause-room g c =
-    omega (arith, c.requires.room, c.loop-index.invariant.cost, c.next.ensures.cost, c.loop-index-test.true, c.met-index-end.ensures, c.args.proof.now.in_range.ids.few)
+    omega (arith, c.requires.room, c.loop-index.invariant.cost, c.next.ensures.cost, c.loop-index-test.true, c.met-index-end.ensures, c.is_spelled.ensures.range.ids.few)
 
 pub returns-in_err-score-clause-fault : goal.returns-in_err-score-clause-fault
 returns-in_err-score-clause-fault g c =
     let H = g.H.HashKind.hash in
     let query = c.args.query.now in
-    let proof : Proof = proof_of c.args.proof.now in
+    let proof : Proof = c.args.proof.now in
     let one = document_of c.in-Some.doc in
     let refusal : Refusal = c.in_err-score.field-0.0 in
     let numbers : numbers_of c.args.terms.now ≡ present_numbers proof = ap numbers_of c.requires.terms ∙ kept_numbers query proof c.requires.slots in
@@ -103,7 +102,7 @@ pub loop-index-preserved : goal.loop-index-preserved
 loop-index-preserved g c =
     let H = g.H.HashKind.hash in
     let query = c.args.query.now in
-    let proof : Proof = proof_of c.args.proof.now in
+    let proof : Proof = c.args.proof.now in
     let j : ℕ = c.loop-index.index in
     let one = document_of c.in-Some.doc in
     let numbers : numbers_of c.args.terms.now ≡ present_numbers proof = ap numbers_of c.requires.terms ∙ kept_numbers query proof c.requires.slots in
@@ -113,7 +112,7 @@ loop-index-preserved g c =
     record {
       tried = tries H query proof (documents_of c.args.docs) j (ids_of c.loop-index.left) (ids_of c.next.new.self) (doc_leaves_of c.loop-index.left) (doc_leaves_of c.next.new.self)
           (sections_of c.loop-index.left) (sections_of c.next.new.self) c.loop-index.work.marks c.noted.new.work.marks one.doc one.leaf one.section c.in_ok-score.score c.args.threshold
-          c.args.proof.now.in_range.ids.rise c.loop-index.invariant.tried c.in-Some.ensures.doc c.in-Some.ensures.leaf c.in-Some.ensures.section
+          c.is_spelled.ensures.range.ids.rise c.loop-index.invariant.tried c.in-Some.ensures.doc c.in-Some.ensures.leaf c.in-Some.ensures.section
           c.in-Some.ensures.passed_ids c.in-Some.ensures.passed_leaves c.in-Some.ensures.passed_sections right scores c.in_ok-score.ensures.small c.requires.threshold
           c.noted.ensures.marks;
       room = c.noted.ensures.room ∙ c.loop-index.invariant.room;
@@ -130,10 +129,10 @@ loop-index-preserved g c =
 
 pub returns-clause-right : goal.returns-clause-right
 returns-clause-right g c =
-    all_right g.H.HashKind.hash c.args.query.now (proof_of c.args.proof.now) (documents_of c.args.docs) c.loop-index.index (ids_of c.loop-index.left) (doc_leaves_of c.loop-index.left)
+    all_right g.H.HashKind.hash c.args.query.now c.args.proof.now (documents_of c.args.docs) c.loop-index.index (ids_of c.loop-index.left) (doc_leaves_of c.loop-index.left)
     (sections_of c.loop-index.left) c.loop-index.work.marks c.requires.docs (omega (arith, c.loop-index-test.false, c.met-index-end.ensures)) c.loop-index.invariant.tried
 
 pub returns-clause-marks : goal.returns-clause-marks
 returns-clause-marks g c =
-    all_marks g.H.HashKind.hash c.args.query.now (proof_of c.args.proof.now) (documents_of c.args.docs) c.loop-index.index (ids_of c.loop-index.left) (doc_leaves_of c.loop-index.left)
+    all_marks g.H.HashKind.hash c.args.query.now c.args.proof.now (documents_of c.args.docs) c.loop-index.index (ids_of c.loop-index.left) (doc_leaves_of c.loop-index.left)
     (sections_of c.loop-index.left) c.loop-index.work.marks c.requires.docs (omega (arith, c.loop-index-test.false, c.met-index-end.ensures)) c.loop-index.invariant.tried

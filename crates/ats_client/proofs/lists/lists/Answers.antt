@@ -1,11 +1,8 @@
-use Rattle.std.proofs.Common.{◌≡◌, ◌<◌, ◌≤◌, ◌+◌, ◌++◌, ◌∙◌, ℕ, List, [], ◌∷◌, length, drop, replicate, sym, ap, subst, arith}
+use Rattle.std.proofs.Common.{◌≡◌, ◌<◌, ◌≤◌, ◌+◌, ◌++◌, ◌∙◌, ℕ, List, [], ◌∷◌, length, replicate, sym, ap, subst, arith}
 use Rattle.std.specs.List.{sum_by}
 use Rattle.ats_bound.specs.Work.{Marked, zero_mark}
 use Rattle.ats_proof.specs.Value.{ShownEntry, Prefix, present_in, items_of_prefix}
 use Rattle.ats_proof.specs.declared.dict.DictView.{DictView}
-use Rattle.ats_proof.specs.Reading.{prefix_size, prefix_in, slots_in, lists_place}
-use Rattle.ats_proof.specs.Views.{proof_of}
-use Rattle.ats_proof.proofs.Runs.{length-parts}
 use Rattle.ats_client.specs.Lists.{prefixes_left, presented_of}
 use Rattle.ats_client.specs.Seen.{entries_left}
 use Rattle.ats_dict.specs.declared.header.Header.{Header}
@@ -23,10 +20,9 @@ use Rattle.ats_client.proofs.lists.lists.Goals.{in-Some+in_ok-threshold, in_defa
 pub loop-i-init : goal.loop-i-init
 unfolding prefixes_left entries_left
 loop-i-init g c =
-    let proof = proof_of c.args.proof.now in
-    let bytes = c.args.proof.now.bytes.now in
+    let proof = c.args.proof.now in
     let all : prefixes_left c.lists-left.result ≡ proof.lists = c.lists-left.ensures in
-    let size : length proof.lists ≡ present_in proof.slots = length-parts prefix_size prefix_in (present_in (slots_in bytes)) (drop (lists_place bytes) bytes) in
+    let size : length proof.lists ≡ present_in proof.slots = c.is_spelled.ensures.spelled.1.prefix_each in
     let enough : present_in proof.slots ≡ length (prefixes_left c.lists-left.result) = sym (ap (λ (l : List Prefix). length l) all ∙ size) in
     let zeros : c.begin.new.self.marks ≡ replicate (length proof.met) zero_mark = ap (λ (w : Marked). w.marks) c.begin.ensures.marks ∙ ap (λ (n : ℕ). replicate n zero_mark) c.met.ensures in
     record {
@@ -47,13 +43,13 @@ loop-i-init g c =
 
 pub list-requires-clause-notes : goal.list-requires-clause-notes
 list-requires-clause-notes g c =
-    let proof = proof_of c.args.proof.now in
+    let proof = c.args.proof.now in
     let p = c.loop-i.invariant.passed in
     (notes_of proof.header.documents p.before, subst (λ (k : ℕ). AreNotes (length proof.met) (notes_of proof.header.documents p.before) (k + 1) [] c.loop-i.work.marks) (sym c.in-Some.ensures.number) p.notes)
 
 pub returns-in_err-threshold-clause-most : goal.returns-in_err-threshold-clause-most
 returns-in_err-threshold-clause-most g c =
-    let proof = proof_of c.args.proof.now in
+    let proof = c.args.proof.now in
     let i = c.loop-i.i in
     let one : Presented = presented_of c.in-Some.one in
     let low : i < length proof.slots = omega (arith, c.loop-i-test.true, c.len-i-end.ensures.value, c.requires.each) in
@@ -70,14 +66,14 @@ pub loop-i-preserved : goal.loop-i-preserved
 loop-i-preserved g c =
     let H = g.H.HashKind.hash in
     let query = c.args.query.now in
-    let proof = proof_of c.args.proof.now in
+    let proof = c.args.proof.now in
     let i : ℕ = c.loop-i.i in
     let left : List Prefix = prefixes_left c.loop-i.left in
     let after : List Prefix = prefixes_left c.present.new.left in
     let p = c.loop-i.invariant.passed in
     let low : i < length proof.slots = omega (arith, c.loop-i-test.true, c.len-i-end.ensures.value, c.requires.each) in
     let here : c.loop-i.walk.place ≤ (slot_at proof.slots i).index = c.loop-i.invariant.before i (omega arith) low in
-    let rise = c.args.proof.now.in_range.spots.rise in
+    let rise = c.is_spelled.ensures.range.spots.rise in
     elim c.match-present.branch [
       | in-Some+in_ok-threshold w ↦
           let one : Presented = presented_of w.in-Some.one in
@@ -120,23 +116,23 @@ loop-i-preserved g c =
 
 pub returns-clause-right : goal.returns-clause-right
 returns-clause-right g c =
-    (done g.H.HashKind.hash c.args.query.now (proof_of c.args.proof.now) c.loop-i.i (prefixes_left c.loop-i.left) c.loop-i.terms c.loop-i.threshold c.loop-i.work.marks c.loop-i.invariant.passed
+    (done g.H.HashKind.hash c.args.query.now c.args.proof.now c.loop-i.i (prefixes_left c.loop-i.left) c.loop-i.terms c.loop-i.threshold c.loop-i.work.marks c.loop-i.invariant.passed
     (omega (arith, c.len-i-end.ensures.value)) (omega (arith, c.len-i-end.ensures.value, c.len-i-end.ensures.query.few))).right
 
 pub returns-clause-marks : goal.returns-clause-marks
 returns-clause-marks g c =
-    marks_done g.H.HashKind.hash c.args.query.now (proof_of c.args.proof.now) c.loop-i.terms c.loop-i.threshold c.loop-i.work.marks c.args.proof.now.in_range.ids.rise
-    (done g.H.HashKind.hash c.args.query.now (proof_of c.args.proof.now) c.loop-i.i (prefixes_left c.loop-i.left) c.loop-i.terms c.loop-i.threshold c.loop-i.work.marks c.loop-i.invariant.passed
+    marks_done g.H.HashKind.hash c.args.query.now c.args.proof.now c.loop-i.terms c.loop-i.threshold c.loop-i.work.marks c.is_spelled.ensures.range.ids.rise
+    (done g.H.HashKind.hash c.args.query.now c.args.proof.now c.loop-i.i (prefixes_left c.loop-i.left) c.loop-i.terms c.loop-i.threshold c.loop-i.work.marks c.loop-i.invariant.passed
     (omega (arith, c.len-i-end.ensures.value)) (omega (arith, c.len-i-end.ensures.value, c.len-i-end.ensures.query.few)))
 
 pub returns-clause-free : goal.returns-clause-free
 returns-clause-free g c =
-    free_done g.H.HashKind.hash c.args.query.now (proof_of c.args.proof.now) c.loop-i.terms c.loop-i.threshold c.loop-i.work.marks
-    (done g.H.HashKind.hash c.args.query.now (proof_of c.args.proof.now) c.loop-i.i (prefixes_left c.loop-i.left) c.loop-i.terms c.loop-i.threshold c.loop-i.work.marks c.loop-i.invariant.passed
+    free_done g.H.HashKind.hash c.args.query.now c.args.proof.now c.loop-i.terms c.loop-i.threshold c.loop-i.work.marks
+    (done g.H.HashKind.hash c.args.query.now c.args.proof.now c.loop-i.i (prefixes_left c.loop-i.left) c.loop-i.terms c.loop-i.threshold c.loop-i.work.marks c.loop-i.invariant.passed
     (omega (arith, c.len-i-end.ensures.value)) (omega (arith, c.len-i-end.ensures.value, c.len-i-end.ensures.query.few)))
 
 pub returns-clause-threshold : goal.returns-clause-threshold
 returns-clause-threshold g c =
-    rests_done g.H.HashKind.hash c.args.query.now (proof_of c.args.proof.now) c.loop-i.terms c.loop-i.threshold c.loop-i.work.marks
-    (done g.H.HashKind.hash c.args.query.now (proof_of c.args.proof.now) c.loop-i.i (prefixes_left c.loop-i.left) c.loop-i.terms c.loop-i.threshold c.loop-i.work.marks c.loop-i.invariant.passed
+    rests_done g.H.HashKind.hash c.args.query.now c.args.proof.now c.loop-i.terms c.loop-i.threshold c.loop-i.work.marks
+    (done g.H.HashKind.hash c.args.query.now c.args.proof.now c.loop-i.i (prefixes_left c.loop-i.left) c.loop-i.terms c.loop-i.threshold c.loop-i.work.marks c.loop-i.invariant.passed
     (omega (arith, c.len-i-end.ensures.value)) (omega (arith, c.len-i-end.ensures.value, c.len-i-end.ensures.query.few)))

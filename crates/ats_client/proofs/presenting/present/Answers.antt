@@ -2,7 +2,6 @@ use Rattle.std.proofs.Common.{◌≡◌, ◌∙◌, List, [], length, get_or, sl
 use Rattle.std.proofs.lemmas.Bool.{not-true, not-false}
 use Rattle.std.proofs.lemmas.Option.{slice_get-get_or}
 use Rattle.ats_proof.specs.Value.{ShownEntry, Prefix}
-use Rattle.ats_proof.specs.Views.{proof_of}
 use Rattle.ats_client.specs.Seen.{shown_of}
 use Rattle.ats_client.specs.Lists.{prefix_of, prefixes_left}
 use Rattle.ats_client.proofs.Counts.{taken}
@@ -13,30 +12,30 @@ use Rattle.ats_client.proofs.presenting.present.Goals as goal
 pub returns-then-not-slot-clause-none : goal.returns-then-not-slot-clause-none
 returns-then-not-slot-clause-none c =
     let query = c.args.query.now in
-    let proof = proof_of c.args.proof.now in
+    let proof = c.args.proof.now in
     none_present proof.dict c.args.i query proof.slots (prefixes_left c.args.left.now) (get_or query c.args.i ([], 0)) c.slot-slot.result
     (slice_get-get_or query c.args.i ([], 0) c.requires.inside) c.slot-slot.ensures.slot (not-true c.slot-slot.result.present c.if-not-slot.true)
 
 pub returns-then-not-slot-clause-enough : goal.returns-then-not-slot-clause-enough
 returns-then-not-slot-clause-enough c =
-    fewer_absent (proof_of c.args.proof.now).slots c.args.i (length (prefixes_left c.args.left.now)) c.slot-slot.result c.slot-slot.ensures.slot
+    fewer_absent c.args.proof.now.slots c.args.i (length (prefixes_left c.args.left.now)) c.slot-slot.result c.slot-slot.ensures.slot
     (not-true c.slot-slot.result.present c.if-not-slot.true) c.requires.enough
 
 pub unreachable-requires : goal.unreachable-requires
 unreachable-requires c =
-    let proof = proof_of c.args.proof.now in
+    let proof = c.args.proof.now in
     let none : None ≡ slice_get proof.dict c.slot-slot.result.index = c.in_default.ensures.leaf ∙ ap (λ (dict : List ShownEntry). slice_get dict c.slot-slot.result.index) c.requires.dict in
     has_leaf c.args.query.now proof c.args.i c.slot-slot.result c.requires.right c.slot-slot.ensures.slot (not-false c.slot-slot.result.present c.if-not-slot.false) none
 
 pub unreachable-requires-in_default-next_list : goal.unreachable-requires-in_default-next_list
 unreachable-requires-in_default-next_list c =
-    has_prefix (proof_of c.args.proof.now).slots c.args.i (prefixes_left c.args.left.now) c.slot-slot.result c.slot-slot.ensures.slot
+    has_prefix c.args.proof.now.slots c.args.i (prefixes_left c.args.left.now) c.slot-slot.result c.slot-slot.ensures.slot
     (not-false c.slot-slot.result.present c.if-not-slot.false) c.requires.enough c.in_default-next_list.ensures.first
 
 pub returns-clause-some : goal.returns-clause-some
 returns-clause-some c =
     let query = c.args.query.now in
-    let proof = proof_of c.args.proof.now in
+    let proof = c.args.proof.now in
     let i = c.args.i in
     let left : List Prefix = prefixes_left c.args.left.now in
     let slot = c.slot-slot.result in
@@ -49,7 +48,7 @@ returns-clause-some c =
 
 pub returns-clause-enough : goal.returns-clause-enough
 returns-clause-enough c =
-    prefixes_fewer (proof_of c.args.proof.now).slots c.args.i (prefixes_left c.args.left.now) c.slot-slot.result c.slot-slot.ensures.slot
+    prefixes_fewer c.args.proof.now.slots c.args.i (prefixes_left c.args.left.now) c.slot-slot.result c.slot-slot.ensures.slot
     (not-false c.slot-slot.result.present c.if-not-slot.false) c.requires.enough
     ∙ ap (λ (more : List Prefix). length more) (sym c.next_list.ensures.passed)
 
@@ -59,9 +58,9 @@ returns-clause-taken c =
 
 pub returns-clause-before : goal.returns-clause-before
 returns-clause-before c low =
-    omega (arith, c.in-Some.ensures.place, index_is (proof_of c.args.proof.now).slots c.args.i c.slot-slot.result c.slot-slot.ensures.slot)
+    omega (arith, c.in-Some.ensures.place, index_is c.args.proof.now.slots c.args.i c.slot-slot.result c.slot-slot.ensures.slot)
 
 pub returns-clause-most : goal.returns-clause-most
 returns-clause-most c low =
-    let at = index_is (proof_of c.args.proof.now).slots c.args.i c.slot-slot.result c.slot-slot.ensures.slot in
+    let at = index_is c.args.proof.now.slots c.args.i c.slot-slot.result c.slot-slot.ensures.slot in
     omega (arith, c.in-Some.ensures.most (omega (arith, at, low)), c.next_list.ensures.cost, c.slot-slot.ensures.cost)

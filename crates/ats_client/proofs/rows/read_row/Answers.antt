@@ -2,7 +2,6 @@ use Rattle.std.proofs.Common.{◌≡◌, ◌+◌, ◌<◌, ℕ, true, false, nat
 use Rattle.std.specs.List.{list_any}
 use Rattle.ats_bound.specs.declared.work.Mark.{Mark}
 use Rattle.ats_bound.specs.Work.{Marked, mark_at}
-use Rattle.ats_proof.specs.Views.{proof_of}
 use Rattle.ats_proof.specs.Value.{Proof}
 use Rattle.ats_client.specs.Marked.{AreMarks, AreNoted}
 use Rattle.ats_client.proofs.Named.{any_none, any_some, out_at, again_at, names_more}
@@ -11,12 +10,12 @@ use Rattle.ats_client.proofs.rows.read_row.Goals as goal
 
 pub returns-then-index-met-clause-fault : goal.returns-then-index-met-clause-fault
 returns-then-index-met-clause-fault c =
-    let proof : Proof = proof_of c.args.proof.now in
+    let proof : Proof = c.args.proof.now in
     out_at (length proof.met) proof.answer c.args.row c.answer-index.result c.answer-index.ensures.row c.requires.before (omega (arith, c.met.ensures, c.if-index-met.true))
 
 pub returns-then-mark-clause-fault : goal.returns-then-mark-clause-fault
 returns-then-mark-clause-fault c =
-    let proof : Proof = proof_of c.args.proof.now in
+    let proof : Proof = c.args.proof.now in
     let index : ℕ = c.answer-index.result in
     let low : index < length proof.met = omega (arith, c.met.ensures, c.if-index-met.false) in
     let seen : list_any (λ x. nat_eq x index) (take c.args.row proof.answer) ≡ true =
@@ -25,7 +24,7 @@ returns-then-mark-clause-fault c =
 
 pub returns-clause-names : goal.returns-clause-names
 returns-clause-names c =
-    let proof : Proof = proof_of c.args.proof.now in
+    let proof : Proof = c.args.proof.now in
     let index : ℕ = c.answer-index.result in
     let low : index < length proof.met = omega (arith, c.met.ensures, c.if-index-met.false) in
     let unseen : list_any (λ x. nat_eq x index) (take c.args.row proof.answer) ≡ false =
@@ -34,7 +33,7 @@ returns-clause-names c =
 
 pub returns-clause-noted : goal.returns-clause-noted
 returns-clause-noted c =
-    let proof : Proof = proof_of c.args.proof.now in
+    let proof : Proof = c.args.proof.now in
     let index : ℕ = c.answer-index.result in
     let marks : List Mark = c.args.work.now.marks in
     let mark : Mark = c.get-mark.result in
@@ -47,7 +46,7 @@ returns-clause-noted c =
 
 pub returns-clause-marks : goal.returns-clause-marks
 returns-clause-marks c bounds lanes are =
-    let proof : Proof = proof_of c.args.proof.now in
+    let proof : Proof = c.args.proof.now in
     let index : ℕ = c.answer-index.result in
     let marks : List Mark = c.args.work.now.marks in
     let low : index < length marks = omega (arith, c.met.ensures, c.if-index-met.false, c.requires.size) in

@@ -3,7 +3,6 @@ use Rattle.std.proofs.lemmas.Bool.{false≢true}
 use Rattle.std.proofs.lemmas.Bool.Decides.{nat_tests}
 use Rattle.ats_bound.specs.declared.work.Mark.{Mark}
 use Rattle.ats_proof.specs.Value.{Proof}
-use Rattle.ats_proof.specs.Views.{proof_of}
 use Rattle.ats_client.specs.Bounds.{lower_before, AreOthersWithin}
 use Rattle.ats_client.proofs.Bounding.{below, settles, says_whole, says_falling, says_unmet, says_others}
 use Rattle.ats_client.proofs.settled.settled.Goals as goal
@@ -20,15 +19,15 @@ whole_as n r m n' r' m' threshold same_n same_r same_m whole = elim whole [
 
 pub last_lower-requires-clause-below : goal.last_lower-requires-clause-below
 last_lower-requires-clause-below c =
-    below c.requires.marks.0 c.requires.marks.1 (proof_of c.args.proof.now).met c.args.work.now.marks c.args.threshold c.requires.marks.2 c.requires.marks.3 c.requires.small
+    below c.requires.marks.0 c.requires.marks.1 c.args.proof.now.met c.args.work.now.marks c.args.threshold c.requires.marks.2 c.requires.marks.3 c.requires.small
 
 pub others_are_within-requires-clause-below : goal.others_are_within-requires-clause-below
 others_are_within-requires-clause-below c =
-    below c.requires.marks.0 c.requires.marks.1 (proof_of c.args.proof.now).met c.args.work.now.marks c.args.threshold c.requires.marks.2 c.requires.marks.3 c.requires.small
+    below c.requires.marks.0 c.requires.marks.1 c.args.proof.now.met c.args.work.now.marks c.args.threshold c.requires.marks.2 c.requires.marks.3 c.requires.small
 
 pub returns-then-not-is_whole-clause-settled : goal.returns-then-not-is_whole-clause-settled
 returns-then-not-is_whole-clause-settled c bounds lanes are rests =
-    let proof : Proof = proof_of c.args.proof.now in (
+    let proof : Proof = c.args.proof.now in (
       λ seen. absurd (false≢true seen),
       λ settled. absurd (false≢true (sym c.if-not-is_whole.true ∙ c.is_whole.ensures.1 (
         omega (arith, settled.most, c.answers.ensures, c.get.ensures.value),
@@ -39,14 +38,14 @@ returns-then-not-is_whole-clause-settled c bounds lanes are rests =
 
 pub returns-in-None-clause-settled : goal.returns-in-None-clause-settled
 returns-in-None-clause-settled c bounds lanes are rests =
-    let proof : Proof = proof_of c.args.proof.now in (
+    let proof : Proof = c.args.proof.now in (
       λ seen. absurd (false≢true seen),
       λ settled. absurd (c.in-None.ensures.falling (says_falling bounds lanes proof.met c.args.work.now.marks c.args.threshold are rests proof.answer c.requires.rows c.requires.noted c.requires.small c.args.top settled)),
     )
 
 pub returns-then-threshold-score-clause-settled : goal.returns-then-threshold-score-clause-settled
 returns-then-threshold-score-clause-settled c bounds lanes are rests =
-    let proof : Proof = proof_of c.args.proof.now in
+    let proof : Proof = c.args.proof.now in
     let marks : List Mark = c.args.work.now.marks in
     let score : c.in-Some.score ≡ lower_before marks proof.answer (length proof.answer) = c.in-Some.ensures.falling.1 in
     let whole = c.is_whole.ensures.0 c.if-not-is_whole.false in (
@@ -62,7 +61,7 @@ returns-then-threshold-score-clause-settled c bounds lanes are rests =
 
 pub returns-else-threshold-score-clause-settled : goal.returns-else-threshold-score-clause-settled
 returns-else-threshold-score-clause-settled c bounds lanes are rests =
-    let proof : Proof = proof_of c.args.proof.now in
+    let proof : Proof = c.args.proof.now in
     let marks : List Mark = c.args.work.now.marks in
     let score : c.in-Some.score ≡ lower_before marks proof.answer (length proof.answer) = c.in-Some.ensures.falling.1 in (
       λ seen.

@@ -1,5 +1,4 @@
 use Rattle.std.proofs.Common.{◌≡◌, ◌+◌, ◌*◌, ◌<◌, ◌≤◌, ℕ, length}
-use Rattle.ats_proof.specs.Views.{proof_of}
 use Rattle.ats_client.specs.Groups.{IsSlotRight}
 use Rattle.ats_client.specs.Seen.{entries_left}
 use Rattle.ats_client.proofs.Rising.{IsBefore}
@@ -7,9 +6,9 @@ use Rattle.ats_client.proofs.slots.slots.Given as goal
 
 abbrev pub invariant-loop-i : goal.invariant-loop-i
 invariant-loop-i l = record {
-  dict : entries_left l.walk.all ≡ (proof_of l.proof).dict;
-  right : (i : ℕ) → i < l.i → IsSlotRight l.query (proof_of l.proof) i;
+  dict : entries_left l.walk.all ≡ l.proof.dict;
+  right : (i : ℕ) → i < l.i → IsSlotRight l.query l.proof i;
   cost : l.steps ≤ l.fn.steps + l.i * 262144;
-  before : IsBefore l.walk.place (proof_of l.proof).slots l.i;
-  most : l.steps + length (entries_left l.walk.left) ≤ l.fn.steps + length (proof_of l.proof).dict + 2 * l.i;
+  before : IsBefore l.walk.place l.proof.slots l.i;
+  most : l.steps + length (entries_left l.walk.left) ≤ l.fn.steps + length l.proof.dict + 2 * l.i;
 }

@@ -1,5 +1,4 @@
 use Rattle.std.proofs.Common.{◌≡◌, ◌*◌, ℕ, List}
-use Rattle.ats_proof.specs.Views.{proof_of}
 use Rattle.ats_client.specs.Rows.{IsLeft}
 use Rattle.ats_client.proofs.AnswerRows.{rows_before}
 use Rattle.ats_client.proofs.verifying.answer_rows.Given as goal
@@ -7,5 +6,5 @@ use Rattle.ats_client.proofs.verifying.answer_rows.Given as goal
 abbrev pub invariant-loop-i : goal.invariant-loop-i
 invariant-loop-i l = record {
   steps : l.steps ≡ 3 * l.i;
-  rows : (query : List (List ℕ × ℕ)) → IsLeft query (proof_of l.proof) l.work.marks l.threshold → l.rows ≡ rows_before query (proof_of l.proof) l.i;
+  rows : (query : List (List ℕ × ℕ)) → IsLeft query l.proof l.work.marks l.threshold → l.rows ≡ rows_before query l.proof l.i;
 }

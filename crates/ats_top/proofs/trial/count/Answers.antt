@@ -3,7 +3,6 @@ use Rattle.std.specs.Int.{from_bool}
 use Rattle.std.specs.Result.{is_ok}
 use Rattle.ats_commit.specs.Root.{root_of}
 use Rattle.ats_proof.specs.Value.{Proof, IsProof}
-use Rattle.ats_proof.specs.Views.{proof_of}
 use Rattle.ats_proof.proofs.Unique.{one_value}
 use Rattle.ats_client.specs.Accepts.{Accepts}
 use Rattle.ats_honest.specs.Honest.{IsHonest, IsProved, length_of}
@@ -22,7 +21,7 @@ returns-clause-counted g c =
     let query = c.args.query.now in
     let algorithm = c.args.algorithm in
     let bytes = c.as_slice-bytes.result.now in
-    let proof : Proof = proof_of c.in-Ok.proof in
+    let proof : Proof = c.in-Ok.proof in
     let says : IsProof bytes proof = c.in-Ok.ensures.spelled in
     let at : IsProved H archive query c.args.top algorithm bytes =
     subst (λ (b : List ℕ). IsProved H archive query c.args.top algorithm b) (sym c.as_slice-bytes.ensures) c.in_ok-bytes.ensures.ok in
@@ -62,7 +61,7 @@ returns-clause-small g c =
     let query = c.args.query.now in
     let algorithm = c.args.algorithm in
     let bytes = c.as_slice-bytes.result.now in
-    let proof : Proof = proof_of c.in-Ok.proof in
+    let proof : Proof = c.in-Ok.proof in
     let says : IsProof bytes proof = c.in-Ok.ensures.spelled in
     let at : IsProved H archive query c.args.top algorithm bytes =
     subst (λ (b : List ℕ). IsProved H archive query c.args.top algorithm b) (sym c.as_slice-bytes.ensures) c.in_ok-bytes.ensures.ok in

@@ -4,7 +4,6 @@ use Rattle.ats_proof.specs.Parts.{number_in, parts_in, total_size}
 use Rattle.ats_proof.specs.Value.{present_in, items_of_prefix, items_of_documents}
 use Rattle.ats_proof.specs.Reading.{entry_size, entry_in, digest_size, digest_in, id_size, id_in, slot_size, slot_in, prefix_size, prefix_in, is_tra, slots_in, terms_in, met_in, dict_digests_place, slots_place, met_place, lists_place, answer_place, documents_in, proof_in}
 use Rattle.ats_proof.proofs.Runs.{length-parts}
-use Rattle.ats_proof.proofs.InRange.{in_range}
 use Rattle.ats_proof.proofs.view.ProofView.of.Goals as goal
 
 pub split_at-requires : goal.split_at-requires
@@ -113,13 +112,11 @@ invariant_of-result c =
     let l4 = length-parts id_size id_in (met_in bytes) (drop 4 ids) in
     let l5 = length-parts id_size id_in (number_in 2 fifth) (drop 2 fifth) in
     record {
-      placed = record {
-        room = c.are_a_proof.ensures.room;
-        same = tra;
-        first = begun;
-        rest = ended;
-        docs_at = ap₂ (λ (m n : ℕ). m + n) begun.lists size;
-        counted = omega (arith, dict, digests, rows, lists, docs, l1, l2, l3, l4, l5, begun.terms, begun.met, c.from-dict.ensures, c.from-digests.ensures, c.from-rows.ensures, c.from.ensures, c.from-2.ensures);
-      };
-      in_range = in_range bytes (proof_in bytes) c.are_a_proof.ensures.proof;
+      room = c.are_a_proof.ensures.room;
+      same = tra;
+      first = begun;
+      rest = ended;
+      docs_at = ap₂ (λ (m n : ℕ). m + n) begun.lists size;
+      counted = omega (arith, dict, digests, rows, lists, docs, l1, l2, l3, l4, l5, begun.terms, begun.met, c.from-dict.ensures, c.from-digests.ensures, c.from-rows.ensures, c.from.ensures, c.from-2.ensures);
+      spelled = c.are_a_proof.ensures.proof;
     }

@@ -3,7 +3,6 @@ use Rattle.std.specs.List.{All}
 use Rattle.std.proofs.lemmas.List.Elements.{All-cons}
 use Rattle.ats_lists.specs.declared.entry.Entry.{Entry}
 use Rattle.ats_proof.specs.SeenLists.{list_of}
-use Rattle.ats_proof.specs.Views.{proof_of}
 use Rattle.ats_reader_tests.proofs.proof.passing.reveal.Goals as goal
 
 abbrev IsNamed : ℕ → Option Entry → Type 0
@@ -21,5 +20,5 @@ both_named m (e ∷ f ∷ g ∷ es) a b two first second low high = absurd (omeg
 
 pub revealed-requires : goal.revealed-requires
 revealed-requires c =
-    both_named (length (proof_of c.args.view.now).met) (list_of c.args.list.now).entries c.args.first c.args.second
+    both_named (length c.args.view.now.met) (list_of c.args.list.now).entries c.args.first c.args.second
     c.requires.two c.requires.first c.requires.second c.requires.first_met c.requires.second_met
