@@ -18,19 +18,25 @@ use ats_hash::HashKind;
 /// Where documents are shown the archive has one, since a tree with no leaf is never rebuilt.
 /// So it is with whatever proof the bytes of an honest one spell: bytes never tell of a collection with no document.
 pub fn honest_proofs_are_accepted<H: HashKind>()
-    ensures proof { (archive : Archive) (query : List (List ℕ × ℕ)) (r : ℕ) (algorithm : Algorithm) (proof : Proof) → (algorithm ≡ Tra → 1 ≤ length archive.texts)
+    ensures proof { (archive : Archive) (query : List (List ℕ × ℕ)) (r : ℕ) (algorithm : Algorithm) (proof : Proof)
+        → (algorithm ≡ Tra → 1 ≤ length archive.texts)
         → IsHonest H.hash archive query r algorithm proof → Accepts H.hash (root_of H.hash archive) query r proof }
     ensures bytes { (archive : Archive) (query : List (List ℕ × ℕ)) (r : ℕ) (algorithm : Algorithm) (bytes : List ℕ)
-        → IsProved H.hash archive query r algorithm bytes → (proof : Proof) → IsProof bytes proof → Accepts H.hash (root_of H.hash archive) query r proof }
+        → IsProved H.hash archive query r algorithm bytes
+        → (proof : Proof) → IsProof bytes proof → Accepts H.hash (root_of H.hash archive) query r proof }
 {}
 
 /// What is hashed from an honest proof by either algorithm is the archive's own, so that no string of the proof
 /// clashes with one of the archive. So it is with whatever proof the bytes of an honest one spell.
 pub fn honest_proofs_have_no_clash<H: HashKind>()
-    ensures ours { (archive : Archive) (query : List (List ℕ × ℕ)) (r : ℕ) (algorithm : Algorithm) (proof : Proof) → (algorithm ≡ Tra → 1 ≤ length archive.texts)
-        → IsHonest H.hash archive query r algorithm proof → All (IsOurs (ours H.hash archive query)) (strings_of H.hash query proof) }
-    ensures none { (archive : Archive) (query : List (List ℕ × ℕ)) (r : ℕ) (algorithm : Algorithm) (proof : Proof) → (algorithm ≡ Tra → 1 ≤ length archive.texts)
+    ensures ours { (archive : Archive) (query : List (List ℕ × ℕ)) (r : ℕ) (algorithm : Algorithm) (proof : Proof)
+        → (algorithm ≡ Tra → 1 ≤ length archive.texts)
+        → IsHonest H.hash archive query r algorithm proof
+        → All (IsOurs (ours H.hash archive query)) (strings_of H.hash query proof) }
+    ensures none { (archive : Archive) (query : List (List ℕ × ℕ)) (r : ℕ) (algorithm : Algorithm) (proof : Proof)
+        → (algorithm ≡ Tra → 1 ≤ length archive.texts)
         → IsHonest H.hash archive query r algorithm proof → extract H.hash archive query proof ≡ None }
     ensures bytes { (archive : Archive) (query : List (List ℕ × ℕ)) (r : ℕ) (algorithm : Algorithm) (bytes : List ℕ)
-        → IsProved H.hash archive query r algorithm bytes → (proof : Proof) → IsProof bytes proof → extract H.hash archive query proof ≡ None }
+        → IsProved H.hash archive query r algorithm bytes
+        → (proof : Proof) → IsProof bytes proof → extract H.hash archive query proof ≡ None }
 {}

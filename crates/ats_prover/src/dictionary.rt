@@ -49,7 +49,8 @@ fn write_leaves(
     requires within { All (λ p. p < length dictionary.now + 2) positions.now }
     requires few { length positions.now ≤ 64 }
     requires room { writer.old.asked ≤ 2 ^ 60 }
-    ensures fields { OnOk result (writer.new ≡ put writer.old (counted 2 entry_fields (map (shown_entry dictionary.now) positions.now))) }
+    ensures fields { OnOk result
+        (writer.new ≡ put writer.old (counted 2 entry_fields (map (shown_entry dictionary.now) positions.now))) }
     ensures size { OnOk result (writer.new.asked ≤ writer.old.asked + 2 ^ 13) }
 {
     writer.count16(positions.len() as u16)?;
@@ -72,7 +73,8 @@ fn write_section<H: HashKind>(
     requires within { All (λ p. p < length dictionary.now + 2) positions.now }
     requires few { length positions.now ≤ 64 }
     requires room { writer.old.asked ≤ 2 ^ 59 }
-    ensures fields { OnOk result (writer.new ≡ put writer.old (counted 2 entry_fields (map (shown_entry dictionary.now) positions.now)
+    ensures fields { OnOk result
+        (writer.new ≡ put writer.old (counted 2 entry_fields (map (shown_entry dictionary.now) positions.now)
         ++ counted 2 digest_fields (elided_digests H.hash (dict_leaves dictionary.now) positions.now))) }
     ensures size { OnOk result (writer.new.asked ≤ writer.old.asked + 2 ^ 23) }
 {
@@ -99,7 +101,8 @@ pub(crate) fn write_terms<H: HashKind>(
     requires few { length positions.now ≤ 64 }
     requires terms { length spots.now ≤ 32 }
     requires room { writer.old.asked ≤ 2 ^ 58 }
-    ensures fields { OnOk result (writer.new ≡ put writer.old (counted 2 entry_fields (map (shown_entry dictionary.now) positions.now)
+    ensures fields { OnOk result
+        (writer.new ≡ put writer.old (counted 2 entry_fields (map (shown_entry dictionary.now) positions.now)
         ++ counted 2 digest_fields (elided_digests H.hash (dict_leaves dictionary.now) positions.now)
         ++ flat_map slot_fields (map (slot_of positions.now) spots.now))) }
     ensures size { OnOk result (writer.new.asked ≤ writer.old.asked + 2 ^ 24) }

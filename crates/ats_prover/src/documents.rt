@@ -31,8 +31,10 @@ fn write_leaves<H: HashKind>(
     requires few { length met.now ≤ 65536 }
     requires started { IsStarted writer.old }
     requires room { writer.old.asked ≤ 2 ^ 60 }
-    ensures fields { OnOk result (writer.new ≡ put writer.old (flat_map doc_fields (map (document_leaf H.hash index.now.texts) met.now))) }
-    ensures small { OnOk result (All (λ (leaf : Leaf). leaf.leaves < 2 ^ 32) (map (document_leaf H.hash index.now.texts) met.now)) }
+    ensures fields { OnOk result
+        (writer.new ≡ put writer.old (flat_map doc_fields (map (document_leaf H.hash index.now.texts) met.now))) }
+    ensures small { OnOk result
+        (All (λ (leaf : Leaf). leaf.leaves < 2 ^ 32) (map (document_leaf H.hash index.now.texts) met.now)) }
     ensures size { OnOk result (writer.new.asked ≤ writer.old.asked + 2 ^ 22) }
 {
     for doc in met {
@@ -55,9 +57,11 @@ fn write_tree<H: HashKind>(
     requires few { length met.now ≤ 65536 }
     requires started { IsStarted writer.old }
     requires room { writer.old.asked ≤ 2 ^ 59 }
-    ensures fields { OnOk result (writer.new ≡ put writer.old (flat_map doc_fields (map (document_leaf H.hash index.now.texts) met.now)
+    ensures fields { OnOk result
+        (writer.new ≡ put writer.old (flat_map doc_fields (map (document_leaf H.hash index.now.texts) met.now)
         ++ counted 4 digest_fields (elided_digests H.hash (documents_of H.hash index.now.texts) met.now))) }
-    ensures small { OnOk result (All (λ (leaf : Leaf). leaf.leaves < 2 ^ 32) (map (document_leaf H.hash index.now.texts) met.now)) }
+    ensures small { OnOk result
+        (All (λ (leaf : Leaf). leaf.leaves < 2 ^ 32) (map (document_leaf H.hash index.now.texts) met.now)) }
     ensures few { OnOk result (length index.now.texts ≤ 65536) }
     ensures size { OnOk result (writer.new.asked ≤ writer.old.asked + 2 ^ 23) }
 {
@@ -83,7 +87,8 @@ fn write_sections<H: HashKind>(
     requires few { length met.now ≤ 65536 }
     requires started { IsStarted writer.old }
     requires room { writer.old.asked ≤ 2 ^ 57 }
-    ensures written { OnOk result (AreSectionsWritten H.hash index.now.texts present.now met.now writer.old writer.new) }
+    ensures written { OnOk result
+        (AreSectionsWritten H.hash index.now.texts present.now met.now writer.old writer.new) }
     ensures size { OnOk result (writer.new.asked ≤ writer.old.asked + 2 ^ 39) }
 {
     let mut section = Section::new(alloc);
@@ -110,7 +115,8 @@ pub(crate) fn write_documents<H: HashKind>(
     requires few { length met.now ≤ 65536 }
     requires started { IsStarted writer.old }
     requires room { writer.old.asked ≤ 2 ^ 56 }
-    ensures written { OnOk result (AreDocumentsWritten algorithm H.hash index.now.texts present.now met.now writer.old writer.new) }
+    ensures written { OnOk result
+        (AreDocumentsWritten algorithm H.hash index.now.texts present.now met.now writer.old writer.new) }
     ensures size { OnOk result (writer.new.asked ≤ writer.old.asked + 2 ^ 40) }
 {
     match algorithm {

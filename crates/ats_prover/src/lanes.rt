@@ -53,7 +53,8 @@ pub(crate) fn query_lists<'a, H: HashKind>(
 ) -> Result<QueryLists<'a>, OutOfMemory>
     requires { AreSpots (dictionary_of H.hash index.now) query.now spots.now }
     ensures lanes { IfOk result (λ made. whole_lanes made.lanes.items ≡ lanes_of index.now.texts query.now) }
-    ensures nodes { IfOk result (λ made. map (λ n. n.now) made.nodes.items ≡ list_digests H.hash (whole_lanes made.lanes.items)) }
+    ensures nodes { IfOk result (λ made. map (λ n. n.now) made.nodes.items
+        ≡ list_digests H.hash (whole_lanes made.lanes.items)) }
     ensures whole { OnOk result (AreWholeLanes (lanes_of index.now.texts query.now)) }
     ensures lists { OnOk result (All (λ lane. IsList 65536 lane.entries) (lanes_of index.now.texts query.now)) }
 {

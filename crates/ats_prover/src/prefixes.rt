@@ -37,7 +37,8 @@ fn write_entries(
     requires few { length entries.now ≤ 65536 }
     requires impacts { All (λ entry. entry.impact < 2 ^ 16) entries.now }
     requires room { writer.old.asked ≤ 2 ^ 60 }
-    ensures fields { OnOk result (writer.new ≡ put writer.old (counted 4 posting_fields (map (placed met.now) entries.now))) }
+    ensures fields { OnOk result
+        (writer.new ≡ put writer.old (counted 4 posting_fields (map (placed met.now) entries.now))) }
     ensures size { OnOk result (writer.new.asked ≤ writer.old.asked + 2 ^ 19) }
 {
     writer.count32(entries.len() as u32)?;
@@ -74,7 +75,8 @@ fn write_prefix<H: HashKind>(
     requires some { 1 ≤ count }
     requires within { count ≤ length entries.now }
     requires room { writer.old.asked ≤ 2 ^ 59 }
-    ensures fields { OnOk result (writer.new ≡ put writer.old (prefix_fields (prefix_of H.hash whole_lists met.now entries.now count))) }
+    ensures fields { OnOk result
+        (writer.new ≡ put writer.old (prefix_fields (prefix_of H.hash whole_lists met.now entries.now count))) }
     ensures size { OnOk result (writer.new.asked ≤ writer.old.asked + 2 ^ 23) }
 {
     let positions = first(alloc, count)?;

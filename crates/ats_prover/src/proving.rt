@@ -50,13 +50,17 @@ fn write_walk<H: HashKind>(
     requires lanes { AreWholeLanes (whole_lanes lanes.now) }
     requires terms { length present.now ≡ length lanes.now }
     requires lists { All (λ lane. IsList 65536 lane.entries) (whole_lanes lanes.now) }
-    requires within { All (λ lane. All (λ (e : Posting). e.doc < length index.now.texts) lane.entries) (whole_lanes lanes.now) }
+    requires within { All (λ lane. All (λ (e : Posting). e.doc < length index.now.texts) lane.entries)
+        (whole_lanes lanes.now) }
     requires nodes { map (λ n. n.now) nodes.now ≡ list_digests H.hash (whole_lanes lanes.now) }
     requires cut { IsCut (whole_lanes lanes.now) walk.now.cut }
-    requires brackets { AreBracketsBy (bounding algorithm (whole_lanes lanes.now)) (shown (whole_lanes lanes.now) walk.now.cut) walk.now.brackets }
+    requires brackets { AreBracketsBy (bounding algorithm (whole_lanes lanes.now))
+        (shown (whole_lanes lanes.now) walk.now.cut) walk.now.brackets }
     requires rows { length walk.now.picks ≤ 1000 }
     requires room { writer.old.asked ≤ 2 ^ 55 }
-    ensures { OnOk result (IsWalkWritten algorithm H.hash index.now.texts present.now (whole_lanes lanes.now) (map (λ (b : Bounds). b.doc) walk.now.brackets) walk.now.cut walk.now.picks writer.old writer.new) }
+    ensures { OnOk result
+        (IsWalkWritten algorithm H.hash index.now.texts present.now (whole_lanes lanes.now)
+        (map (λ (b : Bounds). b.doc) walk.now.brackets) walk.now.cut walk.now.picks writer.old writer.new) }
 {
     let met = documents(alloc, walk.brackets.as_slice())?;
     write_lists::<H>(alloc, writer, &met, lanes, nodes, walk.cut.as_slice())?;
@@ -120,7 +124,8 @@ pub fn prove<H: HashKind>(
 ) -> Result<Bytes, ProveFault>
     ensures ok { IfOk result (IsProved H.hash index.now query.now top algorithm) }
     ensures err { IfErr result (IsFault H.hash index.now query.now top algorithm (2 ^ 26)) }
-    ensures size { (proof : Proof) → IsHonest H.hash index.now query.now top algorithm proof → IsAnswerWithin (2 ^ 26) (length_of proof) result }
+    ensures size { (proof : Proof) → IsHonest H.hash index.now query.now top algorithm proof
+        → IsAnswerWithin (2 ^ 26) (length_of proof) result }
     ensures fits { algorithm ≡ Tnra → IfErr result (λ fault. fault ≡ MemoryWanted) }
 {
     prove_within(alloc, index, query, top, algorithm, MAX_PROOF)
@@ -139,7 +144,8 @@ pub fn prove_within<H: HashKind>(
     ensures ok { IfOk result (IsProved H.hash index.now query.now top algorithm) }
     ensures within { IfOk result (λ bytes. length bytes ≤ limit) }
     ensures err { IfErr result (IsFault H.hash index.now query.now top algorithm limit) }
-    ensures size { (proof : Proof) → IsHonest H.hash index.now query.now top algorithm proof → IsAnswerWithin limit (length_of proof) result }
+    ensures size { (proof : Proof) → IsHonest H.hash index.now query.now top algorithm proof
+        → IsAnswerWithin limit (length_of proof) result }
     ensures fits { limit ≡ 2 ^ 26 → algorithm ≡ Tnra → IfErr result (λ fault. fault ≡ MemoryWanted) }
 {
     records_are_joined();

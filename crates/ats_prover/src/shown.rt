@@ -109,7 +109,8 @@ pub(crate) fn write_slots(
     requires terms { length spots.now ≤ 32 }
     requires started { IsStarted writer.old }
     requires room { writer.old.asked ≤ 2 ^ 60 }
-    ensures fields { OnOk result (writer.new ≡ put writer.old (flat_map slot_fields (map (slot_of positions.now) spots.now))) }
+    ensures fields { OnOk result
+        (writer.new ≡ put writer.old (flat_map slot_fields (map (slot_of positions.now) spots.now))) }
     ensures size { OnOk result (writer.new.asked ≤ writer.old.asked + 2 ^ 7) }
 {
     for spot in spots {

@@ -82,7 +82,8 @@ fn write_leaves(
     requires within { All (λ p. p < length terms.now + 2) positions.now }
     requires few { length positions.now ≤ 64 }
     requires room { writer.old.asked ≤ 2 ^ 60 }
-    ensures fields { OnOk result (writer.new ≡ put writer.old (counted 2 term_fields (map (shown_term terms.now) positions.now))) }
+    ensures fields { OnOk result
+        (writer.new ≡ put writer.old (counted 2 term_fields (map (shown_term terms.now) positions.now))) }
     ensures size { OnOk result (writer.new.asked ≤ writer.old.asked + 2 ^ 13) }
 {
     writer.count16(positions.len() as u16)?;
@@ -112,7 +113,8 @@ fn write_shown<H: HashKind>(
     requires few { length positions.now ≤ 64 }
     requires slots { length spots.now ≤ 32 }
     requires room { writer.old.asked ≤ 2 ^ 58 }
-    ensures fields { OnOk result (writer.new ≡ put writer.old (counted 2 term_fields (map (shown_term terms.now) positions.now)
+    ensures fields { OnOk result
+        (writer.new ≡ put writer.old (counted 2 term_fields (map (shown_term terms.now) positions.now)
         ++ counted 2 digest_fields (elided_digests H.hash (terms_leaves terms.now) positions.now)
         ++ flat_map slot_fields (map (slot_of positions.now) spots.now))) }
     ensures size { OnOk result (writer.new.asked ≤ writer.old.asked + 2 ^ 23) }

@@ -26,8 +26,11 @@ pub(crate) fn walk<H: HashKind>(
 ) -> Result<Walk, OutOfMemory>
     requires whole { AreWholeLanes (whole_lanes lanes.now) }
     requires own { whole_lanes lanes.now ≡ map (lane_of index.now.texts) present.now }
-    ensures cut { IfOk result (λ walk. IsFirstSettledBy (bounding algorithm (whole_lanes lanes.now)) (whole_lanes lanes.now) top walk.cut) }
-    ensures brackets { IfOk result (λ walk. AreBracketsBy (bounding algorithm (whole_lanes lanes.now)) (shown (whole_lanes lanes.now) walk.cut) walk.brackets) }
+    ensures cut { IfOk result
+        (λ walk. IsFirstSettledBy (bounding algorithm (whole_lanes lanes.now)) (whole_lanes lanes.now) top walk.cut) }
+    ensures brackets { IfOk result
+        (λ walk. AreBracketsBy (bounding algorithm (whole_lanes lanes.now))
+        (shown (whole_lanes lanes.now) walk.cut) walk.brackets) }
     ensures picks { IfOk result (λ walk. IsChosen walk.brackets top walk.picks) }
     ensures rows { IfOk result (λ walk. length walk.picks ≤ top) }
 {
