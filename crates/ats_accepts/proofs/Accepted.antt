@@ -3,12 +3,11 @@ use Rattle.std.proofs.Common.{◌≡◌, ◌≤◌, ℕ, List, length, subst, ap
 use Rattle.ats_dict.specs.declared.header.Header.{Header}
 use Rattle.ats_commit.specs.Archive.{Archive}
 use Rattle.ats_commit.specs.Root.{root_of}
-use Rattle.ats_commit.proofs.Layouts.{each_archive}
+use Rattle.ats_commit.proofs.Public.{each_archive}
 use Rattle.ats_proof.specs.declared.record.Algorithm.{Algorithm}
 use Rattle.ats_proof.specs.declared.record.Algorithm.TheVariants.{Tra}
 use Rattle.ats_proof.specs.Value.{Proof, IsProof}
-use Rattle.ats_proof.proofs.InRange.{in_range}
-use Rattle.ats_proof.proofs.Unique.{one_value}
+use Rattle.ats_proof.proofs.Public.{in_range, one_value}
 use Rattle.ats_client.specs.Accepts.{Accepts}
 use Rattle.ats_honest.specs.Honest.{IsHonest, IsProved}
 use Rattle.ats_accepts.proofs.AcceptedRows.{honest_accepted}

@@ -22,7 +22,7 @@ use Rattle.ats_proof.specs.Value.{Documents, TermsSection}
 use Rattle.ats_proof.specs.Runs.{shown_docs}
 use Rattle.ats_client.specs.Documents.{AreDocsRooted, IsDocumentRight, documents_from, documents_in}
 use Rattle.ats_honest.specs.Documents.{AreHonestSections, HasDocuments, document_leaf}
-use Rattle.ats_honest.proofs.MetLeaves.{documents_each}
+use Rattle.ats_honest.proofs.Public.{documents_each}
 use Rattle.ats_accepts.proofs.ShownTrees.{leaves_shown, positions_rebuild}
 use Rattle.ats_accepts.proofs.AcceptedSections.{section_rebuilds, section_shows}
 

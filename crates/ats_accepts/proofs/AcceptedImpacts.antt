@@ -14,20 +14,18 @@ use Rattle.ats_doctree.specs.Sentinels.{impact_at}
 use Rattle.ats_bound.specs.declared.bracket.Bracket.{Bracket}
 use Rattle.ats_bound.specs.Cut.{ShownLane}
 use Rattle.ats_bound.specs.Ranked.{impact_in}
-use Rattle.ats_bound.proofs.Members.{has_contained}
+use Rattle.ats_bound.proofs.Public.{has_contained}
 use Rattle.ats_proof.specs.declared.record.Algorithm.{Algorithm}
 use Rattle.ats_proof.specs.declared.record.Algorithm.TheVariants.{Tra, Tnra}
 use Rattle.ats_proof.specs.declared.record.Slot.{Slot}
 use Rattle.ats_proof.specs.Value.{Documents, ShownTerm, TermsSection}
 use Rattle.ats_client.specs.Groups.{slot_at}
 use Rattle.ats_client.specs.Bracketing.{bounds_in, impact_shown, impacts_shown}
-use Rattle.ats_client.proofs.HeadlineBrackets.{looked_same}
+use Rattle.ats_client.proofs.Public.{looked_same}
 use Rattle.ats_honest.specs.Terms.{has, place, slot_of}
 use Rattle.ats_honest.specs.Lanes.{bounding, impacts_of, lane_of}
 use Rattle.ats_honest.specs.Documents.{AreHonestSections, HasDocuments, IsHonestSection, IsTermSpot, shown_term}
-use Rattle.ats_honest.proofs.LookedUp.{looked_up_at, looked_up_between}
-use Rattle.ats_honest.proofs.Lookups.{looked_up_in, looked_up_past}
-use Rattle.ats_honest.proofs.Spots.{one_of_spots, spots_each}
+use Rattle.ats_honest.proofs.Public.{looked_up_at, looked_up_between, looked_up_in, looked_up_past, one_of_spots, spots_each}
 use Rattle.ats_accepts.proofs.ShownPlaces.{made_at_place}
 use Rattle.ats_accepts.proofs.AcceptedSlots.{IsShown, needed_shown, shown_each}
 

@@ -12,12 +12,11 @@ use Rattle.ats_tree.specs.Tree.{mth}
 use Rattle.ats_tree.specs.Shown.{Shown}
 use Rattle.ats_tree.specs.Rebuild.{rebuilt}
 use Rattle.ats_tree.specs.Elided.{elided_digests, shown_with}
-use Rattle.ats_tree.proofs.Positions.{within-increasing}
-use Rattle.ats_tree.proofs.LawLemmas.{elided-rebuilds}
+use Rattle.ats_tree.proofs.Public.{within-increasing, elided-rebuilds}
 use Rattle.ats_lists.specs.Leaf.{leaf_bytes}
 use Rattle.ats_lists.specs.Lists.{IsList}
 use Rattle.ats_lists.specs.declared.entry.Entry.{Entry}
-use Rattle.ats_lists.proofs.WholeLemmas.{list_frequency}
+use Rattle.ats_lists.proofs.Public.{list_frequency}
 use Rattle.ats_terms.specs.declared.spot.Spot.{Spot}
 use Rattle.ats_terms.specs.declared.spot.Spot.TheVariants.{At, Between}
 use Rattle.ats_lists.specs.Layout.{whole_lists}
@@ -26,7 +25,7 @@ use Rattle.ats_commit.specs.Trees.{dictionary_of}
 use Rattle.ats_bound.specs.Cut.{ShownLane, lane_of as shown_lane, names}
 use Rattle.ats_bound.specs.Settled.{AreDistinct}
 use Rattle.ats_bound.specs.Schedule.{WholeLane, IsCut, shown}
-use Rattle.ats_bound.proofs.Places.{position_of, times_other, times_same}
+use Rattle.ats_bound.proofs.Public.{position_of, times_other, times_same}
 use Rattle.ats_proof.specs.Value.{Prefix}
 use Rattle.ats_proof.specs.Runs.{named, shown_list}
 use Rattle.ats_client.specs.Groups.{IsListRight, indexes_of, list_digest}
@@ -36,8 +35,7 @@ use Rattle.ats_client.specs.Presented as client
 use Rattle.ats_honest.specs.Terms.{AreSpots, place, shown_entry, slot_of}
 use Rattle.ats_honest.specs.Lanes.{lane_of, lanes_of}
 use Rattle.ats_honest.specs.Honest.{placed, prefix_of, prefixes}
-use Rattle.ats_honest.proofs.Present.{HasList, with_lane, with_none}
-use Rattle.ats_honest.proofs.Fronts.{range_below, range_rises}
+use Rattle.ats_honest.proofs.Public.{HasList, with_lane, with_none, range_below, range_rises}
 use Rattle.ats_accepts.proofs.AcceptedSlots.{AreShown, shown_first, shown_rest}
 use Rattle.ats_accepts.proofs.AcceptedTerms.{IsOwnEntry, honest_entry, honest_present}
 

@@ -15,9 +15,7 @@ use Rattle.ats_bound.specs.declared.bracket.Bracket.{Bracket}
 use Rattle.ats_bound.specs.Cut.{ShownLane, IsMet, threshold}
 use Rattle.ats_bound.specs.Settled.{ArePicks, IsSettled}
 use Rattle.ats_bound.specs.Schedule.{Bounding, WholeLane, AreBracketsBy, IsCut, has_bracket, shown}
-use Rattle.ats_bound.proofs.Chain.{chosen_are_picks, chosen_is_settled}
-use Rattle.ats_bound.proofs.One.{are_brackets, one_bracketing}
-use Rattle.ats_bound.proofs.Shown.{scheduled_is_cut}
+use Rattle.ats_bound.proofs.Public.{chosen_are_picks, chosen_is_settled, are_brackets, one_bracketing, scheduled_is_cut, has_contained}
 use Rattle.ats_proof.specs.Value.{Prefix, Proof, ShownEntry}
 use Rattle.ats_client.specs.Groups.{AreAllMet, AreListsRight, AreRowsRight, IsAnswerSettled, brackets_of}
 use Rattle.ats_client.specs.Presented.{Presented, presented, presented_from}
@@ -25,7 +23,7 @@ use Rattle.ats_client.specs.Presented as client
 use Rattle.ats_client.specs.Bracketing.{bounds_of}
 use Rattle.ats_client.specs.Documents.{AreDocumentsRight, IsDocsTree, present_from, present_numbers}
 use Rattle.ats_client.specs.Accepts.{Accepts}
-use Rattle.ats_client.proofs.Kept.{accepts_each}
+use Rattle.ats_client.proofs.Public.{accepts_each}
 use Rattle.ats_commit.specs.Root.{root_of}
 use Rattle.ats_commit.specs.Ours.{asked_term}
 use Rattle.ats_proof.specs.declared.record.Algorithm.{Algorithm}
@@ -33,19 +31,13 @@ use Rattle.ats_proof.specs.declared.record.Algorithm.TheVariants.{Tra, Tnra}
 use Rattle.ats_honest.specs.Terms.{has, place, shown_entry, slot_of}
 use Rattle.ats_honest.specs.Lanes.{bounding, lanes_of, present}
 use Rattle.ats_honest.specs.Honest.{IsHonest, prefixes}
-use Rattle.ats_honest.proofs.Places.{place_at}
-use Rattle.ats_honest.proofs.MetDocuments.{met_below, met_rises}
-use Rattle.ats_honest.proofs.Spots.{spot_each}
-use Rattle.ats_honest.proofs.StandingTerms.{standing_present}
-use Rattle.ats_honest.proofs.Whole.{docs_of}
-use Rattle.ats_bound.proofs.Members.{has_contained}
+use Rattle.ats_honest.proofs.Public.{place_at, met_below, met_rises, spot_each, standing_present, docs_of, lanes_have_lists}
 use Rattle.ats_accepts.proofs.AcceptedSlots.{needed_shown}
 use Rattle.ats_accepts.proofs.AcceptedTerms.{honest_dictionary, honest_opened, honest_slots}
 use Rattle.ats_accepts.proofs.AcceptedSections.{numbers_ask}
 use Rattle.ats_accepts.proofs.AcceptedDocuments.{honest_documents, honest_tree}
 use Rattle.ats_accepts.proofs.AcceptedImpacts.{honest_bounds}
 use Rattle.ats_accepts.proofs.AcceptedLists.{AreIn, AreFronts, front_lanes, fronts_right, show_terms}
-use Rattle.ats_honest.proofs.Present.{lanes_have_lists}
 
 -- ---- the documents of brackets
 

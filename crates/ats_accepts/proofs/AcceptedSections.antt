@@ -10,7 +10,7 @@ use Rattle.ats_tree.specs.Elided.{shown_with}
 use Rattle.ats_terms.specs.declared.spot.Spot.{Spot}
 use Rattle.ats_terms.specs.declared.spot.Spot.TheVariants.{At, Between}
 use Rattle.ats_doctree.specs.Sentinels.{term_at, terms_leaves}
-use Rattle.ats_doctree.proofs.Positions.{get_or-terms_leaves, length-terms_leaves}
+use Rattle.ats_doctree.proofs.Public.{get_or-terms_leaves, length-terms_leaves}
 use Rattle.ats_commit.specs.Ours.{asked_term}
 use Rattle.ats_proof.specs.declared.record.Slot.{Slot}
 use Rattle.ats_proof.specs.Value.{ShownTerm, TermsSection}
@@ -22,8 +22,7 @@ use Rattle.ats_client.specs.Slots.{ShowsTerm}
 use Rattle.ats_honest.specs.Terms.{slot_of}
 use Rattle.ats_honest.specs.Present.{standing}
 use Rattle.ats_honest.specs.Documents.{IsHonestSection, IsTermSpot, shown_term}
-use Rattle.ats_honest.proofs.Items.{lower_item}
-use Rattle.ats_honest.proofs.Ranges.{all_below}
+use Rattle.ats_honest.proofs.Public.{lower_item, all_below}
 use Rattle.ats_accepts.proofs.ShownTrees.{leaves_shown, positions_rebuild}
 use Rattle.ats_accepts.proofs.AcceptedSlots.{LiesBy, leaf_at, slots_show}
 

@@ -12,8 +12,8 @@ use Rattle.ats_proof.specs.declared.record.Slot.{Slot}
 use Rattle.ats_client.specs.Groups.{slot_at}
 use Rattle.ats_client.specs.Slots.{Shown, ShowsTerm}
 use Rattle.ats_honest.specs.Terms.{AreNeeded, HaveSpots, has, needs, slot_of}
-use Rattle.ats_honest.proofs.Spots.{one_of_spots, spots_each}
-use Rattle.ats_bound.proofs.Members.{has_contained}
+use Rattle.ats_honest.proofs.Public.{one_of_spots, spots_each}
+use Rattle.ats_bound.proofs.Public.{has_contained}
 use Rattle.ats_accepts.proofs.ShownPlaces.{next_place, shown_at_place}
 
 -- ---- the leaves that spots need

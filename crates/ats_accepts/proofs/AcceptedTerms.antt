@@ -18,7 +18,7 @@ use Rattle.ats_terms.specs.declared.spot.Spot.TheVariants.{At, Between}
 use Rattle.ats_dict.specs.Entry.{DictEntry}
 use Rattle.ats_dict.specs.Dictionary.{dict_leaves, entry_at, low, term_at}
 use Rattle.ats_dict.specs.Found.{IsSpot, StandsAt}
-use Rattle.ats_dict.proofs.Sentinels.{entry_at-suc, get_or-dict_leaves, length-dict_leaves}
+use Rattle.ats_dict.proofs.Public.{entry_at-suc, get_or-dict_leaves, length-dict_leaves}
 use Rattle.ats_lists.specs.Layout.{whole_lists}
 use Rattle.ats_commit.specs.Archive.{archive_of}
 use Rattle.ats_commit.specs.Trees.{dict_entry, dictionary_of}
@@ -35,11 +35,8 @@ use Rattle.ats_proof.specs.declared.record.Algorithm.{Algorithm}
 use Rattle.ats_honest.specs.Terms.{has, place, shown_entry, slot_of}
 use Rattle.ats_honest.specs.Lanes.{lane_of}
 use Rattle.ats_honest.specs.Honest.{IsHonest}
-use Rattle.ats_honest.proofs.Spots.{spot_each}
-use Rattle.ats_bound.proofs.Members.{has_contained}
-use Rattle.ats_honest.proofs.Ranges.{positions_below}
-use Rattle.ats_honest.proofs.Present.{list_at, standing_term}
-use Rattle.ats_honest.proofs.Whole.{lanes_each}
+use Rattle.ats_honest.proofs.Public.{spot_each, positions_below, list_at, standing_term, lanes_each}
+use Rattle.ats_bound.proofs.Public.{has_contained}
 use Rattle.ats_accepts.proofs.ShownPlaces.{made_at_place}
 use Rattle.ats_accepts.proofs.ShownTrees.{leaves_shown, positions_rebuild}
 use Rattle.ats_accepts.proofs.AcceptedSlots.{IsShown, LiesBy, leaf_at, slots_show}

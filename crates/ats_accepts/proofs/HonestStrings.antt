@@ -11,7 +11,7 @@ use Rattle.ats_tree.specs.Shown.{Shown}
 use Rattle.ats_tree.specs.Strings.{node_string, node_strings}
 use Rattle.ats_tree.specs.declared.hashed.Tree.{Tree}
 use Rattle.ats_tree.specs.declared.hashed.Tree.TheVariants.{Dictionary, List as ListOf, Documents as DocumentsTree, Terms}
-use Rattle.ats_tree.proofs.OwnStrings.{own-none, own-strings}
+use Rattle.ats_tree.proofs.Public.{own-none, own-strings}
 use Rattle.ats_lists.specs.Leaf.{leaf_bytes}
 use Rattle.ats_lists.specs.Lists.{list}
 use Rattle.ats_lists.specs.declared.entry.Entry.{Entry}
@@ -27,7 +27,7 @@ use Rattle.ats_commit.specs.Archive.{Archive, archive_of}
 use Rattle.ats_commit.specs.Ours.{TreePlace, asked_term, ours}
 use Rattle.ats_commit.specs.Root.{header_string}
 use Rattle.ats_commit.specs.Trees.{dictionary_of, documents_of}
-use Rattle.ats_commit.proofs.Layouts.{each_archive}
+use Rattle.ats_commit.proofs.Public.{each_archive}
 use Rattle.ats_proof.specs.declared.record.Algorithm.{Algorithm}
 use Rattle.ats_proof.specs.declared.record.Slot.{Slot}
 use Rattle.ats_proof.specs.declared.record.Algorithm.TheVariants.{Tra, Tnra}
@@ -36,7 +36,7 @@ use Rattle.ats_bound.specs.Schedule.{WholeLane, IsCut, shown}
 use Rattle.ats_proof.specs.Value.{Prefix, Proof, IsProof, Documents, ShownEntry, TermsSection}
 use Rattle.ats_proof.specs.Runs.{shown_docs, shown_list, shown_term}
 use Rattle.ats_proof.specs.Runs as runs
-use Rattle.ats_proof.proofs.Unique.{one_value}
+use Rattle.ats_proof.proofs.Public.{one_value}
 use Rattle.ats_client.specs.Documents.{documents_from}
 use Rattle.ats_client.specs.Presented.{Presented, presented, presented_from}
 use Rattle.ats_client.specs.Strings.{hashed_header, in_tree, strings_in, list_strings, terms_strings, documents_strings, strings_of, extract}
@@ -44,8 +44,7 @@ use Rattle.ats_honest.specs.Documents.{AreHonestSections, HasDocuments, IsHonest
 use Rattle.ats_honest.specs.Honest.{IsHonest, IsProved}
 use Rattle.ats_honest.specs.Lanes.{lanes_of, present}
 use Rattle.ats_honest.specs.Terms.{AreSpots, slot_of}
-use Rattle.ats_honest.proofs.MetLeaves.{documents_each}
-use Rattle.ats_honest.proofs.Present.{with_lane, with_none}
+use Rattle.ats_honest.proofs.Public.{documents_each, with_lane, with_none}
 use Rattle.ats_accepts.proofs.Accepted.{has_documents}
 use Rattle.ats_accepts.proofs.AcceptedDocuments.{documents_shown}
 use Rattle.ats_accepts.proofs.AcceptedLists.{AreFronts, AreIn, IsEntryIn, IsFront, first_in, front_shown, later_in, tail_cut}

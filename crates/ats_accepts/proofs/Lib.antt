@@ -1,3 +1,4 @@
+pub mod Public
 mod ShownPlaces
 mod ShownTrees
 mod AcceptedSlots
@@ -7,5 +8,5 @@ mod AcceptedSections
 mod AcceptedDocuments
 mod AcceptedImpacts
 mod AcceptedRows
-pub mod Accepted
-pub mod HonestStrings
+mod Accepted
+mod HonestStrings

@@ -6,8 +6,8 @@ use Rattle.std.proofs.lemmas.List.{length-map, get_or-map, get_or_default}
 use Rattle.std.proofs.lemmas.List.Kept.{AllPairs-from_increasing}
 use Rattle.std.proofs.lemmas.Option.{slice_get-get_or}
 use Rattle.ats_honest.specs.Terms.{has, place}
-use Rattle.ats_bound.proofs.Members.{contained_has}
-use Rattle.ats_honest.proofs.Places.{place_at, never_falls}
+use Rattle.ats_bound.proofs.Public.{contained_has}
+use Rattle.ats_honest.proofs.Public.{place_at, never_falls}
 
 -- the place of a number is one of the list, and the number stands there
 pub record IsAtPlace (positions : List ℕ) (p : ℕ) : Type 0 where

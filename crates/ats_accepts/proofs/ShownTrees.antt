@@ -7,8 +7,7 @@ use Rattle.ats_tree.specs.Tree.{mth}
 use Rattle.ats_tree.specs.Shown.{Shown}
 use Rattle.ats_tree.specs.Rebuild.{rebuilt}
 use Rattle.ats_tree.specs.Elided.{elided_digests, shown_with}
-use Rattle.ats_tree.proofs.Positions.{within-increasing}
-use Rattle.ats_tree.proofs.LawLemmas.{elided-rebuilds}
+use Rattle.ats_tree.proofs.Public.{within-increasing, elided-rebuilds}
 
 -- what is shown at each position is the leaf there
 abbrev pub AreLeaves : List (List ℕ) → (ℕ → Shown) → Type 0

@@ -1,2 +1,3 @@
-pub mod Told
+pub mod Public
+mod Told
 mod Kept

@@ -10,15 +10,13 @@ use Rattle.ats_commit.specs.Own.{AreTexts}
 use Rattle.ats_commit.specs.Ours.{TreePlace, ours}
 use Rattle.ats_commit.specs.Root.{root_of}
 use Rattle.ats_proof.specs.Value.{Proof}
-use Rattle.ats_proof.proofs.InRange.{in_range}
-use Rattle.ats_proof.proofs.Unique.{one_value}
+use Rattle.ats_proof.proofs.Public.{in_range, one_value}
 use Rattle.ats_client.specs.Bytes.{IsAcceptedBytes}
 use Rattle.ats_client.specs.Headline.{AreRight, IsTopOrCollides}
 use Rattle.ats_client.specs.Rows.{rows_of}
 use Rattle.ats_client.specs.Strings.{strings_of, extract}
 use Rattle.ats_client.specs.declared.fault.Rejection.TheVariants.{Shape, Check}
-use Rattle.ats_client.proofs.Headline.{top_or_collides}
-use Rattle.ats_client.proofs.OneRejection.{accepted_kept}
+use Rattle.ats_client.proofs.Public.{top_or_collides, accepted_kept}
 use Rattle.ats_audit.specs.Verdicts.{IsVerdict, TellsCollision, IsTopOrTold}
 use Rattle.ats_audit.specs.declared.auditing.Verdict.{Verdict}
 use Rattle.ats_audit.specs.declared.auditing.Verdict.TheVariants.{BadShape, Refused, Right, Collision}

@@ -1,34 +1,35 @@
-pub mod Places
-pub mod Kept
-pub mod Exactly
-pub mod Reach
-pub mod Chain
-pub mod Order
-pub mod Members
-pub mod Lanes
-pub mod Scores
-pub mod Ranking
-pub mod Texts
-pub mod One
-pub mod Lookups
-pub mod OneCut
-pub mod OneAnswer
-pub mod Decided
-pub mod Gathered
-pub mod Sorted
-pub mod Shown
-pub mod Greatest
-pub mod Advance
-pub mod Whole
-pub mod Narrow
-pub mod Deciding
-pub mod Ending
-pub mod Stages
-pub mod Slots
-pub mod Cells
-pub mod Entered
-pub mod KnownAfter
-pub mod KnownBrackets
-pub mod KnownSteps
-pub mod Open
-pub mod RunningSettled
+pub mod Public
+mod Places
+mod Kept
+mod Exactly
+mod Reach
+mod Chain
+mod Order
+mod Members
+mod Lanes
+mod Scores
+mod Ranking
+mod Texts
+mod One
+mod Lookups
+mod OneCut
+mod OneAnswer
+mod Decided
+mod Gathered
+mod Sorted
+mod Shown
+mod Greatest
+mod Advance
+mod Whole
+mod Narrow
+mod Deciding
+mod Ending
+mod Stages
+mod Slots
+mod Cells
+mod Entered
+mod KnownAfter
+mod KnownBrackets
+mod KnownSteps
+mod Open
+mod RunningSettled

@@ -10,7 +10,7 @@ use Rattle.ats_impact.specs.Rank.{times}
 use Rattle.ats_impact.specs.Score.{coefficient, part, score}
 use Rattle.ats_lists.specs.Postings.{count_in, posting, postings, postings_of_first, text_of}
 use Rattle.ats_lists.specs.Lists.{list}
-use Rattle.ats_lists.proofs.PostingLemmas.{list_is_sorted}
+use Rattle.ats_lists.proofs.Public.{list_is_sorted}
 use Rattle.ats_bound.specs.Ranked.{impact_in}
 use Rattle.ats_bound.proofs.Lanes.{share}
 use Rattle.ats_bound.proofs.Places.{times-cons, range_once, range_has}

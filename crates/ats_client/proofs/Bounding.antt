@@ -12,7 +12,7 @@ use Rattle.ats_bound.specs.Work.{mark_at}
 use Rattle.ats_bound.specs.Cut.{ShownLane, threshold as threshold_of}
 use Rattle.ats_bound.specs.Schedule.{Bounding}
 use Rattle.ats_bound.specs.Settled.{AreDistinct, bracket_at, row, last_row}
-use Rattle.ats_bound.proofs.Places.{counted_places, few_places, times_same, times_other}
+use Rattle.ats_bound.proofs.Public.{counted_places, few_places, times_same, times_other}
 use Rattle.ats_client.specs.Bounds.{upper, AreBelow, row_mark, lower_before, AreFalling, AreOthersWithin}
 use Rattle.ats_client.specs.Groups.{met_at, brackets_of, AreRowsRight, IsAnswerSettled}
 use Rattle.ats_client.specs.Marked.{AreMarks, AreNoted}

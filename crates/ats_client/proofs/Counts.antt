@@ -7,7 +7,7 @@ use Rattle.ats_doctree.specs.declared.doc_leaf.DocLeaf.{DocLeaf}
 use Rattle.ats_tree.specs.Shown.{Shown}
 use Rattle.ats_proof.specs.Runs.{shown_docs, shown_list}
 use Rattle.ats_proof.specs.Value.{Documents, Proof, items_of_section, items_of_documents}
-use Rattle.ats_proof.proofs.Encoding.{length-shown_list}
+use Rattle.ats_proof.proofs.Public.{length-shown_list}
 use Rattle.ats_client.proofs.Presents.{at_front}
 
 -- the items without the first

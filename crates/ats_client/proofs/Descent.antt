@@ -14,9 +14,7 @@ use Rattle.ats_tree.specs.Shown.{Shown}
 use Rattle.ats_tree.specs.Strings.{node_string, node_strings}
 use Rattle.ats_tree.specs.Part.{RisesFrom}
 use Rattle.ats_tree.specs.declared.hashed.Tree.TheVariants.{Dictionary, List as ListOf}
-use Rattle.ats_tree.proofs.Bound.{bound_to}
-use Rattle.ats_tree.proofs.Differences.{difference-collides}
-use Rattle.ats_tree.proofs.Positions.{rises-increasing}
+use Rattle.ats_tree.proofs.Public.{bound_to, difference-collides, rises-increasing}
 use Rattle.ats_lists.specs.Lists.{list}
 use Rattle.ats_lists.specs.declared.entry.Entry.{Entry}
 use Rattle.ats_dict.specs.Dictionary.{dict_leaves}
@@ -30,10 +28,7 @@ use Rattle.ats_commit.specs.Trees.{dictionary_of}
 use Rattle.ats_commit.specs.Root.{header_of, header_root, root_of}
 use Rattle.ats_commit.specs.Own.{AreTexts, IsHeaderOf, IsEntryOf}
 use Rattle.ats_commit.specs.Ours.{TreePlace, asked_term, ours}
-use Rattle.ats_commit.proofs.Layouts.{same_layout}
-use Rattle.ats_commit.proofs.OwnHeader.{own_header}
-use Rattle.ats_commit.proofs.OwnLeaves.{leaf_tells_entry}
-use Rattle.ats_commit.proofs.PrefixLemmas.{prefix-binds}
+use Rattle.ats_commit.proofs.Public.{same_layout, own_header, leaf_tells_entry, prefix-binds}
 use Rattle.ats_proof.specs.Value.{ShownEntry, Proof, layout_of, present_in}
 use Rattle.ats_proof.specs.Ranges.{AreDigests, IsShownInRange, IsInRange}
 use Rattle.ats_proof.specs.Runs.{shown_entry, shown_list}

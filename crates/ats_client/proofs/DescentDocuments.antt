@@ -14,8 +14,7 @@ use Rattle.ats_tree.specs.Strings.{node_string, node_strings}
 use Rattle.ats_tree.specs.Part.{RisesFrom}
 use Rattle.ats_tree.specs.Differences.{Hashed}
 use Rattle.ats_tree.specs.declared.hashed.Tree.TheVariants.{Documents as DocumentsTree, Terms}
-use Rattle.ats_tree.proofs.Bound.{bound_to}
-use Rattle.ats_tree.proofs.Positions.{rises-increasing}
+use Rattle.ats_tree.proofs.Public.{bound_to, rises-increasing}
 use Rattle.ats_dict.specs.declared.header.Header.{Header}
 use Rattle.ats_doctree.specs.DocumentLeaf.{doc_leaf_bytes}
 use Rattle.ats_doctree.specs.Impacts.{doc_terms, text_terms}
@@ -25,11 +24,11 @@ use Rattle.ats_commit.specs.Archive.{Archive}
 use Rattle.ats_commit.specs.Trees.{documents_of, documents_leaf}
 use Rattle.ats_commit.specs.Own.{AreTexts, IsHeaderOf, IsDocumentOf}
 use Rattle.ats_commit.specs.Ours.{TreePlace, ours}
-use Rattle.ats_commit.proofs.OwnDocuments.{leaf_tells_document}
+use Rattle.ats_commit.proofs.Public.{leaf_tells_document}
 use Rattle.ats_proof.specs.Value.{TermsSection, Documents}
 use Rattle.ats_proof.specs.Ranges.{AreDigests, IsSectionInRange, IsDocLeafInRange, AreDocumentsInRange}
 use Rattle.ats_proof.specs.Runs.{shown_docs, shown_term}
-use Rattle.ats_proof.proofs.Taking.{increasing-tail}
+use Rattle.ats_proof.proofs.Public.{increasing-tail}
 use Rattle.ats_client.specs.Documents.{MetDocument, documents_from, documents_in, AreDocsRooted, IsTermsTree}
 use Rattle.ats_client.specs.Strings.{strings_in, terms_strings, documents_strings, AreLeavesOf, IsOwnDocument, AreOwnDocuments}
 use Rattle.ats_client.proofs.DescentTrees.{Binds, tree-binds, binds-both, binds-weaker, binds-all}

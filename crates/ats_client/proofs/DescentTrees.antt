@@ -8,7 +8,7 @@ use Rattle.std.proofs.lemmas.Slice.Eq.{bytes_eq-Decides}
 use Rattle.ats_tree.specs.Differences.{Hashed, moved, Difference, difference_or, first_difference}
 use Rattle.ats_tree.specs.Nodes.{Node}
 use Rattle.ats_tree.specs.declared.hashed.Tree.{Tree}
-use Rattle.ats_tree.proofs.Differences.{or_else, difference-append, known-moved, Collides}
+use Rattle.ats_tree.proofs.Public.{or_else, difference-append, known-moved, Collides}
 use Rattle.ats_commit.specs.Ours.{TreePlace}
 use Rattle.ats_client.specs.Strings.{in_tree}
 

@@ -13,8 +13,7 @@ use Rattle.ats_bound.specs.declared.bracket.Bracket.{Bracket}
 use Rattle.ats_bound.specs.Cut.{ShownLane, IsMet}
 use Rattle.ats_bound.specs.Lookup.{Table, looked_score, looked_score_from, looked_up}
 use Rattle.ats_bound.specs.Ranked.{CutLane, AreScores, HoldsScore, cut_of, impact_in}
-use Rattle.ats_bound.proofs.Lookups.{lookup_holds}
-use Rattle.ats_bound.proofs.Scores.{bracket_holds}
+use Rattle.ats_bound.proofs.Public.{lookup_holds, bracket_holds}
 use Rattle.ats_commit.specs.Archive.{Archive}
 use Rattle.ats_commit.specs.Own.{AreTexts, IsDocumentOf}
 use Rattle.ats_commit.specs.Ours.{asked_term}

@@ -17,8 +17,7 @@ use Rattle.ats_bound.specs.Cut.{ShownLane, IsMet, names, threshold}
 use Rattle.ats_bound.specs.Schedule.{Bounding}
 use Rattle.ats_bound.specs.Settled.{AreDistinct, IsSettled, ArePicks}
 use Rattle.ats_bound.specs.Ranked.{CutLane, AreScores, HoldsScore, AreOfMet, answer_of, cut_of, docs_of}
-use Rattle.ats_bound.proofs.Places.{times_same, times_other, stands, position_of}
-use Rattle.ats_bound.proofs.Ranking.{settled_is_top}
+use Rattle.ats_bound.proofs.Public.{times_same, times_other, stands, position_of, settled_is_top}
 use Rattle.ats_proof.specs.Runs.{named}
 use Rattle.ats_client.specs.Presented.{Presented, lane_of}
 use Rattle.ats_client.specs.Indexes.{AreNames}

@@ -14,7 +14,7 @@ use Rattle.ats_impact.specs.Numbers.{idf}
 use Rattle.ats_impact.specs.Rank.{times}
 use Rattle.ats_lists.specs.declared.entry.Entry.{Entry}
 use Rattle.ats_bound.specs.Cut.{ShownLane, rest, threshold, names, shown_impact, lo_of, held}
-use Rattle.ats_bound.proofs.Places.{times-cons}
+use Rattle.ats_bound.proofs.Public.{times-cons}
 use Rattle.ats_proof.specs.Runs.{named}
 use Rattle.ats_client.specs.Indexes.{AreNames}
 use Rattle.ats_client.specs.Presented.{Presented, lane_of}

@@ -1,42 +1,43 @@
-pub mod Walks
-pub mod Slotted
-pub mod Rising
-pub mod Counts
-pub mod Named
-pub mod Marks
-pub mod Listed
-pub mod Presents
-pub mod Lanes
-pub mod Passing
-pub mod Noting
-pub mod Bounding
-pub mod Rules
-pub mod Faults
-pub mod Bracketing
-pub mod Kept
-pub mod FirstOf
-pub mod Exact
-pub mod OneListFault
-pub mod Least
-pub mod Shows
-pub mod OneDocumentFault
-pub mod OneRefusal
-pub mod OneRejection
-pub mod HeadlineTerms
-pub mod HeadlineRows
-pub mod OwnLanes
-pub mod OwnImpacts
-pub mod HeadlineBrackets
-pub mod Headline
-pub mod AnswerRows
-pub mod VerifiedBytes
-pub mod Leaves
-pub mod Firsts
-pub mod Looked
-pub mod Scored
-pub mod PresentNumbers
-pub mod Tried
-pub mod DescentTrees
-pub mod DescentDocuments
-pub mod Descent
-pub mod Sections
+pub mod Public
+mod Walks
+mod Slotted
+mod Rising
+mod Counts
+mod Named
+mod Marks
+mod Listed
+mod Presents
+mod Lanes
+mod Passing
+mod Noting
+mod Bounding
+mod Rules
+mod Faults
+mod Bracketing
+mod Kept
+mod FirstOf
+mod Exact
+mod OneListFault
+mod Least
+mod Shows
+mod OneDocumentFault
+mod OneRefusal
+mod OneRejection
+mod HeadlineTerms
+mod HeadlineRows
+mod OwnLanes
+mod OwnImpacts
+mod HeadlineBrackets
+mod Headline
+mod AnswerRows
+mod VerifiedBytes
+mod Leaves
+mod Firsts
+mod Looked
+mod Scored
+mod PresentNumbers
+mod Tried
+mod DescentTrees
+mod DescentDocuments
+mod Descent
+mod Sections

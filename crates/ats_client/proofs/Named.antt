@@ -7,7 +7,7 @@ use Rattle.std.proofs.lemmas.Bool.Decides.{nat_tests}
 use Rattle.std.proofs.lemmas.List.Elements.{All-more}
 use Rattle.std.proofs.lemmas.Option.{get_or_from_slice_get, slice_get_within}
 use Rattle.ats_impact.specs.Rank.{times}
-use Rattle.ats_bound.proofs.Places.{times_same, times_other, distinct_more}
+use Rattle.ats_bound.proofs.Public.{times_same, times_other, distinct_more}
 use Rattle.ats_client.specs.Indexes.{AreNames, IsOut, IsAgain}
 
 -- whether a number stands in a list, and how often

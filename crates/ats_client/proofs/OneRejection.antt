@@ -1,9 +1,9 @@
 -- Bytes are rejected in one way at most, and in none where they are accepted.
 use Rattle.std.proofs.Common.{◌≡◌, ℕ, List, ap, subst}
 use Rattle.ats_grammar.specs.Grammar.{proof_format}
-use Rattle.ats_grammar.proofs.Fronts.{no_fault, one_fault}
+use Rattle.ats_grammar.proofs.Public.{no_fault, one_fault}
 use Rattle.ats_proof.specs.Value.{Proof, fields_of}
-use Rattle.ats_proof.proofs.Unique.{one_value}
+use Rattle.ats_proof.proofs.Public.{one_value}
 use Rattle.ats_client.specs.Accepts.{Accepts, IsFirstRefusal}
 use Rattle.ats_client.specs.Bytes.{IsAcceptedBytes, IsRejectedBytes}
 use Rattle.ats_client.specs.declared.fault.Rejection.{Rejection}

@@ -10,9 +10,9 @@ use Rattle.ats_lists.specs.Postings.{posting}
 use Rattle.ats_doctree.specs.Impacts.{doc_terms}
 use Rattle.ats_doctree.specs.Sentinels.{terms_leaves, leaf_bytes}
 use Rattle.ats_commit.specs.Own.{IsImpactOf, AreTermNeighbours}
-use Rattle.ats_commit.proofs.OwnDocuments.{leaf_tells_impact, neighbours_tell}
+use Rattle.ats_commit.proofs.Public.{leaf_tells_impact, neighbours_tell_document}
 use Rattle.ats_bound.specs.Ranked.{impact_in}
-use Rattle.ats_bound.proofs.Texts.{has, listed}
+use Rattle.ats_bound.proofs.Public.{has, listed}
 use Rattle.ats_proof.specs.declared.record.Slot.{Slot}
 use Rattle.ats_proof.specs.Value.{ShownTerm, TermsSection}
 use Rattle.ats_proof.specs.Ranges.{IsTermInRange}
@@ -77,7 +77,7 @@ module _ (texts : List (List ℕ)) (doc : ℕ) (low : doc < length texts) where
               (leaf_own shown_term leaves section.leaves (slot.index + 1) upper own around.2.second);
         } in
         let none : count term (get_or texts doc []) ≡ 0 =
-        neighbours_tell texts doc lower.position lower.term upper.term term neighbours around.2.above around.2.below in
+        neighbours_tell_document texts doc lower.position lower.term upper.term term neighbours around.2.above around.2.below in
         cond-false slot.present impact_there 0 absent ∙ sym (none_listed term none)
 
     -- what a slot shows is the term's impact in the document

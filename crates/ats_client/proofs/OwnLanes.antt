@@ -15,8 +15,7 @@ use Rattle.ats_lists.specs.Leaf.{leaf_bytes}
 use Rattle.ats_lists.specs.Lists.{list}
 use Rattle.ats_lists.specs.Postings.{postings}
 use Rattle.ats_lists.specs.declared.entry.Entry.{Entry}
-use Rattle.ats_lists.proofs.PostingLemmas.{list_is_sorted}
-use Rattle.ats_lists.proofs.WholeLemmas.{list_keeps, list_frequency}
+use Rattle.ats_lists.proofs.Public.{list_is_sorted, list_keeps, list_frequency}
 use Rattle.ats_dict.specs.Entry.{dict_leaf_bytes}
 use Rattle.ats_dict.specs.Dictionary.{dict_leaves}
 use Rattle.ats_proof.specs.declared.record.Slot.{Slot}
@@ -25,11 +24,11 @@ use Rattle.ats_commit.specs.Archive.{Archive}
 use Rattle.ats_commit.specs.Trees.{dictionary_of}
 use Rattle.ats_commit.specs.Ours.{asked_term}
 use Rattle.ats_commit.specs.Own.{AreTexts, IsEntryOf, AreNeighbours}
-use Rattle.ats_commit.proofs.OwnLeaves.{neighbours_tell, leaf_tells_posting}
+use Rattle.ats_commit.proofs.Public.{neighbours_tell, leaf_tells_posting}
 use Rattle.ats_bound.specs.Cut as cut
 use Rattle.ats_bound.specs.Cut.{ShownLane}
 use Rattle.ats_bound.specs.Ranked.{CutLane, IsCutLane, cut_of, impact_in, whole_score}
-use Rattle.ats_bound.proofs.Texts.{score_listed}
+use Rattle.ats_bound.proofs.Public.{score_listed}
 use Rattle.ats_proof.specs.Value.{ShownEntry, Prefix, Proof, present_in}
 use Rattle.ats_proof.specs.Runs.{named, shown_entry, shown_list}
 use Rattle.ats_proof.specs.Ranges.{IsShownInRange, IsEntryInRange, IsPrefixInRange, IsInRange}

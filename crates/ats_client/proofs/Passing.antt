@@ -9,7 +9,7 @@ use Rattle.std.proofs.Math.ListN.{drop_of_length-le}
 use Rattle.ats_bound.specs.declared.work.Mark.{Mark}
 use Rattle.ats_bound.specs.Work.{mark_at, zero_mark}
 use Rattle.ats_bound.specs.Cut.{rest, threshold as threshold_of, lo_of, held, bracket}
-use Rattle.ats_bound.proofs.Scores.{held_or_missing}
+use Rattle.ats_bound.proofs.Public.{held_or_missing}
 use Rattle.ats_proof.specs.Value.{Proof, Prefix, present_in, layout_of}
 use Rattle.ats_lists.specs.Layout.{Layout}
 use Rattle.ats_client.specs.declared.refusal.Refusal.{Refusal}

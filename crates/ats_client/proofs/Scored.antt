@@ -9,7 +9,7 @@ use Rattle.ats_bound.specs.declared.work.Mark.{Mark}
 use Rattle.ats_bound.specs.Cut.{ShownLane, bracket, threshold as threshold_of}
 use Rattle.ats_bound.specs.Lookup.{Table, looked_score, looked_score_from}
 use Rattle.ats_proof.specs.Value.{TermsSection, Documents}
-use Rattle.ats_proof.proofs.Taking.{increasing-tail}
+use Rattle.ats_proof.proofs.Public.{increasing-tail}
 use Rattle.ats_client.specs.Bracketing.{impact_shown, impacts_shown, bounds_in}
 use Rattle.ats_client.specs.Marked.{IsMark}
 use Rattle.ats_client.specs.Presented.{Presented, lane_of}

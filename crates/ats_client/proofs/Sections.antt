@@ -16,7 +16,7 @@ use Rattle.ats_tree.specs.Clashes as nodes
 use Rattle.ats_tree.specs.declared.clashing.Clash as found
 use Rattle.ats_tree.specs.declared.hashed.Tree.{Tree}
 use Rattle.ats_tree.specs.declared.hashed.Tree.TheVariants.{Header, Dictionary, List as ListOf, Documents as DocumentsTree, Terms}
-use Rattle.ats_tree.proofs.Clashes.{collision-append, collision-moved, collides-is, collides-not}
+use Rattle.ats_tree.proofs.Public.{collision-append, collision-moved, collides-is, collides-not}
 use Rattle.ats_lists.specs.declared.entry.Entry.{Entry}
 use Rattle.ats_lists.specs.Leaf.{leaf_bytes}
 use Rattle.ats_dict.specs.Entry.{dict_leaf_bytes}

@@ -6,7 +6,7 @@ use Rattle.std.proofs.lemmas.Bool.{cases_lt}
 use Rattle.std.proofs.lemmas.Cmp.{nat_list_cmp_total}
 use Rattle.std.proofs.lemmas.List.{get_or_default}
 use Rattle.ats_terms.specs.Query.{byte_cmp}
-use Rattle.ats_terms.proofs.Order.{less_unequal}
+use Rattle.ats_terms.proofs.Public.{less_unequal}
 
 -- what holds of the sentinels and of each item holds at each position
 pub at_each : {X : Type 0} (low high : X) (items : List X) (at : ℕ → X) → at 0 ≡ low → ((i : ℕ) → i < length items → at (suc i) ≡ get_or items i low)

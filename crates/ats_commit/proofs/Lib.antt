@@ -1,10 +1,11 @@
-pub mod DictionaryLemmas
-pub mod HeaderLemmas
-pub mod TermLemmas
-pub mod Layouts
-pub mod PrefixLemmas
-pub mod OwnHeader
-pub mod OwnLeaves
-pub mod OwnPlaces
-pub mod Enclosed
-pub mod OwnDocuments
+pub mod Public
+mod DictionaryLemmas
+mod HeaderLemmas
+mod TermLemmas
+mod Layouts
+mod PrefixLemmas
+mod OwnHeader
+mod OwnLeaves
+mod OwnPlaces
+mod Enclosed
+mod OwnDocuments

@@ -8,18 +8,15 @@ use Rattle.std.proofs.lemmas.List.Sums.{count_by-le-length, get_or-le-sum_by}
 use Rattle.std.proofs.lemmas.Option.{slice_get_within, get_or_from_slice_get}
 use Rattle.std.proofs.lemmas.Str.{IsUtf8-nil}
 use Rattle.ats_tree.specs.Tree.{mth}
-use Rattle.ats_tree.proofs.Joined.{numbered}
+use Rattle.ats_tree.proofs.Public.{numbered}
 use Rattle.ats_terms.specs.Terms.{terms, IsTerm}
-use Rattle.ats_terms.proofs.Order.{rises_less}
+use Rattle.ats_terms.proofs.Public.{rises_less}
 use Rattle.ats_impact.specs.Score.{count, total_terms}
 use Rattle.ats_doctree.specs.DocumentLeaf.{doc_leaf_bytes}
 use Rattle.ats_doctree.specs.Impacts.{doc_terms, text_terms, IsImpact}
 use Rattle.ats_doctree.specs.Sentinels.{IsBelow, low, high, item_at, term_at, leaf_bytes, terms_leaves}
 use Rattle.ats_doctree.specs.declared.doc_leaf.DocLeaf.{DocLeaf}
-use Rattle.ats_doctree.proofs.Counts.{impact_in_range}
-use Rattle.ats_doctree.proofs.Documents.{doc_terms_rise, doc_terms_few, term_stands, impact_tells, none_stands}
-use Rattle.ats_doctree.proofs.LeafLemmas.{leaf_parts}
-use Rattle.ats_doctree.proofs.Positions.{item_at-suc, item_at-last, length-terms_leaves, get_or-terms_leaves}
+use Rattle.ats_doctree.proofs.Public.{impact_in_range, doc_terms_rise, doc_terms_few, term_stands, impact_tells, none_stands, leaf_parts, item_at-suc, item_at-last, length-terms_leaves, get_or-terms_leaves}
 use Rattle.ats_commit.specs.Trees.{documents_of, documents_leaf}
 use Rattle.ats_commit.specs.Own.{AreTexts, IsDocumentOf, IsImpactOf, AreTermNeighbours}
 use Rattle.ats_commit.proofs.Enclosed.{at_each, none_between}
@@ -80,9 +77,9 @@ module _ (texts : List (List ℕ)) (doc : ℕ) where
       subst Tells own.1 tells term
 
   -- two neighbours say that what lies between their terms is not in the text
-  pub neighbours_tell : (p : ℕ) (lower upper : List ℕ × ℕ) (term : List ℕ) → AreTermNeighbours (terms_leaves items) p lower upper
+  pub neighbours_tell_document : (p : ℕ) (lower upper : List ℕ × ℕ) (term : List ℕ) → AreTermNeighbours (terms_leaves items) p lower upper
       → IsBelow lower.0 term → IsBelow term upper.0 → count term text ≡ 0
-  neighbours_tell p lower upper term are_there above below =
+  neighbours_tell_document p lower upper term are_there above below =
       let first = own_item p lower are_there.first_small are_there.first in
       let second = own_item (p + 1) upper are_there.second_small are_there.second in
       let after : IsBelow (term_at items p) term = subst (λ (i : List ℕ × ℕ). IsBelow i.0 term) (sym first.1) above in

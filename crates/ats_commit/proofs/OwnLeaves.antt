@@ -12,19 +12,17 @@ use Rattle.std.proofs.lemmas.Map.Keys.{Less-from_sorted}
 use Rattle.std.proofs.lemmas.Map.Views.{Contains-from_any}
 use Rattle.std.proofs.lemmas.Option.{slice_get-get_or, slice_get_within, get_or_from_slice_get}
 use Rattle.std.proofs.lemmas.Slice.Eq.{bytes_eq-Decides}
-use Rattle.ats_tree.proofs.Joined.{same_2, numbered}
+use Rattle.ats_tree.proofs.Public.{same_2, numbered}
 use Rattle.ats_terms.specs.Terms.{IsTerm}
 use Rattle.ats_terms.specs.Query.{byte_cmp}
 use Rattle.ats_impact.specs.Score.{frequency, count}
 use Rattle.ats_lists.specs.Leaf.{leaf_bytes}
 use Rattle.ats_lists.specs.Lists.{list, vocabulary, IsList}
 use Rattle.ats_lists.specs.declared.entry.Entry.{Entry}
-use Rattle.ats_lists.proofs.VocabularyLemmas.{vocabulary_has, vocabulary_rises, postings_frequency}
-use Rattle.ats_lists.proofs.WholeLemmas.{list_frequency, list_keeps}
+use Rattle.ats_lists.proofs.Public.{vocabulary_has, vocabulary_rises, postings_frequency, list_frequency, list_keeps}
 use Rattle.ats_dict.specs.Entry.{DictEntry}
 use Rattle.ats_dict.specs.Dictionary.{IsBelow, low, high, entry_at, term_at, leaf_of, dict_leaves}
-use Rattle.ats_dict.proofs.LeafLemmas.{leaf_parts}
-use Rattle.ats_dict.proofs.Sentinels.{entry_at-suc, entry_at-last, get_or-dict_leaves, length-dict_leaves}
+use Rattle.ats_dict.proofs.Public.{leaf_parts, entry_at-suc, entry_at-last, get_or-dict_leaves, length-dict_leaves}
 use Rattle.ats_commit.specs.Archive.{Archive}
 use Rattle.ats_commit.specs.Trees.{dictionary_of}
 use Rattle.ats_commit.specs.Own.{AreTexts, AreNeighbours, IsEntryOf}

@@ -7,11 +7,11 @@ use Rattle.ats_tree.specs.Nodes.{Node, by_path, depth_of}
 use Rattle.ats_tree.specs.Strings.{string_at, node_string}
 use Rattle.ats_tree.specs.declared.hashed.Tree.{Tree}
 use Rattle.ats_tree.specs.declared.hashed.Tree.TheVariants.{Header, Dictionary, List as ListOf, Documents, Terms}
-use Rattle.ats_tree.proofs.NodeLemmas.{node-ours}
+use Rattle.ats_tree.proofs.Public.{node-ours}
 use Rattle.ats_impact.specs.Score.{frequency}
 use Rattle.ats_lists.specs.Leaf.{leaf_bytes}
 use Rattle.ats_lists.specs.Lists.{list}
-use Rattle.ats_lists.proofs.WholeLemmas.{list_frequency}
+use Rattle.ats_lists.proofs.Public.{list_frequency}
 use Rattle.ats_lists.specs.declared.entry.Entry.{Entry}
 use Rattle.ats_lists.specs.Layout.{Layout, whole_lists}
 use Rattle.ats_commit.specs.Archive.{Archive}

@@ -5,8 +5,7 @@ use Rattle.std.proofs.lemmas.List.{length-map}
 use Rattle.ats_tree.specs.Differences.{first_difference}
 use Rattle.ats_tree.specs.Part.{RisesFrom}
 use Rattle.ats_tree.specs.Shown.{Shown}
-use Rattle.ats_tree.proofs.Bound.{bound_to}
-use Rattle.ats_tree.proofs.Differences.{Collides}
+use Rattle.ats_tree.proofs.Public.{bound_to, Collides}
 use Rattle.ats_lists.specs.Leaf.{leaf_bytes}
 use Rattle.ats_lists.specs.declared.entry.Entry.{Entry}
 use Rattle.ats_lists.specs.Layout.{Layout, whole_lists}

@@ -1,7 +1,7 @@
 -- Leaves of equal bytes have equal parts.
 use Rattle.std.proofs.Common.{◌≡◌, ◌<◌, ◌^◌, ◌∙◌, ◌++◌, ℕ, List, length, sym, append_assoc}
 use Rattle.std.specs.Int.{to_be_bytes, w32}
-use Rattle.ats_tree.proofs.Joined.{parted, first_and_rest, numbered}
+use Rattle.ats_tree.proofs.Public.{parted, first_and_rest, numbered}
 use Rattle.ats_dict.specs.Entry.{dict_leaf_bytes}
 
 pub leaf_parts : (term other : List ℕ) (f g : ℕ) (root another : List ℕ) → f < 2 ^ 32 → g < 2 ^ 32

@@ -1,4 +1,5 @@
-pub mod HeaderLemmas
-pub mod Sentinels
-pub mod Packing
-pub mod LeafLemmas
+pub mod Public
+mod HeaderLemmas
+mod Sentinels
+mod Packing
+mod LeafLemmas

@@ -5,7 +5,7 @@ use Rattle.std.specs.Prelude.{map}
 use Rattle.std.specs.Int.{to_be_bytes, w32}
 use Rattle.ats_terms.specs.Order.{IsBelow}
 use Rattle.ats_terms.specs.Found.{RiseBetweenSentinels}
-use Rattle.ats_terms.proofs.Sentinels.{inner_at, last_at, length-between, rise_between}
+use Rattle.ats_terms.proofs.Public.{inner_at, last_at, length-between, rise_between}
 use Rattle.ats_dict.specs.Entry.{DictEntry, dict_leaf_bytes}
 use Rattle.ats_dict.specs.Dictionary.{IsDictionary, low, high, with_sentinels, entry_at, term_at, leaf_of, dict_leaves}
 

@@ -5,11 +5,10 @@ use Rattle.std.proofs.lemmas.List.Sums.{get_or-le-sum_by}
 use Rattle.ats_terms.specs.Terms.{terms, IsTerm}
 use Rattle.ats_terms.specs.Query.{counted, RisesFrom, Rises}
 use Rattle.ats_terms.specs.Distinct.{AreDistinct}
-use Rattle.ats_terms.proofs.Counting.{all_weigh, counted_counts}
-use Rattle.ats_terms.proofs.Unique.{few_pairs}
+use Rattle.ats_terms.proofs.Public.{all_weigh, counted_counts, few_pairs}
 use Rattle.ats_impact.specs.Numbers.{impact}
 use Rattle.ats_impact.specs.Score.{total_terms}
-use Rattle.ats_impact.proofs.Tables.{impact_small}
+use Rattle.ats_impact.proofs.Public.{impact_small}
 use Rattle.ats_doctree.specs.Impacts.{with_impacts, IsImpact, AreImpacts}
 use Rattle.ats_doctree.specs.Sentinels.{high, item_at}
 use Rattle.ats_doctree.proofs.Positions.{item_at-suc, item_at-last}

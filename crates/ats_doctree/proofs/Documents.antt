@@ -3,8 +3,7 @@ use Rattle.std.proofs.Common.{◌≡◌, ◌≢◌, ◌<◌, ◌≤◌, ◌∙�
 use Rattle.std.specs.List.{All}
 use Rattle.ats_terms.specs.Terms.{terms}
 use Rattle.ats_terms.specs.Query.{counted, Rises}
-use Rattle.ats_terms.proofs.Counting.{all_weigh, counted_counts}
-use Rattle.ats_terms.proofs.Unique.{few_pairs, weight_at, weight_absent}
+use Rattle.ats_terms.proofs.Public.{all_weigh, counted_counts, few_pairs, weight_at, weight_absent}
 use Rattle.ats_impact.specs.Numbers.{impact}
 use Rattle.ats_impact.specs.Score.{count, total_terms}
 use Rattle.ats_doctree.specs.Impacts.{doc_terms}

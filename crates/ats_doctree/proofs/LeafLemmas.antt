@@ -1,7 +1,7 @@
 -- Leaves of equal bytes have equal parts.
 use Rattle.std.proofs.Common.{◌≡◌, ◌<◌, ◌^◌, ◌++◌, ℕ, List, length}
 use Rattle.std.specs.Int.{to_be_bytes, w16}
-use Rattle.ats_tree.proofs.Joined.{parted, first_and_rest, same_2}
+use Rattle.ats_tree.proofs.Public.{parted, first_and_rest, same_2}
 use Rattle.ats_doctree.specs.Sentinels.{leaf_bytes}
 
 pub leaf_parts : (term other : List ℕ) (m n : ℕ) → m < 2 ^ 16 → n < 2 ^ 16 → leaf_bytes (term, m) ≡ leaf_bytes (other, n) → (term ≡ other) × (m ≡ n)

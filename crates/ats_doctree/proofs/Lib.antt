@@ -1,4 +1,5 @@
-pub mod Counts
-pub mod Documents
-pub mod Positions
-pub mod LeafLemmas
+pub mod Public
+mod Counts
+mod Documents
+mod Positions
+mod LeafLemmas

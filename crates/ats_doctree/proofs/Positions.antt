@@ -4,8 +4,7 @@ use Rattle.std.proofs.lemmas.List.{length-map, get_or-map}
 use Rattle.std.specs.Int.{to_be_bytes, w16}
 use Rattle.ats_terms.specs.Order.{IsBelow}
 use Rattle.ats_terms.specs.Found.{RiseBetweenSentinels}
-use Rattle.ats_terms.proofs.Order.{rises_less}
-use Rattle.ats_terms.proofs.Sentinels.{inner_at, last_at, length-between, rise_between}
+use Rattle.ats_terms.proofs.Public.{rises_less, inner_at, last_at, length-between, rise_between}
 use Rattle.ats_doctree.specs.Impacts.{AreImpacts}
 use Rattle.ats_doctree.specs.Sentinels.{low, high, with_sentinels, item_at, term_at, impact_at, leaf_bytes, terms_leaves}
 

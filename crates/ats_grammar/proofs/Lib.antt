@@ -1,3 +1,4 @@
-pub mod Fronts
-pub mod Staying
-pub mod Pieces
+pub mod Public
+mod Fronts
+mod Staying
+mod Pieces

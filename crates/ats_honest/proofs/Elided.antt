@@ -9,8 +9,7 @@ use Rattle.ats_tree.specs.Tree.{Tree, empty, leaf, node, tree_within, tree_of}
 use Rattle.ats_tree.specs.Shown.{Shown, shown_at, places}
 use Rattle.ats_tree.specs.Rebuild.{is_bare, need}
 use Rattle.ats_tree.specs.Elided.{shown_with, elided_of, elided_digests, left_of, right_of}
-use Rattle.ats_tree.proofs.Trees.{within-cut, within-suc, of-within}
-use Rattle.ats_tree.proofs.Places.{length-places}
+use Rattle.ats_tree.proofs.Public.{within-cut, within-suc, of-within, length-places}
 
 -- as many as the tree needs, whatever the leaves are
 elided_need : (H : List ℕ → List ℕ) (t : Tree (Option (List ℕ))) (u : Tree (List ℕ)) → length (elided_of H t u) ≡ need t

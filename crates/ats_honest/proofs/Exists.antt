@@ -12,7 +12,7 @@ use Rattle.ats_terms.specs.Query.{IsQuery}
 use Rattle.ats_impact.specs.Numbers.{idf}
 use Rattle.ats_impact.specs.Score.{frequency}
 use Rattle.ats_lists.specs.Lists.{IsList, list}
-use Rattle.ats_lists.proofs.WholeLemmas.{list_frequency}
+use Rattle.ats_lists.proofs.Public.{list_frequency}
 use Rattle.ats_tree.specs.Elided.{elided_digests}
 use Rattle.ats_dict.specs.Dictionary.{dict_leaves}
 use Rattle.ats_terms.specs.declared.spot.Spot.{Spot}
@@ -26,9 +26,7 @@ use Rattle.ats_commit.specs.Trees.{dictionary_of, documents_of}
 use Rattle.ats_bound.specs.declared.bracket.Bracket.{Bracket}
 use Rattle.ats_bound.specs.Narrow.{AreNarrow}
 use Rattle.ats_bound.specs.Schedule.{AreWholeLanes, IsWholeLane, WholeLane, shown}
-use Rattle.ats_bound.proofs.Ending.{brackets_are_narrow, first_settled_exists, looked_up_are_narrow}
-use Rattle.ats_bound.proofs.Gathered.{brackets_exist}
-use Rattle.ats_bound.proofs.Sorted.{chosen_exists, sorts}
+use Rattle.ats_bound.proofs.Public.{brackets_are_narrow, first_settled_exists, looked_up_are_narrow, brackets_exist, chosen_exists, sorts}
 use Rattle.ats_proof.specs.declared.record.Algorithm.{Algorithm}
 use Rattle.ats_proof.specs.declared.record.Algorithm.TheVariants.{Tra, Tnra}
 use Rattle.ats_proof.specs.Value.{Documents, Proof, TermsSection}

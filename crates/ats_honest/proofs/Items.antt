@@ -13,7 +13,7 @@ use Rattle.ats_terms.specs.declared.spot.Spot.{Spot}
 use Rattle.ats_terms.specs.declared.spot.Spot.TheVariants.{At, Between}
 use Rattle.ats_doctree.specs.Impacts.{AreImpacts}
 use Rattle.ats_doctree.specs.Sentinels.{IsBelow, item_at, low, term_at, terms_leaves}
-use Rattle.ats_doctree.proofs.Positions.{item_at-last, item_at-suc, length-terms_leaves, terms_rise}
+use Rattle.ats_doctree.proofs.Public.{item_at-last, item_at-suc, length-terms_leaves, terms_rise}
 use Rattle.ats_proof.specs.Value.{TermsSection}
 use Rattle.ats_honest.specs.Documents.{IsTermSpot, shown_term}
 use Rattle.ats_honest.specs.Terms.{AreNeeded, HaveSpots, lower, slot_of}

@@ -4,16 +4,15 @@ use Rattle.std.proofs.lemmas.Bool.{lt-ltb}
 use Rattle.ats_impact.specs.Numbers.{impact}
 use Rattle.ats_impact.specs.Score.{count, total_terms}
 use Rattle.ats_terms.specs.Terms.{terms}
-use Rattle.ats_terms.proofs.Sentinels.{none_of}
+use Rattle.ats_terms.proofs.Public.{none_of}
 use Rattle.ats_lists.specs.Lists.{list}
 use Rattle.ats_lists.specs.Postings.{posting}
 use Rattle.ats_doctree.specs.Found.{LiesBetween, StandsAt}
 use Rattle.ats_doctree.specs.Impacts.{doc_terms}
 use Rattle.ats_doctree.specs.Sentinels.{impact_at, high, low}
-use Rattle.ats_doctree.proofs.Documents.{impact_tells, none_stands, term_stands}
-use Rattle.ats_doctree.proofs.Positions.{item_at-suc}
+use Rattle.ats_doctree.proofs.Public.{impact_tells, none_stands, term_stands, item_at-suc}
 use Rattle.ats_bound.specs.Ranked.{impact_in}
-use Rattle.ats_bound.proofs.Texts.{has, listed}
+use Rattle.ats_bound.proofs.Public.{has, listed}
 
 module _ (texts : List (List ℕ)) (term : List ℕ) (doc : ℕ) (low_doc : doc < length texts) where
   abbrev text : List ℕ

@@ -9,10 +9,10 @@ use Rattle.std.proofs.lemmas.List.Sums.{sum_by-cons}
 use Rattle.ats_lists.specs.Lists.{list}
 use Rattle.ats_lists.specs.Postings.{postings}
 use Rattle.ats_lists.specs.declared.entry.Entry.{Entry}
-use Rattle.ats_lists.proofs.PostingLemmas.{list_is_sorted, postings_below}
+use Rattle.ats_lists.proofs.Public.{list_is_sorted, postings_below}
 use Rattle.ats_bound.specs.Ranked.{impact_in}
 use Rattle.ats_bound.specs.Schedule.{WholeLane}
-use Rattle.ats_bound.proofs.Lanes.{share}
+use Rattle.ats_bound.proofs.Public.{share}
 use Rattle.ats_honest.specs.Lanes.{impacts_of, lane_of}
 
 abbrev none : WholeLane

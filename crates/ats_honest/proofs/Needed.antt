@@ -11,7 +11,7 @@ use Rattle.std.proofs.lemmas.Map.Keys.{IsDistinct-from_sorted, IsStrictlyIncreas
 use Rattle.std.specs.List.{range_with_len}
 use Rattle.ats_terms.specs.declared.spot.Spot.{Spot}
 use Rattle.ats_terms.specs.declared.spot.Spot.TheVariants.{At, Between}
-use Rattle.ats_bound.proofs.Members.{has_deduped}
+use Rattle.ats_bound.proofs.Public.{has_deduped}
 use Rattle.ats_honest.specs.Terms.{AreNeeded, has, needs}
 
 -- sorted, and each once

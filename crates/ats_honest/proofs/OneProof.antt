@@ -8,34 +8,30 @@ use Rattle.std.proofs.lemmas.Cmp.{nat_cmp_total}
 use Rattle.std.proofs.lemmas.List.{get_or-map, length-map}
 use Rattle.std.proofs.lemmas.Map.Keys.{Less-from_sorted, sorted_from_strictly_increasing}
 use Rattle.std.proofs.lemmas.Map.Lookups.{exact_unsigned}
-use Rattle.ats_lists.proofs.Rising.{same_members}
-use Rattle.ats_lists.proofs.VocabularyLemmas.{vocabulary_rises}
+use Rattle.ats_lists.proofs.Public.{same_members, vocabulary_rises}
 use Rattle.ats_terms.specs.declared.spot.Spot.{Spot}
 use Rattle.ats_terms.specs.declared.spot.Spot.TheVariants.{At, Between}
 use Rattle.ats_dict.specs.Entry.{DictEntry}
 use Rattle.ats_dict.specs.Dictionary.{IsBelow, byte_cmp, dict_leaves, low, term_at}
 use Rattle.ats_dict.specs.Found.{IsSpot, LiesBetween, StandsAt}
-use Rattle.ats_dict.proofs.Sentinels.{entry_at-suc}
+use Rattle.ats_dict.proofs.Public.{entry_at-suc}
 use Rattle.ats_lists.specs.Layout.{whole_lists}
 use Rattle.ats_commit.specs.Archive.{archive_of}
 use Rattle.ats_commit.specs.Trees.{dictionary_of}
-use Rattle.ats_commit.proofs.DictionaryLemmas.{dictionary_terms}
+use Rattle.ats_commit.proofs.Public.{dictionary_terms}
 use Rattle.ats_bound.specs.declared.bracket.Bracket.{Bracket}
 use Rattle.ats_bound.specs.Chosen.{IsChosen}
 use Rattle.ats_bound.specs.Schedule.{AreBracketsBy, Bounding, WholeLane, shown}
-use Rattle.ats_bound.proofs.One.{one_bracketing, risen_are_distinct}
-use Rattle.ats_bound.proofs.OneCut.{one_first_settled}
-use Rattle.ats_bound.proofs.OneAnswer.{one_chosen}
+use Rattle.ats_bound.proofs.Public.{one_bracketing, risen_are_distinct, one_first_settled, one_chosen}
 use Rattle.ats_proof.specs.declared.record.Algorithm.{Algorithm}
 use Rattle.ats_proof.specs.declared.record.Algorithm.TheVariants.{Tra, Tnra}
 use Rattle.ats_proof.specs.Value.{Documents, Proof, TermsSection}
-use Rattle.ats_terms.proofs.Order.{rises_less}
+use Rattle.ats_terms.proofs.Public.{rises_less}
 use Rattle.ats_doctree.specs.Found as found
 use Rattle.ats_doctree.specs.Sentinels as tree
 use Rattle.ats_doctree.specs.Sentinels.{terms_leaves}
 use Rattle.ats_doctree.specs.Impacts.{doc_terms}
-use Rattle.ats_doctree.proofs.Documents.{doc_terms_rise}
-use Rattle.ats_doctree.proofs.Positions.{item_at-suc}
+use Rattle.ats_doctree.proofs.Public.{doc_terms_rise, item_at-suc}
 use Rattle.ats_honest.specs.Terms.{AreNeeded, HaveSpots, shown_entry, slot_of}
 use Rattle.ats_honest.specs.Documents.{AreHonestSections, HasDocuments, IsHonestSection, IsTermSpot, shown_term}
 use Rattle.ats_honest.specs.Lanes.{bounding, lanes_of, present}

@@ -11,20 +11,18 @@ use Rattle.std.proofs.lemmas.Slice.Eq.{bytes_eq-Decides}
 use Rattle.ats_terms.specs.Query.{counted}
 use Rattle.unicode_segmentation.specs.Word.{words}
 use Rattle.ats_terms.specs.Terms.{folded, is_term, occurrences, terms}
-use Rattle.ats_terms.proofs.Counting.{counted_counts}
-use Rattle.ats_terms.proofs.Unique.{weight_at}
+use Rattle.ats_terms.proofs.Public.{counted_counts, weight_at}
 use Rattle.ats_impact.specs.Score.{count}
 use Rattle.ats_tree.specs.Tree.{tree_of}
 use Rattle.ats_lists.specs.Leaf.{leaf_bytes}
 use Rattle.ats_lists.specs.Lists.{list, vocabulary}
-use Rattle.ats_lists.proofs.VocabularyLemmas.{vocabulary_few}
+use Rattle.ats_lists.proofs.Public.{vocabulary_few}
 use Rattle.ats_dict.specs.Entry.{DictEntry}
-use Rattle.ats_dict.proofs.Sentinels.{length-dict_leaves}
+use Rattle.ats_dict.proofs.Public.{length-dict_leaves}
 use Rattle.ats_commit.specs.Archive.{archive_of}
 use Rattle.ats_commit.specs.Own.{AreTexts}
 use Rattle.ats_commit.specs.Trees.{dictionary_of}
-use Rattle.ats_commit.proofs.DictionaryLemmas.{dictionary_count, dictionary_numbers, dictionary_roots, dictionary_terms}
-use Rattle.ats_commit.proofs.TermLemmas.{few_within}
+use Rattle.ats_commit.proofs.Public.{dictionary_count, dictionary_numbers, dictionary_roots, dictionary_terms, few_within}
 use Rattle.ats_honest.proofs.Ranges.{digest_sized}
 use Rattle.ats_honest.proofs.Spots.{IsLeaf}
 

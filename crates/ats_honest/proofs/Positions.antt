@@ -5,8 +5,7 @@ use Rattle.std.specs.declared.cmp.Ordering.TheVariants.{Less, Equal, Greater}
 use Rattle.std.proofs.lemmas.Bool.{cases_order}
 use Rattle.std.proofs.lemmas.Cmp.{nat_list_cmp_total}
 use Rattle.ats_terms.specs.Order.{IsBelow, byte_cmp}
-use Rattle.ats_terms.proofs.Counting.{equal_from}
-use Rattle.ats_terms.proofs.Order.{above_from}
+use Rattle.ats_terms.proofs.Public.{equal_from, above_from}
 use Rattle.ats_honest.proofs.Ranges.{not_below_itself}
 
 -- the term stands at a position from 1 to n

@@ -16,17 +16,16 @@ use Rattle.ats_impact.specs.Numbers.{idf, ratio, doublings, eighths}
 use Rattle.ats_impact.specs.Score.{coefficient, frequency}
 use Rattle.ats_lists.specs.Lists.{IsList, list, lists_of, vocabulary}
 use Rattle.ats_lists.specs.declared.entry.Entry.{Entry}
-use Rattle.ats_lists.proofs.VocabularyLemmas.{vocabulary_has, postings_frequency}
+use Rattle.ats_lists.proofs.Public.{vocabulary_has, postings_frequency, list_frequency, list_keeps}
 use Rattle.ats_lists.specs.Postings.{postings}
-use Rattle.ats_lists.proofs.WholeLemmas.{list_frequency, list_keeps}
 use Rattle.ats_dict.specs.Entry.{DictEntry}
-use Rattle.ats_terms.proofs.Sentinels.{none_of}
+use Rattle.ats_terms.proofs.Public.{none_of}
 use Rattle.ats_dict.specs.Dictionary.{low, high, entry_at}
 use Rattle.ats_dict.specs.Found.{StandsAt, LiesBetween}
-use Rattle.ats_dict.proofs.Sentinels.{entry_at-suc}
+use Rattle.ats_dict.proofs.Public.{entry_at-suc}
 use Rattle.ats_commit.specs.Archive.{Archive, archive_of}
 use Rattle.ats_commit.specs.Trees.{dict_entry, dictionary_of}
-use Rattle.ats_commit.proofs.DictionaryLemmas.{dictionary_terms}
+use Rattle.ats_commit.proofs.Public.{dictionary_terms}
 use Rattle.ats_bound.specs.Schedule.{WholeLane, IsWholeLane}
 use Rattle.ats_honest.specs.Lanes.{lane_of, lanes_of, present}
 

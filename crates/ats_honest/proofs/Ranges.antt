@@ -18,11 +18,11 @@ use Rattle.ats_terms.specs.declared.spot.Spot.TheVariants.{At, Between}
 use Rattle.ats_dict.specs.Entry.{DictEntry}
 use Rattle.ats_dict.specs.Dictionary.{IsBelow, IsDictionary, term_at}
 use Rattle.ats_dict.specs.Found.{IsSpot}
-use Rattle.ats_dict.proofs.Sentinels.{terms_rise}
+use Rattle.ats_dict.proofs.Public.{terms_rise}
 use Rattle.ats_honest.specs.Terms.{AreSpots, AreNeeded, HaveSpots, has, lower, needs, place, shown_entry, slot_of}
 use Rattle.ats_honest.proofs.Spots.{leaf_at, lower_within}
 use Rattle.ats_honest.proofs.Places.{place_grows}
-use Rattle.ats_bound.proofs.Members.{has_contained, contained_has}
+use Rattle.ats_bound.proofs.Public.{has_contained, contained_has}
 use Rattle.ats_honest.proofs.Coming.{AreGoodEntries, AreGoodSlots, AreGoodIds}
 
 -- ---- digests have 32 bytes

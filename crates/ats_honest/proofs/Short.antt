@@ -9,7 +9,7 @@ use Rattle.ats_tree.specs.Elided.{elided_digests, shown_with}
 use Rattle.ats_tree.specs.Rebuild.{tree_of_places}
 use Rattle.ats_tree.specs.Shown.{Shown, places, shown_at}
 use Rattle.ats_tree.specs.Tree.{tree_of}
-use Rattle.ats_tree.proofs.Places.{length-places}
+use Rattle.ats_tree.proofs.Public.{length-places}
 use Rattle.ats_lists.specs.Leaf.{leaf_bytes}
 use Rattle.ats_lists.specs.Lists.{IsList}
 use Rattle.ats_lists.specs.declared.entry.Entry.{Entry}
@@ -17,16 +17,15 @@ use Rattle.ats_dict.specs.Dictionary.{dict_leaves}
 use Rattle.ats_dict.specs.Entry.{DictEntry}
 use Rattle.ats_dict.specs.Header.{IsHeader}
 use Rattle.ats_dict.specs.declared.header.Header.{Header}
-use Rattle.ats_dict.proofs.Sentinels.{length-dict_leaves}
+use Rattle.ats_dict.proofs.Public.{length-dict_leaves}
 use Rattle.ats_lists.specs.Layout.{whole_lists}
 use Rattle.ats_commit.specs.Archive.{archive_of}
 use Rattle.ats_commit.specs.Own.{AreTexts}
 use Rattle.ats_commit.specs.Trees.{dictionary_of}
-use Rattle.ats_commit.proofs.HeaderLemmas.{header_in_range}
-use Rattle.ats_commit.proofs.TermLemmas.{few_within}
+use Rattle.ats_commit.proofs.Public.{header_in_range, few_within}
 use Rattle.ats_bound.specs.declared.bracket.Bracket.{Bracket}
 use Rattle.ats_bound.specs.Schedule.{IsCut, WholeLane, shown}
-use Rattle.ats_bound.proofs.Shown.{scheduled_is_cut}
+use Rattle.ats_bound.proofs.Public.{scheduled_is_cut}
 use Rattle.ats_proof.specs.declared.record.Algorithm.TheVariants.{Tnra}
 use Rattle.ats_proof.specs.declared.record.Slot.{Slot}
 use Rattle.ats_proof.specs.Parts.{counted, spelled}

@@ -7,7 +7,7 @@ use Rattle.ats_dict.specs.Entry.{DictEntry}
 use Rattle.std.proofs.lemmas.Bool.{cases_lt}
 use Rattle.std.proofs.lemmas.List.{length-replicate}
 use Rattle.ats_dict.specs.Dictionary.{IsDictionary, entry_at, low, zero_root}
-use Rattle.ats_dict.proofs.Sentinels.{entry_at-suc, entry_at-last}
+use Rattle.ats_dict.proofs.Public.{entry_at-suc, entry_at-last}
 use Rattle.ats_dict.specs.Found.{IsSpot}
 use Rattle.ats_honest.specs.Terms.{AreSpots, HaveSpots, lower}
 

@@ -3,21 +3,19 @@ use Rattle.std.proofs.Common.{◌≡◌, ◌+◌, ℕ, List, [], ◌∷◌, leng
 use Rattle.std.specs.List.{All}
 use Rattle.std.proofs.lemmas.List.Elements.{All-head, All-tail}
 use Rattle.ats_terms.specs.Terms.{IsTerm}
-use Rattle.ats_terms.proofs.Order.{rises_less}
-use Rattle.ats_terms.proofs.Sentinels.{high_above, low_below, nowhere}
+use Rattle.ats_terms.proofs.Public.{rises_less, high_above, low_below, nowhere}
 use Rattle.ats_terms.specs.declared.spot.Spot.{Spot}
 use Rattle.ats_terms.specs.declared.spot.Spot.TheVariants.{At, Between}
 use Rattle.ats_dict.specs.Entry.{DictEntry}
 use Rattle.ats_dict.specs.Dictionary.{IsBelow, entry_at, high, low, term_at}
 use Rattle.ats_dict.specs.Found.{IsSpot}
-use Rattle.ats_dict.proofs.Sentinels.{entry_at-last, entry_at-suc}
+use Rattle.ats_dict.proofs.Public.{entry_at-last, entry_at-suc}
 use Rattle.ats_doctree.specs.Impacts.{doc_terms}
 use Rattle.ats_doctree.specs.Sentinels as tree
-use Rattle.ats_doctree.proofs.Documents.{doc_terms_rise}
-use Rattle.ats_doctree.proofs.Positions.{item_at-last, item_at-suc}
+use Rattle.ats_doctree.proofs.Public.{doc_terms_rise, item_at-last, item_at-suc}
 use Rattle.ats_commit.specs.Archive.{archive_of}
 use Rattle.ats_commit.specs.Trees.{dictionary_of}
-use Rattle.ats_commit.proofs.Enclosed.{none_between}
+use Rattle.ats_commit.proofs.Public.{none_between}
 use Rattle.ats_honest.specs.Terms.{HaveSpots}
 use Rattle.ats_honest.specs.Documents.{IsTermSpot}
 use Rattle.ats_honest.proofs.OneProof.{entries_rise}

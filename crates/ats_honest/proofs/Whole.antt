@@ -18,16 +18,16 @@ use Rattle.ats_dict.specs.Found.{IsSpot}
 use Rattle.ats_dict.specs.Header.{IsHeader}
 use Rattle.ats_terms.specs.declared.spot.Spot.{Spot}
 use Rattle.ats_terms.specs.declared.spot.Spot.TheVariants.{At, Between}
-use Rattle.ats_dict.proofs.Sentinels.{length-dict_leaves}
+use Rattle.ats_dict.proofs.Public.{length-dict_leaves}
 use Rattle.ats_lists.specs.Layout.{whole_lists}
 use Rattle.ats_commit.specs.Archive.{Archive, archive_of}
-use Rattle.ats_commit.proofs.Layouts.{each_archive}
+use Rattle.ats_commit.proofs.Public.{each_archive}
 use Rattle.ats_commit.specs.Root.{header_parts}
 use Rattle.ats_commit.specs.Trees.{dictionary_of}
 use Rattle.ats_bound.specs.declared.bracket.Bracket.{Bracket}
 use Rattle.ats_bound.specs.Chosen.{IsChosen}
 use Rattle.ats_bound.specs.Schedule.{WholeLane, AreWholeLanes, AreBracketsBy, IsFirstSettledBy, shown}
-use Rattle.ats_bound.proofs.Shown.{have_entries, scheduled_is_cut}
+use Rattle.ats_bound.proofs.Public.{have_entries, scheduled_is_cut}
 use Rattle.ats_grammar.specs.Table.{End}
 use Rattle.ats_grammar.specs.Front.{Come}
 use Rattle.ats_grammar.specs.Grammar as grammar

@@ -9,7 +9,7 @@ use Rattle.std.proofs.lemmas.List.{get_or-set_same, get_or-set_other, get_or-map
 use Rattle.std.proofs.lemmas.List.Sums.{sum_by_more, sum_by-cons, count_by-le-length}
 use Rattle.ats_terms.specs.Terms.{occurrences}
 use Rattle.ats_terms.specs.Query.{Rises}
-use Rattle.ats_terms.proofs.Order.{rises_apart}
+use Rattle.ats_terms.proofs.Public.{rises_apart}
 use Rattle.ats_impact.specs.Score.{count, counts, frequency}
 
 no : {P : Type 0} → (r : Bool) → Decides r P → ¬ P → r ≡ false

@@ -1,17 +1,18 @@
-pub mod Collected
-pub mod Entries
-pub mod Whole
-pub mod Writing
-pub mod Reading
-pub mod Loading
-pub mod OneArchive
-pub mod CommonPrefix
-pub mod ComparingLemmas
-pub mod OnePlace
-pub mod ReadingTexts
-pub mod SomePlace
-pub mod TermBytes
-pub mod Vocabulary
-pub mod Size
-pub mod StringLemmas
-pub mod ShownLemmas
+pub mod Public
+mod Collected
+mod Entries
+mod Whole
+mod Writing
+mod Reading
+mod Loading
+mod OneArchive
+mod CommonPrefix
+mod ComparingLemmas
+mod OnePlace
+mod ReadingTexts
+mod SomePlace
+mod TermBytes
+mod Vocabulary
+mod Size
+mod StringLemmas
+mod ShownLemmas

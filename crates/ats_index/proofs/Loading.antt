@@ -4,7 +4,7 @@ use Rattle.ats_lists.specs.Lists.{lists_of}
 use Rattle.ats_lists.specs.Layout.{Layout, whole_lists}
 use Rattle.ats_commit.specs.Archive.{Archive, archive_of}
 use Rattle.ats_commit.specs.Root.{root_of}
-use Rattle.ats_commit.proofs.Layouts.{same_layout}
+use Rattle.ats_commit.proofs.Public.{same_layout}
 use Rattle.ats_index.specs.Spelling.{texts_bytes, lists_bytes, index_bytes}
 
 -- the texts, and what stands behind them

@@ -7,7 +7,7 @@ use Rattle.ats_lists.specs.Lists.{lists_of}
 use Rattle.ats_lists.specs.Layout.{Layout}
 use Rattle.ats_commit.specs.Archive.{Archive}
 use Rattle.ats_commit.specs.Root.{root_of}
-use Rattle.ats_commit.proofs.Layouts.{same_layout}
+use Rattle.ats_commit.proofs.Public.{same_layout}
 use Rattle.ats_index.specs.Spelling.{IsSpelling, front_bytes, text_bytes, lists_bytes}
 use Rattle.ats_index.specs.LoadFaults.{BeginWith}
 use Rattle.ats_index.proofs.Reading.{front_number, front_rest, text_number, text_first, text_rest}

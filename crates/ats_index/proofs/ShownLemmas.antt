@@ -9,8 +9,7 @@ use Rattle.ats_tree.specs.Kept.{kept_digests}
 use Rattle.ats_tree.specs.Nodes.{Node}
 use Rattle.ats_tree.specs.Shown.{Shown, positions_of, first_position, first_leaf}
 use Rattle.ats_tree.specs.Strings.{node_string, node_strings}
-use Rattle.ats_tree.proofs.KeptLemmas.{length-kept}
-use Rattle.ats_tree.proofs.OwnStrings.{own-strings}
+use Rattle.ats_tree.proofs.Public.{length-kept, own-strings}
 
 -- the first of short leaves is short
 pub first_short : (shown : List Shown) → All (λ s. length s.1 ≤ 127) shown → length (first_leaf shown) ≤ 127

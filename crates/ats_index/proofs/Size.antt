@@ -9,11 +9,10 @@ use Rattle.ats_impact.specs.Score.{frequency, total_terms}
 use Rattle.ats_lists.specs.Leaf.{leaf_bytes}
 use Rattle.ats_lists.specs.Lists.{list, lists_of, vocabulary}
 use Rattle.ats_lists.specs.declared.entry.Entry.{Entry}
-use Rattle.ats_lists.proofs.VocabularyLemmas.{vocabulary_few}
-use Rattle.ats_lists.proofs.WholeLemmas.{list_frequency}
+use Rattle.ats_lists.proofs.Public.{vocabulary_few, list_frequency}
 use Rattle.ats_commit.specs.Archive.{Archive, header_tag}
 use Rattle.ats_commit.specs.Root.{root_of, header_of}
-use Rattle.ats_commit.proofs.TermLemmas.{few_within}
+use Rattle.ats_commit.proofs.Public.{few_within}
 use Rattle.ats_index.specs.Spelling.{IsSpelling, front_bytes, text_bytes, list_bytes, texts_bytes, lists_bytes}
 use Rattle.ats_index.proofs.Loading.{texts_first}
 use Rattle.ats_index.proofs.TermBytes.{term_bytes}

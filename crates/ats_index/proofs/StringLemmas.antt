@@ -3,11 +3,11 @@ use Rattle.std.proofs.Common.{◌≡◌, ◌<◌, ℕ, List, [], length, map, ge
 use Rattle.std.specs.List.{All}
 use Rattle.ats_tree.specs.Nodes.{Node, by_path}
 use Rattle.ats_tree.specs.Strings.{node_string}
-use Rattle.ats_tree.proofs.TurnLemmas.{string-none}
+use Rattle.ats_tree.proofs.Public.{string-none}
 use Rattle.ats_lists.specs.Leaf.{leaf_bytes}
 use Rattle.ats_lists.specs.Lists.{list, lists_of}
 use Rattle.ats_lists.specs.declared.entry.Entry.{Entry}
-use Rattle.ats_lists.proofs.ListedLemmas.{listed, unlisted}
+use Rattle.ats_lists.proofs.Public.{listed, unlisted}
 use Rattle.ats_lists.specs.Layout.{Layout, whole_lists}
 use Rattle.ats_commit.specs.Archive.{Archive}
 use Rattle.ats_commit.specs.Prefixes.{list_string}

@@ -11,11 +11,10 @@ use Rattle.std.proofs.lemmas.List.Elements.{All-tail}
 use Rattle.std.proofs.lemmas.List.Sums.{sum_by-cons, sum_by-le-sum_by}
 use Rattle.ats_terms.specs.Terms.{terms}
 use Rattle.ats_terms.specs.Query.{byte_cmp, put_term, counted}
-use Rattle.ats_terms.proofs.Counting.{counted_counts, all_weigh}
-use Rattle.ats_terms.proofs.Unique.{weight_at}
+use Rattle.ats_terms.proofs.Public.{counted_counts, all_weigh, weight_at}
 use Rattle.ats_impact.specs.Score.{count, frequency, total_terms}
 use Rattle.ats_lists.specs.Lists.{vocabulary}
-use Rattle.ats_lists.proofs.VocabularyLemmas.{occurs_in}
+use Rattle.ats_lists.proofs.Public.{occurs_in}
 
 module _ (g : List ℕ → ℕ) where
   abbrev of_pair : List ℕ × ℕ → ℕ

@@ -13,10 +13,10 @@ use Rattle.std.proofs.lemmas.Slice.Eq.{bytes_eq-Decides}
 use Rattle.ats_terms.specs.Terms.{terms, IsTerm}
 use Rattle.ats_terms.specs.Query.{Rises}
 use Rattle.ats_terms.specs.Counted.{weight_of, Counts}
-use Rattle.ats_terms.proofs.Order.{rises_apart}
+use Rattle.ats_terms.proofs.Public.{rises_apart}
 use Rattle.ats_impact.specs.Numbers.{impact}
 use Rattle.ats_impact.specs.Score.{total_terms}
-use Rattle.ats_impact.proofs.Occurrences.{occurs_few}
+use Rattle.ats_impact.proofs.Public.{occurs_few}
 use Rattle.ats_lists.specs.Postings.{text_of, count_in, posting, postings_of_first}
 use Rattle.ats_lists.specs.Gathered.{TermMap, entries_at, if_some, HasFirst}
 use Rattle.ats_lists.specs.declared.entry.Entry.{Entry}

@@ -1,9 +1,10 @@
-pub mod Rising
-pub mod Sorting
-pub mod PostingLemmas
-pub mod VocabularyLemmas
-pub mod MapLemmas
-pub mod DocumentLemmas
-pub mod WholeLemmas
-pub mod Finding
-pub mod ListedLemmas
+pub mod Public
+mod Rising
+mod Sorting
+mod PostingLemmas
+mod VocabularyLemmas
+mod MapLemmas
+mod DocumentLemmas
+mod WholeLemmas
+mod Finding
+mod ListedLemmas

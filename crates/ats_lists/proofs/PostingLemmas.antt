@@ -12,8 +12,7 @@ use Rattle.std.proofs.lemmas.List.Sums.{get_or-le-sum_by, length-filter, count_b
 use Rattle.std.proofs.lemmas.Map.Keys.{sorted_from_strictly_increasing}
 use Rattle.ats_terms.specs.Terms.{terms}
 use Rattle.ats_impact.specs.Score.{total_terms}
-use Rattle.ats_impact.proofs.Tables.{impact_small}
-use Rattle.ats_impact.proofs.Occurrences.{occurs_few}
+use Rattle.ats_impact.proofs.Public.{impact_small, occurs_few}
 use Rattle.ats_lists.specs.Postings.{text_of, count_in, posting, postings_of_first, postings}
 use Rattle.ats_lists.specs.Lists.{by_impact, list, entry_cmp, IsListOf}
 use Rattle.ats_lists.specs.Gathered.{doc_cmp}

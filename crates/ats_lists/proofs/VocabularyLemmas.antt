@@ -25,8 +25,7 @@ use Rattle.std.proofs.lemmas.Slice.Eq.{bytes_eq-Decides}
 use Rattle.ats_terms.specs.Terms.{terms, occurrences}
 use Rattle.ats_terms.specs.Query.{byte_cmp, put_term, counted, Rises}
 use Rattle.ats_terms.specs.Counted.{weight_of}
-use Rattle.ats_terms.proofs.Counting.{counted_counts}
-use Rattle.ats_terms.proofs.Order.{rises_less}
+use Rattle.ats_terms.proofs.Public.{counted_counts, rises_less}
 use Rattle.ats_impact.specs.Score.{count, frequency, total_terms}
 use Rattle.ats_lists.specs.Postings.{count_in, posting, postings_of_first, postings}
 use Rattle.ats_lists.specs.Lists.{vocabulary}

@@ -1,18 +1,19 @@
-pub mod Numbers
-pub mod Standing
-pub mod Runs
-pub mod Formats
-pub mod Tables
-pub mod Taking
-pub mod Sections
-pub mod Cutting
-pub mod Items
-pub mod Whole
-pub mod Answering
-pub mod Beginning
-pub mod Encoding
-pub mod Documents
-pub mod Showing
-pub mod Unique
-pub mod InRange
+pub mod Public
+mod Numbers
+mod Standing
+mod Runs
+mod Formats
+mod Tables
+mod Taking
+mod Sections
+mod Cutting
+mod Items
+mod Whole
+mod Answering
+mod Beginning
+mod Encoding
+mod Documents
+mod Showing
+mod Unique
+mod InRange
 mod Appending

@@ -8,7 +8,7 @@ use Rattle.ats_doctree.specs.declared.doc_leaf.DocLeaf.{DocLeaf}
 use Rattle.ats_proof.specs.declared.record.Slot.{Slot}
 use Rattle.ats_grammar.specs.Table.{number}
 use Rattle.ats_grammar.specs.Grammar.{proof_format}
-use Rattle.ats_grammar.proofs.Fronts.{one_spelling}
+use Rattle.ats_grammar.proofs.Public.{one_spelling}
 use Rattle.ats_proof.specs.Parts.{spelled, counted}
 use Rattle.ats_proof.specs.Value.{ShownEntry, ShownTerm, Prefix, TermsSection, Documents, Proof, IsProof, AreDocuments, AreDocumentsOf, digest_fields, slot_fields, kind_of_slot, id_fields, posting_fields, entry_fields, doc_fields, term_fields, prefix_fields, section_fields, documents_fields, front_fields, header_fields, fields_of, number_of_algorithm, present_in}
 use Rattle.ats_proof.specs.Reading.{proof_in}

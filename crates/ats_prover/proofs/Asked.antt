@@ -9,7 +9,7 @@ use Rattle.ats_lists.specs.Layout.{whole_lists}
 use Rattle.ats_commit.specs.Archive.{Archive, archive_of}
 use Rattle.ats_commit.specs.Root.{header_parts}
 use Rattle.ats_commit.specs.Trees.{dictionary_of}
-use Rattle.ats_commit.proofs.Layouts.{each_archive}
+use Rattle.ats_commit.proofs.Public.{each_archive}
 use Rattle.ats_bound.specs.declared.bracket.Bracket.{Bracket}
 use Rattle.ats_proof.specs.Records.{front_record}
 use Rattle.ats_proof.specs.Written.{Written, after, writing}
@@ -21,7 +21,7 @@ use Rattle.ats_honest.specs.Terms.{shown_entry, slot_of}
 use Rattle.ats_honest.specs.Documents.{HasDocuments}
 use Rattle.ats_honest.specs.Lanes.{lanes_of}
 use Rattle.ats_honest.specs.Honest.{IsProved, length_of, prefixes}
-use Rattle.ats_honest.proofs.Whole.{HasParts, docs_of, documents_are, is_honest, lists_each, proof_comes, proof_of}
+use Rattle.ats_honest.proofs.Public.{HasParts, docs_of, documents_are, is_honest, lists_each, proof_comes, proof_of}
 use Rattle.ats_prover.specs.Writing.{IsWritten, put}
 use Rattle.ats_prover.proofs.Putting.{put_all}
 use Rattle.ats_prover.proofs.Records.{IsKindOf, front_is}

@@ -13,7 +13,7 @@ use Rattle.ats_prover.specs.Writing.{put}
 use Rattle.ats_prover.proofs.Putting.{put_more}
 use Rattle.ats_proof.specs.Value.{Prefix, prefix_fields}
 use Rattle.ats_honest.specs.Honest.{prefix_of, prefixes}
-use Rattle.ats_honest.proofs.Fronts.{prefix_at, prefix_each}
+use Rattle.ats_honest.proofs.Public.{prefix_at, prefix_each}
 
 -- one prefix more
 pub prefix_more : (H : List ℕ → List ℕ) (met : List ℕ) (w : Written) (front : List (List ℕ)) (lanes : List Lane) (cut : List ℕ) (i : ℕ) (d : Lane) (old new : Written)

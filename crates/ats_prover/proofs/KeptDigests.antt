@@ -2,7 +2,7 @@
 use Rattle.std.proofs.Common.{◌≡◌, ℕ, ◌+◌, ◌*◌, ◌<◌, ◌≤◌, List, length, ap, arith}
 use Rattle.std.specs.List.{All}
 use Rattle.ats_tree.specs.Kept.{kept_digests}
-use Rattle.ats_tree.proofs.KeptLemmas.{length-kept}
+use Rattle.ats_tree.proofs.Public.{length-kept}
 
 -- positions of leaves are those of the tree that has these nodes
 pub kept_positions : (H : List ℕ → List ℕ) (leaves nodes : List (List ℕ)) (positions : List ℕ) → nodes ≡ kept_digests H leaves → All (λ p. p < length leaves) positions

@@ -1,7 +1,7 @@
-pub mod Putting
-pub mod Records
-pub mod KeptDigests
-pub mod Fronts
-pub mod MetLeaves
-pub mod Asked
-pub mod Sizes
+mod Putting
+mod Records
+mod KeptDigests
+mod Fronts
+mod MetLeaves
+mod Asked
+mod Sizes

@@ -16,8 +16,7 @@ use Rattle.ats_proof.specs.Value.{TermsSection, digest_fields, doc_fields, secti
 use Rattle.ats_honest.specs.Documents.{AreHonestSections, IsHonestSection, IsTermSpot, document_leaf}
 use Rattle.ats_honest.specs.Order.{ComesIn}
 use Rattle.ats_honest.specs.Terms.{AreNeeded, HaveSpots}
-use Rattle.ats_honest.proofs.Items.{section_comes, section_of}
-use Rattle.ats_honest.proofs.MetLeaves.{IsSmall, documents_come}
+use Rattle.ats_honest.proofs.Public.{section_comes, section_of, IsSmall, documents_come}
 use Rattle.ats_prover.specs.Writing.{AreDocumentsWritten, AreSectionsWritten, IsSectionWritten, IsStarted, put}
 use Rattle.ats_prover.proofs.Putting.{put_put}
 

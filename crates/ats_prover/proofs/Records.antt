@@ -15,8 +15,7 @@ use Rattle.ats_proof.specs.Records.{algorithm_byte, front_record, dict_leaf_reco
 use Rattle.std.specs.Prelude.{Option, Some, None}
 use Rattle.ats_proof.specs.Parts.{spelled}
 use Rattle.ats_proof.specs.Value.{Documents, doc_fields, front_fields, header_fields, entry_fields, number_of_algorithm, slot_fields, posting_fields, term_fields}
-use Rattle.ats_proof.proofs.Encoding.{be_2, be_4}
-use Rattle.ats_proof.proofs.Numbers.{AreBytes, number-spelled}
+use Rattle.ats_proof.proofs.Public.{be_2, be_4, AreBytes, number-spelled}
 
 power_some : (k : ℕ) → 0 < 256 ^ k
 power_some zero = omega arith

@@ -6,7 +6,7 @@ use Rattle.ats_proof.specs.declared.record.Algorithm.{Algorithm}
 use Rattle.ats_proof.specs.Value.{Proof}
 use Rattle.ats_honest.specs.Honest.{IsHonest, length_of}
 use Rattle.ats_prover.specs.Writing.{IsWritten}
-use Rattle.ats_honest.proofs.Archives.{archive_one}
+use Rattle.ats_honest.proofs.Public.{archive_one}
 use Rattle.ats_prover.proofs.Asked.{AreJoined, all_asked}
 
 -- so many bytes were asked for, under this limit

@@ -8,8 +8,8 @@ use Rattle.ats_impact.specs.declared.rank.Row.{Row}
 use Rattle.ats_client.specs.Bytes.{IsAcceptedBytes, AreVerifiedRows}
 use Rattle.ats_client.specs.declared.fault.Rejection.{Rejection}
 use Rattle.ats_client.specs.declared.fault.Rejection.TheVariants.{Shape}
-use Rattle.ats_client.proofs.OneRejection.{accepted_kept}
-use Rattle.ats_audit.proofs.Told.{told}
+use Rattle.ats_client.proofs.Public.{accepted_kept}
+use Rattle.ats_audit.proofs.Public.{told}
 use Rattle.ats_grammar.specs.declared.fault.ShapeFault.{ShapeFault}
 use Rattle.ats_wire.specs.Requests.{Question}
 use Rattle.ats_wire.specs.declared.feeding.Fed.{Fed}

@@ -7,9 +7,9 @@ use Rattle.ats_proof.specs.declared.record.Algorithm.TheVariants.{Tnra}
 use Rattle.ats_terms.specs.Query.{IsQueryOf}
 use Rattle.ats_commit.specs.Archive.{Archive}
 use Rattle.ats_index.specs.Spelling.{IsSpelling}
-use Rattle.ats_index.proofs.Size.{index_size}
+use Rattle.ats_index.proofs.Public.{index_size}
 use Rattle.ats_honest.specs.Honest.{IsHonest, IsProved}
-use Rattle.ats_honest.proofs.Archives.{archive_short}
+use Rattle.ats_honest.proofs.Public.{archive_short}
 use Rattle.ats_top.specs.Words.{ProveWords, Command, Prove, Root, algorithm_of, command_of, number_of, root_words, prove_words}
 use Rattle.ats_top.specs.Read.{Files, IsTold, HasIndex}
 use Rattle.ats_top.specs.Refusals.{IsRowCount, AsksRanking}

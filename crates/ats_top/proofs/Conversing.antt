@@ -6,7 +6,7 @@ use Rattle.ats_base.specs.Links.{LinkTold, Traffic, CallerTold, Calling, calling
 use Rattle.ats_wire.specs.Requests.{Question}
 use Rattle.ats_wire.specs.Asking.{IsHeard}
 use Rattle.ats_wire.specs.declared.asking.AskFault.{AskFault}
-use Rattle.ats_wire.proofs.OneReply.{asked_alike}
+use Rattle.ats_wire.proofs.Public.{asked_alike}
 use Rattle.ats_top.specs.Conversation.{Converses}
 
 same_some : {X : Type 0} (o : Option X) (x y : X) → o ≡ Some x → o ≡ Some y → x ≡ y

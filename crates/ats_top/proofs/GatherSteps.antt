@@ -3,7 +3,7 @@ use Rattle.std.proofs.Common.{◌≡◌, ◌⊎◌, ◌++◌, ◌∷◌, ◌<◌
 use Rattle.std.specs.List.{AllZip}
 use Rattle.std.proofs.lemmas.List.Sums.{sum_by-cons}
 use Rattle.ats_base.specs.Outside.{Rose, IsMissing, ShelfTold, Ask, Asked, ReadsAtMostOnce}
-use Rattle.ats_base.proofs.Asking.{asked_none, asked_then, asked_as}
+use Rattle.ats_base.proofs.Public.{asked_none, asked_then, asked_as}
 use Rattle.ats_top.specs.Read.{Files}
 use Rattle.ats_top.specs.Reading.{AsProof, InputFile, limit_of, ReadsInOrder, proof_files, Reads}
 use Rattle.ats_top.specs.Gathered.{IsGathered, AreGathered, LacksProof, PassesLimit, size, total}

@@ -8,7 +8,7 @@ use Rattle.ats_commit.specs.Archive.{Archive}
 use Rattle.ats_commit.specs.Root.{root_of}
 use Rattle.ats_honest.specs.Honest.{IsProved}
 use Rattle.ats_client.specs.Bytes.{IsAcceptedBytes}
-use Rattle.ats_accepts.proofs.Accepted.{proved_accepted}
+use Rattle.ats_accepts.proofs.Public.{proved_accepted}
 use Rattle.ats_top.specs.Words.{AskWords, Command, Verify, number_of, root_word, verify_words, command_of}
 use Rattle.ats_top.specs.Read.{Files, IsFile}
 use Rattle.ats_top.specs.Refusals.{IsRowCount}

@@ -7,13 +7,13 @@ use Rattle.ats_terms.specs.Query.{IsQuery, IsQueryOf}
 use Rattle.ats_commit.specs.Archive.{Archive}
 use Rattle.ats_commit.specs.Root.{root_of}
 use Rattle.ats_honest.specs.Honest.{IsProved}
-use Rattle.ats_proof.proofs.InRange.{in_range}
+use Rattle.ats_proof.proofs.Public.{in_range}
 use Rattle.ats_client.specs.Headline.{AreRight, IsTopOrCollides}
 use Rattle.ats_client.specs.Rows.{rows_of}
 use Rattle.ats_client.specs.Bytes.{IsAcceptedBytes}
-use Rattle.ats_client.proofs.Headline.{top_or_collides}
-use Rattle.ats_audit.proofs.Told.{right_rows}
-use Rattle.ats_accepts.proofs.HonestStrings.{proved_unclashing}
+use Rattle.ats_client.proofs.Public.{top_or_collides}
+use Rattle.ats_audit.proofs.Public.{right_rows}
+use Rattle.ats_accepts.proofs.Public.{proved_unclashing}
 use Rattle.ats_top.specs.Words.{AuditWords, SweepWords, Audit, Sweep}
 use Rattle.ats_top.specs.Read.{Files, IsFile, HasIndex}
 use Rattle.ats_top.specs.Refusals.{IsRowCount}

@@ -8,7 +8,7 @@ use Rattle.ats_audit.specs.Sweeps.{IsVerdictOf}
 use Rattle.ats_audit.specs.declared.auditing.Verdict.{Verdict}
 use Rattle.ats_audit.specs.declared.auditing.Verdict.TheVariants as verdict
 use Rattle.ats_audit.specs.declared.sweeping.Job.{Job}
-use Rattle.ats_audit.proofs.Told.{extract-collides}
+use Rattle.ats_audit.proofs.Public.{extract-collides}
 use Rattle.ats_terms.specs.Query.{IsQueryOf}
 use Rattle.ats_top.specs.Words.{AuditWords}
 use Rattle.ats_top.specs.Read.{Files, IsFile, HasIndex}

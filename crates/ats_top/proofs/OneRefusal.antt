@@ -16,10 +16,9 @@ use Rattle.ats_proof.specs.declared.record.Algorithm.TheVariants.{Tra, Tnra}
 use Rattle.ats_index.specs.Spelling.{IsSpelling}
 use Rattle.ats_index.specs.LoadFaults.{IsLoadFault}
 use Rattle.ats_index.specs.declared.load.LoadFault.TheVariants as index
-use Rattle.ats_index.proofs.OneArchive.{one_archive}
-use Rattle.ats_index.proofs.OnePlace.{one_place}
+use Rattle.ats_index.proofs.Public.{one_archive, one_place}
 use Rattle.ats_honest.specs.Honest.{IsHonest, IsTooLong, length_of}
-use Rattle.ats_honest.proofs.Archives.{archive_one}
+use Rattle.ats_honest.proofs.Public.{archive_one}
 use Rattle.ats_top.specs.Input.{AreJsonTexts, IsFirstJsonFault}
 use Rattle.ats_top.specs.declared.input.JsonFault.{JsonFault}
 use Rattle.ats_top.specs.declared.input.JsonFault.TheVariants as json

@@ -1,7 +1,7 @@
 -- What is asked of a shelf, from what is asked for one file.
 use Rattle.std.proofs.Common.{◌≡◌, ◌≤◌, ◌^◌, ◌++◌, ◌∷◌, ℕ, List, [], Option, Some, None, refl, sym, ap, subst, ◌∙◌, inl, inr, arith, append-nil}
 use Rattle.ats_base.specs.Outside.{IsMissing, ShelfTold, Ask, Asked, ReadsAtMostOnce, StoresOnce}
-use Rattle.ats_base.proofs.Asking.{asked_none, asked_then, asked_as}
+use Rattle.ats_base.proofs.Public.{asked_none, asked_then, asked_as}
 use Rattle.ats_commit.specs.Archive.{Archive}
 use Rattle.ats_top.specs.Words.{RankWords, BuildWords, RootWords, ProveWords, VerifyWords, ServeWords, AuditWords, SweepWords, Command, Rank, Build, Root, Prove, Verify, Ask as AskServer, Serve, Audit, Sweep, Trial}
 use Rattle.ats_top.specs.Read.{Files, HasCollection, HasIndex}

@@ -15,11 +15,10 @@ use Rattle.ats_commit.specs.Archive.{Archive}
 use Rattle.ats_proof.specs.declared.record.Algorithm.{Algorithm}
 use Rattle.ats_proof.specs.declared.record.Algorithm.TheVariants.{Tra, Tnra}
 use Rattle.ats_index.specs.Spelling.{IsSpelling}
-use Rattle.ats_index.proofs.OneArchive.{one_archive}
-use Rattle.ats_index.proofs.OnePlace.{no_place}
+use Rattle.ats_index.proofs.Public.{one_archive, no_place}
 use Rattle.ats_proof.specs.Value.{Proof, IsProof, fields_of}
 use Rattle.ats_honest.specs.Honest.{IsHonest, IsTooLong, length_of}
-use Rattle.ats_honest.proofs.Archives.{archive_one}
+use Rattle.ats_honest.proofs.Public.{archive_one}
 use Rattle.ats_top.specs.Input.{AreJsonTexts}
 use Rattle.ats_top.specs.declared.input.JsonFault.{JsonFault}
 use Rattle.ats_top.specs.declared.input.JsonFault.TheVariants as json

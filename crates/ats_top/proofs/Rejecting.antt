@@ -4,10 +4,10 @@ use Rattle.ats_base.specs.Outside.{IsMissing}
 use Rattle.ats_commit.specs.Archive.{Archive}
 use Rattle.ats_commit.specs.Root.{root_of}
 use Rattle.ats_index.specs.Spelling.{IsSpelling}
-use Rattle.ats_index.proofs.OneArchive.{one_archive}
+use Rattle.ats_index.proofs.Public.{one_archive}
 use Rattle.ats_client.specs.Bytes.{IsAcceptedBytes}
 use Rattle.ats_client.specs.declared.fault.Rejection.{Rejection}
-use Rattle.ats_client.proofs.OneRejection.{accepted_kept}
+use Rattle.ats_client.proofs.Public.{accepted_kept}
 use Rattle.ats_top.specs.Words.{VerifyWords, under, Command, Rank, Build, Root, Prove, Verify, Ask, Serve, Audit, Sweep, Trial}
 use Rattle.ats_top.specs.Read.{Files, HasIndex, IsTold}
 use Rattle.ats_top.specs.Verified.{IsAccepted}

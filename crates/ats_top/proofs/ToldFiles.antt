@@ -3,7 +3,7 @@ use Rattle.std.proofs.Common.{◌≡◌, ◌∙◌, ◌<◌, ◌≤◌, ◌^◌,
 use Rattle.ats_base.specs.Outside.{IsMissing, IsLonger}
 use Rattle.ats_commit.specs.Archive.{Archive}
 use Rattle.ats_index.specs.Spelling.{IsSpelling}
-use Rattle.ats_index.proofs.OnePlace.{no_place}
+use Rattle.ats_index.proofs.Public.{no_place}
 use Rattle.ats_top.specs.Read.{Files, IsTold, IsFile, HasIndex}
 use Rattle.ats_top.specs.Refusals.{IsIndexRefused}
 use Rattle.ats_top.specs.declared.stops.InputRefusal.{InputRefusal}

@@ -12,16 +12,15 @@ use Rattle.ats_proof.specs.declared.record.Algorithm.TheVariants.{Tra, Tnra}
 use Rattle.ats_proof.specs.Ranges.{IsInRange}
 use Rattle.ats_proof.specs.Value.{Prefix, Proof, IsProof, IsSpelled, kind_of_slot}
 use Rattle.ats_proof.specs.declared.record.Slot.{Slot}
-use Rattle.ats_proof.proofs.Unique.{one_value}
+use Rattle.ats_proof.proofs.Public.{one_value}
 use Rattle.ats_honest.specs.Honest.{IsHonest, IsProved, length_of}
 use Rattle.ats_client.specs.Strings.{extract}
 use Rattle.ats_client.specs.declared.fault.Rejection.TheVariants.{Shape, Check}
-use Rattle.ats_client.proofs.OneRejection.{accepted_kept}
+use Rattle.ats_client.proofs.Public.{accepted_kept}
 use Rattle.ats_audit.specs.Verdicts.{IsVerdict}
 use Rattle.ats_audit.specs.declared.auditing.Verdict.{Verdict}
 use Rattle.ats_audit.specs.declared.auditing.Verdict.TheVariants.{BadShape, Refused, Right, Collision}
-use Rattle.ats_accepts.proofs.Accepted.{proved_accepted}
-use Rattle.ats_accepts.proofs.HonestStrings.{proved_unclashing}
+use Rattle.ats_accepts.proofs.Public.{proved_accepted, proved_unclashing}
 use Rattle.ats_terms.specs.Query.{IsQueryOf}
 use Rattle.ats_terms.specs.Faults.{IsFirstFault}
 use Rattle.ats_terms.specs.declared.query.QueryFault.{QueryFault}

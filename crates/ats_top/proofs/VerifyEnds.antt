@@ -5,7 +5,7 @@ use Rattle.ats_base.specs.Outside.{ShelfTold}
 use Rattle.ats_terms.specs.Query.{IsQuery, IsQueryOf}
 use Rattle.ats_impact.specs.declared.rank.Row.{Row}
 use Rattle.ats_client.specs.Bytes.{AreVerifiedRows}
-use Rattle.ats_audit.proofs.Told.{told}
+use Rattle.ats_audit.proofs.Public.{told}
 use Rattle.ats_top.specs.Words.{VerifyWords, Verify}
 use Rattle.ats_top.specs.Print.{lines}
 use Rattle.ats_top.specs.Read.{IsFile}

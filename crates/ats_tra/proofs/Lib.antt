@@ -1,2 +1,2 @@
-pub mod Exact
-pub mod Turns
+mod Exact
+mod Turns

@@ -1,9 +1,10 @@
-pub mod Framing
-pub mod Moved
-pub mod Numbers
-pub mod OneReply
-pub mod OneWay
-pub mod Replying
-pub mod Spelled
-pub mod Turns
-pub mod PiecesRead
+pub mod Public
+mod Framing
+mod Moved
+mod Numbers
+mod OneReply
+mod OneWay
+mod Replying
+mod Spelled
+mod Turns
+mod PiecesRead

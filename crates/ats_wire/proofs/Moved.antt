@@ -5,7 +5,7 @@ use Rattle.std.proofs.Math.Seq.{take-append-add}
 use borrow.Rule.Slice.PartMut.{put_mid, post_of}
 use Rattle.ats_base.specs.Outside.{IsCounted, Rose}
 use Rattle.ats_base.specs.Links.{LinkTold, Exchanged}
-use Rattle.ats_base.proofs.Exchanges.{exchanged_none, exchanged_then}
+use Rattle.ats_base.proofs.Public.{exchanged_none, exchanged_then}
 use Rattle.std.specs.Int.{to_be_bytes, w32}
 use Rattle.ats_wire.specs.Requests.{framed}
 use Rattle.ats_wire.specs.Moving.{Moves, IsCutOff}

@@ -9,7 +9,7 @@ use Rattle.ats_grammar.specs.declared.fault.ShapeFault.{ShapeFault}
 use Rattle.ats_grammar.specs.declared.fault.ShapeKind.TheVariants.{Cut}
 use Rattle.ats_grammar.specs.Front.{IsBad}
 use Rattle.ats_grammar.specs.Grammar.{proof_format}
-use Rattle.ats_grammar.proofs.Staying.{fault_stays}
+use Rattle.ats_grammar.proofs.Public.{fault_stays}
 use Rattle.ats_wire.specs.Moving.{Moves}
 use Rattle.ats_wire.specs.Requests.{Question, framed}
 use Rattle.ats_wire.specs.Asking.{request_frame, IsReplyLength, RestFault}

@@ -1,6 +1,6 @@
 use Rattle.std.proofs.Common.{None, sym}
 use Rattle.ats_tree.specs.Strings.{node_strings}
-use Rattle.ats_tree.proofs.OwnStrings.{own-none}
+use Rattle.ats_tree.proofs.Public.{own-none}
 use Rattle.ats_commit.specs.Ours.{ours}
 use Rattle.ats_client.specs.Strings.{in_tree}
 use Rattle.ats_client.proofs.Sections.{in_one_tree}

@@ -1,4 +1,4 @@
-use Rattle.ats_proof.proofs.InRange.{in_range}
+use Rattle.ats_proof.proofs.Public.{in_range}
 use Rattle.ats_client.proofs.Headline.{top_or_collides}
 use Rattle.ats_client.proofs.laws.accepted_answers_are_top.Goals as goal
 

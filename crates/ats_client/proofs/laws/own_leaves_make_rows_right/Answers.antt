@@ -1,5 +1,5 @@
 use Rattle.ats_commit.specs.Root.{root_of}
-use Rattle.ats_proof.proofs.InRange.{in_range}
+use Rattle.ats_proof.proofs.Public.{in_range}
 use Rattle.ats_client.proofs.Headline.{own_rows_right}
 use Rattle.ats_client.proofs.laws.own_leaves_make_rows_right.Goals as goal
 

@@ -1,5 +1,5 @@
 use Rattle.std.proofs.Common.{sym}
-use Rattle.ats_proof.proofs.InRange.{in_range}
+use Rattle.ats_proof.proofs.Public.{in_range}
 use Rattle.ats_client.proofs.Descent.{whole-binds, whole-extracts}
 use Rattle.ats_client.proofs.laws.rebuilt_sections_are_bound.Goals as goal
 

@@ -1,6 +1,6 @@
 use Rattle.std.proofs.Common.{sym}
 use Rattle.ats_commit.specs.Root.{root_of}
-use Rattle.ats_proof.proofs.InRange.{in_range}
+use Rattle.ats_proof.proofs.Public.{in_range}
 use Rattle.ats_client.proofs.Descent.{whole-binds, whole-extracts}
 use Rattle.ats_client.proofs.Kept.{rooted}
 use Rattle.ats_client.proofs.laws.shown_leaves_are_bound.Goals as goal

@@ -1,7 +1,7 @@
 use Rattle.std.proofs.Common.{◌≡◌, ◌<◌, ℕ, List, [], length, get_or, take, take_all, ap, ◌∙◌, refl, arith}
 use Rattle.ats_terms.specs.Terms.{terms}
 use Rattle.ats_terms.specs.Counted.{Counts}
-use Rattle.ats_terms.proofs.Counting.{counted_counts}
+use Rattle.ats_terms.proofs.Public.{counted_counts}
 use Rattle.ats_impact.specs.Numbers.{impact}
 use Rattle.ats_impact.specs.Score.{total_terms}
 use Rattle.ats_lists.specs.Postings.{text_of}

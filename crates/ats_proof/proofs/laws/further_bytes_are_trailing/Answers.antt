@@ -1,4 +1,4 @@
-use Rattle.ats_grammar.proofs.Fronts.{trailing}
+use Rattle.ats_grammar.proofs.Public.{trailing}
 use Rattle.ats_grammar.specs.Grammar.{proof_format}
 use Rattle.ats_proof.specs.Value.{fields_of}
 use Rattle.ats_proof.proofs.laws.further_bytes_are_trailing.Goals as goal

@@ -1,6 +1,6 @@
 use Rattle.std.proofs.Common.{[], ℕ, List, subst, arith, add-one, take_all}
 use Rattle.ats_dict.specs.Found.{IsSpot}
-use Rattle.ats_honest.proofs.Spots.{spots_more, spot_each, lowers}
+use Rattle.ats_honest.proofs.Public.{spots_more, spot_each, lowers}
 use Rattle.ats_prover.proofs.dictionary.spots.Goals as goal
 
 pub loop-i-preserved : goal.loop-i-preserved

@@ -9,7 +9,7 @@ use Rattle.ats_proof.specs.Parts.{spelled}
 use Rattle.ats_proof.specs.Value.{entry_fields}
 use Rattle.ats_honest.specs.Terms.{shown_entry}
 use Rattle.ats_prover.proofs.Records.{entry_is}
-use Rattle.ats_honest.proofs.Spots.{leaf_at}
+use Rattle.ats_honest.proofs.Public.{leaf_at}
 use Rattle.ats_prover.proofs.Putting.{put_more}
 use Rattle.ats_prover.proofs.dictionary.write_leaves.Goals as goal
 

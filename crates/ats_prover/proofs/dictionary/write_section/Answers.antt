@@ -2,13 +2,13 @@ use Rattle.std.proofs.Common.{◌≡◌, ◌++◌, ℕ, List, length, map, ap, �
 use Rattle.std.proofs.lemmas.Result.{on_ok_weaker}
 use Rattle.ats_tree.specs.Elided.{elided_digests}
 use Rattle.ats_dict.specs.Dictionary.{dict_leaves}
-use Rattle.ats_dict.proofs.Sentinels.{length-dict_leaves}
+use Rattle.ats_dict.proofs.Public.{length-dict_leaves}
 use Rattle.ats_proof.specs.Written.{Written}
 use Rattle.ats_proof.specs.Parts.{counted}
 use Rattle.ats_proof.specs.Value.{digest_fields, entry_fields}
 use Rattle.ats_honest.specs.Terms.{shown_entry}
 use Rattle.ats_prover.specs.Writing.{put}
-use Rattle.ats_honest.proofs.Elided.{dictionary_few}
+use Rattle.ats_honest.proofs.Public.{dictionary_few}
 use Rattle.ats_prover.proofs.KeptDigests.{kept_positions}
 use Rattle.ats_prover.proofs.Putting.{put_put}
 use Rattle.ats_prover.proofs.dictionary.write_section.Goals as goal

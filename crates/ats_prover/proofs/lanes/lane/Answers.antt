@@ -1,6 +1,6 @@
 use Rattle.std.proofs.Common.{◌≤◌, length, arith}
 use Rattle.std.proofs.Math.Nat.{mul-le-mul}
-use Rattle.ats_honest.proofs.Present.{few_idf}
+use Rattle.ats_honest.proofs.Public.{few_idf}
 use Rattle.ats_prover.proofs.lanes.lane.Goals as goal
 
 pub returns-clause-few : goal.returns-clause-few

@@ -8,8 +8,7 @@ use Rattle.ats_lists.specs.declared.entry.Entry.{Entry}
 use Rattle.ats_dict.specs.Found.{IsSpot, StandsAt}
 use Rattle.ats_commit.specs.Trees.{dictionary_of}
 use Rattle.ats_bound.specs.Schedule.{WholeLane, IsWholeLane, AreWholeLanes, whole_lane, whole_lanes}
-use Rattle.ats_honest.proofs.Spots.{spot_at, spot_each}
-use Rattle.ats_honest.proofs.Present.{absent_term, is_whole, lane_at, lane_none, standing_term}
+use Rattle.ats_honest.proofs.Public.{spot_at, spot_each, absent_term, is_whole, lane_at, lane_none, standing_term}
 use Rattle.std.proofs.lemmas.List.{length-map, map-append}
 use Rattle.std.proofs.lemmas.List.Elements.{All-push}
 use Rattle.ats_prover.proofs.lanes.query_lists.Goals as goal

@@ -1,6 +1,6 @@
 use Rattle.std.proofs.Common.{◌≡◌, ◌+◌, ℕ, List, [], ◌∷◌, ◌++◌, sym, ap, ◌∙◌, arith, add-one}
 use Rattle.std.specs.List.{range_with_len}
-use Rattle.ats_honest.proofs.Needed.{range_more}
+use Rattle.ats_honest.proofs.Public.{range_more}
 use Rattle.ats_prover.proofs.prefixes.first.Goals as goal
 
 pub loop-i-preserved : goal.loop-i-preserved

@@ -9,7 +9,7 @@ use Rattle.ats_proof.specs.Value.{Prefix, id_fields, prefix_fields}
 use Rattle.ats_honest.specs.Honest.{prefixes}
 use Rattle.ats_prover.specs.Writing.{put}
 use Rattle.ats_prover.proofs.Fronts.{lent_at, prefix_more}
-use Rattle.ats_honest.proofs.Fronts.{prefix_each}
+use Rattle.ats_honest.proofs.Public.{prefix_each}
 use Rattle.ats_prover.proofs.prefixes.write_lists.Goals as goal
 
 pub loop-i-init : goal.loop-i-init

@@ -10,8 +10,7 @@ use Rattle.ats_proof.specs.Parts.{counted}
 use Rattle.ats_proof.specs.Value.{digest_fields, posting_fields}
 use Rattle.ats_honest.specs.Honest.{placed}
 use Rattle.ats_prover.specs.Writing.{put}
-use Rattle.ats_honest.proofs.Elided.{prefix_few}
-use Rattle.ats_honest.proofs.Fronts.{range_rises, range_below, small_impacts}
+use Rattle.ats_honest.proofs.Public.{prefix_few, range_rises, range_below, small_impacts}
 use Rattle.ats_prover.proofs.KeptDigests.{kept_positions}
 use Rattle.ats_prover.proofs.Putting.{put_put}
 use Rattle.ats_prover.proofs.prefixes.write_prefix.Goals as goal

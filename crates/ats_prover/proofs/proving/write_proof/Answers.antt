@@ -12,7 +12,7 @@ use Rattle.ats_terms.specs.declared.spot.Spot.{Spot}
 use Rattle.ats_commit.specs.Archive.{Archive, archive_of}
 use Rattle.ats_commit.specs.Root.{header_parts}
 use Rattle.ats_commit.specs.Trees.{dictionary_of}
-use Rattle.ats_commit.proofs.HeaderLemmas.{header_in_range}
+use Rattle.ats_commit.proofs.Public.{header_in_range}
 use Rattle.ats_bound.specs.Schedule.{WholeLane, AreBracketsBy, IsFirstSettledBy, shown, whole_lane, whole_lanes}
 use Rattle.ats_bound.specs.declared.lane.Lane.{Lane}
 use Rattle.ats_lists.specs.declared.entry.Entry.{Entry}
@@ -28,14 +28,9 @@ use Rattle.ats_honest.specs.Honest.{IsHonest}
 use Rattle.ats_prover.specs.Writing.{IsWalkWritten, IsWritten, put}
 use Rattle.ats_proof.specs.declared.record.Algorithm.{Algorithm}
 use Rattle.ats_proof.specs.declared.record.Algorithm.TheVariants.{Tnra}
-use Rattle.ats_honest.proofs.Spots.{spot_each}
-use Rattle.ats_honest.proofs.Ranges.{positions_below}
-use Rattle.ats_honest.proofs.Short.{honest_short}
-use Rattle.ats_bound.proofs.Shown.{have_entries, scheduled_is_cut}
-use Rattle.ats_honest.proofs.Whole.{HasParts, docs_of, is_honest, proof_of}
+use Rattle.ats_honest.proofs.Public.{spot_each, positions_below, honest_short, HasParts, docs_of, is_honest, proof_of, standing_present, lanes_have_lists}
+use Rattle.ats_bound.proofs.Public.{have_entries, scheduled_is_cut}
 use Rattle.ats_prover.proofs.Asked.{as_built, front_put, kind_of_documents, written}
-use Rattle.ats_honest.proofs.StandingTerms.{standing_present}
-use Rattle.ats_honest.proofs.Present.{lanes_have_lists}
 use Rattle.ats_prover.proofs.proving.write_proof.Goals as goal
 
 -- the nodes that are lent, of the dictionary that is lent

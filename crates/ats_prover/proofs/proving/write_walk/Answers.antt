@@ -12,7 +12,7 @@ use Rattle.ats_proof.specs.Parts.{counted}
 use Rattle.ats_proof.specs.Value.{documents_fields, id_fields, prefix_fields}
 use Rattle.ats_honest.specs.Honest.{prefixes}
 use Rattle.ats_prover.specs.Writing.{AreDocumentsWritten, put}
-use Rattle.ats_honest.proofs.MetDocuments.{met_rises, met_below, rising_few, lists_below, lists_some}
+use Rattle.ats_honest.proofs.Public.{met_rises, met_below, rising_few, lists_below, lists_some}
 use Rattle.ats_prover.proofs.Putting.{put_put, started}
 use Rattle.ats_prover.proofs.proving.write_walk.Goals as goal
 

@@ -1,6 +1,6 @@
 use Rattle.std.proofs.Common.{nat_eq, length, ap, arith}
 use Rattle.std.proofs.lemmas.List.Filters.{dedup_is}
-use Rattle.ats_honest.proofs.Needed.{are_needed, needs_few}
+use Rattle.ats_honest.proofs.Public.{are_needed, needs_few}
 use Rattle.ats_prover.proofs.shown.keep_positions.Goals as goal
 
 pub returns-clause-needed : goal.returns-clause-needed

@@ -1,6 +1,6 @@
 use Rattle.std.proofs.Common.{rules, nat_lt, sym}
 use Rattle.std.proofs.lemmas.List.Sorted.{IsPartitionPoint-from_clause, IsPartitionedBy-ltb}
-use Rattle.ats_honest.proofs.Places.{count_at_point, never_falls}
+use Rattle.ats_honest.proofs.Public.{count_at_point, never_falls}
 use Rattle.ats_prover.proofs.shown.place.Goals as goal
 
 pub returns-clause-place : goal.returns-clause-place

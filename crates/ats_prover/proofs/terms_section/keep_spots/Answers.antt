@@ -1,7 +1,6 @@
 use Rattle.std.proofs.Common.{[], ℕ, List, length, subst, arith, add-one, take_all}
 use Rattle.ats_honest.specs.Documents.{IsTermSpot}
-use Rattle.ats_honest.proofs.Items.{lower_item}
-use Rattle.ats_honest.proofs.Spots.{all_low, spots_each, spots_more}
+use Rattle.ats_honest.proofs.Public.{lower_item, all_low, spots_each, spots_more}
 use Rattle.ats_prover.proofs.terms_section.keep_spots.Goals as goal
 
 pub loop-i-preserved : goal.loop-i-preserved

@@ -9,7 +9,7 @@ use Rattle.ats_proof.specs.Value.{digest_fields, slot_fields, term_fields}
 use Rattle.ats_honest.specs.Documents.{shown_term}
 use Rattle.ats_honest.specs.Terms.{slot_of}
 use Rattle.ats_prover.specs.Writing.{put}
-use Rattle.ats_honest.proofs.Elided.{dictionary_few}
+use Rattle.ats_honest.proofs.Public.{dictionary_few}
 use Rattle.ats_prover.proofs.KeptDigests.{kept_positions}
 use Rattle.ats_prover.proofs.Putting.{put_put, started}
 use Rattle.ats_prover.proofs.terms_section.write_shown.Goals as goal

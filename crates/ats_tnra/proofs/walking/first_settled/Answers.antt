@@ -6,11 +6,7 @@ use Rattle.ats_bound.specs.Running.{Standing}
 use Rattle.ats_bound.specs.Schedule.{AreWholeLanes, CanSettleBy, IsCut, IsNextLane, WholeLane, shown, whole_lanes}
 use Rattle.ats_bound.specs.Settled.{IsSettled}
 use Rattle.ats_bound.specs.Stand.{IsReached, IsStand}
-use Rattle.ats_bound.proofs.Advance.{end_at, reached_after, reached_first}
-use Rattle.ats_bound.proofs.Narrow.{is_narrow}
-use Rattle.ats_bound.proofs.Scores.{missing_within}
-use Rattle.ats_bound.proofs.Shown.{fewer_hidden, have_entries, scheduled_is_cut}
-use Rattle.ats_bound.proofs.Whole.{whole_settled}
+use Rattle.ats_bound.proofs.Public.{end_at, reached_after, reached_first, is_narrow, missing_within, fewer_hidden, have_entries, scheduled_is_cut, whole_settled}
 use Rattle.ats_tnra.proofs.walking.first_settled.Goals as goal
 
 pub loop-lane-init : goal.loop-lane-init

@@ -4,7 +4,7 @@ use Rattle.ats_bound.specs.Cut.{bracket}
 use Rattle.ats_bound.specs.Running.{shown_in}
 use Rattle.ats_bound.specs.Schedule.{whole_lanes}
 use Rattle.ats_bound.specs.Stand.{IsReached}
-use Rattle.ats_bound.proofs.Shown.{hidden}
+use Rattle.ats_bound.proofs.Public.{hidden}
 use Rattle.ats_tnra.proofs.walking.first_settled.Given as goal
 
 abbrev pub invariant-loop-lane : goal.invariant-loop-lane

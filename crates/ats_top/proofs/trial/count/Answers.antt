@@ -3,7 +3,7 @@ use Rattle.std.specs.Int.{from_bool}
 use Rattle.std.specs.Result.{is_ok}
 use Rattle.ats_commit.specs.Root.{root_of}
 use Rattle.ats_proof.specs.Value.{Proof, IsProof}
-use Rattle.ats_proof.proofs.Unique.{one_value}
+use Rattle.ats_proof.proofs.Public.{one_value}
 use Rattle.ats_client.specs.Accepts.{Accepts}
 use Rattle.ats_honest.specs.Honest.{IsHonest, IsProved, length_of}
 use Rattle.ats_audit.specs.Verdicts.{IsVerdict}

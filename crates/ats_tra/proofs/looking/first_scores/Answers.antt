@@ -4,8 +4,7 @@ use Rattle.std.proofs.lemmas.List.{get_or_append_left, get_or-append-add}
 use Rattle.ats_bound.specs.Lookup.{Table}
 use Rattle.ats_bound.specs.Schedule.{WholeLane, whole_lanes}
 use Rattle.ats_bound.specs.Scored.{first_document}
-use Rattle.ats_bound.proofs.Exactly.{first_given}
-use Rattle.ats_bound.proofs.Shown.{no_lane, whole_at}
+use Rattle.ats_bound.proofs.Public.{first_given, no_lane, whole_at}
 use Rattle.ats_tra.specs.Looked.{score_by}
 use Rattle.ats_tra.proofs.looking.first_scores.Goals as goal
 

@@ -8,9 +8,7 @@ use Rattle.ats_bound.specs.Scored.{AreFirstScores, ScoredStanding}
 use Rattle.ats_bound.specs.QuickTest.{TellsSettled}
 use Rattle.ats_bound.specs.Settled.{IsSettled}
 use Rattle.ats_bound.specs.Stand.{IsStand}
-use Rattle.ats_bound.proofs.Advance.{end_at, reached_after, reached_first}
-use Rattle.ats_bound.proofs.Shown.{fewer_hidden}
-use Rattle.ats_bound.proofs.Whole.{whole_settled}
+use Rattle.ats_bound.proofs.Public.{end_at, reached_after, reached_first, fewer_hidden, whole_settled}
 use Rattle.ats_tra.specs.Looked.{score_by}
 use Rattle.ats_tra.proofs.Exact.{looked_is_narrow}
 use Rattle.ats_tra.proofs.Turns.{finished, looked_there, told_there}

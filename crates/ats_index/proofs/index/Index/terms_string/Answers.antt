@@ -1,7 +1,7 @@
 use Rattle.std.proofs.Common.{◌≤◌, [], length, ap, sym, arith}
 use Rattle.ats_tree.specs.Nodes.{by_path}
 use Rattle.ats_tree.specs.Paths.{path_of}
-use Rattle.ats_commit.proofs.OwnPlaces.{none_past}
+use Rattle.ats_commit.proofs.Public.{none_past}
 use Rattle.ats_index.proofs.index.Index.terms_string.Goals as goal
 
 pub returns-then-doc-documents : goal.returns-then-doc-documents

@@ -1,4 +1,4 @@
-use Rattle.ats_terms.proofs.Fronts.{front_decides}
+use Rattle.ats_terms.proofs.Public.{front_decides}
 use Rattle.ats_lists.proofs.key.KeyOrd.cmp.Goals as goal
 
 pub returns-in_default : goal.returns-in_default

@@ -1,5 +1,5 @@
 use Rattle.std.proofs.Common.{Ok, ap}
-use Rattle.ats_grammar.proofs.Fronts.{no_fault}
+use Rattle.ats_grammar.proofs.Public.{no_fault}
 use Rattle.ats_grammar.specs.Grammar.{proof_format}
 use Rattle.ats_proof.specs.Value.{fields_of}
 use Rattle.ats_proof.proofs.Unique.{one_value}

@@ -2,8 +2,7 @@ use Rattle.std.proofs.Common.{◌<◌, ◌∙◌, ℕ, List, [], length, get_or,
 use Rattle.ats_doctree.specs.Found.{LiesBetween, StandsAt}
 use Rattle.ats_doctree.specs.Impacts.{doc_terms}
 use Rattle.ats_doctree.specs.Sentinels.{impact_at}
-use Rattle.ats_honest.proofs.LookedUp.{looked_up_at, looked_up_between}
-use Rattle.ats_honest.proofs.Lookups.{looked_up_in, looked_up_out, looked_up_past}
+use Rattle.ats_honest.proofs.Public.{looked_up_at, looked_up_between, looked_up_in, looked_up_out, looked_up_past}
 use Rattle.ats_prover.proofs.access.ImpactsRandomAccess.impact.Goals as goal
 use Rattle.ats_prover.proofs.access.ImpactsRandomAccess.impact.Goals.{then-lane-len-via-then-lane-len, then-lane-len-via-else-lane-len+then-doc-documents}
 

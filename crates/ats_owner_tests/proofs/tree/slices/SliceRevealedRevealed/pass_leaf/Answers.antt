@@ -1,5 +1,5 @@
 use Rattle.std.proofs.lemmas.List.{take_rest}
-use Rattle.ats_tree.proofs.Positions.{rises-rest}
+use Rattle.ats_tree.proofs.Public.{rises-rest}
 use Rattle.ats_owner_tests.proofs.tree.slices.SliceRevealedRevealed.pass_leaf.Goals as goal
 
 pub invariant_of-self-clause-rising : goal.invariant_of-self-clause-rising

@@ -1,0 +1,8 @@
+-- What other rooms may cite of the proofs of this one. All other files here are private.
+
+-- a collision extracted from a proof is two different strings with equal digests
+pub use Rattle.ats_audit.proofs.Told.{extract-collides}
+-- where a proof has right rows or a collision, and extraction finds no collision, its rows are right
+pub use Rattle.ats_audit.proofs.Told.{right_rows}
+-- for each archive with the root, an accepted proof has right rows or its audit tells a collision
+pub use Rattle.ats_audit.proofs.Told.{told}

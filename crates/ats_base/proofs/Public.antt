@@ -1,0 +1,12 @@
+-- What other rooms may cite of the proofs of this one. All other files here are private.
+
+-- calls of which a condition holds also meet each weaker condition
+pub use Rattle.ats_base.proofs.Asking.{asked_as}
+-- where no call came, each condition that the empty list of calls meets holds of the calls
+pub use Rattle.ats_base.proofs.Asking.{asked_none}
+-- two successive runs of calls are one run, which meets what follows from the conditions of both
+pub use Rattle.ats_base.proofs.Asking.{asked_then}
+-- over a link whose traffic did not change, no bytes were read and none written
+pub use Rattle.ats_base.proofs.Exchanges.{exchanged_none}
+-- two successive exchanges over a link are one exchange of the joined bytes
+pub use Rattle.ats_base.proofs.Exchanges.{exchanged_then}

@@ -1,0 +1,20 @@
+-- What other rooms may cite of the proofs of this one. All other files here are private.
+
+-- each number of the list is a byte, that is, below 256
+pub use Rattle.ats_proof.proofs.Numbers.{AreBytes}
+-- the encoding of a number in k bytes has length k
+pub use Rattle.ats_proof.proofs.Numbers.{length-spelled}
+-- the encoding of a number in one or more bytes decodes to it, even if the first byte overflows
+pub use Rattle.ats_proof.proofs.Numbers.{number-spelled}
+-- the tail of a strictly increasing list of numbers is strictly increasing
+pub use Rattle.ats_proof.proofs.Taking.{increasing-tail}
+-- the 2-byte encoding of the number that the first 2 bytes spell is these bytes, high byte first
+pub use Rattle.ats_proof.proofs.Encoding.{be_2}
+-- the 4-byte encoding of the number that the first 4 bytes spell is these bytes, high byte first
+pub use Rattle.ats_proof.proofs.Encoding.{be_4}
+-- the shown front of a list gives as many leaves as it has entries
+pub use Rattle.ats_proof.proofs.Encoding.{length-shown_list}
+-- two proofs that the same bytes spell are equal
+pub use Rattle.ats_proof.proofs.Unique.{one_value}
+-- all parts of a proof that bytes spell are in range
+pub use Rattle.ats_proof.proofs.InRange.{in_range}

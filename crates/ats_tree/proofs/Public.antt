@@ -1,0 +1,56 @@
+-- What other rooms may cite of the proofs of this one. All other files here are private.
+
+-- the tree of at most 2^h leaves is the tree of these leaves within height h
+pub use Rattle.ats_tree.proofs.Trees.{of-within}
+-- the tree within height h + 1 of more than 2^h leaves is cut behind the first 2^h leaves
+pub use Rattle.ats_tree.proofs.Trees.{within-cut}
+-- at most 2^h leaves have the same tree within height h + 1 as within height h
+pub use Rattle.ats_tree.proofs.Trees.{within-suc}
+-- shown leaves at strictly increasing positions rise from position 0 on
+pub use Rattle.ats_tree.proofs.Positions.{rises-increasing}
+-- if the positions of shown leaves increase strictly, those of all leaves but the first do
+pub use Rattle.ats_tree.proofs.Positions.{rises-rest}
+-- strictly increasing positions below an end rise within the range from 0 to that end
+pub use Rattle.ats_tree.proofs.Positions.{within-increasing}
+-- the list of n places of a tree from any position on has length n
+pub use Rattle.ats_tree.proofs.Places.{length-places}
+-- the two strings of the difference have equal digests under H
+pub use Rattle.ats_tree.proofs.Differences.{Collides}
+-- the first difference of two joined runs of strings is that of the first run, else of the second
+pub use Rattle.ats_tree.proofs.Differences.{difference-append}
+-- if the first difference of strings has equal digests, or there is none, it is the first collision
+pub use Rattle.ats_tree.proofs.Differences.{difference-collides}
+-- what is known of strings unless the first difference collides is known after moving their places
+pub use Rattle.ats_tree.proofs.Differences.{known-moved}
+-- the first of two optional differences if it is there, and the second otherwise
+pub use Rattle.ats_tree.proofs.Differences.{or_else}
+-- two equal non-empty lists have equal first elements and equal rests
+pub use Rattle.ats_tree.proofs.Joined.{first_and_rest}
+-- equal bytes that begin with 4-byte numbers below 2^32 have equal numbers and equal rests
+pub use Rattle.ats_tree.proofs.Joined.{numbered}
+-- two equal joins whose first parts have equal lengths have equal first and second parts
+pub use Rattle.ats_tree.proofs.Joined.{parted}
+-- two numbers below 2^16 with equal 2-byte encodings are equal
+pub use Rattle.ats_tree.proofs.Joined.{same_2}
+-- shown leaves that rebuild a tree's root are the tree's own, or the first difference is a collision
+pub use Rattle.ats_tree.proofs.Bound.{bound_to}
+-- a node with a string in a tree of at most 2^h leaves is at most h deep
+pub use Rattle.ats_tree.proofs.NodeLemmas.{node-ours}
+-- leaves shown at rising positions of a tree and its elided digests rebuild the root
+pub use Rattle.ats_tree.proofs.LawLemmas.{elided-rebuilds}
+-- a tree with no leaf has no string at any path
+pub use Rattle.ats_tree.proofs.TurnLemmas.{string-none}
+-- a string that differs from our own at its place and has an equal digest is found as a collision
+pub use Rattle.ats_tree.proofs.Clashes.{collides-is}
+-- a string that equals our own at its place, or has another digest, is not found as a collision
+pub use Rattle.ats_tree.proofs.Clashes.{collides-not}
+-- the first collision of two joined runs of strings is that of the first run, else of the second
+pub use Rattle.ats_tree.proofs.Clashes.{collision-append}
+-- the first collision of strings with moved places is their first collision with its place moved
+pub use Rattle.ats_tree.proofs.Clashes.{collision-moved}
+-- strings that do not differ from our own at their places have no collision
+pub use Rattle.ats_tree.proofs.OwnStrings.{own-none}
+-- the strings hashed in rebuilding from a tree's own leaves and elided digests are the tree's own
+pub use Rattle.ats_tree.proofs.OwnStrings.{own-strings}
+-- a tree of n leaves, where n is at least 1, has 2n - 1 kept digests
+pub use Rattle.ats_tree.proofs.KeptLemmas.{length-kept}
