@@ -54,7 +54,8 @@ impl<S: Read + Write + Drop> Link for TcpLink<S> {
     }
 }
 
-// The network, where no connecting takes longer than a peer is waited for. Of a name, each address in turn is waited for so long.
+// The network, where no connecting takes longer than a peer is waited for.
+// Of a name, each address in turn is waited for so long.
 #[derive(Drop)]
 struct Patient<'a, R: Net> {
     net: &'a R,
@@ -162,7 +163,12 @@ impl<'a, R: Net> TcpDoor<'a, R> {
 impl<'a, R: Net> Door for TcpDoor<'a, R> {
     type Link = TcpLink<R::Stream>;
 
-    ghost told = { λ d. record { content = None; is_open = is_some d.listener; faults = d.faults.count; broken = d.broken.count } };
+    ghost told = { λ d. record {
+      content = None;
+      is_open = is_some d.listener;
+      faults = d.faults.count;
+      broken = d.broken.count;
+    } };
 
     fn listen(&mut self, address: &str) -> Result<(), Failed> {
         match TcpListener::bind(self.rt, address) {
