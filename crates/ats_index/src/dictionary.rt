@@ -54,8 +54,8 @@ fn root_of<H: HashKind>(entries: &[Entry], nodes: &Nodes) -> [u8; 32]
     nodes.root()
 }
 
-/// The dictionary that has an entry for each list, from the nodes of their trees.
-pub(crate) fn dictionary_of<H: HashKind>(
+// The dictionary that has an entry for each list, from the nodes of their trees.
+fn dictionary_of<H: HashKind>(
     alloc: Global,
     lists: &Lists,
     nodes: &[Nodes],
@@ -72,14 +72,33 @@ pub(crate) fn dictionary_of<H: HashKind>(
     Ok(dictionary)
 }
 
-/// The nodes of a dictionary's tree.
-pub(crate) fn dictionary_nodes<H: Hash32>(
-    alloc: Global,
-    dictionary: &Dictionary,
-) -> Result<Nodes, OutOfMemory>
+// The nodes of a dictionary's tree.
+fn dictionary_nodes<H: Hash32>(alloc: Global, dictionary: &Dictionary) -> Result<Nodes, OutOfMemory>
     ensures { IfOk result (λ nodes. nodes ≡ kept_digests H.hash (dict_leaves dictionary.now)) }
 {
     // A dictionary has at most 2^24 terms.
     prove!(dictionary.len() >= 2);
     Ok(Nodes::of::<H, _>(alloc, dictionary, &mut Steps::new(alloc))?)
+}
+
+/// A dictionary, and the nodes of its tree.
+#[derive(Drop)]
+pub(crate) struct DictionaryTree {
+    pub(crate) dictionary: Dictionary,
+    pub(crate) nodes: Nodes,
+}
+
+/// The dictionary of lists with its tree, from the nodes of their trees.
+pub(crate) fn dictionary_tree<H: Hash32>(
+    alloc: Global,
+    lists: &Lists,
+    nodes: &[Nodes],
+) -> Result<DictionaryTree, OutOfMemory>
+    requires { nodes.now ≡ all_list_digests H.hash lists.now }
+    ensures dictionary { IfOk result (λ made. made.dictionary ≡ map (dict_entry H.hash whole_lists) lists.now) }
+    ensures nodes { IfOk result (λ made. made.nodes ≡ kept_digests H.hash (dict_leaves made.dictionary)) }
+{
+    let dictionary = dictionary_of::<H>(alloc, lists, nodes)?;
+    let nodes = dictionary_nodes::<H>(alloc, &dictionary)?;
+    Ok(DictionaryTree { dictionary, nodes })
 }

@@ -3,12 +3,15 @@
 ghost use Rattle.std.specs.Prelude.{◌≡◌, ◌≤◌, length, map, IfOk};
 ghost use Rattle.ats_tree.specs.Kept.{kept_digests};
 ghost use Rattle.ats_doctree.specs.Sentinels.{terms_leaves};
-ghost use Rattle.ats_commit.specs.Trees.{leaf_of, leaf_of_terms};
+ghost use Rattle.ats_commit.specs.Trees.{documents_of, leaf_of, leaf_of_terms};
+ghost use Rattle.ats_index.specs.Kept.{all_term_digests};
+ghost use Rattle.ats_index.specs.Parts.{all_leaves, all_terms};
 
 use crate::memory::OutOfMemory;
 use ats_commit::DocLeaves;
 use ats_doctree::{DocLeaf, DocTerms};
 use ats_hash::{Hash32, HashKind, Steps};
+use ats_impact::Collection;
 use ats_tree::{Leaves, Nodes};
 use std::alloc::Global;
 
@@ -23,8 +26,8 @@ fn doc_leaf<H: HashKind>(terms: &DocTerms, nodes: &Nodes) -> DocLeaf
     }
 }
 
-/// The leaf of each document, from its terms and the nodes of their tree.
-pub(crate) fn leaves_of<H: HashKind>(
+// The leaf of each document, from its terms and the nodes of their tree.
+fn leaves_of<H: HashKind>(
     alloc: Global,
     terms: &[DocTerms],
     nodes: &[Nodes],
@@ -39,15 +42,38 @@ pub(crate) fn leaves_of<H: HashKind>(
     Ok(leaves)
 }
 
-/// The nodes of the documents tree.
-pub(crate) fn nodes_of_documents<H: Hash32>(
-    alloc: Global,
-    leaves: &[DocLeaf],
-) -> Result<Nodes, OutOfMemory>
+// The nodes of the documents tree.
+fn nodes_of_documents<H: Hash32>(alloc: Global, leaves: &[DocLeaf]) -> Result<Nodes, OutOfMemory>
     requires some { 1 ≤ length leaves.now }
     requires few { length leaves.now ≤ 65536 }
     ensures { IfOk result (λ nodes. nodes ≡ kept_digests H.hash (map leaf_of leaves.now)) }
 {
     let leaves = DocLeaves { leaves };
     Ok(Nodes::of::<H, _>(alloc, &leaves, &mut Steps::new(alloc))?)
+}
+
+/// The leaves of all documents, and the nodes of their tree.
+#[derive(Drop)]
+pub(crate) struct DocumentsTree {
+    pub(crate) leaves: Vec<DocLeaf>,
+    pub(crate) nodes: Nodes,
+}
+
+/// The documents tree of a collection, from the terms of its documents and the nodes of their trees.
+pub(crate) fn documents_tree<H: Hash32>(
+    alloc: Global,
+    collection: &Collection,
+    terms: &[DocTerms],
+    term_nodes: &[Nodes],
+) -> Result<DocumentsTree, OutOfMemory>
+    requires terms { terms.now ≡ all_terms collection.now }
+    requires nodes { term_nodes.now ≡ all_term_digests H.hash collection.now }
+    ensures leaves { IfOk result (λ made. made.leaves.items ≡ all_leaves H.hash collection.now) }
+    ensures nodes { IfOk result (λ made. made.nodes ≡ kept_digests H.hash (documents_of H.hash collection.now)) }
+{
+    // A collection has 1 to 65,536 documents.
+    prove!(collection.documents() >= 1);
+    let leaves = leaves_of::<H>(alloc, terms, term_nodes)?;
+    let nodes = nodes_of_documents::<H>(alloc, &leaves)?;
+    Ok(DocumentsTree { leaves, nodes })
 }

@@ -2,6 +2,7 @@
 
 ghost use Rattle.std.specs.Prelude.{◌≡◌, ◌<◌, ◌≤◌, [], ℕ, List, length, map, slice_index_or, IfOk, OnOk, MatchOption};
 ghost use Rattle.ats_tree.specs.Kept.{kept_digests};
+ghost use Rattle.ats_tree.specs.Tree.{mth};
 ghost use Rattle.ats_lists.specs.Leaf.{leaf_bytes};
 ghost use Rattle.ats_lists.specs.Lists.{lists_of};
 ghost use Rattle.ats_lists.specs.declared.entry.Entry.{Entry};
@@ -17,13 +18,13 @@ ghost use Rattle.ats_index.specs.Kept.{all_list_digests, all_term_digests};
 ghost use Rattle.ats_index.specs.Spelling.{IsSpelling, index_bytes};
 ghost use Rattle.ats_index.specs.LoadFaults.{IsDifference};
 
-use crate::build::header_of;
+use crate::build::{header_of, root_of_texts};
 use crate::compare::{Comparer, Takes};
-use crate::dictionary::{dictionary_nodes, dictionary_of, nodes_of_lists};
-use crate::doc_leaves::{leaves_of, nodes_of_documents};
+use crate::dictionary::{DictionaryTree, dictionary_tree, nodes_of_lists};
+use crate::doc_leaves::{DocumentsTree, documents_tree};
 use crate::documents::{DocumentParts, counted};
 use crate::memory::OutOfMemory;
-use crate::parallel::{counted_by_threads, nodes_of_all_lists};
+use crate::parallel::{nodes_of_all_lists, parts_and_texts, upper_trees};
 use crate::write::{put_lists, put_texts};
 use ats_base::Bytes;
 use ats_commit::root_of_header;
@@ -202,31 +203,43 @@ impl<H: HashKind> Index<H> {
 }
 
 impl<H: Hash32> Index<H> {
-    // The index of a collection from its lists, the terms of its documents, and the nodes of all their trees.
+    // The index of a collection from its lists, the terms of its documents, and the nodes of all its trees.
     fn assembled(
         alloc: Global,
         collection: Collection,
         parts: DocumentParts,
         list_nodes: Vec<Nodes>,
-    ) -> Result<Self, OutOfMemory>
+        dictionary: DictionaryTree,
+        documents: DocumentsTree,
+        texts_root: [u8; 32],
+    ) -> Self
         requires lists { parts.lists ≡ lists_of collection }
         requires terms { parts.terms.items ≡ all_terms collection }
         requires term_nodes { parts.term_nodes.items ≡ all_term_digests H.hash collection }
         requires list_nodes { list_nodes.items ≡ all_list_digests H.hash (lists_of collection) }
-        ensures { IfOk result (λ index. index ≡ archive_of collection) }
+        requires dictionary { dictionary.dictionary ≡ dictionary_of H.hash (archive_of collection) }
+        requires dict_nodes { dictionary.nodes ≡ kept_digests H.hash (dict_leaves dictionary.dictionary) }
+        requires leaves { documents.leaves.items ≡ all_leaves H.hash collection }
+        requires docs_nodes { documents.nodes ≡ kept_digests H.hash (documents_of H.hash collection) }
+        requires texts_root { texts_root ≡ mth H.hash collection }
+        ensures { result ≡ archive_of collection }
     {
+        let header = header_of::<H>(&collection, &dictionary, &documents, texts_root);
+        let root = root_of_header::<H>(&header, &mut Steps::new(alloc));
         let DocumentParts {
             lists,
             terms,
             term_nodes,
         } = parts;
-        let leaves = leaves_of::<H>(alloc, &terms, &term_nodes)?;
-        let docs_nodes = nodes_of_documents::<H>(alloc, &leaves)?;
-        let dictionary = dictionary_of::<H>(alloc, &lists, &list_nodes)?;
-        let dict_nodes = dictionary_nodes::<H>(alloc, &dictionary)?;
-        let header = header_of::<H>(alloc, &collection, &dictionary, &dict_nodes, &docs_nodes);
-        let root = root_of_header::<H>(&header, &mut Steps::new(alloc));
-        Ok(Index {
+        let DictionaryTree {
+            dictionary,
+            nodes: dict_nodes,
+        } = dictionary;
+        let DocumentsTree {
+            leaves,
+            nodes: docs_nodes,
+        } = documents;
+        Index {
             alloc,
             collection,
             lists,
@@ -240,7 +253,7 @@ impl<H: Hash32> Index<H> {
             dict_nodes,
             docs_nodes,
             kind: PhantomData,
-        })
+        }
     }
 
     /// The index of a collection, by one thread. Want of memory drops the collection.
@@ -249,7 +262,12 @@ impl<H: Hash32> Index<H> {
     {
         let parts = counted::<H>(alloc, &collection)?;
         let list_nodes = nodes_of_lists::<H>(alloc, &parts.lists)?;
-        Index::<H>::assembled(alloc, collection, parts, list_nodes)
+        let dictionary = dictionary_tree::<H>(alloc, &parts.lists, &list_nodes)?;
+        let documents = documents_tree::<H>(alloc, &collection, &parts.terms, &parts.term_nodes)?;
+        let texts_root = root_of_texts::<H>(alloc, &collection);
+        Ok(Index::<H>::assembled(
+            alloc, collection, parts, list_nodes, dictionary, documents, texts_root,
+        ))
     }
 }
 
@@ -263,8 +281,17 @@ impl<H: Hash32 + Sync> Index<H> {
     ) -> Result<Self, OutOfMemory>
         ensures { IfOk result (λ index. index ≡ archive_of collection) }
     {
-        let parts = counted_by_threads::<H, _>(rt, alloc, &collection)?;
+        let (parts, texts_root) = parts_and_texts::<H, _>(rt, alloc, &collection)?;
         let list_nodes = nodes_of_all_lists::<H>(rt, alloc, &parts.lists)?;
-        Index::<H>::assembled(alloc, collection, parts, list_nodes)
+        let (dictionary, documents) = upper_trees::<H, _>(
+            rt,
+            alloc,
+            &collection,
+            &parts,
+            &list_nodes,
+        )?;
+        Ok(Index::<H>::assembled(
+            alloc, collection, parts, list_nodes, dictionary, documents, texts_root,
+        ))
     }
 }

@@ -7,14 +7,20 @@ ghost use Rattle.std.specs.Thread.{IsSync};
 ghost use Rattle.ats_terms.specs.Terms.{terms};
 ghost use Rattle.ats_terms.specs.Query.{counted};
 ghost use Rattle.ats_tree.specs.Kept.{kept_digests};
+ghost use Rattle.ats_tree.specs.Tree.{mth};
+ghost use Rattle.ats_dict.specs.Dictionary.{dict_leaves};
+ghost use Rattle.ats_lists.specs.Layout.{whole_lists};
+ghost use Rattle.ats_commit.specs.Trees.{dict_entry, documents_of};
 ghost use Rattle.ats_lists.specs.Leaf.{leaf_bytes};
 ghost use Rattle.ats_lists.specs.Lists.{lists_of};
 ghost use Rattle.ats_doctree.specs.Impacts.{doc_terms};
 ghost use Rattle.ats_doctree.specs.Sentinels.{terms_leaves};
 ghost use Rattle.ats_index.specs.Kept.{all_list_digests, all_term_digests};
-ghost use Rattle.ats_index.specs.Parts.{all_counts, all_terms};
+ghost use Rattle.ats_index.specs.Parts.{all_counts, all_leaves, all_terms};
 
-use crate::dictionary::nodes_of_list;
+use crate::build::root_of_texts;
+use crate::dictionary::{DictionaryTree, dictionary_tree, nodes_of_list};
+use crate::doc_leaves::{DocumentsTree, documents_tree};
 use crate::documents::{DocumentParts, nodes_of_terms};
 use crate::memory::OutOfMemory;
 use ats_doctree::DocTerms;
@@ -219,8 +225,8 @@ fn parts_of_counts<H: Hash32 + Sync, R: Threads + Sync>(
     })
 }
 
-/// The lists, and the terms of the documents with the nodes of their trees. Each document is counted once.
-pub(crate) fn counted_by_threads<H: Hash32 + Sync, R: Threads + Sync>(
+// The lists, and the terms of the documents with the nodes of their trees. Each document is counted once.
+fn counted_by_threads<H: Hash32 + Sync, R: Threads + Sync>(
     rt: &R,
     alloc: Global,
     collection: &Collection,
@@ -231,4 +237,66 @@ pub(crate) fn counted_by_threads<H: Hash32 + Sync, R: Threads + Sync>(
 {
     let counts = counts_of_documents(rt, alloc, collection)?;
     parts_of_counts::<H, R>(rt, alloc, collection, &counts)
+}
+
+/// What comes of the documents alone, and beside it the root of the texts.
+pub(crate) fn parts_and_texts<H: Hash32 + Sync, R: Threads + Sync>(
+    rt: &R,
+    alloc: Global,
+    collection: &Collection,
+) -> Result<(DocumentParts, [u8; 32]), OutOfMemory>
+    ensures lists { IfOk result (λ made. made.0.lists ≡ lists_of collection.now) }
+    ensures terms { IfOk result (λ made. made.0.terms.items ≡ all_terms collection.now) }
+    ensures term_nodes { IfOk result (λ made. made.0.term_nodes.items ≡ all_term_digests H.hash collection.now) }
+    ensures texts { IfOk result (λ made. made.1 ≡ mth H.hash collection.now) }
+{
+    let (parts, texts_root) = join(
+        rt,
+        || -> Result<DocumentParts, OutOfMemory>
+            requires { IsSync R.row × IsSync H.row }
+            ensures lists { IfOk result (λ made. made.lists ≡ lists_of collection.entry.now) }
+            ensures terms { IfOk result (λ made. made.terms.items ≡ all_terms collection.entry.now) }
+            ensures term_nodes { IfOk result (λ made.
+                made.term_nodes.items ≡ all_term_digests H.hash collection.entry.now) }
+        { counted_by_threads::<H, R>(rt, alloc, collection) },
+        || -> [u8; 32]
+            ensures { result ≡ mth H.hash collection.entry.now }
+        { root_of_texts::<H>(alloc, collection) },
+    );
+    Ok((parts?, texts_root))
+}
+
+/// The dictionary and the documents tree, side by side.
+pub(crate) fn upper_trees<H: Hash32 + Sync, R: Threads + Sync>(
+    rt: &R,
+    alloc: Global,
+    collection: &Collection,
+    parts: &DocumentParts,
+    list_nodes: &[Nodes],
+) -> Result<(DictionaryTree, DocumentsTree), OutOfMemory>
+    requires terms { parts.now.terms.items ≡ all_terms collection.now }
+    requires term_nodes { parts.now.term_nodes.items ≡ all_term_digests H.hash collection.now }
+    requires list_nodes { list_nodes.now ≡ all_list_digests H.hash parts.now.lists }
+    ensures dictionary { IfOk result (λ made. made.0.dictionary ≡ map (dict_entry H.hash whole_lists) parts.now.lists) }
+    ensures dict_nodes { IfOk result (λ made. made.0.nodes ≡ kept_digests H.hash (dict_leaves made.0.dictionary)) }
+    ensures leaves { IfOk result (λ made. made.1.leaves.items ≡ all_leaves H.hash collection.now) }
+    ensures docs_nodes { IfOk result (λ made. made.1.nodes ≡ kept_digests H.hash (documents_of H.hash collection.now)) }
+{
+    let (dictionary, documents) = join(
+        rt,
+        || -> Result<DictionaryTree, OutOfMemory>
+            requires { list_nodes.now ≡ all_list_digests H.hash parts.now.lists }
+            ensures dictionary { IfOk result (λ made.
+                made.dictionary ≡ map (dict_entry H.hash whole_lists) parts.entry.now.lists) }
+            ensures nodes { IfOk result (λ made. made.nodes ≡ kept_digests H.hash (dict_leaves made.dictionary)) }
+        { dictionary_tree::<H>(alloc, &parts.lists, list_nodes) },
+        || -> Result<DocumentsTree, OutOfMemory>
+            requires terms { parts.now.terms.items ≡ all_terms collection.now }
+            requires nodes { parts.now.term_nodes.items ≡ all_term_digests H.hash collection.now }
+            ensures leaves { IfOk result (λ made. made.leaves.items ≡ all_leaves H.hash collection.entry.now) }
+            ensures nodes { IfOk result (λ made.
+                made.nodes ≡ kept_digests H.hash (documents_of H.hash collection.entry.now)) }
+        { documents_tree::<H>(alloc, collection, &parts.terms, &parts.term_nodes) },
+    );
+    Ok((dictionary?, documents?))
 }
