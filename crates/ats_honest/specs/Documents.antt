@@ -2,8 +2,7 @@
 use Rattle.std.specs.Prelude.{◌≡◌, ℕ, List, [], ◌∷◌, map, Option, Some, None}
 use Rattle.ats_tree.specs.Elided.{elided_digests}
 use Rattle.ats_terms.specs.declared.spot.Spot.{Spot}
-use Rattle.ats_terms.specs.declared.spot.Spot.TheVariants.{At, Between}
-use Rattle.ats_doctree.specs.Found.{LiesBetween, StandsAt}
+use Rattle.ats_doctree.specs.Found.{IsSpot}
 use Rattle.ats_doctree.specs.Impacts.{doc_terms}
 use Rattle.ats_doctree.specs.Sentinels.{item_at, terms_leaves}
 use Rattle.ats_doctree.specs.declared.doc_leaf.DocLeaf.{DocLeaf}
@@ -15,8 +14,7 @@ use Rattle.ats_honest.specs.Terms.{AreNeeded, HaveSpots, slot_of}
 
 -- where a term stands among the leaves of a document's terms
 abbrev pub IsTermSpot : List (List ℕ × ℕ) → List ℕ → Spot → Type 0
-IsTermSpot items term (At p) = StandsAt items term p
-IsTermSpot items term (Between p) = LiesBetween items term p
+IsTermSpot = IsSpot
 
 -- the leaf at a position
 abbrev pub shown_term : List (List ℕ × ℕ) → ℕ → ShownTerm

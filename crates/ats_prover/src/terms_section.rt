@@ -1,6 +1,6 @@
 //! What a proof shows of the terms of a document.
 
-ghost use Rattle.std.specs.Prelude.{◌≡◌, ◌+◌, ◌≤◌, ◌<◌, ◌^◌, ◌++◌, ℕ, length, map, slice_index, OnOk};
+ghost use Rattle.std.specs.Prelude.{◌≡◌, ◌+◌, ◌≤◌, ◌<◌, ◌^◌, ◌++◌, ℕ, length, map, OnOk};
 ghost use Rattle.std.specs.List.{All, flat_map};
 ghost use Rattle.std.specs.List.Sorted.{IsStrictlyIncreasing};
 ghost use Rattle.ats_tree.specs.Elided.{elided_digests};
@@ -42,18 +42,6 @@ impl Section {
     }
 }
 
-// Where a term stands among a document's.
-fn spot(terms: &DocTerms, term: &[u8]) -> Spot
-    requires some { 1 ≤ length term.now }
-    requires front { slice_index term.now 0 < 255 }
-    ensures { IsTermSpot terms.now term.now result }
-{
-    match terms.find(term) {
-        ats_doctree::Spot::At(p) => Spot::At(p),
-        ats_doctree::Spot::Between(p) => Spot::Between(p),
-    }
-}
-
 // Keeps where each of the present terms stands among a document's, and nothing else.
 fn keep_spots(
     terms: &DocTerms,
@@ -68,7 +56,7 @@ fn keep_spots(
     prove!(terms.len() >= 2);
     spots.clear();
     for i in 0..present.len() {
-        spots.push(spot(terms, present.term(i)))?;
+        spots.push(terms.find(present.term(i)))?;
     }
     Ok(())
 }
