@@ -2,8 +2,8 @@ use Rattle.std.proofs.Common.{◌≡◌, ℕ, List, map, ap, sym, ◌∙◌}
 use Rattle.ats_tree.specs.Kept.{kept_digests}
 use Rattle.ats_doctree.specs.Sentinels.{terms_leaves}
 use Rattle.ats_doctree.specs.declared.doc_leaf.DocLeaf.{DocLeaf}
-use Rattle.ats_commit.specs.Trees.{leaf_of}
-use Rattle.ats_index.specs.Parts.{all_leaves, leaf_of_terms}
+use Rattle.ats_commit.specs.Trees.{leaf_of, leaf_of_terms}
+use Rattle.ats_index.specs.Parts.{all_leaves}
 use Rattle.ats_index.proofs.Whole.{digests_of_terms, leaves_are_documents, leaves_of_terms}
 use Rattle.ats_index.proofs.doc_leaves.documents_tree.Goals as goal
 
