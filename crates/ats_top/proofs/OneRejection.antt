@@ -4,7 +4,7 @@ use Rattle.ats_commit.specs.Archive.{Archive}
 use Rattle.ats_commit.specs.Root.{root_of}
 use Rattle.ats_client.specs.Bytes.{IsRejectedBytes}
 use Rattle.ats_client.specs.declared.fault.Rejection.{Rejection}
-use Rattle.ats_client.proofs.OneRejection as bytes
+use Rattle.ats_client.proofs.Public as bytes
 use Rattle.ats_top.specs.Words.{VerifyWords, under, Command, Rank, Build, Root, Prove, Verify, Ask, Serve, Audit, Sweep, Trial}
 use Rattle.ats_top.specs.Read.{Files, IsTold}
 use Rattle.ats_top.specs.Rejected.{IsProofRejected, IsRejected}
