@@ -1,15 +1,18 @@
 """Times the walks of both algorithms over collections of 4 and 16 MiB, beside one pass over what they show.
 
 Prints, for each algorithm and number of rows, the longest walk and the greatest ratio of a walk to going
-through the same entries once while summing into an ordered map; and how the longest walk grows from 4 to
-16 MiB. Ends with status 0 where all is as wanted.
+through the same entries once while summing into an ordered map; how the longest walk grows from 4 to 16 MiB;
+and what a proof takes beside loading the index, from a request to a server until its last byte has come. Ends
+with status 0 where all is as wanted.
 """
 
+import socket
 import sys
 import tempfile
 from pathlib import Path
 from typing import NamedTuple
 
+import asking
 import corpora
 import measure
 
@@ -24,6 +27,11 @@ RATIO = 4.0  # of a walk to one pass, at a number of rows of at most 100
 SECONDS = 0.5
 MANY_SECONDS = 2.0
 GROWTH = 5.0
+
+# Of a proof beside loading, for two words by their place in the order of frequency: by `tra` it has 700 KB.
+PROVED = (7, 8)
+PROVED_ROWS = 10
+PROVED_MS = {"tra": 20.0, "tnra": 5.0}
 
 # Walks that take less than this are not compared: the clock's own time is in them.
 LEAST = 0.001
@@ -73,8 +81,29 @@ def judge_rows(algorithm: str, rows: int, mib: int, found: list[Walk]) -> bool:
     return met
 
 
+def judge_proofs(program: str, folder: str) -> bool:
+    """A proof by each algorithm over the larger collection, from a server that has loaded its index."""
+    collection, index = (str(Path(folder) / name) for name in ("collection", "index"))
+    corpora.write(collection, SHAPE, SIZES[-1] * corpora.MIB)
+    measure.run([program, "build", collection, index])
+    words = corpora.vocabulary(SHAPE.vocabulary)
+    query = " ".join(words[place] for place in PROVED)
+    address = asking.free_address()
+    server = asking.started(program, index, 1, address)
+    met = True
+    try:
+        with socket.create_connection(address, timeout=asking.LIMIT) as link:
+            for algorithm, wanted in PROVED_MS.items():
+                proof = asking.fastest(link, asking.request(algorithm, PROVED_ROWS, query))
+                met &= measure.judge(f"{algorithm}, a proof of {proof.length - 5} bytes: ms", proof.seconds * 1e3, wanted)
+        server.wait(asking.LIMIT)
+    finally:
+        server.kill()
+    return met
+
+
 def main() -> int:
-    bench = measure.bench_program()
+    program, bench = measure.program(), measure.bench_program()
     met = True
     slowest: dict[tuple[str, int, int], float] = {}
     with tempfile.TemporaryDirectory() as folder:
@@ -92,6 +121,8 @@ def main() -> int:
         for rows in (*FEW_ROWS, MANY_ROWS):
             small, large = (slowest[algorithm, rows, mib] for mib in SIZES)
             met &= measure.judge(f"{algorithm}, {rows} rows: 16 MiB over 4 MiB", large / small, GROWTH)
+    with tempfile.TemporaryDirectory() as folder:
+        met &= judge_proofs(program, folder)
     return 0 if met else 1
 
 

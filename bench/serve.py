@@ -7,73 +7,31 @@ fast a long reply comes beside the same bytes sent by Python. Ends with status 0
 
 import socket
 import statistics
-import struct
 import subprocess
 import sys
 import tempfile
 import threading
 import time
 from pathlib import Path
-from typing import NamedTuple
 
+import asking
 import corpora
 import measure
 import prove
+from asking import LIMIT, RUNS
 
 SIZE = 16 * corpora.MIB
 ALGORITHM = "tnra"
 ROWS = 10
-RUNS = 5  # of each query, of which the fastest counts
 CONNECTIONS = 1000
 
 CLOCK = 1e-6  # seconds: what the clock of a walk tells apart
-LOADING = 600  # seconds that the server may take until it listens
-LIMIT = 120  # seconds that any one wait may take
 MEMORY = 1.05  # after the connections over before
 SENDING = 2.0  # over the time of the same bytes by Python
 
 
-class Reply(NamedTuple):
-    """How many bytes came, and the seconds from the request to the last byte and from the first byte to it."""
-
-    length: int
-    seconds: float
-    sending: float
-
-
-def request(query: str) -> bytes:
-    words = query.encode()
-    return struct.pack(">IBBHH", len(words) + 6, 1, 2, ROWS, len(words)) + words
-
-
-def receive(link: socket.socket, room: memoryview) -> int:
-    """Fills the room, and answers how much of it there is."""
-    came = 0
-    while came < len(room):
-        count = link.recv_into(room[came:])
-        if count == 0:
-            sys.exit(f"the server ended a reply after {came} bytes of {len(room)}")
-        came += count
-    return came
-
-
-def reply(link: socket.socket, query: str) -> Reply:
-    """One request over an open connection."""
-    head = bytearray(5)
-    start = time.perf_counter()
-    link.sendall(request(query))
-    receive(link, memoryview(head))
-    begun = time.perf_counter()
-    length, kind = struct.unpack(">IB", head)
-    if kind != 0:
-        sys.exit(f"the server refused {query!r}")
-    receive(link, memoryview(bytearray(length - 1)))
-    end = time.perf_counter()
-    return Reply(length + 4, end - start, end - begun)
-
-
-def fastest(link: socket.socket, query: str) -> Reply:
-    return min((reply(link, query) for _ in range(RUNS)), key=lambda one: one.seconds)
+def asked(query: str) -> bytes:
+    return asking.request(ALGORITHM, ROWS, query)
 
 
 def sent_by_python(length: int) -> float:
@@ -86,9 +44,9 @@ def sent_by_python(length: int) -> float:
     with link, other:
         sender = threading.Thread(target=other.sendall, args=(bytes(length),))
         sender.start()
-        receive(link, memoryview(bytearray(5)))
+        asking.receive(link, memoryview(bytearray(5)))
         start = time.perf_counter()
-        receive(link, memoryview(bytearray(length - 5)))
+        asking.receive(link, memoryview(bytearray(length - 5)))
         seconds = time.perf_counter() - start
         sender.join()
     return seconds
@@ -100,21 +58,6 @@ def held(process: int) -> int:
     return int(told.stdout) * 1024
 
 
-def started(command: list[str]) -> subprocess.Popen[str]:
-    """A server, once it listens."""
-    server = subprocess.Popen(command, stdout=subprocess.PIPE, text=True)
-    killer = threading.Timer(LOADING, server.kill)
-    killer.start()
-    assert server.stdout is not None
-    first = server.stdout.readline()
-    killer.cancel()
-    if first != "listening\n":
-        sys.exit(f"the server does not listen: {first.strip()}")
-    # What it prints later is read, so that it never waits for that.
-    threading.Thread(target=server.stdout.read).start()
-    return server
-
-
 def median_ms(seconds: list[float]) -> str:
     return f"{statistics.median(seconds) * 1e3:.2f} ms"
 
@@ -122,7 +65,7 @@ def median_ms(seconds: list[float]) -> str:
 def time_readers(ask: list[str], address: tuple[str, int], queries: list[str], walks: list[prove.Walk]) -> str:
     """Prints medians over the queries, of the fastest run of each. Answers the query with the fastest reply."""
     with socket.create_connection(address, timeout=LIMIT) as link:
-        replies = [fastest(link, query).seconds for query in queries]
+        replies = [asking.fastest(link, asked(query)).seconds for query in queries]
     at = f"{address[0]}:{address[1]}"
     readers = [measure.best([*ask, query, at]).seconds for query in queries]
     walked = [walk.seconds for walk in walks]
@@ -139,7 +82,7 @@ def time_connections(server: int, address: tuple[str, int], query: str) -> bool:
     start = time.perf_counter()
     for _ in range(CONNECTIONS):
         with socket.create_connection(address, timeout=LIMIT) as link:
-            reply(link, query)
+            asking.reply(link, asked(query))
     seconds = time.perf_counter() - start
     after = held(server)
     print(f"{CONNECTIONS} connections: {seconds / CONNECTIONS * 1e3:.2f} ms each")
@@ -150,7 +93,7 @@ def time_connections(server: int, address: tuple[str, int], query: str) -> bool:
 def time_long_reply(address: tuple[str, int], query: str) -> bool:
     """The reply to the query, from its first byte on."""
     with socket.create_connection(address, timeout=LIMIT) as link:
-        found = [reply(link, query) for _ in range(RUNS)]
+        found = [asking.reply(link, asked(query)) for _ in range(RUNS)]
     length, sending = found[0].length, min(one.sending for one in found)
     python = min(sent_by_python(length) for _ in range(RUNS))
     print(f"a reply of {length} bytes: {length / sending / 1e6:.0f} MB/s, by Python {length / python / 1e6:.0f} MB/s")
@@ -161,17 +104,14 @@ def main() -> int:
     program, bench = measure.program(), measure.bench_program()
     queries = prove.queries()
     with tempfile.TemporaryDirectory() as folder:
-        texts, asked, collection, index = (str(Path(folder) / name) for name in ("texts", "queries", "c.json", "index"))
-        Path(asked).write_text("\n".join(queries) + "\n", encoding="utf-8")
+        texts, listed, collection, index = (str(Path(folder) / name) for name in ("texts", "queries", "c.json", "index"))
+        Path(listed).write_text("\n".join(queries) + "\n", encoding="utf-8")
         Path(texts).write_text("\n".join(corpora.texts(prove.SHAPE, SIZE)) + "\n", encoding="utf-8")
         corpora.write(collection, prove.SHAPE, SIZE)
-        walks = prove.walks(bench, ALGORITHM, ROWS, texts, asked)
+        walks = prove.walks(bench, ALGORITHM, ROWS, texts, listed)
         root = measure.run([program, "build", collection, index]).printed.strip()
-        with socket.socket() as free:
-            free.bind(("127.0.0.1", 0))
-            address = free.getsockname()
-        connections = 1 + RUNS * len(queries) + CONNECTIONS + 1
-        server = started([program, "serve", index, str(connections), f"{address[0]}:{address[1]}"])
+        address = asking.free_address()
+        server = asking.started(program, index, 1 + RUNS * len(queries) + CONNECTIONS + 1, address)
         try:
             least = time_readers([program, "ask", root, ALGORITHM, str(ROWS)], address, queries, walks)
             met = time_connections(server.pid, address, least)

@@ -1,0 +1,81 @@
+"""A server over loopback as a process of its own, and requests over an open connection to it, timed."""
+
+import socket
+import struct
+import subprocess
+import sys
+import threading
+import time
+from typing import NamedTuple
+
+CODES = {"tra": 1, "tnra": 2}  # of the algorithms in a request
+
+RUNS = 5  # of each query, of which the fastest counts
+LOADING = 600  # seconds that a server may take until it listens
+LIMIT = 120  # seconds that any one wait may take
+
+
+class Reply(NamedTuple):
+    """How many bytes came, and the seconds from the request to the last byte and from the first byte to it."""
+
+    length: int
+    seconds: float
+    sending: float
+
+
+def request(algorithm: str, rows: int, query: str) -> bytes:
+    words = query.encode()
+    return struct.pack(">IBBHH", len(words) + 6, 1, CODES[algorithm], rows, len(words)) + words
+
+
+def receive(link: socket.socket, room: memoryview) -> int:
+    """Fills the room, and answers how much of it there is."""
+    came = 0
+    while came < len(room):
+        count = link.recv_into(room[came:])
+        if count == 0:
+            sys.exit(f"the server ended a reply after {came} bytes of {len(room)}")
+        came += count
+    return came
+
+
+def reply(link: socket.socket, asked: bytes) -> Reply:
+    """The reply to a request over an open connection."""
+    head = bytearray(5)
+    start = time.perf_counter()
+    link.sendall(asked)
+    receive(link, memoryview(head))
+    begun = time.perf_counter()
+    length, kind = struct.unpack(">IB", head)
+    if kind != 0:
+        sys.exit(f"the server refused {asked!r}")
+    receive(link, memoryview(bytearray(length - 1)))
+    end = time.perf_counter()
+    return Reply(length + 4, end - start, end - begun)
+
+
+def fastest(link: socket.socket, asked: bytes) -> Reply:
+    return min((reply(link, asked) for _ in range(RUNS)), key=lambda one: one.seconds)
+
+
+def free_address() -> tuple[str, int]:
+    """A loopback address at which nobody listens."""
+    with socket.socket() as free:
+        free.bind(("127.0.0.1", 0))
+        return free.getsockname()
+
+
+def started(program: str, index: str, connections: int, address: tuple[str, int]) -> subprocess.Popen[str]:
+    """A server for so many connections, once it has loaded the index and listens."""
+    command = [program, "serve", index, str(connections), f"{address[0]}:{address[1]}"]
+    server = subprocess.Popen(command, stdout=subprocess.PIPE, text=True)
+    killer = threading.Timer(LOADING, server.kill)
+    killer.start()
+    assert server.stdout is not None
+    first = server.stdout.readline()
+    killer.cancel()
+    if first != "listening\n":
+        sys.exit(f"the server does not listen: {first.strip()}")
+    # What it prints later is read, so that it never waits for that.
+    threading.Thread(target=server.stdout.read).start()
+    return server
