@@ -1,46 +1,37 @@
 -- Terms that are compared by the numbers of their first bytes.
-use Rattle.std.proofs.Common.{◌≡◌, ◌≢◌, ◌<◌, ◌≤◌, ◌+◌, ◌*◌, ◌^◌, ℕ, zero, suc, List, [], ◌∷◌, get_or, refl, sym, ap, subst, ◌∙◌, inl, inr, add-one, arith}
+use Rattle.std.proofs.Common.{◌≡◌, ◌≢◌, ◌<◌, ◌+◌, ◌*◌, ℕ, zero, suc, List, [], ◌∷◌, ◌++◌, get_or, replicate, refl, sym, ap, ap₂, subst, ◌∙◌, inl, inr, arith}
 use Rattle.std.specs.Ordering.{nat_cmp, ordering_reverse}
 use Rattle.std.specs.declared.cmp.Ordering.{Ordering}
 use Rattle.std.specs.declared.cmp.Ordering.TheVariants.{Less, Equal, Greater}
 use Rattle.std.proofs.lemmas.Bool.{cases_lt}
 use Rattle.std.proofs.lemmas.Bool.Decides.{nat_tests}
 use Rattle.std.proofs.lemmas.Cmp.{nat_cmp_total, nat_list_cmp_total, tied_itself}
+use Rattle.byteorder.specs.Endian.{big_number}
 use Rattle.ats_terms.specs.Front.{front, AreBytes}
 use Rattle.ats_terms.specs.Query.{byte_cmp}
 
--- one byte more
-pub front_more : (n : ℕ) (term : List ℕ) → front (n + 1) term ≡ front n term * 256 + get_or term n 0
+-- the number goes by the first bytes alone
+front_by : (n : ℕ) (x y : List ℕ) → ((i : ℕ) → i < n → get_or x i 0 ≡ get_or y i 0) → front n x ≡ front n y
 unfolding front
-front_more n term = ap (λ k. front k term) (add-one n)
+front_by zero x y same = refl
+front_by (suc n) x y same =
+    ap₂ (λ (f b : ℕ). f * 256 + b) (front_by n x y (λ i inside. same i (omega arith))) (same n (omega arith))
 
--- one more than the greatest number of n bytes
-pub room : ℕ → ℕ
-room zero = 1
-room (suc n) = room n * 256
+zeros_behind : (term : List ℕ) (n i : ℕ) → get_or (term ++ replicate n 0) i 0 ≡ get_or term i 0
+zeros_behind [] zero i = refl
+zeros_behind [] (suc n) zero = refl
+zeros_behind [] (suc n) (suc i) = zeros_behind [] n i
+zeros_behind (b ∷ term) n zero = refl
+zeros_behind (b ∷ term) n (suc i) = zeros_behind term n i
 
-pub front_fits : (n : ℕ) (term : List ℕ) → AreBytes term → front n term < room n
-unfolding front room
-front_fits zero term bytes =
-    let none : front 0 term ≡ 0 = refl in
-    let one : room 0 ≡ 1 = refl in
-    omega arith
-front_fits (suc n) term bytes =
-    let more : front (suc n) term ≡ front n term * 256 + get_or term n 0 = refl in
-    let wider : room (suc n) ≡ room n * 256 = refl in
-    omega (arith, front_fits n term bytes, bytes n)
+-- zeros behind a term change nothing
+pub front_padded : (n m : ℕ) (term : List ℕ) → front n (term ++ replicate m 0) ≡ front n term
+front_padded n m term = front_by n (term ++ replicate m 0) term (λ i inside. zeros_behind term m i)
 
-pub room_fits : (n : ℕ) → n < 8 → room n * 256 ≤ 2 ^ 64
-unfolding room
-room_fits zero few = let wide : room 0 ≡ 1 = refl in omega arith
-room_fits (suc zero) few = let wide : room 1 ≡ 256 = refl in omega arith
-room_fits (suc (suc zero)) few = let wide : room 2 ≡ 65536 = refl in omega arith
-room_fits (suc (suc (suc zero))) few = let wide : room 3 ≡ 16777216 = refl in omega arith
-room_fits (suc (suc (suc (suc zero)))) few = let wide : room 4 ≡ 4294967296 = refl in omega arith
-room_fits (suc (suc (suc (suc (suc zero))))) few = let wide : room 5 ≡ 1099511627776 = refl in omega arith
-room_fits (suc (suc (suc (suc (suc (suc zero)))))) few = let wide : room 6 ≡ 281474976710656 = refl in omega arith
-room_fits (suc (suc (suc (suc (suc (suc (suc zero))))))) few = let wide : room 7 ≡ 72057594037927936 = refl in omega arith
-room_fits (suc (suc (suc (suc (suc (suc (suc (suc n)))))))) few = absurd (omega arith)
+-- the number of 8 bytes is that which is read
+pub front_read : (term : List ℕ) → big_number 8 term ≡ front 8 term
+unfolding front
+front_read term = omega arith
 
 -- terms with one number have the same first bytes
 same_bytes : (n : ℕ) (x y : List ℕ) → AreBytes x → AreBytes y → front n x ≡ front n y → (i : ℕ) → i < n → get_or x i 0 ≡ get_or y i 0

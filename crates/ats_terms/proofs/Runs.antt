@@ -1,12 +1,13 @@
 -- The runs of terms that stand in byte order.
-use Rattle.std.proofs.Common.{◌≡◌, ◌≢◌, ◌<◌, ◌≤◌, ◌+◌, ◌-◌, ◌⊎◌, ℕ, suc, List, [], ◌∷◌, ◌++◌, length, get_or, take, set, map, fold, false, inl, inr, refl, sym, ap, ap₂, subst, ◌∙◌, arith, length-append, length-take, sum_by, zero-add}
+use Rattle.std.proofs.Common.{◌≡◌, ◌≢◌, ◌<◌, ◌≤◌, ◌+◌, ◌-◌, ℕ, suc, List, [], ◌∷◌, ◌++◌, length, get_or, take, set, map, fold, false, inl, inr, refl, sym, ap, ap₂, subst, ◌∙◌, arith, length-append, length-take, sum_by, zero-add}
 use Rattle.std.specs.List.{All, zip}
+use Rattle.std.proofs.lemmas.Bool.{cases_lt}
 use Rattle.std.specs.List.Sorted.{IsSorted}
 use Rattle.std.specs.Ordering.{is_lt, ordering_reverse}
 use Rattle.std.specs.declared.cmp.Ordering.{Ordering}
 use Rattle.std.specs.declared.cmp.Ordering.TheVariants.{Less, Equal, Greater}
 use Rattle.std.proofs.lemmas.Cmp.{nat_list_cmp_total, tied_itself}
-use Rattle.std.proofs.lemmas.List.{get_or-map, get_or_default, length-map, take_more}
+use Rattle.std.proofs.lemmas.List.{get_or_default, take_more}
 use Rattle.std.proofs.lemmas.List.Elements.{All-nil, All-tail, All-push}
 use Rattle.std.proofs.lemmas.Slice.Zip.{firsts-zip, seconds-zip, get_or-zip}
 use Rattle.std.proofs.lemmas.List.Sums.{get_or-le-sum_by}
@@ -49,10 +50,10 @@ below_next pairs last term ends less =
     (All-push (λ (p : List ℕ × ℕ). byte_cmp p.0 term ≡ Less) ends.front (last, ends.weight)
     (λ k d inside. nat_list_cmp_total.trans (get_or ends.front k d).0 last term (ends.below k d inside) less) less)
 
--- the pairs of the first terms, of which this one is the last
-pub record AreRuns (all : List (List ℕ)) (i : ℕ) (last : List ℕ) (pairs : List (List ℕ × ℕ)) : Type 0 where
+-- the pairs of the first terms, of which the last ends them
+pub record AreRuns (all : List (List ℕ)) (i : ℕ) (pairs : List (List ℕ × ℕ)) : Type 0 where
   pub made : pairs ≡ counted (take i all)
-  pub follows : (i ≡ 0) × (last ≡ []) ⊎ (0 < i) × (last ≡ get_or all (i - 1) []) × EndsWith pairs last
+  pub ends : 0 < i → EndsWith pairs (get_or all (i - 1) [])
 
 fold_more : (front : List (List ℕ)) (term : List ℕ) (pairs : List (List ℕ × ℕ)) → fold put_term pairs (front ++ term ∷ []) ≡ put_term (fold put_term pairs front) term
 fold_more [] term pairs = refl
@@ -61,37 +62,37 @@ fold_more (first ∷ front) term pairs = fold_more front term (put_term pairs fi
 counted_more : (all : List (List ℕ)) (i : ℕ) → i < length all → counted (take (i + 1) all) ≡ put_term (counted (take i all)) (get_or all i [])
 counted_more all i inside = ap counted (take_more all i [] inside) ∙ fold_more (take i all) (get_or all i []) []
 
-pub runs_start : (all : List (List ℕ)) → AreRuns all 0 [] []
-runs_start all = record { made = refl; follows = inl (refl, refl) }
+pub runs_start : (all : List (List ℕ)) → AreRuns all 0 []
+runs_start all = record { made = refl; ends = λ some. absurd (omega (arith, some)) }
 
 -- no run is longer than the terms so far
-pub run_few : (all : List (List ℕ)) (i : ℕ) (last : List ℕ) (pairs : List (List ℕ × ℕ)) (k : ℕ) (d : List ℕ × ℕ) → AreRuns all i last pairs → k < length pairs
+pub run_few : (all : List (List ℕ)) (i : ℕ) (pairs : List (List ℕ × ℕ)) (k : ℕ) (d : List ℕ × ℕ) → AreRuns all i pairs → k < length pairs
     → (get_or pairs k d).1 ≤ i
-run_few all i last pairs k d runs inside =
+run_few all i pairs k d runs inside =
     let sum : sum_by (λ p. p.1) pairs ≡ length (take i all) = ap (sum_by (λ p. p.1)) runs.made ∙ all_weigh (take i all) [] ∙ zero-add (length (take i all)) in
     omega (arith, get_or-le-sum_by (λ (p : List ℕ × ℕ). p.1) pairs k d inside, sum, length-take i all)
 
--- where a term was, the pairs end with it
-pub begun : (all : List (List ℕ)) (i : ℕ) (last : List ℕ) (pairs : List (List ℕ × ℕ)) → AreRuns all i last pairs → 1 ≤ length last → EndsWith pairs last
-begun all i last pairs runs some = elim runs.follows [
-  | inl start ↦ absurd (omega (arith, ap length start.1))
-  | inr follows ↦ follows.2
-]
+-- behind a term there are pairs
+pub some_runs : (all : List (List ℕ)) (i : ℕ) (pairs : List (List ℕ × ℕ)) → AreRuns all i pairs → 0 < i → 1 ≤ length pairs
+some_runs all i pairs runs some =
+    let ends = runs.ends some in
+    omega (arith, ap length ends.same, length-append ends.front ((get_or all (i - 1) [], ends.weight) ∷ []))
 
 -- the last term again, which gets one more
-pub runs_again : (all : List (List ℕ)) (i : ℕ) (last : List ℕ) (pairs more : List (List ℕ × ℕ)) → AreRuns all i last pairs → i < length all
-    → get_or all i [] ≡ last → 1 ≤ length last
-    → ((front : List (List ℕ × ℕ)) (weight : ℕ) → pairs ≡ front ++ (last, weight) ∷ [] → more ≡ front ++ (last, weight + 1) ∷ [])
-    → AreRuns all (i + 1) last more
-runs_again all i last pairs more runs inside again some bump =
-    let ends = begun all i last pairs runs some in
-    let next : more ≡ ends.front ++ (last, ends.weight + 1) ∷ [] = bump ends.front ends.weight ends.same in
+pub runs_again : (all : List (List ℕ)) (i : ℕ) (pairs more : List (List ℕ × ℕ)) → AreRuns all i pairs → i < length all
+    → 0 < i → get_or all i [] ≡ get_or all (i - 1) []
+    → ((front : List (List ℕ × ℕ)) (last : List ℕ) (weight : ℕ) → pairs ≡ front ++ (last, weight) ∷ [] → more ≡ front ++ (last, weight + 1) ∷ [])
+    → AreRuns all (i + 1) more
+runs_again all i pairs more runs inside some again bump =
+    let last = get_or all (i - 1) [] in
+    let ends = runs.ends some in
+    let next : more ≡ ends.front ++ (last, ends.weight + 1) ∷ [] = bump ends.front last ends.weight ends.same in
     let put : put_term pairs last ≡ more = ap (λ ps. put_term ps last) ends.same ∙ put_last ends.front last ends.weight ends.below ∙ sym next in
     let here : i + 1 - 1 ≡ i = omega arith in
     let still : EndsWith more last = record { front = ends.front; weight = ends.weight + 1; same = next; below = ends.below } in
     record {
       made = sym put ∙ ap₂ put_term runs.made (sym again) ∙ sym (counted_more all i inside);
-      follows = inr (omega arith, sym again ∙ ap (λ k. get_or all k []) (sym here), still);
+      ends = λ _. subst (EndsWith more) (sym again ∙ ap (λ k. get_or all k []) (sym here)) still;
     }
 
 not_less : (o : Ordering) → is_lt (ordering_reverse o) ≡ false → o ≢ Equal → o ≡ Less
@@ -111,32 +112,24 @@ less_next all i order up inside differ =
     not_less (byte_cmp before term) turned (λ equal. differ (equal_from before term equal))
 
 -- another term, which begins a run
-pub runs_next : (all : List (List ℕ)) (i : ℕ) (last : List ℕ) (pairs : List (List ℕ × ℕ)) → AreRuns all i last pairs → IsSorted byte_cmp all
-    → i < length all → get_or all i [] ≢ last → AreRuns all (i + 1) (get_or all i []) (pairs ++ (get_or all i [], 1) ∷ [])
-runs_next all i last pairs runs order inside differ =
+pub runs_next : (all : List (List ℕ)) (i : ℕ) (pairs : List (List ℕ × ℕ)) → AreRuns all i pairs → IsSorted byte_cmp all
+    → i < length all → (0 < i → get_or all i [] ≢ get_or all (i - 1) []) → AreRuns all (i + 1) (pairs ++ (get_or all i [], 1) ∷ [])
+runs_next all i pairs runs order inside differ =
     let term = get_or all i [] in
     let here : i + 1 - 1 ≡ i = omega arith in
-    let below : AreBelow pairs term = elim runs.follows [
-      | inl start ↦
-          let none : pairs ≡ [] = runs.made ∙ ap (λ k. counted (take k all)) start.0 in
-          subst (λ ps. AreBelow ps term) (sym none) (All-nil (λ (p : List ℕ × ℕ). byte_cmp p.0 term ≡ Less))
-      | inr (up, is, ends) ↦
-          below_next pairs last term ends (ap (λ t. byte_cmp t term) is ∙ less_next all i order up inside (λ same. differ (sym same ∙ sym is)))
+    let below : AreBelow pairs term = elim (cases_lt 0 i) [
+      | inl some ↦
+          below_next pairs (get_or all (i - 1) []) term (runs.ends some) (less_next all i order some inside (λ same. differ some (sym same)))
+      | inr none ↦
+          let first : i ≡ 0 = omega arith in
+          let empty : pairs ≡ [] = runs.made ∙ ap (λ k. counted (take k all)) first in
+          subst (λ ps. AreBelow ps term) (sym empty) (All-nil (λ (p : List ℕ × ℕ). byte_cmp p.0 term ≡ Less))
     ] in
     let ends : EndsWith (pairs ++ (term, 1) ∷ []) term = record { front = pairs; weight = 1; same = refl; below = below } in
     record {
       made = sym (put_above pairs term below) ∙ ap (λ ps. put_term ps term) runs.made ∙ sym (counted_more all i inside);
-      follows = inr (omega arith, ap (λ k. get_or all k []) (sym here), ends);
+      ends = λ _. subst (EndsWith (pairs ++ (term, 1) ∷ [])) (ap (λ k. get_or all k []) (sym here)) ends;
     }
-
--- terms in order are in order wherever they stand
-pub sorted_map : {X : Type 0} (f : X → List ℕ) (xs : List X) → IsSorted (λ x y. byte_cmp (f x) (f y)) xs → IsSorted byte_cmp (map f xs)
-sorted_map f [] order k d from until = absurd (omega arith)
-sorted_map f (x ∷ xs) order k d from until =
-    let size = length-map (x ∷ xs) f in
-    let here = get_or-map f (x ∷ xs) k x d (omega (arith, size)) in
-    let next = get_or-map f (x ∷ xs) (k + 1) x d (omega (arith, size)) in
-    ap₂ (λ a b. is_lt (byte_cmp a b)) next here ∙ order k x from (omega (arith, size))
 
 pub zip_push : {A B : Type 0} (ks : List A) (vs : List B) (k : A) (v : B) → length vs ≡ length ks
     → zip (ks ++ k ∷ []) (vs ++ v ∷ []) ≡ zip ks vs ++ (k, v) ∷ []

@@ -1,6 +1,6 @@
 //! How often each term stands in a text.
 
-ghost use Rattle.std.specs.Prelude.{◌≡◌, ◌<◌, ◌≤◌, ◌^◌, [], List, ℕ, length, map, slice_index_or, sum_by, IfOk};
+ghost use Rattle.std.specs.Prelude.{◌≡◌, ◌<◌, ◌≤◌, ◌-◌, ◌^◌, ◌↔◌, [], List, ℕ, length, slice_index_or, sum_by, IsTrue, IfOk};
 ghost use Rattle.std.specs.List.{All};
 ghost use Rattle.std.specs.List.Sorted.{IsPermutation, IsSorted};
 ghost use Rattle.ats_terms.specs.Terms.{IsTerm};
@@ -9,6 +9,7 @@ ghost use Rattle.ats_terms.specs.Query.{counted};
 ghost use Rattle.ats_terms.specs.Counted.{Counts};
 ghost use Rattle.ats_terms.specs.Distinct.{AreDistinct};
 
+use crate::key::Key;
 use crate::terms::{OutOfMemory, Terms, pack};
 use std::alloc::Global;
 use std::marker::Model;
@@ -34,40 +35,46 @@ impl Model for TermCounts {
     ghost invariant = { λ t. (length t.counts.items ≡ length t.terms) × AreDistinct (zip t.terms t.counts.items) };
 }
 
-// Each of the terms, in byte order.
-fn in_order<'a>(alloc: Global, terms: &'a Terms) -> Result<Vec<&'a [u8]>, OutOfMemory>
-    ensures same { IfOk result (λ sorted. IsPermutation terms.now (map (λ term. term.now) sorted.items)) }
-    ensures order { IfOk result (λ sorted. IsSorted byte_cmp (map (λ term. term.now) sorted.items)) }
-    ensures terms { IfOk result (λ sorted. All IsTerm (map (λ term. term.now) sorted.items)) }
+// Each of the terms as a key, in byte order.
+fn in_order<'a>(alloc: Global, terms: &'a Terms) -> Result<Vec<Key<'a>>, OutOfMemory>
+    ensures same { IfOk result (λ sorted. IsPermutation terms.now sorted.items) }
+    ensures order { IfOk result (λ sorted. IsSorted byte_cmp sorted.items) }
+    ensures terms { IfOk result (λ sorted. All IsTerm sorted.items) }
 {
     let mut sorted = Vec::with_capacity(alloc, terms.len())?;
     for i in 0..terms.len() {
-        sorted.push(terms.get(i))?;
+        sorted.push(Key::of(terms.get(i)))?;
     }
     sorted.sort_unstable();
     Ok(sorted)
 }
 
+// Whether a place has the same term as the one before it.
+fn repeats(sorted: &[Key<'_>], i: usize) -> bool
+    requires { i < length sorted.now }
+    ensures { IsTrue result ↔ (0 < i) × (slice_index_or sorted.now i [] ≡ slice_index_or sorted.now (i - 1) []) }
+{
+    i > 0 && sorted[i] == sorted[i - 1]
+}
+
 // The terms without those that repeat the one before, each with the length of its run.
-fn runs(alloc: Global, sorted: &[&[u8]]) -> Result<TermCounts, OutOfMemory>
+fn runs(alloc: Global, sorted: &[Key<'_>]) -> Result<TermCounts, OutOfMemory>
     requires few { length sorted.now < 2 ^ 32 }
-    requires order { IsSorted byte_cmp (map (λ term. term.now) sorted.now) }
-    requires terms { All IsTerm (map (λ term. term.now) sorted.now) }
-    ensures { IfOk result (λ made. made ≡ counted (map (λ term. term.now) sorted.now)) }
+    requires order { IsSorted byte_cmp sorted.now }
+    requires terms { All IsTerm sorted.now }
+    ensures { IfOk result (λ made. made ≡ counted sorted.now) }
 {
     let mut bytes = Vec::new(alloc);
     let mut ends = Vec::new(alloc);
     let mut counts: Vec<u32> = Vec::new(alloc);
-    let mut last: &[u8] = &[];
-    for term in sorted {
-        if *term == last {
+    for i in 0..sorted.len() {
+        if repeats(sorted, i) {
             let run = counts.len() - 1;
             counts[run] += 1;
             continue;
         }
-        pack(&mut bytes, &mut ends, term)?;
+        pack(&mut bytes, &mut ends, sorted[i].term())?;
         counts.push(1)?;
-        last = term;
     }
     let terms = Terms::packed(bytes, ends);
     Ok(TermCounts { terms, counts })

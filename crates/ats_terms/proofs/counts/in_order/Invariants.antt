@@ -1,4 +1,4 @@
-use Rattle.std.proofs.Common.{◌≡◌, map, take}
+use Rattle.std.proofs.Common.{◌≡◌, take}
 use Rattle.std.specs.List.{All}
 use Rattle.ats_terms.specs.Terms.{IsTerm}
 use Rattle.ats_terms.proofs.counts.in_order.Given as goal
@@ -6,6 +6,6 @@ use Rattle.ats_terms.proofs.counts.in_order.Given as goal
 -- the terms so far
 abbrev pub invariant-loop-i : goal.invariant-loop-i
 invariant-loop-i l = record {
-  same : map (λ term. term.now) l.sorted.items ≡ take l.i l.terms;
-  terms : All IsTerm (map (λ term. term.now) l.sorted.items);
+  same : l.sorted.items ≡ take l.i l.terms;
+  terms : All IsTerm l.sorted.items;
 }

@@ -1,22 +1,15 @@
-use Rattle.std.proofs.Common.{◌+◌, ◌*◌, ℕ, refl, sym, ap₂, ◌∙◌, arith}
-use Rattle.ats_terms.specs.Front.{front, AreBytes}
-use Rattle.ats_terms.proofs.Fronts.{front_fits, front_more, room_fits}
+use Rattle.std.proofs.Common.{◌≡◌, ◌∙◌, ◌-◌, ◌++◌, ℕ, List, drop, length, replicate, ap₂}
+use Rattle.std.proofs.lemmas.List.{drop-replicate}
+use Rattle.ats_terms.proofs.Fronts.{front_padded, front_read}
 use Rattle.ats_terms.proofs.leading.front.Goals as goal
 
-pub loop-i-init : goal.loop-i-init
-unfolding front
-loop-i-init c = refl
+pub returns-then-term-ge8 : goal.returns-then-term-ge8
+returns-then-term-ge8 c = c.read_u64.ensures ∙ front_read c.args.term.now
 
-pub overflow_mul-front : goal.overflow_mul-front
-overflow_mul-front c =
-    let bytes : AreBytes c.args.term.now = λ i. let byte = c.type_inv.term i in omega (arith, byte) in
-    omega (arith, c.loop-i.invariant, front_fits c.loop-i.i c.args.term.now bytes, room_fits c.loop-i.i (omega (arith, c.loop-i-test.true)))
-
-pub overflow_add-front : goal.overflow_add-front
-overflow_add-front c =
-    let bytes : AreBytes c.args.term.now = λ i. let byte = c.type_inv.term i in omega (arith, byte) in
-    omega (arith, c.loop-i.invariant, front_fits c.loop-i.i c.args.term.now bytes, room_fits c.loop-i.i (omega (arith, c.loop-i-test.true)), c.byte_at.type_inv, c.from.ensures)
-
-pub loop-i-preserved : goal.loop-i-preserved
-loop-i-preserved c =
-    ap₂ (λ (f b : ℕ). f * 256 + b) c.loop-i.invariant (c.from.ensures ∙ c.byte_at.ensures) ∙ sym (front_more c.loop-i.i c.args.term.now)
+pub returns : goal.returns
+returns c =
+    let term = c.args.term.now in
+    let first = c.copy_from_slice.new.self ++ drop (length term) (replicate {A = ℕ} 8 0) in
+    let padded : first ≡ term ++ replicate (8 - length term) 0 =
+    ap₂ (λ (front back : List ℕ). front ++ back) c.copy_from_slice.ensures.after (drop-replicate (length term) 8 0) in
+    c.read_u64-2.ensures ∙ front_read first ∙ rw padded (front_padded 8 (8 - length term) term)

@@ -1,5 +1,4 @@
-use Rattle.std.proofs.Common.{◌∙◌, [], Bor, List, ℕ, length, map, ap, arith, zero-add}
-use Rattle.std.proofs.lemmas.List.{length-map}
+use Rattle.std.proofs.Common.{◌∙◌, [], length, ap, arith, zero-add}
 use Rattle.std.proofs.lemmas.List.Sorted.{length_permutation}
 use Rattle.ats_terms.specs.Query.{counted}
 use Rattle.ats_terms.proofs.Counting.{all_weigh, counted_counts}
@@ -8,8 +7,8 @@ use Rattle.ats_terms.proofs.counts.TermCounts.of.Goals as goal
 
 pub returns-clause-counted : goal.returns-clause-counted
 returns-clause-counted c =
-    c.in_ok-made.ensures ∙ ap (λ sorted. counted (map (λ (term : Bor (List ℕ)). term.now) sorted)) c.deref.ensures.value
-    ∙ counted_permuted c.args.terms.now _ c.in_ok-sorted.ensures.same
+    c.in_ok-made.ensures ∙ ap counted c.deref.ensures.value
+    ∙ counted_permuted c.args.terms.now c.in_ok-sorted.sorted.items c.in_ok-sorted.ensures.same
 
 pub returns-clause-counts : goal.returns-clause-counts
 returns-clause-counts c = rw (returns-clause-counted c) (counted_counts c.args.terms.now)
@@ -22,7 +21,5 @@ returns-clause-few c = omega (arith, few_pairs c.in_ok-made.made (returns-clause
 
 pub runs-requires-clause-few : goal.runs-requires-clause-few
 runs-requires-clause-few c =
-    let sorted = c.in_ok-sorted.sorted.items in
-    let same = length_permutation c.args.terms.now (map (λ (term : Bor (List ℕ)). term.now) sorted) c.in_ok-sorted.ensures.same in
-    let size = length-map sorted (λ (term : Bor (List ℕ)). term.now) in
-    omega (arith, same, size, ap length c.deref.ensures.value, c.len.ensures)
+    let same = length_permutation c.args.terms.now c.in_ok-sorted.sorted.items c.in_ok-sorted.ensures.same in
+    omega (arith, same, ap length c.deref.ensures.value, c.len.ensures)
