@@ -8,6 +8,7 @@ use ats_bound::Work;
 use ats_hash::Steps;
 use ats_impact::Row;
 use ats_proof::ProofView;
+use byteorder::{BigEndian, ByteOrder};
 
 /// Row `i` of the answer, counted from 0: its document with what it scores at least and at most.
 ///
@@ -24,7 +25,7 @@ pub fn row(proof: &ProofView<'_>, work: &Work, threshold: u64, i: u32, steps: &m
     let mark = work.get(index, steps);
     let id = proof.met_id(index, steps);
     Row {
-        doc: u32::from_be_bytes([id[0], id[1], id[2], id[3]]),
+        doc: BigEndian::read_u32(id),
         lower: mark.lo,
         upper: upper(mark, threshold),
     }

@@ -2,8 +2,11 @@
 use Rattle.std.proofs.Common.{◌≡◌, ◌∙◌, ℕ, zero, suc, ◌+◌, ◌*◌, ◌/◌, ◌%◌, ◌^◌, ◌<◌, ◌≤◌, List, [], ◌∷◌, length, refl, sym, ap, ap₂, subst, arith}
 use Rattle.std.proofs.Math.Nat.{mod-lt, mul-le-mul_right, pow-succ'}
 use Rattle.std.proofs.lemmas.Nat.{div-add-mod', div-mul-add, mod-mul-add}
+use Rattle.std.proofs.lemmas.List.{length-take-le}
+use Rattle.byteorder.specs.Endian.{big_from, big_number}
+use Rattle.byteorder.specs.Numbers.{big_from-cons}
 use Rattle.ats_grammar.specs.Table.{number}
-use Rattle.ats_proof.specs.Parts.{spelled}
+use Rattle.ats_proof.specs.Parts.{spelled, number_in}
 pub use Rattle.ats_proof.specs.Parts.{AreBytes}
 
 pub length-spelled : (k n : ℕ) → length (spelled k n) ≡ k
@@ -45,3 +48,11 @@ spelled-number (suc k) (b ∷ bs) same small =
     let whole : number (b ∷ bs) ≡ b * 256 ^ k + number bs = ap (λ (n : ℕ). b * 256 ^ n + number bs) size in
     ap₂ (λ (x : ℕ) (xs : List ℕ). x ∷ xs) (ap (λ (n : ℕ). n / 256 ^ k) whole ∙ div-mul-add b (256 ^ k) (number bs) below)
     (ap (λ (n : ℕ). spelled k (n % 256 ^ k)) whole ∙ ap (spelled k) (mod-mul-add b (256 ^ k) (number bs) below) ∙ spelled-number k bs size (λ i. small (suc i)))
+
+-- the number that is read at the front
+pub number_read : (n : ℕ) (bytes : List ℕ) → n ≤ length bytes → big_number n bytes ≡ number_in n bytes
+number_read zero bytes room = refl
+number_read (suc n) [] room = absurd (omega (arith, room))
+number_read (suc n) (b ∷ bs) room =
+    let rest : big_from 1 n (b ∷ bs) ≡ number_in n bs = big_from-cons 0 n b bs ∙ number_read n bs (omega (arith, room)) in
+    ap₂ (λ (k r : ℕ). b * 256 ^ k + r) (sym (length-take-le n bs (omega (arith, room)))) rest

@@ -6,6 +6,8 @@ pub use Rattle.ats_proof.proofs.Numbers.{AreBytes}
 pub use Rattle.ats_proof.proofs.Numbers.{length-spelled}
 -- the encoding of a number in one or more bytes decodes to it, even if the first byte overflows
 pub use Rattle.ats_proof.proofs.Numbers.{number-spelled}
+-- the number that byteorder reads from the first bytes is the number that they spell
+pub use Rattle.ats_proof.proofs.Numbers.{number_read}
 -- the tail of a strictly increasing list of numbers is strictly increasing
 pub use Rattle.ats_proof.proofs.Taking.{increasing-tail}
 -- the 2-byte encoding of the number that the first 2 bytes spell is these bytes, high byte first

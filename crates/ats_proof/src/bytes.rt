@@ -3,6 +3,8 @@
 ghost use Rattle.std.specs.Prelude.{◌≡◌, ◌≤◌, ◌<◌, ◌*◌, length, take, drop};
 ghost use Rattle.ats_proof.specs.Parts.{number_in, AreBytes};
 
+use byteorder::{BigEndian, ByteOrder};
+
 pub(crate) fn number_1(bytes: &[u8]) -> u8
     requires { 1 ≤ length bytes.now }
     ensures { result ≡ number_in 1 bytes.now }
@@ -14,14 +16,14 @@ pub(crate) fn number_2(bytes: &[u8]) -> u16
     requires { 2 ≤ length bytes.now }
     ensures { result ≡ number_in 2 bytes.now }
 {
-    u16::from_be_bytes([bytes[0], bytes[1]])
+    BigEndian::read_u16(bytes)
 }
 
 pub(crate) fn number_4(bytes: &[u8]) -> u32
     requires { 4 ≤ length bytes.now }
     ensures { result ≡ number_in 4 bytes.now }
 {
-    u32::from_be_bytes([bytes[0], bytes[1], bytes[2], bytes[3]])
+    BigEndian::read_u32(bytes)
 }
 
 pub(crate) fn digest(bytes: &[u8]) -> [u8; 32]

@@ -1,4 +1,4 @@
-use Rattle.std.proofs.Common.{◌≡◌, ◌<◌, ◌+◌, ◌*◌, ℕ, List, [], ◌∷◌, length, get_or, sym, ap, ◌∙◌, arith}
+use Rattle.std.proofs.Common.{◌≡◌, ◌<◌, ℕ, List, length, get_or, take, take_all, sym, ap, ◌∙◌, arith}
 use Rattle.std.proofs.lemmas.Option.{get_or_from_slice_get}
 use Rattle.ats_grammar.specs.Table.{number}
 use Rattle.ats_impact.specs.declared.rank.Row.{Row}
@@ -7,6 +7,7 @@ use Rattle.ats_bound.specs.declared.work.Mark.{Mark}
 use Rattle.ats_bound.specs.Cut.{ShownLane}
 use Rattle.ats_bound.specs.Schedule.{Bounding}
 use Rattle.ats_proof.specs.Value.{Proof}
+use Rattle.ats_proof.proofs.Public.{number_read}
 use Rattle.ats_client.specs.Bracketing.{bounds_of}
 use Rattle.ats_client.proofs.Bracketing.{own_doc}
 use Rattle.ats_client.specs.Bounds.{upper}
@@ -16,15 +17,6 @@ use Rattle.ats_client.specs.Rows.{IsLeft, row_of}
 use Rattle.ats_client.proofs.Bounding.{held_within, upper_is}
 use Rattle.ats_client.proofs.Presents.{at_place}
 use Rattle.ats_client.proofs.answer.row.Goals as goal
-
-number_of_four : (bytes : List ℕ) → length bytes ≡ 4
-    → number bytes ≡ get_or bytes 0 0 * 16777216 + get_or bytes 1 0 * 65536 + get_or bytes 2 0 * 256 + get_or bytes 3 0
-number_of_four [] four = absurd (omega (arith, four))
-number_of_four (a ∷ []) four = absurd (omega (arith, four))
-number_of_four (a ∷ b ∷ []) four = absurd (omega (arith, four))
-number_of_four (a ∷ b ∷ c ∷ []) four = absurd (omega (arith, four))
-number_of_four (a ∷ b ∷ c ∷ d ∷ []) four = omega arith
-number_of_four (a ∷ b ∷ c ∷ d ∷ e ∷ bytes) four = absurd (omega (arith, four))
 
 row_is : (doc lower upper : ℕ) (b : Bracket) → doc ≡ b.doc → lower ≡ b.lo → upper ≡ b.hi
     → ◌≡◌ {A = Row} (record { doc = doc; lower = lower; upper = upper }) (row_of b)
@@ -60,10 +52,12 @@ returns-clause-row c query left =
     let here : get_or proof.answer c.args.i 0 ≡ index = get_or_from_slice_get proof.answer c.args.i index 0 c.answer-index.ensures.row in
     let inside : index < length proof.met = at_place (λ (x : ℕ). x < length proof.met) proof.answer c.args.i index left.inside c.answer-index.ensures.row in
     let id : get_or proof.met index 0 ≡ number c.met_id-id.result.now = get_or_from_slice_get proof.met index (number c.met_id-id.result.now) 0 c.met_id-id.ensures.id in
-    let doc : c.from_be_bytes.result ≡ (bounds lanes (met_at proof.met index)).doc =
-    omega (arith, number_of_four c.met_id-id.result.now c.met_id-id.ensures.size, c.from_be_bytes.ensures, id, own_doc proof.met proof.docs lanes (met_at proof.met index)) in
+    let bytes : List ℕ = c.met_id-id.result.now in
+    let whole : take 4 bytes ≡ bytes = take_all 4 bytes (omega (arith, c.met_id-id.ensures.size)) in
+    let read : c.read_u32.result ≡ number bytes = c.read_u32.ensures ∙ number_read 4 bytes (omega (arith, c.met_id-id.ensures.size)) ∙ ap number whole in
+    let doc : c.read_u32.result ≡ (bounds lanes (met_at proof.met index)).doc = omega (arith, read, id, own_doc proof.met proof.docs lanes (met_at proof.met index)) in
     let lower : c.get-mark.result.lo ≡ (bounds lanes (met_at proof.met index)).lo = ap (λ (m : Mark). m.lo) c.get-mark.ensures.mark ∙ (left.each.each index inside).least in
     let at_most : c.upper.result ≡ (bounds lanes (met_at proof.met index)).hi =
     c.upper.ensures ∙ (ap (upper c.args.threshold) c.get-mark.ensures.mark ∙ sym (upper_is bounds lanes proof.met marks c.args.threshold left.each left.rests index inside)) in
-    row_is c.from_be_bytes.result c.get-mark.result.lo c.upper.result (bounds lanes (met_at proof.met index)) doc lower at_most
+    row_is c.read_u32.result c.get-mark.result.lo c.upper.result (bounds lanes (met_at proof.met index)) doc lower at_most
     ∙ ap (λ k. row_of (bounds lanes (met_at proof.met k))) (sym here)
