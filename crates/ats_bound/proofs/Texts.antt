@@ -8,7 +8,7 @@ use Rattle.std.proofs.lemmas.List.Sums.{sum_by-cons}
 use Rattle.std.proofs.lemmas.List.Sorted.{sum_by-IsPermutation}
 use Rattle.ats_impact.specs.Rank.{times}
 use Rattle.ats_impact.specs.Score.{coefficient, part, score}
-use Rattle.ats_lists.specs.Postings.{count_in, posting, postings, postings_of_first, text_of}
+use Rattle.ats_lists.specs.Postings.{count_in, posting, postings, postings_of_run, text_of}
 use Rattle.ats_lists.specs.Lists.{list}
 use Rattle.ats_lists.proofs.Public.{list_is_sorted}
 use Rattle.ats_bound.specs.Ranked.{impact_in}
@@ -76,7 +76,7 @@ module _ (texts : List (List ℕ)) (term : List ℕ) (doc : ℕ) where
       ]
 
   pub listed : doc < length texts → impact_in doc (list texts term) ≡ own
-  unfolding postings_of_first
+  unfolding postings_of_run
   listed low =
       let n : ℕ = length texts in
       let once : times doc (range_with_len 0 n) ≡ 1 = omega (arith, range_once doc 0 n, range_has doc n low) in

@@ -2,7 +2,7 @@
 //!
 //! A piece of the work may be as small as one document or one list, since both can be large.
 
-ghost use Rattle.std.specs.Prelude.{◌≡◌, ◌<◌, [], length, map, slice_index_or, IfOk};
+ghost use Rattle.std.specs.Prelude.{◌≡◌, ◌<◌, ◌≤◌, [], length, map, slice_index_or, IfOk};
 ghost use Rattle.std.specs.Thread.{IsSync};
 ghost use Rattle.ats_terms.specs.Terms.{terms};
 ghost use Rattle.ats_terms.specs.Query.{counted};
@@ -34,6 +34,9 @@ use rayon::prelude::*;
 use std::alloc::Global;
 use std::thread::Threads;
 
+// Four runs of documents are gathered side by side.
+const HALVINGS: u32 = 2;
+
 /// The counted terms of each document.
 fn counts_of_documents(
     rt: &(impl Threads + Sync),
@@ -56,8 +59,84 @@ fn counts_of_documents(
     made
 }
 
+// The run of these documents, from their counted terms.
+fn run_of<'a>(
+    alloc: Global,
+    collection: &'a Collection,
+    counts: &[TermCounts],
+    first: u32,
+    behind: u32,
+) -> Result<ListsBuilder<'a>, OutOfMemory>
+    requires order { first ≤ behind }
+    requires inside { behind ≤ length collection.now }
+    requires counts { counts.now ≡ all_counts collection.now }
+    ensures { IfOk result (λ run. run ≡ (collection.now, first, behind)) }
+{
+    let mut run = ListsBuilder::starting_at(alloc, collection, first);
+    for doc in first..behind {
+        run = run.add(&counts[doc as usize])?;
+    }
+    Ok(run)
+}
+
+// Where to cut these documents, so that about as many counted terms are in front as behind.
+fn middle_of(counts: &[TermCounts], first: u32, behind: u32) -> u32
+    requires order { first ≤ behind }
+    requires inside { behind ≤ length counts.now }
+    ensures low { first ≤ result }
+    ensures high { result ≤ behind }
+{
+    let (mut low, mut high) = (first, behind);
+    let (mut front, mut back): (usize, usize) = (0, 0);
+    while low < high {
+        if front <= back {
+            front = front.saturating_add(counts[low as usize].len());
+            low += 1;
+        } else {
+            high -= 1;
+            back = back.saturating_add(counts[high as usize].len());
+        }
+    }
+    low
+}
+
+// The run of these documents, halved so often. The halves are gathered side by side.
+#[cycle(halves)]
+fn run_by_threads<'a, R: Threads + Sync>(
+    rt: &R,
+    alloc: Global,
+    collection: &'a Collection,
+    counts: &[TermCounts],
+    first: u32,
+    behind: u32,
+    halvings: u32,
+) -> Result<ListsBuilder<'a>, OutOfMemory>
+    requires order { first ≤ behind }
+    requires inside { behind ≤ length collection.now }
+    requires counts { counts.now ≡ all_counts collection.now }
+    ensures { IfOk result (λ run. run ≡ (collection.now, first, behind)) }
+{
+    if halvings == 0 {
+        return run_of(alloc, collection, counts, first, behind);
+    }
+    let middle = middle_of(counts, first, behind);
+    let front = move || -> Result<ListsBuilder<'_>, OutOfMemory>
+        requires { IsSync R.row × (0 < halvings) × (first ≤ middle) × (middle ≤ length collection.now)
+            × (counts.now ≡ all_counts collection.now) }
+        ensures { IfOk result (λ run. run ≡ (collection.entry.now, first, middle)) }
+    { run_by_threads(rt, alloc, collection, counts, first, middle, halvings - 1) };
+    let back = move || -> Result<ListsBuilder<'_>, OutOfMemory>
+        requires { IsSync R.row × (0 < halvings) × (middle ≤ behind) × (behind ≤ length collection.now)
+            × (counts.now ≡ all_counts collection.now) }
+        ensures { IfOk result (λ run. run ≡ (collection.entry.now, middle, behind)) }
+    { run_by_threads(rt, alloc, collection, counts, middle, behind, halvings - 1) };
+    let (front, back) = join(rt, front, back);
+    Ok(front?.join(back?)?)
+}
+
 // The lists, from the counted terms of all documents.
-fn lists_of_counts(
+fn lists_of_counts<R: Threads + Sync>(
+    rt: &R,
     alloc: Global,
     collection: &Collection,
     counts: &[TermCounts],
@@ -65,11 +144,9 @@ fn lists_of_counts(
     requires { counts.now ≡ all_counts collection.now }
     ensures { IfOk result (λ lists. lists ≡ lists_of collection.now) }
 {
-    let mut builder = ListsBuilder::new(alloc, collection);
-    for doc in 0..collection.documents() {
-        builder = builder.add(&counts[doc as usize])?;
-    }
-    let lists = builder.finish()?;
+    let documents = collection.documents();
+    let run = run_by_threads(rt, alloc, collection, counts, 0, documents, HALVINGS)?;
+    let lists = run.finish()?;
     Ok(lists)
 }
 
@@ -190,8 +267,8 @@ fn term_parts<H: Hash32 + Sync>(
     Ok(TermParts { terms, nodes })
 }
 
-// What is made of the counted terms: the lists, which one thread gathers document by document, and beside them the
-// terms of the documents with the nodes of their trees.
+// What is made of the counted terms: the lists, and beside them the terms of the documents with the nodes of their
+// trees.
 fn parts_of_counts<H: Hash32 + Sync, R: Threads + Sync>(
     rt: &R,
     alloc: Global,
@@ -206,9 +283,10 @@ fn parts_of_counts<H: Hash32 + Sync, R: Threads + Sync>(
     let (lists, documents) = join(
         rt,
         || -> Result<Lists, OutOfMemory>
-            requires { counts.now ≡ all_counts collection.now }
+            requires sync { IsSync R.row }
+            requires counts { counts.now ≡ all_counts collection.now }
             ensures { IfOk result (λ lists. lists ≡ lists_of collection.entry.now) }
-        { lists_of_counts(alloc, collection, counts) },
+        { lists_of_counts::<R>(rt, alloc, collection, counts) },
         || -> Result<TermParts, OutOfMemory>
             requires sync { IsSync R.row × IsSync H.row }
             requires counts { counts.now ≡ all_counts collection.now }

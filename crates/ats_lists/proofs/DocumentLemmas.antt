@@ -1,8 +1,7 @@
 -- What one document adds to the gathered postings, term by term.
-use Rattle.std.proofs.Common.{◌≡◌, ◌≢◌, ◌<◌, ◌≤◌, ◌+◌, ℕ, Bool, true, false, cond, List, [], ◌∷◌, ◌++◌, length, get_or, map, take, drop, nat_lt, Option, Some, unwrap_or, refl, sym, ap, ap₂, subst, ◌∙◌, arith, append-nil, add-zero, zero-add}
+use Rattle.std.proofs.Common.{◌≡◌, ◌≢◌, ◌<◌, ◌≤◌, ◌+◌, ◌-◌, ℕ, Bool, true, false, cond, List, [], ◌∷◌, ◌++◌, length, get_or, map, take, drop, nat_lt, Option, Some, unwrap_or, refl, sym, ap, ap₂, subst, ◌∙◌, arith, append-nil, add-zero, zero-add}
 use Rattle.std.specs.List.{All}
 use Rattle.std.specs.Bool.{Decides}
-use Rattle.std.specs.BTreeMap.{keys}
 use Rattle.std.specs.Str.{bytes_eq}
 use Rattle.std.proofs.lemmas.Bool.Decides.{nat_tests}
 use Rattle.std.proofs.lemmas.Cmp.{nat_list_eq_equiv}
@@ -17,10 +16,10 @@ use Rattle.ats_terms.proofs.Public.{rises_apart}
 use Rattle.ats_impact.specs.Numbers.{impact}
 use Rattle.ats_impact.specs.Score.{total_terms}
 use Rattle.ats_impact.proofs.Public.{occurs_few}
-use Rattle.ats_lists.specs.Postings.{text_of, count_in, posting, postings_of_first}
-use Rattle.ats_lists.specs.Gathered.{TermMap, entries_at, if_some, HasFirst}
+use Rattle.ats_lists.specs.Postings.{text_of, count_in, posting, postings_of_run}
+use Rattle.ats_lists.specs.Gathered.{TermMap, if_some, HasEntries, HasRun}
 use Rattle.ats_lists.specs.declared.entry.Entry.{Entry}
-use Rattle.ats_lists.proofs.PostingLemmas.{postings_more, postings_none}
+use Rattle.ats_lists.proofs.PostingLemmas.{run_none, run_more, run_joined}
 
 -- ---- the weight of a term among pairs that rise
 
@@ -72,18 +71,14 @@ pair_within all pairs i d counts inside =
 
 -- ---- the entries of a term, some of the document's pairs being put already
 
-abbrev pub so_far : ℕ → List (List ℕ) → List (List ℕ × ℕ) → List ℕ → List Entry
-so_far doc texts pairs term = postings_of_first doc texts term ++ cond (nat_lt 0 (weight_of term pairs)) (posting texts term doc ∷ []) []
-
-pub record HasPart (doc : ℕ) (texts : List (List ℕ)) (pairs : List (List ℕ × ℕ)) (map : TermMap) : Type 0 where
-  pub entries : (term : List ℕ) → entries_at map term ≡ if_some (so_far doc texts pairs term)
-  pub terms : All IsTerm (keys map)
+abbrev pub so_far : (List ℕ → List Entry) → ℕ → List (List ℕ) → List (List ℕ × ℕ) → List ℕ → List Entry
+so_far before doc texts pairs term = before term ++ cond (nat_lt 0 (weight_of term pairs)) (posting texts term doc ∷ []) []
 
 some_push : {X : Type 0} (xs : List X) (x : X) → if_some (xs ++ x ∷ []) ≡ Some (xs ++ x ∷ [])
 some_push [] x = refl
 some_push (y ∷ xs) x = refl
 
-items_of : {X : Type 0} (xs : List X) → unwrap_or (if_some xs) [] ≡ xs
+pub items_of : {X : Type 0} (xs : List X) → unwrap_or (if_some xs) [] ≡ xs
 items_of [] = refl
 items_of (x ∷ xs) = refl
 
@@ -99,18 +94,18 @@ step_case ps w c true e p old new was gives at some =
 step_case ps w c false e p old new was gives at some = rw (add-zero w) (gives ∙ was)
 
 -- one pair more
-pub part_more : (doc : ℕ) (texts : List (List ℕ)) (pairs : List (List ℕ × ℕ)) (i : ℕ) (d : List ℕ × ℕ) (old new : List ℕ → Option (List Entry)) (e : Entry)
+pub part_more : (before : List ℕ → List Entry) (doc : ℕ) (texts : List (List ℕ)) (pairs : List (List ℕ × ℕ)) (i : ℕ) (d : List ℕ × ℕ) (old new : List ℕ → Option (List Entry)) (e : Entry)
     → Rises pairs → i < length pairs → 0 < (get_or pairs i d).1 → e ≡ posting texts (get_or pairs i d).0 doc
-    → ((term : List ℕ) → old term ≡ if_some (so_far doc texts (take i pairs) term))
+    → ((term : List ℕ) → old term ≡ if_some (so_far before doc texts (take i pairs) term))
     → ((term : List ℕ) → new term ≡ cond (bytes_eq (get_or pairs i d).0 term) (Some (unwrap_or (old term) [] ++ e ∷ [])) (old term))
-    → (term : List ℕ) → new term ≡ if_some (so_far doc texts (take (i + 1) pairs) term)
-part_more doc texts pairs i d old new e rises inside some is was gives term =
+    → (term : List ℕ) → new term ≡ if_some (so_far before doc texts (take (i + 1) pairs) term)
+part_more before doc texts pairs i d old new e rises inside some is was gives term =
     let t : List ℕ = (get_or pairs i d).0 in
     let f : List ℕ × ℕ → ℕ = λ p. cond (bytes_eq term p.0) p.1 0 in
     let turned : bytes_eq term t ≡ bytes_eq t term = nat_list_eq_equiv.symm term t in
     let sums : weight_of term (take (i + 1) pairs) ≡ weight_of term (take i pairs) + cond (bytes_eq t term) (get_or pairs i d).1 0 =
     rw turned at (sum_by_more f pairs i d inside) in
-    rw sums (step_case (postings_of_first doc texts term) (weight_of term (take i pairs)) (get_or pairs i d).1 (bytes_eq t term) e (posting texts term doc) (old term) (new term)
+    rw sums (step_case (before term) (weight_of term (take i pairs)) (get_or pairs i d).1 (bytes_eq t term) e (posting texts term doc) (old term) (new term)
     (was term) (gives term)
     (λ equal.
     let same : t ≡ term = (bytes_eq-Decides t term).0 equal in (
@@ -131,26 +126,37 @@ entry_is doc texts pairs i d e counts inside first second =
     ap₂ made first (second ∙ ap (λ c. impact c (total_terms texts) (length (terms (text_of texts doc))) (length texts)) count)
 
 -- before the first pair
-pub part_none : (doc : ℕ) (texts : List (List ℕ)) (map : TermMap) → HasFirst doc texts map → HasPart doc texts [] map
-part_none doc texts map has = record {
-  entries = λ term. has.entries term ∙ ap if_some (sym (append-nil (postings_of_first doc texts term)));
+pub part_none : (before : List ℕ → List Entry) (doc : ℕ) (texts : List (List ℕ)) (map : TermMap) → HasEntries before map
+    → HasEntries (so_far before doc texts []) map
+part_none before doc texts map has = record {
+  entries = λ term. has.entries term ∙ ap if_some (sym (append-nil (before term)));
   terms = has.terms;
 }
 
 -- after the last
-pub part_all : (doc : ℕ) (texts : List (List ℕ)) (pairs : List (List ℕ × ℕ)) (map : TermMap) → Counts (terms (text_of texts doc)) pairs
-    → HasPart doc texts pairs map → HasFirst (doc + 1) texts map
-part_all doc texts pairs map counts has = record {
+pub part_all : (first doc : ℕ) (texts : List (List ℕ)) (pairs : List (List ℕ × ℕ)) (map : TermMap) → first ≤ doc
+    → Counts (terms (text_of texts doc)) pairs
+    → HasEntries (so_far (postings_of_run first (doc - first) texts) doc texts pairs) map → HasRun first (doc + 1) texts map
+part_all first doc texts pairs map up counts has = record {
   entries = λ term.
       has.entries term
-      ∙ ap (λ w. if_some (postings_of_first doc texts term ++ cond (nat_lt 0 w) (posting texts term doc ∷ []) [])) (counts.weights term)
-      ∙ ap if_some (sym (postings_more doc texts term));
+      ∙ ap (λ w. if_some (postings_of_run first (doc - first) texts term ++ cond (nat_lt 0 w) (posting texts term doc ∷ []) [])) (counts.weights term)
+      ∙ ap if_some (sym (run_more first doc texts term up));
   terms = has.terms;
 }
 
 -- before the first document
-pub first_none : (texts : List (List ℕ)) (m : TermMap) → m.entries ≡ [] → HasFirst 0 texts m
-first_none texts m empty = record {
-  entries = λ term. rw (empty, postings_none texts term) refl;
+pub nothing_yet : (first : ℕ) (texts : List (List ℕ)) (m : TermMap) → m.entries ≡ [] → HasRun first first texts m
+nothing_yet first texts m empty = record {
+  entries = λ term. rw (empty, run_none first texts term) refl;
   terms = rw empty (All-nil IsTerm);
+}
+
+-- two runs, the second one behind the first
+pub runs_joined : (first middle behind : ℕ) (texts : List (List ℕ)) (m : TermMap) → first ≤ middle → middle ≤ behind
+    → HasEntries (λ term. postings_of_run first (middle - first) texts term ++ postings_of_run middle (behind - middle) texts term) m
+    → HasRun first behind texts m
+runs_joined first middle behind texts m low high has = record {
+  entries = λ term. has.entries term ∙ ap if_some (run_joined first middle behind texts term low high);
+  terms = has.terms;
 }

@@ -1,5 +1,5 @@
 -- The postings of a term, document by document, and the list that they make.
-use Rattle.std.proofs.Common.{◌≡◌, ◌<◌, ◌≤◌, ◌+◌, ℕ, zero, suc, Bool, true, false, cond, List, [], ◌∷◌, ◌++◌, length, get_or, map, nat_lt, refl, ap, ◌∙◌, arith, add-one}
+use Rattle.std.proofs.Common.{◌≡◌, ◌<◌, ◌≤◌, ◌+◌, ◌-◌, ℕ, zero, suc, Bool, true, false, cond, List, [], ◌∷◌, ◌++◌, length, get_or, map, nat_lt, refl, sym, ap, ◌∙◌, arith}
 use Rattle.std.specs.List.{All, filter, range_with_len}
 use Rattle.std.specs.List.Sorted.{IsStrictlySortedBy}
 use Rattle.std.specs.Ordering.{nat_cmp}
@@ -13,7 +13,7 @@ use Rattle.std.proofs.lemmas.Map.Keys.{sorted_from_strictly_increasing}
 use Rattle.ats_terms.specs.Terms.{terms}
 use Rattle.ats_impact.specs.Score.{total_terms}
 use Rattle.ats_impact.proofs.Public.{impact_small, occurs_few}
-use Rattle.ats_lists.specs.Postings.{text_of, count_in, posting, postings_of_first, postings}
+use Rattle.ats_lists.specs.Postings.{text_of, count_in, posting, postings_of_run, postings_of_first, postings}
 use Rattle.ats_lists.specs.Lists.{by_impact, list, entry_cmp, IsListOf}
 use Rattle.ats_lists.specs.Gathered.{doc_cmp}
 use Rattle.ats_lists.specs.declared.entry.Entry.{Entry}
@@ -37,28 +37,33 @@ range_below n = All-from_get_or (λ doc. doc < n) (range_with_len 0 n) 0 (λ i i
     let at : get_or (range_with_len 0 n) i 0 ≡ 0 + i = get_or-range_with_len 0 n i 0 (omega (arith, length-range_with_len 0 n)) in
     omega (arith, at, length-range_with_len 0 n))
 
-range_last : (a n : ℕ) → range_with_len a (suc n) ≡ range_with_len a n ++ (a + n) ∷ []
-range_last a zero = ap (λ x. x ∷ []) (omega arith)
-range_last a (suc n) =
-    let rest : range_with_len (a + 1) (suc n) ≡ range_with_len (a + 1) n ++ ((a + 1) + n) ∷ [] = range_last (a + 1) n in
-    let same : (a + 1) + n ≡ a + suc n = omega arith in
-    ap (λ t. a ∷ t) (rest ∙ ap (λ x. range_with_len (a + 1) n ++ x ∷ []) same)
+range_joined : (a m n : ℕ) → range_with_len a m ++ range_with_len (a + m) n ≡ range_with_len a (m + n)
+range_joined a zero n =
+    let start : a + zero ≡ a = omega arith in
+    let size : zero + n ≡ n = omega arith in
+    ap (λ k. range_with_len k n) start ∙ ap (range_with_len a) (sym size)
+range_joined a (suc m) n =
+    let start : a + suc m ≡ (a + 1) + m = omega arith in
+    let size : suc m + n ≡ suc (m + n) = omega arith in
+    ap (λ k. range_with_len a (suc m) ++ range_with_len k n) start
+    ∙ ap (λ (t : List ℕ). a ∷ t) (range_joined (a + 1) m n)
+    ∙ ap (range_with_len a) (sym size)
 
 -- postings stand in the order of documents
 pub postings_rise : (n : ℕ) (texts : List (List ℕ)) (term : List ℕ) → IsStrictlySortedBy doc_cmp (postings_of_first n texts term)
-unfolding postings_of_first posting
+unfolding postings_of_run posting
 postings_rise n texts term =
     rises_map (λ _. Unit {0}) nat_cmp doc_cmp (posting texts term) (holders n texts term) (λ y z here there less. less) (all_any (holders n texts term))
     (IsStrictlySortedBy-filter nat_cmp (has texts term) (range_with_len 0 n) (range_rises n))
 
 pub postings_below : (n : ℕ) (texts : List (List ℕ)) (term : List ℕ) → All (λ entry. entry.doc < n) (postings_of_first n texts term)
-unfolding postings_of_first posting
+unfolding postings_of_run posting
 postings_below n texts term =
     All-map (λ (entry : Entry). entry.doc < n) (posting texts term) (holders n texts term)
     (All-filter (has texts term) (λ doc. doc < n) (range_with_len 0 n) (range_below n))
 
 pub postings_few : (n : ℕ) (texts : List (List ℕ)) (term : List ℕ) → length (postings_of_first n texts term) ≤ n
-unfolding postings_of_first
+unfolding postings_of_run
 postings_few n texts term =
     omega (
       arith,
@@ -90,7 +95,7 @@ holders_are n texts term k d inside = (
 
 pub postings_impacts : (n : ℕ) (texts : List (List ℕ)) (term : List ℕ) → n ≤ length texts
     → All (λ entry. (1 ≤ entry.impact) × (entry.impact ≤ 2200)) (postings_of_first n texts term)
-unfolding postings_of_first
+unfolding postings_of_run
 postings_impacts n texts term within =
     All-map (λ (entry : Entry). (1 ≤ entry.impact) × (entry.impact ≤ 2200)) (posting texts term) (holders n texts term)
     (All-weaker (λ doc. (doc < n) × (has texts term doc ≡ true)) (λ doc. (1 ≤ (posting texts term doc).impact) × ((posting texts term doc).impact ≤ 2200))
@@ -100,21 +105,63 @@ map_cond : {X Y : Type 0} (f : X → Y) (b : Bool) (x : X) → map f (cond b (x 
 map_cond f true x = refl
 map_cond f false x = refl
 
--- the postings of one document more
-pub postings_more : (n : ℕ) (texts : List (List ℕ)) (term : List ℕ)
-    → postings_of_first (n + 1) texts term ≡ postings_of_first n texts term ++ cond (nat_lt 0 (count_in texts term n)) (posting texts term n ∷ []) []
-unfolding postings_of_first
-postings_more n texts term =
-    let last : range_with_len 0 (n + 1) ≡ range_with_len 0 n ++ (0 + n) ∷ [] = rw (add-one n) (range_last 0 n) in
-    let same : 0 + n ≡ n = omega arith in
-    ap (λ r. map (posting texts term) (filter (has texts term) r)) (last ∙ ap (λ x. range_with_len 0 n ++ x ∷ []) same)
-    ∙ ap (map (posting texts term)) (filter-append (has texts term) (range_with_len 0 n) (n ∷ []))
-    ∙ map-append (posting texts term) (holders n texts term) (filter (has texts term) (n ∷ []))
-    ∙ ap (λ t. postings_of_first n texts term ++ t) (map_cond (posting texts term) (has texts term n) n)
+-- the postings of two runs, the second one behind the first, are those of both
+postings_joined : (first m n : ℕ) (texts : List (List ℕ)) (term : List ℕ)
+    → postings_of_run first m texts term ++ postings_of_run (first + m) n texts term ≡ postings_of_run first (m + n) texts term
+unfolding postings_of_run
+postings_joined first m n texts term =
+    let front : List ℕ = range_with_len first m in
+    let back : List ℕ = range_with_len (first + m) n in
+    sym (map-append (posting texts term) (filter (has texts term) front) (filter (has texts term) back))
+    ∙ ap (map (posting texts term)) (sym (filter-append (has texts term) front back))
+    ∙ ap (λ r. map (posting texts term) (filter (has texts term) r)) (range_joined first m n)
 
-pub postings_none : (texts : List (List ℕ)) (term : List ℕ) → postings_of_first 0 texts term ≡ []
-unfolding postings_of_first
-postings_none texts term = refl
+posting_alone : (doc : ℕ) (texts : List (List ℕ)) (term : List ℕ)
+    → postings_of_run doc 1 texts term ≡ cond (nat_lt 0 (count_in texts term doc)) (posting texts term doc ∷ []) []
+unfolding postings_of_run
+posting_alone doc texts term = map_cond (posting texts term) (has texts term doc) doc
+
+-- the postings of one document more
+pub postings_more : (first n doc : ℕ) (texts : List (List ℕ)) (term : List ℕ) → first + n ≡ doc
+    → postings_of_run first (n + 1) texts term
+    ≡ postings_of_run first n texts term ++ cond (nat_lt 0 (count_in texts term doc)) (posting texts term doc ∷ []) []
+postings_more first n doc texts term at =
+    sym (postings_joined first n 1 texts term)
+    ∙ ap (λ k. postings_of_run first n texts term ++ postings_of_run k 1 texts term) at
+    ∙ ap (λ t. postings_of_run first n texts term ++ t) (posting_alone doc texts term)
+
+pub postings_none : (first : ℕ) (texts : List (List ℕ)) (term : List ℕ) → postings_of_run first 0 texts term ≡ []
+unfolding postings_of_run
+postings_none first texts term = refl
+
+-- ---- runs between two documents
+
+pub run_none : (first : ℕ) (texts : List (List ℕ)) (term : List ℕ) → postings_of_run first (first - first) texts term ≡ []
+run_none first texts term =
+    let none : first - first ≡ 0 = omega arith in
+    ap (λ n. postings_of_run first n texts term) none ∙ postings_none first texts term
+
+pub run_more : (first doc : ℕ) (texts : List (List ℕ)) (term : List ℕ) → first ≤ doc
+    → postings_of_run first ((doc + 1) - first) texts term
+    ≡ postings_of_run first (doc - first) texts term ++ cond (nat_lt 0 (count_in texts term doc)) (posting texts term doc ∷ []) []
+run_more first doc texts term up =
+    let size : (doc + 1) - first ≡ (doc - first) + 1 = omega arith in
+    ap (λ n. postings_of_run first n texts term) size ∙ postings_more first (doc - first) doc texts term (omega arith)
+
+pub run_joined : (first middle behind : ℕ) (texts : List (List ℕ)) (term : List ℕ) → first ≤ middle → middle ≤ behind
+    → postings_of_run first (middle - first) texts term ++ postings_of_run middle (behind - middle) texts term
+    ≡ postings_of_run first (behind - first) texts term
+run_joined first middle behind texts term low high =
+    let start : middle ≡ first + (middle - first) = omega arith in
+    let size : (middle - first) + (behind - middle) ≡ behind - first = omega arith in
+    ap (λ k. postings_of_run first (middle - first) texts term ++ postings_of_run k (behind - middle) texts term) start
+    ∙ postings_joined first (middle - first) (behind - middle) texts term
+    ∙ ap (λ n. postings_of_run first n texts term) size
+
+pub run_of_all : (texts : List (List ℕ)) (term : List ℕ) → postings_of_run 0 (length texts - 0) texts term ≡ postings texts term
+run_of_all texts term =
+    let size : length texts - 0 ≡ length texts = omega arith in
+    ap (λ n. postings_of_run 0 n texts term) size
 
 pub list_rises : (texts : List (List ℕ)) (term : List ℕ) → IsStrictlySortedBy entry_cmp (list texts term)
 unfolding list

@@ -120,11 +120,11 @@ length-cond false entry = refl
 
 posted : (term : List ℕ) (texts : List (List ℕ)) (n : ℕ) → n ≤ length texts
     → nat_lt 0 (sum_by (count term) (take n texts)) ≡ nat_lt 0 (length (postings_of_first n texts term))
-posted term texts zero within = rw (postings_none texts term) refl
+posted term texts zero within = rw (postings_none 0 texts term) refl
 posted term texts (suc n) within =
     let c : ℕ = count_in texts term n in
     let size : length (postings_of_first (n + 1) texts term) ≡ length (postings_of_first n texts term) + cond (nat_lt 0 c) 1 0 =
-    ap length (postings_more n texts term) ∙ length-append (postings_of_first n texts term) _
+    ap length (postings_more 0 n n texts term (zero-add n)) ∙ length-append (postings_of_first n texts term) _
     ∙ ap (λ k. length (postings_of_first n texts term) + k) (length-cond (nat_lt 0 c) (posting texts term n)) in
     let sums : sum_by (count term) (take (n + 1) texts) ≡ sum_by (count term) (take n texts) + c = sum_by_more (count term) texts n [] (omega arith) in
     rw (← add-one n, sums, size) (posted_step (sum_by (count term) (take n texts)) c (length (postings_of_first n texts term)) (posted term texts n (omega arith)))
@@ -173,11 +173,11 @@ entries_are texts es rises same =
 -- ---- how many documents have a term
 
 frequent : (term : List ℕ) (texts : List (List ℕ)) (n : ℕ) → n ≤ length texts → length (postings_of_first n texts term) ≡ frequency term (take n texts)
-frequent term texts zero within = rw (postings_none texts term) refl
+frequent term texts zero within = rw (postings_none 0 texts term) refl
 frequent term texts (suc n) within =
     let c : ℕ = count_in texts term n in
     let size : length (postings_of_first (n + 1) texts term) ≡ length (postings_of_first n texts term) + cond (nat_lt 0 c) 1 0 =
-    ap length (postings_more n texts term) ∙ length-append (postings_of_first n texts term) _
+    ap length (postings_more 0 n n texts term (zero-add n)) ∙ length-append (postings_of_first n texts term) _
     ∙ ap (λ k. length (postings_of_first n texts term) + k) (length-cond (nat_lt 0 c) (posting texts term n)) in
     let sums : frequency term (take (n + 1) texts) ≡ frequency term (take n texts) + cond (nat_lt 0 c) 1 0 =
     sum_by_more (λ (text : List ℕ). cond (nat_lt 0 (count term text)) 1 0) texts n [] (omega arith) in

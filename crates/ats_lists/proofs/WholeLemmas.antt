@@ -20,9 +20,9 @@ use Rattle.ats_terms.specs.Query.{byte_cmp}
 use Rattle.ats_impact.specs.Score.{frequency, total_terms}
 use Rattle.ats_lists.specs.Postings.{postings}
 use Rattle.ats_lists.specs.Lists.{by_impact, list, entry_cmp, vocabulary, lists_of, IsList, AreLists}
-use Rattle.ats_lists.specs.Gathered.{TermMap, HasFirst, doc_cmp, AreGathered}
+use Rattle.ats_lists.specs.Gathered.{TermMap, if_some, HasRun, doc_cmp, AreGathered}
 use Rattle.ats_lists.specs.declared.entry.Entry.{Entry}
-use Rattle.ats_lists.proofs.PostingLemmas.{postings_rise, postings_below, postings_few, postings_impacts, list_is_sorted, list_rises}
+use Rattle.ats_lists.proofs.PostingLemmas.{run_of_all, postings_rise, postings_below, postings_few, postings_impacts, list_is_sorted, list_rises}
 use Rattle.ats_lists.proofs.VocabularyLemmas.{vocabulary_rises, vocabulary_few, vocabulary_has, entries_are, keys_made, postings_frequency}
 
 -- ---- what each list keeps
@@ -112,10 +112,10 @@ postings_gathered texts term = record {
   impacts = postings_impacts (length texts) texts term (omega arith);
 }
 
-module _ (texts : List (List ℕ)) (m : TermMap) (ordered : IsOrdered byte_cmp m) (has : HasFirst (length texts) texts m) where
+module _ (texts : List (List ℕ)) (m : TermMap) (ordered : IsOrdered byte_cmp m) (has : HasRun 0 (length texts) texts m) where
   -- the map has the postings of each term of the vocabulary
   entries_is : m.entries ≡ map (λ term. (term, postings texts term)) (vocabulary texts)
-  entries_is = entries_are texts m.entries ordered has.entries
+  entries_is = entries_are texts m.entries ordered (λ term. has.entries term ∙ ap if_some (run_of_all texts term))
 
   pub terms_are : All IsTerm (vocabulary texts)
   terms_are =

@@ -1,5 +1,5 @@
 -- Postings that are gathered by term, document by document.
-use Rattle.std.specs.Prelude.{◌≡◌, ◌≤◌, ℕ, List, [], ◌∷◌, Option, Some, None}
+use Rattle.std.specs.Prelude.{◌≡◌, ◌≤◌, ℕ, ◌-◌, List, [], ◌∷◌, Option, Some, None}
 use Rattle.std.specs.List.{All}
 use Rattle.std.specs.List.Sorted.{IsStrictlySortedBy}
 use Rattle.std.specs.BTreeMap.{BTreeMap, get, keys}
@@ -7,7 +7,7 @@ use Rattle.std.specs.Ordering.{nat_cmp}
 use Rattle.std.specs.declared.cmp.Ordering.{Ordering}
 use Rattle.ats_terms.specs.Terms.{IsTerm}
 use Rattle.ats_terms.specs.Query.{byte_cmp}
-use Rattle.ats_lists.specs.Postings.{postings_of_first}
+use Rattle.ats_lists.specs.Postings.{postings_of_run}
 use Rattle.ats_lists.specs.declared.entry.Entry.{Entry}
 
 -- a map from terms to their entries
@@ -23,10 +23,14 @@ abbrev pub if_some : {X : Type 0} → List X → Option (List X)
 if_some [] = None
 if_some (x ∷ xs) = Some (x ∷ xs)
 
--- the map has the postings of the first n documents for each term that has some
-pub record HasFirst (n : ℕ) (texts : List (List ℕ)) (map : TermMap) : Type 0 where
-  pub entries : (term : List ℕ) → entries_at map term ≡ if_some (postings_of_first n texts term)
+-- the map has these entries for each term that has some
+pub record HasEntries (of : List ℕ → List Entry) (map : TermMap) : Type 0 where
+  pub entries : (term : List ℕ) → entries_at map term ≡ if_some (of term)
   pub terms : All IsTerm (keys map)
+
+-- the map has the postings of the documents from the first one up to the one behind the last
+abbrev pub HasRun : ℕ → ℕ → List (List ℕ) → TermMap → Type 0
+HasRun first behind texts map = HasEntries (postings_of_run first (behind - first) texts) map
 
 -- by document
 abbrev pub doc_cmp : Entry → Entry → Ordering

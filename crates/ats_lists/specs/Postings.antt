@@ -21,10 +21,14 @@ posting texts term doc = record {
   impact = impact (count_in texts term doc) (total_terms texts) (length (terms (text_of texts doc))) (length texts);
 }
 
--- the postings of those of the first n documents that have the term, in the order of documents
-unfoldable pub postings_of_first : ℕ → List (List ℕ) → List ℕ → List Entry
-postings_of_first n texts term =
-    map (posting texts term) (filter (λ doc. nat_lt 0 (count_in texts term doc)) (range_with_len 0 n))
+-- the postings of those of n documents, from the first one on, that have the term, in the order of documents
+unfoldable pub postings_of_run : ℕ → ℕ → List (List ℕ) → List ℕ → List Entry
+postings_of_run first n texts term =
+    map (posting texts term) (filter (λ doc. nat_lt 0 (count_in texts term doc)) (range_with_len first n))
+
+-- the postings of the first n documents
+abbrev pub postings_of_first : ℕ → List (List ℕ) → List ℕ → List Entry
+postings_of_first n texts term = postings_of_run 0 n texts term
 
 -- the postings of all documents
 abbrev pub postings : List (List ℕ) → List ℕ → List Entry

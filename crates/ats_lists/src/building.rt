@@ -1,12 +1,12 @@
 //! Lists in the making.
 
-ghost use Rattle.std.specs.Prelude.{◌≡◌, ◌<◌, ◌+◌, length, IfOk};
+ghost use Rattle.std.specs.Prelude.{◌≡◌, ◌<◌, ◌≤◌, ◌+◌, length, IfOk};
 ghost use Rattle.ats_terms.specs.Terms.{terms};
 ghost use Rattle.ats_terms.specs.Query.{counted};
 ghost use Rattle.ats_lists.specs.Postings.{text_of};
 ghost use Rattle.ats_lists.specs.Lists.{lists_of, AreLists};
 
-use crate::gathering::{TermMap, add_document};
+use crate::gathering::{TermMap, add_document, append_all};
 use crate::lists::{Lists, sorted_lists};
 use crate::memory::OutOfMemory;
 use ats_impact::Collection;
@@ -15,66 +15,114 @@ use std::alloc::Global;
 use std::collections::BTreeMap;
 use std::marker::Model;
 
-/// The lists of a collection in the making: its texts, and how many documents were added.
+/// The lists of a run of a collection's documents in the making: the collection's texts, the first document of the
+/// run, and the one behind its last.
 ///
-/// Each document is added by its counted terms, so that a caller who needs these too counts them once.
-/// It keeps its allocator.
+/// Each document is added by its counted terms, so that a caller who needs these too counts them once. Runs may be
+/// made side by side and joined in order. It keeps its allocator.
 #[derive(Drop)]
 pub struct ListsBuilder<'a> {
     alloc: Global,
     collection: &'a Collection,
     gathered: TermMap,
-    documents: u32,
+    first: u32,
+    behind: u32,
 }
 
 impl<'a> Model for ListsBuilder<'a> {
     ghost use Rattle.std.specs.Prelude.{◌≤◌, List, ℕ};
-    ghost use Rattle.ats_lists.specs.Gathered.{HasFirst};
+    ghost use Rattle.ats_lists.specs.Gathered.{HasRun};
 
-    ghost Value = { List (List ℕ) × ℕ };
+    ghost Value = { List (List ℕ) × ℕ × ℕ };
 
-    ghost view = { λ b. (b.collection.now, b.documents) };
+    ghost view = { λ b. (b.collection.now, b.first, b.behind) };
 
-    ghost invariant = { λ b. (b.documents ≤ 65536) × HasFirst b.documents b.collection.now b.gathered };
+    ghost invariant = { λ b. (b.first ≤ b.behind) × (b.behind ≤ 65536)
+        × HasRun b.first b.behind b.collection.now b.gathered };
 }
 
 impl<'a> ListsBuilder<'a> {
-    /// No document is added yet.
+    /// A run that begins with the first document of all. No document is added yet.
     pub fn new(alloc: Global, collection: &'a Collection) -> Self
-        ensures { result ≡ (collection.now, 0) }
+        ensures { result ≡ (collection.now, 0, 0) }
     {
+        ListsBuilder::starting_at(alloc, collection, 0)
+    }
+
+    /// A run that begins with this document. No document is added yet.
+    pub fn starting_at(alloc: Global, collection: &'a Collection, first: u32) -> Self
+        requires { first ≤ length collection.now }
+        ensures { result ≡ (collection.now, first, first) }
+    {
+        // A collection has at most 65,536 documents.
+        prove!(first <= collection.documents());
         ListsBuilder {
             alloc,
             collection,
             gathered: BTreeMap::new(alloc),
-            documents: 0,
+            first,
+            behind: first,
         }
     }
 
     /// Adds the next document, of which these are the counted terms. Want of memory drops all.
     pub fn add(self, counts: &TermCounts) -> Result<Self, OutOfMemory>
-        requires inside { self.1 < length self.0 }
-        requires counts { counts.now ≡ counted (terms (text_of self.0 self.1)) }
-        ensures { IfOk result (λ made. made ≡ (self.entry.0, self.entry.1 + 1)) }
+        requires inside { self.2 < length self.0 }
+        requires counts { counts.now ≡ counted (terms (text_of self.0 self.2)) }
+        ensures { IfOk result (λ made. made ≡ (self.entry.0, self.entry.1, self.entry.2 + 1)) }
     {
         let ListsBuilder {
             alloc,
             collection,
             mut gathered,
-            documents,
+            first,
+            behind,
         } = self;
-        add_document(alloc, &mut gathered, collection, documents, counts)?;
+        add_document(alloc, &mut gathered, collection, behind, counts)?;
         Ok(ListsBuilder {
             alloc,
             collection,
             gathered,
-            documents: documents + 1,
+            first,
+            behind: behind + 1,
+        })
+    }
+
+    /// The run of both, where the next one begins where this one ends. Terms are moved and not copied. Want of memory
+    /// drops both.
+    pub fn join(self, next: Self) -> Result<Self, OutOfMemory>
+        requires texts { next.0 ≡ self.0 }
+        requires place { next.1 ≡ self.2 }
+        ensures { IfOk result (λ made. made ≡ (self.entry.0, self.entry.1, next.entry.2)) }
+    {
+        let ListsBuilder {
+            alloc,
+            collection,
+            mut gathered,
+            first,
+            behind: _,
+        } = self;
+        let ListsBuilder {
+            alloc: _,
+            collection: _,
+            gathered: more,
+            first: _,
+            behind,
+        } = next;
+        append_all(&mut gathered, more)?;
+        Ok(ListsBuilder {
+            alloc,
+            collection,
+            gathered,
+            first,
+            behind,
         })
     }
 
     /// The lists, where all documents were added.
     pub fn finish(self) -> Result<Lists, OutOfMemory>
-        requires { self.1 ≡ length self.0 }
+        requires first { self.1 ≡ 0 }
+        requires all { self.2 ≡ length self.0 }
         ensures same { IfOk result (λ made. made ≡ lists_of self.entry.0) }
         ensures lists { IfOk result (AreLists (length self.entry.0)) }
     {
@@ -82,7 +130,8 @@ impl<'a> ListsBuilder<'a> {
             alloc,
             collection,
             gathered,
-            documents: _,
+            first: _,
+            behind: _,
         } = self;
         // A list for each distinct term, so that 32 bits count the lists.
         prove!(gathered.len() <= collection.total() as usize);

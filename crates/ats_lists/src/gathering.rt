@@ -1,14 +1,15 @@
-//! Postings gathered by term, document by document.
+//! Postings gathered by term, document by document, and those of two runs joined.
 
-ghost use Rattle.std.specs.Prelude.{◌≡◌, ◌<◌, ◌+◌, ◌++◌, ◌∷◌, [], List, ℕ, length, unwrap_or, Some, IfOk, OnOk, if◌then◌else◌};
+ghost use Rattle.std.specs.Prelude.{◌≡◌, ◌<◌, ◌≤◌, ◌+◌, ◌++◌, ◌∷◌, [], List, ℕ, length, unwrap_or, Some, IfOk, OnOk, if◌then◌else◌};
 ghost use Rattle.std.specs.List.{All};
 ghost use Rattle.std.specs.BTreeMap.{keys};
 ghost use Rattle.std.specs.Str.{bytes_eq};
 ghost use Rattle.ats_terms.specs.Terms.{terms, IsTerm};
 ghost use Rattle.ats_terms.specs.Query.{counted};
 ghost use Rattle.ats_lists.specs.Postings.{text_of};
-ghost use Rattle.ats_lists.specs.Gathered.{entries_at, AreGathered, HasFirst};
+ghost use Rattle.ats_lists.specs.Gathered.{entries_at, AreGathered, HasEntries, HasRun};
 ghost use Rattle.ats_lists.specs.Lists.{by_impact};
+ghost use Rattle.ats_lists.specs.declared.entry.Entry.{Entry as Posting};
 
 use crate::entry::Entry;
 use crate::key::Key;
@@ -54,6 +55,14 @@ impl Entries {
         Ok(())
     }
 
+    fn append(&mut self, behind: Entries) -> Result<(), OutOfMemory>
+        ensures { OnOk result (self.new ≡ self.old ++ behind) }
+    {
+        let Entries { mut items } = behind;
+        self.items.append(&mut items)?;
+        Ok(())
+    }
+
     /// The entries by impact descending, then document ascending.
     pub(crate) fn sorted(self) -> Result<Vec<Entry>, OutOfMemory>
         requires { AreGathered self }
@@ -94,8 +103,8 @@ pub(crate) fn add_document(
 ) -> Result<(), OutOfMemory>
     requires inside { doc < length collection.now }
     requires counts { counts.now ≡ counted (terms (text_of collection.now doc)) }
-    requires before { HasFirst doc collection.now map.old }
-    ensures after { OnOk result (HasFirst (doc + 1) collection.now map.new) }
+    ensures after { (first : ℕ) → first ≤ doc → HasRun first doc collection.now map.old
+        → OnOk result (HasRun first (doc + 1) collection.now map.new) }
     ensures few { doc < 65536 }
 {
     let documents = collection.documents();
@@ -107,6 +116,32 @@ pub(crate) fn add_document(
         let key = Key::of(room, counts.term(i))?;
         add(alloc, map, &key, Entry { doc, impact })?;
         room = key.into_term();
+    }
+    Ok(())
+}
+
+// Puts entries behind those of their term.
+fn append(map: &mut TermMap, key: Key, entries: Entries) -> Result<(), OutOfMemory>
+    ensures entries { OnOk result ((q : List ℕ) → entries_at map.new q
+        ≡ (if bytes_eq key q then Some (unwrap_or (entries_at map.old q) [] ++ entries) else entries_at map.old q)) }
+    ensures terms { IsTerm key → All IsTerm (keys map.old) → OnOk result (All IsTerm (keys map.new)) }
+{
+    match map.get_mut(&key) {
+        Some(own) => own.append(entries)?,
+        None => {
+            map.insert(key, entries)?;
+        }
+    }
+    Ok(())
+}
+
+/// Puts all entries of another map behind those of the same terms.
+pub(crate) fn append_all(map: &mut TermMap, behind: TermMap) -> Result<(), OutOfMemory>
+    ensures { (own more : List ℕ → List Posting) → HasEntries own map.old → HasEntries more behind
+        → OnOk result (HasEntries (λ term. own term ++ more term) map.new) }
+{
+    for (key, entries) in behind {
+        append(map, key, entries)?;
     }
     Ok(())
 }

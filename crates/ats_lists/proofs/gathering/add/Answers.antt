@@ -14,7 +14,7 @@ returns-in_ok-push-in-Some-clause-entries c =
     let was : entries_at map term ≡ Some c.in-Some.entries.now = sym c.in-Some.ensures.value in
     let some : IsSome (entries_at map term) = ap is_some was in
     let updates = (c.get_mut.follows.holds c.push.new.self).3 some in
-    put_behind (entries_at map) (entries_at (c.get_mut.follows.lender c.push.new.self)) term c.args.entry c.push.new.self
+    put_behind (entries_at map) (entries_at (c.get_mut.follows.lender c.push.new.self)) term (c.args.entry ∷ []) c.push.new.self
     (updates_by_bytes term map (c.get_mut.follows.lender c.push.new.self) (Some c.push.new.self) updates)
     (c.in_ok-push-in-Some.ensures ∙ ap (λ o. unwrap_or o [] ++ c.args.entry ∷ []) (sym was))
 
@@ -26,7 +26,7 @@ returns-in_ok-insert-in-None-clause-entries c =
     let updates = rw c.get_mut.follows.holds-at-none at c.in_ok-insert-in-None.ensures.updates in
     let gives =
     updates_by_bytes c.in_ok-kept-in-None.kept map c.insert.new.self (Some c.in_ok-entries-in-None.entries) updates in
-    put_behind (entries_at map) (entries_at c.insert.new.self) term c.args.entry c.in_ok-entries-in-None.entries
+    put_behind (entries_at map) (entries_at c.insert.new.self) term (c.args.entry ∷ []) c.in_ok-entries-in-None.entries
     (rw (c.in_ok-kept-in-None.ensures, c.term-in-None.ensures) at gives)
     (c.in_ok-entries-in-None.ensures ∙ ap (λ o. unwrap_or o [] ++ c.args.entry ∷ []) none)
 

@@ -1,0 +1,25 @@
+use Rattle.std.proofs.Common.{◌≡◌, ◌≤◌, ◌-◌, ℕ, List, sym, ap, subst, ◌∙◌, arith}
+use Rattle.ats_lists.specs.Postings.{postings_of_run}
+use Rattle.ats_lists.specs.Gathered.{HasRun}
+use Rattle.ats_lists.proofs.DocumentLemmas.{runs_joined}
+use Rattle.ats_lists.proofs.building.ListsBuilder.join.Goals as goal
+
+pub invariant_of-result : goal.invariant_of-result
+invariant_of-result c =
+    let texts : List (List ℕ) = c.self.inside.collection.now in
+    let first : ℕ = c.self.inside.first in
+    let middle : ℕ = c.self.inside.behind in
+    let behind : ℕ = c.next.inside.behind in
+    let same : c.next.inside.collection.now ≡ texts =
+    ap (λ (v : List (List ℕ) × ℕ × ℕ). v.0) c.next.view_is ∙ c.requires.texts ∙ sym (ap (λ (v : List (List ℕ) × ℕ × ℕ). v.0) c.self.view_is) in
+    let place : c.next.inside.first ≡ middle =
+    ap (λ (v : List (List ℕ) × ℕ × ℕ). v.1) c.next.view_is ∙ c.requires.place ∙ sym (ap (λ (v : List (List ℕ) × ℕ × ℕ). v.2) c.self.view_is) in
+    let low : first ≤ middle = c.self.invariant.0 in
+    let high : middle ≤ behind = subst (λ k. k ≤ behind) place c.next.invariant.0 in
+    let more : HasRun middle behind texts c.next.inside.gathered =
+    subst (λ t. HasRun middle behind t c.next.inside.gathered) same (subst (λ k. HasRun k behind c.next.inside.collection.now c.next.inside.gathered) place c.next.invariant.2) in (
+      omega (arith, low, high),
+      c.next.invariant.1,
+      runs_joined first middle behind texts c.append_all.new.map low high
+          (c.in_ok-append_all.ensures (postings_of_run first (middle - first) texts) (postings_of_run middle (behind - middle) texts) c.self.invariant.2 more),
+    )
