@@ -1,7 +1,7 @@
 //! An index as bytes.
 
 ghost use Rattle.std.specs.Prelude.{◌≡◌, ◌++◌, ◌<◌, ◌≤◌, ◌^◌, ℕ, List, length, OnOk};
-ghost use Rattle.std.specs.Int.{to_be_bytes, w32};
+ghost use Rattle.std.specs.Int.{to_be_bytes, w16, w32};
 ghost use Rattle.std.specs.List.{flat_map};
 ghost use Rattle.ats_lists.specs.Leaf.{leaf_bytes};
 ghost use Rattle.ats_index.specs.Spelling.{list_bytes, lists_bytes, text_bytes, texts_bytes};
@@ -10,10 +10,31 @@ use crate::compare::Takes;
 use crate::memory::OutOfMemory;
 use ats_impact::Collection;
 use ats_lists::{Entry, Lists};
+use byteorder::{BigEndian, ByteOrder};
 
 pub(crate) const MAGIC: [u8; 4] = *b"ATSI";
 
 pub(crate) const VERSION: u8 = 1;
+
+// Puts a number in 4 bytes.
+fn put_u32<W: Takes>(to: &mut W, number: u32) -> Result<(), OutOfMemory>
+    ensures { (about front : List ℕ) → W.has to.old about front
+        → OnOk result (W.has to.new about (front ++ to_be_bytes w32 number)) }
+{
+    let mut bytes = [0; 4];
+    BigEndian::write_u32(&mut bytes, number);
+    to.put(&bytes)
+}
+
+// Puts a number in 2 bytes.
+fn put_u16<W: Takes>(to: &mut W, number: u16) -> Result<(), OutOfMemory>
+    ensures { (about front : List ℕ) → W.has to.old about front
+        → OnOk result (W.has to.new about (front ++ to_be_bytes w16 number)) }
+{
+    let mut bytes = [0; 2];
+    BigEndian::write_u16(&mut bytes, number);
+    to.put(&bytes)
+}
 
 // Puts a text behind its length.
 #[tactic(auto, unfolding(crate::specs::Spelling::text_bytes))]
@@ -22,7 +43,7 @@ fn put_text<W: Takes>(to: &mut W, text: &[u8]) -> Result<(), OutOfMemory>
     ensures { (about front : List ℕ) → W.has to.old about front
         → OnOk result (W.has to.new about (front ++ text_bytes text.now)) }
 {
-    to.put(&(text.len() as u32).to_be_bytes())?;
+    put_u32(to, text.len() as u32)?;
     to.put(text)?;
     Ok(())
 }
@@ -35,7 +56,7 @@ pub(crate) fn put_texts<W: Takes>(to: &mut W, collection: &Collection) -> Result
     let documents = collection.documents();
     to.put(&MAGIC)?;
     to.put(&[VERSION])?;
-    to.put(&documents.to_be_bytes())?;
+    put_u32(to, documents)?;
     for doc in 0..documents {
         put_text(to, collection.text(doc).as_bytes())?;
     }
@@ -48,8 +69,8 @@ fn put_entries<W: Takes>(to: &mut W, entries: &[Entry]) -> Result<(), OutOfMemor
         → OnOk result (W.has to.new about (front ++ flat_map leaf_bytes entries.now)) }
 {
     for entry in entries {
-        to.put(&entry.doc.to_be_bytes())?;
-        to.put(&entry.impact.to_be_bytes())?;
+        put_u32(to, entry.doc)?;
+        put_u16(to, entry.impact)?;
     }
     Ok(())
 }
@@ -64,7 +85,7 @@ fn put_list<W: Takes>(to: &mut W, term: &[u8], entries: &[Entry]) -> Result<(), 
 {
     to.put(&[term.len() as u8])?;
     to.put(term)?;
-    to.put(&(entries.len() as u32).to_be_bytes())?;
+    put_u32(to, entries.len() as u32)?;
     put_entries(to, entries)
 }
 
@@ -73,7 +94,7 @@ pub(crate) fn put_lists<W: Takes>(to: &mut W, lists: &Lists) -> Result<(), OutOf
     ensures { (about front : List ℕ) → W.has to.old about front
         → OnOk result (W.has to.new about (front ++ lists_bytes lists.now)) }
 {
-    to.put(&lists.len().to_be_bytes())?;
+    put_u32(to, lists.len())?;
     for i in 0..lists.len() {
         put_list(to, lists.term(i), lists.list(i))?;
     }
