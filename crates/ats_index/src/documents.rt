@@ -1,8 +1,12 @@
 //! The lists of a collection, and the terms of all documents with the nodes of their trees, by one thread.
 
-ghost use Rattle.std.specs.Prelude.{◌≡◌, IfOk};
+ghost use Rattle.std.specs.Prelude.{◌≡◌, ◌<◌, ◌++◌, ◌∷◌, [], length, IfOk, OnOk};
+ghost use Rattle.ats_terms.specs.Terms.{terms};
+ghost use Rattle.ats_terms.specs.Query.{counted};
 ghost use Rattle.ats_lists.specs.Lists.{lists_of};
+ghost use Rattle.ats_lists.specs.Postings.{text_of};
 ghost use Rattle.ats_tree.specs.Kept.{kept_digests};
+ghost use Rattle.ats_doctree.specs.Impacts.{doc_terms};
 ghost use Rattle.ats_doctree.specs.Sentinels.{terms_leaves};
 ghost use Rattle.ats_index.specs.Kept.{all_term_digests};
 ghost use Rattle.ats_index.specs.Parts.{all_terms};
@@ -36,6 +40,27 @@ pub(crate) fn nodes_of_terms<H: Hash32>(
     Ok(Nodes::of::<H, _>(alloc, terms, &mut Steps::new(alloc))?)
 }
 
+// Puts the terms of a document, of which these are the counts, and the nodes of their tree behind those of others.
+fn put_document<H: Hash32>(
+    alloc: Global,
+    collection: &Collection,
+    doc: u32,
+    counts: TermCounts,
+    all: &mut Vec<DocTerms>,
+    nodes: &mut Vec<Nodes>,
+) -> Result<(), OutOfMemory>
+    requires inside { doc < length collection.now }
+    requires counts { counts ≡ counted (terms (text_of collection.now doc)) }
+    ensures terms { OnOk result (all.new.items ≡ all.old.items ++ doc_terms collection.now doc ∷ []) }
+    ensures nodes { OnOk result (nodes.new.items
+        ≡ nodes.old.items ++ kept_digests H.hash (terms_leaves (doc_terms collection.now doc)) ∷ []) }
+{
+    let found = DocTerms::from_counts(counts, collection, doc);
+    nodes.push(nodes_of_terms::<H>(alloc, &found)?)?;
+    all.push(found)?;
+    Ok(())
+}
+
 /// Counts each document once, and hashes the tree of its terms.
 pub(crate) fn counted<H: Hash32>(
     alloc: Global,
@@ -52,9 +77,7 @@ pub(crate) fn counted<H: Hash32>(
     for doc in 0..documents {
         let counts = TermCounts::of(alloc, collection.terms(doc))?;
         builder = builder.add(&counts)?;
-        let found = DocTerms::from_counts(counts, collection, doc);
-        term_nodes.push(nodes_of_terms::<H>(alloc, &found)?)?;
-        terms.push(found)?;
+        put_document::<H>(alloc, collection, doc, counts, &mut terms, &mut term_nodes)?;
     }
     let lists = builder.finish()?;
     Ok(DocumentParts {
