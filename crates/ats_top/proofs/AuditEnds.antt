@@ -7,13 +7,13 @@ use Rattle.ats_impact.specs.declared.rank.Row.{Row}
 use Rattle.ats_tree.specs.Differences.{Difference}
 use Rattle.ats_commit.specs.Archive.{Archive}
 use Rattle.ats_commit.specs.Ours.{TreePlace}
-use Rattle.ats_proof.specs.Value.{Proof, IsProof}
+use Rattle.ats_proof.specs.Value.{IsProof}
 use Rattle.ats_proof.proofs.Public.{one_value}
 use Rattle.ats_client.specs.Headline.{AreRight}
 use Rattle.ats_client.specs.Strings.{extract}
 use Rattle.ats_audit.specs.Verdicts.{IsFoundRight}
 use Rattle.ats_audit.proofs.Public.{extract-collides}
-use Rattle.ats_top.specs.Words.{AuditWords, Command, Rank, Build, Root, Prove, Verify, Ask, Serve, Audit}
+use Rattle.ats_top.specs.Words.{AuditWords, Command, Audit}
 use Rattle.ats_top.specs.Print.{lines}
 use Rattle.ats_top.specs.Read.{Files, IsTold, IsFile, HasIndex}
 use Rattle.ats_top.specs.Refusals.{AsksRanking, IsIndexRefused, IsRefused}

@@ -14,8 +14,8 @@ use Rattle.ats_top.specs.Refusals.{NeedsShelf, LacksFile, IsRefused}
 use Rattle.ats_top.specs.Rejected.{IsRejected}
 use Rattle.ats_top.specs.Audited.{HasCollision}
 use Rattle.ats_top.specs.Done.{IsDone, PutsPart, Changes, HasInput, IsServed}
-use Rattle.ats_top.specs.Findings.{Finding, AreFound, IsSwept, SweepStops, status_of_findings}
-use Rattle.ats_top.specs.Trial.{IsTrialServed, IsTrialRefused}
+use Rattle.ats_top.specs.Findings.{Finding, AreFound, IsSwept, status_of_findings}
+use Rattle.ats_top.specs.Trial.{IsTrialRefused}
 use Rattle.ats_top.specs.Run.{Said, HasShelfCause, IsStopped, Ends, Ended, IsStatus, SinkFailed, DoorFailed, LinkFailed, Failed, TookAll, HasTried, Ran}
 use Rattle.ats_top.specs.declared.stops.InputRefusal.{InputRefusal}
 use Rattle.ats_top.specs.declared.stops.Stop.{Stop}

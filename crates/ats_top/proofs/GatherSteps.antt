@@ -1,16 +1,15 @@
 -- The proofs of a list, gathered one by one.
-use Rattle.std.proofs.Common.{◌≡◌, ◌⊎◌, ◌++◌, ◌∷◌, ◌<◌, ◌≤◌, ◌+◌, ◌^◌, ℕ, suc, zero, List, [], length, map, take, drop, get_or, refl, sym, ap, subst, ◌∙◌, inl, inr, arith, append-nil, append_assoc}
+use Rattle.std.proofs.Common.{◌≡◌, ◌++◌, ◌∷◌, ◌<◌, ◌≤◌, ◌+◌, ◌^◌, ℕ, suc, zero, List, [], length, take, drop, get_or, refl, sym, ap, subst, ◌∙◌, inl, inr, arith, append-nil, append_assoc}
 use Rattle.std.specs.List.{AllZip}
 use Rattle.std.proofs.lemmas.List.Sums.{sum_by-cons}
-use Rattle.ats_base.specs.Outside.{Rose, IsMissing, ShelfTold, Ask, Asked, ReadsAtMostOnce}
+use Rattle.ats_base.specs.Outside.{IsMissing, ShelfTold, Ask, Asked, ReadsAtMostOnce}
 use Rattle.ats_base.proofs.Public.{asked_none, asked_then, asked_as}
 use Rattle.ats_top.specs.Read.{Files}
 use Rattle.ats_top.specs.Reading.{AsProof, InputFile, limit_of, ReadsInOrder, proof_files, Reads}
-use Rattle.ats_top.specs.Gathered.{IsGathered, AreGathered, LacksProof, PassesLimit, size, total}
+use Rattle.ats_top.specs.Gathered.{IsGathered, AreGathered, PassesLimit, size, total}
 use Rattle.ats_top.specs.Sweeping.{entry_names, MissingStop, GatheringStop, ReadsProofs}
 use Rattle.ats_top.specs.declared.gathering.Gathered.{Gathered}
 use Rattle.ats_top.specs.declared.listing.Entry.{Entry}
-use Rattle.ats_top.specs.declared.stops.InputRefusal.TheVariants.{ProofsTooLong}
 use Rattle.ats_top.specs.declared.stops.Stop.{Stop}
 use Rattle.ats_top.specs.declared.stops.Stop.TheVariants.{Usage, Shelf, Input, Rejected, Memory, Link, Peer, Faults, Collision, Swept}
 

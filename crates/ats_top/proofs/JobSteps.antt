@@ -1,8 +1,7 @@
 -- The audits that the entries of a list ask for, one by one, and what they find.
-use Rattle.std.proofs.Common.{◌≡◌, ◌++◌, ◌∷◌, ◌<◌, ◌≤◌, ◌+◌, ◌^◌, ℕ, zero, suc, List, [], length, drop, get_or, Some, None, refl, sym, ap, subst, ◌∙◌, inl, inr, arith}
-use Rattle.std.specs.List.{AllZip, zip}
+use Rattle.std.proofs.Common.{◌≡◌, ◌++◌, ◌∷◌, ◌<◌, ◌^◌, ℕ, zero, suc, List, [], length, drop, get_or, refl, sym, subst, ◌∙◌, inl, inr, arith}
+use Rattle.std.specs.List.{AllZip}
 use Rattle.ats_commit.specs.Archive.{Archive}
-use Rattle.ats_commit.specs.Places.{tree_place}
 use Rattle.ats_audit.specs.Verdicts.{IsVerdict}
 use Rattle.ats_audit.specs.Sweeps.{IsVerdictOf}
 use Rattle.ats_audit.specs.declared.auditing.Verdict.{Verdict}
@@ -10,11 +9,10 @@ use Rattle.ats_audit.specs.declared.auditing.Verdict.TheVariants as verdict
 use Rattle.ats_audit.specs.declared.sweeping.Job.{Job}
 use Rattle.ats_audit.proofs.Public.{extract-collides}
 use Rattle.ats_terms.specs.Query.{IsQueryOf}
-use Rattle.ats_top.specs.Words.{AuditWords}
 use Rattle.ats_top.specs.Read.{Files, IsFile, HasIndex}
 use Rattle.ats_top.specs.Listed.{Listed, IsEntry}
-use Rattle.ats_top.specs.Gathered.{IsGathered, content}
-use Rattle.ats_top.specs.Findings.{Finding, IsFinding, audit_of}
+use Rattle.ats_top.specs.Gathered.{IsGathered}
+use Rattle.ats_top.specs.Findings.{IsFinding, audit_of}
 use Rattle.ats_top.specs.Sweeping.{IsJobOf, AreJobs, entry_names, found_by, finding_of, findings_of}
 use Rattle.ats_top.specs.declared.gathering.Gathered.{Gathered}
 use Rattle.ats_top.specs.declared.gathering.Gathered.TheVariants.{Whole, Long}

@@ -1,6 +1,6 @@
 -- The first line of some bytes, and the lines behind it.
-use Rattle.std.proofs.Common.{◌≡◌, ◌≢◌, ◌-◌, ◌==◌, ◌∷◌, ◌<◌, ◌≤◌, ◌+◌, ℕ, zero, suc, Bool, true, false, List, [], length, take, drop, get_or, take_all, length-drop, refl, sym, ap, subst, ◌∙◌, arith}
-use Rattle.ats_top.specs.Listed.{begun_with, lines_of}
+use Rattle.std.proofs.Common.{◌≡◌, ◌≢◌, ◌-◌, ◌==◌, ◌∷◌, ◌<◌, ◌+◌, ℕ, zero, suc, false, List, [], length, take, drop, get_or, take_all, length-drop, refl, subst, arith}
+use Rattle.ats_top.specs.Listed.{lines_of}
 
 -- no line feed stands before this place
 abbrev pub NoneBefore : List ℕ → ℕ → Type 0

@@ -1,12 +1,12 @@
 -- A line asks for one thing at most, and so a told list has one reading.
-use Rattle.std.proofs.Common.{◌≡◌, ◌++◌, ◌∷◌, ◌&&◌, ◌||◌, ◌==◌, ◌<◌, ◌≤◌, ◌+◌, ◌^◌, ℕ, Bool, true, false, not, List, [], length, slice_index, nat_lt, nat_le, map, Option, Some, None, refl, sym, ap, subst, if◌then◌else◌, ◌∙◌, inl, inr, arith}
+use Rattle.std.proofs.Common.{◌≡◌, ◌++◌, ◌∷◌, ◌&&◌, ◌||◌, ◌==◌, ◌≤◌, ◌^◌, ℕ, Bool, true, false, not, List, [], length, slice_index, nat_lt, nat_le, Some, None, refl, sym, ap, subst, if◌then◌else◌, ◌∙◌, inl, inr, arith}
 use Rattle.std.specs.List.{AllZip, list_all}
 use Rattle.std.specs.Char.{is_ascii_digit}
 use Rattle.std.specs.Str.Parse.{digits_value}
 use Rattle.std.proofs.lemmas.Slice.Zip.{AllZip-long}
 use Rattle.ats_top.specs.Words.{is_number_word, number_of}
-use Rattle.ats_top.specs.Read.{Files, IsTold, IsFile}
-use Rattle.ats_top.specs.Listed.{Listed, is_unspaced, lines_of, IsSpelled, IsListed, IsList, IsFirstBadLine, IsBadLine}
+use Rattle.ats_top.specs.Read.{Files, IsTold}
+use Rattle.ats_top.specs.Listed.{Listed, lines_of, IsSpelled, IsListed, IsList, IsBadLine}
 use Rattle.ats_top.proofs.ToldFiles.{one_file}
 
 both : (x y : Bool) → (x && y) ≡ true → (x ≡ true) × (y ≡ true)

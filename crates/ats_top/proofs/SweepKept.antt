@@ -3,8 +3,8 @@ use Rattle.std.proofs.Common.{◌≡◌, ◌^◌, ℕ, List, refl, sym, ap, subs
 use Rattle.std.specs.List.{AllZip}
 use Rattle.ats_base.specs.Outside.{IsMissing, IsLonger}
 use Rattle.ats_top.specs.Words.{SweepWords, Sweep}
-use Rattle.ats_top.specs.Read.{Files, IsTold, IsFile, HasIndex}
-use Rattle.ats_top.specs.Refusals.{LacksFile, IsIndexRefused, IsListRefused, IsSweepRefused}
+use Rattle.ats_top.specs.Read.{Files, IsTold, IsFile}
+use Rattle.ats_top.specs.Refusals.{LacksFile, IsListRefused, IsSweepRefused}
 use Rattle.ats_top.specs.Listed.{Listed, lines_of, IsListed, IsList, IsBadLine, names_of}
 use Rattle.ats_top.specs.Gathered.{LacksProof, PassesLimit}
 use Rattle.ats_top.specs.Findings.{Finding, AreFound}

@@ -1,5 +1,5 @@
 -- How `sweep` ends, from what its steps answer.
-use Rattle.std.proofs.Common.{◌≡◌, ◌||◌, ◌∙◌, ◌≤◌, ◌^◌, ℕ, Bool, true, false, List, length, String, Global, string_bytes, Result, Ok, Err, refl, sym, ap, subst, inl, inr, arith, if◌then◌else◌}
+use Rattle.std.proofs.Common.{◌≡◌, ◌||◌, ◌∙◌, ◌≤◌, ◌^◌, ℕ, true, false, List, length, String, Global, string_bytes, Result, Ok, Err, refl, sym, subst, inl, inr, arith, if◌then◌else◌}
 use Rattle.std.specs.Prelude.{IfOk, IfErr}
 use Rattle.std.specs.List.{AllZip}
 use Rattle.ats_base.specs.Outside.{IsMissing, IsLonger, ShelfTold, Asked}

@@ -1,5 +1,5 @@
 -- A command that stopped by another cause than a fault of the shelf stored nothing.
-use Rattle.std.proofs.Common.{◌≡◌, ◌≢◌, ◌⊎◌, ℕ, List, Option, None, Some, Result, Ok, Err, refl, sym, subst, inl, inr}
+use Rattle.std.proofs.Common.{◌≡◌, ◌≢◌, ◌⊎◌, ℕ, List, None, Some, Result, Ok, Err, subst, inl, inr}
 use Rattle.std.specs.Prelude.{IfErr}
 use Rattle.ats_base.specs.Outside.{ShelfTold, SinkTold}
 use Rattle.ats_top.specs.Words.{Command, command_of}

@@ -1,5 +1,5 @@
 -- What a sweep finds of the listed proofs: of each what `audit` finds of it, and a line for it.
-use Rattle.std.specs.Prelude.{◌≡◌, ◌≢◌, ◌+◌, ◌^◌, ◌++◌, ◌∷◌, ◌||◌, ℕ, Bool, true, false, List, [], length, codes, decimal, Some, None, if◌then◌else◌}
+use Rattle.std.specs.Prelude.{◌≡◌, ◌≢◌, ◌+◌, ◌^◌, ◌++◌, ◌∷◌, ℕ, Bool, true, false, List, [], length, codes, decimal, Some, None, if◌then◌else◌}
 use Rattle.std.specs.List.{AllZip, list_any}
 use Rattle.ats_terms.specs.Query.{IsQuery, IsQueryOf}
 use Rattle.ats_impact.specs.declared.rank.Row.{Row}

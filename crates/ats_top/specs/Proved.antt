@@ -2,9 +2,13 @@
 use Rattle.std.specs.Prelude.{◌≤◌, ◌^◌, ℕ, List, length}
 use Rattle.ats_commit.specs.Archive.{Archive}
 use Rattle.ats_terms.specs.Query.{IsQueryOf}
+use Rattle.ats_proof.specs.declared.record.Algorithm.{Algorithm}
 use Rattle.ats_honest.specs.Honest.{IsProved, IsTooLong}
 use Rattle.ats_top.specs.Words.{ProveWords}
 use Rattle.ats_top.specs.Read.{Files, HasIndex}
+use Rattle.ats_top.specs.declared.stops.InputRefusal.TheVariants.{ProofTooLong}
+use Rattle.ats_top.specs.declared.stops.Stop.{Stop}
+use Rattle.ats_top.specs.declared.stops.Stop.TheVariants.{Input, Memory}
 
 -- the bytes are the honest proof of the query over the archive of the named index, and no more than a proof may have
 pub record IsProofFor (H : List ℕ → List ℕ) (files : Files) (words : ProveWords) (bytes : List ℕ) : Type 0 where
@@ -22,3 +26,10 @@ pub record IsProofTooLong (H : List ℕ → List ℕ) (files : Files) (words : P
   pub index : HasIndex H files words.index archive
   pub asked : IsQueryOf words.query query
   pub long : IsTooLong H archive query words.r words.algorithm (2 ^ 26) size
+
+-- a query's proof over an archive is not made: it is too long, or memory was wanted
+abbrev pub MakingStop : (List ℕ → List ℕ) → Archive → List (List ℕ × ℕ) → ℕ → Algorithm → Stop → Type 0
+MakingStop H archive query r algorithm Memory = Unit {0}
+MakingStop H archive query r algorithm (Input (ProofTooLong bytes)) =
+    IsTooLong H archive query r algorithm (2 ^ 26) bytes
+MakingStop H archive query r algorithm _ = ⊥

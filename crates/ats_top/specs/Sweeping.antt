@@ -1,5 +1,5 @@
 -- What the steps of `sweep` answer: of the list, of its proofs, of the audits, and of the lines.
-use Rattle.std.specs.Prelude.{◌≡◌, ◌≢◌, ◌⊎◌, ◌<◌, ◌≤◌, ◌^◌, ◌++◌, ◌∷◌, ℕ, Bool, List, [], length, map, string_bytes, slice_index_or}
+use Rattle.std.specs.Prelude.{◌≡◌, ◌⊎◌, ◌≤◌, ◌^◌, ℕ, List, map, string_bytes}
 use Rattle.std.specs.List.{AllZip, list_any, zip}
 use Rattle.ats_base.specs.Outside.{Rose, ShelfTold, Asked}
 use Rattle.ats_client.specs.declared.fault.Rejection.TheVariants.{Shape, Check}
@@ -10,7 +10,7 @@ use Rattle.ats_audit.specs.declared.sweeping.Job.{Job}
 use Rattle.ats_commit.specs.Archive.{Archive}
 use Rattle.ats_commit.specs.Places.{tree_place}
 use Rattle.ats_top.specs.Words.{SweepWords}
-use Rattle.ats_top.specs.Read.{Files, HasIndex, IsFile}
+use Rattle.ats_top.specs.Read.{HasIndex, IsFile}
 use Rattle.ats_top.specs.Reading.{Reads, ReadsInOrder, proof_files}
 use Rattle.ats_top.specs.ReadStops.{IsUnread}
 use Rattle.ats_top.specs.Listed.{IsSpelled, IsBadLine}

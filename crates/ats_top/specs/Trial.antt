@@ -15,6 +15,7 @@ use Rattle.ats_audit.specs.declared.auditing.Verdict.{Verdict}
 use Rattle.ats_audit.specs.declared.auditing.Verdict.TheVariants.{Right}
 use Rattle.ats_honest.specs.Honest.{IsHonest, IsTooLong, length_of}
 use Rattle.ats_top.specs.Print.{line_of_root}
+use Rattle.ats_top.specs.Proved.{MakingStop}
 use Rattle.ats_top.specs.Stops.{stop_of_query}
 use Rattle.ats_top.specs.declared.stops.InputRefusal.{InputRefusal}
 use Rattle.ats_top.specs.declared.stops.InputRefusal.TheVariants.{ProofTooLong}
@@ -131,11 +132,9 @@ abbrev pub AreTrialQueries : ℕ → List (List (List ℕ × ℕ)) → Type 0
 AreTrialQueries number queries = (i : ℕ) (d : List (List ℕ × ℕ)) → i < length queries
     → IsQueryOf (trial_query number i) (slice_index_or queries i d)
 
--- a query's proof is not made: it is too long, or memory was wanted
+-- a query's proof is not made
 abbrev pub IsTryStop : (List ℕ → List ℕ) → Archive → List (List ℕ × ℕ) → Algorithm → Stop → Type 0
-IsTryStop H archive query algorithm Memory = Unit {0}
-IsTryStop H archive query algorithm (Input (ProofTooLong bytes)) = IsTooLong H archive query 10 algorithm (2 ^ 26) bytes
-IsTryStop H archive query algorithm _ = ⊥
+IsTryStop H archive query algorithm stop = MakingStop H archive query 10 algorithm stop
 
 -- where a proof stands in the order of the trial: query after query, TRA first
 abbrev pub turn : ℕ → Algorithm → ℕ

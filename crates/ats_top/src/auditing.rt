@@ -1,8 +1,9 @@
 //! The audit of a proof against an index, and the lines of its answer.
 
-ghost use Rattle.std.specs.Prelude.{◌≡◌, List, IfOk, IfErr, string_bytes};
+ghost use Rattle.std.specs.Prelude.{◌≡◌, ℕ, List, IfOk, IfErr, string_bytes};
 ghost use Rattle.ats_impact.specs.declared.rank.Row.{Row};
-ghost use Rattle.ats_audit.specs.Verdicts.{IsFoundRight};
+ghost use Rattle.ats_commit.specs.Archive.{Archive};
+ghost use Rattle.ats_audit.specs.Verdicts.{IsFoundRight, IsVerdict};
 ghost use Rattle.ats_top.specs.Words.{Audit};
 ghost use Rattle.ats_top.specs.Print.{lines};
 ghost use Rattle.ats_top.specs.Refusals.{AsksRanking};
@@ -23,22 +24,17 @@ use ats_terms::Query;
 use std::alloc::Global;
 use std::thread::Threads;
 
-// The lines of the rows of bytes that are accepted as a proof and have no collision with the archive.
-fn audited<H: Hash32>(
-    alloc: Global,
-    index: &Index<H>,
-    query: &Query,
-    top: Top,
-    bytes: &[u8],
-) -> Result<String, Stop>
-    ensures ok { IfOk result (λ text. (rows : List Row)
-        × IsFoundRight H.hash index.now query.now top bytes.now rows × (string_bytes text ≡ lines rows)) }
-    ensures stop { IfErr result (VerdictStop H.hash index.now query.now top bytes.now) }
+// The lines of the rows of a verdict, or why it has none.
+fn told(alloc: Global, verdict: &Verdict) -> Result<String, Stop>
+    ensures ok { (H : List ℕ → List ℕ) (archive : Archive) (query : List (List ℕ × ℕ)) (r : ℕ) (bytes : List ℕ)
+        → IsVerdict H archive query r bytes verdict.now
+        → IfOk result (λ text. (rows : List Row)
+        × IsFoundRight H archive query r bytes rows × (string_bytes text ≡ lines rows)) }
+    ensures stop { (H : List ℕ → List ℕ) (archive : Archive) (query : List (List ℕ × ℕ)) (r : ℕ) (bytes : List ℕ)
+        → IsVerdict H archive query r bytes verdict.now
+        → IfErr result (VerdictStop H archive query r bytes) }
 {
-    let Ok(verdict) = ats_audit::audit::<H>(alloc, index, query, top, bytes) else {
-        return Err(Stop::Memory);
-    };
-    match &verdict {
+    match verdict {
         Verdict::Right(rows) => match lines(alloc, rows) {
             Ok(text) => Ok(text),
             Err(_) => Err(Stop::Memory),
@@ -55,6 +51,24 @@ fn audited<H: Hash32>(
             theirs: *theirs,
         }),
     }
+}
+
+// The lines of the rows of bytes that are accepted as a proof and have no collision with the archive.
+fn audited<H: Hash32>(
+    alloc: Global,
+    index: &Index<H>,
+    query: &Query,
+    top: Top,
+    bytes: &[u8],
+) -> Result<String, Stop>
+    ensures ok { IfOk result (λ text. (rows : List Row)
+        × IsFoundRight H.hash index.now query.now top bytes.now rows × (string_bytes text ≡ lines rows)) }
+    ensures stop { IfErr result (VerdictStop H.hash index.now query.now top bytes.now) }
+{
+    let Ok(verdict) = ats_audit::audit::<H>(alloc, index, query, top, bytes) else {
+        return Err(Stop::Memory);
+    };
+    told(alloc, &verdict)
 }
 
 /// The lines of `audit`. The words are tried before anything is read, and the index before the proof.
@@ -79,6 +93,14 @@ pub(crate) fn audit<H: Hash32 + Sync, R: Threads + Sync, S: Shelf>(
     let rows = Top::new(r)?;
     let asked = Query::read(alloc, query)?;
     let loaded = read::index::<H, R, S>(rt, alloc, index, shelf)?;
-    let bytes = read::proof(alloc, proof, shelf)?;
-    audited::<H>(alloc, &loaded, &asked, rows, bytes.as_slice())
+    let bytes = match read::proof(alloc, proof, shelf) {
+        Ok(bytes) => bytes,
+        Err(stop) => {
+            drop(loaded);
+            return Err(stop);
+        }
+    };
+    let text = audited::<H>(alloc, &loaded, &asked, rows, bytes.as_slice());
+    drop(loaded);
+    text
 }

@@ -23,7 +23,7 @@ use std::alloc::{AllocError, Global};
 use std::thread::Threads;
 
 /// Why not all links were served: no further one came, their lines were not taken, or memory was wanted.
-#[derive(Clone, Copy, Debug, PartialEq, Eq)]
+#[derive(Clone, Copy)]
 pub(crate) enum Halt {
     Door,
     Sink,
@@ -193,8 +193,10 @@ pub(crate) fn serve<H: Hash32 + Sync, R: Threads + Sync, S: Shelf, K: Sink, D: D
         Err(stop) => return print_stop(alloc, out, stop),
     };
     let Ok(mut room) = FrameRoom::new(alloc) else {
+        drop(loaded);
         return print_stop(alloc, out, Stop::Memory);
     };
     let outcome = attend(alloc, &loaded, connections, address, &mut room, out, door);
+    drop(loaded);
     print_outcome(alloc, out, outcome)
 }

@@ -213,6 +213,14 @@ pub(crate) fn sweep<H: Hash32 + Sync, R: Threads + Sync, S: Shelf>(
         (Sweep (record { index = index.now; list = list.now })) }
 {
     let loaded = read::index::<H, R, S>(rt, alloc, index, shelf)?;
-    let bytes = read::list(alloc, list, shelf)?;
-    swept::<H, R, S>(rt, alloc, &loaded, bytes.as_slice(), shelf)
+    let bytes = match read::list(alloc, list, shelf) {
+        Ok(bytes) => bytes,
+        Err(stop) => {
+            drop(loaded);
+            return Err(stop);
+        }
+    };
+    let text = swept::<H, R, S>(rt, alloc, &loaded, bytes.as_slice(), shelf);
+    drop(loaded);
+    text
 }

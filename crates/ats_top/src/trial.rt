@@ -59,6 +59,13 @@ fn shown_entries(proof: &ProofView<'_>, steps: &mut Steps) -> u64
     entries
 }
 
+// Whether a verdict is that the rows are right.
+fn tells_right(verdict: &Verdict) -> bool
+    ensures { result ≡ is_right verdict.now }
+{
+    matches!(verdict, Verdict::Right(_))
+}
+
 // Whether an audit of the bytes of a proof answers that its rows are right.
 fn is_right<H: Hash32>(
     alloc: Global,
@@ -74,7 +81,7 @@ fn is_right<H: Hash32>(
     let Ok(verdict) = ats_audit::audit::<H>(alloc, index, query, top, bytes) else {
         return Err(Stop::Memory);
     };
-    Ok(matches!(verdict, Verdict::Right(_)))
+    Ok(tells_right(&verdict))
 }
 
 // Proves a query by an algorithm, checks the proof under the root of the index, and audits it. What is accepted is
@@ -226,5 +233,7 @@ pub(crate) fn trial<H: Hash32 + Sync, R: Threads + Sync>(
     let top = Top::new(ROWS)?;
     let queries = queries(alloc, number)?;
     let index = index::<H, R>(rt, alloc, number)?;
-    tried(alloc, &index, queries.as_slice(), top)
+    let text = tried(alloc, &index, queries.as_slice(), top);
+    drop(index);
+    text
 }

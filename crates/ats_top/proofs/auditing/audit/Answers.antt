@@ -1,52 +1,45 @@
 use Rattle.std.proofs.Common.{ℕ, ◌^◌, List, string_bytes, sym, subst}
-use Rattle.std.proofs.lemmas.Result.{err_from_is_err_and}
-use Rattle.ats_top.specs.Words.{Audit}
 use Rattle.ats_top.specs.Read.{IsFile}
-use Rattle.ats_top.specs.Run.{FilesStop}
 use Rattle.ats_top.proofs.VerifyEnds.{asks_of}
-use Rattle.ats_top.proofs.AuditEnds.{passed_on, index_stops, proof_stops, verdict_stops, verdict_end}
+use Rattle.ats_top.proofs.AuditEnds.{proof_stops, verdict_stops, verdict_end}
 use Rattle.ats_top.proofs.Readings.{audit_index, audit_read}
 use Rattle.ats_top.proofs.auditing.audit.Goals as goal
 
 pub returns-in_err-loaded-clause-serves : goal.returns-in_err-loaded-clause-serves
 returns-in_err-loaded-clause-serves g c = audit_index _ _ _ c.index.ensures.reads
 
-pub returns-in_err-bytes-clause-serves : goal.returns-in_err-bytes-clause-serves
-returns-in_err-bytes-clause-serves g c =
+pub returns-in-Err-clause-serves : goal.returns-in-Err-clause-serves
+returns-in-Err-clause-serves g c =
     audit_read _ _ (g.S.Shelf.told c.index.new.shelf) g.H.HashKind.hash _ _ c.in_ok-loaded.ensures.ok c.in_ok-loaded.ensures.reads c.proof.ensures.reads
 
 pub returns-clause-serves : goal.returns-clause-serves
 returns-clause-serves g c =
-    audit_read _ _ (g.S.Shelf.told c.index.new.shelf) g.H.HashKind.hash _ _ c.in_ok-loaded.ensures.ok c.in_ok-loaded.ensures.reads c.in_ok-bytes.ensures.reads
+    audit_read _ _ (g.S.Shelf.told c.index.new.shelf) g.H.HashKind.hash _ _ c.in_ok-loaded.ensures.ok c.in_ok-loaded.ensures.reads c.in-Ok.ensures.reads
 
-pub returns-in_err-bytes-clause-stop : goal.returns-in_err-bytes-clause-stop
-returns-in_err-bytes-clause-stop g c =
+pub returns-in-Err-clause-stop : goal.returns-in-Err-clause-stop
+returns-in-Err-clause-stop g c =
     let asks = asks_of c.args.r c.args.query.now c.in_ok-asked.asked c.in_ok-rows.ensures.within c.in_ok-asked.ensures.ok in
-    let told = err_from_is_err_and c.from_residual-in_err-bytes.result c.from_residual-in_err-bytes.ensures.1 in
-    passed_on (FilesStop g.H.HashKind.hash (g.S.Shelf.told c.args.shelf.now) (g.S.Shelf.told c.proof.new.shelf)
-    (Audit (record { index = c.args.index.now; r = c.args.r; query = c.args.query.now; proof = c.args.proof.now })))
-    _ told.0 _ told.1 told.2
-    (proof_stops g.H.HashKind.hash (g.S.Shelf.told c.args.shelf.now) (g.S.Shelf.told c.index.new.shelf) (g.S.Shelf.told c.proof.new.shelf)
+    proof_stops g.H.HashKind.hash (g.S.Shelf.told c.args.shelf.now) (g.S.Shelf.told c.index.new.shelf) (g.S.Shelf.told c.proof.new.shelf)
     (record { index = c.args.index.now; r = c.args.r; query = c.args.query.now; proof = c.args.proof.now })
     asks c.in_ok-loaded.ensures.reads.files c.proof.ensures.reads.files c.in_ok-loaded.loaded c.in_ok-loaded.ensures.ok
-    c.in_ok-loaded.ensures.reads.later c.in_err-bytes.field-0.0 c.in_err-bytes.ensures.stop)
+    c.in_ok-loaded.ensures.reads.later c.in-Err.stop c.in-Err.ensures.stop
 
 pub returns-clause-ok : goal.returns-clause-ok
 returns-clause-ok g c =
     let asks = asks_of c.args.r c.args.query.now c.in_ok-asked.asked c.in_ok-rows.ensures.within c.in_ok-asked.ensures.ok in
-    let file = subst (λ (bytes : List ℕ). IsFile (g.S.Shelf.told c.index.new.shelf).files c.args.proof.now (2 ^ 26) bytes) (sym c.as_slice.ensures) c.in_ok-bytes.ensures.ok in
+    let file = subst (λ (bytes : List ℕ). IsFile (g.S.Shelf.told c.index.new.shelf).files c.args.proof.now (2 ^ 26) bytes) (sym c.as_slice.ensures) c.in-Ok.ensures.ok in
     verdict_end g.H.HashKind.hash (g.S.Shelf.told c.args.shelf.now) (g.S.Shelf.told c.index.new.shelf) (g.S.Shelf.told c.proof.new.shelf)
     (record { index = c.args.index.now; r = c.args.r; query = c.args.query.now; proof = c.args.proof.now })
-    asks c.in_ok-loaded.ensures.reads.files c.in_ok-bytes.ensures.reads.files c.in_ok-loaded.loaded c.in_ok-loaded.ensures.ok
+    asks c.in_ok-loaded.ensures.reads.files c.in-Ok.ensures.reads.files c.in_ok-loaded.loaded c.in_ok-loaded.ensures.ok
     c.in_ok-asked.asked c.as_slice.result.now c.in_ok-asked.ensures.ok file
-    string_bytes c.audited.result (rw c.in_ok-rows.ensures.ok at c.audited.ensures.ok)
+    string_bytes c.audited-text.result (rw c.in_ok-rows.ensures.ok at c.audited-text.ensures.ok)
 
 pub returns-clause-stop : goal.returns-clause-stop
 returns-clause-stop g c =
     let asks = asks_of c.args.r c.args.query.now c.in_ok-asked.asked c.in_ok-rows.ensures.within c.in_ok-asked.ensures.ok in
-    let file = subst (λ (bytes : List ℕ). IsFile (g.S.Shelf.told c.index.new.shelf).files c.args.proof.now (2 ^ 26) bytes) (sym c.as_slice.ensures) c.in_ok-bytes.ensures.ok in
+    let file = subst (λ (bytes : List ℕ). IsFile (g.S.Shelf.told c.index.new.shelf).files c.args.proof.now (2 ^ 26) bytes) (sym c.as_slice.ensures) c.in-Ok.ensures.ok in
     verdict_stops g.H.HashKind.hash (g.S.Shelf.told c.args.shelf.now) (g.S.Shelf.told c.index.new.shelf) (g.S.Shelf.told c.proof.new.shelf)
     (record { index = c.args.index.now; r = c.args.r; query = c.args.query.now; proof = c.args.proof.now })
-    asks c.in_ok-loaded.ensures.reads.files c.in_ok-bytes.ensures.reads.files c.in_ok-loaded.loaded c.in_ok-loaded.ensures.ok
+    asks c.in_ok-loaded.ensures.reads.files c.in-Ok.ensures.reads.files c.in_ok-loaded.loaded c.in_ok-loaded.ensures.ok
     c.in_ok-asked.asked c.as_slice.result.now c.in_ok-asked.ensures.ok file
-    c.audited.result (rw c.in_ok-rows.ensures.ok at c.audited.ensures.stop)
+    c.audited-text.result (rw c.in_ok-rows.ensures.ok at c.audited-text.ensures.stop)

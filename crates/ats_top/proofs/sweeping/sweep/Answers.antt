@@ -1,4 +1,4 @@
-use Rattle.std.proofs.Common.{◌≡◌, ◌∙◌, ◌^◌, ℕ, List, sym, subst}
+use Rattle.std.proofs.Common.{◌∙◌, ◌^◌, ℕ, List, sym, subst}
 use Rattle.std.proofs.lemmas.Result.{err_from_is_err_and}
 use Rattle.ats_top.specs.Words.{Sweep}
 use Rattle.ats_top.specs.Read.{Files, IsFile}
@@ -23,18 +23,16 @@ pub returns-in_err-loaded-clause-serves : goal.returns-in_err-loaded-clause-serv
 returns-in_err-loaded-clause-serves g c =
     sweep_index _ _ _ c.index.ensures.reads
 
-pub returns-in_err-bytes-clause-stop : goal.returns-in_err-bytes-clause-stop
-returns-in_err-bytes-clause-stop g c =
-    let told = err_from_is_err_and c.from_residual-in_err-bytes.result c.from_residual-in_err-bytes.ensures.1 in
-    passed_on (FilesStop g.H.HashKind.hash (g.S.Shelf.told c.args.shelf.now) (g.S.Shelf.told c.list.new.shelf) (Sweep (record { index = c.args.index.now; list = c.args.list.now }))) _ told.0 _ told.1 told.2
-    (list_stops g.H.HashKind.hash (g.S.Shelf.told c.args.shelf.now) (g.S.Shelf.told c.list.new.shelf) (record { index = c.args.index.now; list = c.args.list.now }) (c.list.ensures.reads.files ∙ c.index.ensures.reads.files) c.in_ok-loaded.loaded c.in_ok-loaded.ensures.ok (g.S.Shelf.told c.index.new.shelf) c.index.ensures.reads.files c.index.ensures.reads.later c.in_err-bytes.field-0.0 c.in_err-bytes.ensures.stop)
+pub returns-in-Err-clause-stop : goal.returns-in-Err-clause-stop
+returns-in-Err-clause-stop g c =
+    list_stops g.H.HashKind.hash (g.S.Shelf.told c.args.shelf.now) (g.S.Shelf.told c.list.new.shelf) (record { index = c.args.index.now; list = c.args.list.now }) (c.list.ensures.reads.files ∙ c.index.ensures.reads.files) c.in_ok-loaded.loaded c.in_ok-loaded.ensures.ok (g.S.Shelf.told c.index.new.shelf) c.index.ensures.reads.files c.index.ensures.reads.later c.in-Err.stop c.in-Err.ensures.stop
 
-pub returns-in_err-bytes-clause-same : goal.returns-in_err-bytes-clause-same
-returns-in_err-bytes-clause-same g c =
+pub returns-in-Err-clause-same : goal.returns-in-Err-clause-same
+returns-in-Err-clause-same g c =
     (c.list.ensures.reads.files ∙ c.index.ensures.reads.files)
 
-pub returns-in_err-bytes-clause-serves : goal.returns-in_err-bytes-clause-serves
-returns-in_err-bytes-clause-serves g c =
+pub returns-in-Err-clause-serves : goal.returns-in-Err-clause-serves
+returns-in-Err-clause-serves g c =
     sweep_list _ _ (g.S.Shelf.told c.index.new.shelf) g.H.HashKind.hash _ _ c.in_ok-loaded.ensures.ok c.index.ensures.reads c.list.ensures.reads
 
 pub returns-clause-ok : goal.returns-clause-ok
@@ -43,13 +41,13 @@ returns-clause-ok g c =
       first = g.S.Shelf.told c.index.new.shelf;
       index = c.in_ok-loaded.ensures.ok;
       file = subst (λ (files : Files). IsFile files c.args.list.now (2 ^ 20) c.as_slice.result.now) c.index.ensures.reads.files
-          (subst (λ (bytes : List ℕ). IsFile (g.S.Shelf.told c.index.new.shelf).files c.args.list.now (2 ^ 20) bytes) (sym c.as_slice.ensures) c.in_ok-bytes.ensures.ok);
+          (subst (λ (bytes : List ℕ). IsFile (g.S.Shelf.told c.index.new.shelf).files c.args.list.now (2 ^ 20) bytes) (sym c.as_slice.ensures) c.in-Ok.ensures.ok);
       same = c.index.ensures.reads.files;
       files = c.list.ensures.reads.files ∙ c.index.ensures.reads.files;
       index_read = c.index.ensures.reads;
       list_read = c.list.ensures.reads;
     } in
-    c.swept.ensures.ok (g.S.Shelf.told c.args.shelf.now) (record { index = c.args.index.now; list = c.args.list.now }) are
+    c.swept-text.ensures.ok (g.S.Shelf.told c.args.shelf.now) (record { index = c.args.index.now; list = c.args.list.now }) are
 
 pub returns-clause-stop : goal.returns-clause-stop
 returns-clause-stop g c =
@@ -57,13 +55,13 @@ returns-clause-stop g c =
       first = g.S.Shelf.told c.index.new.shelf;
       index = c.in_ok-loaded.ensures.ok;
       file = subst (λ (files : Files). IsFile files c.args.list.now (2 ^ 20) c.as_slice.result.now) c.index.ensures.reads.files
-          (subst (λ (bytes : List ℕ). IsFile (g.S.Shelf.told c.index.new.shelf).files c.args.list.now (2 ^ 20) bytes) (sym c.as_slice.ensures) c.in_ok-bytes.ensures.ok);
+          (subst (λ (bytes : List ℕ). IsFile (g.S.Shelf.told c.index.new.shelf).files c.args.list.now (2 ^ 20) bytes) (sym c.as_slice.ensures) c.in-Ok.ensures.ok);
       same = c.index.ensures.reads.files;
       files = c.list.ensures.reads.files ∙ c.index.ensures.reads.files;
       index_read = c.index.ensures.reads;
       list_read = c.list.ensures.reads;
     } in
-    c.swept.ensures.stop (g.S.Shelf.told c.args.shelf.now) (record { index = c.args.index.now; list = c.args.list.now }) are
+    c.swept-text.ensures.stop (g.S.Shelf.told c.args.shelf.now) (record { index = c.args.index.now; list = c.args.list.now }) are
 
 pub returns-clause-serves : goal.returns-clause-serves
 returns-clause-serves g c =
@@ -71,13 +69,13 @@ returns-clause-serves g c =
       first = g.S.Shelf.told c.index.new.shelf;
       index = c.in_ok-loaded.ensures.ok;
       file = subst (λ (files : Files). IsFile files c.args.list.now (2 ^ 20) c.as_slice.result.now) c.index.ensures.reads.files
-          (subst (λ (bytes : List ℕ). IsFile (g.S.Shelf.told c.index.new.shelf).files c.args.list.now (2 ^ 20) bytes) (sym c.as_slice.ensures) c.in_ok-bytes.ensures.ok);
+          (subst (λ (bytes : List ℕ). IsFile (g.S.Shelf.told c.index.new.shelf).files c.args.list.now (2 ^ 20) bytes) (sym c.as_slice.ensures) c.in-Ok.ensures.ok);
       same = c.index.ensures.reads.files;
       files = c.list.ensures.reads.files ∙ c.index.ensures.reads.files;
       index_read = c.index.ensures.reads;
       list_read = c.list.ensures.reads;
     } in
-    c.swept.ensures.serves (g.S.Shelf.told c.args.shelf.now) (record { index = c.args.index.now; list = c.args.list.now }) are
+    c.swept-text.ensures.serves (g.S.Shelf.told c.args.shelf.now) (record { index = c.args.index.now; list = c.args.list.now }) are
 
 pub returns-clause-same : goal.returns-clause-same
-returns-clause-same g c = c.swept.ensures.same ∙ c.list.ensures.reads.files ∙ c.index.ensures.reads.files
+returns-clause-same g c = c.swept-text.ensures.same ∙ c.list.ensures.reads.files ∙ c.index.ensures.reads.files

@@ -1,14 +1,13 @@
-use Rattle.std.proofs.Common.{◌≡◌, ◌+◌, ◌≤◌, ◌^◌, ℕ, List, length, true, sym, ap, ap₂, subst, ◌∙◌, arith}
+use Rattle.std.proofs.Common.{◌≡◌, ◌+◌, ℕ, List, length, true, sym, ap, ap₂, subst, ◌∙◌, arith}
 use Rattle.std.specs.Int.{from_bool}
 use Rattle.std.specs.Result.{is_ok}
-use Rattle.ats_commit.specs.Root.{root_of}
 use Rattle.ats_proof.specs.Value.{Proof, IsProof}
 use Rattle.ats_proof.proofs.Public.{one_value}
 use Rattle.ats_client.specs.Accepts.{Accepts}
 use Rattle.ats_honest.specs.Honest.{IsHonest, IsProved, length_of}
 use Rattle.ats_audit.specs.Verdicts.{IsVerdict}
 use Rattle.ats_audit.specs.declared.auditing.Verdict.{Verdict}
-use Rattle.ats_top.specs.Trial.{IsSmall, IsTried, counted, shown_entries, is_right}
+use Rattle.ats_top.specs.Trial.{IsSmall, IsTried, shown_entries}
 use Rattle.ats_top.specs.declared.trial.Tally.{Tally}
 use Rattle.ats_top.proofs.Tried.{tried, audited_right}
 use Rattle.ats_top.proofs.trial.count.Goals as goal

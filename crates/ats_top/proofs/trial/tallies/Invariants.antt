@@ -1,4 +1,3 @@
-use Rattle.std.proofs.Common.{◌≡◌}
 use Rattle.ats_proof.specs.declared.record.Algorithm.TheVariants.{Tra, Tnra}
 use Rattle.ats_top.specs.Trial.{IsSmall}
 use Rattle.ats_top.proofs.Tried.{AreFirst}

@@ -1,6 +1,4 @@
-use Rattle.std.proofs.Common.{◌≡◌, ◌+◌, ℕ, List, length, string_bytes, ap₂, ◌∙◌}
-use Rattle.ats_proof.specs.Value.{Proof}
-use Rattle.ats_top.specs.Trial.{lines_of_trial, tally_of}
+use Rattle.std.proofs.Common.{◌+◌, string_bytes, ap₂, ◌∙◌}
 use Rattle.ats_top.specs.declared.trial.Tally.{Tally}
 use Rattle.ats_top.proofs.Tried.{lines_joined, ok_more}
 use Rattle.ats_top.proofs.trial.text.Goals as goal
