@@ -23,7 +23,7 @@ SHAPES = ("notes", "books", "lexicon")
 SIZES = (1, 4, 16)
 GROWTH = 1.2  # over the growth of the input
 AGAINST_BLOCKS = 2.5
-PEAK = 1 << 30  # bytes, for 16 MiB of short texts
+PEAK = 512 << 20  # bytes, for 16 MiB of short texts
 NODES = 2_000_000
 PROCESSORS = 4  # with fewer, threads are not judged
 TIMES = 3  # of each call that builds
@@ -109,7 +109,7 @@ def measured(program: str, bench: str, block: float, name: str, folder: str) -> 
         met &= measure.judge("  growth of the time / growth of the input", late / early / (large / small), GROWTH)
     met &= judge_threads(program, bench, path, blocks * block, times[-1])
     if name == "notes":
-        met &= measure.judge("  memory in GiB", run.peak / PEAK, 1.0)
+        met &= measure.judge("  most memory / 512 MiB", run.peak / PEAK, 1.0)
     return met
 
 
