@@ -2,10 +2,8 @@
 
 use crate::fault::Fault;
 use crate::json::{items, part, text, whole};
-use crate::shown::Shown;
 use crate::stage::Stage;
-use crate::tally::Tally;
-use ats_base::MemSink;
+use ats_tally::{Shown, Tally};
 use serde_json::Value;
 use std::alloc::Global;
 use std::thread::Threads;
@@ -81,11 +79,11 @@ impl Asker {
 
     /// What is compared without a command.
     pub(crate) fn compare(&self, about: &str) -> Result<Shown, Fault> {
-        Shown::new(self.alloc, about, 0, &MemSink::new(self.alloc))
+        Ok(Shown::new(self.alloc, about, 0, &[])?)
     }
 
     pub(crate) fn count(&mut self, shown: &Shown) -> Result<(), Fault> {
-        self.tally.count(self.alloc, shown)
+        Ok(self.tally.count(self.alloc, shown)?)
     }
 
     /// Has the proof made, which is to have these bytes.

@@ -18,12 +18,11 @@ mod json;
 mod numbers;
 mod player;
 mod said;
-mod shown;
 mod stage;
-mod tally;
 mod vectors;
 
 use asker::Asker;
+use ats_tally::Tally;
 use document::play;
 use fault::Fault;
 use player::Player;
@@ -31,7 +30,6 @@ use serde_json::Value;
 use std::process::ExitCode;
 use std::thread::Threads;
 use std::{fs, io};
-use tally::Tally;
 use vectors::{play_listed, play_named};
 
 const NAMED: [&str; 3] = ["archives.json", "proofs.json", "fields.json"];

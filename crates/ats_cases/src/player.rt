@@ -3,10 +3,9 @@
 use crate::fault::Fault;
 use crate::files;
 use crate::said::{number, two, words};
-use crate::shown::Shown;
 use crate::stage::Stage;
-use crate::tally::Tally;
 use ats_base::MemShelf;
+use ats_tally::{Shown, Tally};
 use std::alloc::Global;
 use std::thread::Threads;
 
@@ -48,7 +47,7 @@ impl Player {
     /// Counts the last command, if there is one that is not counted.
     pub(crate) fn settle(&mut self) -> Result<(), Fault> {
         match self.stage.take_shown(self.alloc) {
-            Some(shown) => self.tally.count(self.alloc, &shown),
+            Some(shown) => Ok(self.tally.count(self.alloc, &shown)?),
             None => Ok(()),
         }
     }
@@ -56,7 +55,7 @@ impl Player {
     /// Does what the line says, or reports it.
     pub(crate) fn line<R: Threads + Sync>(&mut self, rt: &R, line: &str) -> Result<(), Fault> {
         match self.try_line(rt, line) {
-            Err(Fault::Unread) => self.tally.refuse(line),
+            Err(Fault::Unread) => Ok(self.tally.refuse(line)?),
             done => done,
         }
     }
@@ -74,7 +73,7 @@ impl Player {
         }
         let shown = self.shown()?;
         shown.want(line)?;
-        shown.want("\n")
+        Ok(shown.want("\n")?)
     }
 
     fn run<R: Threads + Sync>(&mut self, rt: &R, said: &str) -> Result<(), Fault> {
@@ -91,7 +90,7 @@ impl Player {
     fn prepare_or_want(&mut self, verb: &str, rest: &str) -> Result<(), Fault> {
         match verb {
             "status" => self.want_status(rest),
-            "part" => self.shown()?.want(rest),
+            "part" => Ok(self.shown()?.want(rest)?),
             "lines" => self.want_lines(rest),
             "holds" | "size" | "none" | "wrote" => self.want_file(verb, rest),
             _ => self.prepare(verb, rest),

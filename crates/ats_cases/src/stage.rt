@@ -5,9 +5,9 @@ ghost use Rattle.ats_base.specs.MemoryLinks.{IsUnused};
 
 use crate::fault::Fault;
 use crate::said::{number, two};
-use crate::shown::Shown;
 use ats_base::{Bytes, MemCaller, MemDoor, MemLink, MemShelf, MemSink};
 use ats_hash::Weak;
+use ats_tally::Shown;
 use ats_top::{run, run_with};
 use std::alloc::Global;
 use std::thread::Threads;
@@ -100,7 +100,7 @@ impl Stage {
         } else {
             run(rt, alloc, words, shelf, &mut sink, caller, door)
         };
-        self.shown = Some(Shown::new(alloc, said, status, &sink)?);
+        self.shown = Some(Shown::new(alloc, said, status, sink.bytes())?);
         Ok(())
     }
 }

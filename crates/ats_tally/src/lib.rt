@@ -1,0 +1,13 @@
+//! The count of cases: what a command showed beside what its case wants, and how many cases are as wanted.
+//!
+//! It stands apart from the player of the cases, so that what is promised of the count is tried over these few lines
+//! alone. The room stands on `ats_base` for bytes. It promises that a case is counted as passed exactly where its
+//! status, its printed text, and its files, links or numbers are as they are wanted, and that each other one makes the
+//! report longer. The words of the report may change without asking.
+#![tactic(auto)]
+
+pub use shown::Shown;
+pub use tally::Tally;
+
+mod shown;
+mod tally;

@@ -1,0 +1,75 @@
+//! How many cases passed, and what there is to say of the others.
+
+ghost use Rattle.std.specs.Prelude.{◌≡◌, ◌<◌, ◌≤◌, ◌+◌, ◌-◌, ◌^◌, ◌⊎◌, [], min, length, string_bytes, OnOk};
+ghost use Rattle.ats_tally.specs.Cases.{Counted, IsAsWanted};
+
+use crate::shown::Shown;
+use ats_base::OutOfMemory;
+use std::alloc::Global;
+use std::marker::Model;
+
+/// The count of the cases that passed, and a report on those that did not.
+#[derive(Drop)]
+pub struct Tally {
+    passed: u64,
+    report: String,
+}
+
+impl Model for Tally {
+    ghost Value = { Counted };
+
+    ghost view = { λ t. record { passed = t.passed; report = string_bytes t.report } };
+}
+
+impl Tally {
+    pub fn new(alloc: Global) -> Self
+        ensures { result ≡ record { passed = 0; report = [] } }
+    {
+        Tally {
+            passed: 0,
+            report: String::new(alloc),
+        }
+    }
+
+    /// Counts a case, or reports it. Want of memory may leave a part of the report.
+    pub fn count(&mut self, alloc: Global, shown: &Shown) -> Result<(), OutOfMemory>
+        ensures passed { self.old.passed < self.new.passed → (shown.now.status ≡ shown.now.wanted_status)
+            × (shown.now.printed ≡ shown.now.wanted) × (shown.now.misfits ≡ 0) }
+        ensures counted { IsAsWanted shown.now
+            → self.new ≡ record self.old { passed = min (self.old.passed + 1) (2 ^ 64 - 1) } }
+        ensures reported { OnOk result (IsAsWanted shown.now ⊎ length self.old.report < length self.new.report) }
+    {
+        if shown.is_as_wanted() {
+            self.passed = self.passed.saturating_add(1);
+            return Ok(());
+        }
+        let difference = shown.difference(alloc)?;
+        self.report.push_str("differs: ")?;
+        self.report.push_str(difference.as_str())?;
+        Ok(())
+    }
+
+    /// Reports a line that says nothing that is known. Want of memory may leave a part of the report.
+    pub fn refuse(&mut self, line: &str) -> Result<(), OutOfMemory>
+        ensures passed { self.new.passed ≡ self.old.passed }
+        ensures reported { OnOk result (length self.old.report < length self.new.report) }
+    {
+        self.report.push_str("not understood: ")?;
+        self.report.push_str(line)?;
+        self.report.push_str("\n")?;
+        Ok(())
+    }
+
+    pub fn passed(&self) -> u64
+        ensures { result ≡ self.now.passed }
+    {
+        self.passed
+    }
+
+    /// Nothing, where each case passed.
+    pub fn report(&self) -> &str
+        ensures { result.now ≡ self.now.report }
+    {
+        self.report.as_str()
+    }
+}

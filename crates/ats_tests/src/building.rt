@@ -1,0 +1,90 @@
+//! Indexes that several threads build are those that one thread builds.
+
+use ats_base::Bytes;
+use ats_hash::{Hash32, HashKind, Sha};
+use ats_impact::{Collection, Texts, trial_texts};
+use ats_index::{Index, OutOfMemory};
+use std::alloc::Global;
+use std::test::Fail;
+use std::thread::Threads;
+
+// Texts of a collection, from one to another, each cut to so many bytes.
+fn part(
+    alloc: Global,
+    all: &Texts,
+    from: usize,
+    to: usize,
+    size: usize,
+) -> Result<Collection, Fail> {
+    let mut texts = Texts::new(alloc);
+    for doc in from..to {
+        if doc < all.len() {
+            texts.push(all.get(doc).get(..size).unwrap_or(all.get(doc)))?;
+        }
+    }
+    Ok(Collection::new(alloc, texts)?)
+}
+
+// What is said of digests is looked into where the hash function is known, which takes minutes: so here it is any.
+fn bytes_of<H: HashKind>(index: &Index<H>) -> Result<Bytes, OutOfMemory> {
+    index.bytes()
+}
+
+pub(crate) fn by_one_thread<H: Hash32>(
+    alloc: Global,
+    collection: Collection,
+) -> Result<Bytes, OutOfMemory> {
+    let index = Index::<H>::build_plain(alloc, collection)?;
+    bytes_of(&index)
+}
+
+fn by_several<H: Hash32 + Sync>(
+    rt: &(impl Threads + Sync),
+    alloc: Global,
+    collection: Collection,
+) -> Result<Bytes, OutOfMemory> {
+    let index = Index::<H>::build(rt, alloc, collection)?;
+    bytes_of(&index)
+}
+
+// Whether both build the same of these texts.
+fn are_built_alike(
+    rt: &(impl Threads + Sync),
+    alloc: Global,
+    all: &Texts,
+    (from, to, size): (usize, usize, usize),
+) -> Result<bool, Fail> {
+    let one = by_one_thread::<Sha>(alloc, part(alloc, all, from, to, size)?)?;
+    let several = by_several::<Sha>(rt, alloc, part(alloc, all, from, to, size)?)?;
+    Ok(one.as_slice() == several.as_slice())
+}
+
+// All of a trial's texts, and 1 to 34 of them in 0 to 110 bytes each, some of whose last words are cut.
+const PARTS: [(usize, usize, usize); 13] = [
+    (0, 2000, usize::MAX),
+    (0, 1, 0),
+    (100, 104, 10),
+    (200, 207, 20),
+    (300, 310, 30),
+    (400, 413, 40),
+    (500, 516, 50),
+    (600, 619, 60),
+    (700, 722, 70),
+    (800, 825, 80),
+    (900, 928, 90),
+    (1000, 1031, 100),
+    (1100, 1134, 110),
+];
+
+#[test]
+fn threads_build_what_one_builds(rt: HostRuntime) -> Result<(), Fail> {
+    let all = trial_texts(rt.alloc(), 0)?;
+    for part in PARTS {
+        assert!(rt;
+            are_built_alike(&rt, rt.alloc(), &all, part)?,
+            "from {}",
+            part.0
+        );
+    }
+    Ok(())
+}

@@ -1,0 +1,74 @@
+//! The public types of the rooms cross threads.
+
+fn cross<T: Send + Sync>() {}
+
+#[test]
+fn types_cross_threads() {
+    cross::<ats_hash::Steps>();
+    cross::<ats_hash::Sha>();
+    cross::<ats_hash::Weak>();
+    cross::<ats_tree::Nodes>();
+    cross::<ats_tree::Digests>();
+    cross::<ats_tree::OutOfMemory>();
+    cross::<ats_tree::TreeFault>();
+    cross::<ats_tree::HashedString>();
+    cross::<ats_tree::Place>();
+    cross::<ats_terms::OutOfMemory>();
+    cross::<ats_terms::QueryFault>();
+    cross::<ats_terms::Terms>();
+    cross::<ats_terms::TermCounts>();
+    cross::<ats_terms::Query>();
+    cross::<ats_terms::Spot>();
+    cross::<ats_impact::OutOfMemory>();
+    cross::<ats_impact::ROut>();
+    cross::<ats_impact::CollectionFault>();
+    cross::<ats_impact::Top>();
+    cross::<ats_impact::Row>();
+    cross::<ats_impact::Rows>();
+    cross::<ats_impact::Texts>();
+    cross::<ats_impact::Collection>();
+    cross::<ats_dict::Dictionary>();
+    cross::<ats_dict::DictLeaf<'static>>();
+    cross::<ats_dict::OutOfMemory>();
+    cross::<ats_dict::Header>();
+    cross::<ats_doctree::DocTerms>();
+    cross::<ats_doctree::OutOfMemory>();
+    cross::<ats_doctree::DocLeaf>();
+    cross::<ats_lists::OutOfMemory>();
+    cross::<ats_lists::Entry>();
+    cross::<ats_lists::ListsBuilder<'static>>();
+    cross::<ats_lists::Lists>();
+    cross::<ats_lists::ListLeaves<'static>>();
+    cross::<ats_commit::DocLeaves<'static>>();
+    cross::<ats_commit::TextLeaves<'static>>();
+    cross::<ats_index::Index<ats_hash::Sha>>();
+    cross::<ats_index::LoadFault>();
+    cross::<ats_index::OutOfMemory>();
+    cross::<ats_base::Bytes>();
+    cross::<ats_base::MemShelf>();
+    cross::<ats_base::MemSink>();
+    cross::<ats_base::MemCaller>();
+    cross::<ats_base::MemDoor>();
+    cross::<ats_base::GatherFault>();
+    cross::<ats_base::Failed>();
+    cross::<ats_base::OutOfMemory>();
+    cross::<ats_bound::OutOfMemory>();
+    cross::<ats_bound::Bracket>();
+    cross::<ats_bound::Lane<'static>>();
+    cross::<ats_bound::Walk>();
+    cross::<ats_bound::Cut>();
+    cross::<ats_bound::Brackets>();
+    cross::<ats_bound::Picks>();
+    cross::<ats_bound::Work>();
+    cross::<ats_prover::ProveFault>();
+    cross::<ats_proof::Algorithm>();
+    cross::<ats_proof::ProofView<'static>>();
+    cross::<ats_proof::DictView<'static>>();
+    cross::<ats_proof::ListsView<'static>>();
+    cross::<ats_proof::DocsView<'static>>();
+    cross::<ats_proof::ProofWriter>();
+    cross::<ats_proof::Slot>();
+    cross::<ats_proof::TermLeaf<'static>>();
+    cross::<ats_proof::OutOfMemory>();
+    cross::<ats_audit::Verdict>();
+}
