@@ -57,6 +57,18 @@ fn repeats(sorted: &[Key<'_>], i: usize) -> bool
     i > 0 && sorted[i] == sorted[i - 1]
 }
 
+// How many terms do not repeat the one before, and how many bytes they have.
+fn room_of(sorted: &[Key<'_>]) -> (usize, usize) {
+    let (mut terms, mut bytes): (usize, usize) = (0, 0);
+    for i in 0..sorted.len() {
+        if !repeats(sorted, i) {
+            terms = terms.saturating_add(1);
+            bytes = bytes.saturating_add(sorted[i].term().len());
+        }
+    }
+    (terms, bytes)
+}
+
 // The terms without those that repeat the one before, each with the length of its run.
 fn runs(alloc: Global, sorted: &[Key<'_>]) -> Result<TermCounts, OutOfMemory>
     requires few { length sorted.now < 2 ^ 32 }
@@ -64,9 +76,10 @@ fn runs(alloc: Global, sorted: &[Key<'_>]) -> Result<TermCounts, OutOfMemory>
     requires terms { All IsTerm sorted.now }
     ensures { IfOk result (λ made. made ≡ counted sorted.now) }
 {
-    let mut bytes = Vec::new(alloc);
-    let mut ends = Vec::new(alloc);
-    let mut counts: Vec<u32> = Vec::new(alloc);
+    let (room, bytes_room) = room_of(sorted);
+    let mut bytes = Vec::with_capacity(alloc, bytes_room)?;
+    let mut ends = Vec::with_capacity(alloc, room)?;
+    let mut counts: Vec<u32> = Vec::with_capacity(alloc, room)?;
     for i in 0..sorted.len() {
         if repeats(sorted, i) {
             let run = counts.len() - 1;
