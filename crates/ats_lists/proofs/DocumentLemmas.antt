@@ -146,7 +146,7 @@ part_all first doc texts pairs map up counts has = record {
 }
 
 -- before the first document
-pub nothing_yet : (first : ℕ) (texts : List (List ℕ)) (m : TermMap) → m.entries ≡ [] → HasRun first first texts m
+pub nothing_yet : (first : ℕ) (texts : List (List ℕ)) (m : TermMap) → m ≡ [] → HasRun first first texts m
 nothing_yet first texts m empty = record {
   entries = λ term. rw (empty, run_none first texts term) refl;
   terms = rw empty (All-nil IsTerm);

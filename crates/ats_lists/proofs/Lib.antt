@@ -4,6 +4,7 @@ mod Sorting
 mod PostingLemmas
 mod VocabularyLemmas
 mod MapLemmas
+mod NumberLemmas
 mod DocumentLemmas
 mod WholeLemmas
 mod Finding

@@ -36,19 +36,6 @@ updates_by_bytes bs m n w updates cs =
     (λ differ. other_entries _ _ m.entries n.entries updates.3 (λ key. is_eq (byte_cmp cs key))
     ((eq_by_cmp_equiv nat_list_cmp_total).congr cs) (λ key. apart bs cs key differ))
 
-put_case : {X : Type 0} (old new : List ℕ → Option (List X)) (bs cs : List ℕ) (xs w : List X) (b : Bool) → bytes_eq bs cs ≡ b
-    → new cs ≡ cond b (Some w) (old cs) → w ≡ unwrap_or (old bs) [] ++ xs
-    → new cs ≡ cond b (Some (unwrap_or (old cs) [] ++ xs)) (old cs)
-put_case old new bs cs xs w true is gives value =
-    gives ∙ ap (λ v. Some v) (value ∙ ap (λ q. unwrap_or (old q) [] ++ xs) ((bytes_eq-Decides bs cs).0 is))
-put_case old new bs cs xs w false is gives value = gives
-
--- more elements behind those at some bytes
-pub put_behind : {X : Type 0} (old new : List ℕ → Option (List X)) (bs : List ℕ) (xs w : List X)
-    → ((cs : List ℕ) → new cs ≡ cond (bytes_eq bs cs) (Some w) (old cs)) → w ≡ unwrap_or (old bs) [] ++ xs
-    → (cs : List ℕ) → new cs ≡ cond (bytes_eq bs cs) (Some (unwrap_or (old cs) [] ++ xs)) (old cs)
-put_behind old new bs xs w gives value cs = put_case old new bs cs xs w (bytes_eq bs cs) refl (gives cs) value
-
 -- ---- all entries of a map behind those of another
 
 -- what both have, where they have something

@@ -6,13 +6,12 @@ ghost use Rattle.ats_terms.specs.Query.{counted};
 ghost use Rattle.ats_lists.specs.Postings.{text_of};
 ghost use Rattle.ats_lists.specs.Lists.{lists_of, AreLists};
 
-use crate::gathering::{TermMap, add_document, append_all};
-use crate::lists::{Lists, sorted_lists};
+use crate::gathering::Gathered;
+use crate::lists::Lists;
 use crate::memory::OutOfMemory;
 use ats_impact::Collection;
 use ats_terms::TermCounts;
 use std::alloc::Global;
-use std::collections::BTreeMap;
 use std::marker::Model;
 
 /// The lists of a run of a collection's documents in the making: the collection's texts, the first document of the
@@ -24,7 +23,7 @@ use std::marker::Model;
 pub struct ListsBuilder<'a> {
     alloc: Global,
     collection: &'a Collection,
-    gathered: TermMap,
+    gathered: Gathered,
     first: u32,
     behind: u32,
 }
@@ -59,7 +58,7 @@ impl<'a> ListsBuilder<'a> {
         ListsBuilder {
             alloc,
             collection,
-            gathered: BTreeMap::new(alloc),
+            gathered: Gathered::new(alloc),
             first,
             behind: first,
         }
@@ -74,11 +73,11 @@ impl<'a> ListsBuilder<'a> {
         let ListsBuilder {
             alloc,
             collection,
-            mut gathered,
+            gathered,
             first,
             behind,
         } = self;
-        add_document(alloc, &mut gathered, collection, behind, counts)?;
+        let gathered = gathered.add_document(alloc, collection, behind, counts)?;
         Ok(ListsBuilder {
             alloc,
             collection,
@@ -88,8 +87,7 @@ impl<'a> ListsBuilder<'a> {
         })
     }
 
-    /// The run of both, where the next one begins where this one ends. Terms are moved and not copied. Want of memory
-    /// drops both.
+    /// The run of both, where the next one begins where this one ends. Want of memory drops both.
     pub fn join(self, next: Self) -> Result<Self, OutOfMemory>
         requires texts { next.0 ≡ self.0 }
         requires place { next.1 ≡ self.2 }
@@ -98,7 +96,7 @@ impl<'a> ListsBuilder<'a> {
         let ListsBuilder {
             alloc,
             collection,
-            mut gathered,
+            gathered,
             first,
             behind: _,
         } = self;
@@ -109,7 +107,7 @@ impl<'a> ListsBuilder<'a> {
             first: _,
             behind,
         } = next;
-        append_all(&mut gathered, more)?;
+        let gathered = gathered.join(alloc, more)?;
         Ok(ListsBuilder {
             alloc,
             collection,
@@ -135,7 +133,6 @@ impl<'a> ListsBuilder<'a> {
         } = self;
         // A list for each distinct term, so that 32 bits count the lists.
         prove!(gathered.len() <= collection.total() as usize);
-        let lists = sorted_lists(alloc, gathered)?;
-        Ok(Lists::new(lists))
+        Ok(Lists::new(gathered.sorted(alloc)?))
     }
 }

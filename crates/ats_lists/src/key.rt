@@ -9,6 +9,7 @@ ghost use Rattle.std.proofs.lemmas.Map.Text.{is_eq-slice_cmp};
 
 use crate::memory::OutOfMemory;
 use ats_terms::front;
+use std::alloc::Global;
 use std::cmp::Ordering;
 use std::marker::Model;
 
@@ -31,15 +32,13 @@ impl Model for Key {
 }
 
 impl Key {
-    /// The key of a term, kept in this room.
-    pub(crate) fn of(mut room: Vec<u8>, term: &[u8]) -> Result<Self, OutOfMemory>
+    /// The key of a term, which is copied.
+    pub(crate) fn of(alloc: Global, term: &[u8]) -> Result<Self, OutOfMemory>
         ensures { IfOk result (λ key. key ≡ term.now) }
     {
-        room.clear();
-        room.extend_from_slice(term)?;
         Ok(Key {
             front: front(term),
-            term: room,
+            term: Vec::from_slice(alloc, term)?,
         })
     }
 

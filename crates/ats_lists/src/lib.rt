@@ -25,6 +25,7 @@ mod laws;
 mod leaves;
 mod lists;
 mod memory;
+mod term_list;
 
 pub use building::ListsBuilder;
 pub use entry::Entry;

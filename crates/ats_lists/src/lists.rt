@@ -1,52 +1,21 @@
 //! The lists of a collection.
 
-ghost use Rattle.std.specs.Prelude.{◌≡◌, ◌≢◌, ◌<◌, [], List, ℕ, length, map, slice_index_or, IfOk, IfSome, IfNone};
+ghost use Rattle.std.specs.Prelude.{◌≡◌, ◌≢◌, ◌<◌, [], List, ℕ, length, slice_index_or, IfOk, IfSome, IfNone};
 ghost use Rattle.std.specs.List.{All};
 ghost use Rattle.ats_terms.specs.Terms.{IsTerm};
 ghost use Rattle.ats_terms.specs.Query.{byte_cmp};
-ghost use Rattle.ats_lists.specs.Gathered.{AreGathered};
-ghost use Rattle.ats_lists.specs.Lists.{by_impact, lists_of, IsList, AreLists};
+ghost use Rattle.ats_lists.specs.Lists.{lists_of, IsList, AreLists};
 ghost use Rattle.ats_lists.specs.declared.entry.Entry.{Entry as Posting};
 
 use crate::building::ListsBuilder;
 use crate::entry::Entry;
-use crate::gathering::TermMap;
 use crate::memory::OutOfMemory;
+use crate::term_list::TermList;
 use ats_impact::Collection;
 use ats_terms::TermCounts;
 use std::alloc::Global;
 use std::cmp::Ordering;
 use std::marker::Model;
-
-// A term with its entries.
-#[derive(Drop)]
-pub(crate) struct TermList {
-    term: Vec<u8>,
-    entries: Vec<Entry>,
-}
-
-impl Model for TermList {
-    ghost use Rattle.std.specs.Prelude.{List, ℕ};
-    ghost use Rattle.ats_lists.specs.declared.entry.Entry.{Entry};
-
-    ghost Value = { List ℕ × List Entry };
-
-    ghost view = { λ l. (l.term.items, l.entries.items) };
-}
-
-impl TermList {
-    fn term(&self) -> &[u8]
-        ensures { result.now ≡ self.now.0 }
-    {
-        self.term.as_slice()
-    }
-
-    fn entries(&self) -> &[Entry]
-        ensures { result.now ≡ self.now.1 }
-    {
-        self.entries.as_slice()
-    }
-}
 
 /// The inverted lists of a collection: the distinct terms of its texts in byte order, each with the
 /// documents that have it.
@@ -67,20 +36,6 @@ impl Model for Lists {
     ghost view = { λ l. l.lists.items };
 
     ghost invariant = { λ l. AreLists 65536 l.lists.items };
-}
-
-/// The gathered entries of each term, sorted, in byte order of the terms.
-pub(crate) fn sorted_lists(alloc: Global, gathered: TermMap) -> Result<Vec<TermList>, OutOfMemory>
-    requires { All (λ e. AreGathered e.1) gathered.entries }
-    ensures { IfOk result (λ lists. lists.items ≡ map (λ e. (e.0, by_impact 2200 e.1)) gathered.entries) }
-{
-    let mut lists = Vec::with_capacity(alloc, gathered.len())?;
-    for (key, entries) in gathered {
-        let entries = entries.sorted()?;
-        let term = key.into_term();
-        lists.push(TermList { term, entries })?;
-    }
-    Ok(lists)
 }
 
 impl Lists {

@@ -24,8 +24,8 @@ prove-unreachable-requires c =
     let has = whole c.args.self texts b.first b.behind b.gathered c.self.view_is c.requires.first c.requires.all c.self.invariant.2 in
     omega (arith, few_entries texts b.gathered c.len.ensures.ordered has, c.len.ensures.len, c.total.ensures.value, c.if-prove.true)
 
-pub sorted_lists-requires : goal.sorted_lists-requires
-sorted_lists-requires c =
+pub sorted-requires : goal.sorted-requires
+sorted-requires c =
     let b = c.self.inside in
     let texts : List (List ℕ) = b.collection.now in
     let has = whole c.args.self texts b.first b.behind b.gathered c.self.view_is c.requires.first c.requires.all c.self.invariant.2 in
@@ -37,7 +37,7 @@ new-requires c =
     let texts : List (List ℕ) = b.collection.now in
     let size : b.behind ≡ length texts = ends c.args.self texts b.first b.behind c.self.view_is c.requires.all in
     let has = whole c.args.self texts b.first b.behind b.gathered c.self.view_is c.requires.first c.requires.all c.self.invariant.2 in
-    rw (c.in_ok-lists.ensures, made_lists texts b.gathered c.len.ensures.ordered has)
+    rw (c.in_ok-sorted.ensures, made_lists texts b.gathered c.len.ensures.ordered has)
     (lists_within (length texts) 65536 (lists_of texts) (omega (arith, size, c.self.invariant.1))
     (lists_keep texts (omega (arith, c.total.ensures.value, c.total.ensures.few)) (terms_are texts b.gathered c.len.ensures.ordered has)))
 
@@ -46,7 +46,7 @@ returns-clause-same c =
     let b = c.self.inside in
     let texts : List (List ℕ) = b.collection.now in
     let has = whole c.args.self texts b.first b.behind b.gathered c.self.view_is c.requires.first c.requires.all c.self.invariant.2 in
-    c.new.ensures ∙ c.in_ok-lists.ensures ∙ made_lists texts b.gathered c.len.ensures.ordered has
+    c.new.ensures ∙ c.in_ok-sorted.ensures ∙ made_lists texts b.gathered c.len.ensures.ordered has
     ∙ ap (λ (v : List (List ℕ) × ℕ × ℕ). lists_of v.0) c.self.view_is
 
 pub returns-clause-lists : goal.returns-clause-lists
@@ -54,5 +54,5 @@ returns-clause-lists c =
     let b = c.self.inside in
     let texts : List (List ℕ) = b.collection.now in
     let has = whole c.args.self texts b.first b.behind b.gathered c.self.view_is c.requires.first c.requires.all c.self.invariant.2 in
-    rw (c.new.ensures, c.in_ok-lists.ensures, made_lists texts b.gathered c.len.ensures.ordered has, ← c.self.view_is)
+    rw (c.new.ensures, c.in_ok-sorted.ensures, made_lists texts b.gathered c.len.ensures.ordered has, ← c.self.view_is)
     (lists_keep texts (omega (arith, c.total.ensures.value, c.total.ensures.few)) (terms_are texts b.gathered c.len.ensures.ordered has))

@@ -20,6 +20,6 @@ invariant_of-result c =
     subst (λ t. HasRun middle behind t c.next.inside.gathered) same (subst (λ k. HasRun k behind c.next.inside.collection.now c.next.inside.gathered) place c.next.invariant.2) in (
       omega (arith, low, high),
       c.next.invariant.1,
-      runs_joined first middle behind texts c.append_all.new.map low high
-          (c.in_ok-append_all.ensures (postings_of_run first (middle - first) texts) (postings_of_run middle (behind - middle) texts) c.self.invariant.2 more),
+      runs_joined first middle behind texts c.in_ok-gathered.gathered low high
+          (c.in_ok-gathered.ensures (postings_of_run first (middle - first) texts) (postings_of_run middle (behind - middle) texts) c.self.invariant.2 more),
     )

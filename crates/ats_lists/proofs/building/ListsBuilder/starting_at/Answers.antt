@@ -6,5 +6,5 @@ pub invariant_of-result : goal.invariant_of-result
 invariant_of-result c = (
   omega arith,
   omega (arith, c.requires, c.documents.ensures.value, c.documents.ensures.few),
-  nothing_yet c.args.first c.args.collection.now c.new.result c.new.ensures.empty,
+  nothing_yet c.args.first c.args.collection.now c.new.result c.new.ensures,
 )

@@ -5,10 +5,11 @@ use Rattle.ats_terms.proofs.Public.{counted_counts}
 use Rattle.ats_impact.specs.Numbers.{impact}
 use Rattle.ats_impact.specs.Score.{total_terms}
 use Rattle.ats_lists.specs.Postings.{text_of, postings_of_run}
-use Rattle.ats_lists.specs.Gathered.{entries_at}
+use Rattle.ats_lists.specs.Gathered.{entries_at, gathered}
 use Rattle.ats_lists.specs.declared.entry.Entry.{Entry}
-use Rattle.ats_lists.proofs.DocumentLemmas.{pair_within, part_none, part_more, part_all, entry_is}
-use Rattle.ats_lists.proofs.gathering.add_document.Goals as goal
+use Rattle.ats_lists.proofs.DocumentLemmas.{pair_within, part_more, part_all, entry_is}
+use Rattle.ats_lists.proofs.NumberLemmas.{keys_by_number}
+use Rattle.ats_lists.proofs.gathering.Gathered.add_document.Goals as goal
 
 pub impact-impact-requires-clause-within : goal.impact-impact-requires-clause-within
 impact-impact-requires-clause-within c =
@@ -18,11 +19,8 @@ impact-impact-requires-clause-within c =
     let inside : c.loop-i.i < length pairs = omega (arith, c.len-i-end.ensures.value) in
     omega (arith, c.count.ensures.value ([], 0), pair_within all pairs c.loop-i.i ([], 0) counts inside, c.len-len.ensures, ap length c.terms.ensures.value)
 
-pub loop-i-init : goal.loop-i-init
-loop-i-init c before has = part_none before c.args.doc c.args.collection.now c.args.map.now has
-
 pub loop-i-preserved : goal.loop-i-preserved
-loop-i-preserved c before has =
+loop-i-preserved c =
     let texts : List (List ℕ) = c.args.collection.now in
     let pairs : List (List ℕ × ℕ) = c.args.counts.now in
     let all : List (List ℕ) = terms (text_of texts c.args.doc) in
@@ -34,10 +32,17 @@ loop-i-preserved c before has =
     rw (← c.count.ensures.value ([], 0), ← c.total-total.ensures.value, ← len, ← c.documents-documents.ensures.value) c.impact-impact.ensures.value in
     let some : 0 < (get_or pairs c.loop-i.i ([], 0)).1 = omega (arith, c.count.ensures.value ([], 0), c.count.ensures.some) in
     record {
-      entries = part_more before c.args.doc texts pairs c.loop-i.i ([], 0) (entries_at c.loop-i.map) (entries_at c.add.new.map) entry counts.rises inside some
-          (entry_is c.args.doc texts pairs c.loop-i.i ([], 0) entry counts inside refl value) (c.loop-i.invariant before has).entries
-          (rw (c.in_ok-key.ensures, c.term.ensures.value ([], 0)) at c.in_ok-add.ensures.entries);
-      terms = c.in_ok-add.ensures.terms (c.loop-i.invariant before has).terms;
+      numbers = c.in_ok-put.ensures.numbers;
+      has = λ before has.
+          let was = c.loop-i.invariant.has before has in
+          record {
+            entries = part_more before c.args.doc texts pairs c.loop-i.i ([], 0) (entries_at (gathered c.loop-i.numbers c.loop-i.lists.items))
+                (entries_at (gathered c.put.new.numbers c.put.new.lists.items)) entry counts.rises inside some
+                (entry_is c.args.doc texts pairs c.loop-i.i ([], 0) entry counts inside refl value) was.entries
+                (rw (c.term.ensures.value ([], 0)) at c.in_ok-put.ensures.entries);
+            terms = rw (keys_by_number c.put.new.numbers c.put.new.lists.items)
+                (c.in_ok-put.ensures.terms c.term.ensures.term (rw (keys_by_number c.loop-i.numbers c.loop-i.lists.items) at was.terms));
+          };
     }
 
 pub returns-clause-after : goal.returns-clause-after
@@ -47,5 +52,5 @@ returns-clause-after c first up has =
     let all : List (List ℕ) = terms (text_of texts c.args.doc) in
     let counts : Counts all pairs = rw c.requires.counts (counted_counts all) in
     let whole : take c.loop-i.i pairs ≡ pairs = take_all c.loop-i.i pairs (omega (arith, c.len-i-end.ensures.value)) in
-    part_all first c.args.doc texts pairs c.loop-i.map up counts
-    (rw whole at (c.loop-i.invariant (postings_of_run first (c.args.doc - first) texts) has))
+    part_all first c.args.doc texts pairs (gathered c.loop-i.numbers c.loop-i.lists.items) up counts
+    (rw whole at (c.loop-i.invariant.has (postings_of_run first (c.args.doc - first) texts) has))
