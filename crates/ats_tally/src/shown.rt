@@ -47,6 +47,7 @@ impl Shown {
         })
     }
 
+    /// This status is wanted, and no other.
     pub fn want_status(&mut self, status: u8)
         ensures { self.new ≡ record self.old { wanted_status = status } }
     {

@@ -22,6 +22,7 @@ impl Model for Tally {
 }
 
 impl Tally {
+    /// No case was counted, and there is nothing to say.
     pub fn new(alloc: Global) -> Self
         ensures { result ≡ record { passed = 0; report = [] } }
     {
@@ -60,13 +61,14 @@ impl Tally {
         Ok(())
     }
 
+    /// How many cases were as wanted; 2^64 - 1 stands for as many and more.
     pub fn passed(&self) -> u64
         ensures { result ≡ self.now.passed }
     {
         self.passed
     }
 
-    /// Nothing, where each case passed.
+    /// What there is to say of the other cases; empty, where each case passed.
     pub fn report(&self) -> &str
         ensures { result.now ≡ self.now.report }
     {
