@@ -77,7 +77,7 @@ fn memory_is_there(rt: HostRuntime) -> Result<(), Fail> {
 }
 
 // What is said of a proof is not looked into here.
-fn proof_of<H: HashKind>(
+pub(crate) fn proof_of<H: HashKind>(
     alloc: Global,
     index: &Index<H>,
     query: &Query,
@@ -101,7 +101,7 @@ fn proof_within<H: HashKind>(
 }
 
 // A query of any text: the words of a text that is known are looked into.
-fn query_of(alloc: Global, text: &str) -> Result<Query, QueryFault> {
+pub(crate) fn query_of(alloc: Global, text: &str) -> Result<Query, QueryFault> {
     Query::read(alloc, text)
 }
 
