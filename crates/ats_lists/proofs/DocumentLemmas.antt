@@ -1,12 +1,12 @@
 -- What one document adds to the gathered postings, term by term.
-use Rattle.std.proofs.Common.{◌≡◌, ◌≢◌, ◌<◌, ◌≤◌, ◌+◌, ◌-◌, ℕ, Bool, true, false, cond, List, [], ◌∷◌, ◌++◌, length, get_or, map, take, drop, nat_lt, Option, Some, unwrap_or, refl, sym, ap, ap₂, subst, ◌∙◌, arith, append-nil, add-zero, zero-add}
-use Rattle.std.specs.List.{All}
+use Rattle.std.proofs.Common.{◌≡◌, ◌≢◌, ◌<◌, ◌≤◌, ◌+◌, ◌-◌, ℕ, Bool, true, false, cond, List, [], ◌∷◌, ◌++◌, length, get_or, map, take, drop, nat_lt, refl, sym, ap, ap₂, subst, ◌∙◌, arith, append-nil, add-zero, zero-add}
+use Rattle.std.specs.List.{All, filter}
 use Rattle.std.specs.Bool.{Decides}
 use Rattle.std.specs.Str.{bytes_eq}
 use Rattle.std.proofs.lemmas.Bool.Decides.{nat_tests}
 use Rattle.std.proofs.lemmas.Cmp.{nat_list_eq_equiv}
-use Rattle.std.proofs.lemmas.List.{get_or-take, get_or-drop, get_or_default, length-take, length-drop}
-use Rattle.std.proofs.lemmas.List.Elements.{All-nil, All-head, All-tail}
+use Rattle.std.proofs.lemmas.List.{get_or-take, get_or-drop, get_or_default, length-take, length-drop, map-append}
+use Rattle.std.proofs.lemmas.List.Elements.{All-nil, All-head, All-tail, All-append, filter-append}
 use Rattle.std.proofs.lemmas.List.Sums.{sum_by-cons, sum_by_more, sum_by-take-drop}
 use Rattle.std.proofs.lemmas.Slice.Eq.{bytes_eq-Decides}
 use Rattle.ats_terms.specs.Terms.{terms, IsTerm}
@@ -17,9 +17,28 @@ use Rattle.ats_impact.specs.Numbers.{impact}
 use Rattle.ats_impact.specs.Score.{total_terms}
 use Rattle.ats_impact.proofs.Public.{occurs_few}
 use Rattle.ats_lists.specs.Postings.{text_of, count_in, posting, postings_of_run}
-use Rattle.ats_lists.specs.Gathered.{TermMap, if_some, HasEntries, HasRun}
+use Rattle.ats_lists.specs.Gathered.{Pairs, entries_for, HasEntries, HasRun}
 use Rattle.ats_lists.specs.declared.entry.Entry.{Entry}
 use Rattle.ats_lists.proofs.PostingLemmas.{run_none, run_more, run_joined}
+
+-- ---- the entries of a term
+
+pub entries_append : (term : List ℕ) (one two : Pairs) → entries_for term (one ++ two) ≡ entries_for term one ++ entries_for term two
+entries_append term one two =
+    ap (map (λ (pair : List ℕ × Entry). pair.1)) (filter-append (λ (pair : List ℕ × Entry). bytes_eq term pair.0) one two)
+    ∙ map-append (λ (pair : List ℕ × Entry). pair.1) (filter (λ pair. bytes_eq term pair.0) one) (filter (λ pair. bytes_eq term pair.0) two)
+
+one_entry : (b : Bool) (pair : List ℕ × Entry) → map (λ (p : List ℕ × Entry). p.1) (cond b (pair ∷ []) []) ≡ cond b (pair.1 ∷ []) []
+one_entry true pair = refl
+one_entry false pair = refl
+
+-- one entry more
+pub entries_push : (term : List ℕ) (gathered : Pairs) (other : List ℕ) (entry : Entry)
+    → entries_for term (gathered ++ (other, entry) ∷ []) ≡ entries_for term gathered ++ cond (bytes_eq other term) (entry ∷ []) []
+entries_push term gathered other entry =
+    entries_append term gathered ((other, entry) ∷ [])
+    ∙ ap (λ (xs : List Entry). entries_for term gathered ++ xs)
+    (one_entry (bytes_eq term other) (other, entry) ∙ ap (λ (b : Bool). cond b (entry ∷ []) []) (nat_list_eq_equiv.symm term other))
 
 -- ---- the weight of a term among pairs that rise
 
@@ -74,31 +93,23 @@ pair_within all pairs i d counts inside =
 abbrev pub so_far : (List ℕ → List Entry) → ℕ → List (List ℕ) → List (List ℕ × ℕ) → List ℕ → List Entry
 so_far before doc texts pairs term = before term ++ cond (nat_lt 0 (weight_of term pairs)) (posting texts term doc ∷ []) []
 
-some_push : {X : Type 0} (xs : List X) (x : X) → if_some (xs ++ x ∷ []) ≡ Some (xs ++ x ∷ [])
-some_push [] x = refl
-some_push (y ∷ xs) x = refl
-
-pub items_of : {X : Type 0} (xs : List X) → unwrap_or (if_some xs) [] ≡ xs
-items_of [] = refl
-items_of (x ∷ xs) = refl
-
-step_case : (ps : List Entry) (w c : ℕ) (b : Bool) (e p : Entry) (old new : Option (List Entry))
-    → old ≡ if_some (ps ++ cond (nat_lt 0 w) (p ∷ []) []) → new ≡ cond b (Some (unwrap_or old [] ++ e ∷ [])) old
-    → (b ≡ true → (w ≡ 0) × (e ≡ p)) → 0 < c → new ≡ if_some (ps ++ cond (nat_lt 0 (w + cond b c 0)) (p ∷ []) [])
+step_case : (ps : List Entry) (w c : ℕ) (b : Bool) (e p : Entry) (old new : List Entry)
+    → old ≡ ps ++ cond (nat_lt 0 w) (p ∷ []) [] → new ≡ old ++ cond b (e ∷ []) []
+    → (b ≡ true → (w ≡ 0) × (e ≡ p)) → 0 < c → new ≡ ps ++ cond (nat_lt 0 (w + cond b c 0)) (p ∷ []) []
 step_case ps w c true e p old new was gives at some =
     let none : w ≡ 0 = (at refl).0 in
     let entry : e ≡ p = (at refl).1 in
-    let before : old ≡ if_some ps = was ∙ ap (λ n. if_some (ps ++ cond (nat_lt 0 n) (p ∷ []) [])) none ∙ ap if_some (append-nil ps) in
+    let before : old ≡ ps = was ∙ ap (λ n. ps ++ cond (nat_lt 0 n) (p ∷ []) []) none ∙ append-nil ps in
     let now : nat_lt 0 (w + c) ≡ true = grind (arith, nat_tests) in
-    rw now (gives ∙ ap (λ o. Some (unwrap_or o [] ++ e ∷ [])) before ∙ ap₂ (λ xs x. Some (xs ++ x ∷ [])) (items_of ps) entry ∙ sym (some_push ps p))
-step_case ps w c false e p old new was gives at some = rw (add-zero w) (gives ∙ was)
+    rw now (gives ∙ ap₂ (λ xs x. xs ++ x ∷ []) before entry)
+step_case ps w c false e p old new was gives at some = rw (add-zero w) (gives ∙ append-nil old ∙ was)
 
 -- one pair more
-pub part_more : (before : List ℕ → List Entry) (doc : ℕ) (texts : List (List ℕ)) (pairs : List (List ℕ × ℕ)) (i : ℕ) (d : List ℕ × ℕ) (old new : List ℕ → Option (List Entry)) (e : Entry)
+pub part_more : (before : List ℕ → List Entry) (doc : ℕ) (texts : List (List ℕ)) (pairs : List (List ℕ × ℕ)) (i : ℕ) (d : List ℕ × ℕ) (old new : List ℕ → List Entry) (e : Entry)
     → Rises pairs → i < length pairs → 0 < (get_or pairs i d).1 → e ≡ posting texts (get_or pairs i d).0 doc
-    → ((term : List ℕ) → old term ≡ if_some (so_far before doc texts (take i pairs) term))
-    → ((term : List ℕ) → new term ≡ cond (bytes_eq (get_or pairs i d).0 term) (Some (unwrap_or (old term) [] ++ e ∷ [])) (old term))
-    → (term : List ℕ) → new term ≡ if_some (so_far before doc texts (take (i + 1) pairs) term)
+    → ((term : List ℕ) → old term ≡ so_far before doc texts (take i pairs) term)
+    → ((term : List ℕ) → new term ≡ old term ++ cond (bytes_eq (get_or pairs i d).0 term) (e ∷ []) [])
+    → (term : List ℕ) → new term ≡ so_far before doc texts (take (i + 1) pairs) term
 part_more before doc texts pairs i d old new e rises inside some is was gives term =
     let t : List ℕ = (get_or pairs i d).0 in
     let f : List ℕ × ℕ → ℕ = λ p. cond (bytes_eq term p.0) p.1 0 in
@@ -126,37 +137,38 @@ entry_is doc texts pairs i d e counts inside first second =
     ap₂ made first (second ∙ ap (λ c. impact c (total_terms texts) (length (terms (text_of texts doc))) (length texts)) count)
 
 -- before the first pair
-pub part_none : (before : List ℕ → List Entry) (doc : ℕ) (texts : List (List ℕ)) (map : TermMap) → HasEntries before map
-    → HasEntries (so_far before doc texts []) map
-part_none before doc texts map has = record {
-  entries = λ term. has.entries term ∙ ap if_some (sym (append-nil (before term)));
+pub part_none : (before : List ℕ → List Entry) (doc : ℕ) (texts : List (List ℕ)) (gathered : Pairs) → HasEntries before gathered
+    → HasEntries (so_far before doc texts []) gathered
+part_none before doc texts gathered has = record {
+  entries = λ term. has.entries term ∙ sym (append-nil (before term));
   terms = has.terms;
 }
 
 -- after the last
-pub part_all : (first doc : ℕ) (texts : List (List ℕ)) (pairs : List (List ℕ × ℕ)) (map : TermMap) → first ≤ doc
+pub part_all : (first doc : ℕ) (texts : List (List ℕ)) (pairs : List (List ℕ × ℕ)) (gathered : Pairs) → first ≤ doc
     → Counts (terms (text_of texts doc)) pairs
-    → HasEntries (so_far (postings_of_run first (doc - first) texts) doc texts pairs) map → HasRun first (doc + 1) texts map
-part_all first doc texts pairs map up counts has = record {
+    → HasEntries (so_far (postings_of_run first (doc - first) texts) doc texts pairs) gathered → HasRun first (doc + 1) texts gathered
+part_all first doc texts pairs gathered up counts has = record {
   entries = λ term.
       has.entries term
-      ∙ ap (λ w. if_some (postings_of_run first (doc - first) texts term ++ cond (nat_lt 0 w) (posting texts term doc ∷ []) [])) (counts.weights term)
-      ∙ ap if_some (sym (run_more first doc texts term up));
+      ∙ ap (λ w. postings_of_run first (doc - first) texts term ++ cond (nat_lt 0 w) (posting texts term doc ∷ []) []) (counts.weights term)
+      ∙ sym (run_more first doc texts term up);
   terms = has.terms;
 }
 
 -- before the first document
-pub nothing_yet : (first : ℕ) (texts : List (List ℕ)) (m : TermMap) → m ≡ [] → HasRun first first texts m
-nothing_yet first texts m empty = record {
+pub nothing_yet : (first : ℕ) (texts : List (List ℕ)) (gathered : Pairs) → gathered ≡ [] → HasRun first first texts gathered
+nothing_yet first texts gathered empty = record {
   entries = λ term. rw (empty, run_none first texts term) refl;
-  terms = rw empty (All-nil IsTerm);
+  terms = rw empty (All-nil (λ (pair : List ℕ × Entry). IsTerm pair.0));
 }
 
 -- two runs, the second one behind the first
-pub runs_joined : (first middle behind : ℕ) (texts : List (List ℕ)) (m : TermMap) → first ≤ middle → middle ≤ behind
-    → HasEntries (λ term. postings_of_run first (middle - first) texts term ++ postings_of_run middle (behind - middle) texts term) m
-    → HasRun first behind texts m
-runs_joined first middle behind texts m low high has = record {
-  entries = λ term. has.entries term ∙ ap if_some (run_joined first middle behind texts term low high);
-  terms = has.terms;
+pub runs_joined : (first middle behind : ℕ) (texts : List (List ℕ)) (one two : Pairs) → first ≤ middle → middle ≤ behind
+    → HasRun first middle texts one → HasRun middle behind texts two → HasRun first behind texts (one ++ two)
+runs_joined first middle behind texts one two low high front back = record {
+  entries = λ term.
+      entries_append term one two ∙ ap₂ (λ (xs ys : List Entry). xs ++ ys) (front.entries term) (back.entries term)
+      ∙ run_joined first middle behind texts term low high;
+  terms = All-append (λ (pair : List ℕ × Entry). IsTerm pair.0) one two front.terms back.terms;
 }

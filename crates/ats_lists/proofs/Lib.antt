@@ -3,9 +3,10 @@ mod Rising
 mod Sorting
 mod PostingLemmas
 mod VocabularyLemmas
-mod MapLemmas
-mod NumberLemmas
 mod DocumentLemmas
+mod LogLemmas
+mod NumberLemmas
+mod PartedLemmas
 mod WholeLemmas
 mod Finding
 mod ListedLemmas

@@ -29,7 +29,6 @@ use Rattle.ats_terms.proofs.Public.{counted_counts, rises_less}
 use Rattle.ats_impact.specs.Score.{count, frequency, total_terms}
 use Rattle.ats_lists.specs.Postings.{count_in, posting, postings_of_first, postings}
 use Rattle.ats_lists.specs.Lists.{vocabulary}
-use Rattle.ats_lists.specs.Gathered.{if_some}
 use Rattle.ats_lists.specs.declared.entry.Entry.{Entry}
 use Rattle.ats_lists.proofs.PostingLemmas.{postings_more, postings_none}
 
@@ -154,6 +153,11 @@ lookup_made g q (k ∷ ks) =
 pub keys_made : {X : Type 0} (g : List ℕ → X) (ks : List (List ℕ)) → map (λ (e : List ℕ × X). e.0) (map (λ k. (k, g k)) ks) ≡ ks
 keys_made g [] = refl
 keys_made g (k ∷ ks) = ap (λ t. k ∷ t) (keys_made g ks)
+
+-- a list, where it has an element
+abbrev pub if_some : {X : Type 0} → List X → Option (List X)
+if_some [] = None
+if_some (x ∷ xs) = Some (x ∷ xs)
 
 some_is : {X : Type 0} (xs : List X) → cond (nat_lt 0 (length xs)) (Some xs) None ≡ if_some xs
 some_is [] = refl

@@ -2,7 +2,8 @@
 use Rattle.std.proofs.Common.{◌≡◌, ◌≢◌, ◌<◌, ◌≤◌, ◌^◌, ℕ, true, false, List, length, get_or, map, nat_lt, sym, ap, subst, ◌∙◌, inl, inr, arith}
 use Rattle.std.specs.List.{All, IsDistinct, list_any}
 use Rattle.std.specs.List.Sorted.{IsPermutation, IsStrictlySortedBy}
-use Rattle.std.specs.Map.{keys_of}
+use Rattle.std.specs.Map.{lookup, keys_of}
+use Rattle.std.specs.BTreeMap.{is_at}
 use Rattle.std.specs.Ordering.{nat_cmp, eq_by_cmp}
 use Rattle.std.specs.Str.{bytes_eq}
 use Rattle.std.specs.declared.cmp.Ordering.TheVariants.{Less, Equal, Greater}
@@ -20,10 +21,10 @@ use Rattle.ats_terms.specs.Query.{byte_cmp}
 use Rattle.ats_impact.specs.Score.{frequency, total_terms}
 use Rattle.ats_lists.specs.Postings.{postings}
 use Rattle.ats_lists.specs.Lists.{by_impact, list, entry_cmp, vocabulary, lists_of, IsList, AreLists}
-use Rattle.ats_lists.specs.Gathered.{TermMap, if_some, HasRun, doc_cmp, AreGathered}
+use Rattle.ats_lists.specs.Gathered.{doc_cmp, AreGathered}
 use Rattle.ats_lists.specs.declared.entry.Entry.{Entry}
-use Rattle.ats_lists.proofs.PostingLemmas.{run_of_all, postings_rise, postings_below, postings_few, postings_impacts, list_is_sorted, list_rises}
-use Rattle.ats_lists.proofs.VocabularyLemmas.{vocabulary_rises, vocabulary_few, vocabulary_has, entries_are, keys_made, postings_frequency}
+use Rattle.ats_lists.proofs.PostingLemmas.{postings_rise, postings_below, postings_few, postings_impacts, list_is_sorted, list_rises}
+use Rattle.ats_lists.proofs.VocabularyLemmas.{if_some, vocabulary_rises, vocabulary_few, vocabulary_has, entries_are, keys_made, postings_frequency}
 
 -- ---- what each list keeps
 
@@ -112,30 +113,26 @@ postings_gathered texts term = record {
   impacts = postings_impacts (length texts) texts term (omega arith);
 }
 
-module _ (texts : List (List ℕ)) (m : TermMap) (ordered : IsStrictlySortedBy byte_cmp (keys_of m)) (has : HasRun 0 (length texts) texts m) where
-  -- the map has the postings of each term of the vocabulary
-  entries_is : m ≡ map (λ term. (term, postings texts term)) (vocabulary texts)
-  entries_is = entries_are texts m ordered (λ term. has.entries term ∙ ap if_some (run_of_all texts term))
+module _ (texts : List (List ℕ)) (es : List (List ℕ × List Entry)) (rises : IsStrictlySortedBy byte_cmp (keys_of es))
+    (finds : (q : List ℕ) → lookup (is_at (byte_cmp q)) es ≡ if_some (postings texts q)) where
+  -- the entries are the postings of each term of the vocabulary
+  entries_is : es ≡ map (λ term. (term, postings texts term)) (vocabulary texts)
+  entries_is = entries_are texts es rises finds
 
-  pub terms_are : All IsTerm (vocabulary texts)
-  terms_are =
-      let same : keys_of m ≡ vocabulary texts = ap (map (λ (e : List ℕ × List Entry). e.0)) entries_is ∙ keys_made (postings texts) (vocabulary texts) in
-      rw same at has.terms
-
-  pub all_gathered : All (λ e. AreGathered e.1) m
+  pub all_gathered : All (λ e. AreGathered e.1) es
   all_gathered =
       rw entries_is (All-map (λ (e : List ℕ × List Entry). AreGathered e.1) (λ term. (term, postings texts term)) (vocabulary texts) (λ k d inside.
       postings_gathered texts (get_or (vocabulary texts) k d)))
 
-  -- the map's entries, put by impact, are the lists
-  pub made_lists : map (λ e. (e.0, by_impact 2200 e.1)) m ≡ lists_of texts
+  -- put by impact, they are the lists
+  pub made_lists : map (λ e. (e.0, by_impact 2200 e.1)) es ≡ lists_of texts
   unfolding lists_of list
   made_lists =
       let sorted : List ℕ × List Entry → List ℕ × List Entry = λ e. (e.0, by_impact 2200 e.1) in
       ap (map sorted) entries_is ∙ map-map sorted (λ term. (term, postings texts term)) (vocabulary texts)
 
-  -- there are at most as many as terms
-  pub few_entries : length m ≤ total_terms texts
-  few_entries =
-      let made : List ℕ → List ℕ × List Entry = λ term. (term, postings texts term) in
-      omega (arith, ap length entries_is, length-map (vocabulary texts) made, vocabulary_few texts)
+  -- and their terms are those of the vocabulary
+  pub terms_are : All IsTerm (keys_of es) → All IsTerm (vocabulary texts)
+  terms_are all =
+      let same : keys_of es ≡ vocabulary texts = ap (map (λ (e : List ℕ × List Entry). e.0)) entries_is ∙ keys_made (postings texts) (vocabulary texts) in
+      rw same at all

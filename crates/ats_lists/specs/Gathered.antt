@@ -1,37 +1,35 @@
--- Postings that are gathered by term, document by document.
-use Rattle.std.specs.Prelude.{◌≡◌, ◌<◌, ◌≤◌, ℕ, ◌-◌, List, [], ◌∷◌, Option, Some, None, length, map, slice_index_or}
+-- Postings that are gathered with their terms, document by document.
+use Rattle.std.specs.Prelude.{◌≡◌, ◌<◌, ◌≤◌, ◌-◌, ◌+◌, ◌⊎◌, ◌==◌, ℕ, List, [], Some, length, map, filter, slice_index_or}
 use Rattle.std.specs.List.{All}
 use Rattle.std.specs.List.Sorted.{IsStrictlySortedBy}
-use Rattle.std.specs.Map.{lookup, keys_of}
-use Rattle.std.specs.BTreeMap.{BTreeMap, get, is_at}
+use Rattle.std.specs.BTreeMap.{BTreeMap, get}
 use Rattle.std.specs.Ordering.{nat_cmp}
+use Rattle.std.specs.Str.{bytes_eq}
 use Rattle.std.specs.declared.cmp.Ordering.{Ordering}
+use Rattle.ats_terms.specs.Front.{front, AreBytes}
 use Rattle.ats_terms.specs.Terms.{IsTerm}
 use Rattle.ats_terms.specs.Query.{byte_cmp}
 use Rattle.ats_lists.specs.Postings.{postings_of_run}
 use Rattle.ats_lists.specs.declared.entry.Entry.{Entry}
+use Rattle.ats_lists.specs.declared.numbering.Slot.{Slot}
+use Rattle.ats_lists.specs.declared.gathering.Logged.{Logged}
 
--- terms in byte order, each with its entries
-abbrev pub TermMap : Type 0
-TermMap = List (List ℕ × List Entry)
+-- entries with their terms, in the order in which they came
+abbrev pub Pairs : Type 0
+Pairs = List (List ℕ × Entry)
 
--- the entries of a term, where it has some
-abbrev pub entries_at : TermMap → List ℕ → Option (List Entry)
-entries_at map term = lookup (is_at (byte_cmp term)) map
+-- the entries of a term, in order
+abbrev pub entries_for : List ℕ → Pairs → List Entry
+entries_for term pairs = map (λ pair. pair.1) (filter (λ pair. bytes_eq term pair.0) pairs)
 
--- a list, where it has an element
-abbrev pub if_some : {X : Type 0} → List X → Option (List X)
-if_some [] = None
-if_some (x ∷ xs) = Some (x ∷ xs)
+-- the pairs have these entries for each term
+pub record HasEntries (of : List ℕ → List Entry) (pairs : Pairs) : Type 0 where
+  pub entries : (term : List ℕ) → entries_for term pairs ≡ of term
+  pub terms : All (λ pair. IsTerm pair.0) pairs
 
--- the map has these entries for each term that has some
-pub record HasEntries (of : List ℕ → List Entry) (map : TermMap) : Type 0 where
-  pub entries : (term : List ℕ) → entries_at map term ≡ if_some (of term)
-  pub terms : All IsTerm (keys_of map)
-
--- the map has the postings of the documents from the first one up to the one behind the last
-abbrev pub HasRun : ℕ → ℕ → List (List ℕ) → TermMap → Type 0
-HasRun first behind texts map = HasEntries (postings_of_run first (behind - first) texts) map
+-- the pairs have the postings of the documents from the first one up to the one behind the last
+abbrev pub HasRun : ℕ → ℕ → List (List ℕ) → Pairs → Type 0
+HasRun first behind texts pairs = HasEntries (postings_of_run first (behind - first) texts) pairs
 
 -- by document
 abbrev pub doc_cmp : Entry → Entry → Ordering
@@ -44,23 +42,48 @@ pub record AreGathered (entries : List Entry) : Type 0 where
 
 -- ---- terms by number
 
--- the number of each term
-abbrev pub Numbers : Type 0
-Numbers = BTreeMap (List ℕ) ℕ
+-- the term of a number
+abbrev pub term_of : List (List ℕ) → ℕ → List ℕ
+term_of terms n = slice_index_or terms n []
 
--- the term of a number, with its entries
-abbrev pub numbered : List (List ℕ × List Entry) → ℕ → List ℕ × List Entry
-numbered lists n = slice_index_or lists n ([], [])
+-- the numbers are the places of the terms: each term has that of its own, and nothing else has one
+pub record AreNumbersOf (terms : List (List ℕ)) (numbers : BTreeMap (List ℕ) ℕ) : Type 0 where
+  pub each : (n : ℕ) → n < length terms → get byte_cmp numbers (term_of terms n) ≡ Some n
+  pub only : (term : List ℕ) (n : ℕ) → get byte_cmp numbers term ≡ Some n → (n < length terms) × (term_of terms n ≡ term)
 
--- terms with their numbers, each with the entries of its number instead
-abbrev pub with_entries : List (List ℕ × List Entry) → List (List ℕ × ℕ) → TermMap
-with_entries lists pairs = map (λ pair. (pair.0, (numbered lists pair.1).1)) pairs
+-- a slot of the cache is that of the term with its number
+pub record IsSlotOf (terms : List (List ℕ)) (slot : Slot) : Type 0 where
+  pub inside : slot.number < length terms
+  pub first : slot.first ≡ front 8 (term_of terms slot.number)
+  pub size : slot.size ≡ length (term_of terms slot.number) + 1
+  pub bytes : AreBytes (term_of terms slot.number)
 
--- the entries of each term that has a number
-abbrev pub gathered : Numbers → List (List ℕ × List Entry) → TermMap
-gathered numbers lists = with_entries lists numbers.entries
+-- each slot is empty or a term's
+abbrev pub AreSlotsOf : List (List ℕ) → List Slot → Type 0
+AreSlotsOf terms slots = All (λ slot. (slot.size ≡ 0) ⊎ IsSlotOf terms slot) slots
 
--- the numbers are those of the lists: each list stands at the number of its term, and no other terms have one
-pub record AreNumbersOf (lists : List (List ℕ × List Entry)) (numbers : Numbers) : Type 0 where
-  pub each : (n : ℕ) → n < length lists → get byte_cmp numbers (numbered lists n).0 ≡ Some n
-  pub only : (term : List ℕ) (n : ℕ) → get byte_cmp numbers term ≡ Some n → (n < length lists) × ((numbered lists n).0 ≡ term)
+-- ---- entries under the numbers of their terms
+
+-- the entries with the terms of their numbers
+abbrev pub pairs_of : List (List ℕ) → List Logged → Pairs
+pairs_of terms log = map (λ logged. (term_of terms logged.number, logged.entry)) log
+
+-- the entries under a number, in order
+abbrev pub entries_under : ℕ → List Logged → List Entry
+entries_under n log = map (λ logged. logged.entry) (filter (λ logged. logged.number == n) log)
+
+-- each number is that of a term, and each term has an entry
+pub record IsLogOf (terms : List (List ℕ)) (log : List Logged) : Type 0 where
+  pub inside : All (λ logged. logged.number < length terms) log
+  pub used : (n : ℕ) → n < length terms → (i : ℕ) × (i < length log) × ((d : Logged) → (slice_index_or log i d).number ≡ n)
+
+-- the numbers that the first i of another run's terms have among the new ones, where the old ones keep theirs
+pub record AreNewNumbers (old others new : List (List ℕ)) (i : ℕ) (numbers : List ℕ) : Type 0 where
+  pub size : length numbers ≡ i
+  pub kept : (n : ℕ) → n < length old → (n < length new) × (term_of new n ≡ term_of old n)
+  pub right : (j : ℕ) → j < i → (slice_index_or numbers j 0 < length new) × (term_of new (slice_index_or numbers j 0) ≡ term_of others j)
+  pub used : (n : ℕ) → n < length new → (n < length old) ⊎ ((j : ℕ) × (j < i) × (slice_index_or numbers j 0 ≡ n))
+
+-- an entry under its new number
+abbrev pub renumbered : List ℕ → Logged → Logged
+renumbered numbers logged = record { number = slice_index_or numbers logged.number 0; entry = logged.entry }

@@ -77,7 +77,7 @@ impl<'a> ListsBuilder<'a> {
             first,
             behind,
         } = self;
-        let gathered = gathered.add_document(alloc, collection, behind, counts)?;
+        let gathered = gathered.add_document(collection, behind, counts)?;
         Ok(ListsBuilder {
             alloc,
             collection,
@@ -131,8 +131,6 @@ impl<'a> ListsBuilder<'a> {
             first: _,
             behind: _,
         } = self;
-        // A list for each distinct term, so that 32 bits count the lists.
-        prove!(gathered.len() <= collection.total() as usize);
-        Ok(Lists::new(gathered.sorted(alloc)?))
+        Ok(Lists::new(gathered.sorted(alloc, collection)?))
     }
 }

@@ -73,7 +73,8 @@ impl Eq for Key {
 impl PartialOrd for Key {
     ghost partial_cmp = { λ x y. Some (byte_cmp x y) };
 
-    ghost laws = { partial_order_from_agreeing_total byte_cmp nat_list_cmp_total (λ x y. refl) (λ x y. sym (is_eq-slice_cmp x y)) };
+    ghost laws = { partial_order_from_agreeing_total byte_cmp nat_list_cmp_total
+        (λ x y. refl) (λ x y. sym (is_eq-slice_cmp x y)) };
 
     fn partial_cmp(&self, other: &Self) -> Option<Ordering> {
         Some(self.cmp(other))

@@ -4,7 +4,7 @@
 //! ascending, so that the first entries of a list bound all later ones.
 //! The room stands on the collections and impacts of `ats_impact`, and on the trees of `ats_tree`, whose
 //! leaves a list lends. The contracts promise that [`Lists::of`] answers exactly the lists that the plain
-//! counts over the texts give, in byte order of the terms, that a term is found exactly where it has a
+//! counts over the texts give, in byte order of the terms. They promise that a term is found exactly where it has a
 //! list, and the bytes of each leaf. How postings are gathered, sorted and kept may change without asking.
 //!
 //! ```
@@ -18,6 +18,7 @@
 #![tactic(auto)]
 
 mod building;
+mod entries;
 mod entry;
 mod gathering;
 mod key;
@@ -25,6 +26,7 @@ mod laws;
 mod leaves;
 mod lists;
 mod memory;
+mod numbering;
 mod term_list;
 
 pub use building::ListsBuilder;

@@ -1,13 +1,8 @@
 //! A term with its entries.
 
-ghost use Rattle.std.specs.Prelude.{◌≡◌, ◌++◌, IfOk, OnOk};
-ghost use Rattle.ats_lists.specs.Gathered.{AreGathered};
-ghost use Rattle.ats_lists.specs.Lists.{by_impact};
+ghost use Rattle.std.specs.Prelude.{◌≡◌};
 
 use crate::entry::Entry;
-use crate::memory::OutOfMemory;
-use std::alloc::Global;
-use std::cmp::Reverse;
 use std::marker::Model;
 
 /// A term with its entries.
@@ -43,23 +38,5 @@ impl TermList {
         ensures { result.now ≡ self.now.1 }
     {
         self.entries.as_slice()
-    }
-
-    /// Puts entries behind those of the term.
-    pub(crate) fn extend(&mut self, more: &[Entry]) -> Result<(), OutOfMemory>
-        ensures { OnOk result (self.new ≡ (self.old.0, self.old.1 ++ more.now)) }
-    {
-        self.entries.extend_from_slice(more)?;
-        Ok(())
-    }
-
-    /// The entries by impact descending, then document ascending.
-    pub(crate) fn sorted(&self, alloc: Global) -> Result<Vec<Entry>, OutOfMemory>
-        requires { AreGathered self.now.1 }
-        ensures { IfOk result (λ sorted. sorted.items ≡ by_impact 2200 self.now.1) }
-    {
-        let mut sorted = Vec::from_slice(alloc, &self.entries)?;
-        sorted.sort_by_key(|entry| (Reverse(entry.impact), entry.doc))?;
-        Ok(sorted)
     }
 }

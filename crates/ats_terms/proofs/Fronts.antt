@@ -1,11 +1,12 @@
 -- Terms that are compared by the numbers of their first bytes.
-use Rattle.std.proofs.Common.{◌≡◌, ◌≢◌, ◌<◌, ◌+◌, ◌*◌, ℕ, zero, suc, List, [], ◌∷◌, ◌++◌, get_or, replicate, refl, sym, ap, ap₂, subst, ◌∙◌, inl, inr, arith}
+use Rattle.std.proofs.Common.{◌≡◌, ◌≢◌, ◌<◌, ◌≤◌, ◌+◌, ◌*◌, ℕ, zero, suc, List, [], ◌∷◌, ◌++◌, length, get_or, replicate, refl, sym, ap, ap₂, subst, ◌∙◌, inl, inr, arith}
 use Rattle.std.specs.Ordering.{nat_cmp, ordering_reverse}
 use Rattle.std.specs.declared.cmp.Ordering.{Ordering}
 use Rattle.std.specs.declared.cmp.Ordering.TheVariants.{Less, Equal, Greater}
 use Rattle.std.proofs.lemmas.Bool.{cases_lt}
 use Rattle.std.proofs.lemmas.Bool.Decides.{nat_tests}
 use Rattle.std.proofs.lemmas.Cmp.{nat_cmp_total, nat_list_cmp_total, tied_itself}
+use Rattle.std.proofs.lemmas.List.{get_or_default, same_lists}
 use Rattle.byteorder.specs.Endian.{big_number}
 use Rattle.ats_terms.specs.Front.{front, AreBytes}
 use Rattle.ats_terms.specs.Query.{byte_cmp}
@@ -81,3 +82,8 @@ front_decides n x y xs ys Equal is other = absurd (other refl)
 front_decides n x y xs ys Greater is other =
     let above : front n y < front n x = grind (arith, nat_tests) in
     sym (nat_list_cmp_total.antisymm x y ∙ ap ordering_reverse (front_less n y x ys xs above))
+
+-- terms of n bytes at most with one number and one length are the same
+pub front_tells : (n : ℕ) (x y : List ℕ) → AreBytes x → AreBytes y → length x ≤ n → length x ≡ length y → front n x ≡ front n y → x ≡ y
+front_tells n x y xs ys few size same = same_lists x y size (λ k d inside.
+    get_or_default x k d 0 inside ∙ same_bytes n x y xs ys same k (omega arith) ∙ sym (get_or_default y k d 0 (omega arith)))

@@ -38,3 +38,5 @@ pub use Rattle.ats_terms.proofs.Unique.{weight_absent}
 pub use Rattle.ats_terms.proofs.Unique.{weight_at}
 -- where the numbers of the first bytes of two terms differ, the terms compare as they do
 pub use Rattle.ats_terms.proofs.Fronts.{front_decides}
+-- terms of n bytes at most with one length are the same where the numbers of their first n bytes are
+pub use Rattle.ats_terms.proofs.Fronts.{front_tells}

@@ -1,5 +1,4 @@
-use Rattle.std.proofs.Common.{◌≡◌, ◌≤◌, ◌-◌, ℕ, List, sym, ap, subst, ◌∙◌, arith}
-use Rattle.ats_lists.specs.Postings.{postings_of_run}
+use Rattle.std.proofs.Common.{◌≡◌, ◌≤◌, ℕ, List, sym, ap, subst, ◌∙◌, arith}
 use Rattle.ats_lists.specs.Gathered.{HasRun}
 use Rattle.ats_lists.proofs.DocumentLemmas.{runs_joined}
 use Rattle.ats_lists.proofs.building.ListsBuilder.join.Goals as goal
@@ -20,6 +19,5 @@ invariant_of-result c =
     subst (λ t. HasRun middle behind t c.next.inside.gathered) same (subst (λ k. HasRun k behind c.next.inside.collection.now c.next.inside.gathered) place c.next.invariant.2) in (
       omega (arith, low, high),
       c.next.invariant.1,
-      runs_joined first middle behind texts c.in_ok-gathered.gathered low high
-          (c.in_ok-gathered.ensures (postings_of_run first (middle - first) texts) (postings_of_run middle (behind - middle) texts) c.self.invariant.2 more),
+      rw c.in_ok-gathered.ensures (runs_joined first middle behind texts c.self.inside.gathered c.next.inside.gathered low high c.self.invariant.2 more),
     )

@@ -1,54 +1,79 @@
-use Rattle.std.proofs.Common.{◌≡◌, ◌<◌, ◌∷◌, [], ℕ, List, length, refl, ap, ◌∙◌, arith, append_assoc}
+use Rattle.std.proofs.Common.{◌≡◌, ◌<◌, ◌∷◌, [], ℕ, List, length, get_or, sym, ap, subst, ◌∙◌, arith, append_assoc}
 use Rattle.std.specs.List.{All}
+use Rattle.std.specs.BTreeMap.{BTreeMap}
 use Rattle.std.proofs.lemmas.List.{get_or_default}
 use Rattle.std.proofs.lemmas.List.Elements.{All-head, All-tail}
-use Rattle.ats_lists.specs.Gathered.{numbered, with_entries, AreGathered}
+use Rattle.ats_lists.specs.Gathered.{Pairs, entries_under, pairs_of, HasRun, AreGathered, AreNumbersOf}
 use Rattle.ats_lists.specs.Lists.{by_impact}
 use Rattle.ats_lists.specs.declared.entry.Entry.{Entry}
-use Rattle.ats_lists.proofs.NumberLemmas.{all_within}
+use Rattle.ats_lists.specs.declared.gathering.Logged.{Logged}
+use Rattle.ats_lists.proofs.LogLemmas.{parted, found}
+use Rattle.ats_lists.proofs.PartedLemmas.{parted_gathered, parted_lists, parted_terms, parted_within, found_is}
+use Rattle.ats_lists.proofs.WholeLemmas.{lists_keep}
 use Rattle.ats_lists.proofs.gathering.Gathered.sorted.Goals as goal
 
 pub loop-key-init : goal.loop-key-init
 loop-key-init c =
-    let g = c.self.inside in
-    let all : c.into_iter-key-iterator.result ≡ g.numbers.entries = c.into_iter-key-iterator.ensures.into_iter_gives.0 in
-    let seen : with_entries g.lists.items c.into_iter-key-iterator.result ≡ c.args.self = ap (with_entries g.lists.items) all ∙ c.self.view_is in
+    let texts : List (List ℕ) = c.args.collection.now in
+    let terms : List (List ℕ) = c.self.inside.numbering in
+    let log : List Logged = c.self.inside.log.items in
+    let lists : List (List Entry) = c.in_ok-lists.lists.items in
+    let numbers : BTreeMap (List ℕ) ℕ = c.into_numbers-numbers.result in
+    let are : AreNumbersOf terms numbers = c.into_numbers-numbers.ensures in
+    let gives = c.into_iter-key-iterator.ensures.into_iter_gives in
+    let has : HasRun 0 (length texts) texts (pairs_of terms log) =
+    subst (λ (pairs : Pairs). HasRun 0 (length texts) texts pairs) (sym c.self.view_is) c.requires in
+    let size : length lists ≡ length terms = c.in_ok-lists.ensures.size ∙ c.len.ensures in
+    let entries : (n : ℕ) → n < length terms → get_or lists n [] ≡ entries_under n log =
+    λ n inside. c.in_ok-lists.ensures.entries n (omega (arith, inside, c.len.ensures)) ∙ ap (entries_under n) c.deref.ensures.value in
+    let seen : found lists c.into_iter-key-iterator.result ≡ parted numbers log =
+    ap (found lists) gives.0 ∙ found_is texts terms numbers log are c.self.invariant gives.5 has lists entries in
     record {
-      whole = rw (c.in_ok-sorted.ensures.items, seen) refl;
-      gathered = rw seen c.requires;
-      within = rw all (all_within g.numbers g.lists.items c.self.invariant c.into_iter-key-iterator.ensures.into_iter_gives.5);
+      whole = rw (c.in_ok-sorted.ensures.items, seen) (parted_lists texts terms numbers log are c.self.invariant gives.5 has);
+      gathered = rw seen (parted_gathered texts terms numbers log are c.self.invariant gives.5 has);
+      within = rw (gives.0, size) (parted_within texts terms numbers log are c.self.invariant gives.5 has);
     }
 
 pub index-requires : goal.index-requires
 index-requires c =
     let step : c.loop-key.key-iterator ≡ (c.in-Some.key, c.in-Some.n) ∷ c.next.new.self = c.in-Some.ensures.steps in
-    let lists : List (List ℕ × List Entry) = c.self.inside.lists.items in
+    let lists : List (List Entry) = c.in_ok-lists.lists.items in
     let inside : c.in-Some.n < length lists =
     All-head (λ (pair : List ℕ × ℕ). pair.1 < length lists) (c.in-Some.key, c.in-Some.n) c.next.new.self (rw step at c.loop-key.invariant.within) in
-    omega (arith, inside, c.self.inside.lists.ok.0)
+    omega (arith, inside, c.in_ok-lists.lists.ok.0)
 
 pub sorted-requires : goal.sorted-requires
 sorted-requires c =
     let step : c.loop-key.key-iterator ≡ (c.in-Some.key, c.in-Some.n) ∷ c.next.new.self = c.in-Some.ensures.steps in
-    let lists : List (List ℕ × List Entry) = c.self.inside.lists.items in
+    let lists : List (List Entry) = c.in_ok-lists.lists.items in
     let inside : c.in-Some.n < length lists =
     All-head (λ (pair : List ℕ × ℕ). pair.1 < length lists) (c.in-Some.key, c.in-Some.n) c.next.new.self (rw step at c.loop-key.invariant.within) in
-    rw (c.index.ensures, get_or_default lists c.in-Some.n c.index.result.now ([], []) inside)
-    (All-head (λ (e : List ℕ × List Entry). AreGathered e.1) (c.in-Some.key, (numbered lists c.in-Some.n).1) (with_entries lists c.next.new.self)
+    rw (c.index.ensures, get_or_default lists c.in-Some.n c.index.result.now [] inside)
+    (All-head (λ (e : List ℕ × List Entry). AreGathered e.1) (c.in-Some.key, get_or lists c.in-Some.n []) (found lists c.next.new.self)
     (rw step at c.loop-key.invariant.gathered))
 
 pub loop-key-preserved : goal.loop-key-preserved
 loop-key-preserved c =
     let step : c.loop-key.key-iterator ≡ (c.in-Some.key, c.in-Some.n) ∷ c.next.new.self = c.in-Some.ensures.steps in
-    let lists : List (List ℕ × List Entry) = c.self.inside.lists.items in
+    let lists : List (List Entry) = c.in_ok-lists.lists.items in
     let within : All (λ pair. pair.1 < length lists) ((c.in-Some.key, c.in-Some.n) ∷ c.next.new.self) = rw step at c.loop-key.invariant.within in
     let inside : c.in-Some.n < length lists = All-head (λ (pair : List ℕ × ℕ). pair.1 < length lists) (c.in-Some.key, c.in-Some.n) c.next.new.self within in
-    let list : c.index.result.now ≡ numbered lists c.in-Some.n = c.index.ensures ∙ get_or_default lists c.in-Some.n c.index.result.now ([], []) inside in
-    let entries : c.in_ok-entries.entries.items ≡ by_impact 2200 (numbered lists c.in-Some.n).1 =
-    c.in_ok-entries.ensures ∙ ap (λ (l : List ℕ × List Entry). by_impact 2200 l.1) list in
+    let entries : c.in_ok-entries.entries.items ≡ by_impact 2200 (get_or lists c.in-Some.n []) =
+    c.in_ok-entries.ensures ∙ ap (by_impact 2200) (c.index.ensures ∙ get_or_default lists c.in-Some.n c.index.result.now [] inside) in
     record {
       whole = rw (c.in_ok-push.ensures.items, c.new.ensures, c.into_term.ensures, entries, append_assoc) (rw step at c.loop-key.invariant.whole);
-      gathered = All-tail (λ (e : List ℕ × List Entry). AreGathered e.1) (c.in-Some.key, (numbered lists c.in-Some.n).1) (with_entries lists c.next.new.self)
+      gathered = All-tail (λ (e : List ℕ × List Entry). AreGathered e.1) (c.in-Some.key, get_or lists c.in-Some.n []) (found lists c.next.new.self)
           (rw step at c.loop-key.invariant.gathered);
       within = All-tail (λ (pair : List ℕ × ℕ). pair.1 < length lists) (c.in-Some.key, c.in-Some.n) c.next.new.self within;
     }
+
+pub returns-clause-lists : goal.returns-clause-lists
+returns-clause-lists c =
+    let texts : List (List ℕ) = c.args.collection.now in
+    let terms : List (List ℕ) = c.self.inside.numbering in
+    let log : List Logged = c.self.inside.log.items in
+    let has : HasRun 0 (length texts) texts (pairs_of terms log) =
+    subst (λ (pairs : Pairs). HasRun 0 (length texts) texts pairs) (sym c.self.view_is) c.requires in
+    lists_keep texts (omega (arith, c.total.ensures.value, c.total.ensures.few))
+    (parted_terms texts terms c.into_numbers-numbers.result log c.into_numbers-numbers.ensures c.self.invariant
+    c.into_iter-key-iterator.ensures.into_iter_gives.5 has)
