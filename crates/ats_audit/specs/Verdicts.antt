@@ -46,8 +46,8 @@ TellsCollision H (BadShape fault) = ⊥
 TellsCollision H (Refused refusal) = ⊥
 TellsCollision H (Right rows) = ⊥
 
--- The headline, as an audit tells it: for every archive with this root, the rows are right for its texts, or the audit of
--- the bytes against that archive answers two different strings with equal digests.
+-- The headline, as an audit tells it. For every archive with this root, the rows are right for its texts, or the audit
+-- of the bytes against that archive answers two different strings with equal digests.
 abbrev pub IsTopOrTold : (List ℕ → List ℕ) → List ℕ → List (List ℕ × ℕ) → ℕ → List ℕ → Proof → Type 0
 IsTopOrTold H root query r bytes proof = (archive : Archive) → AreTexts archive.texts → root_of H archive ≡ root
     → AreRight archive.texts query r (rows_of query proof) ⊎ ((verdict : Verdict) → IsVerdict H archive query r bytes verdict → TellsCollision H verdict)

@@ -1,16 +1,16 @@
 //! Work to be timed by the scripts under `bench/`: takes words, does one kind of work, and prints a count.
 //!
-//! `nodes COUNT` hashes so many inner nodes of a tree, each of 65 bytes with its tag, and prints how many digests
-//! were counted; `read ENTRIES TIMES` writes a proof that shows so many entries of lists, reads it so many times, and
-//! prints how many items were read in all; `feed ENTRIES PIECE TIMES` feeds that proof so many times in pieces of so
-//! many bytes, and prints how many bytes were fed; `digest ENTRIES TIMES` hashes the bytes of that proof so many times,
-//! and prints how many digests were counted; `walk ALGORITHM ROWS TEXTS QUERIES` walks for each query of a file over
-//! the texts of another, both a line each, and prints for each the rows, the entries that are shown, the documents
-//! among them, and the microseconds of the walk and of one pass over these entries; `check ROWS QUERY PROOF TIMES`
-//! checks the proof of a file so many times, and prints how many steps were counted; `strings SIZES TIMES` hashes a
-//! string for each byte of a file, which is its size, so many times over, and prints how many digests were counted;
+//! `nodes COUNT` hashes so many inner nodes of a tree, each of 65 bytes with its tag, and prints how many digests were
+//! counted. `read ENTRIES TIMES` writes a proof that shows so many entries of lists, reads it so many times, and prints
+//! how many items were read in all. `feed ENTRIES PIECE TIMES` feeds that proof so many times in pieces of so many
+//! bytes, and prints how many bytes were fed. `digest ENTRIES TIMES` hashes the bytes of that proof so many times, and
+//! prints how many digests were counted. `walk ALGORITHM ROWS TEXTS QUERIES` walks for each query of a file over the
+//! texts of another, both a line each. It prints for each query the rows, the entries that are shown, the documents
+//! among them, and the microseconds of the walk and of one pass over these entries. `check ROWS QUERY PROOF TIMES`
+//! checks the proof of a file so many times, and prints how many steps were counted. `strings SIZES TIMES` hashes a
+//! string for each byte of a file, which is its size, so many times over, and prints how many digests were counted.
 //! `audit INDEX ROWS QUERY PROOF TIMES` checks the proof of a file so many times and audits it against the index of
-//! another, and prints for each time the microseconds of the check and of the audit.
+//! another. It prints for each time the microseconds of the check and of the audit.
 //! `build TEXTS TIMES` builds the index of a file's texts, a line each, by one thread and by several, and loads it, so
 //! many times, and prints for each time the microseconds of the three.
 //! The program promises nothing that the rooms below it do not promise. Each kind of work may change as a script

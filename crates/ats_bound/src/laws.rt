@@ -52,8 +52,9 @@ pub fn settled_answers_are_top()
         → IsSettled brackets picks (threshold (cut_of lanes)) r → IsTopBy n score r (answer_of brackets picks) }
 {}
 
-/// A walk ends at one cut with one answer, however brackets are formed: whole lists have one first settled
-/// cut, a cut has one list of brackets, and brackets of distinct documents have one chosen answer.
+/// A walk ends at one cut with one answer, however brackets are formed. However they are formed, whole
+/// lists have one first settled cut, a cut has one list of brackets, and brackets of distinct documents
+/// have one chosen answer.
 pub fn walks_end_at_one_cut()
     ensures cut { (bounds : Bounding) (lanes : List WholeLane) (r : ℕ) (a b : List ℕ)
         → IsFirstSettledBy bounds lanes r a → IsFirstSettledBy bounds lanes r b → a ≡ b }

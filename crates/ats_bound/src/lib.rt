@@ -5,12 +5,12 @@
 //! these bounds alone show that it is right. The room stands on the entries of `ats_lists`, the number of
 //! rows of `ats_impact` and the steps of `ats_hash`. A walk shows the lists further, turn by turn, until an
 //! answer is settled: as [`Running`] it bounds scores by the shown entries alone, as [`Scored`] it is given
-//! them. The contracts promise that [`settled`] answers exactly the rules of a settled answer, that what
-//! [`choose`] answers is settled wherever any answer is, that each walk of whole lists ends, at one cut with
-//! one answer, that it takes the turns of one schedule and tells at each cut exactly whether that answer is
-//! settled there, that a settled answer is a top answer wherever the brackets hold the scores, and that a
-//! [`Work`] begins with marks that say nothing. How places are looked up, brackets sorted, what is known
-//! kept and open answers found may change unasked.
+//! them. The contracts promise that [`settled`] answers exactly the rules of a settled answer, and that what
+//! [`choose`] answers is settled wherever any answer is. They promise that each walk of whole lists ends, at
+//! one cut with one answer. They promise that such a walk takes the turns of one schedule and tells at each
+//! cut exactly whether that answer is settled there. They promise that a settled answer is a top answer
+//! wherever the brackets hold the scores, and that a [`Work`] begins with marks that say nothing. How places
+//! are looked up, brackets sorted, what is known kept and open answers found may change unasked.
 //!
 //! ```
 //! use ats_impact::Top;

@@ -11,7 +11,7 @@ use std::collections::HashMap;
 ///
 /// A page has the slots of 64 documents with neighbouring numbers side by side, each as the number above
 /// it, and 0 for none. So all slots of a collection take little more room than their numbers, and finding
-/// one reads little of it: with a map from each document to its slot most of a walk was waiting for memory.
+/// one reads little of it. With a map from each document to its slot most of a walk was waiting for memory.
 #[derive(Drop)]
 pub(crate) struct Pages {
     pub(crate) pages: HashMap<u32, [u32; 64]>,

@@ -27,7 +27,7 @@ use std::marker::Model;
 /// A walk that bounds scores by the shown entries alone, where it stands in the schedule.
 ///
 /// It is seen as its whole lists, the number of rows and its cut. What is known of each met document is
-/// kept from cut to cut, so that one entry more costs little, and a slot that shows that no answer is
+/// kept from cut to cut, so that one entry more costs little. A slot that shows that no answer is
 /// settled is remembered as long as it does.
 #[derive(Drop)]
 pub struct Running<'a> {

@@ -7,8 +7,8 @@ use Rattle.ats_client.specs.Groups.{IsDictionary, AreSlotsRight, IsListRooted}
 use Rattle.ats_client.specs.Documents.{IsDocsTree, IsTermsTree, met_documents}
 use Rattle.ats_client.specs.Presented.{presented}
 
--- the header stands for the root; the dictionary and the documents rebuild to roots of the header, each list to the root of
--- its term's shown leaf, which the slots find, and each document's terms to the root of its shown leaf
+-- The header stands for the root. The dictionary and the documents rebuild to roots of the header. Each list rebuilds
+-- to the root of its term's shown leaf, which the slots find, and each document's terms to the root of its shown leaf.
 pub record AreRooted (H : List ℕ → List ℕ) (root : List ℕ) (query : List (List ℕ × ℕ)) (proof : Proof) : Type 0 where
   pub header : header_root H (layout_of proof) proof.header ≡ root
   pub dictionary : IsDictionary H proof

@@ -9,8 +9,9 @@ use Rattle.ats_client.specs.Documents.{IsDocsTree, IsTermsTree, met_documents}
 use Rattle.ats_client.specs.Groups.{IsDictionary, AreSlotsRight, AreListsRight}
 use Rattle.ats_client.specs.declared.clashing.Clash.{Clash}
 
--- there is a slot for each term of the query, which shows it; the dictionary and the documents rebuild to roots of the
--- header, each list to the root of its term's shown leaf, and each document's terms to the root of its shown leaf
+-- There is a slot for each term of the query, which shows it. The dictionary and the documents rebuild
+-- to roots of the header. Each list rebuilds to the root of its term's shown leaf, and each document's
+-- terms to the root of its shown leaf.
 pub record AreRebuilt (H : List ℕ → List ℕ) (query : List (List ℕ × ℕ)) (proof : Proof) : Type 0 where
   pub count : length proof.slots ≡ length query
   pub dictionary : IsDictionary H proof

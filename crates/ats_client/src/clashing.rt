@@ -43,10 +43,10 @@ pub struct Clash {
     pub theirs: HashedString,
 }
 
-/// The first clash between an archive's own strings and those that rebuilding a proof hashes: the header's
-/// string comes first, then those of the dictionary, of each shown list in the order of terms, of the documents
-/// tree, and of each met document's terms. Sections that are all the archive's own are not hashed; where there is
-/// no memory for comparing them, they are.
+/// The first clash between an archive's own strings and those that rebuilding a proof hashes. The header's string
+/// comes first, then those of the dictionary, of each shown list in the order of terms, of the documents tree,
+/// and of each met document's terms. Sections that are all the archive's own are not hashed; where there is no
+/// memory for comparing them, they are.
 pub fn first_clash<'a, H: Hash32, O: OwnStrings<H>>(
     alloc: Global,
     own: &O,

@@ -20,9 +20,9 @@ ghost use Rattle.ats_client.specs.Headline.{AreRight, IsTopOrCollides};
 
 use ats_hash::HashKind;
 
-/// Where the sections of a proof, by either algorithm, rebuild to the roots that are told for them, from the root
-/// of an archive down, all that they show is the archive's own, or the first string of the proof that differs
-/// from the archive's has an equal digest; `extract` finds that string.
+/// Let the sections of a proof, by either algorithm, rebuild to the roots that are told for them, from the root
+/// of an archive down. Then all that they show is the archive's own, or the first string of the proof that
+/// differs from the archive's has an equal digest. And `extract` finds that string.
 pub fn rebuilt_sections_are_bound<H: HashKind>()
     ensures bound { (archive : Archive) (query : List (List ℕ × ℕ)) (bytes : List ℕ) (proof : Proof)
         → AreTexts archive.texts → IsQuery query

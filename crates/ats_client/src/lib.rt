@@ -8,8 +8,8 @@
 //! first place where one of them is another string than the proof's with an equal digest.
 //! The room stands on the proof that `ats_proof` sees in its bytes, on the trees of `ats_tree`, and on the
 //! cuts and settled answers of `ats_bound`. It promises that a proof is accepted exactly where all rules of
-//! `specs/Accepts.antt` hold, else refused by the first that fails, and that an accepted answer is a top
-//! answer for each archive with the root, or two different strings with equal digests are in hand
+//! `specs/Accepts.antt` hold, else refused by the first that fails. It promises that an accepted answer is a
+//! top answer for each archive with the root, or two different strings with equal digests are in hand
 //! (`specs/Headline.antt`). In which passes leaves and entries are read, and what the marks note beside the
 //! bounds, may change without asking.
 //!

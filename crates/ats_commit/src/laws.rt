@@ -90,9 +90,9 @@ pub fn own_headers_are_read<H: HashKind>()
         → IsHeaderOf H.hash archive header }
 {}
 
-/// A leaf whose bytes are those of the archive's own says of its lists what its parts say: a term's leaf in
-/// the dictionary how many entries its list has and with which root, two neighbours that no text has a term
-/// between theirs, and a leaf of a list which posting stands there.
+/// A leaf whose bytes are those of the archive's own says of its lists what its parts say. A term's leaf in
+/// the dictionary says how many entries its list has and with which root. Two neighbours say that no text
+/// has a term between theirs, and a leaf of a list says which posting stands there.
 pub fn own_leaves_tell_lists<H: HashKind>()
     ensures entry { (archive : Archive) (p : ℕ) (entry : DictEntry) → AreTexts archive.texts → IsTerm entry.term
         → entry.f < 2 ^ 32
@@ -109,10 +109,10 @@ pub fn own_leaves_tell_lists<H: HashKind>()
         → slice_get (list texts term) i ≡ Some entry }
 {}
 
-/// A leaf whose bytes are those of the texts' own says of a document what its parts say: its leaf in the
-/// documents tree how many leaves the document's terms tree has and with which root, a term's leaf of that
-/// tree that the document has the term, with its impact, and two neighbours that the document has no term
-/// between theirs.
+/// A leaf whose bytes are those of the texts' own says of a document what its parts say. The document's
+/// leaf in the documents tree says how many leaves the document's terms tree has and with which root. A
+/// term's leaf of the terms tree says that the document has the term, with its impact. Two neighbours say
+/// that the document has no term between theirs.
 pub fn own_leaves_tell_documents<H: HashKind>()
     ensures document { (texts : List (List ℕ)) (doc : ℕ) (leaf : DocLeaf) → AreTexts texts → leaf.leaves < 2 ^ 32
         → slice_get (documents_of H.hash texts) doc ≡ Some (doc_leaf_bytes leaf.leaves leaf.root)

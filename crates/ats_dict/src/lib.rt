@@ -4,8 +4,8 @@
 //! sentinel that enclose every term. A leaf binds a term to the number of its documents and to the root of
 //! its list. The header binds that tree, with those of the documents and the texts, to their numbers.
 //! The crate stands on `ats_tree`, and on `ats_terms` for terms and the search among them. It promises the
-//! leaves and the header byte by byte, that a term is found exactly where it stands or else strictly between
-//! two neighbours, and that headers are read back exactly where they are in range.
+//! leaves and the header byte by byte. It promises that a term is found exactly where it stands or else
+//! strictly between two neighbours, and that headers are read back exactly where they are in range.
 //! How terms lie in memory may change without asking; the bytes may not.
 //!
 //! ```

@@ -1,7 +1,7 @@
 //! The terms of a document with their impacts, as the leaves of a tree.
 //!
 //! A terms tree has one leaf per distinct term of the document in byte order, between a low and a high
-//! sentinel that enclose every term; the documents leaf binds its root to its number of leaves.
+//! sentinel that enclose every term. The documents leaf binds the root of this tree to its number of leaves.
 //! The room stands on the table of counts and the search of `ats_terms`, and on the impacts of
 //! `ats_impact`: no words are found anew, and no other document is looked at. The contracts promise the
 //! terms and impacts from plain counts over the texts, the leaves byte by byte, and that a term is found

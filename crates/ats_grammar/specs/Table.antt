@@ -4,8 +4,8 @@ use Rattle.ats_grammar.specs.declared.fault.ShapeKind.{ShapeKind}
 use Rattle.ats_grammar.specs.declared.next.Next.{Next}
 use Rattle.ats_grammar.specs.declared.next.Next.TheVariants as next
 
--- Either nothing more comes; or a number of `size` bytes, from low to high, whose fault outside is of that
--- kind, and what comes after it depends on the number; or `size` bytes of any content.
+-- Either nothing more comes, or a number of `size` bytes, or `size` bytes of any content. The number is
+-- from low to high, its fault outside is of that kind, and what comes after it depends on the number.
 pub data Table : Type 0 where
   End : Table
   Number : (size low high : ℕ) → ShapeKind → (ℕ → Table) → Table

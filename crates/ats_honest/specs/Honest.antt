@@ -36,9 +36,9 @@ prefixes H layout met [] cut = []
 prefixes H layout met (lane ∷ lanes) [] = []
 prefixes H layout met (lane ∷ lanes) (count ∷ cut) = prefix_of H layout met lane.entries count ∷ prefixes H layout met lanes cut
 
--- The leaves that show where the query's terms stand; the first cut of the schedule at which an answer is
--- settled by the algorithm's brackets, with the documents that it meets and what is shown of them; and the
--- chosen answer of at most r of them.
+-- The leaves that show where the query's terms stand. The first cut of the schedule at which an answer is
+-- settled by the algorithm's brackets, with the documents that it meets and what is shown of them. And the
+-- chosen answer of at most r of these documents.
 pub record IsHonest (H : List ℕ → List ℕ) (archive : Archive) (query : List (List ℕ × ℕ)) (r : ℕ) (algorithm : Algorithm) (proof : Proof) : Type 0 where
   pub spots : List Spot
   pub found : AreSpots (dictionary_of H archive) query spots

@@ -17,8 +17,9 @@ use std::thread::Threads;
 #[derive(Clone, Copy, Debug, PartialEq, Eq)]
 pub enum LoadFault {
     /// The bytes are the index of no archive. Up to the last text, the place is the start of the first field that
-    /// is bad: cut off, another magic or version, a number of texts or a length beyond the limits, or no UTF-8.
-    /// Where all of these are good, it is how many bytes are those of the texts' index, from the front on.
+    /// is bad. A bad field is cut off, another magic or version, a number of texts or a length beyond the limits,
+    /// or no UTF-8. Where all of these fields are good, the place is how many bytes are those of the texts'
+    /// index, from the front on.
     BadIndex { at: u64 },
     /// Memory was wanted and not there.
     OutOfMemory,

@@ -6,9 +6,9 @@
 //! bytes of records one behind another, and past its limit only counts; which records make a proof is not
 //! its business.
 //! The crate stands on that grammar, on the bytes of `ats_base`, and on the leaves and headers of the rooms
-//! below. It promises that bytes spell one proof at most and are read exactly where they spell one, that a
-//! view says that proof, and that every slice that the views and cursors lend is the named part of the
-//! bytes; each of their counted calls is one step. A writer holds exactly its records' bytes.
+//! below. It promises that bytes spell one proof at most and are read exactly where they spell one, and that a
+//! view says that proof. It promises that every slice that the views and cursors lend is the named part of the
+//! bytes. Each counted call of the views and cursors is one step. A writer holds exactly its records' bytes.
 //! What a view or a writer keeps may change without asking; what it says, and the bytes, may not.
 //!
 //! ```

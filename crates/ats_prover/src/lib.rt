@@ -1,7 +1,7 @@
 //! The proof that a server gives with its answer to a query.
 //!
 //! A proof shows where the query's terms stand in the dictionary, the fronts of their lists up to where
-//! the walk ends, and the chosen answer, with the digests that bind all of it to the root.
+//! the walk ends, and the chosen answer. With them it has the digests that bind all of it to the root.
 //! By random access it also shows where the terms stand in each met document.
 //! Nothing is hashed here: the hash function is a type without a call, and the index lends the digests of all
 //! nodes of its trees.

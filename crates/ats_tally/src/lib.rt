@@ -2,8 +2,8 @@
 //!
 //! It stands apart from the player of the cases, so that what is promised of the count is tried over these few lines
 //! alone. The room stands on `ats_base` for bytes. It promises that a case is counted as passed exactly where its
-//! status, its printed text, and its files, links or numbers are as they are wanted, and that each other one makes the
-//! report longer. The words of the report may change without asking.
+//! status, its printed text, and its files, links or numbers are as they are wanted. It promises that each other case
+//! makes the report longer. The words of the report may change without asking.
 //!
 //! ```
 //! let mut tally = Tally::new(alloc);

@@ -49,9 +49,9 @@ pub record IsReplyFault (before now : CallerTold) (words : AskWords) (fault : Pe
   pub asks : AsksRanking words.r words.query
   pub heard : HearsFault words.address (question_of words) before now fault
 
--- The reply is an accepted proof, the text is the lines of the rows of its answer, and for every archive with the root
--- these rows are right, or the proof and the archive hold two different strings with equal digests, and an audit of the
--- bytes against that archive answers two such strings.
+-- The reply is an accepted proof, and the text is the lines of the rows of its answer. For every archive with the root
+-- one of two things holds. These rows are right; or the proof and the archive hold two different strings with equal
+-- digests, and an audit of the bytes against that archive answers two such strings.
 pub record IsAnswered (H : List ℕ → List ℕ) (before now : CallerTold) (words : AskWords) (text : List ℕ) : Type 0 where
   pub accepted : IsReplyAccepted H before now words
   pub headline : IsTopOrCollides H words.root accepted.query words.r accepted.proof

@@ -20,8 +20,8 @@ use Rattle.ats_top.specs.Refusals.{AsksRanking}
 use Rattle.ats_top.specs.declared.stops.Stop.{Stop}
 use Rattle.ats_top.specs.declared.stops.Stop.TheVariants.{Rejected, Memory, Collision}
 
--- the first named file is the index of an archive, the bytes of the second are accepted as a proof under its root, and
--- this is the first collision of the proof with the archive, or there is none
+-- The first named file is the index of an archive, and the bytes of the second are accepted as a proof under its root.
+-- This is the first collision of the proof with the archive, or there is none.
 pub record IsAudited (H : List ℕ → List ℕ) (files : Files) (words : AuditWords)
     (found : Option (Difference TreePlace)) : Type 0 where
   pub archive : Archive

@@ -14,7 +14,7 @@ use Rattle.ats_top.specs.declared.stops.Stop.{Stop}
 use Rattle.ats_top.specs.declared.stops.Stop.TheVariants.{Memory, Link, Peer}
 
 -- The address was called, the question was asked over the link that came, with this result, and the link was given
--- back: the link as it came and as it was given back, and the caller's count between the two.
+-- back. The record has the link as it came and as it was given back, and the caller's count between the two.
 pub record Converses (address : List ℕ) (question : Question) (before now : CallerTold)
     (result : Result (List ℕ) AskFault) : Type 0 where
   pub link : LinkTold

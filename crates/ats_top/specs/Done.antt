@@ -66,9 +66,9 @@ pub record IsProofStored (H : List ℕ → List ℕ) (before now : Files) (words
   pub stored : Puts before now words.proof bytes
   pub printed : text ≡ line_of_proof (length bytes)
 
--- the named file is an accepted proof, the text is the lines of the rows of its answer, and for every archive with the
--- root these rows are right, or the proof and the archive hold two different strings with equal digests, and an audit
--- of the bytes against that archive answers two such strings
+-- The named file is an accepted proof, and the text is the lines of the rows of its answer. For every archive with the
+-- root one of two things holds. These rows are right; or the proof and the archive hold two different strings with
+-- equal digests, and an audit of the bytes against that archive answers two such strings.
 pub record IsVerified (H : List ℕ → List ℕ) (files : Files) (words : VerifyWords) (text : List ℕ) : Type 0 where
   pub asks : AsksRanking words.r words.query
   pub accepted : IsAccepted H files words

@@ -24,8 +24,8 @@ pub data Finding : Type 0 where
   FoundRefused : Rejection → Finding
   FoundCollision : Difference TreePlace → Finding
 
--- what `audit` finds of these words: the rows of the answer, which are right for the archive's texts; why the proof is
--- refused; or its first collision with the archive, which is two different strings with one digest
+-- What `audit` finds of these words: the rows of the answer, why the proof is refused, or its first collision with the
+-- archive. The rows are right for the archive's texts, and the collision is two different strings with one digest.
 abbrev pub IsFinding : (List ℕ → List ℕ) → Files → AuditWords → Finding → Type 0
 IsFinding H files words (FoundRight rows) = (audited : IsAudited H files words None)
     × (rows ≡ rows_of audited.query audited.proof) × AreRight audited.archive.texts audited.query words.r rows

@@ -105,8 +105,8 @@ IsUntold before now text Door = ⊥
 IsUntold before now text Sink = FailedToTake before now text
 IsUntold before now text Memory = now ≡ before
 
--- How the serving of so many links ended behind these sessions: all were served, and so many ended by a fault; or
--- `accept` failed; or the sink did; or memory was wanted for the line of the last of them.
+-- How the serving of so many links ended behind these sessions. All links were served, and so many ended by a
+-- fault; or `accept` failed; or the sink did; or memory was wanted for the line of the last session.
 abbrev pub EndsServing : (Question → Reply → Type 0) → ℕ
     → (before now : DoorAndSink) → List Session → Result ℕ Halt → Type 0
 EndsServing gives connections before now sessions (Ok faults) =

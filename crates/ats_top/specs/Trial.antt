@@ -30,8 +30,8 @@ shown_entries proof = sum_by (λ (prefix : Prefix). length prefix.entries) proof
 abbrev pub trial_archive : ℕ → Archive
 trial_archive number = archive_of (trial_texts number)
 
--- the proof is the honest one of a query for 10 rows, and no longer than a proof may be; it is accepted under the root
--- of its archive, and an audit finds no clash in it
+-- The proof is the honest one of a query for 10 rows, and no longer than a proof may be. It is accepted under the root
+-- of its archive, and an audit finds no clash in it.
 pub record IsTried (H : List ℕ → List ℕ) (archive : Archive) (query : List (List ℕ × ℕ))
     (algorithm : Algorithm) (proof : Proof) : Type 0 where
   pub honest : IsHonest H archive query 10 algorithm proof

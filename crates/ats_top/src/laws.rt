@@ -38,7 +38,7 @@ pub fn honest_proofs_are_served<H: HashKind>()
 {}
 
 /// Where a file is the honest proof of a query over the archive of an index, by either algorithm, `audit` serves it for
-/// the same query and number of rows: it has no collision with the archive.
+/// the same query and number of rows. Such a proof has no collision with the archive.
 pub fn honest_audits_are_served<H: HashKind>()
     ensures { (archive : Archive) (files : Files) (words : AuditWords)
         (asked : List (List ℕ × ℕ)) (algorithm : Algorithm) (bytes : List ℕ)
@@ -47,8 +47,8 @@ pub fn honest_audits_are_served<H: HashKind>()
         → IsFile files words.proof (2 ^ 26) bytes → IsServed H.hash files (Audit words) }
 {}
 
-/// Where each line of a list asks for the honest proof of its query over the archive of the index, by either
-/// algorithm, and all the proofs are there within the limit, `sweep` serves it: each is found right.
+/// `sweep` serves a list where each line asks for the honest proof of its query over the archive of the index, by
+/// either algorithm, and all the proofs are there within the limit. Each of them is then found right.
 pub fn honest_sweeps_are_served<H: HashKind>()
     ensures { (archive : Archive) (files : Files) (words : SweepWords) (listed : List Listed)
         → HasIndex H.hash files words.index archive → IsList files words.list listed

@@ -3,9 +3,9 @@
 //!
 //! The room stands on the lanes, settled answers and the walk with known scores of `ats_bound` and the
 //! number of rows of `ats_impact`. A caller hands in the impacts as a [`RandomAccess`]. The contract of
-//! [`walk`] promises the first cut of the schedule at which any answer is settled by exact scores, with the
-//! brackets of the documents met there, each its document's score twice, the chosen answer among them, and
-//! the threshold. How scores are summed may change without asking.
+//! [`walk`] promises the first cut of the schedule at which any answer is settled by exact scores. With it
+//! the contract promises the brackets of the documents met there, each its document's score twice, the
+//! chosen answer among them, and the threshold. How scores are summed may change without asking.
 //!
 //! ```
 //! use ats_bound::Lane;

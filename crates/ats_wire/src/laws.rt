@@ -19,8 +19,8 @@ pub fn requests_say_one_thing()
     ensures asks { (body : List ℕ) (question : Question) (code : ℕ) → Asks body question → IsRefused body code → ⊥ }
 {}
 
-/// What comes over a link that tells is cut into frames in one way: how many requests are answered, and how the
-/// connection ends, is the same however often the same bytes come, as long as no fault does.
+/// What comes over a link that tells is cut into frames in one way. How many requests are answered, and how the
+/// connection ends, is the same however often the same bytes come over it, as long as no fault does.
 pub fn connections_end_in_one_way<A: Answerer>(_answerer: &A)
     ensures { (before now later : LinkTold) (one other : Served)
         → IsServed (A.gives _answerer.now) before now one → IsServed (A.gives _answerer.now) before later other

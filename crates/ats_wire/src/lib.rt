@@ -1,6 +1,6 @@
 //! The frames of requests and replies, a connection served, and one question asked.
 //!
-//! A request says how many of the best documents for which query are wanted, by a proof of which algorithm; a reply is
+//! A request says how many of the best documents for which query are wanted, by a proof of which algorithm. A reply is
 //! the bytes of a proof, or the code that says why there is none. A server reads frames from a link and writes one
 //! reply to each, made by an [`Answerer`]; a client writes one request and reads one reply, whose proof it may try as
 //! it comes.
