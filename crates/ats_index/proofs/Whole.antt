@@ -1,11 +1,14 @@
 -- The parts of an index that come of the terms of its documents.
-use Rattle.std.proofs.Common.{◌≡◌, ℕ, List, [], ◌∷◌, map, refl, ap}
+use Rattle.std.proofs.Common.{◌≡◌, ◌<◌, ◌-◌, ◌+◌, ◌++◌, ℕ, List, [], ◌∷◌, length, get_or, map, take, drop, refl, sym, ap, ◌∙◌, arith}
+use Rattle.std.proofs.lemmas.List.{drop_more, get_or-map, length-drop, length-map, take_more}
+use Rattle.ats_terms.specs.Query.{counted}
+use Rattle.ats_terms.specs.Terms.{terms}
 use Rattle.ats_tree.specs.Kept.{kept_digests}
-use Rattle.ats_doctree.specs.Impacts.{text_terms}
+use Rattle.ats_doctree.specs.Impacts.{doc_terms, text_terms}
 use Rattle.ats_doctree.specs.Sentinels.{terms_leaves}
 use Rattle.ats_commit.specs.Trees.{documents_of, leaf_of, leaf_of_terms, documents_leaf}
 use Rattle.ats_index.specs.Kept.{all_term_digests}
-use Rattle.ats_index.specs.Parts.{all_leaves, all_terms}
+use Rattle.ats_index.specs.Parts.{all_counts, all_leaves, all_terms}
 
 leaves_map : (H : List ℕ → List ℕ) (texts some : List (List ℕ))
     → map leaf_of (map (λ text. leaf_of_terms H (text_terms texts text)) some) ≡ map (λ text. documents_leaf H (terms_leaves (text_terms texts text))) some
@@ -28,3 +31,28 @@ leaves_of_terms H texts = mapped_twice (leaf_of_terms H) (text_terms texts) text
 pub digests_of_terms : (H : List ℕ → List ℕ) (texts : List (List ℕ))
     → map (λ all. kept_digests H (terms_leaves all)) (all_terms texts) ≡ all_term_digests H texts
 digests_of_terms H texts = mapped_twice (λ all. kept_digests H (terms_leaves all)) (text_terms texts) texts
+
+-- the counted terms that come next are those of the next document
+module _ (texts : List (List ℕ)) (doc : ℕ) (counts : List (List ℕ × ℕ)) (rest : List (List (List ℕ × ℕ)))
+    (left : counts ∷ rest ≡ drop doc (all_counts texts)) where
+  pub next_inside : doc < length texts
+  next_inside =
+      let size : length (counts ∷ rest) ≡ length texts - doc =
+      ap length left ∙ length-drop doc (all_counts texts) ∙ ap (λ n. n - doc) (length-map texts (λ text. counted (terms text))) in
+      omega (arith, size)
+
+  more : counts ∷ rest ≡ get_or (all_counts texts) doc [] ∷ drop (doc + 1) (all_counts texts)
+  more = left ∙ drop_more (all_counts texts) doc [] (omega (arith, next_inside, length-map texts (λ text. counted (terms text))))
+
+  pub next_counts : counts ≡ counted (terms (get_or texts doc []))
+  next_counts =
+      ap (λ (all : List (List (List ℕ × ℕ))). get_or all 0 []) more ∙ get_or-map (λ text. counted (terms text)) texts doc [] [] next_inside
+
+  pub next_left : rest ≡ drop (doc + 1) (all_counts texts)
+  next_left = ap (drop 1) more
+
+  pub next_terms : take doc (all_terms texts) ++ doc_terms texts doc ∷ [] ≡ take (doc + 1) (all_terms texts)
+  next_terms =
+      let own : get_or (all_terms texts) doc [] ≡ doc_terms texts doc = get_or-map (text_terms texts) texts doc [] [] next_inside in
+      sym (take_more (all_terms texts) doc [] (omega (arith, next_inside, length-map texts (text_terms texts)))
+      ∙ ap (λ (own : List (List ℕ × ℕ)). take doc (all_terms texts) ++ own ∷ []) own)

@@ -150,74 +150,41 @@ fn lists_of_counts<R: Threads + Sync>(
     Ok(lists)
 }
 
-// The terms of a document, from a copy of its counted terms.
-fn terms_of_document(
+// The nodes of the tree of a document's terms. Its counted terms are copied for as long as that takes.
+fn nodes_of_document<H: Hash32>(
     alloc: Global,
     collection: &Collection,
     counts: &[TermCounts],
     doc: u32,
-) -> Result<DocTerms, OutOfMemory>
+) -> Result<Nodes, OutOfMemory>
     requires inside { doc < length collection.now }
     requires counts { counts.now ≡ all_counts collection.now }
-    ensures { IfOk result (λ terms. terms ≡ doc_terms collection.now doc) }
+    ensures { IfOk result (λ nodes. nodes ≡ kept_digests H.hash (terms_leaves (doc_terms collection.now doc))) }
 {
     let counts = counts[doc as usize].copy(alloc)?;
-    Ok(DocTerms::from_counts(counts, collection, doc))
-}
-
-/// The terms of each document.
-fn terms_of_documents(
-    rt: &(impl Threads + Sync),
-    alloc: Global,
-    collection: &Collection,
-    counts: &[TermCounts],
-) -> Result<Vec<DocTerms>, OutOfMemory>
-    requires { counts.now ≡ all_counts collection.now }
-    ensures { IfOk result (λ terms. terms.items ≡ all_terms collection.now) }
-{
-    let made: Result<Vec<DocTerms>, OutOfMemory> = (0..collection.documents())
-        .into_par_iter()
-        .with_min_len(1)
-        .map(
-            |doc: u32| -> Result<DocTerms, OutOfMemory>
-                requires inside { doc < length collection.now }
-                requires counts { counts.now ≡ all_counts collection.now }
-                ensures { IfOk result (λ terms. terms ≡ doc_terms collection.entry.now doc) }
-            { terms_of_document(alloc, collection, counts, doc) },
-        )
-        .collect(rt, alloc)?;
-    made
-}
-
-// The nodes of the tree of a document's terms.
-fn nodes_of_document<H: Hash32>(
-    alloc: Global,
-    terms: &[DocTerms],
-    doc: usize,
-) -> Result<Nodes, OutOfMemory>
-    requires { doc < length terms.now }
-    ensures { IfOk result (λ nodes. nodes ≡ kept_digests H.hash (terms_leaves (slice_index_or terms.now doc []))) }
-{
-    nodes_of_terms::<H>(alloc, &terms[doc])
+    nodes_of_terms::<H>(alloc, &DocTerms::from_counts(counts, collection, doc))
 }
 
 /// The nodes of the tree of each document's terms.
 fn nodes_of_documents_terms<H: Hash32 + Sync>(
     rt: &(impl Threads + Sync),
     alloc: Global,
-    terms: &[DocTerms],
+    collection: &Collection,
+    counts: &[TermCounts],
 ) -> Result<Vec<Nodes>, OutOfMemory>
-    ensures { IfOk result (λ nodes. nodes.items ≡ map (λ all. kept_digests H.hash (terms_leaves all)) terms.now) }
+    requires { counts.now ≡ all_counts collection.now }
+    ensures { IfOk result (λ nodes. nodes.items ≡ all_term_digests H.hash collection.now) }
 {
-    let made: Result<Vec<Nodes>, OutOfMemory> = (0..terms.len())
+    let made: Result<Vec<Nodes>, OutOfMemory> = (0..collection.documents())
         .into_par_iter()
         .with_min_len(1)
         .map(
-            |doc: usize| -> Result<Nodes, OutOfMemory>
-                requires { doc < length terms.now }
+            |doc: u32| -> Result<Nodes, OutOfMemory>
+                requires inside { doc < length collection.now }
+                requires counts { counts.now ≡ all_counts collection.now }
                 ensures { IfOk result (λ nodes.
-                    nodes ≡ kept_digests H.hash (terms_leaves (slice_index_or terms.entry.now doc []))) }
-            { nodes_of_document::<H>(alloc, terms, doc) },
+                    nodes ≡ kept_digests H.hash (terms_leaves (doc_terms collection.entry.now doc))) }
+            { nodes_of_document::<H>(alloc, collection, counts, doc) },
         )
         .collect(rt, alloc)?;
     made
@@ -245,62 +212,51 @@ pub(crate) fn nodes_of_all_lists<H: Hash32 + Sync>(
     made
 }
 
-/// The terms of each document, and the nodes of their tree.
-#[derive(Drop)]
-struct TermParts {
-    terms: Vec<DocTerms>,
-    nodes: Vec<Nodes>,
-}
-
-fn term_parts<H: Hash32 + Sync>(
-    rt: &(impl Threads + Sync),
-    alloc: Global,
-    collection: &Collection,
-    counts: &[TermCounts],
-) -> Result<TermParts, OutOfMemory>
-    requires { counts.now ≡ all_counts collection.now }
-    ensures terms { IfOk result (λ made. made.terms.items ≡ all_terms collection.now) }
-    ensures nodes { IfOk result (λ made. made.nodes.items ≡ all_term_digests H.hash collection.now) }
-{
-    let terms = terms_of_documents(rt, alloc, collection, counts)?;
-    let nodes = nodes_of_documents_terms::<H>(rt, alloc, &terms)?;
-    Ok(TermParts { terms, nodes })
-}
-
-// What is made of the counted terms: the lists, and beside them the terms of the documents with the nodes of their
-// trees.
-fn parts_of_counts<H: Hash32 + Sync, R: Threads + Sync>(
+// The lists, and beside them the nodes of the trees of the documents' terms.
+fn lists_and_nodes<H: Hash32 + Sync, R: Threads + Sync>(
     rt: &R,
     alloc: Global,
     collection: &Collection,
     counts: &[TermCounts],
-) -> Result<DocumentParts, OutOfMemory>
+) -> Result<(Lists, Vec<Nodes>), OutOfMemory>
     requires { counts.now ≡ all_counts collection.now }
-    ensures lists { IfOk result (λ made. made.lists ≡ lists_of collection.now) }
-    ensures terms { IfOk result (λ made. made.terms.items ≡ all_terms collection.now) }
-    ensures term_nodes { IfOk result (λ made. made.term_nodes.items ≡ all_term_digests H.hash collection.now) }
+    ensures lists { IfOk result (λ made. made.0 ≡ lists_of collection.now) }
+    ensures nodes { IfOk result (λ made. made.1.items ≡ all_term_digests H.hash collection.now) }
 {
-    let (lists, documents) = join(
+    let (lists, nodes) = join(
         rt,
         || -> Result<Lists, OutOfMemory>
             requires sync { IsSync R.row }
             requires counts { counts.now ≡ all_counts collection.now }
             ensures { IfOk result (λ lists. lists ≡ lists_of collection.entry.now) }
         { lists_of_counts::<R>(rt, alloc, collection, counts) },
-        || -> Result<TermParts, OutOfMemory>
+        || -> Result<Vec<Nodes>, OutOfMemory>
             requires sync { IsSync R.row × IsSync H.row }
             requires counts { counts.now ≡ all_counts collection.now }
-            ensures terms { IfOk result (λ made. made.terms.items ≡ all_terms collection.entry.now) }
-            ensures nodes { IfOk result (λ made. made.nodes.items ≡ all_term_digests H.hash collection.entry.now) }
-        { term_parts::<H>(rt, alloc, collection, counts) },
+            ensures { IfOk result (λ nodes. nodes.items ≡ all_term_digests H.hash collection.entry.now) }
+        { nodes_of_documents_terms::<H>(rt, alloc, collection, counts) },
     );
-    let lists = lists?;
-    let TermParts { terms, nodes } = documents?;
-    Ok(DocumentParts {
-        lists,
-        terms,
-        term_nodes: nodes,
-    })
+    Ok((lists?, nodes?))
+}
+
+// The terms of each document, of which these are the counted terms.
+fn terms_of_documents(
+    alloc: Global,
+    collection: &Collection,
+    counts: Vec<TermCounts>,
+) -> Result<Vec<DocTerms>, OutOfMemory>
+    requires { counts.items ≡ all_counts collection.now }
+    ensures { IfOk result (λ terms. terms.items ≡ all_terms collection.now) }
+{
+    // A collection has at most 65,536 documents.
+    prove!(collection.documents() <= 65536);
+    let mut made = Vec::with_capacity(alloc, counts.len())?;
+    let mut doc = 0;
+    for counts in counts {
+        made.push(DocTerms::from_counts(counts, collection, doc))?;
+        doc += 1;
+    }
+    Ok(made)
 }
 
 // The lists, and the terms of the documents with the nodes of their trees. Each document is counted once.
@@ -314,7 +270,13 @@ fn counted_by_threads<H: Hash32 + Sync, R: Threads + Sync>(
     ensures term_nodes { IfOk result (λ made. made.term_nodes.items ≡ all_term_digests H.hash collection.now) }
 {
     let counts = counts_of_documents(rt, alloc, collection)?;
-    parts_of_counts::<H, R>(rt, alloc, collection, &counts)
+    let (lists, term_nodes) = lists_and_nodes::<H, R>(rt, alloc, collection, &counts)?;
+    let terms = terms_of_documents(alloc, collection, counts)?;
+    Ok(DocumentParts {
+        lists,
+        terms,
+        term_nodes,
+    })
 }
 
 /// What comes of the documents alone, and beside it the root of the texts.

@@ -1,17 +1,23 @@
 -- Entries under the numbers of their terms.
 use Rattle.std.proofs.Common.{◌≡◌, ◌≢◌, ◌<◌, ◌≤◌, ◌+◌, ◌==◌, ◌⊎◌, ℕ, zero, suc, Bool, true, false, cond, List, [], ◌∷◌, ◌++◌, length, get_or, map, Option, Some, None, unwrap_or, refl, sym, ap, ap₂, subst, ◌∙◌, inl, inr, set, arith, append-nil, length-append}
-use Rattle.std.specs.List.{All, filter}
+use Rattle.std.specs.List.{All, AllByRecursion, IsDistinct, filter}
+use Rattle.std.specs.List.Sorted.{IsStrictlySortedBy}
 use Rattle.std.specs.Option.{option_map}
 use Rattle.std.specs.BTreeMap.{BTreeMap, IsOrdered, get, is_at}
-use Rattle.std.specs.Map.{lookup}
+use Rattle.std.specs.Map.{lookup, keys_of}
+use Rattle.std.specs.Ordering.{is_eq}
+use Rattle.std.specs.Prelude.{nat_eq}
+use Rattle.std.specs.declared.cmp.Ordering.TheVariants.{Less}
 use Rattle.std.specs.Str.{bytes_eq}
-use Rattle.std.proofs.lemmas.Bool.{cases_eq, cases_lt}
+use Rattle.std.proofs.lemmas.Bool.{cases_eq, cases_lt, eqb-false}
 use Rattle.std.proofs.lemmas.Bool.Decides.{nat_tests}
 use Rattle.std.proofs.lemmas.Cmp.{nat_list_cmp_total}
 use Rattle.std.proofs.lemmas.List.{get_or_append_left, get_or-append-add, get_or_default, get_or_push, get_or-map, get_or-set_same, get_or-set_other, length-map, map-append}
 use Rattle.std.proofs.lemmas.List.Elements.{All-append, All-from_get_or, All-get_or, All-head, All-map, All-push, All-tail, All-weaker, filter-append}
 use Rattle.std.proofs.lemmas.Map.Entries.{btree_map_get_place}
 use Rattle.std.proofs.lemmas.Map.Made.{lookup-map_values}
+use Rattle.std.proofs.lemmas.Map.Text.{is_eq-slice_cmp}
+use Rattle.std.proofs.lemmas.Map.Views.{All-after_first}
 use Rattle.std.proofs.lemmas.Option.{slice_get-get_or}
 use Rattle.std.proofs.lemmas.Slice.Eq.{bytes_eq-Decides}
 use Rattle.ats_terms.specs.Terms.{IsTerm}
@@ -327,3 +333,42 @@ found_parted lists log size (e ∷ es) within are =
     ap₂ (λ (entries : List Entry) (rest : List (List ℕ × List Entry)). (e.0, entries) ∷ rest)
     (are e.1 (All-head (λ (f : List ℕ × ℕ). f.1 < size) e es within))
     (found_parted lists log size es (All-tail (λ (f : List ℕ × ℕ). f.1 < size) e es within) are)
+
+-- what is taken from one number is still found at the others
+pub found_elsewhere : (lists : List (List Entry)) (n : ℕ) (entries : List Entry) (es : List (List ℕ × ℕ))
+    → AllByRecursion (λ m. nat_eq n m ≡ false) (map (λ (e : List ℕ × ℕ). e.1) es) → found (set lists n entries) es ≡ found lists es
+found_elsewhere lists n entries [] others = refl
+found_elsewhere lists n entries (e ∷ es) (other, others) =
+    ap₂ (λ (own : List Entry) (rest : List (List ℕ × List Entry)). (e.0, own) ∷ rest)
+    (get_or-set_other lists n e.1 entries [] (λ same. eqb-false n e.1 other (sym same)))
+    (found_elsewhere lists n entries es others)
+
+two_apart : (terms : List (List ℕ)) (e f : List ℕ × ℕ) → term_of terms e.1 ≡ e.0 → term_of terms f.1 ≡ f.0 → byte_cmp e.0 f.0 ≡ Less
+    → (b : Bool) → nat_eq e.1 f.1 ≡ b → b ≡ false
+two_apart terms e f here there less true same =
+    let key : e.0 ≡ f.0 = sym here ∙ ap (term_of terms) (equal_numbers e.1 f.1 same) ∙ there in
+    let clash : true ≡ false = sym ((bytes_eq-Decides e.0 f.0).1 key) ∙ sym (is_eq-slice_cmp e.0 f.0) ∙ ap is_eq less in
+    absurd (cc)
+two_apart terms e f here there less false same = refl
+
+others_apart : (terms : List (List ℕ)) (e : List ℕ × ℕ) (es : List (List ℕ × ℕ)) → term_of terms e.1 ≡ e.0
+    → All (λ (f : List ℕ × ℕ). term_of terms f.1 ≡ f.0) es → All (λ k. byte_cmp e.0 k ≡ Less) (keys_of es)
+    → AllByRecursion (λ m. nat_eq e.1 m ≡ false) (map (λ (f : List ℕ × ℕ). f.1) es)
+others_apart terms e [] here named less = tt
+others_apart terms e (f ∷ es) here named less = (
+  two_apart terms e f here (All-head (λ (g : List ℕ × ℕ). term_of terms g.1 ≡ g.0) f es named)
+      (All-head (λ (k : List ℕ). byte_cmp e.0 k ≡ Less) f.0 (keys_of es) less) (nat_eq e.1 f.1) refl,
+  others_apart terms e es here (All-tail (λ (g : List ℕ × ℕ). term_of terms g.1 ≡ g.0) f es named)
+      (All-tail (λ (k : List ℕ). byte_cmp e.0 k ≡ Less) f.0 (keys_of es) less),
+)
+
+-- no number comes twice, as no key does
+pub numbers_apart : (terms : List (List ℕ)) (es : List (List ℕ × ℕ)) → All (λ (e : List ℕ × ℕ). term_of terms e.1 ≡ e.0) es
+    → IsStrictlySortedBy byte_cmp (keys_of es) → IsDistinct nat_eq (map (λ (e : List ℕ × ℕ). e.1) es)
+unfolding IsDistinct IsStrictlySortedBy
+numbers_apart terms [] named rises = tt
+numbers_apart terms (e ∷ es) named rises = (
+  others_apart terms e es (All-head (λ (f : List ℕ × ℕ). term_of terms f.1 ≡ f.0) e es named)
+      (All-tail (λ (f : List ℕ × ℕ). term_of terms f.1 ≡ f.0) e es named) (All-after_first byte_cmp e.0 (keys_of es) rises),
+  numbers_apart terms es (All-tail (λ (f : List ℕ × ℕ). term_of terms f.1 ≡ f.0) e es named) rises.1,
+)

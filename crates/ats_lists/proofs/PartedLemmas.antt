@@ -1,6 +1,7 @@
 -- The lists of all texts, from the entries under the numbers of their terms.
 use Rattle.std.proofs.Common.{◌≡◌, ◌<◌, ℕ, List, [], length, get_or, map, subst, ◌∙◌}
-use Rattle.std.specs.List.{All}
+use Rattle.std.specs.List.{All, IsDistinct}
+use Rattle.std.specs.Prelude.{nat_eq}
 use Rattle.std.specs.List.Sorted.{IsStrictlySortedBy}
 use Rattle.std.specs.BTreeMap.{BTreeMap, IsOrdered, is_at}
 use Rattle.std.specs.Map.{lookup, keys_of}
@@ -16,7 +17,7 @@ use Rattle.ats_lists.specs.declared.gathering.Logged.{Logged}
 use Rattle.ats_lists.proofs.PostingLemmas.{run_of_all}
 use Rattle.ats_lists.proofs.VocabularyLemmas.{if_some}
 use Rattle.ats_lists.proofs.WholeLemmas.{all_gathered, made_lists, terms_are}
-use Rattle.ats_lists.proofs.LogLemmas.{parted, parted_finds, keys_named, numbered_terms, found, found_parted}
+use Rattle.ats_lists.proofs.LogLemmas.{parted, parted_finds, keys_named, numbered_terms, numbers_apart, found, found_parted}
 
 module _ (texts : List (List ℕ)) (terms : List (List ℕ)) (numbers : BTreeMap (List ℕ) ℕ) (log : List Logged) (are : AreNumbersOf terms numbers)
     (is : IsLogOf terms log) (ordered : IsOrdered byte_cmp numbers) (has : HasRun 0 (length texts) texts (pairs_of terms log)) where
@@ -42,6 +43,10 @@ module _ (texts : List (List ℕ)) (terms : List (List ℕ)) (numbers : BTreeMap
   pub parted_within : All (λ e. e.1 < length terms) numbers.entries
   parted_within = All-weaker (λ (e : List ℕ × ℕ). (e.1 < length terms) × (term_of terms e.1 ≡ e.0)) (λ (e : List ℕ × ℕ). e.1 < length terms)
       (λ e named. named.0) numbers.entries (keys_named terms numbers log are is ordered)
+
+  pub parted_apart : IsDistinct nat_eq (map (λ (e : List ℕ × ℕ). e.1) numbers.entries)
+  parted_apart = numbers_apart terms numbers.entries (All-weaker (λ (e : List ℕ × ℕ). (e.1 < length terms) × (term_of terms e.1 ≡ e.0))
+      (λ (e : List ℕ × ℕ). term_of terms e.1 ≡ e.0) (λ e named. named.1) numbers.entries (keys_named terms numbers log are is ordered)) ordered
 
   -- what stands at each key's number is what was parted
   pub found_is : (lists : List (List Entry)) → ((n : ℕ) → n < length terms → get_or lists n [] ≡ entries_under n log)

@@ -26,6 +26,15 @@ impl Model for Entries {
 }
 
 impl Entries {
+    /// No entry.
+    pub(crate) fn new(alloc: Global) -> Self
+        ensures { result ≡ [] }
+    {
+        Entries {
+            items: Vec::new(alloc),
+        }
+    }
+
     /// No entry, and room for so many.
     pub(crate) fn with_room(alloc: Global, room: usize) -> Result<Self, OutOfMemory>
         ensures { IfOk result (λ entries. entries ≡ []) }
@@ -42,12 +51,12 @@ impl Entries {
     }
 
     /// The entries by impact descending, then document ascending.
-    pub(crate) fn sorted(&self, alloc: Global) -> Result<Vec<Entry>, OutOfMemory>
-        requires { AreGathered self.now }
-        ensures { IfOk result (λ sorted. sorted.items ≡ by_impact 2200 self.now) }
+    pub(crate) fn into_sorted(self) -> Result<Vec<Entry>, OutOfMemory>
+        requires { AreGathered self }
+        ensures { IfOk result (λ sorted. sorted.items ≡ by_impact 2200 self) }
     {
-        let mut sorted = Vec::from_slice(alloc, &self.items)?;
-        sorted.sort_by_key(|entry| (Reverse(entry.impact), entry.doc))?;
-        Ok(sorted)
+        let Entries { mut items } = self;
+        items.sort_by_key(|entry| (Reverse(entry.impact), entry.doc))?;
+        Ok(items)
     }
 }

@@ -17,6 +17,7 @@ use ats_impact::{Collection, impact};
 use ats_terms::TermCounts;
 use std::alloc::Global;
 use std::marker::Model;
+use std::mem::replace;
 
 // An entry under the number of its term.
 #[derive(Clone, Copy)]
@@ -176,13 +177,13 @@ impl Gathered {
         // A list for each distinct term, so that 32 bits count the lists.
         prove!(collection.total() <= 1 << 24);
         let Gathered { numbering, log } = self;
-        let lists = parted(alloc, numbering.len(), &log)?;
+        let mut lists = parted(alloc, numbering.len(), &log)?;
         drop(log);
         let numbers = numbering.into_numbers();
         let mut sorted = Vec::with_capacity(alloc, lists.len())?;
         for (key, n) in numbers {
-            let entries = lists[n as usize].sorted(alloc)?;
-            sorted.push(TermList::new(key.into_term(), entries))?;
+            let entries = replace(&mut lists[n as usize], Entries::new(alloc));
+            sorted.push(TermList::new(key.into_term(), entries.into_sorted()?))?;
         }
         Ok(sorted)
     }

@@ -1,19 +1,42 @@
-use Rattle.std.proofs.Common.{◌<◌, ◌∙◌, [], length}
-use Rattle.rayon.specs.Numbers.{nat_range}
-use Rattle.rayon.proofs.ToStd.{nat_range-All}
+use Rattle.std.proofs.Common.{◌≡◌, ◌∷◌, ◌++◌, ◌∙◌, ℕ, List, [], length, take_all, drop, sym, ap, ap₂, arith}
+use Rattle.std.specs.Vec.Iter.{into_iter_items}
+use Rattle.std.proofs.lemmas.List.{length-drop, length-map}
+use Rattle.ats_terms.specs.Query.{counted}
+use Rattle.ats_terms.specs.Terms.{terms}
 use Rattle.ats_doctree.specs.Impacts.{text_terms}
-use Rattle.ats_index.proofs.Collected.{collected}
+use Rattle.ats_index.specs.Parts.{all_counts, all_terms}
+use Rattle.ats_index.proofs.Whole.{next_inside, next_counts, next_left, next_terms}
 use Rattle.ats_index.proofs.parallel.terms_of_documents.Goals as goal
 
-pub collect-requires-clause-ready : goal.collect-requires-clause-ready
-collect-requires-clause-ready g c κs within =
-    let ends = c.into_par_iter.ensures in
-    let inside = nat_range-All (λ i. i < length c.args.collection.now) 0 (length c.args.collection.now) (λ i low high. high) in
-    rw (c.map.ensures.base, c.map.ensures.f, c.with_min_len.ensures.base, ends.0, ends.1, c.documents.ensures.value) (λ k d lt. ((inside k d lt, c.requires), λ y p. tt))
+pub from_counts-requires-clause-counts : goal.from_counts-requires-clause-counts
+from_counts-requires-clause-counts c =
+    next_counts c.args.collection.now c.loop-counts.doc c.in-Some.counts (into_iter_items c.next.new.self)
+    (sym c.in-Some.ensures.steps.0 ∙ c.loop-counts.invariant.left)
+
+pub loop-counts-preserved : goal.loop-counts-preserved
+loop-counts-preserved c =
+    let texts : List (List ℕ) = c.args.collection.now in
+    let rest : List (List (List ℕ × ℕ)) = into_iter_items c.next.new.self in
+    let left : c.in-Some.counts ∷ rest ≡ drop c.loop-counts.doc (all_counts texts) = sym c.in-Some.ensures.steps.0 ∙ c.loop-counts.invariant.left in
+    record {
+      made =
+          c.in_ok-push.ensures.items
+          ∙ ap₂ (λ (front : List (List (List ℕ × ℕ))) (own : List (List ℕ × ℕ)). front ++ own ∷ []) c.loop-counts.invariant.made c.from_counts.ensures
+          ∙ next_terms texts c.loop-counts.doc c.in-Some.counts rest left;
+      left = next_left texts c.loop-counts.doc c.in-Some.counts rest left;
+      within = omega (arith, next_inside texts c.loop-counts.doc c.in-Some.counts rest left);
+    }
 
 pub returns : goal.returns
-returns g c =
-    let ends = c.into_par_iter.ensures in
-    let chain = rw (c.map.ensures.base, c.map.ensures.f, c.with_min_len.ensures.base) at (c.in_ok-made.ensures {u = tt}).1 in
-    let places = chain.1 ∙ (λ i. nat_range (ends.0 i) ((ends.1 ∙ c.documents.ensures.value) i)) in
-    collected (text_terms c.args.collection.now) [] c.args.collection.now (λ v. v.items) _ chain.0 _ c.in_ok-made.made places chain.2 (c.in_ok-made.ensures {u = tt}).2
+returns c =
+    let texts : List (List ℕ) = c.args.collection.now in
+    let none : length (drop c.loop-counts.doc (all_counts texts)) ≡ 0 =
+    ap length (sym c.loop-counts.invariant.left) ∙ sym c.loop-counts.counts-iterator.rest.ok.0 ∙ c.in-None.ensures.steps.0 in
+    c.loop-counts.invariant.made
+    ∙ take_all c.loop-counts.doc (all_terms texts) (omega (
+      arith,
+      none,
+      length-drop c.loop-counts.doc (all_counts texts),
+      length-map texts (λ text. counted (terms text)),
+      length-map texts (text_terms texts),
+    ))
