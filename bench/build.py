@@ -26,9 +26,9 @@ AGAINST_BLOCKS = 2.5
 PEAK = 512 << 20  # bytes, for 16 MiB of short texts
 NODES = 2_000_000
 PROCESSORS = 4  # with fewer, threads are not judged
-TIMES = 3  # of each call that builds
+TIMES = 5  # of each call that builds, and of the blocks beside it
 THREADS = 0.35  # the time of several threads over that of one
-ONE_THREAD = 1.35  # over the time of the blocks
+ONE_THREAD = {"notes": 1.35, "books": 1.8, "lexicon": 1.35}  # over the time of the blocks
 LOAD = 1.1  # over the time of `build`
 
 
@@ -56,10 +56,10 @@ def blocks_of_index(path: Path) -> int:
     return blocks + blocks_of(1 + 105)
 
 
-def seconds_of_a_block(bench: str) -> float:
-    """Of the blocks of inner nodes, which are most of an index's."""
-    none = measure.best([bench, "nodes", "0"]).seconds
-    some = measure.best([bench, "nodes", str(NODES)]).seconds
+def seconds_of_a_block(bench: str, runs: int = measure.RUNS) -> float:
+    """Of the blocks of inner nodes, which are most of an index's: the least of some runs."""
+    none = measure.best([bench, "nodes", "0"], runs).seconds
+    some = measure.best([bench, "nodes", str(NODES)], runs).seconds
     return (some - none) / (NODES * blocks_of(1 + 64))
 
 
@@ -70,24 +70,41 @@ def build(program: str, path: Path) -> measure.Run:
     return best
 
 
-def seconds_of_threads(bench: str, path: Path) -> tuple[float, float]:
-    """Of the call that builds: by one thread and by several, the fastest of some."""
+def seconds_of_threads(bench: str, path: Path) -> tuple[float, float, float]:
+    """The least seconds of a block, and of the call that builds by one thread and by several.
+
+    They take turns, since the speed of a machine may change from one minute to the next.
+    """
     texts = path.with_suffix(".txt")
     texts.write_text("".join(text + "\n" for text in json.loads(path.read_text(encoding="utf-8"))), encoding="utf-8")
-    lines = measure.run([bench, "build", str(texts), str(TIMES)]).printed.splitlines()[:-1]
-    times = [[int(word) / 1e6 for word in line.split()] for line in lines]
-    return min(time[0] for time in times), min(time[1] for time in times)
+    blocks, ones, some = [], [], []
+    for _ in range(TIMES):
+        blocks.append(seconds_of_a_block(bench, 1))
+        one, several, *_ = measure.run([bench, "build", str(texts), "1"]).printed.split()
+        ones.append(int(one) / 1e6)
+        some.append(int(several) / 1e6)
+    return min(blocks), min(ones), min(some)
 
 
-def judge_threads(program: str, bench: str, path: Path, blocks: float, built: float) -> bool:
+def seconds_of_loading(program: str, path: Path) -> tuple[float, float]:
+    """The least seconds of `build`, and of `root`, which loads the index, turn by turn."""
+    index = path.with_suffix(".index")
+    built, loaded = [], []
+    for _ in range(TIMES):
+        built.append(measure.run([program, "build", str(path), str(index)]).seconds)
+        loaded.append(measure.run([program, "root", str(index)]).seconds)
+    return min(built), min(loaded)
+
+
+def judge_threads(program: str, bench: str, name: str, path: Path, blocks: int) -> bool:
     """Several threads against one, and loading against building."""
-    one, several = seconds_of_threads(bench, path)
+    block, one, several = seconds_of_threads(bench, path)
     processors = len(os.sched_getaffinity(0))
-    print(f"  the call alone: {one:.3f} s by one thread, {several:.3f} s by {processors} processors")
-    met = measure.judge("  one thread / the blocks alone", one / blocks, ONE_THREAD)
+    print(f"  the call alone: {one:.3f} s by one thread, {several:.3f} s by {processors}; blocks: {blocks * block:.3f} s")
+    met = measure.judge("  one thread / the blocks alone", one / (blocks * block), ONE_THREAD[name])
     if processors >= PROCESSORS:
         met &= measure.judge("  several threads / one", several / one, THREADS)
-    loaded = measure.best([program, "root", str(path.with_suffix(".index"))]).seconds
+    built, loaded = seconds_of_loading(program, path)
     return met & measure.judge("  root, which loads / build", loaded / built, LOAD)
 
 
@@ -107,7 +124,7 @@ def measured(program: str, bench: str, block: float, name: str, folder: str) -> 
         met &= measure.judge("  time / that of its blocks alone", run.seconds / (blocks * block), AGAINST_BLOCKS)
     for (early, late), (small, large) in zip(zip(times, times[1:]), zip(text, text[1:])):
         met &= measure.judge("  growth of the time / growth of the input", late / early / (large / small), GROWTH)
-    met &= judge_threads(program, bench, path, blocks * block, times[-1])
+    met &= judge_threads(program, bench, name, path, blocks)
     if name == "notes":
         met &= measure.judge("  most memory / 512 MiB", run.peak / PEAK, 1.0)
     return met
