@@ -1,4 +1,4 @@
-//! The lists of a collection, and the terms of all documents with the nodes of their trees, by one thread.
+//! The lists of a collection and the terms of all documents, with the nodes of their trees, by one thread.
 
 ghost use Rattle.std.specs.Prelude.{◌≡◌, ◌<◌, ◌++◌, ◌∷◌, [], length, IfOk, OnOk};
 ghost use Rattle.ats_terms.specs.Terms.{terms};
@@ -8,9 +8,10 @@ ghost use Rattle.ats_lists.specs.Postings.{text_of};
 ghost use Rattle.ats_tree.specs.Kept.{kept_digests};
 ghost use Rattle.ats_doctree.specs.Impacts.{doc_terms};
 ghost use Rattle.ats_doctree.specs.Sentinels.{terms_leaves};
-ghost use Rattle.ats_index.specs.Kept.{all_term_digests};
+ghost use Rattle.ats_index.specs.Kept.{all_list_digests, all_term_digests};
 ghost use Rattle.ats_index.specs.Parts.{all_terms};
 
+use crate::dictionary::nodes_of_lists;
 use crate::memory::OutOfMemory;
 use ats_doctree::DocTerms;
 use ats_hash::{Hash32, Steps};
@@ -20,10 +21,11 @@ use ats_terms::TermCounts;
 use ats_tree::{Leaves, Nodes};
 use std::alloc::Global;
 
-/// The lists, and for each document its terms and the nodes of their tree.
+/// The lists with the nodes of their trees, and for each document its terms and the nodes of their tree.
 #[derive(Drop)]
 pub(crate) struct DocumentParts {
     pub(crate) lists: Lists,
+    pub(crate) list_nodes: Vec<Nodes>,
     pub(crate) terms: Vec<DocTerms>,
     pub(crate) term_nodes: Vec<Nodes>,
 }
@@ -61,12 +63,14 @@ fn put_document<H: Hash32>(
     Ok(())
 }
 
-/// Counts each document once, and hashes the tree of its terms.
+/// Counts each document once, and hashes the trees of its terms and of the lists.
 pub(crate) fn counted<H: Hash32>(
     alloc: Global,
     collection: &Collection,
 ) -> Result<DocumentParts, OutOfMemory>
     ensures lists { IfOk result (λ made. made.lists ≡ lists_of collection.now) }
+    ensures list_nodes { IfOk result (λ made.
+        made.list_nodes.items ≡ all_list_digests H.hash (lists_of collection.now)) }
     ensures terms { IfOk result (λ made. made.terms.items ≡ all_terms collection.now) }
     ensures term_nodes { IfOk result (λ made. made.term_nodes.items ≡ all_term_digests H.hash collection.now) }
 {
@@ -80,8 +84,10 @@ pub(crate) fn counted<H: Hash32>(
         put_document::<H>(alloc, collection, doc, counts, &mut terms, &mut term_nodes)?;
     }
     let lists = builder.finish()?;
+    let list_nodes = nodes_of_lists::<H>(alloc, &lists)?;
     Ok(DocumentParts {
         lists,
+        list_nodes,
         terms,
         term_nodes,
     })

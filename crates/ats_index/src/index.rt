@@ -20,12 +20,12 @@ ghost use Rattle.ats_index.specs.LoadFaults.{IsDifference};
 
 use crate::build::{header_of, root_of_texts};
 use crate::compare::{Comparer, Takes};
-use crate::dictionary::{DictionaryTree, dictionary_tree, nodes_of_lists};
+use crate::dictionary::{DictionaryTree, dictionary_tree};
 use crate::doc_leaves::{DocumentsTree, documents_tree};
 use crate::documents::{DocumentParts, counted};
 use crate::memory::OutOfMemory;
-use crate::parallel::{nodes_of_all_lists, parts_and_texts, upper_trees};
-use crate::write::{put_lists, put_texts};
+use crate::parallel::{parts_and_texts, upper_trees};
+use crate::write::{put_lists, put_texts, room_of};
 use ats_base::Bytes;
 use ats_commit::root_of_header;
 use ats_dict::{Dictionary, Header};
@@ -172,7 +172,7 @@ impl<H: HashKind> Index<H> {
     pub fn bytes(&self) -> Result<Bytes, OutOfMemory>
         ensures { IfOk result (λ bytes. IsSpelling H.hash bytes self.now) }
     {
-        let mut bytes = Bytes::new(self.alloc);
+        let mut bytes = Bytes::with_room(self.alloc, room_of(&self.collection, &self.lists))?;
         self.put(&mut bytes)?;
         Ok(bytes)
     }
@@ -208,7 +208,6 @@ impl<H: Hash32> Index<H> {
         alloc: Global,
         collection: Collection,
         parts: DocumentParts,
-        list_nodes: Vec<Nodes>,
         dictionary: DictionaryTree,
         documents: DocumentsTree,
         texts_root: [u8; 32],
@@ -216,7 +215,7 @@ impl<H: Hash32> Index<H> {
         requires lists { parts.lists ≡ lists_of collection }
         requires terms { parts.terms.items ≡ all_terms collection }
         requires term_nodes { parts.term_nodes.items ≡ all_term_digests H.hash collection }
-        requires list_nodes { list_nodes.items ≡ all_list_digests H.hash (lists_of collection) }
+        requires list_nodes { parts.list_nodes.items ≡ all_list_digests H.hash (lists_of collection) }
         requires dictionary { dictionary.dictionary ≡ dictionary_of H.hash (archive_of collection) }
         requires dict_nodes { dictionary.nodes ≡ kept_digests H.hash (dict_leaves dictionary.dictionary) }
         requires leaves { documents.leaves.items ≡ all_leaves H.hash collection }
@@ -228,6 +227,7 @@ impl<H: Hash32> Index<H> {
         let root = root_of_header::<H>(&header, &mut Steps::new(alloc));
         let DocumentParts {
             lists,
+            list_nodes,
             terms,
             term_nodes,
         } = parts;
@@ -261,13 +261,10 @@ impl<H: Hash32> Index<H> {
         ensures { IfOk result (λ index. index ≡ archive_of collection) }
     {
         let parts = counted::<H>(alloc, &collection)?;
-        let list_nodes = nodes_of_lists::<H>(alloc, &parts.lists)?;
-        let dictionary = dictionary_tree::<H>(alloc, &parts.lists, &list_nodes)?;
+        let dictionary = dictionary_tree::<H>(alloc, &parts.lists, &parts.list_nodes)?;
         let documents = documents_tree::<H>(alloc, &collection, &parts.terms, &parts.term_nodes)?;
         let texts_root = root_of_texts::<H>(alloc, &collection);
-        Ok(Index::<H>::assembled(
-            alloc, collection, parts, list_nodes, dictionary, documents, texts_root,
-        ))
+        Ok(Index::<H>::assembled(alloc, collection, parts, dictionary, documents, texts_root))
     }
 }
 
@@ -282,16 +279,7 @@ impl<H: Hash32 + Sync> Index<H> {
         ensures { IfOk result (λ index. index ≡ archive_of collection) }
     {
         let (parts, texts_root) = parts_and_texts::<H, _>(rt, alloc, &collection)?;
-        let list_nodes = nodes_of_all_lists::<H>(rt, alloc, &parts.lists)?;
-        let (dictionary, documents) = upper_trees::<H, _>(
-            rt,
-            alloc,
-            &collection,
-            &parts,
-            &list_nodes,
-        )?;
-        Ok(Index::<H>::assembled(
-            alloc, collection, parts, list_nodes, dictionary, documents, texts_root,
-        ))
+        let (dictionary, documents) = upper_trees::<H, _>(rt, alloc, &collection, &parts)?;
+        Ok(Index::<H>::assembled(alloc, collection, parts, dictionary, documents, texts_root))
     }
 }

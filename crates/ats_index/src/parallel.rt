@@ -37,7 +37,7 @@ use std::thread::Threads;
 // Four runs of documents are gathered side by side.
 const HALVINGS: u32 = 2;
 
-/// The counted terms of each document.
+// The counted terms of each document.
 fn counts_of_documents(
     rt: &(impl Threads + Sync),
     alloc: Global,
@@ -165,7 +165,7 @@ fn nodes_of_document<H: Hash32>(
     nodes_of_terms::<H>(alloc, &DocTerms::from_counts(counts, collection, doc))
 }
 
-/// The nodes of the tree of each document's terms.
+// The nodes of the tree of each document's terms.
 fn nodes_of_documents_terms<H: Hash32 + Sync>(
     rt: &(impl Threads + Sync),
     alloc: Global,
@@ -190,8 +190,8 @@ fn nodes_of_documents_terms<H: Hash32 + Sync>(
     made
 }
 
-/// The nodes of the tree of each list.
-pub(crate) fn nodes_of_all_lists<H: Hash32 + Sync>(
+// The nodes of the tree of each list.
+fn nodes_of_all_lists<H: Hash32 + Sync>(
     rt: &(impl Threads + Sync),
     alloc: Global,
     lists: &Lists,
@@ -212,8 +212,8 @@ pub(crate) fn nodes_of_all_lists<H: Hash32 + Sync>(
     made
 }
 
-// The lists, and beside them the nodes of the trees of the documents' terms.
-fn lists_and_nodes<H: Hash32 + Sync, R: Threads + Sync>(
+// The lists with the nodes of their trees, which are hashed as soon as the lists are there.
+fn lists_with_nodes<H: Hash32 + Sync, R: Threads + Sync>(
     rt: &R,
     alloc: Global,
     collection: &Collection,
@@ -221,22 +221,55 @@ fn lists_and_nodes<H: Hash32 + Sync, R: Threads + Sync>(
 ) -> Result<(Lists, Vec<Nodes>), OutOfMemory>
     requires { counts.now ≡ all_counts collection.now }
     ensures lists { IfOk result (λ made. made.0 ≡ lists_of collection.now) }
-    ensures nodes { IfOk result (λ made. made.1.items ≡ all_term_digests H.hash collection.now) }
+    ensures nodes { IfOk result (λ made. made.1.items ≡ all_list_digests H.hash (lists_of collection.now)) }
 {
-    let (lists, nodes) = join(
+    let lists = lists_of_counts::<R>(rt, alloc, collection, counts)?;
+    let nodes = nodes_of_all_lists::<H>(rt, alloc, &lists)?;
+    Ok((lists, nodes))
+}
+
+// The lists, and the nodes of their trees and of those of the documents' terms.
+#[derive(Drop)]
+struct Hashed {
+    lists: Lists,
+    list_nodes: Vec<Nodes>,
+    term_nodes: Vec<Nodes>,
+}
+
+// The lists with the nodes of their trees, and beside them those of the trees of the documents' terms.
+fn hashed_by_threads<H: Hash32 + Sync, R: Threads + Sync>(
+    rt: &R,
+    alloc: Global,
+    collection: &Collection,
+    counts: &[TermCounts],
+) -> Result<Hashed, OutOfMemory>
+    requires { counts.now ≡ all_counts collection.now }
+    ensures lists { IfOk result (λ made. made.lists ≡ lists_of collection.now) }
+    ensures list_nodes { IfOk result (λ made.
+        made.list_nodes.items ≡ all_list_digests H.hash (lists_of collection.now)) }
+    ensures term_nodes { IfOk result (λ made. made.term_nodes.items ≡ all_term_digests H.hash collection.now) }
+{
+    let (lists, term_nodes) = join(
         rt,
-        || -> Result<Lists, OutOfMemory>
-            requires sync { IsSync R.row }
+        || -> Result<(Lists, Vec<Nodes>), OutOfMemory>
+            requires sync { IsSync R.row × IsSync H.row }
             requires counts { counts.now ≡ all_counts collection.now }
-            ensures { IfOk result (λ lists. lists ≡ lists_of collection.entry.now) }
-        { lists_of_counts::<R>(rt, alloc, collection, counts) },
+            ensures lists { IfOk result (λ made. made.0 ≡ lists_of collection.entry.now) }
+            ensures nodes { IfOk result (λ made.
+                made.1.items ≡ all_list_digests H.hash (lists_of collection.entry.now)) }
+        { lists_with_nodes::<H, R>(rt, alloc, collection, counts) },
         || -> Result<Vec<Nodes>, OutOfMemory>
             requires sync { IsSync R.row × IsSync H.row }
             requires counts { counts.now ≡ all_counts collection.now }
             ensures { IfOk result (λ nodes. nodes.items ≡ all_term_digests H.hash collection.entry.now) }
         { nodes_of_documents_terms::<H>(rt, alloc, collection, counts) },
     );
-    Ok((lists?, nodes?))
+    let (lists, list_nodes) = lists?;
+    Ok(Hashed {
+        lists,
+        list_nodes,
+        term_nodes: term_nodes?,
+    })
 }
 
 // The terms of each document, of which these are the counted terms.
@@ -259,21 +292,28 @@ fn terms_of_documents(
     Ok(made)
 }
 
-// The lists, and the terms of the documents with the nodes of their trees. Each document is counted once.
+// The lists and the terms of the documents, with the nodes of their trees. Each document is counted once.
 fn counted_by_threads<H: Hash32 + Sync, R: Threads + Sync>(
     rt: &R,
     alloc: Global,
     collection: &Collection,
 ) -> Result<DocumentParts, OutOfMemory>
     ensures lists { IfOk result (λ made. made.lists ≡ lists_of collection.now) }
+    ensures list_nodes { IfOk result (λ made.
+        made.list_nodes.items ≡ all_list_digests H.hash (lists_of collection.now)) }
     ensures terms { IfOk result (λ made. made.terms.items ≡ all_terms collection.now) }
     ensures term_nodes { IfOk result (λ made. made.term_nodes.items ≡ all_term_digests H.hash collection.now) }
 {
     let counts = counts_of_documents(rt, alloc, collection)?;
-    let (lists, term_nodes) = lists_and_nodes::<H, R>(rt, alloc, collection, &counts)?;
+    let Hashed {
+        lists,
+        list_nodes,
+        term_nodes,
+    } = hashed_by_threads::<H, R>(rt, alloc, collection, &counts)?;
     let terms = terms_of_documents(alloc, collection, counts)?;
     Ok(DocumentParts {
         lists,
+        list_nodes,
         terms,
         term_nodes,
     })
@@ -286,6 +326,8 @@ pub(crate) fn parts_and_texts<H: Hash32 + Sync, R: Threads + Sync>(
     collection: &Collection,
 ) -> Result<(DocumentParts, [u8; 32]), OutOfMemory>
     ensures lists { IfOk result (λ made. made.0.lists ≡ lists_of collection.now) }
+    ensures list_nodes { IfOk result (λ made.
+        made.0.list_nodes.items ≡ all_list_digests H.hash (lists_of collection.now)) }
     ensures terms { IfOk result (λ made. made.0.terms.items ≡ all_terms collection.now) }
     ensures term_nodes { IfOk result (λ made. made.0.term_nodes.items ≡ all_term_digests H.hash collection.now) }
     ensures texts { IfOk result (λ made. made.1 ≡ mth H.hash collection.now) }
@@ -295,6 +337,8 @@ pub(crate) fn parts_and_texts<H: Hash32 + Sync, R: Threads + Sync>(
         || -> Result<DocumentParts, OutOfMemory>
             requires { IsSync R.row × IsSync H.row }
             ensures lists { IfOk result (λ made. made.lists ≡ lists_of collection.entry.now) }
+            ensures list_nodes { IfOk result (λ made.
+                made.list_nodes.items ≡ all_list_digests H.hash (lists_of collection.entry.now)) }
             ensures terms { IfOk result (λ made. made.terms.items ≡ all_terms collection.entry.now) }
             ensures term_nodes { IfOk result (λ made.
                 made.term_nodes.items ≡ all_term_digests H.hash collection.entry.now) }
@@ -312,11 +356,10 @@ pub(crate) fn upper_trees<H: Hash32 + Sync, R: Threads + Sync>(
     alloc: Global,
     collection: &Collection,
     parts: &DocumentParts,
-    list_nodes: &[Nodes],
 ) -> Result<(DictionaryTree, DocumentsTree), OutOfMemory>
     requires terms { parts.now.terms.items ≡ all_terms collection.now }
     requires term_nodes { parts.now.term_nodes.items ≡ all_term_digests H.hash collection.now }
-    requires list_nodes { list_nodes.now ≡ all_list_digests H.hash parts.now.lists }
+    requires list_nodes { parts.now.list_nodes.items ≡ all_list_digests H.hash parts.now.lists }
     ensures dictionary { IfOk result (λ made. made.0.dictionary ≡ map (dict_entry H.hash whole_lists) parts.now.lists) }
     ensures dict_nodes { IfOk result (λ made. made.0.nodes ≡ kept_digests H.hash (dict_leaves made.0.dictionary)) }
     ensures leaves { IfOk result (λ made. made.1.leaves.items ≡ all_leaves H.hash collection.now) }
@@ -325,11 +368,11 @@ pub(crate) fn upper_trees<H: Hash32 + Sync, R: Threads + Sync>(
     let (dictionary, documents) = join(
         rt,
         || -> Result<DictionaryTree, OutOfMemory>
-            requires { list_nodes.now ≡ all_list_digests H.hash parts.now.lists }
+            requires { parts.now.list_nodes.items ≡ all_list_digests H.hash parts.now.lists }
             ensures dictionary { IfOk result (λ made.
                 made.dictionary ≡ map (dict_entry H.hash whole_lists) parts.entry.now.lists) }
             ensures nodes { IfOk result (λ made. made.nodes ≡ kept_digests H.hash (dict_leaves made.dictionary)) }
-        { dictionary_tree::<H>(alloc, &parts.lists, list_nodes) },
+        { dictionary_tree::<H>(alloc, &parts.lists, &parts.list_nodes) },
         || -> Result<DocumentsTree, OutOfMemory>
             requires terms { parts.now.terms.items ≡ all_terms collection.now }
             requires nodes { parts.now.term_nodes.items ≡ all_term_digests H.hash collection.now }

@@ -100,3 +100,33 @@ pub(crate) fn put_lists<W: Takes>(to: &mut W, lists: &Lists) -> Result<(), OutOf
     }
     Ok(())
 }
+
+// The bytes in front of the texts, and those of the number of lists and of the root.
+const FRONT_BYTES: usize = 9;
+
+const LISTS_AND_ROOT_BYTES: usize = 36;
+
+// The bytes of the length of a text; of those of a term and of its list; and of an entry.
+const TEXT_LENGTH_BYTES: usize = 4;
+
+const LIST_LENGTH_BYTES: usize = 5;
+
+const ENTRY_BYTES: usize = 6;
+
+/// How many bytes the index of these has, so that room for them is taken at once.
+pub(crate) fn room_of(collection: &Collection, lists: &Lists) -> usize {
+    let mut room = FRONT_BYTES + LISTS_AND_ROOT_BYTES;
+    for doc in 0..collection.documents() {
+        room = room
+            .saturating_add(TEXT_LENGTH_BYTES)
+            .saturating_add(collection.text(doc).len());
+    }
+    for i in 0..lists.len() {
+        let entries = lists.list(i).len().saturating_mul(ENTRY_BYTES);
+        room = room
+            .saturating_add(LIST_LENGTH_BYTES)
+            .saturating_add(lists.term(i).len())
+            .saturating_add(entries);
+    }
+    room
+}

@@ -5,5 +5,5 @@ pub returns : goal.returns
 returns g c = record {
   utf8 = c.in_ok-put.ensures.texts.utf8;
   within = c.in_ok-put.ensures.texts.within;
-  same = c.in_ok-put.ensures.bytes [] c.new-bytes.ensures;
+  same = c.in_ok-put.ensures.bytes [] c.in_ok-bytes.ensures;
 }
