@@ -1,6 +1,6 @@
 //! A term as a key of a map.
 
-ghost use Rattle.std.specs.Prelude.{◌≡◌, Some, nat_eq, refl, IfOk};
+ghost use Rattle.std.specs.Prelude.{◌≡◌, [], Some, nat_eq, refl, IfOk, OnOk};
 ghost use Rattle.std.proofs.Common.{sym};
 ghost use Rattle.std.specs.Cmp.{partial_equiv_from_equiv, partial_order_from_agreeing_total};
 ghost use Rattle.std.specs.Cmp.Lexicographic.{nat_list_cmp_total, nat_list_eq_equiv, pointwise};
@@ -8,7 +8,7 @@ ghost use Rattle.ats_terms.specs.Query.{byte_cmp};
 ghost use Rattle.std.proofs.lemmas.Map.Text.{is_eq-slice_cmp};
 
 use crate::memory::OutOfMemory;
-use ats_terms::front;
+use ats_terms::{cmp_by_front, front};
 use std::alloc::Global;
 use std::cmp::Ordering;
 use std::marker::Model;
@@ -32,6 +32,17 @@ impl Model for Key {
 }
 
 impl Key {
+    /// The key of the empty term.
+    pub(crate) fn empty(alloc: Global) -> Self
+        ensures { result ≡ [] }
+    {
+        let term = Vec::new(alloc);
+        Key {
+            front: front(&term),
+            term,
+        }
+    }
+
     /// The key of a term, which is copied.
     pub(crate) fn of(alloc: Global, term: &[u8]) -> Result<Self, OutOfMemory>
         ensures { IfOk result (λ key. key ≡ term.now) }
@@ -40,6 +51,17 @@ impl Key {
             front: front(term),
             term: Vec::from_slice(alloc, term)?,
         })
+    }
+
+    /// Makes it the key of this term, in the memory that it has where that is enough.
+    pub(crate) fn set(&mut self, term: &[u8]) -> Result<(), OutOfMemory>
+        ensures { OnOk result (self.new ≡ term.now) }
+    {
+        self.term.clear();
+        let copied = self.term.extend_from_slice(term);
+        self.front = front(&self.term);
+        copied?;
+        Ok(())
     }
 
     pub(crate) fn term(&self) -> &[u8]
@@ -91,9 +113,6 @@ impl Ord for Key {
     ghost matches_eq = { λ x y. sym (is_eq-slice_cmp x y) };
 
     fn cmp(&self, other: &Self) -> Ordering {
-        match self.front.cmp(&other.front) {
-            Ordering::Equal => self.term.cmp(&other.term),
-            unequal => unequal,
-        }
+        cmp_by_front(self.front, &self.term, other.front, &other.term)
     }
 }

@@ -3,7 +3,8 @@
 ghost use Rattle.std.specs.Prelude.{◌≡◌, ◌⊎◌, ◌<◌, ◌++◌, ◌∷◌, [], length, is_ok, None, IfOk, IfSome, if◌then◌else◌};
 ghost use Rattle.std.specs.BTreeMap.{get};
 ghost use Rattle.ats_terms.specs.Query.{byte_cmp};
-ghost use Rattle.ats_lists.specs.Gathered.{term_of, AreNumbersOf, AreSlotsOf};
+ghost use Rattle.ats_terms.specs.Front.{front as front_of, AreBytes};
+ghost use Rattle.ats_lists.specs.Gathered.{term_of, AreNumbersOf, AreSlotsOf, IsSlotOf};
 
 use crate::key::Key;
 use crate::memory::OutOfMemory;
@@ -11,6 +12,7 @@ use ats_terms::front;
 use std::alloc::Global;
 use std::collections::BTreeMap;
 use std::marker::Model;
+use std::mem::replace;
 
 // A term that came lately: its first 8 bytes as a number, its number, and its length and one more. An empty slot has
 // zeros.
@@ -29,13 +31,15 @@ const EMPTY: Slot = Slot {
 
 /// Distinct terms, each of which has the number of those that came before it.
 ///
-/// Most terms have come lately: their numbers are found in a direct-mapped cache, without a search of the map.
+/// Most terms have come lately: their numbers are found in a set-associative cache, without a search of the map.
+/// The key of the last search lends its memory to the next.
 #[derive(Drop)]
 pub(crate) struct Numbering {
     alloc: Global,
     numbers: BTreeMap<Key, u32>,
     terms: Vec<Key>,
     cache: Vec<Slot>,
+    sought: Key,
 }
 
 impl Model for Numbering {
@@ -49,28 +53,30 @@ impl Model for Numbering {
     ghost invariant = { λ n. AreNumbersOf n.terms.items n.numbers × AreSlotsOf n.terms.items n.cache.items };
 }
 
-// The cache has 2^15 slots.
-const CACHE_BITS: u32 = 15;
+// A term may take each of 4 slots, and the cache has 2^14 times so many.
+const WAYS: usize = 4;
+
+const SET_BITS: u32 = 14;
 
 // The most bytes of a term that are compared by the number of its first bytes alone.
 const FIRST_BYTES: usize = 8;
 
-// The slot of a term. Other terms may have the same.
-fn slot_of(term: &[u8]) -> usize {
-    let mixed = (front(term) ^ term.len() as u64).wrapping_mul(0x9e37_79b9_7f4a_7c15);
-    (mixed >> (64 - CACHE_BITS)) as usize
+// The first of the slots that a term may take. Other terms may take the same.
+fn first_slot_of(first: u64, term: &[u8]) -> usize
+    ensures { result < 65536 }
+{
+    let mixed = (first ^ term.len() as u64).wrapping_mul(0x9e37_79b9_7f4a_7c15);
+    (mixed >> (64 - SET_BITS)) as usize * WAYS
 }
 
-// The number of a term, if it is the one in its slot.
-fn cached(terms: &[Key], cache: &[Slot], term: &[u8]) -> Option<u32>
-    requires { AreSlotsOf terms.now cache.now }
+// The number in a slot, if the slot is that of the term.
+fn number_in(terms: &[Key], slot: &Slot, first: u64, term: &[u8]) -> Option<u32>
+    requires slot { (slot.now.size ≡ 0) ⊎ IsSlotOf terms.now slot.now }
+    requires first { first ≡ front_of 8 term.now }
+    requires bytes { AreBytes term.now }
     ensures { IfSome result (λ n. (n < length terms.now) × (term_of terms.now n ≡ term.now)) }
 {
-    let Ok(size) = u8::try_from(term.len() + 1) else {
-        return None;
-    };
-    let slot = cache.get(slot_of(term))?;
-    if slot.size != size || slot.first != front(term) {
+    if slot.first != first || slot.size as usize != term.len() + 1 {
         return None;
     }
     if term.len() <= FIRST_BYTES {
@@ -84,32 +90,56 @@ fn cached(terms: &[Key], cache: &[Slot], term: &[u8]) -> Option<u32>
     }
 }
 
-// Puts a term into its slot. One that is too long for the cache stays out.
+// The number of a term, if it is in one of its slots.
+fn cached(terms: &[Key], cache: &[Slot], first: u64, term: &[u8]) -> Option<u32>
+    requires slots { AreSlotsOf terms.now cache.now }
+    requires first { first ≡ front_of 8 term.now }
+    requires bytes { AreBytes term.now }
+    ensures { IfSome result (λ n. (n < length terms.now) × (term_of terms.now n ≡ term.now)) }
+{
+    let at = first_slot_of(first, term);
+    for way in 0..WAYS {
+        let slot = cache.get(at + way)?;
+        if let Some(n) = number_in(terms, slot, first, term) {
+            return Some(n);
+        }
+    }
+    None
+}
+
+// Puts a term into the first of its slots, and what was there into the next, so that the oldest leaves. A term that is
+// too long for the cache stays out.
 fn remember(
     terms: &[Key],
     cache: &mut Vec<Slot>,
+    first: u64,
     term: &[u8],
     number: u32,
 ) -> Result<(), OutOfMemory>
     requires slots { AreSlotsOf terms.now cache.old.items }
     requires inside { number < length terms.now }
     requires term { term_of terms.now number ≡ term.now }
+    requires first { first ≡ front_of 8 term.now }
+    requires bytes { AreBytes term.now }
     ensures { AreSlotsOf terms.now cache.new.items }
 {
     if cache.is_empty() {
-        cache.resize(1 << CACHE_BITS, EMPTY)?;
+        cache.resize(WAYS << SET_BITS, EMPTY)?;
     }
     let Ok(size) = u8::try_from(term.len() + 1) else {
         return Ok(());
     };
-    let Some(slot) = cache.get_mut(slot_of(term)) else {
-        return Ok(());
-    };
-    *slot = Slot {
-        first: front(term),
+    let at = first_slot_of(first, term);
+    let mut newer = Slot {
+        first,
         number,
         size,
     };
+    for way in 0..WAYS {
+        if let Some(slot) = cache.get_mut(at + way) {
+            newer = replace(slot, newer);
+        }
+    }
     Ok(())
 }
 
@@ -147,6 +177,7 @@ impl Numbering {
             numbers: BTreeMap::new(alloc),
             terms: Vec::new(alloc),
             cache: Vec::new(alloc),
+            sought: Key::empty(alloc),
         }
     }
 
@@ -171,13 +202,14 @@ impl Numbering {
         ensures more { IfOk result (λ n. (self.new ≡ self.old)
             ⊎ ((n ≡ length self.old) × (self.new ≡ self.old ++ term.now ∷ []))) }
     {
-        if let Some(n) = cached(&self.terms, &self.cache, term) {
+        let first = front(term);
+        if let Some(n) = cached(&self.terms, &self.cache, first, term) {
             return Ok(n);
         }
-        let key = Key::of(self.alloc, term)?;
-        if let Some(n) = self.numbers.get(&key) {
+        self.sought.set(term)?;
+        if let Some(n) = self.numbers.get(&self.sought) {
             let n = *n;
-            remember(&self.terms, &mut self.cache, term, n)?;
+            remember(&self.terms, &mut self.cache, first, term, n)?;
             return Ok(n);
         }
         add(self.alloc, &mut self.numbers, &mut self.terms, term)
@@ -192,6 +224,7 @@ impl Numbering {
             numbers,
             terms: _,
             cache: _,
+            sought: _,
         } = self;
         numbers
     }

@@ -1,5 +1,5 @@
 -- Terms that are compared by the numbers of their first bytes.
-use Rattle.std.proofs.Common.{◌≡◌, ◌≢◌, ◌<◌, ◌≤◌, ◌+◌, ◌*◌, ℕ, zero, suc, List, [], ◌∷◌, ◌++◌, length, get_or, replicate, refl, sym, ap, ap₂, subst, ◌∙◌, inl, inr, arith}
+use Rattle.std.proofs.Common.{◌≡◌, ◌≢◌, ◌<◌, ◌≤◌, ◌+◌, ◌-◌, ◌*◌, ◌%◌, ◌^◌, ℕ, min, take, drop, zero, suc, List, [], ◌∷◌, ◌++◌, length, get_or, replicate, refl, sym, ap, ap₂, subst, ◌∙◌, inl, inr, arith}
 use Rattle.std.specs.Ordering.{nat_cmp, ordering_reverse}
 use Rattle.std.specs.declared.cmp.Ordering.{Ordering}
 use Rattle.std.specs.declared.cmp.Ordering.TheVariants.{Less, Equal, Greater}
@@ -33,6 +33,21 @@ front_padded n m term = front_by n (term ++ replicate m 0) term (λ i inside. ze
 pub front_read : (term : List ℕ) → big_number 8 term ≡ front 8 term
 unfolding front
 front_read term = omega arith
+
+-- the number of 4 to 7 bytes is that of the first 4 and that of the last 4 without those that are among the first
+pub front_joined : (term : List ℕ) (first last : ℕ) → AreBytes term → 4 ≤ length term → length term < 8
+    → first ≡ big_number 4 term → last ≡ big_number 4 (take (length term - (length term - 4)) (drop (length term - 4) term))
+    → first * 2 ^ 32 % 2 ^ 64 + last * 2 ^ (8 * (8 - length term)) % 2 ^ 64 % 2 ^ 32 ≡ front 8 term
+unfolding front
+front_joined [] first last bytes some few is rest = absurd (omega arith)
+front_joined (a ∷ []) first last bytes some few is rest = absurd (omega arith)
+front_joined (a ∷ b ∷ []) first last bytes some few is rest = absurd (omega arith)
+front_joined (a ∷ b ∷ c ∷ []) first last bytes some few is rest = absurd (omega arith)
+front_joined (a ∷ b ∷ c ∷ d ∷ []) first last bytes some few is rest = omega (arith, is, rest, bytes 0, bytes 1, bytes 2, bytes 3)
+front_joined (a ∷ b ∷ c ∷ d ∷ e ∷ []) first last bytes some few is rest = omega (arith, is, rest, bytes 0, bytes 1, bytes 2, bytes 3, bytes 4)
+front_joined (a ∷ b ∷ c ∷ d ∷ e ∷ f ∷ []) first last bytes some few is rest = omega (arith, is, rest, bytes 0, bytes 1, bytes 2, bytes 3, bytes 4, bytes 5)
+front_joined (a ∷ b ∷ c ∷ d ∷ e ∷ f ∷ g ∷ []) first last bytes some few is rest = omega (arith, is, rest, bytes 0, bytes 1, bytes 2, bytes 3, bytes 4, bytes 5, bytes 6)
+front_joined (a ∷ b ∷ c ∷ d ∷ e ∷ f ∷ g ∷ h ∷ more) first last bytes some few is rest = absurd (omega arith)
 
 -- terms with one number have the same first bytes
 same_bytes : (n : ℕ) (x y : List ℕ) → AreBytes x → AreBytes y → front n x ≡ front n y → (i : ℕ) → i < n → get_or x i 0 ≡ get_or y i 0
@@ -82,6 +97,29 @@ front_decides n x y xs ys Equal is other = absurd (other refl)
 front_decides n x y xs ys Greater is other =
     let above : front n y < front n x = grind (arith, nat_tests) in
     sym (nat_list_cmp_total.antisymm x y ∙ ap ordering_reverse (front_less n y x ys xs above))
+
+suc_cmp : (m k : ℕ) → nat_cmp (suc m) (suc k) ≡ nat_cmp m k
+suc_cmp m k = grind (arith, nat_tests)
+
+-- where one term begins with the other, the shorter comes first
+by_length : (x y : List ℕ) → ((i : ℕ) → i < length x → i < length y → get_or x i 0 ≡ get_or y i 0) → nat_cmp (length x) (length y) ≡ byte_cmp x y
+by_length [] [] same = refl
+by_length [] (b ∷ y) same =
+    let below : nat_cmp 0 (suc (length y)) ≡ Less = grind (arith, nat_tests) in
+    below
+by_length (a ∷ x) [] same =
+    let above : nat_cmp (suc (length x)) 0 ≡ Greater = grind (arith, nat_tests) in
+    above
+by_length (a ∷ x) (b ∷ y) same =
+    let head : a ≡ b = same 0 (omega arith) (omega arith) in
+    let tied : nat_cmp a b ≡ Equal = subst (λ c. nat_cmp a c ≡ Equal) head (tied_itself nat_cmp_total a) in
+    rw tied (suc_cmp (length x) (length y) ∙ by_length x y (λ i inside within. same (suc i) (omega arith) (omega arith)))
+
+-- where the numbers are the same and one term has n bytes at most, the lengths compare as the terms do
+pub length_decides : (n : ℕ) (x y : List ℕ) → AreBytes x → AreBytes y → front n x ≡ front n y → min (length x) (length y) ≤ n
+    → nat_cmp (length x) (length y) ≡ byte_cmp x y
+length_decides n x y xs ys same few =
+    by_length x y (λ i inside within. same_bytes n x y xs ys same i (omega arith))
 
 -- terms of n bytes at most with one number and one length are the same
 pub front_tells : (n : ℕ) (x y : List ℕ) → AreBytes x → AreBytes y → length x ≤ n → length x ≡ length y → front n x ≡ front n y → x ≡ y

@@ -36,7 +36,5 @@ pub use Rattle.ats_terms.proofs.Unique.{few_pairs}
 pub use Rattle.ats_terms.proofs.Unique.{weight_absent}
 -- in pairs whose terms rise strictly, the weight of a pair's term is that pair's weight
 pub use Rattle.ats_terms.proofs.Unique.{weight_at}
--- where the numbers of the first bytes of two terms differ, the terms compare as they do
-pub use Rattle.ats_terms.proofs.Fronts.{front_decides}
 -- terms of n bytes at most with one length are the same where the numbers of their first n bytes are
 pub use Rattle.ats_terms.proofs.Fronts.{front_tells}

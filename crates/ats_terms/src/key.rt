@@ -7,7 +7,7 @@ ghost use Rattle.std.specs.Cmp.Lexicographic.{nat_list_cmp_total, nat_list_eq_eq
 ghost use Rattle.ats_terms.specs.Order.{byte_cmp};
 ghost use Rattle.std.proofs.lemmas.Map.Text.{is_eq-slice_cmp};
 
-use crate::leading::front;
+use crate::leading::{cmp_by_front, front};
 use std::cmp::Ordering;
 use std::marker::Model;
 
@@ -82,9 +82,6 @@ impl<'a> Ord for Key<'a> {
     ghost matches_eq = { λ x y. sym (is_eq-slice_cmp x y) };
 
     fn cmp(&self, other: &Self) -> Ordering {
-        match self.front.cmp(&other.front) {
-            Ordering::Equal => self.term.cmp(other.term),
-            unequal => unequal,
-        }
+        cmp_by_front(self.front, self.term, other.front, other.term)
     }
 }
