@@ -6,7 +6,7 @@ use Rattle.std.proofs.Math.Nat.{two-pow-succ}
 use Rattle.std.proofs.Math.Seq.{take-length, take-append_seam, drop-append_seam, set-append_seam}
 use Rattle.std.proofs.lemmas.Bool.{cases_lt}
 use Rattle.std.proofs.lemmas.Nat.{pow_pos}
-use Rattle.std.proofs.lemmas.List.{drop_more, length-take, length-drop, length-append, append_assoc, take_all, take-take, get_or-take, get_or-drop}
+use Rattle.std.proofs.lemmas.List.{drop_more, length-take, length-drop, length-append, append_assoc, take_all, take-take, get_or-take, get_or-drop, get_or-append-add, get_or_append_left}
 use Rattle.std.proofs.lemmas.List.Elements.{All-append, All-nil, All-cons}
 use Rattle.ats_tree.specs.Tree.{Tree, empty, leaf, node, tree_within, tree_of, digest_of, mth, IsPowerOfTwo}
 use Rattle.ats_tree.specs.Shown.{places}
@@ -134,6 +134,52 @@ append-node H from k n place ds before opened left right z d power below largest
     in let cut : kept_digests H (take n (drop from ds)) ≡ d ∷ (a ++ b) =
     kept-part-cut H from k n ds power below largest within ∙ ap (λ (x : List ℕ). x ∷ (a ++ b)) (sym value)
     in rw (all, at, cut) (set-append_seam before z (a ++ b) d)
+
+-- ---- where they begin
+
+-- digests that are appended begin with that of their tree
+begin-behind : (H : List ℕ → List ℕ) (leaves before after : List (List ℕ)) (at : ℕ) → 1 ≤ length leaves → at ≡ length before
+    → after ≡ before ++ kept_digests H leaves
+    → (at < length after) × ((d other : List ℕ) → d ≡ get_or after at other → d ≡ mth H leaves)
+begin-behind H leaves before after at some place is =
+    let kept : List (List ℕ) = kept_digests H leaves
+    in let many : 0 < length kept = omega (arith, length-kept H leaves some)
+    in let here : at ≡ length before + 0 = omega arith
+    in (
+      omega (arith, ap length is, length-append before kept),
+      λ d other value. kept-first H leaves kept d other many (value ∙ rw (is, here) (get_or-append-add before kept 0 other)) refl,
+    )
+
+-- and so they do where others follow
+begin-between : (H : List ℕ → List ℕ) (leaves before after more all : List (List ℕ)) (at : ℕ) → 1 ≤ length leaves → at ≡ length before
+    → after ≡ before ++ kept_digests H leaves → all ≡ after ++ more
+    → (at < length all) × ((d other : List ℕ) → d ≡ get_or all at other → d ≡ mth H leaves)
+begin-between H leaves before after more all at some place is follow =
+    let alone = begin-behind H leaves before after at some place is
+    in (
+      omega (arith, alone.0, ap length follow, length-append after more),
+      λ d other value. alone.1 d other (value ∙ rw follow (get_or_append_left after more other at alone.0)),
+    )
+
+part-some : (from n : ℕ) (ds : List (List ℕ)) → 1 ≤ n → from + n ≤ length ds → 1 ≤ length (take n (drop from ds))
+part-some from n ds some within = omega (arith, length-take n (drop from ds), length-drop from ds)
+
+-- at these places of all digests stand those of the two parts
+pub record HaveRoots (H : List ℕ → List ℕ) (from k n : ℕ) (ds all : List (List ℕ)) (left right : ℕ) : Type 0 where
+  pub left_inside : left < length all
+  pub right_inside : right < length all
+  pub left_root : (d other : List ℕ) → d ≡ get_or all left other → d ≡ mth H (take k (drop from ds))
+  pub right_root : (d other : List ℕ) → d ≡ get_or all right other → d ≡ mth H (take (n - k) (drop (from + k) ds))
+
+-- where one part's digests were appended and then the other's
+pub have_roots : (H : List ℕ → List ℕ) (from k n : ℕ) (ds before after all : List (List ℕ)) (left right : ℕ) → 1 ≤ k → k < n → from + n ≤ length ds
+    → left ≡ length before → right ≡ length after → after ≡ before ++ kept_digests H (take k (drop from ds))
+    → all ≡ after ++ kept_digests H (take (n - k) (drop (from + k) ds)) → HaveRoots H from k n ds all left right
+have_roots H from k n ds before after all left right some below within at_left at_right is_left is_right =
+    let one = begin-between H (take k (drop from ds)) before after _ all left (part-some from k ds some (omega arith)) at_left is_left is_right
+    in let other = begin-behind H (take (n - k) (drop (from + k) ds)) after all right
+    (part-some (from + k) (n - k) ds (omega arith) (omega arith)) at_right is_right
+    in record { left_inside = one.0; right_inside = other.0; left_root = one.1; right_root = other.1 }
 
 -- ---- where the parts are
 

@@ -107,36 +107,36 @@ impl Nodes {
     }
 }
 
-/// Appends the digests of the tree of the `n` leaves from leaf `from` on, and answers the first of them.
+/// Appends the digests of the tree of the `n` leaves from leaf `from` on.
 fn keep_part<H: Hash32, L: Leaves>(
     leaves: &L,
     from: u32,
     n: u32,
     digests: &mut Vec<[u8; 32]>,
     steps: &mut Steps,
-) -> Result<[u8; 32], OutOfMemory>
+) -> Result<(), OutOfMemory>
     requires some { 1 ≤ n }
     requires within { from + n ≤ length (L.items leaves.now) }
     requires ends { from + n < 2 ^ 32 }
     requires room { steps.old + 2 * n ≤ 2 ^ 64 }
-    ensures value { IfOk result (λ d. d ≡ mth H.hash (take n (drop from (L.items leaves.now)))) }
     ensures kept { OnOk result (digests.new.items
         ≡ digests.old.items ++ kept_digests H.hash (take n (drop from (L.items leaves.now)))) }
     ensures cost { steps.new + 1 ≤ steps.old + 2 * n }
 {
     if n == 1 {
-        let digest = leaves.leaf_digest::<H>(from, steps);
-        digests.push(digest)?;
-        return Ok(digest);
+        digests.push(leaves.leaf_digest::<H>(from, steps))?;
+        return Ok(());
     }
     let k = cut_of(n);
-    let place = digests.len();
+    let own = digests.len();
     digests.push([0; 32])?;
-    let left = keep_part::<H, L>(leaves, from, k, digests, steps)?;
-    let right = keep_part::<H, L>(leaves, from + k, n - k, digests, steps)?;
-    let digest = H::digest2(1, &left, &right, steps);
-    digests[place] = digest;
-    Ok(digest)
+    let left = digests.len();
+    keep_part::<H, L>(leaves, from, k, digests, steps)?;
+    let right = digests.len();
+    keep_part::<H, L>(leaves, from + k, n - k, digests, steps)?;
+    let digest = H::digest2(1, &digests[left], &digests[right], steps);
+    digests[own] = digest;
+    Ok(())
 }
 
 /// Appends the digests that positions need of the part of `n` leaves from position `from` on, whose nodes have

@@ -6,7 +6,6 @@ use Rattle.ats_tree.specs.Tree.{tree_of, mth}
 use Rattle.ats_tree.specs.Shown.{places}
 use Rattle.ats_tree.specs.Part.{RisesWithin}
 use Rattle.ats_tree.specs.Elided.{shown_with, elided_of}
-use Rattle.ats_tree.specs.Kept.{kept_digests}
 use Rattle.ats_tree.proofs.ElidedLemmas.{front-rises, back-rises, elided-none, elided-one, elided-cut}
 use Rattle.ats_tree.proofs.KeptLemmas.{HasSize, kept-first, left-of-kept, right-of-kept, front-front}
 use Rattle.ats_tree.proofs.keeping.+elide_kept.Goals as goal

@@ -1,9 +1,6 @@
-use Rattle.std.proofs.Common.{◌≡◌, ℕ, List, length, take, drop, ◌+◌, ◌-◌, ◌*◌, ◌<◌, ◌≤◌, arith, sym, ◌∙◌, ap, Some}
+use Rattle.std.proofs.Common.{◌≡◌, ℕ, List, length, take, drop, ◌+◌, ◌-◌, ◌*◌, arith, sym, ◌∙◌, ap, Some}
 use Rattle.std.proofs.lemmas.List.{length-take, length-drop}
 use Rattle.std.proofs.lemmas.List.Elements.{All-take, All-drop}
-use Rattle.ats_tree.specs.Tree.{Tree, tree_of}
-use Rattle.ats_tree.specs.Paths.{path_of}
-use Rattle.ats_tree.specs.Strings.{string_at}
 use Rattle.ats_tree.proofs.KeptLemmas.{HasSize, left-of-kept, right-of-kept, string-of-kept}
 use Rattle.ats_tree.proofs.TurnLemmas.{string-leaf, string-past, string-left, string-right}
 use Rattle.ats_tree.proofs.node_strings.+string_of_part.Goals as goal

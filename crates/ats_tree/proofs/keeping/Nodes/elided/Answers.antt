@@ -1,4 +1,4 @@
-use Rattle.std.proofs.Common.{◌≡◌, ℕ, ◌+◌, ◌/◌, ◌<◌, ◌≤◌, List, ◌++◌, length, take, drop, arith, sym, ◌∙◌, ap, subst, OnOk}
+use Rattle.std.proofs.Common.{◌≡◌, ℕ, ◌+◌, ◌/◌, ◌<◌, ◌≤◌, List, ◌++◌, length, take, drop, arith, ◌∙◌, subst, OnOk}
 use Rattle.std.specs.List.{All}
 use Rattle.ats_tree.specs.Kept.{kept_digests}
 use Rattle.ats_tree.proofs.Positions.{within-increasing}

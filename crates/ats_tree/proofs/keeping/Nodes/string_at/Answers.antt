@@ -1,4 +1,4 @@
-use Rattle.std.proofs.Common.{◌≡◌, ℕ, List, length, ◌+◌, ◌/◌, arith, ◌∙◌}
+use Rattle.std.proofs.Common.{ℕ, List, arith, ◌∙◌}
 use Rattle.ats_tree.specs.Paths.{path_of}
 use Rattle.ats_tree.proofs.KeptLemmas.{kept-number, kept-whole, string-whole}
 use Rattle.ats_tree.proofs.keeping.Nodes.string_at.Goals as goal
