@@ -18,11 +18,11 @@ fn collection(rt: &HostRuntime, path: &str) -> Option<Collection> {
     Collection::new(rt.alloc(), texts).ok()
 }
 
-// The microseconds of one build by one thread.
+// The microseconds of one build by one thread. What is built is dropped after they are taken.
 fn time_plain(rt: &HostRuntime, texts: &str) -> Option<u128> {
     let collection = collection(rt, texts)?;
     let start = Instant::now(rt).ok()?;
-    Index::<Sha>::build_plain(rt.alloc(), collection).ok()?;
+    let _index = Index::<Sha>::build_plain(rt.alloc(), collection).ok()?;
     micros(rt, &start)
 }
 
@@ -52,7 +52,7 @@ pub(crate) fn time_builds(
         let plain = time_plain(rt, texts)?;
         let (built, bytes) = time_build(rt, threads, texts)?;
         let start = Instant::now(rt).ok()?;
-        Index::<Sha>::load(threads, rt.alloc(), bytes.as_slice()).ok()?;
+        let _index = Index::<Sha>::load(threads, rt.alloc(), bytes.as_slice()).ok()?;
         let loaded = micros(rt, &start)?;
         println!(rt; "{plain} {built} {loaded}").ok()?;
         size = bytes.len() as u64;
