@@ -67,7 +67,8 @@ fn rooms(alloc: Global, terms: usize, log: &[Logged]) -> Result<Vec<Entries>, Ou
 fn parted(alloc: Global, terms: usize, log: &[Logged]) -> Result<Vec<Entries>, OutOfMemory>
     requires { All (λ logged. logged.number < terms) log.now }
     ensures size { IfOk result (λ lists. length lists.items ≡ terms) }
-    ensures entries { IfOk result (λ lists. (n : ℕ) → n < terms → slice_index_or lists.items n [] ≡ entries_under n log.now) }
+    ensures entries { IfOk result (λ lists. (n : ℕ) → n < terms
+        → slice_index_or lists.items n [] ≡ entries_under n log.now) }
 {
     let mut lists = rooms(alloc, terms, log)?;
     for logged in log {
