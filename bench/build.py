@@ -56,11 +56,11 @@ def blocks_of_index(path: Path) -> int:
     return blocks + blocks_of(1 + 105)
 
 
-def seconds_of_a_block(bench: str, runs: int = measure.RUNS) -> float:
+def seconds_of_a_block(bench: str, runs: int = measure.RUNS, nodes: int = NODES) -> float:
     """Of the blocks of inner nodes, which are most of an index's: the least of some runs."""
     none = measure.best([bench, "nodes", "0"], runs).seconds
-    some = measure.best([bench, "nodes", str(NODES)], runs).seconds
-    return (some - none) / (NODES * blocks_of(1 + 64))
+    some = measure.best([bench, "nodes", str(nodes)], runs).seconds
+    return (some - none) / (nodes * blocks_of(1 + 64))
 
 
 def build(program: str, path: Path) -> measure.Run:
@@ -70,20 +70,22 @@ def build(program: str, path: Path) -> measure.Run:
     return best
 
 
-def seconds_of_threads(bench: str, path: Path) -> tuple[float, float, float]:
+def seconds_of_threads(bench: str, path: Path, blocks: int) -> tuple[float, float, float]:
     """The least seconds of a block, and of the call that builds by one thread and by several.
 
-    They take turns, since the speed of a machine may change from one minute to the next.
+    They take turns, since the speed of a machine may change from one minute to the next. As many blocks are hashed
+    as the index has: a run much shorter than the build would find a fast moment more easily.
     """
+    nodes = blocks // blocks_of(1 + 64)
     texts = path.with_suffix(".txt")
     texts.write_text("".join(text + "\n" for text in json.loads(path.read_text(encoding="utf-8"))), encoding="utf-8")
-    blocks, ones, some = [], [], []
+    block, ones, some = [], [], []
     for _ in range(TIMES):
-        blocks.append(seconds_of_a_block(bench, 1))
+        block.append(seconds_of_a_block(bench, 1, nodes))
         one, several, *_ = measure.run([bench, "build", str(texts), "1"]).printed.split()
         ones.append(int(one) / 1e6)
         some.append(int(several) / 1e6)
-    return min(blocks), min(ones), min(some)
+    return min(block), min(ones), min(some)
 
 
 def seconds_of_loading(program: str, path: Path) -> tuple[float, float]:
@@ -98,7 +100,7 @@ def seconds_of_loading(program: str, path: Path) -> tuple[float, float]:
 
 def judge_threads(program: str, bench: str, name: str, path: Path, blocks: int) -> bool:
     """Several threads against one, and loading against building."""
-    block, one, several = seconds_of_threads(bench, path)
+    block, one, several = seconds_of_threads(bench, path, blocks)
     processors = len(os.sched_getaffinity(0))
     print(f"  the call alone: {one:.3f} s by one thread, {several:.3f} s by {processors}; blocks: {blocks * block:.3f} s")
     met = measure.judge("  one thread / the blocks alone", one / (blocks * block), ONE_THREAD[name])
