@@ -3,10 +3,10 @@ use Rattle.std.proofs.Common.{◌≡◌, ℕ, zero, suc, ◌+◌, ◌-◌, ◌*�
 use Rattle.std.specs.List.{All, slice_get}
 use Rattle.std.proofs.Math.ListN.{set}
 use Rattle.std.proofs.Math.Nat.{two-pow-succ}
-use Rattle.std.proofs.Math.Seq.{take-length, take-append_seam, drop-append_seam, set-append_seam}
+use Rattle.std.proofs.Math.Seq.{take-length, take-append_seam, drop-append_seam}
 use Rattle.std.proofs.lemmas.Bool.{cases_lt}
 use Rattle.std.proofs.lemmas.Nat.{pow_pos}
-use Rattle.std.proofs.lemmas.List.{drop_more, length-take, length-drop, length-append, append_assoc, take_all, take-take, get_or-take, get_or-drop, get_or-append-add, get_or_append_left}
+use Rattle.std.proofs.lemmas.List.{append-nil, drop_more, length-take, length-drop, length-append, take_all, take-take, get_or-take, get_or-drop}
 use Rattle.std.proofs.lemmas.List.Elements.{All-append, All-nil, All-cons}
 use Rattle.ats_tree.specs.Tree.{Tree, empty, leaf, node, tree_within, tree_of, digest_of, mth, IsPowerOfTwo}
 use Rattle.ats_tree.specs.Shown.{places}
@@ -15,7 +15,7 @@ use Rattle.ats_tree.specs.Kept.{digests_of, kept_digests, IsNodeList}
 use Rattle.ats_tree.specs.Paths.{Path, path_of}
 use Rattle.ats_tree.specs.Strings.{string_at}
 use Rattle.ats_tree.proofs.Trees.{below_power, within-cut, within-suc, of-within, of-cut, of-one}
-use Rattle.ats_tree.proofs.RootLemmas.{part-tree-cut}
+use Rattle.ats_tree.proofs.RootLemmas.{part-cut, part-tree-cut}
 use Rattle.ats_tree.proofs.TurnLemmas.{string-node}
 
 -- the first digest is that of the tree
@@ -104,82 +104,48 @@ is_node_list H sized leaves ds some few same =
     let count : length (kept_digests H leaves) + 1 ≡ 2 * length leaves = length-kept H leaves some
     in rw same (record { sized = sized-kept H sized leaves; few = omega arith; odd = omega arith })
 
--- ---- how they are appended
+-- ---- how they are put in their places
 
--- from no digests on
-pub append-whole : (H : List ℕ → List ℕ) (n : ℕ) (leaves before after : List (List ℕ)) → before ≡ [] → n ≡ length leaves
-    → after ≡ before ++ kept_digests H (take n (drop 0 leaves)) → after ≡ kept_digests H leaves
-append-whole H n leaves before after none whole is =
-    is ∙ rw (none, whole) (ap (kept_digests H) (take-length leaves))
+-- the one node's own
+filled : (own : List (List ℕ)) (d : List ℕ) → length own ≡ 1 → set own 0 d ≡ d ∷ []
+filled [] d alone = absurd (omega arith)
+filled (z ∷ []) d alone = refl
+filled (z ∷ y ∷ own) d alone = absurd (omega arith)
 
 -- of one leaf
-pub append-leaf : (H : List ℕ → List ℕ) (from n : ℕ) (ds before after : List (List ℕ)) (d : List ℕ) → n ≡ 1 → from + n ≤ length ds
-    → d ≡ mth H (take n (drop from ds)) → after ≡ before ++ d ∷ [] → after ≡ before ++ kept_digests H (take n (drop from ds))
-append-leaf H from n ds before after d one within value is =
-    is ∙ ap (λ (z : List (List ℕ)). before ++ z) (ap (λ (x : List ℕ). x ∷ []) value ∙ sym (kept-part-one H from n ds one within))
-
--- of two parts, behind a place for the node's own
-pub append-node : (H : List ℕ → List ℕ) (from k n place : ℕ) (ds before opened left right : List (List ℕ)) (z d : List ℕ)
-    → IsPowerOfTwo k → k < n → n ≤ 2 * k → from + n ≤ length ds
-    → d ≡ mth H (take n (drop from ds)) → place ≡ length before → opened ≡ before ++ z ∷ []
-    → left ≡ opened ++ kept_digests H (take k (drop from ds))
-    → right ≡ left ++ kept_digests H (take (n - k) (drop (from + k) ds))
-    → set right place d ≡ before ++ kept_digests H (take n (drop from ds))
-append-node H from k n place ds before opened left right z d power below largest within value at is is_left is_right =
-    let a : List (List ℕ) = kept_digests H (take k (drop from ds))
-    in let b : List (List ℕ) = kept_digests H (take (n - k) (drop (from + k) ds))
-    in let all : right ≡ before ++ z ∷ (a ++ b) =
-    is_right ∙ ap (λ (y : List (List ℕ)). y ++ b) (is_left ∙ ap (λ (y : List (List ℕ)). y ++ a) is ∙ append_assoc before (z ∷ []) a)
-    ∙ append_assoc before (z ∷ a) b
-    in let cut : kept_digests H (take n (drop from ds)) ≡ d ∷ (a ++ b) =
-    kept-part-cut H from k n ds power below largest within ∙ ap (λ (x : List ℕ). x ∷ (a ++ b)) (sym value)
-    in rw (all, at, cut) (set-append_seam before z (a ++ b) d)
-
--- ---- where they begin
-
--- digests that are appended begin with that of their tree
-begin-behind : (H : List ℕ → List ℕ) (leaves before after : List (List ℕ)) (at : ℕ) → 1 ≤ length leaves → at ≡ length before
-    → after ≡ before ++ kept_digests H leaves
-    → (at < length after) × ((d other : List ℕ) → d ≡ get_or after at other → d ≡ mth H leaves)
-begin-behind H leaves before after at some place is =
-    let kept : List (List ℕ) = kept_digests H leaves
-    in let many : 0 < length kept = omega (arith, length-kept H leaves some)
-    in let here : at ≡ length before + 0 = omega arith
-    in (
-      omega (arith, ap length is, length-append before kept),
-      λ d other value. kept-first H leaves kept d other many (value ∙ rw (is, here) (get_or-append-add before kept 0 other)) refl,
-    )
-
--- and so they do where others follow
-begin-between : (H : List ℕ → List ℕ) (leaves before after more all : List (List ℕ)) (at : ℕ) → 1 ≤ length leaves → at ≡ length before
-    → after ≡ before ++ kept_digests H leaves → all ≡ after ++ more
-    → (at < length all) × ((d other : List ℕ) → d ≡ get_or all at other → d ≡ mth H leaves)
-begin-between H leaves before after more all at some place is follow =
-    let alone = begin-behind H leaves before after at some place is
-    in (
-      omega (arith, alone.0, ap length follow, length-append after more),
-      λ d other value. alone.1 d other (value ∙ rw follow (get_or_append_left after more other at alone.0)),
-    )
+pub fill-leaf : (H : List ℕ → List ℕ) (from n : ℕ) (ds own rest : List (List ℕ)) (d : List ℕ) → n ≡ 1 → from + n ≤ length ds
+    → d ≡ mth H (take n (drop from ds)) → length own ≡ 1 → length rest ≡ 0
+    → set own 0 d ++ rest ≡ kept_digests H (take n (drop from ds))
+fill-leaf H from n ds own [] d one within value alone none =
+    append-nil (set own 0 d) ∙ filled own d alone ∙ ap (λ (x : List ℕ). x ∷ []) value ∙ sym (kept-part-one H from n ds one within)
+fill-leaf H from n ds own (_ ∷ _) d one within value alone none = absurd (omega arith)
 
 part-some : (from n : ℕ) (ds : List (List ℕ)) → 1 ≤ n → from + n ≤ length ds → 1 ≤ length (take n (drop from ds))
 part-some from n ds some within = omega (arith, length-take n (drop from ds), length-drop from ds)
 
--- at these places of all digests stand those of the two parts
-pub record HaveRoots (H : List ℕ → List ℕ) (from k n : ℕ) (ds all : List (List ℕ)) (left right : ℕ) : Type 0 where
-  pub left_inside : left < length all
-  pub right_inside : right < length all
-  pub left_root : (d other : List ℕ) → d ≡ get_or all left other → d ≡ mth H (take k (drop from ds))
-  pub right_root : (d other : List ℕ) → d ≡ get_or all right other → d ≡ mth H (take (n - k) (drop (from + k) ds))
+-- a part's digests begin with that of its tree
+part-begins : (H : List ℕ → List ℕ) (from n : ℕ) (ds part : List (List ℕ)) (other : List ℕ) → 1 ≤ n → from + n ≤ length ds
+    → part ≡ kept_digests H (take n (drop from ds)) → get_or part 0 other ≡ mth H (take n (drop from ds))
+part-begins H from n ds part other some within same =
+    let leaves : List (List ℕ) = take n (drop from ds)
+    in let many : 0 < length part = omega (arith, ap length same, length-kept H leaves (part-some from n ds some within))
+    in kept-first H leaves part _ other many refl same
 
--- where one part's digests were appended and then the other's
-pub have_roots : (H : List ℕ → List ℕ) (from k n : ℕ) (ds before after all : List (List ℕ)) (left right : ℕ) → 1 ≤ k → k < n → from + n ≤ length ds
-    → left ≡ length before → right ≡ length after → after ≡ before ++ kept_digests H (take k (drop from ds))
-    → all ≡ after ++ kept_digests H (take (n - k) (drop (from + k) ds)) → HaveRoots H from k n ds all left right
-have_roots H from k n ds before after all left right some below within at_left at_right is_left is_right =
-    let one = begin-between H (take k (drop from ds)) before after _ all left (part-some from k ds some (omega arith)) at_left is_left is_right
-    in let other = begin-behind H (take (n - k) (drop (from + k) ds)) after all right
-    (part-some (from + k) (n - k) ds (omega arith) (omega arith)) at_right is_right
-    in record { left_inside = one.0; right_inside = other.0; left_root = one.1; right_root = other.1 }
+-- of two parts, behind the node's own
+pub fill-node : (H : List ℕ → List ℕ) (from k n : ℕ) (ds own left right : List (List ℕ)) (d x y : List ℕ)
+    → IsPowerOfTwo k → k < n → n ≤ 2 * k → from + n ≤ length ds → length own ≡ 1
+    → d ≡ H (1 ∷ get_or left 0 x ++ get_or right 0 y)
+    → left ≡ kept_digests H (take k (drop from ds)) → right ≡ kept_digests H (take (n - k) (drop (from + k) ds))
+    → set own 0 d ++ (left ++ right) ≡ kept_digests H (take n (drop from ds))
+fill-node H from k n ds own left right d x y power below largest within alone is is_left is_right =
+    let one : get_or left 0 x ≡ mth H (take k (drop from ds)) = part-begins H from k ds left x (omega arith) (omega arith) is_left
+    in let other : get_or right 0 y ≡ mth H (take (n - k) (drop (from + k) ds)) =
+    part-begins H (from + k) (n - k) ds right y (omega arith) (omega arith) is_right
+    in let value : d ≡ mth H (take n (drop from ds)) =
+    is ∙ ap₂ (λ (a b : List ℕ). H (1 ∷ a ++ b)) one other ∙ sym (part-cut H from k n ds power below largest within)
+    in ap (λ (z : List (List ℕ)). z ++ (left ++ right)) (filled own d alone)
+    ∙ ap₂ (λ (z : List ℕ) (both : List (List ℕ)). z ∷ both) value (ap₂ ◌++◌ is_left is_right)
+    ∙ sym (kept-part-cut H from k n ds power below largest within)
 
 -- ---- where the parts are
 
@@ -285,6 +251,15 @@ elided-whole H leaves n ps whole =
 pub kept-whole : (H : List ℕ → List ℕ) (leaves : List (List ℕ)) (n : ℕ) → n ≡ length leaves
     → kept_digests H leaves ≡ kept_digests H (take n (drop 0 leaves))
 kept-whole H leaves n whole = rw whole (ap (kept_digests H) (sym (take-length leaves)))
+
+-- that, where the digests are put in as many places
+pub kept-placed : (H : List ℕ → List ℕ) (n count : ℕ) (leaves old now : List (List ℕ)) → 1 ≤ length leaves → n ≡ length leaves
+    → count ≡ length old → length old + 1 ≡ 2 * n → now ≡ kept_digests H (take n (drop 0 leaves))
+    → take count (now ++ drop (length now) old) ≡ kept_digests H leaves
+kept-placed H n count leaves old now some whole counts nodes is =
+    let same : now ≡ kept_digests H leaves = is ∙ sym (kept-whole H leaves n whole)
+    in let size : count ≡ length now = omega (arith, ap length same, length-kept H leaves some)
+    in rw size (take-append_seam now (drop (length now) old)) ∙ same
 
 -- ---- the laws
 

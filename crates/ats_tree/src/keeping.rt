@@ -16,10 +16,12 @@ use crate::digests::{Digests, OutOfMemory};
 use crate::eliding::count_below;
 use crate::hashed_string::HashedString;
 use crate::hashing::Leaves;
+use crate::keeping_by_threads::keep_by_threads;
 use crate::node_strings::{ShortLeaves, string_of_part};
 use ats_hash::{Hash32, HashKind, Steps};
 use std::alloc::Global;
 use std::marker::Model;
+use std::thread::Threads;
 
 /// The digests of all nodes of a tree, in pre-order: of each node first its own, then those of its left part,
 /// then those of its right part. A tree of n leaves has 2n - 1 nodes; n is 1 to 2^31.
@@ -50,8 +52,26 @@ impl Nodes {
         ensures cost { steps.new ≤ steps.old + 2 * length (L.items leaves.now) }
     {
         let n = leaves.len();
-        let mut digests = Vec::with_capacity(alloc, 2 * n as usize - 1)?;
-        keep_part::<H, L>(leaves, 0, n, &mut digests, steps)?;
+        let mut digests = places_of_nodes(alloc, n)?;
+        keep_part::<H, L>(leaves, 0, n, &mut digests, steps);
+        Ok(Nodes { digests })
+    }
+
+    /// The digests of the tree of the leaves. Each node is hashed once. The tree is cut, and its parts too, as often as
+    /// `halvings` says, and what comes of it is hashed side by side. With 0 one thread hashes all.
+    pub fn of_by_threads<H: Hash32 + Sync, L: Leaves + Sync, R: Threads + Sync>(
+        rt: &R,
+        alloc: Global,
+        leaves: &L,
+        halvings: u32,
+    ) -> Result<Nodes, OutOfMemory>
+        requires some { 1 ≤ length (L.items leaves.now) }
+        requires few { length (L.items leaves.now) ≤ 2 ^ 31 }
+        ensures { IfOk result (λ nodes. nodes ≡ kept_digests H.hash (L.items leaves.now)) }
+    {
+        let n = leaves.len();
+        let mut digests = places_of_nodes(alloc, n)?;
+        keep_by_threads::<H, L, R>(rt, alloc, leaves, 0, n, halvings, &mut digests);
         Ok(Nodes { digests })
     }
 
@@ -107,36 +127,41 @@ impl Nodes {
     }
 }
 
-/// Appends the digests of the tree of the `n` leaves from leaf `from` on.
-fn keep_part<H: Hash32, L: Leaves>(
+/// Places for the digests of all nodes of the tree of `n` leaves.
+fn places_of_nodes(alloc: Global, n: u32) -> Result<Vec<[u8; 32]>, OutOfMemory>
+    requires { 1 ≤ n }
+    ensures { IfOk result (λ all. length all.items + 1 ≡ 2 * n) }
+{
+    Ok(vec![in alloc; [0; 32]; 2 * n as usize - 1]?)
+}
+
+/// Puts the digests of the tree of the `n` leaves from leaf `from` on in their places. Those of its left part stand
+/// behind its own, and those of its right part behind these.
+pub(crate) fn keep_part<H: Hash32, L: Leaves>(
     leaves: &L,
     from: u32,
     n: u32,
-    digests: &mut Vec<[u8; 32]>,
+    digests: &mut [[u8; 32]],
     steps: &mut Steps,
-) -> Result<(), OutOfMemory>
+)
     requires some { 1 ≤ n }
     requires within { from + n ≤ length (L.items leaves.now) }
     requires ends { from + n < 2 ^ 32 }
+    requires nodes { length digests.old + 1 ≡ 2 * n }
     requires room { steps.old + 2 * n ≤ 2 ^ 64 }
-    ensures kept { OnOk result (digests.new.items
-        ≡ digests.old.items ++ kept_digests H.hash (take n (drop from (L.items leaves.now)))) }
-    ensures cost { steps.new + 1 ≤ steps.old + 2 * n }
+    ensures kept { digests.new ≡ kept_digests H.hash (take n (drop from (L.items leaves.now))) }
+    ensures cost { steps.new + 1 ≡ steps.old + 2 * n }
 {
+    let (own, parts) = digests.split_at_mut(1);
     if n == 1 {
-        digests.push(leaves.leaf_digest::<H>(from, steps))?;
-        return Ok(());
+        own[0] = leaves.leaf_digest::<H>(from, steps);
+        return;
     }
     let k = cut_of(n);
-    let own = digests.len();
-    digests.push([0; 32])?;
-    let left = digests.len();
-    keep_part::<H, L>(leaves, from, k, digests, steps)?;
-    let right = digests.len();
-    keep_part::<H, L>(leaves, from + k, n - k, digests, steps)?;
-    let digest = H::digest2(1, &digests[left], &digests[right], steps);
-    digests[own] = digest;
-    Ok(())
+    let (left, right) = parts.split_at_mut(2 * k as usize - 1);
+    keep_part::<H, L>(leaves, from, k, left, steps);
+    keep_part::<H, L>(leaves, from + k, n - k, right, steps);
+    own[0] = H::digest2(1, &left[0], &right[0], steps);
 }
 
 /// Appends the digests that positions need of the part of `n` leaves from position `from` on, whose nodes have
