@@ -6,6 +6,7 @@ use Rattle.ats_terms.specs.Terms.{terms}
 use Rattle.ats_tree.specs.Kept.{kept_digests}
 use Rattle.ats_doctree.specs.Impacts.{doc_terms, text_terms}
 use Rattle.ats_doctree.specs.Sentinels.{terms_leaves}
+use Rattle.ats_doctree.specs.declared.doc_leaf.DocLeaf.{DocLeaf}
 use Rattle.ats_commit.specs.Trees.{documents_of, leaf_of, leaf_of_terms, documents_leaf}
 use Rattle.ats_index.specs.Kept.{all_term_digests}
 use Rattle.ats_index.specs.Parts.{all_counts, all_leaves, all_terms}
@@ -18,6 +19,13 @@ leaves_map H texts (text ∷ some) = ap (λ xs. documents_leaf H (terms_leaves (
 -- the bytes of the documents' leaves are the documents tree's
 pub leaves_are_documents : (H : List ℕ → List ℕ) (texts : List (List ℕ)) → map leaf_of (all_leaves H texts) ≡ documents_of H texts
 leaves_are_documents H texts = leaves_map H texts texts
+
+-- and so are the digests of their tree
+pub nodes_are_documents : (H : List ℕ → List ℕ) (texts : List (List ℕ)) (leaves : List DocLeaf) (nodes : List (List ℕ)) → leaves ≡ all_leaves H texts
+    → nodes ≡ kept_digests H (map leaf_of leaves) → nodes ≡ kept_digests H (documents_of H texts)
+nodes_are_documents H texts leaves nodes own same =
+    same ∙ ap (λ (strings : List (List ℕ)). kept_digests H strings)
+    (ap (λ (all : List DocLeaf). map leaf_of all) own ∙ leaves_are_documents H texts)
 
 mapped_twice : {X Y Z : Type 0} (g : Y → Z) (f : X → Y) (xs : List X) → map g (map f xs) ≡ map (λ x. g (f x)) xs
 mapped_twice g f [] = refl

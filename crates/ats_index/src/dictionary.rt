@@ -16,12 +16,8 @@ use ats_lists::{Entry, ListLeaves, Lists};
 use ats_tree::{Leaves, Nodes};
 use std::alloc::Global;
 
-/// The nodes of the tree of list `i`, counted from 0.
-pub(crate) fn nodes_of_list<H: Hash32>(
-    alloc: Global,
-    lists: &Lists,
-    i: u32,
-) -> Result<Nodes, OutOfMemory>
+// The nodes of the tree of list `i`, counted from 0.
+fn nodes_of_list<H: Hash32>(alloc: Global, lists: &Lists, i: u32) -> Result<Nodes, OutOfMemory>
     requires { i < length lists.now }
     ensures { IfOk result (λ nodes.
         nodes ≡ kept_digests H.hash (map leaf_bytes (slice_index_or lists.now i ([], [])).1)) }
@@ -54,8 +50,8 @@ fn root_of<H: HashKind>(entries: &[Entry], nodes: &Nodes) -> [u8; 32]
     nodes.root()
 }
 
-// The dictionary that has an entry for each list, from the nodes of their trees.
-fn dictionary_of<H: HashKind>(
+/// The dictionary that has an entry for each list, from the nodes of their trees.
+pub(crate) fn dictionary_of<H: HashKind>(
     alloc: Global,
     lists: &Lists,
     nodes: &[Nodes],
@@ -88,7 +84,7 @@ pub(crate) struct DictionaryTree {
     pub(crate) nodes: Nodes,
 }
 
-/// The dictionary of lists with its tree, from the nodes of their trees.
+/// The dictionary of lists with its tree, from the nodes of their trees, by one thread.
 pub(crate) fn dictionary_tree<H: Hash32>(
     alloc: Global,
     lists: &Lists,

@@ -3,7 +3,7 @@
 ghost use Rattle.std.specs.Prelude.{◌≡◌, ◌≤◌, length, map, IfOk};
 ghost use Rattle.ats_tree.specs.Kept.{kept_digests};
 ghost use Rattle.ats_doctree.specs.Sentinels.{terms_leaves};
-ghost use Rattle.ats_commit.specs.Trees.{documents_of, leaf_of, leaf_of_terms};
+ghost use Rattle.ats_commit.specs.Trees.{documents_of, leaf_of_terms};
 ghost use Rattle.ats_index.specs.Kept.{all_term_digests};
 ghost use Rattle.ats_index.specs.Parts.{all_leaves, all_terms};
 
@@ -42,14 +42,23 @@ fn leaves_of<H: HashKind>(
     Ok(leaves)
 }
 
-// The nodes of the documents tree.
-fn nodes_of_documents<H: Hash32>(alloc: Global, leaves: &[DocLeaf]) -> Result<Nodes, OutOfMemory>
-    requires some { 1 ≤ length leaves.now }
-    requires few { length leaves.now ≤ 65536 }
-    ensures { IfOk result (λ nodes. nodes ≡ kept_digests H.hash (map leaf_of leaves.now)) }
+/// The leaves of all documents of a collection, from their terms and the nodes of their trees.
+pub(crate) fn leaves_of_documents<H: HashKind>(
+    alloc: Global,
+    collection: &Collection,
+    terms: &[DocTerms],
+    term_nodes: &[Nodes],
+) -> Result<Vec<DocLeaf>, OutOfMemory>
+    requires terms { terms.now ≡ all_terms collection.now }
+    requires nodes { term_nodes.now ≡ all_term_digests H.hash collection.now }
+    ensures leaves { IfOk result (λ leaves. leaves.items ≡ all_leaves H.hash collection.now) }
+    // A collection has 1 to 65,536 documents.
+    ensures some { IfOk result (λ leaves. 1 ≤ length leaves.items) }
+    ensures few { IfOk result (λ leaves. length leaves.items ≤ 65536) }
 {
-    let leaves = DocLeaves { leaves };
-    Ok(Nodes::of::<H, _>(alloc, &leaves, &mut Steps::new(alloc))?)
+    prove!(collection.documents() >= 1);
+    let leaves = leaves_of::<H>(alloc, terms, term_nodes)?;
+    Ok(leaves)
 }
 
 /// The leaves of all documents, and the nodes of their tree.
@@ -59,7 +68,7 @@ pub(crate) struct DocumentsTree {
     pub(crate) nodes: Nodes,
 }
 
-/// The documents tree of a collection, from the terms of its documents and the nodes of their trees.
+/// The documents tree of a collection, from the terms of its documents and the nodes of their trees, by one thread.
 pub(crate) fn documents_tree<H: Hash32>(
     alloc: Global,
     collection: &Collection,
@@ -71,9 +80,11 @@ pub(crate) fn documents_tree<H: Hash32>(
     ensures leaves { IfOk result (λ made. made.leaves.items ≡ all_leaves H.hash collection.now) }
     ensures nodes { IfOk result (λ made. made.nodes ≡ kept_digests H.hash (documents_of H.hash collection.now)) }
 {
-    // A collection has 1 to 65,536 documents.
-    prove!(collection.documents() >= 1);
-    let leaves = leaves_of::<H>(alloc, terms, term_nodes)?;
-    let nodes = nodes_of_documents::<H>(alloc, &leaves)?;
+    let leaves = leaves_of_documents::<H>(alloc, collection, terms, term_nodes)?;
+    let nodes = Nodes::of::<H, _>(
+        alloc,
+        &DocLeaves { leaves: &leaves },
+        &mut Steps::new(alloc),
+    )?;
     Ok(DocumentsTree { leaves, nodes })
 }

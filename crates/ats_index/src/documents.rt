@@ -30,11 +30,8 @@ pub(crate) struct DocumentParts {
     pub(crate) term_nodes: Vec<Nodes>,
 }
 
-/// The nodes of the tree of a document's terms.
-pub(crate) fn nodes_of_terms<H: Hash32>(
-    alloc: Global,
-    terms: &DocTerms,
-) -> Result<Nodes, OutOfMemory>
+// The nodes of the tree of a document's terms.
+fn nodes_of_terms<H: Hash32>(alloc: Global, terms: &DocTerms) -> Result<Nodes, OutOfMemory>
     ensures { IfOk result (λ nodes. nodes ≡ kept_digests H.hash (terms_leaves terms.now)) }
 {
     // A document has at most 2^20 terms.

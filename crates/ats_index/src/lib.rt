@@ -28,6 +28,7 @@ mod dictionary;
 mod doc_leaves;
 mod documents;
 mod index;
+mod large_trees;
 mod laws;
 mod load;
 mod memory;

@@ -1,6 +1,6 @@
 //! The parts of an index that several threads make, collected in order.
 //!
-//! A piece of the work may be as small as one document or one list, since both can be large.
+//! A piece of the work may be as small as one document or one list, and a tree that is large is itself cut.
 
 ghost use Rattle.std.specs.Prelude.{◌≡◌, ◌<◌, ◌≤◌, [], length, map, slice_index_or, IfOk};
 ghost use Rattle.std.specs.Thread.{IsSync};
@@ -19,9 +19,10 @@ ghost use Rattle.ats_index.specs.Kept.{all_list_digests, all_term_digests};
 ghost use Rattle.ats_index.specs.Parts.{all_counts, all_leaves, all_terms};
 
 use crate::build::root_of_texts;
-use crate::dictionary::{DictionaryTree, dictionary_tree, nodes_of_list};
-use crate::doc_leaves::{DocumentsTree, documents_tree};
-use crate::documents::{DocumentParts, nodes_of_terms};
+use crate::dictionary::DictionaryTree;
+use crate::doc_leaves::DocumentsTree;
+use crate::documents::DocumentParts;
+use crate::large_trees::{dictionary_tree, documents_tree, nodes_of_list, nodes_of_terms};
 use crate::memory::OutOfMemory;
 use ats_doctree::DocTerms;
 use ats_hash::Hash32;
@@ -151,7 +152,8 @@ fn lists_of_counts<R: Threads + Sync>(
 }
 
 // The nodes of the tree of a document's terms. Its counted terms are copied for as long as that takes.
-fn nodes_of_document<H: Hash32>(
+fn nodes_of_document<H: Hash32 + Sync, R: Threads + Sync>(
+    rt: &R,
     alloc: Global,
     collection: &Collection,
     counts: &[TermCounts],
@@ -162,12 +164,12 @@ fn nodes_of_document<H: Hash32>(
     ensures { IfOk result (λ nodes. nodes ≡ kept_digests H.hash (terms_leaves (doc_terms collection.now doc))) }
 {
     let counts = counts[doc as usize].copy(alloc)?;
-    nodes_of_terms::<H>(alloc, &DocTerms::from_counts(counts, collection, doc))
+    nodes_of_terms::<H, R>(rt, alloc, &DocTerms::from_counts(counts, collection, doc))
 }
 
 // The nodes of the tree of each document's terms.
-fn nodes_of_documents_terms<H: Hash32 + Sync>(
-    rt: &(impl Threads + Sync),
+fn nodes_of_documents_terms<H: Hash32 + Sync, R: Threads + Sync>(
+    rt: &R,
     alloc: Global,
     collection: &Collection,
     counts: &[TermCounts],
@@ -184,15 +186,15 @@ fn nodes_of_documents_terms<H: Hash32 + Sync>(
                 requires counts { counts.now ≡ all_counts collection.now }
                 ensures { IfOk result (λ nodes.
                     nodes ≡ kept_digests H.hash (terms_leaves (doc_terms collection.entry.now doc))) }
-            { nodes_of_document::<H>(alloc, collection, counts, doc) },
+            { nodes_of_document::<H, R>(rt, alloc, collection, counts, doc) },
         )
         .collect(rt, alloc)?;
     made
 }
 
 // The nodes of the tree of each list.
-fn nodes_of_all_lists<H: Hash32 + Sync>(
-    rt: &(impl Threads + Sync),
+fn nodes_of_all_lists<H: Hash32 + Sync, R: Threads + Sync>(
+    rt: &R,
     alloc: Global,
     lists: &Lists,
 ) -> Result<Vec<Nodes>, OutOfMemory>
@@ -206,7 +208,7 @@ fn nodes_of_all_lists<H: Hash32 + Sync>(
                 requires { i < length lists.now }
                 ensures { IfOk result (λ nodes.
                     nodes ≡ kept_digests H.hash (map leaf_bytes (slice_index_or lists.entry.now i ([], [])).1)) }
-            { nodes_of_list::<H>(alloc, lists, i) },
+            { nodes_of_list::<H, R>(rt, alloc, lists, i) },
         )
         .collect(rt, alloc)?;
     made
@@ -224,7 +226,7 @@ fn lists_with_nodes<H: Hash32 + Sync, R: Threads + Sync>(
     ensures nodes { IfOk result (λ made. made.1.items ≡ all_list_digests H.hash (lists_of collection.now)) }
 {
     let lists = lists_of_counts::<R>(rt, alloc, collection, counts)?;
-    let nodes = nodes_of_all_lists::<H>(rt, alloc, &lists)?;
+    let nodes = nodes_of_all_lists::<H, R>(rt, alloc, &lists)?;
     Ok((lists, nodes))
 }
 
@@ -262,7 +264,7 @@ fn hashed_by_threads<H: Hash32 + Sync, R: Threads + Sync>(
             requires sync { IsSync R.row × IsSync H.row }
             requires counts { counts.now ≡ all_counts collection.now }
             ensures { IfOk result (λ nodes. nodes.items ≡ all_term_digests H.hash collection.entry.now) }
-        { nodes_of_documents_terms::<H>(rt, alloc, collection, counts) },
+        { nodes_of_documents_terms::<H, R>(rt, alloc, collection, counts) },
     );
     let (lists, list_nodes) = lists?;
     Ok(Hashed {
@@ -368,18 +370,20 @@ pub(crate) fn upper_trees<H: Hash32 + Sync, R: Threads + Sync>(
     let (dictionary, documents) = join(
         rt,
         || -> Result<DictionaryTree, OutOfMemory>
-            requires { parts.now.list_nodes.items ≡ all_list_digests H.hash parts.now.lists }
+            requires sync { IsSync R.row × IsSync H.row }
+            requires nodes { parts.now.list_nodes.items ≡ all_list_digests H.hash parts.now.lists }
             ensures dictionary { IfOk result (λ made.
                 made.dictionary ≡ map (dict_entry H.hash whole_lists) parts.entry.now.lists) }
             ensures nodes { IfOk result (λ made. made.nodes ≡ kept_digests H.hash (dict_leaves made.dictionary)) }
-        { dictionary_tree::<H>(alloc, &parts.lists, &parts.list_nodes) },
+        { dictionary_tree::<H, R>(rt, alloc, &parts.lists, &parts.list_nodes) },
         || -> Result<DocumentsTree, OutOfMemory>
+            requires sync { IsSync R.row × IsSync H.row }
             requires terms { parts.now.terms.items ≡ all_terms collection.now }
             requires nodes { parts.now.term_nodes.items ≡ all_term_digests H.hash collection.now }
             ensures leaves { IfOk result (λ made. made.leaves.items ≡ all_leaves H.hash collection.entry.now) }
             ensures nodes { IfOk result (λ made.
                 made.nodes ≡ kept_digests H.hash (documents_of H.hash collection.entry.now)) }
-        { documents_tree::<H>(alloc, collection, &parts.terms, &parts.term_nodes) },
+        { documents_tree::<H, R>(rt, alloc, collection, &parts.terms, &parts.term_nodes) },
     );
     Ok((dictionary?, documents?))
 }

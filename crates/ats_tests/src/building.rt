@@ -76,6 +76,25 @@ const PARTS: [(usize, usize, usize); 13] = [
     (1100, 1134, 110),
 ];
 
+// One text of so many distinct words.
+fn one_text(alloc: Global, words: u32) -> Result<Texts, Fail> {
+    let mut text = String::new(alloc);
+    for word in 0..words {
+        write!(text, "{word} ")?;
+    }
+    let mut texts = Texts::new(alloc);
+    texts.push(text.as_str())?;
+    Ok(texts)
+}
+
+// The trees of so many terms are cut, and hashed in parts.
+#[test]
+fn threads_build_one_large_document(rt: HostRuntime) -> Result<(), Fail> {
+    let all = one_text(rt.alloc(), 40_000)?;
+    assert!(rt; are_built_alike(&rt, rt.alloc(), &all, (0, 1, usize::MAX))?);
+    Ok(())
+}
+
 #[test]
 fn threads_build_what_one_builds(rt: HostRuntime) -> Result<(), Fail> {
     let all = trial_texts(rt.alloc(), 0)?;

@@ -1,28 +1,7 @@
-use Rattle.std.proofs.Common.{◌≡◌, ℕ, List, map, ap, sym, ◌∙◌}
-use Rattle.ats_tree.specs.Kept.{kept_digests}
-use Rattle.ats_doctree.specs.Sentinels.{terms_leaves}
-use Rattle.ats_doctree.specs.declared.doc_leaf.DocLeaf.{DocLeaf}
-use Rattle.ats_commit.specs.Trees.{leaf_of, leaf_of_terms}
-use Rattle.ats_index.specs.Parts.{all_leaves}
-use Rattle.ats_index.proofs.Whole.{digests_of_terms, leaves_are_documents, leaves_of_terms}
+use Rattle.std.proofs.Common.{◌∙◌}
+use Rattle.ats_index.proofs.Whole.{nodes_are_documents}
 use Rattle.ats_index.proofs.doc_leaves.documents_tree.Goals as goal
-
-pub leaves_of-requires : goal.leaves_of-requires
-leaves_of-requires g c =
-    let H : List ℕ → List ℕ = g.H.HashKind.hash in
-    c.requires.nodes ∙ sym (digests_of_terms H c.args.collection.now)
-    ∙ ap (map (λ (all : List (List ℕ × ℕ)). kept_digests H (terms_leaves all))) (sym c.requires.terms)
-
-pub returns-clause-leaves : goal.returns-clause-leaves
-returns-clause-leaves g c =
-    let H : List ℕ → List ℕ = g.H.HashKind.hash in
-    c.in_ok-leaves.ensures ∙ ap (map (leaf_of_terms H)) c.requires.terms ∙ leaves_of_terms H c.args.collection.now
 
 pub returns-clause-nodes : goal.returns-clause-nodes
 returns-clause-nodes g c =
-    let H : List ℕ → List ℕ = g.H.HashKind.hash in
-    let leaves : c.deref.result.now ≡ all_leaves H c.args.collection.now =
-    c.deref.ensures.value ∙ c.in_ok-leaves.ensures ∙ ap (map (leaf_of_terms H)) c.requires.terms ∙ leaves_of_terms H c.args.collection.now in
-    c.in_ok-nodes.ensures
-    ∙ ap (λ (leaves : List (List ℕ)). kept_digests H leaves)
-    (ap (λ (all : List DocLeaf). map leaf_of all) leaves ∙ leaves_are_documents H c.args.collection.now)
+    nodes_are_documents g.H.HashKind.hash c.args.collection.now _ _ (c.deref.ensures.value ∙ c.in_ok-leaves.ensures.leaves) c.in_ok-nodes.ensures.value

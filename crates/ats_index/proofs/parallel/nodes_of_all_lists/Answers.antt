@@ -1,4 +1,4 @@
-use Rattle.std.proofs.Common.{◌<◌, ◌∙◌, ℕ, List, [], length, map}
+use Rattle.std.proofs.Common.{rules, ◌<◌, ◌∙◌, ℕ, List, [], length, map}
 use Rattle.rayon.specs.Numbers.{nat_range}
 use Rattle.rayon.proofs.ToStd.{nat_range-All}
 use Rattle.ats_tree.specs.Kept.{kept_digests}
@@ -11,7 +11,7 @@ pub collect-requires-clause-ready : goal.collect-requires-clause-ready
 collect-requires-clause-ready g c κs within =
     let ends = c.into_par_iter.ensures in
     let inside = nat_range-All (λ i. i < length c.args.lists.now) 0 (length c.args.lists.now) (λ i low high. high) in
-    rw (c.map.ensures.base, c.map.ensures.f, c.with_min_len.ensures.base, ends.0, ends.1, c.len.ensures.value) (λ k d lt. (inside k d lt, λ y p. tt))
+    rw (c.map.ensures.base, c.map.ensures.f, c.with_min_len.ensures.base, ends.0, ends.1, c.len.ensures.value) (λ k d lt. ((inside k d lt, search rules), λ y p. tt))
 
 pub returns : goal.returns
 returns g c =

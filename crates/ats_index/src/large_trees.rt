@@ -1,0 +1,109 @@
+//! Trees that may be large, by several threads: the parts of a large one are hashed side by side.
+
+ghost use Rattle.std.specs.Prelude.{◌≡◌, ◌<◌, [], length, map, slice_index_or, IfOk};
+ghost use Rattle.ats_tree.specs.Kept.{kept_digests};
+ghost use Rattle.ats_lists.specs.Layout.{whole_lists};
+ghost use Rattle.ats_lists.specs.Leaf.{leaf_bytes};
+ghost use Rattle.ats_dict.specs.Dictionary.{dict_leaves};
+ghost use Rattle.ats_doctree.specs.Sentinels.{terms_leaves};
+ghost use Rattle.ats_commit.specs.Trees.{dict_entry, documents_of};
+ghost use Rattle.ats_index.specs.Kept.{all_list_digests, all_term_digests};
+ghost use Rattle.ats_index.specs.Parts.{all_leaves, all_terms};
+
+use crate::dictionary::{DictionaryTree, dictionary_of};
+use crate::doc_leaves::{DocumentsTree, leaves_of_documents};
+use crate::memory::OutOfMemory;
+use ats_commit::DocLeaves;
+use ats_doctree::DocTerms;
+use ats_hash::Hash32;
+use ats_impact::Collection;
+use ats_lists::{ListLeaves, Lists};
+use ats_tree::{Leaves, Nodes};
+use std::alloc::Global;
+use std::thread::Threads;
+
+// Trees of so many leaves are not cut, as they take one thread some ten milliseconds, while others hash other trees.
+const BESIDE_OTHERS: u32 = 16_384;
+
+// Nor are those of so many, where no other tree is left: a millisecond or two.
+const ALONE: u32 = 2048;
+
+// How often to cut a tree of so many leaves. A power of two stands in front of each cut, so after three of them no part
+// has more than a fourth of the leaves.
+fn halvings(leaves: u32, whole: u32) -> u32 {
+    if leaves <= whole { 0 } else { 3 }
+}
+
+/// The nodes of the tree of a document's terms.
+pub(crate) fn nodes_of_terms<H: Hash32 + Sync, R: Threads + Sync>(
+    rt: &R,
+    alloc: Global,
+    terms: &DocTerms,
+) -> Result<Nodes, OutOfMemory>
+    ensures { IfOk result (λ nodes. nodes ≡ kept_digests H.hash (terms_leaves terms.now)) }
+{
+    // A document has at most 2^20 terms.
+    prove!(terms.len() >= 2);
+    Ok(Nodes::of_by_threads::<H, _, R>(rt, alloc, terms, halvings(terms.len(), BESIDE_OTHERS))?)
+}
+
+/// The nodes of the tree of list `i`, counted from 0.
+pub(crate) fn nodes_of_list<H: Hash32 + Sync, R: Threads + Sync>(
+    rt: &R,
+    alloc: Global,
+    lists: &Lists,
+    i: u32,
+) -> Result<Nodes, OutOfMemory>
+    requires { i < length lists.now }
+    ensures { IfOk result (λ nodes.
+        nodes ≡ kept_digests H.hash (map leaf_bytes (slice_index_or lists.now i ([], [])).1)) }
+{
+    let leaves = ListLeaves {
+        entries: lists.list(i),
+    };
+    let halvings = halvings(leaves.len(), BESIDE_OTHERS);
+    Ok(Nodes::of_by_threads::<H, _, R>(rt, alloc, &leaves, halvings)?)
+}
+
+/// The dictionary of lists with its tree, from the nodes of their trees.
+pub(crate) fn dictionary_tree<H: Hash32 + Sync, R: Threads + Sync>(
+    rt: &R,
+    alloc: Global,
+    lists: &Lists,
+    nodes: &[Nodes],
+) -> Result<DictionaryTree, OutOfMemory>
+    requires { nodes.now ≡ all_list_digests H.hash lists.now }
+    ensures dictionary { IfOk result (λ made. made.dictionary ≡ map (dict_entry H.hash whole_lists) lists.now) }
+    ensures nodes { IfOk result (λ made. made.nodes ≡ kept_digests H.hash (dict_leaves made.dictionary)) }
+{
+    let dictionary = dictionary_of::<H>(alloc, lists, nodes)?;
+    // A dictionary has at most 2^24 terms.
+    prove!(dictionary.len() >= 2);
+    let halvings = halvings(dictionary.len(), ALONE);
+    let nodes = Nodes::of_by_threads::<H, _, R>(rt, alloc, &dictionary, halvings)?;
+    Ok(DictionaryTree { dictionary, nodes })
+}
+
+/// The documents tree of a collection, from the terms of its documents and the nodes of their trees.
+pub(crate) fn documents_tree<H: Hash32 + Sync, R: Threads + Sync>(
+    rt: &R,
+    alloc: Global,
+    collection: &Collection,
+    terms: &[DocTerms],
+    term_nodes: &[Nodes],
+) -> Result<DocumentsTree, OutOfMemory>
+    requires terms { terms.now ≡ all_terms collection.now }
+    requires nodes { term_nodes.now ≡ all_term_digests H.hash collection.now }
+    ensures leaves { IfOk result (λ made. made.leaves.items ≡ all_leaves H.hash collection.now) }
+    ensures nodes { IfOk result (λ made. made.nodes ≡ kept_digests H.hash (documents_of H.hash collection.now)) }
+{
+    let leaves = leaves_of_documents::<H>(alloc, collection, terms, term_nodes)?;
+    let halvings = halvings(collection.documents(), ALONE);
+    let nodes = Nodes::of_by_threads::<H, _, R>(
+        rt,
+        alloc,
+        &DocLeaves { leaves: &leaves },
+        halvings,
+    )?;
+    Ok(DocumentsTree { leaves, nodes })
+}
