@@ -30,8 +30,8 @@ use ats_impact::Collection;
 use ats_lists::{Lists, ListsBuilder};
 use ats_terms::TermCounts;
 use ats_tree::Nodes;
-use rayon::join;
 use rayon::prelude::*;
+use rayon::{current_num_threads, join};
 use std::alloc::Global;
 use std::thread::Threads;
 
@@ -177,9 +177,12 @@ fn nodes_of_documents_terms<H: Hash32 + Sync, R: Threads + Sync>(
     requires { counts.now ≡ all_counts collection.now }
     ensures { IfOk result (λ nodes. nodes.items ≡ all_term_digests H.hash collection.now) }
 {
-    let made: Result<Vec<Nodes>, OutOfMemory> = (0..collection.documents())
+    // One thread a processor, where a map takes two: the lists' trees wait for those that gather the lists meanwhile.
+    let documents = collection.documents();
+    let piece = documents as usize / current_num_threads(rt);
+    let made: Result<Vec<Nodes>, OutOfMemory> = (0..documents)
         .into_par_iter()
-        .with_min_len(1)
+        .with_min_len(piece)
         .map(
             |doc: u32| -> Result<Nodes, OutOfMemory>
                 requires inside { doc < length collection.now }
