@@ -16,7 +16,8 @@ use crate::next::Next;
 use crate::stand::Stand;
 use crate::state::State;
 
-const LIMIT: u64 = 67_108_864;
+/// The most bytes that a proof may have.
+pub const MAX_PROOF: u64 = 1 << 26;
 
 // Why reading stopped, and how many bytes there are behind the last whole field.
 #[derive(Clone, Copy)]
@@ -61,9 +62,9 @@ impl Feeder {
         ensures none { IfOk result (λ feeder. (feeder.fed ≡ 0) × StandsFor feeder []) }
         ensures long { IfErr result (λ fault. (2 ^ 26 < length) × (fault ≡ record { at = 2 ^ 26; kind = Long })) }
     {
-        if length > LIMIT {
+        if length > MAX_PROOF {
             return Err(ShapeFault {
-                at: LIMIT,
+                at: MAX_PROOF,
                 kind: ShapeKind::Long,
             });
         }

@@ -22,6 +22,7 @@
 
 pub use fault::{ShapeFault, ShapeKind};
 pub use feeder::Feeder;
+pub use feeding::MAX_PROOF;
 pub use laws::{
     bytes_have_one_fault, faults_stay, further_bytes_are_trailing, spellings_tell_their_fields,
 };

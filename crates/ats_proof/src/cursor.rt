@@ -7,6 +7,7 @@ ghost use Rattle.ats_proof.specs.Runs.{AreNamed};
 use crate::bytes::{are_bytes, nth, number_4};
 use crate::digests::DigestRun;
 use crate::lists::ListView;
+use crate::record::ENTRY_BYTES;
 use crate::view::ProofView;
 use ats_hash::Steps;
 use ats_tree::Revealed;
@@ -86,7 +87,7 @@ impl<'a> Revealed<'a> for ListCursor<'a> {
         *self = ListCursor {
             at: self.at + 1,
             left: self.left - 1,
-            entries: self.entries.split_at(6).1,
+            entries: self.entries.split_at(ENTRY_BYTES).1,
             met: self.met,
             ids: self.ids,
             digests: self.digests,

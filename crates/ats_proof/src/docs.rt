@@ -13,7 +13,7 @@ use crate::record::Slot;
 use crate::sizes::counted_leaves_size;
 use crate::terms::TermsView;
 use crate::view::{ProofView, slot_at};
-use ats_doctree::DocLeaf;
+use ats_doctree::{DOC_LEAF_BYTES, DocLeaf};
 use ats_hash::Steps;
 
 /// The met documents that are left, in their order.
@@ -102,7 +102,7 @@ impl<'a> DocsView<'a> {
         *self = DocsView {
             left: self.left - 1,
             ids: self.ids.split_at(4).1,
-            leaves: self.leaves.split_at(36).1,
+            leaves: self.leaves.split_at(DOC_LEAF_BYTES).1,
             present: self.present,
             sections,
             whole: self.whole,

@@ -7,6 +7,7 @@ ghost use Rattle.ats_proof.specs.Reading.{id_size, id_in};
 
 use crate::bytes::{are_bytes, number_4};
 use crate::digests::DigestRun;
+use ats_doctree::DOC_LEAF_BYTES;
 use ats_hash::Steps;
 use ats_tree::Revealed;
 
@@ -55,7 +56,7 @@ impl<'a> Revealed<'a> for DocsCursor<'a> {
         *self = DocsCursor {
             left: self.left - 1,
             ids: self.ids.split_at(4).1,
-            leaves: self.leaves.split_at(36).1,
+            leaves: self.leaves.split_at(DOC_LEAF_BYTES).1,
             digests: self.digests,
         };
     }

@@ -6,6 +6,7 @@ ghost use Rattle.ats_proof.specs.Reading.{prefix_size, prefix_in};
 
 use crate::bytes::{nth, number_2, number_4};
 use crate::digests::{DigestRun, counted_digests_2};
+use crate::record::ENTRY_BYTES;
 use ats_hash::Steps;
 use ats_lists::Entry;
 
@@ -37,7 +38,7 @@ impl<'a> ListsView<'a> {
     {
         let count = number_4(self.bytes);
         let (_, entries) = self.bytes.split_at(4);
-        let (_, after) = entries.split_at(count as usize * 6);
+        let (_, after) = entries.split_at(count as usize * ENTRY_BYTES);
         let (digests, rest) = counted_digests_2(after);
         (
             ListView {
@@ -85,7 +86,7 @@ impl<'a> ListView<'a> {
         ensures cost { steps.new ≡ steps.old + 1 }
     {
         steps.tick();
-        let entry = nth(self.entries, self.count, 6, i);
+        let entry = nth(self.entries, self.count, ENTRY_BYTES, i);
         let (_, impact) = entry.split_at(4);
         Entry {
             doc: number_4(entry),

@@ -2,15 +2,13 @@
 
 ghost use Rattle.std.specs.Prelude.{◌≡◌, ◌+◌, ◌≤◌, ◌++◌, ◌∷◌, [], length};
 
+use crate::record::FRONT_BYTES;
 use std::marker::Model;
 
-// The longest record is the front with its header.
-const ROOM: usize = 113;
-
-/// Up to 113 bytes that take no memory.
+/// Up to 113 bytes that take no memory: the front is the longest record.
 #[derive(Drop)]
 pub(crate) struct Packed {
-    bytes: [u8; ROOM],
+    bytes: [u8; FRONT_BYTES],
     len: usize,
 }
 
@@ -29,7 +27,7 @@ impl Packed {
         ensures { result ≡ [] }
     {
         Packed {
-            bytes: [0; ROOM],
+            bytes: [0; FRONT_BYTES],
             len: 0,
         }
     }

@@ -5,10 +5,12 @@ ghost use Rattle.ats_proof.specs.Reading.{dict_digests_place, slots_place, doc_d
 ghost use Rattle.ats_proof.specs.Told.{HasRoom};
 
 use crate::bytes::{number_2, number_4};
+use crate::record::{DICT_BACK_BYTES, FRONT_BYTES};
 use crate::sizes::{
     counted_digests_size_2, counted_digests_size_4, counted_leaves_size, present_count,
     sections_sum,
 };
+use ats_doctree::DOC_LEAF_BYTES;
 
 /// The parts up to the prefixes. The leaves of the dictionary begin at 115.
 #[derive(Clone, Copy)]
@@ -38,7 +40,7 @@ fn dict_digests_at(bytes: &[u8]) -> usize
     requires { HasRoom bytes.now }
     ensures { result ≡ dict_digests_place bytes.now }
 {
-    113 + counted_leaves_size(36, bytes.split_at(113).1)
+    FRONT_BYTES + counted_leaves_size(DICT_BACK_BYTES, bytes.split_at(FRONT_BYTES).1)
 }
 
 // Where the slots begin, behind those digests.
@@ -101,7 +103,7 @@ impl Ended {
         ensures ended { IsEnded bytes.now true result }
         ensures few { result.items ≤ 2 ^ 34 }
     {
-        let doc_digests = docs + met as usize * 36;
+        let doc_digests = docs + met as usize * DOC_LEAF_BYTES;
         let digests = bytes.split_at(doc_digests).1;
         let sections = sections_at(bytes, doc_digests);
         let sum = sections_sum(present, met, bytes.split_at(sections).1);

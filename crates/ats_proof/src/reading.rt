@@ -10,6 +10,7 @@ ghost use Rattle.ats_proof.specs.Value.{IsProof};
 
 use crate::bytes::{number_1, number_2};
 use crate::places::{Begun, Ended};
+use crate::record::FRONT_BYTES;
 use crate::sizes::lists_sum;
 use crate::view::ProofView;
 use ats_grammar::{ShapeFault, scan};
@@ -35,7 +36,7 @@ impl<'a> ProofView<'a> {
         let lists = lists_sum(begun.present, bytes.split_at(begun.lists).1);
         let docs = begun.lists + lists.size;
         let ended = Ended::of(bytes, tra, docs, begun.met, begun.present);
-        let dict = u64::from(number_2(bytes.split_at(113).1));
+        let dict = u64::from(number_2(bytes.split_at(FRONT_BYTES).1));
         let digests = u64::from(number_2(bytes.split_at(begun.dict_digests).1));
         let rows = u64::from(number_2(bytes.split_at(ended.answer).1));
         ProofView {

@@ -1,4 +1,13 @@
-//! What a proof's records hold.
+//! What a proof's records hold, and how many bytes some have.
+
+/// The front of a proof: magic, version, algorithm, header and the number of terms.
+pub(crate) const FRONT_BYTES: usize = 113;
+
+/// An entry of a list: the place of its document among the met ones, and the impact.
+pub(crate) const ENTRY_BYTES: usize = 6;
+
+/// What stands behind the term in a leaf of the dictionary: the number of its documents, and the root of its list.
+pub(crate) const DICT_BACK_BYTES: usize = 36;
 
 /// How a proof was made, and so which sections it has.
 #[derive(Clone, Copy, Debug, PartialEq, Eq)]

@@ -7,6 +7,7 @@ ghost use Rattle.ats_proof.specs.Reading.{leaf_size, prefix_size, prefix_in, sec
 
 use crate::bytes::{number_1, number_2, number_4};
 use crate::leaves::cut_leaf;
+use crate::record::ENTRY_BYTES;
 
 /// How many bytes some parts have, and how many items they are.
 #[derive(Clone, Copy)]
@@ -86,7 +87,7 @@ fn counted_postings_size(bytes: &[u8]) -> usize
     requires { counted_size 4 posting_size bytes.now ≤ length bytes.now }
     ensures { result ≡ counted_size 4 posting_size bytes.now }
 {
-    4 + number_4(bytes) as usize * 6
+    4 + number_4(bytes) as usize * ENTRY_BYTES
 }
 
 // How many bytes and items a prefix has.

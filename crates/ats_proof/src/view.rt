@@ -11,7 +11,7 @@ use crate::digests::counted_digests_2;
 use crate::leaves::LeafRun;
 use crate::lists::ListsView;
 use crate::places::{Begun, Ended};
-use crate::record::{Algorithm, Slot};
+use crate::record::{Algorithm, DICT_BACK_BYTES, FRONT_BYTES, Slot};
 use ats_dict::Header;
 use ats_hash::Steps;
 use std::marker::Model;
@@ -150,12 +150,12 @@ impl<'a> ProofView<'a> {
         ensures shown { leaves_of result.leaves ≡ map shown_entry self.now.dict }
         ensures digests { digests_of result.digests ≡ self.now.dict_digests }
     {
-        let left = u32::from(number_2(self.bytes.split_at(113).1));
+        let left = u32::from(number_2(self.bytes.split_at(FRONT_BYTES).1));
         let (digests, _) = counted_digests_2(self.bytes.split_at(self.begun.dict_digests).1);
         let leaves = LeafRun {
             left,
-            behind: 36,
-            bytes: self.bytes.split_at(115).1,
+            behind: DICT_BACK_BYTES,
+            bytes: self.bytes.split_at(FRONT_BYTES + 2).1,
         };
         let dict = DictView { leaves, digests };
         dict.are_shown();

@@ -27,6 +27,7 @@ use crate::shown::keep_positions;
 use crate::walking::walk;
 use ats_base::Bytes;
 use ats_bound::{Lane, Walk};
+use ats_grammar::MAX_PROOF;
 use ats_hash::HashKind;
 use ats_impact::Top;
 use ats_index::Index;
@@ -111,8 +112,6 @@ fn write_proof<H: HashKind>(
         algorithm,
     )
 }
-
-const MAX_PROOF: u64 = 1 << 26;
 
 /// The proof of the best documents of a query, of at most 2^26 bytes.
 pub fn prove<H: HashKind>(

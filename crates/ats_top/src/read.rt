@@ -9,6 +9,7 @@ use crate::input::read_collection;
 use crate::stops::{InputRefusal, Stop};
 use ats_base::{Bytes, GatherFault, Shelf, gather};
 use ats_client::Rejection;
+use ats_grammar::MAX_PROOF;
 use ats_hash::Hash32;
 use ats_impact::Collection;
 use ats_index::Index;
@@ -25,12 +26,9 @@ const LIST_LIMIT: u64 = 1 << 20;
 // The most bytes that the file of an index may have.
 const INDEX_LIMIT: u64 = 1 << 29;
 
-/// The most bytes that a proof may have.
-pub(crate) const PROOF_LIMIT: u64 = 1 << 26;
-
 /// The fault of a file that has more.
 pub(crate) const TOO_LONG: ShapeFault = ShapeFault {
-    at: PROOF_LIMIT,
+    at: MAX_PROOF,
     kind: ShapeKind::Long,
 };
 
@@ -93,7 +91,7 @@ pub(crate) fn proof<S: Shelf>(alloc: Global, name: &str, shelf: &mut S) -> Resul
     ensures stop { IfErr result (ProofStop (S.told shelf.old) (S.told shelf.new) name.now) }
     ensures reads { Reads (S.told shelf.old) (S.told shelf.new) name.now (2 ^ 26) }
 {
-    match gather(alloc, shelf, name, PROOF_LIMIT) {
+    match gather(alloc, shelf, name, MAX_PROOF) {
         Ok(bytes) => Ok(bytes),
         Err(GatherFault::ReadFault) => Err(Stop::Shelf),
         Err(GatherFault::TooLong) => Err(Stop::Rejected(Rejection::Shape(TOO_LONG))),

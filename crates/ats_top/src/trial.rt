@@ -11,11 +11,11 @@ ghost use Rattle.ats_top.specs.Trial.{shown_entries, is_right, tally_of, counted
 ghost use Rattle.ats_top.specs.declared.stops.Stop.TheVariants.{Memory};
 
 use crate::print::root_line;
-use crate::read::PROOF_LIMIT;
 use crate::stops::Stop;
 use ats_audit::Verdict;
 use ats_bound::Work;
 use ats_client::check;
+use ats_grammar::MAX_PROOF;
 use ats_hash::{Hash32, Steps};
 use ats_impact::{Collection, Top, trial_query, trial_texts};
 use ats_index::Index;
@@ -102,7 +102,7 @@ fn count<H: Hash32>(
     ensures small { OnOk result (IsSmall tally.new) }
     ensures stop { IfErr result (IsTryStop H.hash index.now query.now algorithm) }
 {
-    let bytes = prove_within(alloc, index, query, top, algorithm, PROOF_LIMIT)?;
+    let bytes = prove_within(alloc, index, query, top, algorithm, MAX_PROOF)?;
     let bytes = bytes.as_slice();
     let Ok(proof) = ProofView::read(bytes) else {
         return Ok(());
