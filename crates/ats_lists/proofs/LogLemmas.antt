@@ -1,31 +1,24 @@
 -- Entries under the numbers of their terms.
-use Rattle.std.proofs.Common.{◌≡◌, ◌≢◌, ◌<◌, ◌≤◌, ◌+◌, ◌==◌, ◌⊎◌, ℕ, zero, suc, Bool, true, false, cond, List, [], ◌∷◌, ◌++◌, length, get_or, map, Option, Some, None, unwrap_or, refl, sym, ap, ap₂, subst, ◌∙◌, inl, inr, set, arith, append-nil, length-append}
-use Rattle.std.specs.List.{All, AllByRecursion, IsDistinct, filter}
+use Rattle.std.proofs.Common.{◌≡◌, ◌≢◌, ◌<◌, ◌≤◌, ◌+◌, ◌==◌, ◌⊎◌, ℕ, zero, suc, Bool, true, false, cond, List, [], ◌∷◌, ◌++◌, length, get_or, map, Some, None, refl, sym, ap, ap₂, subst, ◌∙◌, inl, inr, set, arith, append-nil, length-append}
+use Rattle.std.specs.List.{All, filter, list_any}
 use Rattle.std.specs.List.Sorted.{IsStrictlySortedBy}
-use Rattle.std.specs.Option.{option_map}
-use Rattle.std.specs.BTreeMap.{BTreeMap, IsOrdered, get, is_at}
-use Rattle.std.specs.Map.{lookup, keys_of}
-use Rattle.std.specs.Ordering.{is_eq}
-use Rattle.std.specs.Prelude.{nat_eq}
-use Rattle.std.specs.declared.cmp.Ordering.TheVariants.{Less}
+use Rattle.std.specs.BTreeMap.{is_at}
+use Rattle.std.specs.Map.{lookup}
 use Rattle.std.specs.Str.{bytes_eq}
-use Rattle.std.proofs.lemmas.Bool.{cases_eq, cases_lt, eqb-false}
+use Rattle.std.proofs.lemmas.Bool.{cases_eq, cases_lt}
 use Rattle.std.proofs.lemmas.Bool.Decides.{nat_tests}
 use Rattle.std.proofs.lemmas.Cmp.{nat_list_cmp_total}
-use Rattle.std.proofs.lemmas.List.{get_or_append_left, get_or-append-add, get_or_default, get_or_push, get_or-map, get_or-set_same, get_or-set_other, length-map, map-append}
-use Rattle.std.proofs.lemmas.List.Elements.{All-append, All-from_get_or, All-get_or, All-head, All-map, All-push, All-tail, All-weaker, filter-append}
-use Rattle.std.proofs.lemmas.Map.Entries.{btree_map_get_place}
-use Rattle.std.proofs.lemmas.Map.Made.{lookup-map_values}
-use Rattle.std.proofs.lemmas.Map.Text.{is_eq-slice_cmp}
-use Rattle.std.proofs.lemmas.Map.Views.{All-after_first}
-use Rattle.std.proofs.lemmas.Option.{slice_get-get_or}
+use Rattle.std.proofs.lemmas.List.{ext_get_or, get_or_append_left, get_or-append-add, get_or_default, get_or_push, get_or-map, get_or-set_same, get_or-set_other, length-map, map-append}
+use Rattle.std.proofs.lemmas.List.Elements.{All-append, All-get_or, All-head, All-map, All-push, All-tail, All-weaker, filter-append}
+use Rattle.std.proofs.lemmas.List.Folds.{Any-from_list_any, list_any_at}
 use Rattle.std.proofs.lemmas.Slice.Eq.{bytes_eq-Decides}
 use Rattle.ats_terms.specs.Terms.{IsTerm}
 use Rattle.ats_terms.specs.Query.{byte_cmp}
-use Rattle.ats_lists.specs.Gathered.{Pairs, entries_for, entries_under, term_of, pairs_of, renumbered, AreNewNumbers, AreNumbersOf, IsLogOf}
+use Rattle.ats_lists.specs.Gathered.{Pairs, entries_for, entries_under, term_of, pairs_of, renumbered, AreNewNumbers, IsLogOf}
 use Rattle.ats_lists.specs.declared.entry.Entry.{Entry}
 use Rattle.ats_lists.specs.declared.gathering.Logged.{Logged}
-use Rattle.ats_lists.proofs.VocabularyLemmas.{if_some}
+use Rattle.ats_lists.proofs.Rising.{one_place}
+use Rattle.ats_lists.proofs.VocabularyLemmas.{if_some, lookup_made}
 
 -- ---- one entry more
 
@@ -48,7 +41,7 @@ terms_kept terms new term n (inl same) m inside = rw same (inside, refl)
 terms_kept terms new term n (inr (last, longer)) m inside =
     rw longer (omega (arith, length-append terms (term ∷ [])), get_or_append_left terms (term ∷ []) [] m inside)
 
-used_before : (terms new : List (List ℕ)) (term : List ℕ) (n : ℕ) → Grows terms new term n → (m : ℕ) → m < length new
+pub used_before : (terms new : List (List ℕ)) (term : List ℕ) (n : ℕ) → Grows terms new term n → (m : ℕ) → m < length new
     → (m < length terms) ⊎ (m ≡ n)
 used_before terms new term n (inl same) m inside = inl (subst (λ (ts : List (List ℕ)). m < length ts) same inside)
 used_before terms new term n (inr (last, longer)) m inside =
@@ -90,6 +83,10 @@ module _ (terms new : List (List ℕ)) (term : List ℕ) (n : ℕ) (grows : Grow
   }
 
 -- ---- two runs
+
+-- nothing was gathered
+pub no_log : IsLogOf [] []
+no_log = record { inside = λ k d inside. absurd (omega arith); used = λ n inside. absurd (omega arith) }
 
 pub no_new_numbers : (old others : List (List ℕ)) → AreNewNumbers old others old 0 []
 no_new_numbers old others = record {
@@ -226,9 +223,6 @@ some_if : {X : Type 0} (xs : List X) → 1 ≤ length xs → Some xs ≡ if_some
 some_if [] some = absurd (omega arith)
 some_if (x ∷ xs) some = refl
 
-number_is : (a b : ℕ) → Some a ≡ Some b → a ≡ b
-number_is a b same = ap (λ o. unwrap_or o 0) same
-
 equal_numbers : (a b : ℕ) → (a == b) ≡ true → a ≡ b
 equal_numbers a b is = grind (arith, nat_tests)
 
@@ -247,128 +241,85 @@ under_push n log l =
     one_logged true l = refl
     one_logged false l = refl
 
-push_case : (lists : List (List Entry)) (m n : ℕ) (e : Entry) (was : List Entry) → m < length lists → was ≡ get_or lists m was → (b : Bool) → (m == n) ≡ b
-    → get_or (set lists m (was ++ e ∷ [])) n [] ≡ get_or lists n [] ++ cond b (e ∷ []) []
+push_case : (lists : List (List ℕ × List Entry)) (m n : ℕ) (e : Entry) (was : List ℕ × List Entry) → m < length lists → was ≡ get_or lists m was
+    → (b : Bool) → (m == n) ≡ b
+    → get_or (set lists m (was.0, was.1 ++ e ∷ [])) n ([], [])
+    ≡ ((get_or lists n ([], [])).0, (get_or lists n ([], [])).1 ++ cond b (e ∷ []) [])
 push_case lists m n e was inside at true is =
     let same : m ≡ n = equal_numbers m n is in
-    rw (← same) (get_or-set_same lists m (was ++ e ∷ []) [] inside ∙ ap (λ (es : List Entry). es ++ e ∷ []) (at ∙ get_or_default lists m was [] inside))
+    rw (← same) (get_or-set_same lists m (was.0, was.1 ++ e ∷ []) ([], []) inside
+    ∙ ap (λ (list : List ℕ × List Entry). (list.0, list.1 ++ e ∷ [])) (at ∙ get_or_default lists m was ([], []) inside))
 push_case lists m n e was inside at false is =
     let differs : n ≢ m = λ same. let clash : true ≡ false = sym (numbers_equal m n (sym same)) ∙ is in absurd (cc) in
-    get_or-set_other lists m n (was ++ e ∷ []) [] differs ∙ sym (append-nil (get_or lists n []))
+    let list : List ℕ × List Entry = get_or lists n ([], []) in
+    get_or-set_other lists m n (was.0, was.1 ++ e ∷ []) ([], []) differs ∙ ap (λ (es : List Entry). (list.0, es)) (sym (append-nil list.1))
 
 -- one entry more in the room of its number
-pub parted_push : (lists : List (List Entry)) (n : ℕ) (log : List Logged) (l : Logged) (was : List Entry) → l.number < length lists
-    → was ≡ get_or lists l.number was → get_or lists n [] ≡ entries_under n log
-    → get_or (set lists l.number (was ++ l.entry ∷ [])) n [] ≡ entries_under n (log ++ l ∷ [])
-parted_push lists n log l was inside at so_far =
+pub parted_push : (terms : List (List ℕ)) (lists : List (List ℕ × List Entry)) (n : ℕ) (log : List Logged) (l : Logged) (was : List ℕ × List Entry)
+    → l.number < length lists → was ≡ get_or lists l.number was → get_or lists n ([], []) ≡ (term_of terms n, entries_under n log)
+    → get_or (set lists l.number (was.0, was.1 ++ l.entry ∷ [])) n ([], []) ≡ (term_of terms n, entries_under n (log ++ l ∷ []))
+parted_push terms lists n log l was inside at so_far =
     push_case lists l.number n l.entry was inside at (l.number == n) refl
-    ∙ ap (λ (es : List Entry). es ++ cond (l.number == n) (l.entry ∷ []) []) so_far ∙ sym (under_push n log l)
+    ∙ ap (λ (list : List ℕ × List Entry). (list.0, list.1 ++ cond (l.number == n) (l.entry ∷ []) [])) so_far
+    ∙ ap (λ (es : List Entry). (term_of terms n, es)) (sym (under_push n log l))
 
--- the entries under the number of each term
-abbrev pub parted : BTreeMap (List ℕ) ℕ → List Logged → List (List ℕ × List Entry)
-parted numbers log = map (λ e. (e.0, entries_under e.1 log)) numbers.entries
-
-module _ (terms : List (List ℕ)) (numbers : BTreeMap (List ℕ) ℕ) (log : List Logged) (are : AreNumbersOf terms numbers) (is : IsLogOf terms log) where
-  entries_found : (q : List ℕ) (n : ℕ) → get byte_cmp numbers q ≡ Some n → entries_under n log ≡ entries_for q (pairs_of terms log)
-  entries_found q n at = filters_agree terms q n log (All-weaker (λ (l : Logged). l.number < length terms)
-      (λ (l : Logged). (l.number == n) ≡ bytes_eq q (term_of terms l.number))
-      (λ l inside. same_test (l.number == n) (bytes_eq q (term_of terms l.number))
-      (λ yes. (bytes_eq-Decides q (term_of terms l.number)).1 (sym (ap (term_of terms) (equal_numbers l.number n yes) ∙ (are.only q n at).1)))
-      (λ yes. numbers_equal l.number n (number_is l.number n (sym (are.each l.number inside)
-      ∙ ap (get byte_cmp numbers) (sym ((bytes_eq-Decides q (term_of terms l.number)).0 yes)) ∙ at))))
+-- the terms stand at one place each
+module _ (terms : List (List ℕ)) (log : List Logged) (rises : IsStrictlySortedBy byte_cmp terms) (is : IsLogOf terms log) where
+  -- under a term's number are its entries
+  pub entries_found : (n : ℕ) → n < length terms → entries_under n log ≡ entries_for (term_of terms n) (pairs_of terms log)
+  entries_found n inside = filters_agree terms (term_of terms n) n log (All-weaker (λ (l : Logged). l.number < length terms)
+      (λ (l : Logged). (l.number == n) ≡ bytes_eq (term_of terms n) (term_of terms l.number))
+      (λ l within. same_test (l.number == n) (bytes_eq (term_of terms n) (term_of terms l.number))
+      (λ yes. (bytes_eq-Decides (term_of terms n) (term_of terms l.number)).1 (sym (ap (term_of terms) (equal_numbers l.number n yes))))
+      (λ yes. numbers_equal l.number n (one_place nat_list_cmp_total terms l.number n [] rises within inside
+      (sym ((bytes_eq-Decides (term_of terms n) (term_of terms l.number)).0 yes)))))
       log is.inside)
 
-  nothing_found : (q : List ℕ) → get byte_cmp numbers q ≡ None → entries_for q (pairs_of terms log) ≡ []
-  nothing_found q at = none_pass terms q log (All-weaker (λ (l : Logged). l.number < length terms)
-      (λ (l : Logged). bytes_eq q (term_of terms l.number) ≡ false)
-      (λ l inside. other_term q l.number (bytes_eq q (term_of terms l.number)) refl at inside)
+  -- a term that is none of them has no entry
+  nothing_found : (q : List ℕ) → list_any (bytes_eq q) terms ≡ false → entries_for q (pairs_of terms log) ≡ []
+  nothing_found q none = none_pass terms q log (All-weaker (λ (l : Logged). l.number < length terms)
+      (λ (l : Logged). bytes_eq q (term_of terms l.number) ≡ false) (λ l within. other_term l.number (bytes_eq q (term_of terms l.number)) refl within)
       log is.inside)
     where
-      other_term : (q : List ℕ) (m : ℕ) (b : Bool) → bytes_eq q (term_of terms m) ≡ b → get byte_cmp numbers q ≡ None → m < length terms → b ≡ false
-      other_term q m true equal none inside =
-          let clash : None ≡ Some m = sym none ∙ ap (get byte_cmp numbers) ((bytes_eq-Decides q (term_of terms m)).0 equal) ∙ are.each m inside in
+      other_term : (m : ℕ) (b : Bool) → bytes_eq q (term_of terms m) ≡ b → m < length terms → b ≡ false
+      other_term m true equal within =
+          let clash : false ≡ true = sym none ∙ list_any_at (bytes_eq q) terms m [] within equal in
           absurd (cc)
-      other_term q m false differs none inside = refl
+      other_term m false differs within = refl
 
-  find_case : (of : List Entry) (q : List ℕ) (found : Option ℕ) → get byte_cmp numbers q ≡ found → entries_for q (pairs_of terms log) ≡ of
-      → option_map (λ n. entries_under n log) found ≡ if_some of
-  find_case of q None at same = ap if_some (sym (nothing_found q at) ∙ same)
-  find_case of q (Some n) at same =
-      let place = is.used n (are.only q n at).0 in
-      some_if (entries_under n log) (some_entry n log place.0 place.1 place.2) ∙ ap if_some (entries_found q n at ∙ same)
+  found_case : (q : List ℕ) (b : Bool) → list_any (bytes_eq q) terms ≡ b
+      → cond b (Some (entries_for q (pairs_of terms log))) None ≡ if_some (entries_for q (pairs_of terms log))
+  found_case q false none = ap if_some (sym (nothing_found q none))
+  found_case q true some =
+      let (n, term, inside, at, equal) = Any-from_list_any (bytes_eq q) terms some in
+      let same : q ≡ term_of terms n = (bytes_eq-Decides q term).0 equal ∙ sym at ∙ get_or_default terms n term [] inside in
+      let (i, within, named) = is.used n inside in
+      let entries : entries_under n log ≡ entries_for q (pairs_of terms log) =
+      entries_found n inside ∙ ap (λ (t : List ℕ). entries_for t (pairs_of terms log)) (sym same) in
+      some_if (entries_for q (pairs_of terms log)) (subst (λ (es : List Entry). 1 ≤ length es) entries (some_entry n log i within named))
 
   -- what is found of a term are its entries, where it has some
-  pub parted_finds : (of : List Entry) (q : List ℕ) → entries_for q (pairs_of terms log) ≡ of
-      → lookup (is_at (byte_cmp q)) (parted numbers log) ≡ if_some of
-  parted_finds of q same =
-      lookup-map_values (λ n. entries_under n log) (is_at (byte_cmp q)) numbers.entries ∙ find_case of q (get byte_cmp numbers q) refl same
+  pub parted_finds : (q : List ℕ) → lookup (is_at (byte_cmp q)) (map (λ term. (term, entries_for term (pairs_of terms log))) terms)
+      ≡ if_some (entries_for q (pairs_of terms log))
+  parted_finds q = lookup_made (λ term. entries_for term (pairs_of terms log)) q terms ∙ found_case q (list_any (bytes_eq q) terms) refl
 
-  -- each key is the term of its number
-  pub keys_named : IsOrdered byte_cmp numbers → All (λ e. (e.1 < length terms) × (term_of terms e.1 ≡ e.0)) numbers.entries
-  keys_named ordered = All-from_get_or (λ (e : List ℕ × ℕ). (e.1 < length terms) × (term_of terms e.1 ≡ e.0)) numbers.entries ([], 0) (λ i inside.
-      let e : List ℕ × ℕ = get_or numbers.entries i ([], 0) in
-      are.only e.0 e.1 (btree_map_get_place nat_list_cmp_total numbers i e.0 e.1 ordered (slice_get-get_or numbers.entries i ([], 0) inside)))
+  -- what was parted is each term with its entries
+  pub parted_is : (lists : List (List ℕ × List Entry)) → length lists ≡ length terms
+      → ((n : ℕ) → n < length terms → get_or lists n ([], []) ≡ (term_of terms n, entries_under n log))
+      → lists ≡ map (λ term. (term, entries_for term (pairs_of terms log))) terms
+  parted_is lists size entries =
+      let own : List ℕ → List ℕ × List Entry = λ term. (term, entries_for term (pairs_of terms log)) in
+      ext_get_or ([], []) lists (map own terms) (omega (arith, size, length-map terms own)) (λ n low.
+      let inside : n < length terms = omega (arith, low, size) in
+      entries n inside ∙ ap (λ (es : List Entry). (term_of terms n, es)) (entries_found n inside) ∙ sym (get_or-map own terms n [] ([], []) inside))
 
-  -- and each numbered term is a term, if those of the entries are
-  pub numbered_terms : All (λ (pair : List ℕ × Entry). IsTerm pair.0) (pairs_of terms log) → (n : ℕ) → n < length terms → IsTerm (term_of terms n)
-  numbered_terms all n inside =
-      let place = is.used n inside in
+  -- each of them is a term, if those of the entries are
+  pub numbered_terms : All (λ (pair : List ℕ × Entry). IsTerm pair.0) (pairs_of terms log) → All IsTerm terms
+  numbered_terms all n d inside =
+      let (i, within, names) = is.used n inside in
       let blank : Logged = record { number = 0; entry = record { doc = 0; impact = 0 } } in
       let named : Logged → List ℕ × Entry = λ l. (term_of terms l.number, l.entry) in
-      let long : place.0 < length (pairs_of terms log) = omega (arith, place.1, length-map log named) in
-      let at = get_or-map named log place.0 blank ([], blank.entry) place.1 in
-      subst (λ k. IsTerm (term_of terms k)) (place.2 blank)
-      (subst (λ (pair : List ℕ × Entry). IsTerm pair.0) at (All-get_or (λ (pair : List ℕ × Entry). IsTerm pair.0) (pairs_of terms log) place.0 ([], blank.entry) long all))
-
--- ---- lists by number
-
--- the terms with the lists of their numbers
-abbrev pub found : List (List Entry) → List (List ℕ × ℕ) → List (List ℕ × List Entry)
-found lists es = map (λ e. (e.0, get_or lists e.1 [])) es
-
-pub found_parted : (lists : List (List Entry)) (log : List Logged) (size : ℕ) (es : List (List ℕ × ℕ)) → All (λ e. e.1 < size) es
-    → ((n : ℕ) → n < size → get_or lists n [] ≡ entries_under n log) → found lists es ≡ map (λ e. (e.0, entries_under e.1 log)) es
-found_parted lists log size [] within are = refl
-found_parted lists log size (e ∷ es) within are =
-    ap₂ (λ (entries : List Entry) (rest : List (List ℕ × List Entry)). (e.0, entries) ∷ rest)
-    (are e.1 (All-head (λ (f : List ℕ × ℕ). f.1 < size) e es within))
-    (found_parted lists log size es (All-tail (λ (f : List ℕ × ℕ). f.1 < size) e es within) are)
-
--- what is taken from one number is still found at the others
-pub found_elsewhere : (lists : List (List Entry)) (n : ℕ) (entries : List Entry) (es : List (List ℕ × ℕ))
-    → AllByRecursion (λ m. nat_eq n m ≡ false) (map (λ (e : List ℕ × ℕ). e.1) es) → found (set lists n entries) es ≡ found lists es
-found_elsewhere lists n entries [] others = refl
-found_elsewhere lists n entries (e ∷ es) (other, others) =
-    ap₂ (λ (own : List Entry) (rest : List (List ℕ × List Entry)). (e.0, own) ∷ rest)
-    (get_or-set_other lists n e.1 entries [] (λ same. eqb-false n e.1 other (sym same)))
-    (found_elsewhere lists n entries es others)
-
-two_apart : (terms : List (List ℕ)) (e f : List ℕ × ℕ) → term_of terms e.1 ≡ e.0 → term_of terms f.1 ≡ f.0 → byte_cmp e.0 f.0 ≡ Less
-    → (b : Bool) → nat_eq e.1 f.1 ≡ b → b ≡ false
-two_apart terms e f here there less true same =
-    let key : e.0 ≡ f.0 = sym here ∙ ap (term_of terms) (equal_numbers e.1 f.1 same) ∙ there in
-    let clash : true ≡ false = sym ((bytes_eq-Decides e.0 f.0).1 key) ∙ sym (is_eq-slice_cmp e.0 f.0) ∙ ap is_eq less in
-    absurd (cc)
-two_apart terms e f here there less false same = refl
-
-others_apart : (terms : List (List ℕ)) (e : List ℕ × ℕ) (es : List (List ℕ × ℕ)) → term_of terms e.1 ≡ e.0
-    → All (λ (f : List ℕ × ℕ). term_of terms f.1 ≡ f.0) es → All (λ k. byte_cmp e.0 k ≡ Less) (keys_of es)
-    → AllByRecursion (λ m. nat_eq e.1 m ≡ false) (map (λ (f : List ℕ × ℕ). f.1) es)
-others_apart terms e [] here named less = tt
-others_apart terms e (f ∷ es) here named less = (
-  two_apart terms e f here (All-head (λ (g : List ℕ × ℕ). term_of terms g.1 ≡ g.0) f es named)
-      (All-head (λ (k : List ℕ). byte_cmp e.0 k ≡ Less) f.0 (keys_of es) less) (nat_eq e.1 f.1) refl,
-  others_apart terms e es here (All-tail (λ (g : List ℕ × ℕ). term_of terms g.1 ≡ g.0) f es named)
-      (All-tail (λ (k : List ℕ). byte_cmp e.0 k ≡ Less) f.0 (keys_of es) less),
-)
-
--- no number comes twice, as no key does
-pub numbers_apart : (terms : List (List ℕ)) (es : List (List ℕ × ℕ)) → All (λ (e : List ℕ × ℕ). term_of terms e.1 ≡ e.0) es
-    → IsStrictlySortedBy byte_cmp (keys_of es) → IsDistinct nat_eq (map (λ (e : List ℕ × ℕ). e.1) es)
-unfolding IsDistinct IsStrictlySortedBy
-numbers_apart terms [] named rises = tt
-numbers_apart terms (e ∷ es) named rises = (
-  others_apart terms e es (All-head (λ (f : List ℕ × ℕ). term_of terms f.1 ≡ f.0) e es named)
-      (All-tail (λ (f : List ℕ × ℕ). term_of terms f.1 ≡ f.0) e es named) (All-after_first byte_cmp e.0 (keys_of es) rises),
-  numbers_apart terms es (All-tail (λ (f : List ℕ × ℕ). term_of terms f.1 ≡ f.0) e es named) rises.1,
-)
+      let long : i < length (pairs_of terms log) = omega (arith, within, length-map log named) in
+      let at = get_or-map named log i blank ([], blank.entry) within in
+      subst IsTerm (ap (term_of terms) (names blank) ∙ get_or_default terms n [] d inside)
+      (subst (λ (pair : List ℕ × Entry). IsTerm pair.0) at (All-get_or (λ (pair : List ℕ × Entry). IsTerm pair.0) (pairs_of terms log) i ([], blank.entry) long all))

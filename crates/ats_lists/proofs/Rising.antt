@@ -1,5 +1,5 @@
 -- Lists that rise strictly in an order, and sorted lists of distinct elements.
-use Rattle.std.proofs.Common.{◌≡◌, ◌+◌, true, false, List, [], ◌∷◌, ◌++◌, get_or, map, refl, arith}
+use Rattle.std.proofs.Common.{◌≡◌, ◌<◌, ◌+◌, ℕ, true, false, List, [], ◌∷◌, ◌++◌, length, get_or, map, refl, sym, subst, ◌∙◌, inl, inr, arith}
 use Rattle.std.specs.List.{All, AllByRecursion, IsDistinct, list_any}
 use Rattle.std.specs.List.Sorted.{IsPermutation, IsSorted, IsStrictlySortedBy}
 use Rattle.std.specs.Cmp.{IsTotalOrder}
@@ -7,7 +7,8 @@ use Rattle.std.specs.Ordering.{eq_by_cmp, is_eq, is_lt, ordering_reverse}
 use Rattle.std.specs.declared.cmp.Ordering.{Ordering}
 use Rattle.std.specs.declared.cmp.Ordering.TheVariants.{Less, Equal, Greater}
 use Rattle.std.specs.BTreeSet.{BTreeSet}
-use Rattle.std.proofs.lemmas.Cmp.{eq_by_cmp_equiv}
+use Rattle.std.proofs.lemmas.Bool.{cases_lt}
+use Rattle.std.proofs.lemmas.Cmp.{eq_by_cmp_equiv, tied_itself}
 use Rattle.std.proofs.lemmas.List.Elements.{All-head, All-tail, recursion_from_All}
 use Rattle.std.proofs.lemmas.List.Sorted.{IsPermutation-sym, IsPermutation-trans, list_any-IsPermutation}
 use Rattle.std.proofs.lemmas.Map.Keys.{IsDistinct-IsPermutation, apart_from_distinct, sorted_from_all_adjacent, Less-from_sorted}
@@ -21,7 +22,8 @@ same_members {K} total exact xs ys first second same =
     let t : BTreeSet K = record { keys = ys } in
     btree_set_from_contains total s t first second same exact
 
-less_by : (p q : Ordering) → q ≡ ordering_reverse p → is_lt q ≡ false → is_eq p ≡ false → p ≡ Less
+-- what is not above, and not equal, is below
+pub less_by : (p q : Ordering) → q ≡ ordering_reverse p → is_lt q ≡ false → is_eq p ≡ false → p ≡ Less
 less_by Less q is lt eq = refl
 less_by Equal q is lt eq = absurd (let clash : true ≡ false = eq in cc)
 less_by Greater q is lt eq = absurd (let clash : true ≡ false = rw is at lt in cc)
@@ -82,3 +84,22 @@ pub rises_map : {K J : Type 0} (P : K → Type 0) (R : K → K → Ordering) (S 
 unfolding IsStrictlySortedBy
 rises_map P R S f [] keeps all rises = tt
 rises_map P R S f (x ∷ xs) keeps (here, all) (below, rises) = (below_map P R S f x xs keeps here all below, rises_map P R S f xs keeps all rises)
+
+-- elements that rise strictly stand at one place each
+pub one_place : {K : Type 0} {R : K → K → Ordering} → IsTotalOrder R → (xs : List K) (i j : ℕ) (d : K) → IsStrictlySortedBy R xs
+    → i < length xs → j < length xs → get_or xs i d ≡ get_or xs j d → i ≡ j
+one_place {K} {R} total xs i j d rises first second same = elim (cases_lt i j) [
+  | inl before ↦ absurd (clash i j before second same)
+  | inr le ↦ elim (cases_lt j i) [
+    | inl behind ↦ absurd (clash j i behind first (sym same))
+    | inr ge ↦ omega (arith, le, ge)
+  ]
+]
+  where
+    clash : (a b : ℕ) → a < b → b < length xs → get_or xs a d ≡ get_or xs b d → ⊥
+    clash a b up inside equal =
+        let less : R (get_or xs a d) (get_or xs b d) ≡ Less = Less-from_sorted R xs a b d rises up inside in
+        let tied : R (get_or xs a d) (get_or xs b d) ≡ Equal =
+        subst (λ (x : K). R (get_or xs a d) x ≡ Equal) equal (tied_itself total (get_or xs a d)) in
+        let no : Less ≡ Equal = sym less ∙ tied in
+        cc

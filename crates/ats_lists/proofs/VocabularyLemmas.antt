@@ -144,7 +144,7 @@ lookup_step : {X : Type 0} (g : List ℕ → X) (q k : List ℕ) (b : Bool) (fou
 lookup_step g q k true found rest is same = ap (λ x. Some (g x)) (sym ((bytes_eq-Decides q k).0 is))
 lookup_step g q k false found rest is same = same
 
-lookup_made : {X : Type 0} (g : List ℕ → X) (q : List ℕ) (ks : List (List ℕ))
+pub lookup_made : {X : Type 0} (g : List ℕ → X) (q : List ℕ) (ks : List (List ℕ))
     → lookup (is_at (byte_cmp q)) (map (λ k. (k, g k)) ks) ≡ cond (list_any (bytes_eq q) ks) (Some (g q)) None
 lookup_made g q [] = refl
 lookup_made g q (k ∷ ks) =

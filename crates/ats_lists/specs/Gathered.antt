@@ -1,14 +1,12 @@
 -- Postings that are gathered with their terms, document by document.
-use Rattle.std.specs.Prelude.{◌≡◌, ◌<◌, ◌≤◌, ◌-◌, ◌+◌, ◌⊎◌, ◌==◌, ℕ, List, [], Some, length, map, filter, slice_index_or}
-use Rattle.std.specs.List.{All}
+use Rattle.std.specs.Prelude.{◌≡◌, ◌<◌, ◌≤◌, ◌-◌, ◌+◌, ◌⊎◌, ◌==◌, ℕ, true, List, [], length, map, filter, slice_index_or}
+use Rattle.std.specs.List.{All, list_any}
 use Rattle.std.specs.List.Sorted.{IsStrictlySortedBy}
-use Rattle.std.specs.BTreeMap.{BTreeMap, get}
 use Rattle.std.specs.Ordering.{nat_cmp}
 use Rattle.std.specs.Str.{bytes_eq}
 use Rattle.std.specs.declared.cmp.Ordering.{Ordering}
 use Rattle.ats_terms.specs.Front.{front, AreBytes}
 use Rattle.ats_terms.specs.Terms.{IsTerm}
-use Rattle.ats_terms.specs.Query.{byte_cmp}
 use Rattle.ats_lists.specs.Postings.{postings_of_run}
 use Rattle.ats_lists.specs.declared.entry.Entry.{Entry}
 use Rattle.ats_lists.specs.declared.numbering.Slot.{Slot}
@@ -46,12 +44,13 @@ pub record AreGathered (entries : List Entry) : Type 0 where
 abbrev pub term_of : List (List ℕ) → ℕ → List ℕ
 term_of terms n = slice_index_or terms n []
 
--- the numbers are the places of the terms: each term has that of its own, and nothing else has one
-pub record AreNumbersOf (terms : List (List ℕ)) (numbers : BTreeMap (List ℕ) ℕ) : Type 0 where
-  pub each : (n : ℕ) → n < length terms → get byte_cmp numbers (term_of terms n) ≡ Some n
-  pub only : (term : List ℕ) (n : ℕ) → get byte_cmp numbers term ≡ Some n → (n < length terms) × (term_of terms n ≡ term)
+-- each number with its term
+pub record AreNumbered (terms : List (List ℕ)) (all : List (List ℕ × ℕ)) : Type 0 where
+  pub each : All (λ pair. (pair.1 < length terms) × (term_of terms pair.1 ≡ pair.0)) all
+  pub every : (n : ℕ) → n < length terms → list_any (λ pair. pair.1 == n) all ≡ true
+  pub size : length all ≡ length terms
 
--- a slot of the cache is that of the term with its number
+-- a slot of the table is that of the term with its number
 pub record IsSlotOf (terms : List (List ℕ)) (slot : Slot) : Type 0 where
   pub inside : slot.number < length terms
   pub first : slot.first ≡ front 8 (term_of terms slot.number)

@@ -77,7 +77,8 @@ impl<'a> ListsBuilder<'a> {
             first,
             behind,
         } = self;
-        let gathered = gathered.add_document(collection, behind, counts)?;
+        let few = gathered.with_few_numbers(alloc)?;
+        let gathered = few.add_document(collection, behind, counts)?;
         Ok(ListsBuilder {
             alloc,
             collection,

@@ -2,22 +2,22 @@
 
 ghost use Rattle.std.specs.Prelude.{◌≡◌, ◌<◌, ◌≤◌, ◌+◌, ◌++◌, [], ℕ, length, map, slice_index_or, IfOk, OnOk};
 ghost use Rattle.std.specs.List.{All};
+ghost use Rattle.std.specs.List.Sorted.{IsStrictlySortedBy};
 ghost use Rattle.ats_terms.specs.Terms.{terms};
-ghost use Rattle.ats_terms.specs.Query.{counted};
+ghost use Rattle.ats_terms.specs.Query.{byte_cmp, counted};
 ghost use Rattle.ats_lists.specs.Postings.{text_of};
-ghost use Rattle.ats_lists.specs.Gathered.{entries_under, renumbered, AreNewNumbers, HasRun};
-ghost use Rattle.ats_lists.specs.Lists.{lists_of, AreLists};
+ghost use Rattle.ats_lists.specs.Gathered.{entries_under, pairs_of, renumbered, term_of, AreGathered, AreNewNumbers, HasRun, IsLogOf};
+ghost use Rattle.ats_lists.specs.Lists.{by_impact, lists_of, AreLists};
 
-use crate::entries::Entries;
 use crate::entry::Entry;
+use crate::key::Key;
 use crate::memory::OutOfMemory;
-use crate::numbering::Numbering;
+use crate::numbering::{Numbering, Places};
 use crate::term_list::TermList;
 use ats_impact::{Collection, impact};
 use ats_terms::TermCounts;
 use std::alloc::Global;
 use std::marker::Model;
-use std::mem::replace;
 
 // An entry under the number of its term.
 #[derive(Clone, Copy)]
@@ -44,37 +44,70 @@ impl Model for Gathered {
     ghost invariant = { λ g. IsLogOf g.numbering g.log.items };
 }
 
-// Room for the entries under each number.
-fn rooms(alloc: Global, terms: usize, log: &[Logged]) -> Result<Vec<Entries>, OutOfMemory>
-    requires { All (λ logged. logged.number < terms) log.now }
-    ensures size { IfOk result (λ rooms. length rooms.items ≡ terms) }
-    ensures empty { IfOk result (λ rooms. All (λ entries. entries ≡ []) rooms.items) }
+// Puts each entry under the new number of its own.
+fn replace_numbers(log: &mut Vec<Logged>, numbers: &[u32])
+    requires { All (λ logged. logged.number < length numbers.now) log.old.items }
+    ensures { log.new.items ≡ map (renumbered numbers.now) log.old.items }
+{
+    for i in 0..log.len() {
+        log[i].number = numbers[log[i].number as usize];
+    }
+}
+
+// The distinct terms in byte order, and the entries under their places among these.
+fn placed(gathered: Gathered) -> Result<(Vec<Key>, Vec<Logged>), OutOfMemory>
+    ensures rises { IfOk result (λ made. IsStrictlySortedBy byte_cmp made.0.items) }
+    ensures log { IfOk result (λ made. IsLogOf made.0.items made.1.items) }
+    ensures pairs { IfOk result (λ made. pairs_of made.0.items made.1.items ≡ gathered) }
+{
+    let Gathered { numbering, mut log } = gathered;
+    let Places { terms, places } = numbering.into_places()?;
+    replace_numbers(&mut log, &places);
+    Ok((terms, log))
+}
+
+// Each term with room for the entries under its number.
+fn rooms(alloc: Global, terms: Vec<Key>, log: &[Logged]) -> Result<Vec<TermList>, OutOfMemory>
+    requires { All (λ logged. logged.number < length terms.items) log.now }
+    ensures { IfOk result (λ rooms. rooms.items ≡ map (λ term. (term, [])) terms.items) }
 {
     let mut counts: Vec<usize> = Vec::new(alloc);
-    counts.resize(terms, 0)?;
+    counts.resize(terms.len(), 0)?;
     for logged in log {
         let at = logged.number as usize;
         counts[at] = counts[at].saturating_add(1);
     }
-    let mut rooms = Vec::with_capacity(alloc, terms)?;
-    for i in 0..terms {
-        rooms.push(Entries::with_room(alloc, counts[i])?)?;
+    let mut rooms = Vec::with_capacity(alloc, terms.len())?;
+    for term in terms {
+        let room = counts[rooms.len()];
+        rooms.push(TermList::with_room(alloc, term.into_term(), room)?)?;
     }
     Ok(rooms)
 }
 
-// The entries under each number, in the order in which they came.
-fn parted(alloc: Global, terms: usize, log: &[Logged]) -> Result<Vec<Entries>, OutOfMemory>
-    requires { All (λ logged. logged.number < terms) log.now }
-    ensures size { IfOk result (λ lists. length lists.items ≡ terms) }
-    ensures entries { IfOk result (λ lists. (n : ℕ) → n < terms
-        → slice_index_or lists.items n [] ≡ entries_under n log.now) }
+// Each term with the entries under its number, in the order in which they came.
+fn parted(alloc: Global, terms: Vec<Key>, log: &[Logged]) -> Result<Vec<TermList>, OutOfMemory>
+    requires { All (λ logged. logged.number < length terms.items) log.now }
+    ensures size { IfOk result (λ lists. length lists.items ≡ length terms.items) }
+    ensures entries { IfOk result (λ lists. (n : ℕ) → n < length terms.items
+        → slice_index_or lists.items n ([], []) ≡ (term_of terms.items n, entries_under n log.now)) }
 {
     let mut lists = rooms(alloc, terms, log)?;
     for logged in log {
         lists[logged.number as usize].push(logged.entry)?;
     }
     Ok(lists)
+}
+
+// Puts the entries of each list in order.
+fn sort_each(lists: &mut Vec<TermList>) -> Result<(), OutOfMemory>
+    requires { All (λ list. AreGathered list.1) lists.old.items }
+    ensures { OnOk result (lists.new.items ≡ map (λ list. (list.0, by_impact 2200 list.1)) lists.old.items) }
+{
+    for i in 0..lists.len() {
+        lists[i].sort()?;
+    }
+    Ok(())
 }
 
 // The numbers of another run's terms among these, which get those that they lack.
@@ -117,6 +150,18 @@ impl Gathered {
             numbering: Numbering::new(alloc),
             log: Vec::new(alloc),
         }
+    }
+
+    /// The same. Where terms have many numbers, those of each term are brought together. Want of memory drops all.
+    pub(crate) fn with_few_numbers(self, alloc: Global) -> Result<Self, OutOfMemory>
+        ensures { IfOk result (λ made. made ≡ self) }
+    {
+        if !self.numbering.has_many() {
+            return Ok(self);
+        }
+        let (terms, log) = placed(self)?;
+        let numbering = Numbering::of(alloc, terms)?;
+        Ok(Gathered { numbering, log })
     }
 
     /// Puts an entry of the next document behind those of each of its terms. Want of memory drops all.
@@ -177,15 +222,9 @@ impl Gathered {
     {
         // A list for each distinct term, so that 32 bits count the lists.
         prove!(collection.total() <= 1 << 24);
-        let Gathered { numbering, log } = self;
-        let mut lists = parted(alloc, numbering.len(), &log)?;
-        drop(log);
-        let numbers = numbering.into_numbers();
-        let mut sorted = Vec::with_capacity(alloc, lists.len())?;
-        for (key, n) in numbers {
-            let entries = replace(&mut lists[n as usize], Entries::new(alloc));
-            sorted.push(TermList::new(key.into_term(), entries.into_sorted()?))?;
-        }
-        Ok(sorted)
+        let (terms, log) = placed(self)?;
+        let mut lists = parted(alloc, terms, &log)?;
+        sort_each(&mut lists)?;
+        Ok(lists)
     }
 }

@@ -1,9 +1,10 @@
 //! A term as a key of a map.
 
-ghost use Rattle.std.specs.Prelude.{◌≡◌, [], Some, nat_eq, refl, IfOk, OnOk};
+ghost use Rattle.std.specs.Prelude.{◌≡◌, Some, nat_eq, refl, IfOk};
 ghost use Rattle.std.proofs.Common.{sym};
 ghost use Rattle.std.specs.Cmp.{partial_equiv_from_equiv, partial_order_from_agreeing_total};
 ghost use Rattle.std.specs.Cmp.Lexicographic.{nat_list_cmp_total, nat_list_eq_equiv, pointwise};
+ghost use Rattle.ats_terms.specs.Front.{front as front_of, AreBytes};
 ghost use Rattle.ats_terms.specs.Query.{byte_cmp};
 ghost use Rattle.std.proofs.lemmas.Map.Text.{is_eq-slice_cmp};
 
@@ -32,17 +33,6 @@ impl Model for Key {
 }
 
 impl Key {
-    /// The key of the empty term.
-    pub(crate) fn empty(alloc: Global) -> Self
-        ensures { result ≡ [] }
-    {
-        let term = Vec::new(alloc);
-        Key {
-            front: front(&term),
-            term,
-        }
-    }
-
     /// The key of a term, which is copied.
     pub(crate) fn of(alloc: Global, term: &[u8]) -> Result<Self, OutOfMemory>
         ensures { IfOk result (λ key. key ≡ term.now) }
@@ -53,15 +43,12 @@ impl Key {
         })
     }
 
-    /// Makes it the key of this term, in the memory that it has where that is enough.
-    pub(crate) fn set(&mut self, term: &[u8]) -> Result<(), OutOfMemory>
-        ensures { OnOk result (self.new ≡ term.now) }
+    /// The number of the first 8 bytes.
+    pub(crate) fn front(&self) -> u64
+        ensures value { result ≡ front_of 8 self.now }
+        ensures bytes { AreBytes self.now }
     {
-        self.term.clear();
-        let copied = self.term.extend_from_slice(term);
-        self.front = front(&self.term);
-        copied?;
-        Ok(())
+        self.front
     }
 
     pub(crate) fn term(&self) -> &[u8]

@@ -18,7 +18,6 @@
 #![tactic(auto)]
 
 mod building;
-mod entries;
 mod entry;
 mod gathering;
 mod key;

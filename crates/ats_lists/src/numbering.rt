@@ -1,16 +1,17 @@
 //! Terms that are numbered as they come.
 
-ghost use Rattle.std.specs.Prelude.{◌≡◌, ◌⊎◌, ◌<◌, ◌++◌, ◌∷◌, [], length, is_ok, None, IfOk, IfSome, if◌then◌else◌};
-ghost use Rattle.std.specs.BTreeMap.{get};
+ghost use Rattle.std.specs.Prelude.{◌≡◌, ◌⊎◌, ◌↔◌, ◌<◌, ◌≤◌, ◌-◌, ◌^◌, ◌++◌, ◌∷◌, [], ℕ, List, length, false, IsTrue, IfOk, IfSome, OnOk};
+ghost use Rattle.std.specs.List.{All};
+ghost use Rattle.std.specs.List.Sorted.{IsSortedByKey, IsStrictlySortedBy};
+ghost use Rattle.std.specs.Ordering.{is_lt};
 ghost use Rattle.ats_terms.specs.Query.{byte_cmp};
 ghost use Rattle.ats_terms.specs.Front.{front as front_of, AreBytes};
-ghost use Rattle.ats_lists.specs.Gathered.{term_of, AreNumbersOf, AreSlotsOf, IsSlotOf};
+ghost use Rattle.ats_lists.specs.Gathered.{term_of, AreNewNumbers, AreNumbered, AreSlotsOf, IsSlotOf};
 
 use crate::key::Key;
 use crate::memory::OutOfMemory;
 use ats_terms::front;
 use std::alloc::Global;
-use std::collections::BTreeMap;
 use std::marker::Model;
 use std::mem::replace;
 
@@ -29,44 +30,59 @@ const EMPTY: Slot = Slot {
     size: 0,
 };
 
-/// Distinct terms, each of which has the number of those that came before it.
+/// Terms, each of which has the number of those that came before it.
 ///
-/// Most terms have come lately: their numbers are found in a set-associative cache, without a search of the map.
-/// The key of the last search lends its memory to the next.
+/// A term that has a number is found by it in a set-associative table that grows with the terms. One that was pushed
+/// out by others gets a further number, so a term may have several. The numbers of one term are brought together when
+/// there are many, and at last.
 #[derive(Drop)]
 pub(crate) struct Numbering {
     alloc: Global,
-    numbers: BTreeMap<Key, u32>,
     terms: Vec<Key>,
-    cache: Vec<Slot>,
-    sought: Key,
+    table: Vec<Slot>,
+    many: usize,
 }
 
 impl Model for Numbering {
     ghost use Rattle.std.specs.Prelude.{List, ℕ};
-    ghost use Rattle.ats_lists.specs.Gathered.{AreNumbersOf, AreSlotsOf};
+    ghost use Rattle.ats_lists.specs.Gathered.{AreSlotsOf};
 
     ghost Value = { List (List ℕ) };
 
     ghost view = { λ n. n.terms.items };
 
-    ghost invariant = { λ n. AreNumbersOf n.terms.items n.numbers × AreSlotsOf n.terms.items n.cache.items };
+    ghost invariant = { λ n. AreSlotsOf n.terms.items n.table.items };
 }
 
-// A term may take each of 4 slots, and the cache has 2^14 times so many.
+/// Distinct terms in byte order, and for each number of a term its place among them.
+#[derive(Drop)]
+pub(crate) struct Places {
+    pub(crate) terms: Vec<Key>,
+    pub(crate) places: Vec<u32>,
+}
+
+// A term may take each of 4 slots.
 const WAYS: usize = 4;
 
-const SET_BITS: u32 = 14;
+// The table begins with so many slots.
+const FEWEST_SLOTS: usize = 1 << 10;
+
+// A table of more slots does not grow.
+const MOST_SLOTS: usize = 1 << 19;
+
+// There are many numbers where there are so many, and twice as many as there were distinct terms.
+const MANY: usize = 1 << 17;
 
 // The most bytes of a term that are compared by the number of its first bytes alone.
 const FIRST_BYTES: usize = 8;
 
-// The first of the slots that a term may take. Other terms may take the same.
-fn first_slot_of(first: u64, term: &[u8]) -> usize
-    ensures { result < 65536 }
+// The first of the slots that a term may take among so many. Other terms may take the same.
+fn first_slot_of(slots: usize, first: u64, term: &[u8]) -> usize
+    ensures { result < 2 ^ 34 }
 {
     let mixed = (first ^ term.len() as u64).wrapping_mul(0x9e37_79b9_7f4a_7c15);
-    (mixed >> (64 - SET_BITS)) as usize * WAYS
+    let set = (mixed >> 32).wrapping_mul((slots / WAYS) as u64) >> 32;
+    set as usize * WAYS
 }
 
 // The number in a slot, if the slot is that of the term.
@@ -91,15 +107,15 @@ fn number_in(terms: &[Key], slot: &Slot, first: u64, term: &[u8]) -> Option<u32>
 }
 
 // The number of a term, if it is in one of its slots.
-fn cached(terms: &[Key], cache: &[Slot], first: u64, term: &[u8]) -> Option<u32>
-    requires slots { AreSlotsOf terms.now cache.now }
+fn found(terms: &[Key], table: &[Slot], first: u64, term: &[u8]) -> Option<u32>
+    requires slots { AreSlotsOf terms.now table.now }
     requires first { first ≡ front_of 8 term.now }
     requires bytes { AreBytes term.now }
     ensures { IfSome result (λ n. (n < length terms.now) × (term_of terms.now n ≡ term.now)) }
 {
-    let at = first_slot_of(first, term);
+    let at = first_slot_of(table.len(), first, term);
     for way in 0..WAYS {
-        let slot = cache.get(at + way)?;
+        let slot = table.get(at + way)?;
         if let Some(n) = number_in(terms, slot, first, term) {
             return Some(n);
         }
@@ -108,63 +124,103 @@ fn cached(terms: &[Key], cache: &[Slot], first: u64, term: &[u8]) -> Option<u32>
 }
 
 // Puts a term into the first of its slots, and what was there into the next, so that the oldest leaves. A term that is
-// too long for the cache stays out.
-fn remember(
-    terms: &[Key],
-    cache: &mut Vec<Slot>,
-    first: u64,
-    term: &[u8],
-    number: u32,
-) -> Result<(), OutOfMemory>
-    requires slots { AreSlotsOf terms.now cache.old.items }
+// too long for the table stays out.
+fn remember(terms: &[Key], table: &mut Vec<Slot>, number: u32)
+    requires slots { AreSlotsOf terms.now table.old.items }
     requires inside { number < length terms.now }
-    requires term { term_of terms.now number ≡ term.now }
-    requires first { first ≡ front_of 8 term.now }
-    requires bytes { AreBytes term.now }
-    ensures { AreSlotsOf terms.now cache.new.items }
+    ensures { AreSlotsOf terms.now table.new.items }
 {
-    if cache.is_empty() {
-        cache.resize(WAYS << SET_BITS, EMPTY)?;
-    }
-    let Ok(size) = u8::try_from(term.len() + 1) else {
-        return Ok(());
+    let own = &terms[number as usize];
+    let Ok(size) = u8::try_from(own.term().len() + 1) else {
+        return;
     };
-    let at = first_slot_of(first, term);
+    let at = first_slot_of(table.len(), own.front(), own.term());
     let mut newer = Slot {
-        first,
+        first: own.front(),
         number,
         size,
     };
     for way in 0..WAYS {
-        if let Some(slot) = cache.get_mut(at + way) {
+        if let Some(slot) = table.get_mut(at + way) {
             newer = replace(slot, newer);
         }
+    }
+}
+
+// Makes the table larger where so many terms take half of it or more, and puts these in anew.
+fn make_room(terms: &[Key], table: &mut Vec<Slot>, count: u32) -> Result<(), OutOfMemory>
+    requires slots { AreSlotsOf terms.now table.old.items }
+    requires inside { count ≤ length terms.now }
+    ensures { AreSlotsOf terms.now table.new.items }
+{
+    if (count as usize) < table.len() / 2 || table.len() > MOST_SLOTS {
+        return Ok(());
+    }
+    table.clear();
+    table.resize(FEWEST_SLOTS.max(WAYS * count as usize), EMPTY)?;
+    for number in 0..count {
+        remember(terms, table, number);
     }
     Ok(())
 }
 
-// Gives a term the next number.
-fn add(
-    alloc: Global,
-    numbers: &mut BTreeMap<Key, u32>,
-    terms: &mut Vec<Key>,
-    term: &[u8],
-) -> Result<u32, OutOfMemory>
-    requires numbers { AreNumbersOf terms.old.items numbers.old }
-    requires none { get byte_cmp numbers.old term.now ≡ None }
-    ensures numbers { AreNumbersOf terms.new.items numbers.new }
-    ensures terms { terms.new.items ≡ (if is_ok result then terms.old.items ++ term.now ∷ [] else terms.old.items) }
-    ensures number { IfOk result (λ n. n ≡ length terms.old.items) }
+// The number of each term beside it.
+fn numbered(alloc: Global, terms: Vec<Key>) -> Result<Vec<(Key, u32)>, OutOfMemory>
+    ensures { IfOk result (λ all. AreNumbered terms.items all.items) }
 {
-    let Ok(n) = u32::try_from(terms.len()) else {
+    let mut all = Vec::with_capacity(alloc, terms.len())?;
+    for term in terms {
+        let Ok(number) = u32::try_from(all.len()) else {
+            return Err(OutOfMemory);
+        };
+        all.push((term, number))?;
+    }
+    Ok(all)
+}
+
+// Whether a term is the last one.
+fn ends_with(terms: &[Key], term: &Key) -> bool
+    ensures { IsTrue result
+        ↔ (0 < length terms.now) × (term_of terms.now (length terms.now - 1) ≡ term.now) }
+{
+    let len = terms.len();
+    len > 0 && terms[len - 1] == *term
+}
+
+// The place of a term behind the others, or that of the last one, where it is the same.
+fn place_of(terms: &mut Vec<Key>, term: Key) -> Result<u32, OutOfMemory>
+    requires rises { IsStrictlySortedBy byte_cmp terms.old.items }
+    requires above { All (λ before. is_lt (byte_cmp term before) ≡ false) terms.old.items }
+    ensures rises { OnOk result (IsStrictlySortedBy byte_cmp terms.new.items) }
+    ensures place { IfOk result (λ n. (n < length terms.new.items) × (term_of terms.new.items n ≡ term)) }
+    ensures more { IfOk result (λ n. (terms.new.items ≡ terms.old.items)
+        ⊎ ((n ≡ length terms.old.items) × (terms.new.items ≡ terms.old.items ++ term ∷ []))) }
+{
+    let Ok(place) = u32::try_from(terms.len()) else {
         return Err(OutOfMemory);
     };
-    let key = Key::of(alloc, term)?;
-    let own = Key::of(alloc, term)?;
-    terms.reserve(1)?;
-    numbers.insert(key, n)?;
-    terms.push_reserved(own);
-    Ok(n)
+    if ends_with(terms, &term) {
+        return Ok(place - 1);
+    }
+    terms.push(term)?;
+    Ok(place)
+}
+
+// Brings the numbers of each term together. They stand side by side.
+fn together(alloc: Global, sorted: Vec<(Key, u32)>) -> Result<Places, OutOfMemory>
+    requires order { IsSortedByKey (λ pair. pair.0) byte_cmp sorted.items }
+    requires inside { All (λ pair. pair.1 < length sorted.items) sorted.items }
+    ensures rises { IfOk result (λ made. IsStrictlySortedBy byte_cmp made.terms.items) }
+    ensures places { IfOk result (λ made. (terms : List (List ℕ)) → AreNumbered terms sorted.items
+        → AreNewNumbers [] terms made.terms.items (length terms) made.places.items) }
+{
+    let mut places: Vec<u32> = Vec::new(alloc);
+    places.resize(sorted.len(), 0)?;
+    let mut terms = Vec::with_capacity(alloc, sorted.len())?;
+    for (term, number) in sorted {
+        places[number as usize] = place_of(&mut terms, term)?;
+    }
+    Ok(Places { terms, places })
 }
 
 impl Numbering {
@@ -174,14 +230,36 @@ impl Numbering {
     {
         Numbering {
             alloc,
-            numbers: BTreeMap::new(alloc),
             terms: Vec::new(alloc),
-            cache: Vec::new(alloc),
-            sought: Key::empty(alloc),
+            table: Vec::new(alloc),
+            many: MANY,
         }
     }
 
-    /// How many terms have a number.
+    /// Terms with their places as numbers.
+    pub(crate) fn of(alloc: Global, terms: Vec<Key>) -> Result<Self, OutOfMemory>
+        ensures { IfOk result (λ made. made ≡ terms.items) }
+    {
+        let Ok(count) = u32::try_from(terms.len()) else {
+            return Err(OutOfMemory);
+        };
+        let many = MANY.max(terms.len().saturating_mul(2));
+        let mut table = Vec::new(alloc);
+        make_room(&terms, &mut table, count)?;
+        Ok(Numbering {
+            alloc,
+            terms,
+            table,
+            many,
+        })
+    }
+
+    /// Whether there are many numbers, so that those of each term should be brought together.
+    pub(crate) fn has_many(&self) -> bool {
+        self.terms.len() >= self.many
+    }
+
+    /// How many numbers there are.
     pub(crate) fn len(&self) -> usize
         ensures { result ≡ length self.now }
     {
@@ -196,36 +274,39 @@ impl Numbering {
         self.terms[number].term()
     }
 
-    /// The number of a term. One that has none gets the next.
+    /// A number of a term. One that is not found gets the next.
     pub(crate) fn number(&mut self, term: &[u8]) -> Result<u32, OutOfMemory>
         ensures number { IfOk result (λ n. (n < length self.new) × (term_of self.new n ≡ term.now)) }
         ensures more { IfOk result (λ n. (self.new ≡ self.old)
             ⊎ ((n ≡ length self.old) × (self.new ≡ self.old ++ term.now ∷ []))) }
     {
-        let first = front(term);
-        if let Some(n) = cached(&self.terms, &self.cache, first, term) {
+        if let Some(n) = found(&self.terms, &self.table, front(term), term) {
             return Ok(n);
         }
-        self.sought.set(term)?;
-        if let Some(n) = self.numbers.get(&self.sought) {
-            let n = *n;
-            remember(&self.terms, &mut self.cache, first, term, n)?;
-            return Ok(n);
-        }
-        add(self.alloc, &mut self.numbers, &mut self.terms, term)
+        let Ok(n) = u32::try_from(self.terms.len()) else {
+            return Err(OutOfMemory);
+        };
+        self.terms.push(Key::of(self.alloc, term)?)?;
+        make_room(&self.terms, &mut self.table, n)?;
+        remember(&self.terms, &mut self.table, n);
+        Ok(n)
     }
 
-    /// The terms in byte order with their numbers.
-    pub(crate) fn into_numbers(self) -> BTreeMap<Key, u32>
-        ensures { AreNumbersOf self result }
+    /// The distinct terms in byte order, and where each number's term stands among them.
+    pub(crate) fn into_places(self) -> Result<Places, OutOfMemory>
+        ensures rises { IfOk result (λ made. IsStrictlySortedBy byte_cmp made.terms.items) }
+        ensures places { IfOk result (λ made.
+            AreNewNumbers [] self made.terms.items (length self) made.places.items) }
     {
         let Numbering {
-            alloc: _,
-            numbers,
-            terms: _,
-            cache: _,
-            sought: _,
+            alloc,
+            terms,
+            table: _,
+            many: _,
         } = self;
-        numbers
+        let mut sorted = numbered(alloc, terms)?;
+        sorted.sort_unstable();
+        let made = together(alloc, sorted)?;
+        Ok(made)
     }
 }

@@ -1,8 +1,13 @@
 //! A term with its entries.
 
-ghost use Rattle.std.specs.Prelude.{◌≡◌};
+ghost use Rattle.std.specs.Prelude.{◌≡◌, ◌++◌, ◌∷◌, [], IfOk, OnOk};
+ghost use Rattle.ats_lists.specs.Gathered.{AreGathered};
+ghost use Rattle.ats_lists.specs.Lists.{by_impact};
 
 use crate::entry::Entry;
+use crate::memory::OutOfMemory;
+use std::alloc::Global;
+use std::cmp::Reverse;
 use std::marker::Model;
 
 /// A term with its entries.
@@ -22,10 +27,29 @@ impl Model for TermList {
 }
 
 impl TermList {
-    pub(crate) fn new(term: Vec<u8>, entries: Vec<Entry>) -> Self
-        ensures { result ≡ (term.items, entries.items) }
+    /// The term with no entry, and room for so many.
+    pub(crate) fn with_room(alloc: Global, term: Vec<u8>, room: usize) -> Result<Self, OutOfMemory>
+        ensures { IfOk result (λ list. list ≡ (term.items, [])) }
     {
-        TermList { term, entries }
+        let entries = Vec::with_capacity(alloc, room)?;
+        Ok(TermList { term, entries })
+    }
+
+    pub(crate) fn push(&mut self, entry: Entry) -> Result<(), OutOfMemory>
+        ensures { OnOk result (self.new ≡ (self.old.0, self.old.1 ++ entry ∷ [])) }
+    {
+        self.entries.push(entry)?;
+        Ok(())
+    }
+
+    /// Puts the entries by impact descending, then document ascending.
+    pub(crate) fn sort(&mut self) -> Result<(), OutOfMemory>
+        requires { AreGathered self.old.1 }
+        ensures { OnOk result (self.new ≡ (self.old.0, by_impact 2200 self.old.1)) }
+    {
+        self.entries
+            .sort_by_key(|entry| (Reverse(entry.impact), entry.doc))?;
+        Ok(())
     }
 
     pub(crate) fn term(&self) -> &[u8]

@@ -76,22 +76,23 @@ const PARTS: [(usize, usize, usize); 13] = [
     (1100, 1134, 110),
 ];
 
-// One text of so many distinct words.
-fn one_text(alloc: Global, words: u32) -> Result<Texts, Fail> {
+// A text of so many distinct words, twice.
+fn twice(alloc: Global, words: u32) -> Result<Texts, Fail> {
     let mut text = String::new(alloc);
     for word in 0..words {
         write!(text, "{word} ")?;
     }
     let mut texts = Texts::new(alloc);
     texts.push(text.as_str())?;
+    texts.push(text.as_str())?;
     Ok(texts)
 }
 
-// The trees of so many terms are cut, and hashed in parts.
+// The trees of so many terms are cut, and hashed in parts. Some terms get a further number in the second document.
 #[test]
-fn threads_build_one_large_document(rt: HostRuntime) -> Result<(), Fail> {
-    let all = one_text(rt.alloc(), 40_000)?;
-    assert!(rt; are_built_alike(&rt, rt.alloc(), &all, (0, 1, usize::MAX))?);
+fn threads_build_large_documents(rt: HostRuntime) -> Result<(), Fail> {
+    let all = twice(rt.alloc(), 40_000)?;
+    assert!(rt; are_built_alike(&rt, rt.alloc(), &all, (0, 2, usize::MAX))?);
     Ok(())
 }
 

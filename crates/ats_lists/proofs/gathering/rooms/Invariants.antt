@@ -1,13 +1,13 @@
-use Rattle.std.proofs.Common.{◌≡◌, [], length}
-use Rattle.std.specs.List.{All}
+use Rattle.std.proofs.Common.{◌≡◌, ◌++◌, [], length, map}
+use Rattle.std.specs.Vec.Iter.{into_iter_items}
 use Rattle.ats_lists.proofs.gathering.rooms.Given as goal
 
 abbrev pub invariant-loop-logged : goal.invariant-loop-logged
-invariant-loop-logged l = length l.counts.items ≡ l.terms
+invariant-loop-logged l = length l.counts.items ≡ length l.terms.items
 
--- so many rooms, all empty
-abbrev pub invariant-loop-i : goal.invariant-loop-i
-invariant-loop-i l = record {
-  size : length l.rooms.items ≡ l.i;
-  empty : All (λ entries. entries ≡ []) l.rooms.items;
+-- the terms so far have no entry
+abbrev pub invariant-loop-term : goal.invariant-loop-term
+invariant-loop-term l = record {
+  made : l.rooms.items ++ map (λ term. (term, [])) (into_iter_items l.term-iterator) ≡ map (λ term. (term, [])) l.fn.terms.items;
+  size : length l.counts.items ≡ length l.fn.terms.items;
 }

@@ -1,7 +1,7 @@
 use Rattle.std.proofs.Common.{◌≡◌, ◌⊎◌, ◌+◌, sym, subst}
 use Rattle.ats_lists.specs.Gathered.{IsSlotOf}
 use Rattle.ats_lists.specs.declared.numbering.Slot.{Slot}
-use Rattle.ats_lists.proofs.numbering.cached.Goals as goal
+use Rattle.ats_lists.proofs.numbering.found.Goals as goal
 
 pub number_in-requires-clause-slot : goal.number_in-requires-clause-slot
 number_in-requires-clause-slot c =
