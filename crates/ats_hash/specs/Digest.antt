@@ -1,4 +1,4 @@
--- The digest of the type `Weak`, and that the digests of both types have 32 bytes.
+-- The digest of the type `Weak`. The digests of both types have 32 bytes.
 use Rattle.std.specs.Prelude.{◌≡◌, ℕ, ◌%◌, ◌^◌, List, ◌++◌, length, sum, replicate, refl}
 use Rattle.std.specs.Int.{to_be_bytes, w16}
 use Rattle.sha2.specs.Sha256.{sha256}

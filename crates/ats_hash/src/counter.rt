@@ -5,7 +5,7 @@ ghost use Rattle.std.specs.Prelude.{◌≡◌, ℕ, ◌+◌, ◌^◌, ◌<◌};
 use std::alloc::Global;
 use std::marker::Model;
 
-/// How many steps were taken. It is neither `Clone` nor `Default`, so that no step is counted aside.
+/// The number of steps taken. It is neither `Clone` nor `Default`, so no step can be counted elsewhere.
 #[derive(Drop)]
 pub struct Steps {
     taken: u64,
@@ -18,7 +18,7 @@ impl Model for Steps {
 }
 
 impl Steps {
-    /// A counter at 0. It takes no memory: the allocator shows that the caller may make a counter.
+    /// A counter at 0. It allocates nothing: the allocator only shows that the caller may make a counter.
     pub fn new(_alloc: Global) -> Self
         ensures { result ≡ 0 }
     {

@@ -4,8 +4,8 @@ ghost use Rattle.std.specs.Prelude.{◌≡◌, ℕ, ◌+◌, ◌^◌, ◌<◌, L
 
 use crate::counter::Steps;
 
-/// One function from byte strings to 32 bytes. It has no call: code that knows of a type no more than
-/// this cannot compute a digest.
+/// One function from byte strings to 32 bytes. It has no method that code can call: code that knows only this about a
+/// type cannot compute a digest.
 pub trait HashKind {
     /// The digest of a byte string.
     ghost hash: { List ℕ → List ℕ };

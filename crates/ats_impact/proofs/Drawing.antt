@@ -109,24 +109,24 @@ word_next x i s n at is =
     let here : i + 0 ≡ i = omega arith in
     ap (λ k. codes "w" ++ decimal k) (is ∙ ap (λ y. word_number y 0) at ∙ word_number-from x i 0 ∙ ap (word_number x) here)
 
--- the first word stands alone
+-- the first word has no space before it
 pub joined_first : (x i : ℕ) (text word_text : List ℕ) → i ≡ 0 → text ≡ joined_words x 0 i → word_text ≡ word x i → text ++ word_text ≡ joined_words x 0 (i + 1)
 joined_first x zero text word_text none so is = ap₂ (λ (a b : List ℕ). a ++ b) (so ∙ joined_none x 0) is ∙ sym (joined_one x 0)
 joined_first x (suc i) text word_text none so is = absurd (omega (arith, none))
 
--- each later one behind a space
+-- each later word follows a space
 pub joined_later : (x i : ℕ) (text word_text : List ℕ) → i ≢ 0 → text ≡ joined_words x 0 i → word_text ≡ codes " " ++ word x i → text ++ word_text ≡ joined_words x 0 (i + 1)
 joined_later x zero text word_text some so is = absurd (some refl)
 joined_later x (suc i) text word_text some so is =
     let here : 0 + suc i ≡ suc i = omega arith in
     ap₂ (λ (a b : List ℕ). a ++ b) so (is ∙ ap (λ k. codes " " ++ word x k) (sym here)) ∙ sym (joined_more x 0 i)
 
--- three words behind those of the texts and of i queries
+-- three words after those of the texts and of i queries
 pub drawn_query : (number i s t : ℕ) (text : List ℕ) → s ≡ number → t ≡ number_at s (2 * (2000 * 50 + 3 * i)) → text ≡ joined_words t 0 3 → text ≡ trial_query number i
 drawn_query number i s t text from at is =
     is ∙ ap (λ y. joined_words y 0 3) (at ∙ ap (λ y. number_at y (2 * (2000 * 50 + 3 * i))) from) ∙ joined_from number (100000 + 3 * i) 3
 
--- 50 words behind those of i texts
+-- 50 words after those of i texts
 pub drawn_text : (number i s t : ℕ) (text : List ℕ) → s ≡ number_at number (2 * (50 * i)) → t ≡ number_at s (2 * 50) → text ≡ joined_words s 0 50
     → (text ≡ trial_text number i) × (t ≡ number_at number (2 * (50 * (i + 1))))
 drawn_text number i s t text at moved is = (

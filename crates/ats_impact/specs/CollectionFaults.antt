@@ -4,7 +4,7 @@ use Rattle.ats_impact.specs.Limits.{AllShort}
 use Rattle.ats_impact.specs.declared.collection.CollectionFault.{CollectionFault}
 use Rattle.ats_impact.specs.declared.collection.CollectionFault.TheVariants.{NoDocuments, TooMany, TextTooLong, AllTooLong, OutOfMemory}
 
--- the first of these that holds, in this order, with its number; want of memory is free
+-- the first of these that holds, in this order, with its number; out of memory needs no cause in the texts
 abbrev pub IsFirstCollectionFault : List (List ℕ) → CollectionFault → Type 0
 IsFirstCollectionFault texts NoDocuments = length texts ≡ 0
 IsFirstCollectionFault texts (TooMany n) = (n ≡ length texts) × (65536 < n)

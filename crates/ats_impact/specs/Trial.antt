@@ -11,7 +11,7 @@ unfoldable pub number_at : ℕ → ℕ → ℕ
 number_at x zero = x
 number_at x (suc k) = next (number_at x k)
 
--- what a number of the sequence gives as a draw: its upper 31 bits; the k-th draw, counted from 1
+-- the draw that a number of the sequence gives: its upper 31 bits; the k-th draw is counted from 1
 abbrev pub drawn : ℕ → ℕ
 drawn x = x / 2 ^ 33
 
@@ -25,7 +25,7 @@ word_number x j = (draw x (2 * j + 1) % 1000) * (draw x (2 * j + 2) % 1000) / 10
 abbrev pub word : ℕ → ℕ → List ℕ
 word x j = codes "w" ++ decimal (word_number x j)
 
--- so many words from the j-th on, joined by single spaces
+-- `count` words from the j-th on, joined by single spaces
 unfoldable pub joined_words : ℕ → ℕ → ℕ → List ℕ
 joined_words x j count = join_by (word x) (codes " ") (range_with_len j count)
 
@@ -33,7 +33,7 @@ joined_words x j count = join_by (word x) (codes " ") (range_with_len j count)
 abbrev pub trial_text : ℕ → ℕ → List ℕ
 trial_text number i = joined_words number (50 * i) 50
 
--- the first texts of a trial, so many
+-- the first `count` texts of a trial
 unfoldable pub first_texts : ℕ → ℕ → List (List ℕ)
 first_texts number count = map (trial_text number) (range_with_len 0 count)
 
@@ -41,6 +41,6 @@ first_texts number count = map (trial_text number) (range_with_len 0 count)
 abbrev pub trial_texts : ℕ → List (List ℕ)
 trial_texts number = first_texts number 2000
 
--- the i-th query, counted from 0: 3 words, drawn behind all texts, query after query
+-- the i-th query, counted from 0: 3 words, drawn after all texts, query after query
 abbrev pub trial_query : ℕ → ℕ → List ℕ
 trial_query number i = joined_words number (100000 + 3 * i) 3

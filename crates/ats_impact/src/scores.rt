@@ -1,4 +1,4 @@
-//! The scores of documents, from one table of how often each of them has each term of a query.
+//! The scores of documents, from one table of how often each document has each term of a query.
 
 ghost use Rattle.std.specs.Prelude.{◌≡◌, ◌≤◌, ◌<◌, ◌+◌, ◌^◌, [], List, ℕ, length, map, count_by, nat_lt, slice_index, slice_index_or, if◌then◌else◌, IfOk};
 ghost use Rattle.std.specs.List.{All};
@@ -14,7 +14,7 @@ use ats_terms::{Query, Terms};
 use std::alloc::Global;
 use std::marker::Model;
 
-/// How often each term of a query stands in a document.
+/// How often each term of a query occurs in a document.
 #[derive(Drop)]
 pub(crate) struct Counts {
     items: Vec<u32>,
@@ -50,7 +50,7 @@ fn count_term(counts: &mut [u32], query: &Query, term: &[u8])
     }
 }
 
-// How often each term of the query stands among these.
+// How often each term of the query occurs among these.
 fn count_terms(alloc: Global, query: &Query, terms: &Terms) -> Result<Counts, OutOfMemory>
     requires { length terms.now ≤ 2 ^ 20 }
     ensures { IfOk result (λ counts. counts ≡ map (λ pair. occurrences pair.0 terms.now) query.now) }
@@ -133,7 +133,7 @@ fn part(collection: &Collection, document: &Document, factor: u64, count: u32) -
     factor * u64::from(impact)
 }
 
-/// What a document scores, from its row of the table and the coefficients.
+/// The score of a document, from its row of the table and the coefficients.
 pub(crate) fn score(
     collection: &Collection,
     query: &Query,

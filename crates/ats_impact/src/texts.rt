@@ -62,7 +62,7 @@ impl Texts {
         }
     }
 
-    /// Puts a copy of the text at the end. Want of memory leaves the list as it was.
+    /// Appends a copy of the text. If memory runs out, the list stays as it was.
     pub fn push(&mut self, text: &str) -> Result<(), OutOfMemory>
         ensures { self.new ≡ (if is_ok result then self.old ++ text.now ∷ [] else self.old) }
     {

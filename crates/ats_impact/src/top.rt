@@ -29,7 +29,7 @@ impl Model for Top {
 const MAX_ROWS: u32 = 1000;
 
 impl Top {
-    /// A number from 1 to 1,000, and no other.
+    /// Accepts a number from 1 to 1,000, and no other.
     pub fn new(r: u32) -> Result<Top, ROut>
         ensures ok { IfOk result (λ top. top ≡ r) }
         ensures within { OnOk result ((1 ≤ r) × (r ≤ 1000)) }

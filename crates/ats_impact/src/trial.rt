@@ -59,7 +59,7 @@ impl Sequence {
         a * b / 1000
     }
 
-    // So many words, joined by single spaces.
+    // The next `count` words, joined by single spaces.
     fn words(&mut self, alloc: Global, count: u32) -> Result<String, AllocError>
         ensures value { IfOk result (λ text. string_bytes text ≡ joined_words self.old 0 count) }
         ensures moved { OnOk result (self.new ≡ number_at self.old (2 * count)) }
@@ -77,7 +77,7 @@ impl Sequence {
         Ok(text)
     }
 
-    // Goes past so many words.
+    // Skips `count` words.
     fn pass(&mut self, count: u32)
         ensures { self.new ≡ number_at self.old (2 * count) }
     {
@@ -93,7 +93,7 @@ const TEXT_WORDS: u32 = 50;
 
 const QUERY_WORDS: u32 = 3;
 
-/// The 2,000 texts of 50 words each that the number of a trial gives. They make a collection.
+/// The 2,000 texts of 50 words each that a trial's number determines. They make a collection.
 pub fn trial_texts(alloc: Global, number: u32) -> Result<Texts, OutOfMemory>
     ensures value { IfOk result (λ texts. texts ≡ trial_texts number) }
     ensures within { AreWithin (trial_texts number) }

@@ -20,7 +20,7 @@ pub front_low : (bytes : List ℕ) → IsUtf8 bytes → get_or bytes 0 0 < 255
 front_low bytes ([], (is, same)) = rw (← same) (omega arith)
 front_low bytes (c ∷ cs, (is, same)) = rw (← same) (front_of c (encodes cs) (below c (both (scalar c) (scalars cs) is)))
 
--- what a folded word of 1 to 64 bytes keeps
+-- a folded word of 1 to 64 bytes is a valid term
 pub term_of : (bytes : List ℕ) → IsUtf8 bytes → 0 < length bytes → IsTrue (nat_le (length bytes) 64) → IsTerm bytes
 term_of bytes text some small = record {
   some = some;

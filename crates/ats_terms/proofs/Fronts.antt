@@ -11,7 +11,7 @@ use Rattle.byteorder.specs.Endian.{big_number}
 use Rattle.ats_terms.specs.Front.{front, AreBytes}
 use Rattle.ats_terms.specs.Query.{byte_cmp}
 
--- the number goes by the first bytes alone
+-- the number depends only on the first bytes
 front_by : (n : ℕ) (x y : List ℕ) → ((i : ℕ) → i < n → get_or x i 0 ≡ get_or y i 0) → front n x ≡ front n y
 unfolding front
 front_by zero x y same = refl
@@ -25,16 +25,16 @@ zeros_behind [] (suc n) (suc i) = zeros_behind [] n i
 zeros_behind (b ∷ term) n zero = refl
 zeros_behind (b ∷ term) n (suc i) = zeros_behind term n i
 
--- zeros behind a term change nothing
+-- zeros after a term change nothing
 pub front_padded : (n m : ℕ) (term : List ℕ) → front n (term ++ replicate m 0) ≡ front n term
 front_padded n m term = front_by n (term ++ replicate m 0) term (λ i inside. zeros_behind term m i)
 
--- the number of 8 bytes is that which is read
+-- the number of 8 bytes is the one that is read
 pub front_read : (term : List ℕ) → big_number 8 term ≡ front 8 term
 unfolding front
 front_read term = omega arith
 
--- the number of 4 to 7 bytes is that of the first 4 and that of the last 4 without those that are among the first
+-- the number of 4 to 7 bytes joins that of the first 4 with that of the last 4, without those that are among the first
 pub front_joined : (term : List ℕ) (first last : ℕ) → AreBytes term → 4 ≤ length term → length term < 8
     → first ≡ big_number 4 term → last ≡ big_number 4 (take (length term - (length term - 4)) (drop (length term - 4) term))
     → first * 2 ^ 32 % 2 ^ 64 + last * 2 ^ (8 * (8 - length term)) % 2 ^ 64 % 2 ^ 32 ≡ front 8 term
@@ -49,7 +49,7 @@ front_joined (a ∷ b ∷ c ∷ d ∷ e ∷ f ∷ []) first last bytes some few 
 front_joined (a ∷ b ∷ c ∷ d ∷ e ∷ f ∷ g ∷ []) first last bytes some few is rest = omega (arith, is, rest, bytes 0, bytes 1, bytes 2, bytes 3, bytes 4, bytes 5, bytes 6)
 front_joined (a ∷ b ∷ c ∷ d ∷ e ∷ f ∷ g ∷ h ∷ more) first last bytes some few is rest = absurd (omega arith)
 
--- terms with one number have the same first bytes
+-- terms with the same number have the same first bytes
 same_bytes : (n : ℕ) (x y : List ℕ) → AreBytes x → AreBytes y → front n x ≡ front n y → (i : ℕ) → i < n → get_or x i 0 ≡ get_or y i 0
 unfolding front
 same_bytes zero x y xs ys same i inside = absurd (omega arith)
@@ -62,7 +62,7 @@ same_bytes (suc n) x y xs ys same i inside =
           rw here (omega (arith, sum, xs n, ys n))
     ]
 
--- what decides is the first byte that differs
+-- the first byte that differs decides
 first_less : (n : ℕ) (x y : List ℕ) → ((i : ℕ) → i < n → get_or x i 0 ≡ get_or y i 0) → get_or x n 0 < get_or y n 0 → byte_cmp x y ≡ Less
 first_less n [] [] same less = absurd (omega (arith, less))
 first_less n [] (b ∷ y) same less = refl
@@ -87,7 +87,7 @@ front_less (suc n) x y xs ys less =
           first_less n x y (same_bytes n x y xs ys same) (omega (arith, sum, same))
     ]
 
--- where the numbers differ, the terms compare as they do
+-- if the numbers differ, the terms compare as they do
 pub front_decides : (n : ℕ) (x y : List ℕ) → AreBytes x → AreBytes y → (o : Ordering) → o ≡ nat_cmp (front n x) (front n y) → o ≢ Equal
     → o ≡ byte_cmp x y
 front_decides n x y xs ys Less is other =
@@ -101,7 +101,7 @@ front_decides n x y xs ys Greater is other =
 suc_cmp : (m k : ℕ) → nat_cmp (suc m) (suc k) ≡ nat_cmp m k
 suc_cmp m k = grind (arith, nat_tests)
 
--- where one term begins with the other, the shorter comes first
+-- if one term begins with the other, the shorter comes first
 by_length : (x y : List ℕ) → ((i : ℕ) → i < length x → i < length y → get_or x i 0 ≡ get_or y i 0) → nat_cmp (length x) (length y) ≡ byte_cmp x y
 by_length [] [] same = refl
 by_length [] (b ∷ y) same =
@@ -115,13 +115,13 @@ by_length (a ∷ x) (b ∷ y) same =
     let tied : nat_cmp a b ≡ Equal = subst (λ c. nat_cmp a c ≡ Equal) head (tied_itself nat_cmp_total a) in
     rw tied (suc_cmp (length x) (length y) ∙ by_length x y (λ i inside within. same (suc i) (omega arith) (omega arith)))
 
--- where the numbers are the same and one term has n bytes at most, the lengths compare as the terms do
+-- if the numbers are equal and one term has at most n bytes, the lengths compare as the terms do
 pub length_decides : (n : ℕ) (x y : List ℕ) → AreBytes x → AreBytes y → front n x ≡ front n y → min (length x) (length y) ≤ n
     → nat_cmp (length x) (length y) ≡ byte_cmp x y
 length_decides n x y xs ys same few =
     by_length x y (λ i inside within. same_bytes n x y xs ys same i (omega arith))
 
--- terms of n bytes at most with one number and one length are the same
+-- terms of at most n bytes with the same number and the same length are equal
 pub front_tells : (n : ℕ) (x y : List ℕ) → AreBytes x → AreBytes y → length x ≤ n → length x ≡ length y → front n x ≡ front n y → x ≡ y
 front_tells n x y xs ys few size same = same_lists x y size (λ k d inside.
     get_or_default x k d 0 inside ∙ same_bytes n x y xs ys same k (omega arith) ∙ sym (get_or_default y k d 0 (omega arith)))

@@ -1,4 +1,4 @@
--- The runs of terms that stand in byte order.
+-- The runs of equal terms in a list in byte order.
 use Rattle.std.proofs.Common.{◌≡◌, ◌≢◌, ◌<◌, ◌≤◌, ◌+◌, ◌-◌, ℕ, suc, List, [], ◌∷◌, ◌++◌, length, get_or, take, set, map, fold, false, inl, inr, refl, sym, ap, ap₂, subst, ◌∙◌, arith, length-append, length-take, sum_by, zero-add}
 use Rattle.std.specs.List.{All, zip}
 use Rattle.std.proofs.lemmas.Bool.{cases_lt}
@@ -72,7 +72,7 @@ run_few all i pairs k d runs inside =
     let sum : sum_by (λ p. p.1) pairs ≡ length (take i all) = ap (sum_by (λ p. p.1)) runs.made ∙ all_weigh (take i all) [] ∙ zero-add (length (take i all)) in
     omega (arith, get_or-le-sum_by (λ (p : List ℕ × ℕ). p.1) pairs k d inside, sum, length-take i all)
 
--- behind a term there are pairs
+-- after at least one term there are pairs
 pub some_runs : (all : List (List ℕ)) (i : ℕ) (pairs : List (List ℕ × ℕ)) → AreRuns all i pairs → 0 < i → 1 ≤ length pairs
 some_runs all i pairs runs some =
     let ends = runs.ends some in
@@ -167,7 +167,7 @@ zip_bump ks ws run d front k w same last is =
     ap (λ v. set ws run (v + 1)) here ∙ ap₂ (λ l i. set l i (w + 1)) weights place ∙ set_last (map (λ p. p.1) front) w (w + 1) in
     ap₂ zip names bumped ∙ zip_parts front k (w + 1)
 
--- a pair has its term and its count at one place
+-- zipped terms and counts have the length of the terms
 pub length_zipped : {A B : Type 0} (ks : List A) (vs : List B) → length vs ≡ length ks → length (zip ks vs) ≡ length ks
 length_zipped [] [] same = refl
 length_zipped [] (v ∷ vs) same = refl

@@ -26,7 +26,7 @@ below_by : (a b x y : List ℕ) → a ≡ x → b ≡ y → IsBelow x y → IsBe
 below_by a b x y first second below = rw (first, second) below
 
 module _ {X : Type 0} (low high : X) (items : List X) where
-  -- an item stands one position past its place, behind the low sentinel
+  -- an item is one position past its place, after the low sentinel
   pub inner_at : (i : ℕ) (d : X) → i < length items → get_or (low ∷ items ++ high ∷ []) (suc i) low ≡ get_or items i d
   inner_at i d inside = get_or_append_left items (high ∷ []) low i inside ∙ get_or_default items i low d inside
 
@@ -46,7 +46,7 @@ module _ {X : Type 0} (low high : X) (items : List X) where
     at_item : (i : ℕ) (d : X) → i < length items → at (suc i) ≡ term_of (get_or items i d)
     at_item i d inside = ap term_of (inner_at i d inside)
 
-    -- a term that is no item's stands at no position
+    -- a term that is no item's is at no position
     pub nowhere : (term : List ℕ) → All (λ x. term_of x ≢ term) items → (q : ℕ) → ¬ StandsAt at (length items) term q
     nowhere term none zero stands = absurd (omega (arith, stands.some))
     nowhere term none (suc i) stands =
@@ -79,6 +79,6 @@ module _ {X : Type 0} (low high : X) (items : List X) where
                 (at_item i low within) (at_end (suc j) (omega arith)) (high_above (term_of (get_or items i low)) term.some term.front)
           ]
 
-      -- the terms of all positions rise strictly, where those of the items do
+      -- the terms of all positions rise strictly if those of the items do
       pub rise_between : RiseBetweenSentinels at (length items)
       rise_between = record { low = first; high = at_end (length items + 1) refl; rises = rise }

@@ -1,4 +1,4 @@
--- Where a term stands among terms that rise between two sentinels.
+-- Terms that rise between two sentinels: each is at one position only.
 use Rattle.std.proofs.Common.{◌≡◌, ◌≢◌, ◌<◌, ◌≤◌, ◌+◌, ℕ, List, sym, subst, ◌∙◌, arith, inl, inr}
 use Rattle.std.proofs.lemmas.Bool.{cases_order}
 use Rattle.std.proofs.lemmas.Cmp.{nat_list_cmp_total}
@@ -7,7 +7,7 @@ use Rattle.ats_terms.specs.Found.{RiseBetweenSentinels, LiesBetween}
 use Rattle.ats_terms.proofs.Order.{less_unequal}
 
 module _ (at : ℕ → List ℕ) (n : ℕ) (is : RiseBetweenSentinels at n) (term : List ℕ) where
-  -- a term stands at one position alone
+  -- a term is at one position only
   pub stands_once : (p q : ℕ) → p < n + 2 → q < n + 2 → at p ≡ term → at q ≡ term → p ≡ q
   stands_once p q first second here there = elim (cases_order p q) [
     | inl same ↦ same
@@ -15,7 +15,7 @@ module _ (at : ℕ → List ℕ) (n : ℕ) (is : RiseBetweenSentinels at n) (ter
     | inr (inr down) ↦ absurd (less_unequal (at q) (at p) (is.rises q p down first) (there ∙ sym here))
   ]
 
-  -- one that lies between two neighbours stands at none
+  -- a term that lies between two neighbours is at no position
   pub stands_nowhere : (p : ℕ) → p ≤ n → IsBelow (at p) term → IsBelow term (at (p + 1)) → (q : ℕ) → q < n + 2 → at q ≢ term
   stands_nowhere p within above below q inside same = elim (cases_order q p) [
     | inl here ↦ less_unequal (at p) term above (subst (λ m. at m ≡ term) here same)

@@ -1,4 +1,4 @@
--- A list has one list of pairs that rises and counts its terms.
+-- Only one list of pairs rises and counts the terms of a list.
 use Rattle.std.proofs.Common.{◌≡◌, ◌≢◌, ◌<◌, ◌≤◌, ℕ, List, [], ◌∷◌, length, sum_by, Bool, true, false, cond, refl, sym, ap, ap₂, ◌∙◌, arith, get_or, zero, suc}
 use Rattle.std.specs.List.{All}
 use Rattle.std.specs.Str.{bytes_eq}
@@ -90,17 +90,17 @@ counted_same all others same =
     let own = counted_counts all in
     counts_counted others (counted all) (record { rises = own.rises; some = own.some; weights = λ term. own.weights term ∙ same term })
 
--- the order of a list is nothing to its pairs
+-- the pairs do not depend on the order of the list
 pub counted_permuted : (all others : List (List ℕ)) → IsPermutation all others → counted others ≡ counted all
 counted_permuted all others is = sym (counted_same all others (λ term. sym (sum_by-IsPermutation (λ x. cond (bytes_eq term x) 1 0) all others is)))
 
--- there are no more pairs than their weights
+-- there are at most as many pairs as the sum of their weights
 pub few_pairs : (pairs : List (List ℕ × ℕ)) → All (λ pair. 0 < pair.1) pairs → length pairs ≤ sum_by (λ pair. pair.1) pairs
 few_pairs [] some = omega arith
 few_pairs (pair ∷ pairs) some =
     omega (arith, some 0 pair (omega arith), few_pairs pairs (All-tail (λ (p : List ℕ × ℕ). 0 < p.1) pair pairs some), sum_by-cons (λ (p : List ℕ × ℕ). p.1) pair pairs)
 
--- what the pairs of terms keep
+-- the counted pairs of valid terms are distinct terms
 pub counted_distinct : (all : List (List ℕ)) → All IsTerm all → AreDistinct (counted all)
 counted_distinct all each =
     let own = counted_counts all in

@@ -1,4 +1,4 @@
--- What the distinct terms of a list keep, each with how often it stands there.
+-- The shape of the distinct terms of a list, each with how often it occurs there.
 use Rattle.std.specs.Prelude.{◌≤◌, ℕ, List}
 use Rattle.std.specs.List.{All}
 use Rattle.ats_terms.specs.Terms.{IsTerm}

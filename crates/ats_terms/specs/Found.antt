@@ -1,5 +1,5 @@
--- Where a term stands among n terms in byte order, or between which two it lies. Positions run from 0 to n + 1: those
--- of the low sentinel, the terms in their order, and the high sentinel. `at` is the term of each position.
+-- The place of a term among n terms in byte order, or the two that it lies between. Positions run from 0 to n + 1: the
+-- low sentinel, the terms in their order, the high sentinel. `at` gives the term of each position.
 use Rattle.std.specs.Prelude.{◌≡◌, ◌<◌, ◌≤◌, ◌+◌, ℕ, List, [], ◌∷◌}
 use Rattle.ats_terms.specs.Order.{IsBelow}
 use Rattle.ats_terms.specs.declared.spot.Spot.{Spot}
@@ -11,13 +11,13 @@ pub record RiseBetweenSentinels (at : ℕ → List ℕ) (n : ℕ) : Type 0 where
   pub high : at (n + 1) ≡ 255 ∷ []
   pub rises : (p q : ℕ) → p < q → q < n + 2 → IsBelow (at p) (at q)
 
--- the term is that of the position, which is no sentinel's
+-- the term is at this position, which is not a sentinel's
 pub record StandsAt (at : ℕ → List ℕ) (n : ℕ) (term : List ℕ) (p : ℕ) : Type 0 where
   pub some : 1 ≤ p
   pub within : p ≤ n
   pub same : at p ≡ term
 
--- the term lies strictly between those of two neighbours, and stands at no position
+-- the term lies strictly between the terms of this position and the next, and is at no position
 pub record LiesBetween (at : ℕ → List ℕ) (n : ℕ) (term : List ℕ) (p : ℕ) : Type 0 where
   pub within : p ≤ n
   pub above : IsBelow (at p) term

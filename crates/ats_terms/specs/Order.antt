@@ -5,7 +5,8 @@ use Rattle.std.specs.Ordering.{nat_cmp}
 use Rattle.std.specs.declared.cmp.Ordering.{Ordering}
 use Rattle.std.specs.declared.cmp.Ordering.TheVariants.{Less}
 
--- byte strings by the first byte in which they differ; one that the other begins with comes first
+-- byte strings are ordered by the first byte in which they differ; a string comes before every longer one that begins
+-- with it
 abbrev pub byte_cmp : List ℕ → List ℕ → Ordering
 byte_cmp = slice_cmp nat_cmp
 

@@ -3,7 +3,7 @@ use Rattle.std.specs.Prelude.{◌≡◌, ◌≤◌, ◌-◌, ◌==◌, ℕ, List
 use Rattle.std.specs.List.{All}
 use Rattle.ats_terms.specs.Terms.{IsTerm}
 
--- the strings that end at these places, the first of which begins here
+-- the strings that end at these places; the first begins at `start`, each other one at the end of the one before it
 abbrev pub strings_from : List ℕ → ℕ → List ℕ → List (List ℕ)
 strings_from bytes start [] = []
 strings_from bytes start (end ∷ ends) = slice_range bytes start end ∷ strings_from bytes end ends
@@ -11,11 +11,11 @@ strings_from bytes start (end ∷ ends) = slice_range bytes start end ∷ string
 abbrev pub strings : List ℕ → List ℕ → List (List ℕ)
 strings bytes ends = strings_from bytes 0 ends
 
--- where a string begins: at the end of the one before it
+-- where string i begins: at the end of the one before it, the first at 0
 abbrev pub start_of : List ℕ → ℕ → ℕ
 start_of ends i = if i == 0 then 0 else slice_index ends (i - 1)
 
--- the places never fall, and the last is the end of all
+-- the places never decrease from `start` on, and the last is `len`
 abbrev pub AreEnds : ℕ → List ℕ → ℕ → Type 0
 AreEnds start [] len = start ≡ len
 AreEnds start (end ∷ ends) len = (start ≤ end) × AreEnds end ends len

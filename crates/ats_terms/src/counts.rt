@@ -1,4 +1,4 @@
-//! How often each term stands in a text.
+//! How often each term occurs in a text.
 
 ghost use Rattle.std.specs.Prelude.{◌≡◌, ◌<◌, ◌≤◌, ◌-◌, ◌^◌, ◌↔◌, [], List, ℕ, length, slice_index_or, sum_by, IsTrue, IfOk};
 ghost use Rattle.std.specs.List.{All};
@@ -14,9 +14,9 @@ use crate::terms::{OutOfMemory, Terms, pack};
 use std::alloc::Global;
 use std::marker::Model;
 
-/// The distinct terms of a list of terms in byte order, each with how often it stands there.
+/// The distinct terms of a list of terms in byte order, each with how often it occurs in the list.
 ///
-/// They take their distinct bytes, and 8 bytes for each term.
+/// They take the bytes of the distinct terms, and 8 bytes more for each term.
 #[derive(Drop)]
 pub struct TermCounts {
     terms: Terms,
@@ -35,7 +35,7 @@ impl Model for TermCounts {
     ghost invariant = { λ t. (length t.counts.items ≡ length t.terms) × AreDistinct (zip t.terms t.counts.items) };
 }
 
-// Each of the terms as a key, in byte order.
+// The terms as keys, in byte order.
 fn in_order<'a>(alloc: Global, terms: &'a Terms) -> Result<Vec<Key<'a>>, OutOfMemory>
     ensures same { IfOk result (λ sorted. IsPermutation terms.now sorted.items) }
     ensures order { IfOk result (λ sorted. IsSorted byte_cmp sorted.items) }
@@ -57,7 +57,7 @@ fn repeats(sorted: &[Key<'_>], i: usize) -> bool
     i > 0 && sorted[i] == sorted[i - 1]
 }
 
-// How many terms do not repeat the one before, and how many bytes they have.
+// The number of terms that do not repeat the one before, and the number of their bytes.
 fn room_of(sorted: &[Key<'_>]) -> (usize, usize) {
     let (mut terms, mut bytes): (usize, usize) = (0, 0);
     for i in 0..sorted.len() {
@@ -94,7 +94,7 @@ fn runs(alloc: Global, sorted: &[Key<'_>]) -> Result<TermCounts, OutOfMemory>
 }
 
 impl TermCounts {
-    /// The distinct terms of a list. A list of 2^32 terms and more is answered as want of memory.
+    /// The distinct terms of a list. A list of 2^32 terms or more is reported as out of memory.
     pub fn of(alloc: Global, terms: &Terms) -> Result<Self, OutOfMemory>
         ensures counted { IfOk result (λ made. made ≡ counted terms.now) }
         ensures counts { IfOk result (Counts terms.now) }
@@ -135,7 +135,7 @@ impl TermCounts {
         self.terms.get(i)
     }
 
-    /// How often term `i` stands in the list.
+    /// How often term `i` occurs in the list.
     pub fn count(&self, i: usize) -> u32
         requires { i < length self.now }
         ensures value { (d : List ℕ × ℕ) → result ≡ (slice_index_or self.now i d).1 }

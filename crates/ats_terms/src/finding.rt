@@ -6,16 +6,16 @@ ghost use Rattle.ats_terms.specs.Found.{IsSpot, RiseBetweenSentinels};
 use crate::spot::Spot;
 use std::cmp::Ordering;
 
-/// Terms that rise strictly in byte order between two sentinels. The low sentinel is the empty term, the high
-/// one has the one byte 0xFF. Positions count from 0 and include the sentinels.
+/// Terms that rise strictly in byte order between two sentinels. The low sentinel is the empty term, the high one is
+/// the single byte 0xFF. Positions count from 0 and include the sentinels.
 pub trait SortedTerms {
-    /// How many terms stand between the sentinels.
+    /// The number of terms between the sentinels.
     ghost count: { Self → ℕ };
 
     /// The term of each position.
     ghost at: { Self → ℕ → List ℕ };
 
-    /// The number of positions, those of the sentinels included.
+    /// The number of positions, sentinels included.
     fn positions(&self) -> u32
         ensures value { result ≡ count self.now + 2 }
         ensures rise { RiseBetweenSentinels (at self.now) (count self.now) };
@@ -26,7 +26,7 @@ pub trait SortedTerms {
         ensures { result.now ≡ at self.now p };
 }
 
-/// Where a term stands that is not empty and does not begin with 0xFF.
+/// Finds the place of a term. The term must not be empty and must not begin with 0xFF.
 pub fn find<S: SortedTerms>(terms: &S, term: &[u8]) -> Spot
     requires some { 1 ≤ length term.now }
     requires front { slice_index term.now 0 < 255 }

@@ -1,4 +1,4 @@
-//! A term as a key of a sort.
+//! A term as a sort key.
 
 ghost use Rattle.std.specs.Prelude.{◌≡◌, Some, nat_eq, refl};
 ghost use Rattle.std.proofs.Common.{sym};
@@ -11,7 +11,7 @@ use crate::leading::{cmp_by_front, front};
 use std::cmp::Ordering;
 use std::marker::Model;
 
-/// A lent term in byte order. Most comparisons are of the numbers of the first bytes, without a look at the terms.
+/// A lent term in byte order. Most comparisons need only the numbers of the first bytes, and do not read the terms.
 #[derive(Drop)]
 pub(crate) struct Key<'a> {
     front: u64,

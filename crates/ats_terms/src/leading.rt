@@ -7,8 +7,8 @@ ghost use Rattle.ats_terms.specs.Order.{byte_cmp};
 use byteorder::{BigEndian, ByteOrder};
 use std::cmp::Ordering;
 
-/// The first 8 bytes of a term as a number, high byte first, as if zeros followed. Terms with different numbers
-/// stand in byte order as their numbers do, so most terms are compared by two numbers.
+/// The first 8 bytes of a term as a number, high byte first, padded with zeros. Terms with different numbers are in the
+/// same order as their numbers, so two numbers decide most comparisons.
 pub fn front(term: &[u8]) -> u64
     ensures value { result ≡ front 8 term.now }
     ensures bytes { AreBytes term.now }
@@ -17,7 +17,7 @@ pub fn front(term: &[u8]) -> u64
         return BigEndian::read_u64(term);
     }
     if term.len() >= 4 {
-        // The last 4 bytes, of which those that are among the first 4 are shifted out.
+        // The last 4 bytes. Those that are among the first 4 too are shifted out.
         let last = u64::from(BigEndian::read_u32(&term[term.len() - 4..]));
         let rest = (last << (8 * (8 - term.len()))) % (1 << 32);
         return (u64::from(BigEndian::read_u32(term)) << 32) + rest;
@@ -27,8 +27,8 @@ pub fn front(term: &[u8]) -> u64
     BigEndian::read_u64(&first)
 }
 
-/// The order of two terms by their bytes, where the number of the first 8 bytes of each is known. A look at the terms
-/// is needed only where both have more than these, and the same.
+/// The byte order of two terms whose numbers of the first 8 bytes are known. The terms are read only if the numbers are
+/// equal and both terms have more than 8 bytes.
 pub fn cmp_by_front(first: u64, term: &[u8], other_first: u64, other: &[u8]) -> Ordering
     requires first { first ≡ front 8 term.now }
     requires bytes { AreBytes term.now }

@@ -1,10 +1,10 @@
-//! Where a term stands, or would stand.
+//! The place of a term among sorted terms, or the gap where it is missing.
 
-/// Where a term stands among terms in byte order. Positions count from 0 and include the sentinels.
+/// The place of a term among terms in byte order. Positions count from 0 and include the sentinels.
 #[derive(Clone, Copy, Debug, PartialEq, Eq)]
 pub enum Spot {
-    /// The term stands at this position.
+    /// The term is at this position.
     At(u32),
-    /// The term stands nowhere, and lies strictly between the term at this position and the next.
+    /// The term is at no position, and lies strictly between the terms of this position and the next.
     Between(u32),
 }
