@@ -46,7 +46,7 @@ joined bytes whole small first =
     ∙ regroup (slice_range bytes 1 5) (slice_range bytes 5 9) a b c
     ∙ ap₂ (λ x y. 1 ∷ x ++ y ++ a ++ b ++ c) (sym (word bytes 1 (omega arith) small)) (sym (word bytes 5 (omega arith) small))
 
--- what stands at the places of a header
+-- the parts at the places of a header
 pub record AreParts (bytes : List ℕ) (documents dict_leaves : ℕ) (dict_root docs_root texts_root : List ℕ) : Type 0 where
   pub first : get_or bytes 0 0 ≡ 1
   pub counts : number_at bytes 1 ≡ documents
@@ -73,7 +73,7 @@ has documents dict_leaves a b c is =
     let at = parts documents dict_leaves a b c is in
     record { version = at.first; numbers = rw (at.counts, at.leaves) is.numbers }
 
--- a part put behind the first bytes
+-- a part put after the first bytes
 pub behind : (old new part front : List ℕ) (place end : ℕ) → take (place + length part) new ≡ take place old ++ part → take place old ≡ front
     → place + length part ≡ end → take end new ≡ front ++ part
 behind old new part front place end is was ends = ap (λ n. take n new) (sym ends) ∙ is ∙ ap (λ xs. xs ++ part) was

@@ -13,7 +13,7 @@ use Rattle.ats_terms.specs.Order.{IsBelow}
 use Rattle.ats_dict.specs.Dictionary.{IsAboveLast, IsDictionary}
 use Rattle.ats_dict.specs.Packed.{front_of, entry_of, entries_of, IsPacked, ArePacked}
 
--- a range within the bytes, when more stand behind them
+-- a range within the bytes does not change if more bytes follow
 range_kept : (bytes more : List ℕ) (start end : ℕ) → start ≤ end → end ≤ length bytes → slice_range (bytes ++ more) start end ≡ slice_range bytes start end
 range_kept bytes more start end rises within =
     let first : drop start (bytes ++ more) ≡ drop start bytes ++ more = drop-append-le start bytes more (omega arith) in
@@ -66,7 +66,7 @@ dictionary_more entries entry is one above few = record {
   rises = all_pairs_push (λ a b. IsBelow a.term b.term) entries entry is.rises (above_all entries entry is above);
 }
 
--- what one more packed entry keeps, and that it stands behind the others
+-- one more packed entry is a valid one, and is after the others
 pub record IsOneMore (entries : List DictEntry) (entry : DictEntry) (fronts : List ℕ) (all : List Stored) : Type 0 where
   pub packed : ArePacked fronts all
   pub appended : entries_of fronts all ≡ entries ++ entry ∷ []

@@ -4,9 +4,9 @@
 pub use Rattle.ats_dict.proofs.HeaderLemmas.{AreParts}
 -- the bytes of a header in range have its numbers and roots at their places
 pub use Rattle.ats_dict.proofs.HeaderLemmas.{parts}
--- the last position of a dictionary, behind all entries, has the high sentinel
+-- the last position of a dictionary, after all entries, has the high sentinel
 pub use Rattle.ats_dict.proofs.Sentinels.{entry_at-last}
--- entry i of a dictionary stands at leaf position i + 1, behind the low sentinel
+-- entry i of a dictionary is at leaf position i + 1, after the low sentinel
 pub use Rattle.ats_dict.proofs.Sentinels.{entry_at-suc}
 -- the dictionary leaf at a position has the bytes of the entry or sentinel at that position
 pub use Rattle.ats_dict.proofs.Sentinels.{get_or-dict_leaves}

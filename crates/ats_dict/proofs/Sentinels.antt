@@ -9,7 +9,7 @@ use Rattle.ats_terms.proofs.Public.{inner_at, last_at, length-between, rise_betw
 use Rattle.ats_dict.specs.Entry.{DictEntry, dict_leaf_bytes}
 use Rattle.ats_dict.specs.Dictionary.{IsDictionary, low, high, with_sentinels, entry_at, term_at, leaf_of, dict_leaves}
 
--- the leaf of an entry stands one position past it, behind the low sentinel
+-- the leaf of an entry is one position past it, after the low sentinel
 pub entry_at-suc : (entries : List DictEntry) (i : ℕ) (d : DictEntry) → i < length entries → entry_at entries (suc i) ≡ get_or entries i d
 entry_at-suc entries = inner_at low high entries
 

@@ -3,7 +3,7 @@ use Rattle.std.specs.Prelude.{◌≡◌, ◌<◌, ◌^◌, ℕ, List, ◌∷◌,
 use Rattle.std.specs.Int.{to_be_bytes, w32}
 use Rattle.ats_terms.specs.Terms.{IsTerm}
 
--- a term, the number of documents that hold it, and the root of its list
+-- a term, the number of documents that have it, and the root of its list
 pub record DictEntry : Type 0 where
   pub term : List ℕ
   pub f : ℕ
@@ -13,7 +13,7 @@ pub record DictEntry : Type 0 where
 unfoldable pub dict_leaf_bytes : List ℕ → ℕ → List ℕ → List ℕ
 dict_leaf_bytes term f root = length term ∷ term ++ to_be_bytes w32 f ++ root
 
--- what each entry keeps
+-- a valid entry
 pub record IsDictEntry (entry : DictEntry) : Type 0 where
   pub term : IsTerm entry.term
   pub number : entry.f < 2 ^ 32

@@ -1,4 +1,4 @@
--- How the entries of a dictionary lie in memory: their terms one after another, each behind its length.
+-- The entries of a dictionary in memory: their terms one after another, each after its length.
 use Rattle.std.specs.Prelude.{◌≡◌, ◌≤◌, ◌*◌, ℕ, List, ◌∷◌, length, map, drop, slice_range}
 use Rattle.std.specs.List.{All}
 use Rattle.ats_dict.specs.declared.dictionary.Stored.{Stored}
@@ -15,7 +15,7 @@ entry_of fronts stored = record { term = drop 1 (front_of fronts stored); f = st
 abbrev pub entries_of : List ℕ → List Stored → List DictEntry
 entries_of fronts all = map (entry_of fronts) all
 
--- the front lies within the bytes, and its first byte is the length of the term
+-- the length and the term are within the bytes, and the first byte is the length of the term
 pub record IsPacked (fronts : List ℕ) (stored : Stored) : Type 0 where
   pub rises : stored.start ≤ stored.end
   pub within : stored.end ≤ length fronts

@@ -13,23 +13,23 @@ use ats_tree::{HashedString, Leaves, ShortLeaves};
 use std::alloc::Global;
 use std::marker::Model;
 
-/// Memory was wanted and was not there.
+/// Memory ran out.
 #[derive(Clone, Copy, Debug, PartialEq, Eq)]
 pub struct OutOfMemory;
 
-/// A leaf of the dictionary. The low sentinel has the empty term, the high one the one byte 0xFF; both have
-/// `f` 0 and a root of zero bytes.
+/// A leaf of the dictionary. The low sentinel has the empty term, the high one the single byte 0xFF; both have `f` 0
+/// and a root of zero bytes.
 #[derive(Clone, Copy, Debug)]
 pub struct DictLeaf<'a> {
-    /// The bytes of the term, 1 to 64 of them but in the low sentinel.
+    /// The bytes of the term: 1 to 64 of them, none in the low sentinel.
     pub term: &'a [u8],
-    /// How many documents hold the term.
+    /// How many documents have the term.
     pub f: u32,
     /// The root of the term's list.
     pub list_root: [u8; 32],
 }
 
-// A leaf with the length in front of its term, as it is hashed.
+// A leaf, with its term and the length before it in one piece, as it is hashed.
 #[derive(Drop)]
 struct Parts<'a> {
     front: &'a [u8],
@@ -37,7 +37,7 @@ struct Parts<'a> {
     list_root: [u8; 32],
 }
 
-// Where the length and the term of an entry stand, and what else its leaf has.
+// The range of the length and the term of an entry, and the other parts of its leaf.
 #[derive(Clone, Copy)]
 struct Stored {
     start: u32,
@@ -49,8 +49,8 @@ struct Stored {
 /// The terms of a collection in byte order, each with the number of its documents and the root of its list,
 /// between the two sentinels.
 ///
-/// There are at most 2^24 terms of 1 to 64 bytes, of which none begins with 0xFF. They stand in one block
-/// of memory, each behind its length. A dictionary keeps its allocator.
+/// There are at most 2^24 terms of 1 to 64 bytes, of which none begins with 0xFF. They are in one block of memory, each
+/// after its length. A dictionary keeps its allocator.
 #[derive(Drop)]
 pub struct Dictionary {
     fronts: Vec<u8>,
@@ -87,7 +87,7 @@ fn sentinel(front: &[u8]) -> Parts<'_>
 // The bytes of a number of documents and a root.
 const BACK_BYTES: usize = 36;
 
-// What stands behind the term in a leaf.
+// The part of a leaf after the term.
 fn back(f: u32, list_root: &[u8; 32]) -> [u8; BACK_BYTES]
     ensures { result ≡ to_be_bytes w32 f ++ list_root.now }
 {
@@ -97,7 +97,7 @@ fn back(f: u32, list_root: &[u8; 32]) -> [u8; BACK_BYTES]
     back
 }
 
-// Packs a term behind the others, its length first.
+// Appends a term to the packed ones, its length first.
 fn pack(fronts: &mut Vec<u8>, term: &[u8]) -> Result<(), OutOfMemory>
     requires { length term.now ≤ 64 }
     ensures ok { OnOk result (fronts.new.items ≡ fronts.old.items ++ length term.now ∷ term.now) }
@@ -115,7 +115,7 @@ fn pack(fronts: &mut Vec<u8>, term: &[u8]) -> Result<(), OutOfMemory>
 }
 
 impl Dictionary {
-    /// No term but the sentinels. It takes no memory.
+    /// Only the sentinels. It allocates nothing.
     pub fn new(alloc: Global) -> Self
         ensures { result ≡ [] }
     {
@@ -125,7 +125,7 @@ impl Dictionary {
         }
     }
 
-    /// Puts a term behind the last one, with the number of its documents and the root of its list.
+    /// Appends a term, with the number of its documents and the root of its list.
     pub fn push(&mut self, term: &[u8], f: u32, list_root: &[u8; 32]) -> Result<(), OutOfMemory>
         requires term { IsTerm term.now }
         requires above { IsAboveLast self.old term.now }
@@ -148,7 +148,7 @@ impl Dictionary {
         Ok(())
     }
 
-    // The leaf at a position in the parts that are hashed.
+    // The leaf at a position, in the parts that are hashed.
     fn parts(&self, p: u32) -> Parts<'_>
         requires { p < length self.now + 2 }
         ensures entry { entry_at self.now p
@@ -169,7 +169,7 @@ impl Dictionary {
         }
     }
 
-    /// The leaf at position `p`, from 0 and with the sentinels.
+    /// The leaf at position `p`, counted from 0, sentinels included.
     pub fn leaf(&self, p: u32) -> DictLeaf<'_>
         requires { p < length self.now + 2 }
         ensures { entry_at self.now p ≡ record { term = result.term.now; f = result.f; root = result.list_root } }
@@ -186,7 +186,7 @@ impl Dictionary {
         }
     }
 
-    /// Where a term stands that is not empty and does not begin with 0xFF.
+    /// Finds the place of a term. The term must not be empty and must not begin with 0xFF.
     pub fn find(&self, term: &[u8]) -> Spot
         requires some { 1 ≤ length term.now }
         requires front { slice_index term.now 0 < 255 }

@@ -8,8 +8,7 @@ use byteorder::{BigEndian, ByteOrder};
 
 /// How many documents and dictionary leaves a collection has, and the roots of its trees.
 ///
-/// A header that a collection can have names 1 to 65,536 documents and 2 to 16,777,218 dictionary leaves,
-/// of which two are sentinels.
+/// A header in range has 1 to 65,536 documents and 2 to 16,777,218 dictionary leaves, of which two are sentinels.
 #[derive(Clone, Copy, Debug, PartialEq, Eq)]
 pub struct Header {
     /// The number of documents.
@@ -27,7 +26,7 @@ pub struct Header {
 /// How many bytes a header has.
 pub const HEADER_BYTES: usize = 105;
 
-// Where the fields behind the version begin.
+// Where the fields after the version begin.
 const DOCUMENTS: usize = 1;
 
 const DICT_LEAVES: usize = 5;
@@ -86,7 +85,7 @@ impl Header {
         bytes
     }
 
-    /// The header that these bytes are, or nothing where the version or a number is out of its range.
+    /// The header that these bytes are, or `None` if the version or a number is out of its range.
     pub fn read(bytes: &[u8; HEADER_BYTES]) -> Option<Self>
         ensures bytes { IfSome result (λ h. bytes.now
             ≡ header_bytes h.documents h.dict_leaves h.dict_root h.docs_root h.texts_root) }

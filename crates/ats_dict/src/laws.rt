@@ -1,5 +1,5 @@
-//! What holds of every dictionary and every header, as contracts of functions that do nothing. Who believes
-//! these sentences need not read how the definitions are made.
+//! The laws of all dictionaries and headers, as contracts of functions that do nothing. A reader who believes these
+//! laws need not read how the definitions are made.
 
 ghost use Rattle.std.specs.Prelude.{◌≡◌, ◌+◌, ◌<◌, ◌≤◌, ◌^◌, ℕ, List, [], length, Some, slice_get, slice_index, slice_index_or};
 ghost use Rattle.ats_terms.specs.Order.{IsBelow};

@@ -82,13 +82,13 @@ weight_at pairs i d rises inside =
     let here : cond (bytes_eq term term) (get_or pairs i d).1 0 ≡ (get_or pairs i d).1 = rw same refl in
     omega (arith, sum_by-take-drop f pairs (i + 1), sum_by_more f pairs i d inside, here, weight_before pairs i d rises inside, weight_behind pairs i d rises inside)
 
--- a document's term stands in it at most as often as it has terms
+-- a term of a document occurs in it at most as often as the document has terms
 pub pair_within : (all : List (List ℕ)) (pairs : List (List ℕ × ℕ)) (i : ℕ) (d : List ℕ × ℕ) → Counts all pairs → i < length pairs
     → (get_or pairs i d).1 ≤ length all
 pair_within all pairs i d counts inside =
     omega (arith, weight_at pairs i d counts.rises inside, counts.weights (get_or pairs i d).0, occurs_few (get_or pairs i d).0 all)
 
--- ---- the entries of a term, some of the document's pairs being put already
+-- ---- the entries of a term, after some of the document's pairs were put
 
 abbrev pub so_far : (List ℕ → List Entry) → ℕ → List (List ℕ) → List (List ℕ × ℕ) → List ℕ → List Entry
 so_far before doc texts pairs term = before term ++ cond (nat_lt 0 (weight_of term pairs)) (posting texts term doc ∷ []) []
@@ -163,7 +163,7 @@ nothing_yet first texts gathered empty = record {
   terms = rw empty (All-nil (λ (pair : List ℕ × Entry). IsTerm pair.0));
 }
 
--- two runs, the second one behind the first
+-- two runs, the second one after the first
 pub runs_joined : (first middle behind : ℕ) (texts : List (List ℕ)) (one two : Pairs) → first ≤ middle → middle ≤ behind
     → HasRun first middle texts one → HasRun middle behind texts two → HasRun first behind texts (one ++ two)
 runs_joined first middle behind texts one two low high front back = record {

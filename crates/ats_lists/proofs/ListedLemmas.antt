@@ -12,7 +12,7 @@ use Rattle.ats_lists.specs.declared.entry.Entry.{Entry}
 use Rattle.ats_lists.proofs.VocabularyLemmas.{vocabulary_has, postings_frequency}
 use Rattle.ats_lists.proofs.WholeLemmas.{list_frequency}
 
--- the lists stand in the order of the vocabulary
+-- the lists are in the order of the vocabulary
 lists_at : (texts : List (List ℕ)) (i : ℕ) (d : List ℕ × List Entry) → i < length (vocabulary texts)
     → get_or (lists_of texts) i d ≡ (get_or (vocabulary texts) i [], list texts (get_or (vocabulary texts) i []))
 unfolding lists_of
@@ -25,7 +25,7 @@ unfolding lists_of
 length-lists_of texts =
     let made : List ℕ → List ℕ × List Entry = λ term. (term, list texts term) in length-map (vocabulary texts) made
 
--- a list that stands under a term is that term's
+-- a list under a term is that term's
 pub listed : (texts : List (List ℕ)) (term : List ℕ) (i : ℕ) (d : List ℕ × List Entry) → i < length (lists_of texts)
     → (get_or (lists_of texts) i d).0 ≡ term → (get_or (lists_of texts) i d).1 ≡ list texts term
 listed texts term i d inside same =
@@ -40,7 +40,7 @@ differs xs ys other = elim (cases_Bool (bytes_eq xs ys)) [
   | inr not ↦ not
 ]
 
--- a term under which no list stands has no entry
+-- a term that is under no list has no entry
 pub unlisted : (texts : List (List ℕ)) (term : List ℕ) → All (λ l. l.0 ≡ term → ⊥) (lists_of texts) → list texts term ≡ []
 unlisted texts term none =
     let words : List (List ℕ) = vocabulary texts

@@ -22,7 +22,7 @@ use Rattle.ats_lists.proofs.VocabularyLemmas.{if_some, lookup_made}
 
 -- ---- one entry more
 
--- the same pairs, where the numbers keep their terms
+-- the same pairs, if the numbers keep their terms
 pub pairs_kept : (terms new : List (List ℕ)) (log : List Logged) → ((n : ℕ) → n < length terms → term_of new n ≡ term_of terms n)
     → All (λ logged. logged.number < length terms) log → pairs_of new log ≡ pairs_of terms log
 pairs_kept terms new [] kept inside = refl
@@ -263,7 +263,7 @@ parted_push terms lists n log l was inside at so_far =
     ∙ ap (λ (list : List ℕ × List Entry). (list.0, list.1 ++ cond (l.number == n) (l.entry ∷ []) [])) so_far
     ∙ ap (λ (es : List Entry). (term_of terms n, es)) (sym (under_push n log l))
 
--- the terms stand at one place each
+-- the terms are at one place each
 module _ (terms : List (List ℕ)) (log : List Logged) (rises : IsStrictlySortedBy byte_cmp terms) (is : IsLogOf terms log) where
   -- under a term's number are its entries
   pub entries_found : (n : ℕ) → n < length terms → entries_under n log ≡ entries_for (term_of terms n) (pairs_of terms log)
@@ -298,7 +298,7 @@ module _ (terms : List (List ℕ)) (log : List Logged) (rises : IsStrictlySorted
       entries_found n inside ∙ ap (λ (t : List ℕ). entries_for t (pairs_of terms log)) (sym same) in
       some_if (entries_for q (pairs_of terms log)) (subst (λ (es : List Entry). 1 ≤ length es) entries (some_entry n log i within named))
 
-  -- what is found of a term are its entries, where it has some
+  -- what is found for a term are its entries, if it has some
   pub parted_finds : (q : List ℕ) → lookup (is_at (byte_cmp q)) (map (λ term. (term, entries_for term (pairs_of terms log))) terms)
       ≡ if_some (entries_for q (pairs_of terms log))
   parted_finds q = lookup_made (λ term. entries_for term (pairs_of terms log)) q terms ∙ found_case q (list_any (bytes_eq q) terms) refl

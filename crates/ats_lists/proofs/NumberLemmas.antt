@@ -1,4 +1,4 @@
--- The numbers of terms, the table in which they are found, and how those of one term come together.
+-- The numbers of terms, the table that finds them, and how those of one term are merged.
 use Rattle.std.proofs.Common.{◌≡◌, ◌≢◌, ◌<◌, ◌≤◌, ◌-◌, ◌+◌, ◌⊎◌, ◌==◌, ℕ, suc, true, false, List, [], ◌∷◌, ◌++◌, length, get_or, map, set, refl, sym, ap, subst, ◌∙◌, inl, inr, arith, length-append}
 use Rattle.std.specs.List.{All, list_any}
 use Rattle.std.specs.List.Sorted.{IsPermutation, IsSorted, IsSortedByKey, IsStrictlySortedBy}
@@ -43,12 +43,12 @@ pub slots_more : (terms : List (List ℕ)) (term : List ℕ) (slots : List Slot)
 slots_more terms term slots are = All-weaker (λ (slot : Slot). (slot.size ≡ 0) ⊎ IsSlotOf terms slot)
     (λ (slot : Slot). (slot.size ≡ 0) ⊎ IsSlotOf (terms ++ term ∷ []) slot) (slot_more terms term) slots are
 
--- what a slot with some size says
+-- a slot that is not empty belongs to a term
 pub slot_says : (terms : List (List ℕ)) (slot : Slot) (size : ℕ) → (slot.size ≡ 0) ⊎ IsSlotOf terms slot → slot.size ≡ size + 1 → IsSlotOf terms slot
 slot_says terms slot size (inl empty) some = absurd (omega (arith, empty, some))
 slot_says terms slot size (inr is) some = is
 
--- what stands in a slot is the term that is sought, if both are short
+-- the term of a slot is the one that is sought, if both are short
 pub short_is : (terms : List (List ℕ)) (slot : Slot) (term : List ℕ) → AreBytes term → length term ≤ 8 → slot.size ≡ length term + 1 → slot.first ≡ front 8 term
     → (slot.size ≡ 0) ⊎ IsSlotOf terms slot → (slot.number < length terms) × (term_of terms slot.number ≡ term)
 short_is terms slot term bytes short size first says =
@@ -99,7 +99,7 @@ pub sorted_by_term : (all : List (List ℕ × ℕ)) → IsSorted (λ (a b : List
     → IsSortedByKey (λ (pair : List ℕ × ℕ). pair.0) byte_cmp all
 sorted_by_term all sorted k d low inside = first_decides _ _ (sorted k d low inside)
 
--- ---- the numbers of each term together
+-- ---- the numbers of each term, merged
 
 -- no term that is left is below this one
 abbrev pub NoneBelow : List (List ℕ × ℕ) → List ℕ → Type 0
@@ -129,7 +129,7 @@ pub nothing_rises : IsStrictlySortedBy byte_cmp []
 unfolding IsStrictlySortedBy
 nothing_rises = tt
 
--- a term that is not below the last one, and another, goes behind it
+-- a term that is not below the last one, and differs from it, is appended
 pub rises_push : (terms : List (List ℕ)) (term : List ℕ) → IsStrictlySortedBy byte_cmp terms
     → All (λ before. is_lt (byte_cmp term before) ≡ false) terms
     → (0 < length terms → get_or terms (length terms - 1) [] ≢ term) → IsStrictlySortedBy byte_cmp (terms ++ term ∷ [])

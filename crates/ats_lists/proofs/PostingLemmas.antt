@@ -49,7 +49,7 @@ range_joined a (suc m) n =
     ∙ ap (λ (t : List ℕ). a ∷ t) (range_joined (a + 1) m n)
     ∙ ap (range_with_len a) (sym size)
 
--- postings stand in the order of documents
+-- postings are in the order of documents
 pub postings_rise : (n : ℕ) (texts : List (List ℕ)) (term : List ℕ) → IsStrictlySortedBy doc_cmp (postings_of_first n texts term)
 unfolding postings_of_run posting
 postings_rise n texts term =
@@ -105,7 +105,7 @@ map_cond : {X Y : Type 0} (f : X → Y) (b : Bool) (x : X) → map f (cond b (x 
 map_cond f true x = refl
 map_cond f false x = refl
 
--- the postings of two runs, the second one behind the first, are those of both
+-- the postings of two runs, the second one after the first, are those of both
 postings_joined : (first m n : ℕ) (texts : List (List ℕ)) (term : List ℕ)
     → postings_of_run first m texts term ++ postings_of_run (first + m) n texts term ≡ postings_of_run first (m + n) texts term
 unfolding postings_of_run

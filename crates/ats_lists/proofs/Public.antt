@@ -1,8 +1,8 @@
 -- What other rooms may cite of the proofs of this one. All other files here are private.
 
--- strictly sorted lists with the same members are equal, if the order tells all elements apart
+-- strictly sorted lists with the same members are equal, if the order distinguishes all elements
 pub use Rattle.ats_lists.proofs.Rising.{same_members}
--- two sorted permutations of distinct elements are equal, if the order tells all elements apart
+-- two sorted permutations of distinct elements are equal, if the order distinguishes all elements
 pub use Rattle.ats_lists.proofs.Rising.{sorted_permutation_is_one}
 -- the list of a term is its postings by impact descending, then document ascending
 pub use Rattle.ats_lists.proofs.PostingLemmas.{list_is_sorted}
@@ -22,7 +22,7 @@ pub use Rattle.ats_lists.proofs.VocabularyLemmas.{vocabulary_rises}
 pub use Rattle.ats_lists.proofs.WholeLemmas.{list_frequency}
 -- the list of a term with postings has distinct documents and impacts from 1 to 2200 that never rise
 pub use Rattle.ats_lists.proofs.WholeLemmas.{list_keeps}
--- a list that stands under a term among a collection's lists is the list of that term
+-- a list under a term among a collection's lists is the list of that term
 pub use Rattle.ats_lists.proofs.ListedLemmas.{listed}
--- a term under which none of a collection's lists stands has an empty list
+-- a term that is under none of a collection's lists has an empty list
 pub use Rattle.ats_lists.proofs.ListedLemmas.{unlisted}

@@ -14,7 +14,7 @@ use Rattle.std.proofs.lemmas.List.Sorted.{IsPermutation-sym, IsPermutation-trans
 use Rattle.std.proofs.lemmas.Map.Keys.{IsDistinct-IsPermutation, apart_from_distinct, sorted_from_all_adjacent, Less-from_sorted}
 use Rattle.std.proofs.lemmas.Map.Lookups.{CmpEqualImpliesEq, btree_set_from_contains}
 
--- a list that rises strictly is told by its members
+-- the members of a list that rises strictly determine it
 pub same_members : {K : Type 0} {R : K → K → Ordering} → IsTotalOrder R → CmpEqualImpliesEq R → (xs ys : List K)
     → IsStrictlySortedBy R xs → IsStrictlySortedBy R ys → ((q : K) → list_any (eq_by_cmp R q) xs ≡ list_any (eq_by_cmp R q) ys) → xs ≡ ys
 same_members {K} total exact xs ys first second same =
@@ -43,7 +43,7 @@ sorted_from_rises {K} {R} total xs rises k d low inside =
     let less : R (get_or xs k d) (get_or xs (k + 1) d) ≡ Less = Less-from_sorted R xs k (k + 1) d rises (omega arith) inside in
     rw (total.antisymm (get_or xs (k + 1) d) (get_or xs k d), less) refl
 
--- a sorted permutation of distinct elements is the only one, where the order tells all elements apart
+-- a sorted permutation of distinct elements is the only one, if the order distinguishes all elements
 pub sorted_permutation_is_one : {K : Type 0} {R : K → K → Ordering} → IsTotalOrder R → CmpEqualImpliesEq R → (all xs ys : List K)
     → IsDistinct (eq_by_cmp R) all → IsPermutation all xs → IsSorted R xs → IsPermutation all ys → IsSorted R ys → xs ≡ ys
 sorted_permutation_is_one {K} {R} total exact all xs ys distinct first first_sorted second second_sorted =
@@ -57,7 +57,7 @@ below_append : {K : Type 0} (P : K → Type 0) (xs ys : List K) → AllByRecursi
 below_append P [] ys first second = second
 below_append P (x ∷ xs) ys (here, first) second = (here, below_append P xs ys first second)
 
--- two lists joined, where each element of the first is below each of the second
+-- two lists joined, if each element of the first is below each of the second
 pub rises_append : {K : Type 0} (R : K → K → Ordering) (xs ys : List K) → IsStrictlySortedBy R xs → IsStrictlySortedBy R ys
     → All (λ x. All (λ y. R x y ≡ Less) ys) xs → IsStrictlySortedBy R (xs ++ ys)
 unfolding IsStrictlySortedBy
@@ -67,7 +67,7 @@ rises_append R (x ∷ xs) ys (head, first) second below = (
   rises_append R xs ys first second (All-tail (λ x. All (λ y. R x y ≡ Less) ys) x xs below),
 )
 
--- what holds of any element
+-- what holds for any element holds for all
 pub all_any : {K : Type 0} (xs : List K) → AllByRecursion (λ _. Unit {0}) xs
 all_any [] = tt
 all_any (x ∷ xs) = (tt, all_any xs)
@@ -78,14 +78,14 @@ below_map : {K J : Type 0} (P : K → Type 0) (R : K → K → Ordering) (S : J 
 below_map P R S f x [] keeps here all below = tt
 below_map P R S f x (y ∷ ys) keeps here (next, all) (less, below) = (keeps x y here next less, below_map P R S f x ys keeps here all below)
 
--- a list whose elements are mapped, where that keeps the order of elements of this kind
+-- a list whose elements are mapped, if that keeps the order of elements of this kind
 pub rises_map : {K J : Type 0} (P : K → Type 0) (R : K → K → Ordering) (S : J → J → Ordering) (f : K → J) (xs : List K)
     → ((y z : K) → P y → P z → R y z ≡ Less → S (f y) (f z) ≡ Less) → AllByRecursion P xs → IsStrictlySortedBy R xs → IsStrictlySortedBy S (map f xs)
 unfolding IsStrictlySortedBy
 rises_map P R S f [] keeps all rises = tt
 rises_map P R S f (x ∷ xs) keeps (here, all) (below, rises) = (below_map P R S f x xs keeps here all below, rises_map P R S f xs keeps all rises)
 
--- elements that rise strictly stand at one place each
+-- elements that rise strictly are at one place each
 pub one_place : {K : Type 0} {R : K → K → Ordering} → IsTotalOrder R → (xs : List K) (i j : ℕ) (d : K) → IsStrictlySortedBy R xs
     → i < length xs → j < length xs → get_or xs i d ≡ get_or xs j d → i ≡ j
 one_place {K} {R} total xs i j d rises first second same = elim (cases_lt i j) [

@@ -26,7 +26,7 @@ both_equal Less q is = absurd (cc)
 both_equal Equal q is = (refl, is)
 both_equal Greater q is = absurd (cc)
 
--- the order tells entries apart
+-- the order distinguishes entries
 pub entry_cmp_exact : CmpEqualImpliesEq entry_cmp
 entry_cmp_exact a b is =
     let both = both_equal (nat_cmp b.impact a.impact) (nat_cmp a.doc b.doc) is in
@@ -74,7 +74,7 @@ low_impacts (suc n) entries =
     (All-weaker (λ (e : Entry). (e.impact == suc n) ≡ true) (λ (e : Entry). e.impact ≤ suc n) (λ e. low_impact (suc n) e) _ (filter_passes (λ (e : Entry). e.impact == suc n) entries))
     (All-weaker (λ (e : Entry). e.impact ≤ n) (λ (e : Entry). e.impact ≤ suc n) (λ e low. omega arith) _ (low_impacts n entries))
 
--- entries in the order of documents, put by impact, rise strictly
+-- entries in the order of documents, sorted by impact, rise strictly
 pub by_impact_rises : (n : ℕ) (entries : List Entry) → IsStrictlySortedBy doc_cmp entries → IsStrictlySortedBy entry_cmp (by_impact n entries)
 unfolding by_impact IsStrictlySortedBy
 by_impact_rises zero entries rises = tt
@@ -129,11 +129,11 @@ all_upto n (e ∷ entries) all =
     let yes : upto n e ≡ true = grind (arith, nat_tests) in
     rw yes (ap (λ t. e ∷ t) (all_upto n entries (All-tail (λ (e : Entry). (1 ≤ e.impact) × (e.impact ≤ n)) e entries all)))
 
--- entries of impacts 1 to n, put by impact, are the same entries
+-- entries of impacts 1 to n, sorted by impact, are the same entries
 pub by_impact_same : (n : ℕ) (entries : List Entry) → All (λ e. (1 ≤ e.impact) × (e.impact ≤ n)) entries → IsPermutation entries (by_impact n entries)
 by_impact_same n entries all = rw (all_upto n entries all) at (by_impact_upto n entries)
 
--- gathered entries, sorted, are those put by impact
+-- gathered entries, sorted, are those sorted by impact
 pub sorted_gathered : (entries sorted : List Entry) → AreGathered entries → IsPermutation entries sorted → IsSorted entry_cmp sorted → sorted ≡ by_impact 2200 entries
 sorted_gathered entries sorted gathered same ordered =
     sorted_permutation_is_one entry_cmp_total entry_cmp_exact entries sorted (by_impact 2200 entries) (distinct_docs entries gathered.rise) same ordered

@@ -32,7 +32,7 @@ use Rattle.ats_lists.specs.Lists.{vocabulary}
 use Rattle.ats_lists.specs.declared.entry.Entry.{Entry}
 use Rattle.ats_lists.proofs.PostingLemmas.{postings_more, postings_none}
 
--- ---- entries in the order of their keys are told by their look-ups
+-- ---- look-ups determine the entries in the order of their keys
 
 below_tells : {K X : Type 0} (R : K → K → Ordering) (k : K) (es : List (K × X)) → AllByRecursion (λ y. R k y ≡ Less) (map (λ e. e.0) es) → T (below_all R k es)
 below_tells R k [] below = tt
@@ -103,7 +103,7 @@ unfolding vocabulary
 vocabulary_few texts =
     omega (arith, length-map (counted (flat_map terms texts)) (λ (pair : List ℕ × ℕ). pair.0), counted_few (flat_map terms texts) [], length-flat_map terms texts)
 
--- a term stands in all texts together as often as in each
+-- a term occurs in all texts together as often as in each of them, summed
 pub occurs_in : (term : List ℕ) (texts : List (List ℕ)) → occurrences term (flat_map terms texts) ≡ sum_by (count term) texts
 occurs_in term [] = refl
 occurs_in term (text ∷ texts) =
@@ -128,7 +128,7 @@ posted term texts (suc n) within =
     let sums : sum_by (count term) (take (n + 1) texts) ≡ sum_by (count term) (take n texts) + c = sum_by_more (count term) texts n [] (omega arith) in
     rw (← add-one n, sums, size) (posted_step (sum_by (count term) (take n texts)) c (length (postings_of_first n texts term)) (posted term texts n (omega arith)))
 
--- a term is in the vocabulary exactly where it has postings
+-- a term is in the vocabulary exactly if it has postings
 pub vocabulary_has : (texts : List (List ℕ)) (term : List ℕ) → list_any (bytes_eq term) (vocabulary texts) ≡ nat_lt 0 (length (postings texts term))
 unfolding vocabulary
 vocabulary_has texts term =
@@ -154,7 +154,7 @@ pub keys_made : {X : Type 0} (g : List ℕ → X) (ks : List (List ℕ)) → map
 keys_made g [] = refl
 keys_made g (k ∷ ks) = ap (λ t. k ∷ t) (keys_made g ks)
 
--- a list, where it has an element
+-- a list, if it has an element
 abbrev pub if_some : {X : Type 0} → List X → Option (List X)
 if_some [] = None
 if_some (x ∷ xs) = Some (x ∷ xs)
@@ -165,7 +165,7 @@ some_is (x ∷ xs) =
     let some : nat_lt 0 (length (x ∷ xs)) ≡ true = grind (arith, nat_tests) in
     rw some refl
 
--- entries that have the postings of each term, where it has some, are those of the vocabulary
+-- entries that have the postings of each term, if it has some, are those of the vocabulary
 pub entries_are : (texts : List (List ℕ)) (es : List (List ℕ × List Entry)) → IsStrictlySortedBy byte_cmp (map (λ e. e.0) es)
     → ((q : List ℕ) → lookup (is_at (byte_cmp q)) es ≡ if_some (postings texts q)) → es ≡ map (λ term. (term, postings texts term)) (vocabulary texts)
 entries_are texts es rises same =

@@ -26,7 +26,7 @@ use Rattle.ats_lists.specs.declared.entry.Entry.{Entry}
 use Rattle.ats_lists.proofs.PostingLemmas.{postings_rise, postings_below, postings_few, postings_impacts, list_is_sorted, list_rises}
 use Rattle.ats_lists.proofs.VocabularyLemmas.{if_some, vocabulary_rises, vocabulary_few, vocabulary_has, entries_are, keys_made, postings_frequency}
 
--- ---- what each list keeps
+-- ---- what holds for each list
 
 falls : (a b : Entry) → entry_cmp a b ≡ Less → b.impact ≤ a.impact
 falls a b less = elim (cases_lt a.impact b.impact) [
@@ -124,7 +124,7 @@ module _ (texts : List (List ℕ)) (es : List (List ℕ × List Entry)) (rises :
       rw entries_is (All-map (λ (e : List ℕ × List Entry). AreGathered e.1) (λ term. (term, postings texts term)) (vocabulary texts) (λ k d inside.
       postings_gathered texts (get_or (vocabulary texts) k d)))
 
-  -- put by impact, they are the lists
+  -- sorted by impact, they are the lists
   pub made_lists : map (λ e. (e.0, by_impact 2200 e.1)) es ≡ lists_of texts
   unfolding lists_of list
   made_lists =

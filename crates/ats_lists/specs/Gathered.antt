@@ -12,7 +12,7 @@ use Rattle.ats_lists.specs.declared.entry.Entry.{Entry}
 use Rattle.ats_lists.specs.declared.numbering.Slot.{Slot}
 use Rattle.ats_lists.specs.declared.gathering.Logged.{Logged}
 
--- entries with their terms, in the order in which they came
+-- entries with their terms, in the order in which they were added
 abbrev pub Pairs : Type 0
 Pairs = List (List ℕ × Entry)
 
@@ -25,7 +25,7 @@ pub record HasEntries (of : List ℕ → List Entry) (pairs : Pairs) : Type 0 wh
   pub entries : (term : List ℕ) → entries_for term pairs ≡ of term
   pub terms : All (λ pair. IsTerm pair.0) pairs
 
--- the pairs have the postings of the documents from the first one up to the one behind the last
+-- the pairs have the postings of the documents from `first` up to, but not including, `behind`
 abbrev pub HasRun : ℕ → ℕ → List (List ℕ) → Pairs → Type 0
 HasRun first behind texts pairs = HasEntries (postings_of_run first (behind - first) texts) pairs
 
@@ -44,13 +44,13 @@ pub record AreGathered (entries : List Entry) : Type 0 where
 abbrev pub term_of : List (List ℕ) → ℕ → List ℕ
 term_of terms n = slice_index_or terms n []
 
--- each number with its term
+-- the pairs are all numbers, each with its term
 pub record AreNumbered (terms : List (List ℕ)) (all : List (List ℕ × ℕ)) : Type 0 where
   pub each : All (λ pair. (pair.1 < length terms) × (term_of terms pair.1 ≡ pair.0)) all
   pub every : (n : ℕ) → n < length terms → list_any (λ pair. pair.1 == n) all ≡ true
   pub size : length all ≡ length terms
 
--- a slot of the table is that of the term with its number
+-- the slot holds the number, the first bytes and the length of one of the terms
 pub record IsSlotOf (terms : List (List ℕ)) (slot : Slot) : Type 0 where
   pub inside : slot.number < length terms
   pub first : slot.first ≡ front 8 (term_of terms slot.number)
@@ -76,7 +76,8 @@ pub record IsLogOf (terms : List (List ℕ)) (log : List Logged) : Type 0 where
   pub inside : All (λ logged. logged.number < length terms) log
   pub used : (n : ℕ) → n < length terms → (i : ℕ) × (i < length log) × ((d : Logged) → (slice_index_or log i d).number ≡ n)
 
--- the numbers that the first i of another run's terms have among the new ones, where the old ones keep theirs
+-- The numbers under which the first i terms of another run are found in `new`. Each old term keeps its number there,
+-- and every number in `new` is an old one or one of these.
 pub record AreNewNumbers (old others new : List (List ℕ)) (i : ℕ) (numbers : List ℕ) : Type 0 where
   pub size : length numbers ≡ i
   pub kept : (n : ℕ) → n < length old → (n < length new) × (term_of new n ≡ term_of old n)

@@ -1,4 +1,4 @@
--- How lists stand in trees.
+-- How lists are laid out in trees.
 
 -- each list is one tree
 pub data Layout : Type 0 where

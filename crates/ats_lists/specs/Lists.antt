@@ -9,12 +9,12 @@ use Rattle.ats_terms.specs.Query.{byte_cmp, counted}
 use Rattle.ats_lists.specs.Postings.{postings}
 use Rattle.ats_lists.specs.declared.entry.Entry.{Entry}
 
--- the entries of impact n, then those of impact n - 1, and so on down to 1; those of one impact as they stand
+-- the entries of impact n, then those of impact n - 1, and so on down to 1; those of one impact in their given order
 unfoldable pub by_impact : ℕ → List Entry → List Entry
 by_impact zero entries = []
 by_impact (suc n) entries = filter (λ entry. entry.impact == suc n) entries ++ by_impact n entries
 
--- the list of a term, where 2,200 is the greatest impact: its postings by impact descending, then document ascending
+-- the list of a term: its postings by impact descending, then document ascending; 2,200 is the largest impact
 unfoldable pub list : List (List ℕ) → List ℕ → List Entry
 list texts term = by_impact 2200 (postings texts term)
 
@@ -35,19 +35,19 @@ vocabulary texts = map (λ pair. pair.0) (counted (flat_map terms texts))
 unfoldable pub lists_of : List (List ℕ) → List (List ℕ × List Entry)
 lists_of texts = map (λ term. (term, list texts term)) (vocabulary texts)
 
--- what each list over n documents keeps
+-- a valid list over n documents
 pub record IsList (n : ℕ) (entries : List Entry) : Type 0 where
   pub some : 1 ≤ length entries
   pub few : length entries ≤ n
   pub documents : All (λ entry. entry.doc < n) entries
   pub impacts : All (λ entry. (1 ≤ entry.impact) × (entry.impact ≤ 2200)) entries
-  -- impacts never rise, and no document stands twice
+  -- impacts never rise, and no document occurs twice
   pub falling : (i j : ℕ) (d : Entry) → i < j → j < length entries
       → (slice_index_or entries j d).impact ≤ (slice_index_or entries i d).impact
   pub once : (i j : ℕ) (d : Entry) → i < j → j < length entries
       → (slice_index_or entries i d).doc ≢ (slice_index_or entries j d).doc
 
--- what lists over n documents keep: the terms rise strictly in byte order
+-- valid lists over n documents, at most 2^24 of them, whose terms rise strictly in byte order
 pub record AreLists (n : ℕ) (lists : List (List ℕ × List Entry)) : Type 0 where
   pub few : length lists ≤ 2 ^ 24
   pub rise : IsStrictlySortedBy byte_cmp (map (λ list. list.0) lists)

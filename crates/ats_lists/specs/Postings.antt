@@ -10,7 +10,7 @@ use Rattle.ats_lists.specs.declared.entry.Entry.{Entry}
 abbrev pub text_of : List (List ℕ) → ℕ → List ℕ
 text_of texts doc = slice_index_or texts doc []
 
--- how often the term stands in the document
+-- how often the term occurs in the document
 abbrev pub count_in : List (List ℕ) → List ℕ → ℕ → ℕ
 count_in texts term doc = count term (text_of texts doc)
 
@@ -21,7 +21,7 @@ posting texts term doc = record {
   impact = impact (count_in texts term doc) (total_terms texts) (length (terms (text_of texts doc))) (length texts);
 }
 
--- the postings of those of n documents, from the first one on, that have the term, in the order of documents
+-- the postings of the n documents from `first` on, among them those that have the term, in the order of documents
 unfoldable pub postings_of_run : ℕ → ℕ → List (List ℕ) → List ℕ → List Entry
 postings_of_run first n texts term =
     map (posting texts term) (filter (λ doc. nat_lt 0 (count_in texts term doc)) (range_with_len first n))

@@ -1,4 +1,4 @@
-//! Lists in the making.
+//! The builder of a collection's lists.
 
 ghost use Rattle.std.specs.Prelude.{◌≡◌, ◌<◌, ◌≤◌, ◌+◌, length, IfOk};
 ghost use Rattle.ats_terms.specs.Terms.{terms};
@@ -14,11 +14,11 @@ use ats_terms::TermCounts;
 use std::alloc::Global;
 use std::marker::Model;
 
-/// The lists of a run of a collection's documents in the making: the collection's texts, the first document of the
-/// run, and the one behind its last.
+/// Builds the lists of a run of a collection's documents: the collection's texts, the first document of the run, and
+/// the number after its last.
 ///
-/// Each document is added by its counted terms, so that a caller who needs these too counts them once. Runs may be
-/// made side by side and joined in order. It keeps its allocator.
+/// Each document is added by its counted terms, so that a caller who needs these too counts them once. Runs may be made
+/// by several threads and joined in order. It keeps its allocator.
 #[derive(Drop)]
 pub struct ListsBuilder<'a> {
     alloc: Global,
@@ -41,14 +41,14 @@ impl<'a> Model for ListsBuilder<'a> {
 }
 
 impl<'a> ListsBuilder<'a> {
-    /// A run that begins with the first document of all. No document is added yet.
+    /// An empty run that begins with the first document of all.
     pub fn new(alloc: Global, collection: &'a Collection) -> Self
         ensures { result ≡ (collection.now, 0, 0) }
     {
         ListsBuilder::starting_at(alloc, collection, 0)
     }
 
-    /// A run that begins with this document. No document is added yet.
+    /// An empty run that begins with this document.
     pub fn starting_at(alloc: Global, collection: &'a Collection, first: u32) -> Self
         requires { first ≤ length collection.now }
         ensures { result ≡ (collection.now, first, first) }
@@ -64,7 +64,7 @@ impl<'a> ListsBuilder<'a> {
         }
     }
 
-    /// Adds the next document, of which these are the counted terms. Want of memory drops all.
+    /// Adds the next document; `counts` are its counted terms. If memory runs out, the run is dropped.
     pub fn add(self, counts: &TermCounts) -> Result<Self, OutOfMemory>
         requires inside { self.2 < length self.0 }
         requires counts { counts.now ≡ counted (terms (text_of self.0 self.2)) }
@@ -88,7 +88,7 @@ impl<'a> ListsBuilder<'a> {
         })
     }
 
-    /// The run of both, where the next one begins where this one ends. Want of memory drops both.
+    /// Joins the run with the next one, which begins where this one ends. If memory runs out, both are dropped.
     pub fn join(self, next: Self) -> Result<Self, OutOfMemory>
         requires texts { next.0 ≡ self.0 }
         requires place { next.1 ≡ self.2 }
@@ -118,7 +118,7 @@ impl<'a> ListsBuilder<'a> {
         })
     }
 
-    /// The lists, where all documents were added.
+    /// The lists, after all documents were added.
     pub fn finish(self) -> Result<Lists, OutOfMemory>
         requires first { self.1 ≡ 0 }
         requires all { self.2 ≡ length self.0 }

@@ -1,4 +1,4 @@
-//! Postings gathered with their terms, document by document, and those of two runs joined.
+//! Gathers postings with their terms, document by document, and joins those of two runs.
 
 ghost use Rattle.std.specs.Prelude.{◌≡◌, ◌<◌, ◌≤◌, ◌+◌, ◌++◌, [], ℕ, length, map, slice_index_or, IfOk, OnOk};
 ghost use Rattle.std.specs.List.{All};
@@ -26,8 +26,8 @@ pub(crate) struct Logged {
     entry: Entry,
 }
 
-/// Entries with their terms, in the order of documents. They are put one behind another under the numbers of their
-/// terms, and parted by term at last, so that a further entry touches little memory.
+/// Entries with their terms, in the order of documents. They are appended under the numbers of their terms, and sorted
+/// by term only at the end, so that adding an entry touches little memory.
 #[derive(Drop)]
 pub(crate) struct Gathered {
     numbering: Numbering,
@@ -44,7 +44,7 @@ impl Model for Gathered {
     ghost invariant = { λ g. IsLogOf g.numbering g.log.items };
 }
 
-// Puts each entry under the new number of its own.
+// Replaces the number of each entry by the one in `numbers`.
 fn replace_numbers(log: &mut Vec<Logged>, numbers: &[u32])
     requires { All (λ logged. logged.number < length numbers.now) log.old.items }
     ensures { log.new.items ≡ map (renumbered numbers.now) log.old.items }
@@ -54,7 +54,7 @@ fn replace_numbers(log: &mut Vec<Logged>, numbers: &[u32])
     }
 }
 
-// The distinct terms in byte order, and the entries under their places among these.
+// The distinct terms in byte order, and the entries under their terms' places among these.
 fn placed(gathered: Gathered) -> Result<(Vec<Key>, Vec<Logged>), OutOfMemory>
     ensures rises { IfOk result (λ made. IsStrictlySortedBy byte_cmp made.0.items) }
     ensures log { IfOk result (λ made. IsLogOf made.0.items made.1.items) }
@@ -85,7 +85,7 @@ fn rooms(alloc: Global, terms: Vec<Key>, log: &[Logged]) -> Result<Vec<TermList>
     Ok(rooms)
 }
 
-// Each term with the entries under its number, in the order in which they came.
+// Each term with the entries under its number, in the order in which they were added.
 fn parted(alloc: Global, terms: Vec<Key>, log: &[Logged]) -> Result<Vec<TermList>, OutOfMemory>
     requires { All (λ logged. logged.number < length terms.items) log.now }
     ensures size { IfOk result (λ lists. length lists.items ≡ length terms.items) }
@@ -110,7 +110,7 @@ fn sort_each(lists: &mut Vec<TermList>) -> Result<(), OutOfMemory>
     Ok(())
 }
 
-// The numbers of another run's terms among these, which get those that they lack.
+// The numbers of another run's terms here. A term that has none gets one.
 fn renumber(
     alloc: Global,
     numbering: &mut Numbering,
@@ -126,7 +126,7 @@ fn renumber(
     Ok(numbers)
 }
 
-// Puts another run's entries under their new numbers behind the others.
+// Appends another run's entries under their new numbers.
 fn append(log: &mut Vec<Logged>, numbers: &[u32], more: &[Logged]) -> Result<(), OutOfMemory>
     requires { All (λ logged. logged.number < length numbers.now) more.now }
     ensures { OnOk result (log.new.items ≡ log.old.items ++ map (renumbered numbers.now) more.now) }
@@ -142,7 +142,7 @@ fn append(log: &mut Vec<Logged>, numbers: &[u32], more: &[Logged]) -> Result<(),
 }
 
 impl Gathered {
-    /// Nothing was gathered.
+    /// No entries.
     pub(crate) fn new(alloc: Global) -> Self
         ensures { result ≡ [] }
     {
@@ -152,7 +152,8 @@ impl Gathered {
         }
     }
 
-    /// The same. Where terms have many numbers, those of each term are brought together. Want of memory drops all.
+    /// The same entries. If terms have many numbers, those of each term are merged. If memory runs out, the run is
+    /// dropped.
     pub(crate) fn with_few_numbers(self, alloc: Global) -> Result<Self, OutOfMemory>
         ensures { IfOk result (λ made. made ≡ self) }
     {
@@ -164,7 +165,7 @@ impl Gathered {
         Ok(Gathered { numbering, log })
     }
 
-    /// Puts an entry of the next document behind those of each of its terms. Want of memory drops all.
+    /// Appends an entry of the next document for each of its terms. If memory runs out, the run is dropped.
     pub(crate) fn add_document(
         self,
         collection: &Collection,
@@ -193,7 +194,7 @@ impl Gathered {
         Ok(Gathered { numbering, log })
     }
 
-    /// This run and then the other one. Want of memory drops both.
+    /// This run and then the other one. If memory runs out, both are dropped.
     pub(crate) fn join(self, alloc: Global, behind: Self) -> Result<Self, OutOfMemory>
         ensures { IfOk result (λ joined. joined ≡ self ++ behind) }
     {
@@ -210,7 +211,7 @@ impl Gathered {
         Ok(Gathered { numbering, log })
     }
 
-    /// The lists of all texts, where all their documents were added.
+    /// The lists of all texts, after all their documents were added.
     pub(crate) fn sorted(
         self,
         alloc: Global,
@@ -220,7 +221,7 @@ impl Gathered {
         ensures same { IfOk result (λ lists. lists.items ≡ lists_of collection.now) }
         ensures lists { OnOk result (AreLists (length collection.now) (lists_of collection.now)) }
     {
-        // A list for each distinct term, so that 32 bits count the lists.
+        // There is one list for each distinct term, so 32 bits count the lists.
         prove!(collection.total() <= 1 << 24);
         let (terms, log) = placed(self)?;
         let mut lists = parted(alloc, terms, &log)?;

@@ -1,4 +1,4 @@
-//! A term as a key of a map.
+//! A term as a map key.
 
 ghost use Rattle.std.specs.Prelude.{◌≡◌, Some, nat_eq, refl, IfOk};
 ghost use Rattle.std.proofs.Common.{sym};
@@ -14,7 +14,7 @@ use std::alloc::Global;
 use std::cmp::Ordering;
 use std::marker::Model;
 
-/// A term in byte order. Most comparisons are of the numbers of the first bytes, without a look at the terms.
+/// A term in byte order. Most comparisons need only the numbers of the first bytes, and do not read the terms.
 #[derive(Drop)]
 pub(crate) struct Key {
     front: u64,

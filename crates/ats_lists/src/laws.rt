@@ -1,5 +1,5 @@
-//! What holds of the lists of any texts, as contracts of functions that do nothing. Who believes these
-//! sentences need not read how the definitions are made.
+//! The laws of the lists of any texts, as contracts of functions that do nothing. A reader who believes these laws need
+//! not read how the definitions are made.
 
 ghost use Rattle.std.specs.Prelude.{◌≡◌, ◌<◌, List, ℕ, length, ◌↔◌};
 ghost use Rattle.std.specs.List.{Contains};
@@ -8,8 +8,8 @@ ghost use Rattle.ats_lists.specs.Postings.{count_in};
 ghost use Rattle.ats_lists.specs.Lists.{list, vocabulary, IsListOf};
 ghost use Rattle.ats_lists.specs.declared.entry.Entry.{Entry};
 
-/// The list of a term is its postings by impact descending, then document ascending, and no other
-/// entries are: the order has no ties.
+/// The list of a term is its postings by impact descending, then document ascending. No other list is: the order has no
+/// ties.
 pub fn lists_are_sorted_postings()
     ensures sorted { (texts : List (List ℕ)) (term : List ℕ) → IsListOf texts term (list texts term) }
     ensures only { (texts : List (List ℕ)) (term : List ℕ) (entries : List Entry)

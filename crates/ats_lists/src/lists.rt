@@ -59,7 +59,7 @@ impl Lists {
         builder.finish()
     }
 
-    /// The number of lists, which is that of the distinct terms.
+    /// The number of lists, which is the number of distinct terms.
     pub fn len(&self) -> u32
         ensures value { result ≡ length self.now }
         ensures lists { AreLists 65536 self.now }

@@ -1,4 +1,4 @@
-//! Terms that are numbered as they come.
+//! Gives numbers to terms in the order in which they first appear.
 
 ghost use Rattle.std.specs.Prelude.{◌≡◌, ◌⊎◌, ◌↔◌, ◌<◌, ◌≤◌, ◌-◌, ◌^◌, ◌++◌, ◌∷◌, [], ℕ, List, length, false, IsTrue, IfOk, IfSome, OnOk};
 ghost use Rattle.std.specs.List.{All};
@@ -15,8 +15,8 @@ use std::alloc::Global;
 use std::marker::Model;
 use std::mem::replace;
 
-// A term that came lately: its first 8 bytes as a number, its number, and its length and one more. An empty slot has
-// zeros.
+// A term that was numbered lately: its first 8 bytes as a number, its number, and its length plus one. An empty slot is
+// all zeros.
 #[derive(Clone, Copy)]
 pub(crate) struct Slot {
     first: u64,
@@ -30,11 +30,11 @@ const EMPTY: Slot = Slot {
     size: 0,
 };
 
-/// Terms, each of which has the number of those that came before it.
+/// Terms with their numbers: a term's number is how many were numbered before it.
 ///
-/// A term that has a number is found by it in a set-associative table that grows with the terms. One that was pushed
-/// out by others gets a further number, so a term may have several. The numbers of one term are brought together when
-/// there are many, and at last.
+/// A set-associative table, which grows with the terms, finds the number of a term. A term that others pushed out of
+/// the table gets a further number, so a term may have several. The numbers of one term are merged when there are many
+/// numbers, and at the end.
 #[derive(Drop)]
 pub(crate) struct Numbering {
     alloc: Global,
@@ -61,22 +61,22 @@ pub(crate) struct Places {
     pub(crate) places: Vec<u32>,
 }
 
-// A term may take each of 4 slots.
+// A term may use each of 4 slots.
 const WAYS: usize = 4;
 
-// The table begins with so many slots.
+// The smallest number of slots in a table that is not empty.
 const FEWEST_SLOTS: usize = 1 << 10;
 
-// A table of more slots does not grow.
+// A table with more slots does not grow.
 const MOST_SLOTS: usize = 1 << 19;
 
-// There are many numbers where there are so many, and twice as many as there were distinct terms.
+// The least number of numbers that counts as many. After a merge it is at least twice the number of distinct terms.
 const MANY: usize = 1 << 17;
 
-// The most bytes of a term that are compared by the number of its first bytes alone.
+// Terms of at most this length are compared only by the number of their first bytes.
 const FIRST_BYTES: usize = 8;
 
-// The first of the slots that a term may take among so many. Other terms may take the same.
+// The first of the slots that a term may use in a table of `slots` slots. Other terms may use the same.
 fn first_slot_of(slots: usize, first: u64, term: &[u8]) -> usize
     ensures { result < 2 ^ 34 }
 {
@@ -85,7 +85,7 @@ fn first_slot_of(slots: usize, first: u64, term: &[u8]) -> usize
     set as usize * WAYS
 }
 
-// The number in a slot, if the slot is that of the term.
+// The number in a slot, if the slot belongs to the term.
 fn number_in(terms: &[Key], slot: &Slot, first: u64, term: &[u8]) -> Option<u32>
     requires slot { (slot.now.size ≡ 0) ⊎ IsSlotOf terms.now slot.now }
     requires first { first ≡ front_of 8 term.now }
@@ -123,8 +123,8 @@ fn found(terms: &[Key], table: &[Slot], first: u64, term: &[u8]) -> Option<u32>
     None
 }
 
-// Puts a term into the first of its slots, and what was there into the next, so that the oldest leaves. A term that is
-// too long for the table stays out.
+// Puts a term into the first of its slots, and what was there into the next, so that the oldest drops out. A term that
+// is too long for the table stays out.
 fn remember(terms: &[Key], table: &mut Vec<Slot>, number: u32)
     requires slots { AreSlotsOf terms.now table.old.items }
     requires inside { number < length terms.now }
@@ -147,7 +147,8 @@ fn remember(terms: &[Key], table: &mut Vec<Slot>, number: u32)
     }
 }
 
-// Makes the table larger where so many terms take half of it or more, and puts these in anew.
+// Enlarges the table if `count` is at least half its slots and it may still grow, and puts the first `count` terms in
+// again.
 fn make_room(terms: &[Key], table: &mut Vec<Slot>, count: u32) -> Result<(), OutOfMemory>
     requires slots { AreSlotsOf terms.now table.old.items }
     requires inside { count ≤ length terms.now }
@@ -164,7 +165,7 @@ fn make_room(terms: &[Key], table: &mut Vec<Slot>, count: u32) -> Result<(), Out
     Ok(())
 }
 
-// The number of each term beside it.
+// Each term with its number.
 fn numbered(alloc: Global, terms: Vec<Key>) -> Result<Vec<(Key, u32)>, OutOfMemory>
     ensures { IfOk result (λ all. AreNumbered terms.items all.items) }
 {
@@ -187,7 +188,7 @@ fn ends_with(terms: &[Key], term: &Key) -> bool
     len > 0 && terms[len - 1] == *term
 }
 
-// The place of a term behind the others, or that of the last one, where it is the same.
+// The place of a term appended after the others, or that of the last one if it is the same.
 fn place_of(terms: &mut Vec<Key>, term: Key) -> Result<u32, OutOfMemory>
     requires rises { IsStrictlySortedBy byte_cmp terms.old.items }
     requires above { All (λ before. is_lt (byte_cmp term before) ≡ false) terms.old.items }
@@ -206,7 +207,7 @@ fn place_of(terms: &mut Vec<Key>, term: Key) -> Result<u32, OutOfMemory>
     Ok(place)
 }
 
-// Brings the numbers of each term together. They stand side by side.
+// Merges the numbers of each term, which are next to each other.
 fn together(alloc: Global, sorted: Vec<(Key, u32)>) -> Result<Places, OutOfMemory>
     requires order { IsSortedByKey (λ pair. pair.0) byte_cmp sorted.items }
     requires inside { All (λ pair. pair.1 < length sorted.items) sorted.items }
@@ -236,7 +237,7 @@ impl Numbering {
         }
     }
 
-    /// Terms with their places as numbers.
+    /// Terms whose numbers are their places.
     pub(crate) fn of(alloc: Global, terms: Vec<Key>) -> Result<Self, OutOfMemory>
         ensures { IfOk result (λ made. made ≡ terms.items) }
     {
@@ -254,7 +255,7 @@ impl Numbering {
         })
     }
 
-    /// Whether there are many numbers, so that those of each term should be brought together.
+    /// Whether there are many numbers, so that those of each term should be merged.
     pub(crate) fn has_many(&self) -> bool {
         self.terms.len() >= self.many
     }
@@ -274,7 +275,7 @@ impl Numbering {
         self.terms[number].term()
     }
 
-    /// A number of a term. One that is not found gets the next.
+    /// A number of a term. A term that the table does not find gets the next number.
     pub(crate) fn number(&mut self, term: &[u8]) -> Result<u32, OutOfMemory>
         ensures number { IfOk result (λ n. (n < length self.new) × (term_of self.new n ≡ term.now)) }
         ensures more { IfOk result (λ n. (self.new ≡ self.old)
@@ -292,7 +293,7 @@ impl Numbering {
         Ok(n)
     }
 
-    /// The distinct terms in byte order, and where each number's term stands among them.
+    /// The distinct terms in byte order, and for each number the place of its term among them.
     pub(crate) fn into_places(self) -> Result<Places, OutOfMemory>
         ensures rises { IfOk result (λ made. IsStrictlySortedBy byte_cmp made.terms.items) }
         ensures places { IfOk result (λ made.

@@ -27,7 +27,7 @@ impl Model for TermList {
 }
 
 impl TermList {
-    /// The term with no entry, and room for so many.
+    /// The term with no entry, and with room for `room` entries.
     pub(crate) fn with_room(alloc: Global, term: Vec<u8>, room: usize) -> Result<Self, OutOfMemory>
         ensures { IfOk result (λ list. list ≡ (term.items, [])) }
     {
@@ -42,7 +42,7 @@ impl TermList {
         Ok(())
     }
 
-    /// Puts the entries by impact descending, then document ascending.
+    /// Sorts the entries by impact descending, then document ascending.
     pub(crate) fn sort(&mut self) -> Result<(), OutOfMemory>
         requires { AreGathered self.old.1 }
         ensures { OnOk result (self.new ≡ (self.old.0, by_impact 2200 self.old.1)) }

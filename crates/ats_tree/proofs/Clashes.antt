@@ -66,7 +66,7 @@ collision-moved H f ours (s ∷ ss) =
     ap (collision_or H (ours (f s.place)) (moved f s)) (collision-moved H f ours ss)
     ∙ collision_or-moved H f (ours (f s.place)) s (first_collision H (λ p. ours (f p)) ss)
 
--- the clash that is told of two
+-- the clash that is returned of two
 pub first_of_two : (a b : Option Clash) → option_map difference_of (option_or a b) ≡ option_or (option_map difference_of a) (option_map difference_of b)
 first_of_two None b = refl
 first_of_two (Some c) b = refl
@@ -259,7 +259,7 @@ clash-bare H ours path from n shown ds rises =
     let bare : is_bare (tree_of (places from n shown)) ≡ true = bare-of (places from n shown) ∙ places-none from n shown rises
     in sym (ap (λ ss. first_collision H ours (map (moved (under path)) ss)) (bare-strings H (tree_of (places from n shown)) ds bare))
 
--- ---- what the recursion asks for
+-- ---- what the recursion requires
 
 pub first-short : (shown : List Shown) (at : ℕ) → first_position shown ≡ Some at → All (λ (s : Shown). length s.1 ≤ 127) shown → length (first_leaf shown) ≤ 127
 first-short [] at first short = absurd (cc)
@@ -292,7 +292,7 @@ whole H n shown ds some = some-whole H n shown ds (rebuilt H n shown ds) refl so
 
 -- ---- one string
 
--- a string that differs from ours and has its digest is a collision, and another is none
+-- a string that differs from ours and has its digest is a collision, and no other string is
 pub collides-is : {P : Type 0} (H : List ℕ → List ℕ) (own : List ℕ) (s : Hashed P) (later : Option (Difference P)) → own ≢ s.text → H own ≡ H s.text
     → Some (let c : Difference P = record { place = s.place; ours = own; theirs = s.text } in c) ≡ collision_or H (Some own) s later
 collides-is H own s later other same =
@@ -336,7 +336,7 @@ tag-and-rest (tag ∷ rest) some =
     let less : length (tag ∷ rest) - 1 ≡ length rest = omega arith
     in ap (λ (l : List ℕ). tag ∷ l) (append-nil (take (length (tag ∷ rest) - 1) rest) ∙ ap (λ n. take n rest) less ∙ take-length rest)
 
--- what `collides` tells
+-- what `collides` returns
 pub tells : (H : List ℕ → List ℕ) (own text digest : List ℕ) (same : Bool) → 1 ≤ length own → bytes_eq own text ≡ false → digest ≡ H text
     → same ≡ bytes_eq (H (slice_index_or own 0 0 ∷ (take (length own - 1) (drop 1 own) ++ []))) digest
     → IsTrue same ↔ ((own ≢ text) × (H own ≡ H text))

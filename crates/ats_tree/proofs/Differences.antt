@@ -1,4 +1,4 @@
--- The first difference of a list of strings: of two runs joined, of a run that is moved, and that it is first.
+-- The first difference of a list of strings: of two runs joined, of a run that is moved, and why it is the first.
 use Rattle.std.proofs.Common.{◌≡◌, ◌≢◌, ℕ, List, [], ◌∷◌, ◌++◌, map, Bool, true, false, not, ◌||◌, refl, sym, ◌∙◌, ap, inl, inr, Option, Some, None, subst, MatchOption, IfSome, IfNone, All}
 use Rattle.std.specs.Option.{option_map}
 use Rattle.std.specs.Str.{bytes_eq}
@@ -61,14 +61,14 @@ match-moved : {P Q : Type 0} (H : List ℕ → List ℕ) (A : Type 0) (f : P →
 match-moved H A f None known = known
 match-moved H A f (Some c) known = known
 
--- what is known of a run but for a collision is known where its places are seen from elsewhere
+-- what is known of a run unless it has a collision is known after its places are mapped
 pub known-moved : {P Q : Type 0} (H : List ℕ → List ℕ) (A : Type 0) (f : P → Q) (ours : Q → Option (List ℕ)) (ss : List (Hashed P))
     → MatchOption (first_difference (λ p. ours (f p)) ss) A (Collides H) → MatchOption (first_difference ours (map (moved f) ss)) A (Collides H)
 known-moved {P} {Q} H A f ours ss known =
     let Goal : Option (Difference Q) → Type 0 = λ c. MatchOption c A (Collides H)
     in subst Goal (sym (difference-moved f ours ss)) (match-moved H A f (first_difference (λ p. ours (f p)) ss) known)
 
--- two runs, moved, of each of which something is known but for a collision
+-- two runs, moved, of each of which something is known unless it has a collision
 pub both-parts : {P Q R : Type 0} (H : List ℕ → List ℕ) (A B : Type 0) (f : P → R) (g : Q → R) (a : Option (Difference P)) (b : Option (Difference Q))
     → MatchOption a A (Collides H) → MatchOption b B (Collides H)
     → MatchOption (or_else (option_map (moved_difference f) a) (option_map (moved_difference g) b)) (A × B) (Collides H)

@@ -131,7 +131,7 @@ part-begins H from n ds part other some within same =
     in let many : 0 < length part = omega (arith, ap length same, length-kept H leaves (part-some from n ds some within))
     in kept-first H leaves part _ other many refl same
 
--- of two parts, behind the node's own
+-- of two parts, after the node's own
 pub fill-node : (H : List ℕ → List ℕ) (from k n : ℕ) (ds own left right : List (List ℕ)) (d x y : List ℕ)
     → IsPowerOfTwo k → k < n → n ≤ 2 * k → from + n ≤ length ds → length own ≡ 1
     → d ≡ H (1 ∷ get_or left 0 x ++ get_or right 0 y)
@@ -210,7 +210,7 @@ module _ (H : List ℕ → List ℕ) (from k n : ℕ) (leaves ds : List (List �
       in string-node H from k n depth turns leaves power below largest within root
       ∙ ap₂ (λ (a b : List ℕ). Some (1 ∷ a ++ b)) (sym left) (sym right)
 
--- ---- what stands in front stays
+-- ---- the digests before a place stay
 
 pub front-front : (a b c : List (List ℕ)) → take (length a) b ≡ a → take (length b) c ≡ b → take (length a) c ≡ a
 front-front a b c first second =
@@ -232,7 +232,7 @@ kept-leaves H leaves ds odd same =
     in let some : 0 < length (kept_digests H leaves) = omega arith
     in omega (arith, length-kept H leaves (kept-some H leaves some))
 
--- that, where the digests are seen through a view, and counted there
+-- the same, if the digests are seen through a view and counted there
 pub kept-number : (H : List ℕ → List ℕ) (leaves ds view : List (List ℕ)) (count : ℕ) → length ds % 2 ≡ 1 → ds ≡ view → count ≡ length view
     → view ≡ kept_digests H leaves → count / 2 + 1 ≡ length leaves
 kept-number H leaves ds view count odd seen counts same =
@@ -252,7 +252,7 @@ pub kept-whole : (H : List ℕ → List ℕ) (leaves : List (List ℕ)) (n : ℕ
     → kept_digests H leaves ≡ kept_digests H (take n (drop 0 leaves))
 kept-whole H leaves n whole = rw whole (ap (kept_digests H) (sym (take-length leaves)))
 
--- that, where the digests are put in as many places
+-- the same, if the digests are put in as many places
 pub kept-placed : (H : List ℕ → List ℕ) (n count : ℕ) (leaves old now : List (List ℕ)) → 1 ≤ length leaves → n ≡ length leaves
     → count ≡ length old → length old + 1 ≡ 2 * n → now ≡ kept_digests H (take n (drop 0 leaves))
     → take count (now ++ drop (length now) old) ≡ kept_digests H leaves

@@ -1,4 +1,4 @@
--- What is hashed from shown leaves of a tree and the digests that they need is the tree's own.
+-- The strings that are hashed from shown leaves of a tree and the digests that they need are the tree's own.
 use Rattle.std.proofs.Common.{◌≡◌, ℕ, List, [], ◌∷◌, ◌++◌, length, map, true, false, ◌&&◌, refl, sym, ◌∙◌, ap, ap₂, inl, inr, Option, Some, None, subst, IfSome, All}
 use Rattle.std.proofs.lemmas.Bool.{cond-true, cond-false, cases_Bool, or_left}
 use Rattle.std.proofs.lemmas.List.{take_at, drop_at}

@@ -4,12 +4,12 @@ use Rattle.std.specs.List.Sorted.{IsStrictlyIncreasing}
 use Rattle.ats_tree.specs.Shown.{Shown, positions_of}
 use Rattle.ats_tree.specs.Part.{RisesFrom, RisesWithin}
 
--- all but the first rise where all do
+-- all but the first rise if all do
 increasing-tail : (p : ℕ) (ps : List ℕ) → IsStrictlyIncreasing (p ∷ ps) → IsStrictlyIncreasing ps
 increasing-tail p ps rises k less =
     let next : suc k + 1 ≡ suc (k + 1) = omega arith in rw next at (rises (suc k) (omega arith))
 
--- the leaves after the first rise where all do, each element of a list showing one
+-- the leaves after the first rise if all do, each element of a list showing one
 pub rises-rest : {X : Type 0} (f : X → Shown) (xs : List X) → IsStrictlyIncreasing (positions_of (map f xs))
     → IsStrictlyIncreasing (positions_of (map f (drop 1 xs)))
 rises-rest f [] rises = rises

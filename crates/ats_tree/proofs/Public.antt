@@ -2,7 +2,7 @@
 
 -- the tree of at most 2^h leaves is the tree of these leaves within height h
 pub use Rattle.ats_tree.proofs.Trees.{of-within}
--- the tree within height h + 1 of more than 2^h leaves is cut behind the first 2^h leaves
+-- the tree within height h + 1 of more than 2^h leaves is cut after the first 2^h leaves
 pub use Rattle.ats_tree.proofs.Trees.{within-cut}
 -- at most 2^h leaves have the same tree within height h + 1 as within height h
 pub use Rattle.ats_tree.proofs.Trees.{within-suc}
@@ -52,5 +52,5 @@ pub use Rattle.ats_tree.proofs.Clashes.{collision-moved}
 pub use Rattle.ats_tree.proofs.OwnStrings.{own-none}
 -- the strings hashed in rebuilding from a tree's own leaves and elided digests are the tree's own
 pub use Rattle.ats_tree.proofs.OwnStrings.{own-strings}
--- a tree of n leaves, where n is at least 1, has 2n - 1 kept digests
+-- a tree of n leaves has 2n - 1 kept digests if n is at least 1
 pub use Rattle.ats_tree.proofs.KeptLemmas.{length-kept}

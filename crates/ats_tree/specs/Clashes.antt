@@ -1,4 +1,4 @@
--- Collisions as they are told, and the parts of a tree in which they are looked for.
+-- Collisions as `Clash` reports them, and the parts of a tree that are searched for them.
 use Rattle.std.specs.Prelude.{ℕ, ◌-◌, ◌<◌, ◌≤◌, ◌^◌, List, ◌++◌, map, Option}
 use Rattle.ats_tree.specs.Tree.{Tree}
 use Rattle.ats_tree.specs.Paths.{Path, path_of}
@@ -7,7 +7,7 @@ use Rattle.ats_tree.specs.Differences.{Hashed, moved, Difference}
 use Rattle.ats_tree.specs.Strings.{strings}
 use Rattle.ats_tree.specs.declared.clashing.Clash.{Clash}
 
--- the two strings at one node that a clash tells
+-- the two strings at one node that a clash has
 abbrev pub difference_of : Clash → Difference Node
 difference_of clash =
     record { place = by_path (path_of clash.depth clash.turns); ours = clash.ours; theirs = clash.theirs }
@@ -20,7 +20,7 @@ under path further = by_path (path ++ further)
 abbrev pub part_strings : (List ℕ → List ℕ) → Path → Tree (Option (List ℕ)) → List (List ℕ) → List (Hashed Node)
 part_strings H path t ds = map (moved (under path)) (strings H t ds)
 
--- a part of n leaves whose root is so deep, in a tree of fewer than 2^32 leaves
+-- a part of n leaves whose root has this depth, in a tree of fewer than 2^32 leaves
 pub record IsPlaced (n depth turns : ℕ) : Type 0 where
   pub deep : depth ≤ 32
   pub few : n ≤ 2 ^ (32 - depth)

@@ -1,4 +1,4 @@
-//! The first string that rebuilding a tree hashes where ours is another one with an equal digest.
+//! The first collision: a string that rebuilding a tree hashes, different from our string there, with the same digest.
 
 ghost use Rattle.std.specs.Prelude.{◌≡◌, ℕ, ◌+◌, ◌*◌, ◌^◌, ◌<◌, ◌≤◌, ◌≢◌, ◌↔◌, List, ◌∷◌, ◌++◌, length, All, Option, IsTrue, IsSome, IfSome, option_map};
 ghost use Rattle.ats_tree.specs.Clashes.{difference_of, part_strings, IsPlaced};
@@ -39,8 +39,8 @@ struct Compared {
     clash: Option<Clash>,
 }
 
-/// The first clash between our own strings and those that rebuilding the tree of `n` leaves hashes: a node
-/// comes before its left part, and that before its right part. Where strings are equal nothing of ours is hashed.
+/// The first clash between our own strings and those that rebuilding the tree of `n` leaves hashes, in pre-order: a
+/// node, its left part, its right part. Our string at a node is hashed only if it differs from theirs.
 pub fn first_clash<'a, H: Hash32, R: Revealed<'a>, O: OwnNodes>(
     n: u32,
     revealed: &mut R,
@@ -69,7 +69,7 @@ pub fn first_clash<'a, H: Hash32, R: Revealed<'a>, O: OwnNodes>(
     compared.clash
 }
 
-/// The same of the `n` leaves from position `from` on, with their digest. The turns lead to the root of this part.
+/// The same for the `n` leaves from position `from` on, with their digest. The turns lead to the root of this part.
 fn part<H: Hash32, F: Feed, O: OwnNodes>(
     from: u32,
     n: u32,
@@ -132,8 +132,8 @@ fn part<H: Hash32, F: Feed, O: OwnNodes>(
     }
 }
 
-/// The clash of a string with ours at its node, where ours is there, another one and of this digest, which
-/// is the string's; else `later`.
+/// The clash of a string with ours at its node, if we have one there that differs from it and has its digest, which is
+/// given; else `later`.
 fn clash_or<H: Hash32, O: OwnNodes>(
     own: &O,
     depth: u8,
@@ -165,8 +165,8 @@ fn clash_or<H: Hash32, O: OwnNodes>(
     }
 }
 
-/// Whether our string is another one than theirs with the same digest, which is given. Where the strings are
-/// equal nothing is hashed.
+/// Whether our string differs from theirs and has the same digest. The digest of theirs is given. If the strings are
+/// equal, nothing is hashed.
 pub fn collides<H: Hash32>(
     ours: &HashedString,
     theirs: &HashedString,

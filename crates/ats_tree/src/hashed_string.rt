@@ -6,8 +6,8 @@ use std::marker::Model;
 
 const ROOM: usize = 128;
 
-/// A byte string that is hashed in a tree, or a header's, with its tag in front: at most 128 bytes, which
-/// take no memory. The longest that an archive has is a header's, of 106 bytes.
+/// A byte string that is hashed in a tree, or a header's, with its tag in front: at most 128 bytes. It allocates
+/// nothing. The longest that an archive has is a header's, of 106 bytes.
 #[derive(Clone, Copy, Debug, PartialEq, Eq)]
 pub struct HashedString {
     bytes: [u8; ROOM],
@@ -41,7 +41,7 @@ impl HashedString {
         }
     }
 
-    /// The string whose digest `digest2` answers: the byte `tag`, then `a`, then `b`.
+    /// The string whose digest `digest2` returns: the byte `tag`, then `a`, then `b`.
     pub fn tagged(tag: u8, a: &[u8], b: &[u8]) -> Self
         requires { length a.now + length b.now ≤ 127 }
         ensures { result ≡ tag ∷ a.now ++ b.now }
@@ -53,7 +53,7 @@ impl HashedString {
         string
     }
 
-    /// Puts bytes at the end.
+    /// Appends bytes.
     pub fn push(&mut self, bytes: &[u8])
         requires { length self.old + length bytes.now ≤ 128 }
         ensures { self.new ≡ self.old ++ bytes.now }

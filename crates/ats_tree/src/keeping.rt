@@ -1,4 +1,4 @@
-//! The digests of all nodes of a tree, kept, so that they can be shown without hashing.
+//! The digests of all nodes of a tree, kept, so that showing them needs no hashing.
 
 ghost use Rattle.std.specs.Prelude.{◌≡◌, ℕ, ◌+◌, ◌*◌, ◌^◌, ◌<◌, ◌≤◌, List, ◌++◌, length, take, drop, All, Some, IfOk, OnOk, OnErr, slice_get};
 ghost use Rattle.std.specs.List.Sorted.{IsStrictlyIncreasing};
@@ -57,8 +57,8 @@ impl Nodes {
         Ok(Nodes { digests })
     }
 
-    /// The digests of the tree of the leaves. Each node is hashed once. The tree is cut, and its parts too, as often as
-    /// `halvings` says, and what comes of it is hashed side by side. With 0 one thread hashes all.
+    /// The digests of the tree of the leaves. Each node is hashed once. The tree is halved `halvings` times, each part
+    /// again, and the parts are hashed by several threads. With 0 halvings one thread hashes everything.
     pub fn of_by_threads<H: Hash32 + Sync, L: Leaves + Sync, R: Threads + Sync>(
         rt: &R,
         alloc: Global,
@@ -91,8 +91,8 @@ impl Nodes {
         self.digests[0]
     }
 
-    /// Appends the digests of the maximal subtrees that hold none of the leaves at `positions`, from left to
-    /// right. With no position that is the root alone.
+    /// Appends the digests of the maximal subtrees that hold none of the leaves at `positions`, from left to right. If
+    /// there are no positions, that is only the root.
     pub fn elided(&self, positions: &[u32], out: &mut Digests) -> Result<(), OutOfMemory>
         requires rising { IsStrictlyIncreasing positions.now }
         requires below { All (λ p. 2 * p + 1 ≤ length self.now) positions.now }
@@ -109,9 +109,9 @@ impl Nodes {
         outcome
     }
 
-    /// The string that is hashed at the node to which `depth` turns lead from the root of the tree of the
-    /// leaves, where there is such a node. The lowest binary digits of `turns` are the turns, highest first:
-    /// 0 is left and 1 is right. It takes no memory, and nothing is hashed.
+    /// The string that is hashed at the node to which `depth` turns lead from the root of the tree of the leaves, if
+    /// there is such a node. The lowest binary digits of `turns` are the turns, highest first: 0 is left and 1 is
+    /// right. It allocates nothing and hashes nothing.
     pub fn string_at<H: HashKind, L: ShortLeaves>(
         &self,
         leaves: &L,
@@ -135,8 +135,8 @@ fn places_of_nodes(alloc: Global, n: u32) -> Result<Vec<[u8; 32]>, OutOfMemory>
     Ok(vec![in alloc; [0; 32]; 2 * n as usize - 1]?)
 }
 
-/// Puts the digests of the tree of the `n` leaves from leaf `from` on in their places. Those of its left part stand
-/// behind its own, and those of its right part behind these.
+/// Puts the digests of the tree of the `n` leaves from leaf `from` on in their places: its own first, then those of its
+/// left part, then those of its right part.
 pub(crate) fn keep_part<H: Hash32, L: Leaves>(
     leaves: &L,
     from: u32,
@@ -164,8 +164,8 @@ pub(crate) fn keep_part<H: Hash32, L: Leaves>(
     own[0] = H::digest2(1, &left[0], &right[0], steps);
 }
 
-/// Appends the digests that positions need of the part of `n` leaves from position `from` on, whose nodes have
-/// these digests. Those of its left part stand behind its own, and those of its right part behind these.
+/// Appends the digests that the positions need of the part of `n` leaves from position `from` on, whose nodes have
+/// these digests: its own first, then those of its left part, then those of its right part.
 fn elide_kept(
     digests: &[[u8; 32]],
     from: u32,

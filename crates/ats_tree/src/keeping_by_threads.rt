@@ -1,4 +1,4 @@
-//! The digests of all nodes of a large tree, by several threads.
+//! The digests of all nodes of a large tree, hashed by several threads.
 
 ghost use Rattle.std.specs.Prelude.{◌≡◌, ◌+◌, ◌-◌, ◌*◌, ◌^◌, ◌<◌, ◌≤◌, length, take, drop};
 ghost use Rattle.std.specs.Thread.{IsSync};
@@ -11,8 +11,8 @@ use ats_hash::{Hash32, Steps};
 use std::alloc::Global;
 use std::thread::{Threads, join_mut};
 
-/// Puts the digests of the tree of the `n` leaves from leaf `from` on in their places. Its parts are hashed side by
-/// side, and so are theirs, as often as is said.
+/// Puts the digests of the tree of the `n` leaves from leaf `from` on in their places. It is halved `halvings` times,
+/// each part again, and the parts are hashed by several threads.
 #[cycle(parts)]
 pub(crate) fn keep_by_threads<H: Hash32 + Sync, L: Leaves + Sync, R: Threads + Sync>(
     rt: &R,
@@ -40,7 +40,7 @@ pub(crate) fn keep_by_threads<H: Hash32 + Sync, L: Leaves + Sync, R: Threads + S
     own[0] = H::digest2(1, &left[0], &right[0], &mut Steps::new(alloc));
 }
 
-// Both parts of the tree of the `n` leaves from leaf `from` on, which is cut behind `k` of them.
+// Both parts of the tree of the `n` leaves from leaf `from` on, which is cut after `k` of them.
 #[cycle(parts)]
 fn keep_both<H: Hash32 + Sync, L: Leaves + Sync, R: Threads + Sync>(
     rt: &R,

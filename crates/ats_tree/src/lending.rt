@@ -1,4 +1,4 @@
-//! What the recursion over a tree takes leaves and digests from.
+//! The source of leaves and digests for the recursion over a tree.
 
 ghost use Rattle.std.specs.Prelude.{◌≡◌, ℕ, ◌+◌, ◌^◌, ◌<◌, ◌≤◌, List, ◌∷◌, length, drop, All, slice_get};
 ghost use Rattle.std.proofs.Common.{◌∙◌};
@@ -9,8 +9,8 @@ use crate::revealing::Revealed;
 use ats_hash::{Hash32, Steps};
 use std::marker::PhantomData;
 
-/// Leaves and digests, taken from the front. It names no lifetime, since a recursion under a bound that
-/// names one, as `Revealed` does, gets no generated proof.
+/// Leaves and digests, taken from the front. It names no lifetime, since no proof is generated for a recursion under a
+/// bound that names one, as `Revealed` does.
 pub(crate) trait Feed {
     /// The positions and bytes of the leaves left.
     ghost leaves: { Self → List Shown };
@@ -32,7 +32,7 @@ pub(crate) trait Feed {
         requires short { length (first_leaf (leaves self.now)) ≤ 127 }
         ensures { result ≡ 0 ∷ first_leaf (leaves self.now) };
 
-    /// Removes the first leaf left, and answers its digest.
+    /// Removes the first leaf left, and returns its digest.
     fn take_leaf<H: Hash32>(&mut self, steps: &mut Steps) -> [u8; 32]
         requires left { 0 < length (leaves self.old) }
         requires room { steps.old + 2 < 2 ^ 64 }
@@ -42,7 +42,7 @@ pub(crate) trait Feed {
         ensures still { kept self.old self.new }
         ensures cost { steps.new ≡ steps.old + 2 };
 
-    /// Removes and answers the first digest left, if there is one.
+    /// Removes and returns the first digest left, if there is one.
     fn take_digest(&mut self, steps: &mut Steps) -> Option<[u8; 32]>
         requires sized { All (λ d. length d ≡ 32) (others self.old) }
         requires room { steps.old + 1 < 2 ^ 64 }

@@ -11,17 +11,16 @@ use crate::hashed_string::HashedString;
 use crate::hashing::Leaves;
 use ats_hash::HashKind;
 
-/// Leaves of at most 127 bytes each, so that each is a [`HashedString`] behind its tag.
+/// Leaves of at most 127 bytes each, so that each fits in a [`HashedString`] after its tag.
 pub trait ShortLeaves: Leaves {
-    /// The string whose digest `leaf_digest` answers: the tag 0, then leaf `i`, from 0.
+    /// The string whose digest `leaf_digest` returns: the tag 0, then leaf `i`, from 0.
     fn leaf_string(&self, i: u32) -> HashedString
         requires { i < length (Self.items self.now) }
         ensures { result ≡ 0 ∷ slice_index_or (Self.items self.now) i [] };
 }
 
-/// The string at the node to which the turns lead from the root of the part of `n` leaves from leaf `from` on,
-/// whose nodes have these digests. Those of its left part stand behind its own, and those of its right part
-/// behind these.
+/// The string at the node to which the turns lead from the root of the part of `n` leaves from leaf `from` on, whose
+/// nodes have these digests: its own first, then those of its left part, then those of its right part.
 pub(crate) fn string_of_part<H: HashKind, L: ShortLeaves>(
     digests: &[[u8; 32]],
     leaves: &L,

@@ -11,8 +11,8 @@ pub trait OwnNodes {
     /// The string at a node, if there is one.
     ghost ours: { Self → Node → Option (List ℕ) };
 
-    /// The string at the node to which `depth` turns lead from the root: the lowest binary digits of `turns`,
-    /// highest first, 0 for left and 1 for right. A string has its tag in front.
+    /// The string at the node to which `depth` turns lead from the root: the lowest binary digits of `turns`, highest
+    /// first, 0 for left and 1 for right. Each string begins with its tag.
     fn at(&self, depth: u8, turns: u32) -> Option<HashedString>
         requires { depth ≤ 32 }
         ensures string { result ≡ ours self.now (by_path (path_of depth turns)) }

@@ -16,10 +16,10 @@ pub trait Revealed<'a> {
     /// The digests left.
     ghost digests: { Self → List (List ℕ) };
 
-    /// The front part of the first leaf left. Where a leaf is cut in two is the type's own choice.
+    /// The front part of the first leaf left. Each type chooses where it cuts a leaf in two.
     ghost front_part: { Self → List ℕ };
 
-    /// The position of the first leaf left, `None` where none is left.
+    /// The position of the first leaf left, `None` if none is left.
     fn position(&self) -> Option<u32>
         ensures first { result ≡ first_position (shown self.now) }
         ensures rising { IsStrictlyIncreasing (positions_of (shown self.now)) }
@@ -43,7 +43,7 @@ pub trait Revealed<'a> {
         ensures others { digests self.new ≡ digests self.old }
         ensures cost { steps.new ≡ steps.old + 1 };
 
-    /// Removes and answers the first digest left, `None` where none is left. It is one step.
+    /// Removes and returns the first digest left, `None` if none is left. It is one step.
     fn pass_digest(&mut self, steps: &mut Steps) -> Option<&'a [u8]>
         requires { steps.old + 1 < 2 ^ 64 }
         ensures first { option_copied result ≡ slice_get (digests self.old) 0 }

@@ -34,7 +34,7 @@ pub overflow_add-turns : goal.overflow_add-turns
 overflow_add-turns g t c =
     omega (arith, turns-fit c.args.n c.cut_of-k.result c.args.depth c.args.turns c.requires.placed c.cut_of-k.ensures.power c.cut_of-k.ensures.below c.cut_of-k.ensures.largest)
 
--- what the parts ask for
+-- what the parts require
 pub part-left-requires : goal.part-left-requires
 part-left-requires g t c κs within =
     let cut : IsCut c.args.from c.cut_of-k.result c.args.n (g.F.Feed.leaves c.args.feed.now) =

@@ -10,7 +10,7 @@ use Rattle.ats_tree.proofs.ElidedLemmas.{front-rises, back-rises, elided-none, e
 use Rattle.ats_tree.proofs.KeptLemmas.{HasSize, kept-first, left-of-kept, right-of-kept, front-front}
 use Rattle.ats_tree.proofs.keeping.+elide_kept.Goals as goal
 
--- what the left part asks for
+-- what the left part requires
 pub elide_kept-requires : goal.elide_kept-requires
 elide_kept-requires t c =
     let ds : List (List ℕ) = c.args.digests.now
@@ -21,7 +21,7 @@ elide_kept-requires t c =
     rw c.split_at.ensures.front (front-rises c.args.from (c.args.from + c.args.n) (c.args.from + k) c.count_below.result c.args.positions.now c.count_below.ensures.value c.requires.rising)
     in (omega arith, (count, (All-take HasSize (2 * k - 1) (drop 1 ds) (All-drop HasSize 1 ds c.requires.sized), (omega arith, rises))))
 
--- what the right part asks for
+-- what the right part requires
 pub elide_kept-requires-else-n-eq1 : goal.elide_kept-requires-else-n-eq1
 elide_kept-requires-else-n-eq1 t c =
     let ds : List (List ℕ) = c.args.digests.now

@@ -26,7 +26,7 @@ returns-then-depth-eq0-2 g t c =
     c.cut_of-k.ensures.power c.cut_of-k.ensures.below c.cut_of-k.ensures.largest c.requires.within c.requires.kept
     c.args.depth c.args.turns _ _ c.requires.nodes c.if-depth-eq0-2.true)
 
--- what the left part asks for
+-- what the left part requires
 pub string_of_part-requires : goal.string_of_part-requires
 string_of_part-requires g t c κs lives =
     let ds : List (List ℕ) = c.args.digests.now
@@ -52,7 +52,7 @@ string_of_part-requires g t c κs lives =
       ),
     )
 
--- what the right part asks for
+-- what the right part requires
 pub string_of_part-requires-else-turns-further-eq0 : goal.string_of_part-requires-else-turns-further-eq0
 string_of_part-requires-else-turns-further-eq0 g t c κs lives =
     let ds : List (List ℕ) = c.args.digests.now
