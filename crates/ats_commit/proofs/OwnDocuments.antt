@@ -1,4 +1,4 @@
--- What leaves with the bytes of a collection's own say of its documents.
+-- Leaves with the bytes of a collection's own are true of its documents.
 use Rattle.std.proofs.Common.{◌≡◌, ◌∙◌, ◌<◌, ◌≤◌, ◌+◌, ◌^◌, ℕ, List, [], length, get_or, slice_get, Some, refl, sym, ap₂, subst, inl, inr, arith}
 use Rattle.std.specs.List.{All}
 use Rattle.std.specs.Str.{bytes_eq}

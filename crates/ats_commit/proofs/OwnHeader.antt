@@ -1,4 +1,4 @@
--- What a header with the bytes of an archive's own says of it.
+-- A header with the bytes of an archive's own has the archive's numbers and roots.
 use Rattle.std.proofs.Common.{◌≡◌, ◌∙◌, ℕ, List, length, sym, subst}
 use Rattle.ats_tree.specs.Tree.{mth}
 use Rattle.ats_dict.specs.Dictionary.{dict_leaves}

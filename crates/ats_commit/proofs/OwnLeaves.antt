@@ -1,4 +1,4 @@
--- What leaves with the bytes of an archive's own say of its lists.
+-- Leaves with the bytes of an archive's own are true of its lists.
 use Rattle.std.proofs.Common.{◌≡◌, ◌≢◌, ◌∙◌, ◌<◌, ◌+◌, ◌^◌, ℕ, List, [], length, get_or, map, nat_lt, slice_get, Some, true, refl, sym, ap, ap₂, subst, inl, inr, arith}
 use Rattle.std.specs.Int.{to_be_bytes, w16}
 use Rattle.std.specs.List.{All, Contains}

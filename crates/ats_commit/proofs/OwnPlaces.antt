@@ -1,4 +1,4 @@
--- Where an archive's own strings stand, and where none stands.
+-- The places of an archive's own strings, and places that have none.
 use Rattle.std.proofs.Common.{◌≡◌, ◌∙◌, ◌≤◌, ◌^◌, ℕ, List, [], ◌∷◌, length, map, nat_lt, IsSome, None, false, refl, ap, arith}
 use Rattle.std.proofs.lemmas.Bool.Decides.{nat_tests}
 use Rattle.std.proofs.lemmas.List.{nil_from_length}
@@ -40,7 +40,7 @@ module _ (H : List ℕ → List ℕ) (archive : Archive) (query : List (List ℕ
   none_listed : (layout : Layout) (entries : List Entry) (node : Node) → entries ≡ [] → list_string H layout entries node ≡ None
   none_listed whole_lists entries node none = none_in (map leaf_bytes entries) node (ap (map leaf_bytes) none)
 
-  -- no string stands in the list of a term that no text has
+  -- there is no string in the list of a term that no text has
   pub none_in_list : (number : ℕ) (node : Node) → frequency (asked_term query number) archive.texts ≡ 0 → own_string H archive query (ListOf number) node ≡ None
   none_in_list number node none =
       let entries : List Entry = list archive.texts (asked_term query number) in

@@ -12,7 +12,7 @@ use Rattle.ats_lists.specs.Layout.{Layout, whole_lists}
 use Rattle.ats_commit.specs.Archive.{list_root}
 use Rattle.ats_commit.specs.Prefixes.{list_string, prefix_root, prefix_strings}
 
--- shown leaves that rebuild the root of a list are the list's, but for a collision
+-- shown leaves that rebuild the root of a list are the list's, unless there is a collision
 pub prefix-binds : (H : List ℕ → List ℕ) → ((m : List ℕ) → length (H m) ≡ 32) → (layout : Layout) (entries : List Entry) (total : ℕ) (shown : List Shown)
     (digests : List (List ℕ)) (root : List ℕ) → RisesFrom 0 shown → All (λ d. length d ≡ 32) digests → prefix_root H layout total shown digests ≡ Some root
     → length entries ≡ total → list_root H layout entries ≡ root

@@ -22,13 +22,13 @@ pub use Rattle.ats_commit.proofs.PrefixLemmas.{prefix-binds}
 pub use Rattle.ats_commit.proofs.OwnHeader.{own_header}
 -- a dictionary leaf that is no sentinel has the length and the root of its term's list
 pub use Rattle.ats_commit.proofs.OwnLeaves.{leaf_tells_entry}
--- an entry in range whose leaf bytes stand at a position of a term's list is the posting there
+-- an entry in range whose leaf bytes are at a position of a term's list is the posting there
 pub use Rattle.ats_commit.proofs.OwnLeaves.{leaf_tells_posting}
 -- a term strictly between two neighbouring dictionary leaves has an empty list and is in no text
 pub use Rattle.ats_commit.proofs.OwnLeaves.{neighbours_tell}
--- no string stands in the terms tree of a document number past the last document
+-- there is no string in the terms tree of a document number past the last document
 pub use Rattle.ats_commit.proofs.OwnPlaces.{none_past}
--- where items rise in byte order, a term strictly between two neighbours is no item's
+-- if items rise in byte order, a term strictly between two neighbours is no item's
 pub use Rattle.ats_commit.proofs.Enclosed.{none_between}
 -- a leaf of the documents tree has the number of leaves and the root of its document's terms tree
 pub use Rattle.ats_commit.proofs.OwnDocuments.{leaf_tells_document}

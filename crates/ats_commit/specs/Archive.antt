@@ -10,11 +10,11 @@ pub record Archive : Type 0 where
   pub texts : List (List ℕ)
   pub layout : Layout
 
--- the archive of these texts, in the layout in which an index is built
+-- the archive of these texts, in the layout that an index uses
 abbrev pub archive_of : List (List ℕ) → Archive
 archive_of texts = record { texts = texts; layout = whole_lists }
 
--- the byte in front of the header where the root is made
+-- the byte before the header when the root is hashed
 abbrev pub header_tag : Layout → ℕ
 header_tag whole_lists = 2
 

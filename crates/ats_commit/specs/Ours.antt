@@ -19,11 +19,11 @@ pub record TreePlace : Type 0 where
   pub tree : Tree
   pub node : Node
 
--- the term of a query with this number; beyond the last stands no term
+-- the term of a query with this number; past the last it is empty
 abbrev pub asked_term : List (List ℕ × ℕ) → ℕ → List ℕ
 asked_term query number = (slice_index_or query number ([], 0)).0
 
--- the leaves of a tree of the archive: none where it has no such term or document
+-- the leaves of a tree of the archive: none if the archive has no such term or document; the header is no tree
 abbrev pub own_leaves : (List ℕ → List ℕ) → Archive → List (List ℕ × ℕ) → Tree → List (List ℕ)
 own_leaves H archive query Header = []
 own_leaves H archive query Dictionary = dict_leaves (dictionary_of H archive)
@@ -44,6 +44,6 @@ own_string H archive query (ListOf term) node =
     list_string H archive.layout (list archive.texts (asked_term query term)) node
 own_string H archive query tree node = node_string H (own_leaves H archive query tree) node
 
--- the string that stands at a place in the archive's own trees, if one does
+-- the string at a place in the archive's own trees, if there is one
 abbrev pub ours : (List ℕ → List ℕ) → Archive → List (List ℕ × ℕ) → TreePlace → Option (List ℕ)
 ours H archive query place = own_string H archive query place.tree place.node

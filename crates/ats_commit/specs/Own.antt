@@ -1,4 +1,4 @@
--- What strings of an archive's own say of it.
+-- What the strings of an archive's own trees say of it.
 use Rattle.std.specs.Prelude.{◌≡◌, ◌+◌, ◌<◌, ◌^◌, ℕ, List, [], Some, length, slice_get, slice_index_or}
 use Rattle.std.specs.List.{All}
 use Rattle.std.specs.Str.{IsUtf8}
@@ -35,7 +35,7 @@ pub record IsEntryOf (H : List ℕ → List ℕ) (archive : Archive) (entry : Di
   pub number : entry.f ≡ length (list archive.texts entry.term)
   pub root : entry.root ≡ list_root H archive.layout (list archive.texts entry.term)
 
--- the leaves at p and behind it are those of these two entries
+-- the leaf at p is that of the lower entry, and the leaf after it that of the upper one
 pub record AreNeighbours (leaves : List (List ℕ)) (p : ℕ) (lower upper : DictEntry) : Type 0 where
   pub first_small : lower.f < 2 ^ 32
   pub second_small : upper.f < 2 ^ 32
@@ -57,7 +57,7 @@ pub record IsImpactIn (texts : List (List ℕ)) (text : List ℕ) (item : List �
 abbrev pub IsImpactOf : List (List ℕ) → ℕ → List ℕ × ℕ → Type 0
 IsImpactOf texts doc item = IsImpactIn texts (slice_index_or texts doc []) item
 
--- the leaves at p and behind it are those of these two terms with their impacts
+-- the leaf at p is that of the lower term with its impact, and the leaf after it that of the upper one
 pub record AreTermNeighbours (leaves : List (List ℕ)) (p : ℕ) (lower upper : List ℕ × ℕ) : Type 0 where
   pub first_small : lower.1 < 2 ^ 16
   pub second_small : upper.1 < 2 ^ 16

@@ -1,4 +1,4 @@
--- Places as code names them, in the trees of an archive.
+-- Places in the trees of an archive, as code names them.
 use Rattle.std.specs.Prelude.{ℕ, ◌<◌, List, length, ⊤}
 use Rattle.ats_tree.specs.Nodes.{by_path}
 use Rattle.ats_tree.specs.Paths.{path_of}
@@ -11,7 +11,7 @@ use Rattle.ats_commit.specs.Ours.{TreePlace}
 abbrev pub tree_place : Place → TreePlace
 tree_place place = record { tree = place.tree; node = by_path (path_of place.depth place.turns) }
 
--- the tree of a list is that of one of the query's terms
+-- if the tree is that of a list, it is of one of the query's terms
 abbrev pub IsOfQuery : List (List ℕ × ℕ) → Tree → Type 0
 IsOfQuery query Header = ⊤
 IsOfQuery query Dictionary = ⊤

@@ -1,4 +1,4 @@
--- The trees of a list by its layout: their own strings, and what rebuilding from the first entries makes of them.
+-- The trees of a list by its layout: their own strings, and what rebuilding from the first entries gives.
 use Rattle.std.specs.Prelude.{ℕ, List, map, Option}
 use Rattle.std.specs.List.{range_with_len}
 use Rattle.ats_tree.specs.Differences.{Hashed}
@@ -15,7 +15,7 @@ use Rattle.ats_lists.specs.Layout.{Layout, whole_lists}
 abbrev pub list_string : (List ℕ → List ℕ) → Layout → List Entry → Node → Option (List ℕ)
 list_string H whole_lists entries node = node_string H (map leaf_bytes entries) node
 
--- the root of a list of so many entries, from shown leaves and the digests of the rest
+-- the root of a list of `total` entries, from shown leaves and the digests of the rest
 abbrev pub prefix_root : (List ℕ → List ℕ) → Layout → ℕ → List Shown → List (List ℕ) → Option (List ℕ)
 prefix_root H whole_lists total shown digests = rebuilt H total shown digests
 

@@ -28,7 +28,7 @@ header_parts H archive = record {
   texts_root = mth H archive.texts;
 }
 
--- numbers and roots that a header can have
+-- the archive has numbers and roots that a header can have
 abbrev pub HasHeaderInRange : (List ℕ → List ℕ) → Archive → Type 0
 HasHeaderInRange H archive =
     IsHeader
@@ -46,6 +46,6 @@ root_of H archive = H (header_tag archive.layout ∷ header_of H archive)
 abbrev pub header_string : Layout → Header → List ℕ
 header_string layout h = header_tag layout ∷ header_bytes h.documents h.dict_leaves h.dict_root h.docs_root h.texts_root
 
--- the root that a header stands for in a layout
+-- the root of an archive with this header and layout
 abbrev pub header_root : (List ℕ → List ℕ) → Layout → Header → List ℕ
 header_root H layout h = H (header_string layout h)

@@ -35,7 +35,7 @@ documents_of H texts = map (λ text. documents_leaf H (terms_leaves (text_terms 
 abbrev pub leaf_of : DocLeaf → List ℕ
 leaf_of leaf = doc_leaf_bytes leaf.leaves leaf.root
 
--- at least one document, and none past the last; a document's number has 32 bits
+-- at least one document, none past the last; the numbers have 32 bits
 pub record IsRange (from to documents : ℕ) : Type 0 where
   pub some : from < to
   pub within : to ≤ documents

@@ -1,5 +1,5 @@
-//! What holds of the trees, the header and the root of any archive, as contracts of functions that do
-//! nothing. Who believes these sentences need not read how the definitions are made.
+//! The laws of the trees, the header and the root of any archive, as contracts of functions that do nothing. A reader
+//! who believes these laws need not read how the definitions are made.
 
 ghost use Rattle.std.specs.Prelude.{◌≡◌, ◌+◌, ◌<◌, ◌≤◌, ◌^◌, ◌∷◌, ◌++◌, List, [], ℕ, Some, None, IsSome, MatchOption, length, map, slice_get, slice_index_or};
 ghost use Rattle.std.specs.Int.{to_be_bytes, w32};
@@ -35,8 +35,8 @@ ghost use Rattle.ats_commit.specs.Own.{AreTexts, AreNeighbours, AreTermNeighbour
 
 use ats_hash::HashKind;
 
-/// The dictionary has the terms that have a list, each with the number of documents that have it and the
-/// root of its list. Where each list is one tree, that is the root of this tree.
+/// The dictionary has the terms that have a list, each with the number of documents that have it and the root of its
+/// list. If each list is one tree, that is the root of this tree.
 pub fn dictionary_has_all_terms<H: HashKind>()
     ensures terms { (archive : Archive) → map (λ entry. entry.term) (dictionary_of H.hash archive)
         ≡ vocabulary archive.texts }
@@ -49,8 +49,8 @@ pub fn dictionary_has_all_terms<H: HashKind>()
         ≡ mth H.hash (map leaf_bytes entries) }
 {}
 
-/// The documents tree has a leaf for each text, with the number of leaves of its terms tree, which are its
-/// terms and two sentinels, and their root.
+/// The documents tree has a leaf for each text: the number of leaves of its terms tree, which are its terms and two
+/// sentinels, and the root of that tree.
 pub fn documents_have_all_texts<H: HashKind>()
     ensures count { (texts : List (List ℕ)) → length (documents_of H.hash texts) ≡ length texts }
     ensures leaf { (texts : List (List ℕ)) (doc : ℕ) → doc < length texts
@@ -58,8 +58,8 @@ pub fn documents_have_all_texts<H: HashKind>()
         ≡ Some (doc_leaf_bytes (length (doc_terms texts doc) + 2) (mth H.hash (terms_leaves (doc_terms texts doc)))) }
 {}
 
-/// Texts within the limits have a header in range, so that its bytes are read back. Its terms are
-/// few: texts in UTF-8 have no more terms than bytes, and a `Collection` tells their number.
+/// Texts within the limits have a header in range, so that its bytes are read back. UTF-8 texts have no more terms than
+/// bytes, so they have few terms; a `Collection` knows the number.
 pub fn headers_are_in_range<H: HashKind>()
     ensures texts { (archive : Archive) → All IsUtf8 archive.texts → AreWithin archive.texts
         → HasHeaderInRange H.hash archive }
@@ -67,9 +67,9 @@ pub fn headers_are_in_range<H: HashKind>()
         → HasHeaderInRange H.hash archive }
 {}
 
-/// The root is the digest of the header under the tag of its layout, which is 2 where each list is one tree.
-/// The header is the version 1, the numbers of documents and of dictionary leaves, high byte first, and the
-/// roots of the dictionary, the documents and the texts, 105 bytes in all.
+/// The root is the digest of the header under the tag of its layout, which is 2 if each list is one tree. The header is
+/// the version 1, the numbers of documents and of dictionary leaves, high byte first, and the roots of the dictionary,
+/// the documents and the texts, 105 bytes in all.
 pub fn roots_bind_headers<H: HashKind>()
     ensures root { (archive : Archive) → root_of H.hash archive
         ≡ H.hash (header_tag archive.layout ∷ header_of H.hash archive) }
@@ -81,7 +81,7 @@ pub fn roots_bind_headers<H: HashKind>()
     ensures size { (archive : Archive) → length (header_of H.hash archive) ≡ 105 }
 {}
 
-/// A header in range whose bytes are those of the archive's own has its numbers and roots.
+/// A header in range whose bytes are those of the archive's own has the archive's numbers and roots.
 pub fn own_headers_are_read<H: HashKind>()
     ensures { (archive : Archive) (header : Header) → AreTexts archive.texts
         → IsHeader header.documents header.dict_leaves header.dict_root header.docs_root header.texts_root
@@ -90,9 +90,9 @@ pub fn own_headers_are_read<H: HashKind>()
         → IsHeaderOf H.hash archive header }
 {}
 
-/// A leaf whose bytes are those of the archive's own says of its lists what its parts say. A term's leaf in
-/// the dictionary says how many entries its list has and with which root. Two neighbours say that no text
-/// has a term between theirs, and a leaf of a list says which posting stands there.
+/// A leaf with the bytes of one of the archive's own is true of its lists. A term's leaf in the dictionary has the
+/// length and the root of its list. Between the terms of two neighbours there is no term that a text has. A leaf of a
+/// list is the posting at that place.
 pub fn own_leaves_tell_lists<H: HashKind>()
     ensures entry { (archive : Archive) (p : ℕ) (entry : DictEntry) → AreTexts archive.texts → IsTerm entry.term
         → entry.f < 2 ^ 32
@@ -109,10 +109,9 @@ pub fn own_leaves_tell_lists<H: HashKind>()
         → slice_get (list texts term) i ≡ Some entry }
 {}
 
-/// A leaf whose bytes are those of the texts' own says of a document what its parts say. The document's
-/// leaf in the documents tree says how many leaves the document's terms tree has and with which root. A
-/// term's leaf of the terms tree says that the document has the term, with its impact. Two neighbours say
-/// that the document has no term between theirs.
+/// A leaf with the bytes of one of the texts' own is true of its document. The document's leaf in the documents tree
+/// has the number of leaves and the root of the document's terms tree. If a term has a leaf in the terms tree, the
+/// document has the term, with this impact. Between the terms of two neighbours the document has no term.
 pub fn own_leaves_tell_documents<H: HashKind>()
     ensures document { (texts : List (List ℕ)) (doc : ℕ) (leaf : DocLeaf) → AreTexts texts → leaf.leaves < 2 ^ 32
         → slice_get (documents_of H.hash texts) doc ≡ Some (doc_leaf_bytes leaf.leaves leaf.root)
@@ -137,9 +136,9 @@ pub fn list_prefixes_are_bound<H: HashKind>()
         (λ c. H.hash c.theirs ≡ H.hash c.ours) }
 {}
 
-/// The header's string stands at the node with no turns, and in no tree does a string stand past its
-/// leaves: `h` turns are the most where there are at most 2^h. None stands in the list of a term that no
-/// text has, nor in the tree of a document past the last.
+/// The header's string is at the node with no turns. No tree has a string past its leaves: with at most 2^h leaves a
+/// node has at most `h` turns. There is no string in the list of a term that no text has, nor in the tree of a document
+/// past the last.
 pub fn own_strings_stand_in_trees<H: HashKind>()
     ensures header { (archive : Archive) (query : List (List ℕ × ℕ))
         → ours H.hash archive query (record { tree = HeaderTree; node = by_path [] })

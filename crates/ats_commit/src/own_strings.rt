@@ -12,21 +12,22 @@ use ats_hash::Hash32;
 use ats_terms::Query;
 use ats_tree::{HashedString, Place, Tree};
 
-/// Who has an archive, and so the byte strings that are hashed in its trees.
+/// An archive, seen as the byte strings that are hashed in its trees.
 pub trait OwnStrings<H: Hash32> {
     /// The archive.
     ghost archive: { Self → Archive };
 
-    /// The string that stands at a place in the archive's own trees. There is none where the path leaves the
-    /// tree, where no text has the term, and where the document's number is past the last.
+    /// The string at a place in the archive's own trees. There is none if the path leaves the tree, if no text has the
+    /// term, or if the document's number is past the last.
     fn hashed_string(&self, place: &Place, query: &Query) -> Option<HashedString>
         requires shallow { place.now.depth ≤ 32 }
         requires asked { IsOfQuery query.now place.now.tree }
         ensures { result ≡ ours H.hash (archive self.now) query.now (tree_place place.now) };
 
-    /// Whether what is shown of a tree of `n` leaves is the archive's own, by comparing alone: nothing is hashed.
-    /// A yes is certain, and spares whoever asks the search of the tree. A no is always allowed, and decides nothing:
-    /// it is the answer of who does not look, and where memory is wanted for looking.
+    /// Whether all that a section of a proof shows of a tree of `n` leaves is the archive's own, found by comparing
+    /// only: nothing is hashed. If it returns true, that is so, and the caller need not search the tree. False promises
+    /// nothing: the caller then hashes the section. An implementation may always return false, and does if memory runs
+    /// out.
     fn has_shown<S: ShownTree>(&self, tree: Tree, n: u32, query: &Query, shown: &mut S) -> bool
         requires asked { IsOfQuery query.now tree }
         requires short { All (λ s. length s.1 ≤ 127) (S.shown shown.old) }

@@ -7,8 +7,8 @@ ghost use Rattle.ats_tree.specs.Shown.{Shown, positions_of, first_position, firs
 use ats_hash::Steps;
 use ats_tree::HashedString;
 
-/// Shown leaves with strictly rising positions, and digests, taken from the front as strings of their own. It
-/// names no lifetime, since a method of a trait under a bound that names one, as `Revealed` does, cannot be stated.
+/// Shown leaves with strictly rising positions, and digests, taken from the front as copies. It names no lifetime,
+/// since a method of a trait cannot be stated under a bound that names one, as `Revealed` does.
 pub trait ShownTree {
     /// The positions and bytes of the leaves left.
     ghost shown: { Self → List Shown };
@@ -16,13 +16,13 @@ pub trait ShownTree {
     /// The digests left.
     ghost digests: { Self → List (List ℕ) };
 
-    /// The position of the first leaf left, `None` where none is left.
+    /// The position of the first leaf left, `None` if none is left.
     fn position(&self) -> Option<u32>
         ensures first { result ≡ first_position (shown self.now) }
         ensures rising { IsStrictlyIncreasing (positions_of (shown self.now)) }
         ensures sized { All (λ d. length d ≡ 32) (digests self.now) };
 
-    /// Removes the first leaf left, and answers it under its tag.
+    /// Removes the first leaf left, and returns it after its tag.
     fn take_leaf(&mut self, steps: &mut Steps) -> HashedString
         requires left { 0 < length (shown self.old) }
         requires short { length (first_leaf (shown self.old)) ≤ 127 }
@@ -32,7 +32,7 @@ pub trait ShownTree {
         ensures others { digests self.new ≡ digests self.old }
         ensures cost { steps.new ≡ steps.old + 1 };
 
-    /// Removes and answers the first digest left, `None` where none is left.
+    /// Removes and returns the first digest left, `None` if none is left.
     fn take_digest(&mut self, steps: &mut Steps) -> Option<[u8; 32]>
         requires sized { All (λ d. length d ≡ 32) (digests self.old) }
         requires room { steps.old + 1 < 2 ^ 64 }

@@ -7,8 +7,8 @@ use ats_impact::Collection;
 use ats_tree::Leaves;
 use std::marker::Model;
 
-/// The leaves of the texts tree, or of a part of it: the bytes of the texts of some documents that stand
-/// one after another. The texts are lent and not copied.
+/// The leaves of the texts tree, or of a part of it: the bytes of the texts of consecutive documents. The texts are
+/// lent and not copied.
 #[derive(Drop)]
 pub struct TextLeaves<'a> {
     collection: &'a Collection,

@@ -78,7 +78,7 @@ item_of_count total len documents counts items p same some within other =
     ap (item_at items) next ∙ item_at-suc items (p - 1) ([], 0) (omega arith) ∙ ap (λ xs. get_or xs (p - 1) ([], 0)) (sym same)
     ∙ get_or-with_impacts total len documents counts (p - 1) ([], 0) ([], 0) (omega arith)
 
--- the high sentinel stands behind the last count
+-- the high sentinel is after the last count
 pub high_at : (total len documents : ℕ) (counts items : List (List ℕ × ℕ)) (p : ℕ) → with_impacts total len documents counts ≡ items
     → p ≡ length counts + 1 → item_at items p ≡ high
 high_at total len documents counts items p same last =

@@ -1,4 +1,4 @@
--- The terms of a document of a collection against the counts of its text.
+-- The terms of a document of a collection and the counts of its text agree.
 use Rattle.std.proofs.Common.{◌≡◌, ◌≢◌, ◌<◌, ◌≤◌, ◌∙◌, [], ℕ, List, length, get_or, zero-add, ap, sym, arith}
 use Rattle.std.specs.List.{All}
 use Rattle.ats_terms.specs.Terms.{terms}
@@ -24,7 +24,7 @@ module _ (texts : List (List ℕ)) (doc : ℕ) where
       → get_or (doc_terms texts doc) i d ≡ ((get_or pairs i d).0, impact (get_or pairs i d).1 (total_terms texts) (length (terms text)) (length texts))
   item_of i d inside = get_or-with_impacts (total_terms texts) (length (terms text)) (length texts) pairs i d d inside
 
-  -- how often a term of the pairs stands in the text
+  -- how often a term of the pairs occurs in the text
   occurs : (i : ℕ) (d : List ℕ × ℕ) → i < length pairs → count (get_or pairs i d).0 text ≡ (get_or pairs i d).1
   occurs i d inside =
       let own = counted_counts (terms text) in
@@ -42,7 +42,7 @@ module _ (texts : List (List ℕ)) (doc : ℕ) where
       let here : i < length pairs = omega (arith, size, inside) in
       rw (ap (λ (item : List ℕ × ℕ). item.0) (item_of i d here)) (omega (arith, occurs i d here, (counted_counts (terms text)).some i d here))
 
-  -- with the impact of how often it stands there
+  -- with the impact of its count there
   pub impact_tells : (i : ℕ) (d : List ℕ × ℕ) → i < length (doc_terms texts doc)
       → (get_or (doc_terms texts doc) i d).1
       ≡ impact (count (get_or (doc_terms texts doc) i d).0 text) (total_terms texts) (length (terms text)) (length texts)

@@ -8,7 +8,7 @@ use Rattle.ats_terms.proofs.Public.{rises_less, inner_at, last_at, length-betwee
 use Rattle.ats_doctree.specs.Impacts.{AreImpacts}
 use Rattle.ats_doctree.specs.Sentinels.{low, high, with_sentinels, item_at, term_at, impact_at, leaf_bytes, terms_leaves}
 
--- the leaf of a term stands one position past it, behind the low sentinel
+-- the leaf of a term is one position past it, after the low sentinel
 pub item_at-suc : (items : List (List ℕ × ℕ)) (i : ℕ) (d : List ℕ × ℕ) → i < length items → item_at items (suc i) ≡ get_or items i d
 item_at-suc items = inner_at low high items
 
@@ -25,7 +25,7 @@ length-terms_leaves items = length-map (with_sentinels items) leaf_bytes ∙ len
 pub get_or-terms_leaves : (items : List (List ℕ × ℕ)) (p : ℕ) → p < length items + 2 → get_or (terms_leaves items) p [] ≡ leaf_bytes (item_at items p)
 get_or-terms_leaves items p inside = get_or-map leaf_bytes (with_sentinels items) p low [] (omega (arith, length-with_sentinels items))
 
--- the same, in the parts of which it is put together
+-- the same, in the parts of a leaf
 pub leaf_of_parts : (items : List (List ℕ × ℕ)) (p : ℕ) (term back : List ℕ) (impact : ℕ) → p < length items + 2 → term ≡ term_at items p
     → impact ≡ impact_at items p → back ≡ to_be_bytes w16 impact → length term ∷ term ++ back ≡ get_or (terms_leaves items) p []
 unfolding leaf_bytes

@@ -1,6 +1,6 @@
 -- What other rooms may cite of the proofs of this one. All other files here are private.
 
--- an impact is from 1 to 2200, where the collection has at least one term
+-- an impact is from 1 to 2200, if the collection has at least one term
 pub use Rattle.ats_doctree.proofs.Counts.{impact_in_range}
 -- a document has at most as many distinct terms as term occurrences
 pub use Rattle.ats_doctree.proofs.Documents.{doc_terms_few}
@@ -14,9 +14,9 @@ pub use Rattle.ats_doctree.proofs.Documents.{none_stands}
 pub use Rattle.ats_doctree.proofs.Documents.{term_stands}
 -- the leaf at a position of a terms tree has the bytes of the term or sentinel at that position
 pub use Rattle.ats_doctree.proofs.Positions.{get_or-terms_leaves}
--- the last leaf position of a terms tree, behind all terms, has the high sentinel
+-- the last leaf position of a terms tree, after all terms, has the high sentinel
 pub use Rattle.ats_doctree.proofs.Positions.{item_at-last}
--- term i of a document stands at leaf position i + 1, behind the low sentinel
+-- term i of a document is at leaf position i + 1, after the low sentinel
 pub use Rattle.ats_doctree.proofs.Positions.{item_at-suc}
 -- a terms tree has two more leaves than terms
 pub use Rattle.ats_doctree.proofs.Positions.{length-terms_leaves}

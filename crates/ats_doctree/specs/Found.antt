@@ -1,4 +1,4 @@
--- Where a term stands among the leaves of a document's terms, or between which two it lies.
+-- The place of a term among the leaves of a document's terms, or the two that it lies between.
 use Rattle.std.specs.Prelude.{ℕ, List, length}
 use Rattle.ats_terms.specs.declared.spot.Spot.{Spot}
 use Rattle.ats_terms.specs.Found as terms

@@ -6,7 +6,7 @@ use Rattle.ats_terms.specs.Query.{counted, Rises}
 use Rattle.ats_impact.specs.Numbers.{impact}
 use Rattle.ats_impact.specs.Score.{total_terms}
 
--- each term with its impact for how often it stands, among this many terms of all documents and of its own
+-- each term with its impact, from its count, the terms of all documents, those of its own, and the number of documents
 abbrev pub with_impacts : ℕ → ℕ → ℕ → List (List ℕ × ℕ) → List (List ℕ × ℕ)
 with_impacts total len documents counts = map (λ pair. (pair.0, impact pair.1 total len documents)) counts
 

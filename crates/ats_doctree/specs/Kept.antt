@@ -1,8 +1,8 @@
--- What the terms of a document keep of their counts.
+-- What always holds for the counts that the terms of a document keep.
 use Rattle.std.specs.Prelude.{◌≤◌, ◌^◌, ℕ, List, length}
 use Rattle.std.specs.List.{All}
 
--- counts, none more than the document has terms, of which there are no more than in all documents
+-- counts, none above the number of the document's terms, which is at most that of all documents
 pub record AreCounts (total len documents : ℕ) (counts : List (List ℕ × ℕ)) : Type 0 where
   pub few : length counts ≤ 2 ^ 20
   pub within : All (λ pair. pair.1 ≤ len) counts

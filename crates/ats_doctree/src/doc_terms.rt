@@ -17,8 +17,8 @@ use std::marker::Model;
 
 /// The distinct terms of a document in byte order, each with its impact, between the two sentinels.
 ///
-/// A document has at most 2^20 terms, so at most 2^20 + 2 leaves. The counts are kept, and an impact is
-/// computed when it is asked for.
+/// A document has at most 2^20 terms, so at most 2^20 + 2 leaves. The counts are kept, and an impact is computed when
+/// it is read.
 #[derive(Drop)]
 pub struct DocTerms {
     counts: TermCounts,
@@ -42,7 +42,7 @@ impl Model for DocTerms {
 // The most bytes that a term has with its length.
 const FRONT_BYTES: usize = 65;
 
-// Puts the length of a term and then the term in front of a block.
+// Puts the length of a term and then the term at the start of a block.
 fn put_term(block: &mut [u8; FRONT_BYTES], term: &[u8])
     requires { length term.now ≤ 64 }
     ensures { take (length term.now + 1) block.new ≡ length term.now ∷ term.now }
@@ -61,8 +61,7 @@ impl DocTerms {
         Ok(DocTerms::from_counts(counts, collection, doc))
     }
 
-    /// The terms of a document, counted from 0, from the counts of its terms, for who has counted them
-    /// already. It takes no memory.
+    /// The terms of a document, counted from 0, for a caller who has counted them already. It allocates nothing.
     pub fn from_counts(counts: TermCounts, collection: &Collection, doc: u32) -> Self
         requires doc { doc < length collection.now }
         requires counts { counts ≡ counted (terms (slice_index_or collection.now doc [])) }
@@ -76,8 +75,8 @@ impl DocTerms {
         }
     }
 
-    /// The term of the leaf at position `p`, from 0 and with the sentinels. It is empty in the low
-    /// sentinel, and the one byte 0xFF in the high one.
+    /// The term of the leaf at position `p`, counted from 0, sentinels included. It is empty in the low sentinel, and
+    /// the single byte 0xFF in the high one.
     pub fn term(&self, p: u32) -> &[u8]
         requires { p < length self.now + 2 }
         ensures value { result.now ≡ term_at self.now p }
@@ -93,8 +92,8 @@ impl DocTerms {
         self.counts.term(i)
     }
 
-    /// The impact of the leaf at position `p`, from 0 and with the sentinels: 1 to 2,200 for a term, and 0
-    /// in the sentinels.
+    /// The impact of the leaf at position `p`, counted from 0, sentinels included: 1 to 2,200 for a term, and 0 in the
+    /// sentinels.
     pub fn impact(&self, p: u32) -> u16
         requires { p < length self.now + 2 }
         ensures value { result ≡ impact_at self.now p }
@@ -108,7 +107,7 @@ impl DocTerms {
         impact(count, self.total, self.len, self.documents)
     }
 
-    /// Where a term stands that is not empty and does not begin with 0xFF.
+    /// Finds the place of a term. The term must not be empty and must not begin with 0xFF.
     pub fn find(&self, term: &[u8]) -> Spot
         requires some { 1 ≤ length term.now }
         requires front { slice_index term.now 0 < 255 }

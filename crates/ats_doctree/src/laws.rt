@@ -1,5 +1,5 @@
-//! What holds of the terms of every document, as contracts of functions that do nothing. Who believes
-//! these sentences need not read how the definitions are made.
+//! The laws of the terms of all documents, as contracts of functions that do nothing. A reader who believes these laws
+//! need not read how the definitions are made.
 
 ghost use Rattle.std.specs.Prelude.{◌≡◌, ◌≢◌, ◌+◌, ◌<◌, ◌≤◌, ◌^◌, ℕ, List, [], length, Some, slice_get, slice_index, slice_index_or};
 ghost use Rattle.std.specs.List.{All};
@@ -30,8 +30,8 @@ pub fn terms_rise()
         → IsBelow (term_at items i) (term_at items j) }
 {}
 
-/// Each term is one that the document has, with the impact of how often it stands there, and each term
-/// that the document has is among them.
+/// Each term is one that the document has, with the impact of its count there, and each term that the document has is
+/// among them.
 pub fn impacts_tell_counts()
     ensures some { (texts : List (List ℕ)) (doc i : ℕ) (d : List ℕ × ℕ) → i < length (doc_terms texts doc)
         → 0 < count (slice_index_or (doc_terms texts doc) i d).0 (slice_index_or texts doc []) }

@@ -8,7 +8,7 @@ use Rattle.std.proofs.lemmas.List.{map-append, take_all}
 use Rattle.std.proofs.lemmas.List.FromFn.{map-range_with_len_more}
 use Rattle.rayon.specs.Numbers.{nat_range}
 
--- answers that are all there are the values of what was asked
+-- results without an error are the values of the inputs
 unpacked : {X Y : Type 0} (E : Type 0) (f : X → Y) (asked : List X) (ys : List Y) → AllZip (λ x (r : Result Y E). IfOk r (λ y. y ≡ f x)) asked (map Ok ys) → ys ≡ map f asked
 unpacked E f [] [] each = refl
 unpacked E f [] (y ∷ ys) each = absurd each
@@ -28,7 +28,7 @@ module _ {X Y : Type 0} (f : X → Y) (d : X) (xs : List X) where
       ∙ sym (map-append f (take n xs) (get_or xs n d ∷ []))
       ∙ ap (map f) (sym (take-suc xs n d (omega (arith, within))))
 
-  -- the values at all places, in order, where no answer is an error
+  -- the values at all places, in order, if no result is an error
   pub collected : {V E : Type 0} (items : V → List Y) (bad : E → Type 0) (places : List ℕ) (answers : List (Result Y E)) (made : Result V E)
       → places ≡ nat_range 0 (length xs) → AllZip (λ i r. IfOk r (λ y. y ≡ f (get_or xs i d))) places answers
       → MatchResult made (λ v. (ys : List Y) × (answers ≡ map Ok ys) × (items v ≡ ys)) bad → IfOk made (λ v. items v ≡ map f xs)

@@ -33,7 +33,7 @@ all_common xs [] all = refl
 all_common [] (y ∷ ys) all = absurd (omega (arith, all))
 all_common (x ∷ xs) (y ∷ ys) all = all_next x y xs ys (nat_eq x y) refl (all_common xs ys) all
 
--- what stands behind a difference does not count
+-- what follows a difference does not count
 pub more_same : (xs ys more : List ℕ) → common_prefix_len nat_eq xs ys < length ys → common_prefix_len nat_eq xs (ys ++ more) ≡ common_prefix_len nat_eq xs ys
 more_same xs [] more short = absurd (omega (arith, short))
 more_same [] (y ∷ ys) more short = refl

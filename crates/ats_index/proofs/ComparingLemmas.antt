@@ -1,4 +1,4 @@
--- A comparer, from its start to what it tells.
+-- A comparer, from its start to its result.
 use Rattle.std.proofs.Common.{◌≡◌, ◌+◌, ◌<◌, ◌≤◌, ◌∙◌, ℕ, Bool, List, [], ◌++◌, true, false, nat_lt, length, drop, refl, sym, ap, subst, arith, append_assoc, length-append, length-drop}
 use Rattle.std.specs.Prelude.{nat_eq}
 use Rattle.std.specs.List.{common_prefix_len}
@@ -17,7 +17,7 @@ module _ (bytes : List ℕ) (same : ℕ) (front piece : List ℕ) (so_far : IsCo
   the_length : length piece ≤ n → n ≤ length piece → length piece ≡ n
   the_length least most = omega arith
 
-  -- the piece stands next
+  -- the piece follows
   pub goes_on : length piece ≤ n → n ≤ length piece → IsCompared bytes (same + n) false (front ++ piece)
   goes_on least most =
       let left : List ℕ = drop same bytes in
@@ -71,7 +71,7 @@ tells_left bytes same differs others compared none left =
       prefix = so_far.0 ∙ sym (whole others (drop same bytes)) ∙ ap (λ xs. common_prefix_len nat_eq xs others) (sym so_far.1);
     }
 
--- where none is left, there is none
+-- if no bytes are left, there is no difference
 pub tells_same : (bytes : List ℕ) (same : ℕ) (others : List ℕ) → IsCompared bytes same false others → length bytes ≤ same → bytes ≡ others
 tells_same bytes same others so_far none =
     so_far.1 ∙ ap (λ xs. others ++ xs) (nil_from_length (drop same bytes) (omega (arith, length-drop same bytes))) ∙ append-nil others

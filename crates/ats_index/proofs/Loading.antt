@@ -1,4 +1,4 @@
--- The texts in front of an index's bytes.
+-- The texts at the front of an index's bytes.
 use Rattle.std.proofs.Common.{◌≡◌, ◌++◌, ℕ, List, ap₂, append_assoc}
 use Rattle.ats_lists.specs.Lists.{lists_of}
 use Rattle.ats_lists.specs.Layout.{Layout, whole_lists}
@@ -7,7 +7,7 @@ use Rattle.ats_commit.specs.Root.{root_of}
 use Rattle.ats_commit.proofs.Public.{same_layout}
 use Rattle.ats_index.specs.Spelling.{texts_bytes, lists_bytes, index_bytes}
 
--- the texts, and what stands behind them
+-- the texts, and the bytes after them
 pub texts_first : (H : List ℕ → List ℕ) (archive : Archive)
     → index_bytes H archive ≡ texts_bytes archive.texts ++ (lists_bytes (lists_of archive.texts) ++ root_of H archive)
 texts_first H archive = append_assoc (texts_bytes archive.texts) (lists_bytes (lists_of archive.texts)) (root_of H archive)

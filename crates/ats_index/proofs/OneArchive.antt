@@ -1,4 +1,4 @@
--- Index bytes say one archive.
+-- Index bytes determine one archive.
 use Rattle.std.proofs.Common.{◌≡◌, ◌<◌, ◌≤◌, ◌^◌, ◌∙◌, ℕ, List, [], ◌∷◌, ◌++◌, length, take, drop, refl, sym, ap, ap₂, arith, append_assoc}
 use Rattle.std.specs.List.{flat_map}
 use Rattle.std.proofs.lemmas.List.Elements.{All-tail}
@@ -13,7 +13,7 @@ use Rattle.ats_index.specs.LoadFaults.{BeginWith}
 use Rattle.ats_index.proofs.Reading.{front_number, front_rest, text_number, text_first, text_rest}
 use Rattle.ats_index.proofs.Loading.{texts_first}
 
--- bytes that begin with a text tell it, and what stands behind it
+-- bytes that begin with a text determine it, and the bytes after it
 pub text_tells : (bytes text other a b : List ℕ) → length text < 2 ^ 32 → length other < 2 ^ 32
     → bytes ≡ text_bytes text ++ a → bytes ≡ text_bytes other ++ b → (text ≡ other) × (a ≡ b)
 text_tells bytes text other a b short short' is is' =
@@ -22,7 +22,7 @@ text_tells bytes text other a b short short' is is' =
       sym (text_rest bytes text a short is) ∙ ap (λ n. drop n (drop 4 bytes)) size ∙ text_rest bytes other b short' is',
     )
 
--- bytes that begin with a number of short texts tell them
+-- bytes that begin with a number of short texts determine them
 texts_tell : (texts others : List (List ℕ)) (a b : List ℕ) → length texts ≡ length others → AllShort texts → AllShort others
     → flat_map text_bytes texts ++ a ≡ flat_map text_bytes others ++ b → texts ≡ others
 texts_tell [] [] a b count short short' same = refl
@@ -37,7 +37,7 @@ texts_tell (text ∷ texts) (other ∷ others) a b count short short' same =
     let head = text_tells (text_bytes text ++ behind) text other behind behind' (omega (arith, short 0 [] (omega arith))) (omega (arith, short' 0 [] (omega arith))) refl joined in
     ap₂ (λ one more. one ∷ more) head.0 (texts_tell texts others a b (omega (arith, count)) (All-tail Short text texts short) (All-tail Short other others short') head.1)
 
--- what stands behind the texts
+-- the bytes after the texts
 abbrev behind_texts : (List ℕ → List ℕ) → Archive → List ℕ
 behind_texts H archive = lists_bytes (lists_of archive.texts) ++ root_of H archive
 
@@ -50,11 +50,11 @@ spelled_begins H bytes archive spelling = record {
   same = spelling.same ∙ texts_first H archive;
 }
 
--- a collection's number of texts stands in 4 bytes
+-- a collection's number of texts fits in 4 bytes
 count_small : (texts : List (List ℕ)) → AreWithin texts → length texts < 2 ^ 32
 count_small texts within = omega (arith, within.few)
 
--- the front, the texts, and what stands behind them
+-- the front, the texts, and the bytes after them
 pub front_first : (bytes : List ℕ) (texts : List (List ℕ)) (begins : BeginWith bytes texts)
     → bytes ≡ front_bytes (length texts) ++ (flat_map text_bytes texts ++ begins.rest)
 front_first bytes texts begins = begins.same ∙ append_assoc (front_bytes (length texts)) (flat_map text_bytes texts) begins.rest

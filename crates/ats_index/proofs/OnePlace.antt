@@ -1,4 +1,4 @@
--- Bytes have one place of fault at most, and an archive's index has none.
+-- Bytes have at most one place of fault, and an archive's index has none.
 use Rattle.std.proofs.Common.{◌≡◌, ◌≢◌, ◌⊎◌, inl, inr, ◌<◌, ◌≤◌, ◌^◌, ◌∙◌, ℕ, List, [], ◌∷◌, ◌++◌, length, drop, refl, sym, ap, ap₂, subst, arith, append_assoc, length-append}
 use Rattle.std.specs.Prelude.{codes, sum_by, nat_eq}
 use Rattle.std.specs.Int.{to_be_bytes, w32}
@@ -20,7 +20,7 @@ use Rattle.ats_index.proofs.OneArchive.{text_tells, front_first, one_beginning, 
 
 -- ---- two runs of texts in the same bytes
 
--- the first run has one text more at least, which stands behind the second
+-- the first run has at least one text more, which follows the second
 record Longer (texts others : List (List ℕ)) (behind : List ℕ) : Type 0 where
   text : List ℕ
   more : List (List ℕ)
@@ -100,18 +100,18 @@ module _ (texts others : List (List ℕ)) (behind : List ℕ) (good : AreGood te
   unfolding text_bytes
   more_next = longer.next
 
--- no good field stands here
+-- the bytes begin with no good field
 abbrev NoneGood : Field → List ℕ → Type 0
 NoneGood field behind = (good rest : List ℕ) → IsGood field good → behind ≢ good ++ rest
 
--- numbers that stand at one place are one, and so is what stands behind them
+-- bytes that begin with a number determine it, and the bytes after it
 numbers_tell : (m n : ℕ) (a b : List ℕ) → m < 2 ^ 32 → n < 2 ^ 32 → to_be_bytes w32 m ++ a ≡ to_be_bytes w32 n ++ b → (m ≡ n) × (a ≡ b)
 numbers_tell m n a b small small' same = (
   sym (big_number-reads_back 4 m a small) ∙ ap (big_number 4) same ∙ big_number-reads_back 4 n b small',
   ap (drop 4) same,
 )
 
--- where one run of texts is longer, the field behind the other is good
+-- if one run of texts is longer, the field after the other is good
 length_stands : (texts others : List (List ℕ)) (n : ℕ) (b : List ℕ) → AreGood texts → Longer texts others b → NoneGood (TextLength n others) b → ⊥
 length_stands texts others n b good longer bad =
     bad (to_be_bytes w32 (length longer.text)) (longer.text ++ longer.rest) (length longer.text, more_room texts others b good longer, refl) (more_next texts others b good longer)
@@ -124,7 +124,7 @@ bytes_stand texts others n size b good room longer bad =
     (more_next texts others tail good longer) in
     bad longer.text longer.rest (sym told.0, more_utf8 texts others tail good longer) told.1
 
--- ---- a field that is bad, and texts behind it or with it
+-- ---- a field that is bad, and texts after it or with it
 
 -- bytes that are a front and then texts, as far as these are good: a field of the front is not bad
 abbrev IsEarly : Field → Type 0
@@ -141,7 +141,7 @@ early_good Documents b n rest early some few bad same = bad (to_be_bytes w32 n) 
 early_good (TextLength m texts) b n rest early some few bad same = early
 early_good (TextBytes m texts size) b n rest early some few bad same = early
 
--- what stands behind the front
+-- the bytes after the front
 abbrev behind_front : Field → List ℕ → List ℕ
 behind_front (TextLength n texts) b = flat_map text_bytes texts ++ b
 behind_front (TextBytes n texts size) b = flat_map text_bytes texts ++ (to_be_bytes w32 size ++ b)
@@ -159,7 +159,7 @@ late_bytes n texts size b =
 are_good : (n : ℕ) (texts : List (List ℕ)) → AreFirst n texts → AreGood texts
 are_good n texts first = record { utf8 = first.utf8; short = first.short; small = first.small }
 
--- fronts with numbers of texts within the limits tell what stands behind them
+-- fronts with numbers of texts within the limits determine the bytes after them
 fronts_tell : (m n : ℕ) (a b : List ℕ) → m ≤ 65536 → n ≤ 65536 → front_bytes m ++ a ≡ front_bytes n ++ b → (m ≡ n) × (a ≡ b)
 fronts_tell m n a b few few' same =
     let bytes : List ℕ = front_bytes m ++ a in (
@@ -189,7 +189,7 @@ module _ (n m : ℕ) (texts others : List (List ℕ)) (first : AreFirst n texts)
   of_lengths a b bad bad' (same, inr (inl longer)) = absurd (length_stands texts others m b good longer bad')
   of_lengths a b bad bad' (same, inr (inr longer)) = absurd (length_stands others texts n a good' longer bad)
 
-  -- of a length and the bytes behind it one is good
+  -- either the length or the bytes after it are good
   mixed : (size : ℕ) (a b : List ℕ) → IsRoom others size → NoneGood (TextLength n texts) a → NoneGood (TextBytes m others size) b
       → (n ≡ m) × Meet texts others a (to_be_bytes w32 size ++ b) → ⊥
   mixed size a b room bad bad' (same, inl is) =
@@ -206,7 +206,7 @@ module _ (n m : ℕ) (texts others : List (List ℕ)) (first : AreFirst n texts)
   of_bytes size size' a b room room' bad bad' (same, inr (inl longer)) = absurd (bytes_stand texts others m size' b good room' longer bad')
   of_bytes size size' a b room room' bad bad' (same, inr (inr longer)) = absurd (bytes_stand others texts n size a good' room longer bad)
 
--- a field of the front that is bad, and one behind the front
+-- a field of the front that is bad, and one after the front
 early_late : (field : Field) (n : ℕ) (texts : List (List ℕ)) (a b : List ℕ) → IsEarly field → AreFirst n texts → NoneGood field a
     → front_of field ++ a ≡ front_bytes n ++ b → ⊥
 early_late field n texts a b early first bad same = early_good field a n b early first.some first.few bad same

@@ -6,5 +6,5 @@ pub use Rattle.ats_index.proofs.OneArchive.{one_archive}
 pub use Rattle.ats_index.proofs.OnePlace.{no_place}
 -- two places of a load fault in the same bytes are equal
 pub use Rattle.ats_index.proofs.OnePlace.{one_place}
--- the index of an archive has at most 2^29 bytes, where digests have 32 bytes
+-- the index of an archive has at most 2^29 bytes, if digests have 32 bytes
 pub use Rattle.ats_index.proofs.Size.{index_size}

@@ -1,4 +1,4 @@
--- What stands at the front of bytes.
+-- Fields at the front of bytes.
 use Rattle.std.proofs.Common.{◌≡◌, ◌-◌, ◌<◌, ◌^◌, ℕ, List, ◌++◌, length, take, drop, ap, ◌∙◌, arith, take_all, length-drop}
 use Rattle.std.specs.Int.{to_be_bytes, w32}
 use Rattle.std.proofs.Math.Seq.{take-append_seam, drop-append_seam}

@@ -20,7 +20,7 @@ module _ (bytes : List ℕ) (documents : ℕ) (texts : List (List ℕ)) (rest : 
   place : length (front_bytes documents ++ flat_map text_bytes texts) + length rest ≡ length bytes
   place = sym (ap (λ (xs : List ℕ). length xs) is ∙ length-append (front_bytes documents ++ flat_map text_bytes texts) rest)
 
-  -- no good length stands next
+  -- no good length follows
   pub length_bad : AreFirst documents texts → ((size : ℕ) (more : List ℕ) → IsRoom texts size → rest ≢ to_be_bytes w32 size ++ more)
       → IsFirstBad bytes (length bytes - length rest)
   length_bad first none = record {
@@ -32,7 +32,7 @@ module _ (bytes : List ℕ) (documents : ℕ) (texts : List (List ℕ)) (rest : 
     bad = λ good more (size, room, good_is) same. none size more room (same ∙ ap (λ xs. xs ++ more) good_is);
   }
 
-  -- no good text of this length stands next
+  -- no good text of this length follows
   pub bytes_bad : (size : ℕ) → AreFirst documents texts → IsRoom texts size → rest ≡ to_be_bytes w32 size ++ drop 4 rest
       → ((text more : List ℕ) → length text ≡ size → IsUtf8 text → drop 4 rest ≢ text ++ more)
       → IsFirstBad bytes (length bytes - length rest + 4)

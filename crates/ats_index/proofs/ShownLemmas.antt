@@ -25,7 +25,7 @@ module _ (leaves : List (List ℕ)) where
   some_place : (s : Shown) (rest : List Shown) (at : ℕ) → Some at ≡ first_position (s ∷ rest) → s.0 ≡ at
   some_place s rest at first = cc
 
-  -- one shown leaf more stands in the list
+  -- one more shown leaf is in the list
   pub one_more : (positions : List ℕ) (at : ℕ) (before left : List Shown) → Some at ≡ first_position left → first_leaf left ≡ get_or leaves at []
       → before ≡ shown_with leaves positions ++ left → before ≡ shown_with leaves (positions ++ at ∷ []) ++ drop 1 left
   one_more positions at before [] first text seen = absurd (cc)
@@ -71,7 +71,7 @@ digest_more own i d before (x ∷ rest) inside first same seen =
     let next : suc i ≡ i + 1 = omega arith in
     seen ∙ digests_last own i x rest inside (some_digest x rest d first ∙ same) ∙ ap (λ (k : ℕ). take k own ++ rest) next
 
--- a string of ours is one of the tree's, where both are at each node
+-- a string of ours is one of the tree's, if both agree at each node
 pub own_by : (H : List ℕ → List ℕ) (leaves : List (List ℕ)) (own : Node → Option (List ℕ)) → ((node : Node) → own node ≡ node_string H leaves node)
     → (ss : List (Hashed Node)) → All (IsOurs (node_string H leaves)) ss → All (IsOurs own) ss
 own_by H leaves own same ss are k d inside =

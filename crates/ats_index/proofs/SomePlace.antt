@@ -50,7 +50,7 @@ number_stands (a ∷ b ∷ c ∷ []) room small = absurd (omega arith)
 number_stands (a ∷ b ∷ c ∷ d ∷ rest) room small =
     ap (λ xs. xs ++ rest) (sym (number_4 (a ∷ b ∷ c ∷ d ∷ []) refl (small_four a b c d (small 0) (small 1) (small 2) (small 3))))
 
--- a number of this range stands there, or none does
+-- the bytes begin with a number of this range
 record Stands (bytes : List ℕ) (low high : ℕ) : Type 0 where
   n : ℕ
   least : low ≤ n
@@ -99,7 +99,7 @@ module _ (bytes fixed : List ℕ) where
 
 -- ---- a text in front
 
--- a text of this length stands there, or none does
+-- the bytes begin with a text of this length
 record TextStands (bytes : List ℕ) (size : ℕ) : Type 0 where
   text : List ℕ
   behind : List ℕ
@@ -134,7 +134,7 @@ module _ (bytes : List ℕ) (size : ℕ) where
 
 -- ---- the whole
 
--- so many texts are read, and these bytes are left
+-- these texts are read, and these bytes are left
 record AreRead (bytes : List ℕ) (documents : ℕ) (texts : List (List ℕ)) (rest : List ℕ) : Type 0 where
   some : 1 ≤ documents
   few : documents ≤ 65536

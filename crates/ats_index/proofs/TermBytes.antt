@@ -79,7 +79,7 @@ terms_within text utf8 =
       words_within text utf8,
     )
 
--- the terms of all texts, each as often as it stands there
+-- the terms of all texts, each as often as it occurs
 pub term_bytes : (texts : List (List ℕ)) → All IsUtf8 texts → sum_by (λ (t : List ℕ). length t) (flat_map terms texts) ≤ 12 * sum_by (λ (t : List ℕ). length t) texts
 term_bytes [] all = omega arith
 term_bytes (text ∷ texts) all =

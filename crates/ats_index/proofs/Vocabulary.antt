@@ -39,7 +39,7 @@ module _ (g : List ℕ → ℕ) where
   of_map [] = refl
   of_map (pair ∷ pairs) = omega (arith, of_map pairs, sum_by-cons g pair.0 (map (λ (p : List ℕ × ℕ). p.0) pairs), sum_by-cons of_pair pair pairs)
 
-  -- a sum over the distinct terms is within that over the terms as they stand
+  -- a sum over the distinct terms is at most that over all occurrences
   pub distinct_within : (texts : List (List ℕ)) → sum_by g (vocabulary texts) ≤ sum_by g (flat_map terms texts)
   unfolding vocabulary
   distinct_within texts = omega (arith, of_map (counted (flat_map terms texts)), all_put (flat_map terms texts) [])
@@ -66,7 +66,7 @@ one_of (suc n) =
 frequency_few : (term : List ℕ) (texts : List (List ℕ)) → frequency term texts ≤ sum_by (count term) texts
 frequency_few term texts = sum_by-le-sum_by (λ (text : List ℕ). cond (nat_lt 0 (count term text)) 1 0) (count term) texts (λ text. one_of (count term text))
 
--- the documents of all distinct terms together are no more than the terms as they stand
+-- the documents of all distinct terms together are no more than the terms of all texts
 pub frequencies_within : (texts : List (List ℕ)) → sum_by (λ term. frequency term texts) (vocabulary texts) ≤ total_terms texts
 unfolding vocabulary
 frequencies_within texts =

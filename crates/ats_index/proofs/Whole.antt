@@ -1,4 +1,4 @@
--- The parts of an index that come of the terms of its documents.
+-- The parts of an index that depend only on the terms of its documents.
 use Rattle.std.proofs.Common.{◌≡◌, ◌<◌, ◌-◌, ◌+◌, ◌++◌, ℕ, List, [], ◌∷◌, length, get_or, map, take, drop, refl, sym, ap, ◌∙◌, arith}
 use Rattle.std.proofs.lemmas.List.{drop_more, get_or-map, length-drop, length-map, take_more}
 use Rattle.ats_terms.specs.Query.{counted}
@@ -31,7 +31,7 @@ mapped_twice : {X Y Z : Type 0} (g : Y → Z) (f : X → Y) (xs : List X) → ma
 mapped_twice g f [] = refl
 mapped_twice g f (x ∷ xs) = ap (λ zs. g (f x) ∷ zs) (mapped_twice g f xs)
 
--- the leaves of all documents come of their terms
+-- the leaves of all documents follow from their terms
 pub leaves_of_terms : (H : List ℕ → List ℕ) (texts : List (List ℕ)) → map (leaf_of_terms H) (all_terms texts) ≡ all_leaves H texts
 leaves_of_terms H texts = mapped_twice (leaf_of_terms H) (text_terms texts) texts
 
@@ -40,7 +40,7 @@ pub digests_of_terms : (H : List ℕ → List ℕ) (texts : List (List ℕ))
     → map (λ all. kept_digests H (terms_leaves all)) (all_terms texts) ≡ all_term_digests H texts
 digests_of_terms H texts = mapped_twice (λ all. kept_digests H (terms_leaves all)) (text_terms texts) texts
 
--- the counted terms that come next are those of the next document
+-- the next counted terms are those of the next document
 module _ (texts : List (List ℕ)) (doc : ℕ) (counts : List (List ℕ × ℕ)) (rest : List (List (List ℕ × ℕ)))
     (left : counts ∷ rest ≡ drop doc (all_counts texts)) where
   pub next_inside : doc < length texts

@@ -1,4 +1,4 @@
--- Parts that are put one behind another.
+-- Parts that are put one after another.
 use Rattle.std.proofs.Common.{◌≡◌, ◌+◌, ◌<◌, ℕ, List, [], ◌∷◌, ◌++◌, length, get_or, take, ap, ◌∙◌, add-one, append_assoc}
 use Rattle.std.specs.Prelude.{codes}
 use Rattle.std.specs.Int.{to_be_bytes, w32}
@@ -12,7 +12,7 @@ pub front_put : (start : List ℕ) (n : ℕ) → ((start ++ codes "ATSI") ++ 1 �
 unfolding front_bytes
 front_put start n = append_assoc (start ++ codes "ATSI") (1 ∷ []) (to_be_bytes w32 n) ∙ append_assoc start (codes "ATSI") (1 ∷ to_be_bytes w32 n)
 
--- one item more behind a front
+-- one item more after a front
 pub one_more : {X : Type 0} (f : X → List ℕ) (start front : List ℕ) (items : List X) (i : ℕ) (item d : X) → i < length items → item ≡ get_or items i d
     → (start ++ (front ++ flat_map f (take i items))) ++ f item ≡ start ++ (front ++ flat_map f (take (i + 1) items))
 one_more f start front items i item d inside is =

@@ -1,4 +1,4 @@
--- The first part of an index's bytes: its fields up to the last text. Numbers stand high byte first.
+-- The first part of an index's bytes: its fields up to the last text. Numbers are written high byte first.
 use Rattle.std.specs.Prelude.{◌≡◌, ◌≢◌, ℕ, ◌+◌, ◌<◌, ◌≤◌, ◌^◌, List, [], ◌∷◌, ◌++◌, length, codes, sum_by}
 use Rattle.std.specs.Int.{to_be_bytes, w32}
 use Rattle.std.specs.List.{All, flat_map}
@@ -6,8 +6,8 @@ use Rattle.std.specs.Str.{IsUtf8}
 use Rattle.ats_impact.specs.Limits.{AllShort}
 use Rattle.ats_index.specs.Spelling.{front_bytes, text_bytes}
 
--- the magic, the version, the number of texts; and behind some whole texts the length of the next one, or its bytes, which
--- are so many
+-- the magic, the version, the number of texts; and, after some whole texts, the length of the next one, or its bytes,
+-- `size` of them
 pub data Field : Type 0 where
   Magic : Field
   Version : Field
@@ -15,7 +15,7 @@ pub data Field : Type 0 where
   TextLength : (documents : ℕ) (texts : List (List ℕ)) → Field
   TextBytes : (documents : ℕ) (texts : List (List ℕ)) (size : ℕ) → Field
 
--- the fields in front of it
+-- the bytes of all fields before this one
 abbrev pub front_of : Field → List ℕ
 front_of Magic = []
 front_of Version = codes "ATSI"
@@ -23,12 +23,12 @@ front_of Documents = codes "ATSI" ++ 1 ∷ []
 front_of (TextLength documents texts) = front_bytes documents ++ flat_map text_bytes texts
 front_of (TextBytes documents texts size) = front_bytes documents ++ flat_map text_bytes texts ++ to_be_bytes w32 size
 
--- a text of this length is within the limits, behind these texts
+-- after these texts, one more of this length is within the limits
 pub record IsRoom (texts : List (List ℕ)) (size : ℕ) : Type 0 where
   pub short : size ≤ 2 ^ 20
   pub small : sum_by length texts + size ≤ 2 ^ 24
 
--- there are this many documents, which is within the limits; these texts are the first of them, and there is one more
+-- the number of documents is within the limits, these are the first of their texts, and at least one more follows
 pub record AreFirst (documents : ℕ) (texts : List (List ℕ)) : Type 0 where
   pub some : 1 ≤ documents
   pub few : documents ≤ 65536
@@ -37,7 +37,7 @@ pub record AreFirst (documents : ℕ) (texts : List (List ℕ)) : Type 0 where
   pub short : AllShort texts
   pub small : sum_by length texts ≤ 2 ^ 24
 
--- the fields in front of it are good
+-- the fields before this one are good
 abbrev pub IsReached : Field → Type 0
 IsReached Magic = Unit {0}
 IsReached Version = Unit {0}
@@ -53,7 +53,8 @@ IsGood Documents bytes = (documents : ℕ) × (1 ≤ documents) × (documents �
 IsGood (TextLength documents texts) bytes = (size : ℕ) × IsRoom texts size × (bytes ≡ to_be_bytes w32 size)
 IsGood (TextBytes documents texts size) bytes = (length bytes ≡ size) × IsUtf8 bytes
 
--- the fields in front of one are good, and no good one stands at the place, whether its bytes are wrong or cut off
+-- at this place begins the first bad field: the fields before it are good, and no good one is there, whether its bytes
+-- are wrong or cut off
 pub record IsFirstBad (bytes : List ℕ) (at : ℕ) : Type 0 where
   pub field : Field
   pub behind : List ℕ

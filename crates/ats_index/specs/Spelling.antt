@@ -1,4 +1,4 @@
--- The bytes of an index: its archive's texts, its lists, and its root. Numbers stand high byte first.
+-- The bytes of an index: its archive's texts, its lists, and its root. Numbers are written high byte first.
 use Rattle.std.specs.Prelude.{◌≡◌, ℕ, List, ◌∷◌, ◌++◌, length, codes}
 use Rattle.std.specs.Int.{to_be_bytes, w32}
 use Rattle.std.specs.List.{All, flat_map}

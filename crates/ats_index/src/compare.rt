@@ -1,4 +1,4 @@
-//! Bytes that are compared with others while these are put.
+//! Compares bytes with others that are put piece by piece.
 
 ghost use Rattle.std.specs.Prelude.{◌≡◌, ◌≤◌, ◌++◌, [], ℕ, List, length, nat_eq, OnOk, MatchOption};
 ghost use Rattle.std.specs.List.{common_prefix_len};
@@ -8,9 +8,9 @@ ghost use Rattle.ats_index.specs.LoadFaults.{IsDifference};
 use crate::memory::OutOfMemory;
 use ats_base::Bytes;
 
-/// What bytes are put into, piece by piece.
+/// A target for bytes, which are put into it piece by piece.
 pub(crate) trait Takes {
-    /// What was put into it, all together. It comes after the bytes that this is compared with, where there are such.
+    /// The third argument is all that was put. The second is the bytes that it is compared with, if it compares.
     ghost has: { Self → List ℕ → List ℕ → Type 0 };
 
     fn put(&mut self, piece: &[u8]) -> Result<(), OutOfMemory>
@@ -29,7 +29,7 @@ impl Takes for Bytes {
     }
 }
 
-/// Compares bytes with what is put into it, and takes no memory for that.
+/// Compares bytes with what is put into it, without allocating.
 #[derive(Drop)]
 pub(crate) struct Comparer<'a> {
     bytes: &'a [u8],
@@ -63,7 +63,8 @@ impl<'a> Comparer<'a> {
         }
     }
 
-    /// Where the bytes differ first from what was put, if they do. Where one of them ends, the other differs.
+    /// The first place where the bytes differ from what was put, if they do. If one of the two ends first, they differ
+    /// there.
     pub(crate) fn difference(&self) -> Option<u64>
         ensures { (put : List ℕ) → IsCompared self.now.bytes.now self.now.same self.now.differs put
             → MatchOption result (self.now.bytes.now ≡ put) (IsDifference self.now.bytes.now put) }

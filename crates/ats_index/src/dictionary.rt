@@ -42,7 +42,7 @@ pub(crate) fn nodes_of_lists<H: Hash32>(
     Ok(nodes)
 }
 
-// The root of a list, which its nodes begin with.
+// The root of a list, which is the first of its nodes.
 fn root_of<H: HashKind>(entries: &[Entry], nodes: &Nodes) -> [u8; 32]
     requires { nodes.now ≡ kept_digests H.hash (map leaf_bytes entries.now) }
     ensures { result ≡ list_root H.hash whole_lists entries.now }

@@ -39,7 +39,7 @@ fn nodes_of_terms<H: Hash32>(alloc: Global, terms: &DocTerms) -> Result<Nodes, O
     Ok(Nodes::of::<H, _>(alloc, terms, &mut Steps::new(alloc))?)
 }
 
-// Puts the terms of a document, of which these are the counts, and the nodes of their tree behind those of others.
+// Appends the terms of a document, from its counts, and the nodes of their tree.
 fn put_document<H: Hash32>(
     alloc: Global,
     collection: &Collection,

@@ -38,10 +38,10 @@ use std::alloc::Global;
 use std::marker::{Model, PhantomData};
 use std::thread::Threads;
 
-/// A collection of 1 to 65,536 texts with all that its root commits to, under a hash function. Each list is
-/// one tree.
+/// A collection of 1 to 65,536 texts with all that its root commits to, under a hash function. Each list is one tree.
 ///
-/// It keeps its allocator, and the digests of all nodes of its trees but that of the texts: about 64 bytes a leaf.
+/// It keeps its allocator, and the digests of all nodes of its trees except those of the texts tree: about 64 bytes a
+/// leaf.
 #[derive(Drop)]
 pub struct Index<H: HashKind> {
     pub(crate) alloc: Global,
@@ -81,7 +81,7 @@ impl<H: HashKind> Index<H> {
         self.root
     }
 
-    /// The header that the root is the digest of.
+    /// The header. The root is its digest.
     pub fn header(&self) -> &Header
         ensures parts { result.now ≡ header_parts H.hash self.now }
         ensures texts { AreTexts self.now.texts }
@@ -166,9 +166,9 @@ impl<H: HashKind> Index<H> {
         &self.docs_nodes
     }
 
-    /// The bytes of the index. Numbers stand high byte first: `ATSI`, the version 1 in one byte, the number of
-    /// texts in 4, and each text behind its length in 4. Then the number of terms in 4 and, for each in byte
-    /// order, its length in one, the term, the number of its entries in 4, and each entry in 6. Then the root.
+    /// The bytes of the index. Numbers are written high byte first: `ATSI`, the version 1 in one byte, the number of
+    /// texts in 4, and each text after its length in 4. Then the number of terms in 4 and, for each in byte order, its
+    /// length in one, the term, the number of its entries in 4, and each entry in 6. Then the root.
     pub fn bytes(&self) -> Result<Bytes, OutOfMemory>
         ensures { IfOk result (λ bytes. IsSpelling H.hash bytes self.now) }
     {
@@ -189,8 +189,8 @@ impl<H: HashKind> Index<H> {
         Ok(())
     }
 
-    /// Where these bytes differ first from those of the index, if they do. The latter are not kept: they are compared
-    /// while they are spelled.
+    /// The first place where these bytes differ from those of the index, if they do. The bytes of the index are not
+    /// kept: they are compared while they are written.
     pub(crate) fn difference(&self, bytes: &[u8]) -> Result<Option<u64>, OutOfMemory>
         ensures { IfOk result (λ found.
             MatchOption found (bytes.now ≡ index_bytes H.hash self.now)
@@ -256,7 +256,7 @@ impl<H: Hash32> Index<H> {
         }
     }
 
-    /// The index of a collection, by one thread. Want of memory drops the collection.
+    /// The index of a collection, by one thread. If memory runs out, the collection is dropped.
     pub fn build_plain(alloc: Global, collection: Collection) -> Result<Self, OutOfMemory>
         ensures { IfOk result (λ index. index ≡ archive_of collection) }
     {
@@ -269,8 +269,8 @@ impl<H: Hash32> Index<H> {
 }
 
 impl<H: Hash32 + Sync> Index<H> {
-    /// The index of a collection, by as many threads as the machine runs at once. Want of memory drops the
-    /// collection.
+    /// The index of a collection, by as many threads as the machine runs at once. If memory runs out, the collection is
+    /// dropped.
     pub fn build(
         rt: &(impl Threads + Sync),
         alloc: Global,

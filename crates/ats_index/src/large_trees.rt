@@ -1,4 +1,4 @@
-//! Trees that may be large, by several threads: the parts of a large one are hashed side by side.
+//! Trees that may be large, hashed by several threads: a large one is cut into parts.
 
 ghost use Rattle.std.specs.Prelude.{◌≡◌, ◌<◌, [], length, map, slice_index_or, IfOk};
 ghost use Rattle.ats_tree.specs.Kept.{kept_digests};
@@ -22,14 +22,14 @@ use ats_tree::{Leaves, Nodes};
 use std::alloc::Global;
 use std::thread::Threads;
 
-// Trees of so many leaves are not cut, as they take one thread some ten milliseconds, while others hash other trees.
+// Trees of at most this many leaves are not cut: one thread takes some ten milliseconds, while others hash other trees.
 const BESIDE_OTHERS: u32 = 16_384;
 
-// Nor are those of so many, where no other tree is left: a millisecond or two.
+// The same limit if no other tree is left to hash: a millisecond or two.
 const ALONE: u32 = 2048;
 
-// How often to cut a tree of so many leaves. A power of two stands in front of each cut, so after three of them no part
-// has more than a fourth of the leaves.
+// How often to cut a tree. A cut leaves a power of two of leaves on its left, so after three cuts no part has more than
+// a fourth of the leaves.
 fn halvings(leaves: u32, whole: u32) -> u32 {
     if leaves <= whole { 0 } else { 3 }
 }

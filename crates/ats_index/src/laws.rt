@@ -1,4 +1,4 @@
-//! What holds of an index's bytes, as contracts of functions that do nothing.
+//! The laws of an index's bytes, as contracts of functions that do nothing.
 
 ghost use Rattle.std.specs.Prelude.{◌≡◌, ◌<◌, ◌≤◌, ◌^◌, ◌⊎◌, ℕ, List, length};
 ghost use Rattle.std.specs.List.{All};
@@ -9,13 +9,13 @@ ghost use Rattle.ats_index.specs.declared.load.LoadFault.TheVariants.{BadIndex};
 
 use ats_hash::HashKind;
 
-/// Index bytes say one archive: no two have the same.
+/// Index bytes determine the archive: they are the spelling of one archive at most.
 pub fn index_bytes_say_one_archive<H: HashKind>()
     ensures { (bytes : List ℕ) (archive other : Archive)
         → IsSpelling H.hash bytes archive → IsSpelling H.hash bytes other → archive ≡ other }
 {}
 
-/// Bytes are an archive's index, or a bad index at one place, and never both.
+/// Bytes are an archive's index or a bad index, never both. A bad index has exactly one place of fault.
 pub fn bad_indexes_have_one_place<H: HashKind>()
     ensures one { (bytes : List ℕ) (at other : ℕ)
         → IsLoadFault H.hash bytes (BadIndex at) → IsLoadFault H.hash bytes (BadIndex other) → at ≡ other }
@@ -26,10 +26,10 @@ pub fn bad_indexes_have_one_place<H: HashKind>()
         → IsLoadFault H.hash bytes (BadIndex at) → ¬ IsSpelling H.hash bytes archive }
 {}
 
-/// An index has at most 2^29 bytes, which is the most that a file of an index may have. Its texts take at most
-/// 2^24 bytes and 4 for the length of each, and stand behind 9. They have at most 2^24 terms, so that there are as
-/// many entries of 6 bytes at most, and as many distinct terms with 5 more. A term has at most 12 bytes for each of
-/// its word's, since a character folds to three at most, of at most 4 bytes. The root has 32.
+/// An index has at most 2^29 bytes, which is the limit of an index file. Its texts take at most 2^24 bytes and 4 for
+/// the length of each, after the first 9 bytes. They have at most 2^24 terms, so at most as many entries of 6 bytes,
+/// and as many distinct terms with 5 bytes more. A term has at most 12 bytes for each byte of its word, since a
+/// character folds to at most three, of at most 4 bytes. The root has 32.
 pub fn index_bytes_are_few<H: HashKind>()
     ensures { (bytes : List ℕ) (archive : Archive) → IsSpelling H.hash bytes archive → length bytes ≤ 2 ^ 29 }
 {}

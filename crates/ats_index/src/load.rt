@@ -16,12 +16,12 @@ use std::thread::Threads;
 /// Why bytes are no index.
 #[derive(Clone, Copy, Debug, PartialEq, Eq)]
 pub enum LoadFault {
-    /// The bytes are the index of no archive. Up to the last text, the place is the start of the first field that
-    /// is bad. A bad field is cut off, another magic or version, a number of texts or a length beyond the limits,
-    /// or no UTF-8. Where all of these fields are good, the place is how many bytes are those of the texts'
-    /// index, from the front on.
+    /// The bytes are the index of no archive. If a field up to the last text is bad, the place is the start of the
+    /// first such field: it is cut off, has another magic or version, a number of texts or a length beyond the limits,
+    /// or is not UTF-8. If all of these fields are good, the place is the length of the longest common prefix with the
+    /// index of the texts.
     BadIndex { at: u64 },
-    /// Memory was wanted and not there.
+    /// Memory ran out.
     OutOfMemory,
 }
 
@@ -37,8 +37,8 @@ impl From<OutOfMemory> for LoadFault {
 }
 
 impl<H: Hash32 + Sync> Index<H> {
-    /// The index that these bytes are. Its lists and trees are made anew from the texts, and the bytes must
-    /// be theirs. No field is believed before its bytes are there.
+    /// The index that these bytes are. Its lists and trees are made again from the texts, and the bytes must be the
+    /// same. A length is used only after as many bytes are found.
     pub fn load(rt: &(impl Threads + Sync), alloc: Global, bytes: &[u8]) -> Result<Self, LoadFault>
         ensures ok { IfOk result (IsSpelling H.hash bytes.now) }
         ensures only { (archive : Archive)

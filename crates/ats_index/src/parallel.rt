@@ -35,7 +35,7 @@ use rayon::{current_num_threads, join};
 use std::alloc::Global;
 use std::thread::Threads;
 
-// Four runs of documents are gathered side by side.
+// The documents are halved twice, so four runs of them are gathered in parallel.
 const HALVINGS: u32 = 2;
 
 // The counted terms of each document.
@@ -80,7 +80,7 @@ fn run_of<'a>(
     Ok(run)
 }
 
-// Where to cut these documents, so that about as many counted terms are in front as behind.
+// Where to cut these documents, so that about as many counted terms are before the cut as after it.
 fn middle_of(counts: &[TermCounts], first: u32, behind: u32) -> u32
     requires order { first ≤ behind }
     requires inside { behind ≤ length counts.now }
@@ -101,7 +101,7 @@ fn middle_of(counts: &[TermCounts], first: u32, behind: u32) -> u32
     low
 }
 
-// The run of these documents, halved so often. The halves are gathered side by side.
+// The run of these documents. They are halved `halvings` times, and the halves are gathered in parallel.
 #[cycle(halves)]
 fn run_by_threads<'a, R: Threads + Sync>(
     rt: &R,
@@ -177,7 +177,8 @@ fn nodes_of_documents_terms<H: Hash32 + Sync, R: Threads + Sync>(
     requires { counts.now ≡ all_counts collection.now }
     ensures { IfOk result (λ nodes. nodes.items ≡ all_term_digests H.hash collection.now) }
 {
-    // One thread a processor, where a map takes two: the lists' trees wait for those that gather the lists meanwhile.
+    // One piece for each thread, where a map makes two: the threads that gather the lists must be free to hash their
+    // trees.
     let documents = collection.documents();
     let piece = documents as usize / current_num_threads(rt);
     let made: Result<Vec<Nodes>, OutOfMemory> = (0..documents)
@@ -217,7 +218,7 @@ fn nodes_of_all_lists<H: Hash32 + Sync, R: Threads + Sync>(
     made
 }
 
-// The lists with the nodes of their trees, which are hashed as soon as the lists are there.
+// The lists with the nodes of their trees, which are hashed as soon as the lists are made.
 fn lists_with_nodes<H: Hash32 + Sync, R: Threads + Sync>(
     rt: &R,
     alloc: Global,
@@ -241,7 +242,7 @@ struct Hashed {
     term_nodes: Vec<Nodes>,
 }
 
-// The lists with the nodes of their trees, and beside them those of the trees of the documents' terms.
+// The lists with the nodes of their trees and, in parallel, the nodes of the trees of the documents' terms.
 fn hashed_by_threads<H: Hash32 + Sync, R: Threads + Sync>(
     rt: &R,
     alloc: Global,
@@ -277,7 +278,7 @@ fn hashed_by_threads<H: Hash32 + Sync, R: Threads + Sync>(
     })
 }
 
-// The terms of each document, of which these are the counted terms.
+// The terms of each document, from its counted terms.
 fn terms_of_documents(
     alloc: Global,
     collection: &Collection,
@@ -324,7 +325,7 @@ fn counted_by_threads<H: Hash32 + Sync, R: Threads + Sync>(
     })
 }
 
-/// What comes of the documents alone, and beside it the root of the texts.
+/// The lists and the terms of the documents, with the nodes of their trees, and in parallel the root of the texts.
 pub(crate) fn parts_and_texts<H: Hash32 + Sync, R: Threads + Sync>(
     rt: &R,
     alloc: Global,
@@ -355,7 +356,7 @@ pub(crate) fn parts_and_texts<H: Hash32 + Sync, R: Threads + Sync>(
     Ok((parts?, texts_root))
 }
 
-/// The dictionary and the documents tree, side by side.
+/// The dictionary and the documents tree, in parallel.
 pub(crate) fn upper_trees<H: Hash32 + Sync, R: Threads + Sync>(
     rt: &R,
     alloc: Global,

@@ -19,7 +19,7 @@ const MAX_TEXT: u32 = 1 << 20;
 
 const MAX_ALL: u32 = 1 << 24;
 
-// The number of 4 bytes in front, if it is there and in this range.
+// The number in the first 4 bytes, if they are there and it is in this range.
 fn number(bytes: &[u8], low: u32, high: u32) -> Option<u32>
     ensures low { IfSome result (λ n. low ≤ n) }
     ensures high { IfSome result (λ n. n ≤ high) }
@@ -37,7 +37,7 @@ fn number(bytes: &[u8], low: u32, high: u32) -> Option<u32>
     Some(n)
 }
 
-// The text of this length in front, and what stands behind it, if it is there and a text.
+// The text of this length at the front and the bytes after it, if there are as many bytes and they are UTF-8.
 fn text_of(bytes: &[u8], size: usize) -> Option<(&str, &[u8])>
     ensures utf8 { IfSome result (λ found. IsUtf8 found.0.now) }
     ensures long { IfSome result (λ found. length found.0.now ≡ size) }
@@ -53,7 +53,7 @@ fn text_of(bytes: &[u8], size: usize) -> Option<(&str, &[u8])>
     }
 }
 
-// The number of texts and what stands behind it, or the place of the first bad field.
+// The number of texts and the bytes after it, or the place of the first bad field.
 fn front(bytes: &[u8]) -> Result<(u32, &[u8]), u64>
     ensures some { IfOk result (λ found. 1 ≤ found.0) }
     ensures few { IfOk result (λ found. found.0 ≤ 65536) }
@@ -72,8 +72,8 @@ fn front(bytes: &[u8]) -> Result<(u32, &[u8]), u64>
     Ok((documents, &counted[4..]))
 }
 
-/// The texts that an index's bytes begin with, or the place of the first bad field up to the last of them. No
-/// memory is taken for a length before as many bytes are found there.
+/// The texts that an index's bytes begin with, or the place of the first bad field up to the last of them. Nothing is
+/// allocated for a length before as many bytes are found.
 pub(crate) fn read_texts(alloc: Global, bytes: &[u8]) -> Result<Result<Texts, u64>, OutOfMemory>
     ensures { IfOk result (λ found. MatchResult found (BeginWith bytes.now) (IsFirstBad bytes.now)) }
 {

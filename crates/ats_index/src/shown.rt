@@ -12,7 +12,7 @@ use ats_hash::{HashKind, Steps};
 use ats_tree::{Digests, Nodes, ShortLeaves};
 use std::alloc::Global;
 
-// Whether the leaves that are left stand in the list at their positions, which are kept.
+// Whether the leaves that are left are in the list at their positions. It collects the positions.
 fn has_leaves<L: ShortLeaves, S: ShownTree>(
     leaves: &L,
     shown: &mut S,
@@ -87,8 +87,8 @@ fn has_all<H: HashKind, L: ShortLeaves, S: ShownTree>(
     Ok(few && has_digests(digests.as_slice(), shown, &mut steps))
 }
 
-/// Whether what is shown of a tree of `n` leaves is the tree of the leaves, by comparing alone: nothing is hashed.
-/// Where memory is wanted for looking, the answer is no.
+/// Whether what is shown of a tree of `n` leaves is that of the tree of the leaves, found by comparing only: nothing is
+/// hashed. If memory runs out, it returns false.
 pub(crate) fn is_own<H: HashKind, L: ShortLeaves, S: ShownTree>(
     alloc: Global,
     nodes: &Nodes,

@@ -20,9 +20,8 @@ use ats_terms::Query;
 use ats_tree::{HashedString, Place, Tree};
 
 impl<H: Hash32> Index<H> {
-    /// The string that stands at a place in the archive's own trees. There is none where the path leaves the
-    /// tree, where no text has the term, and where the document's number is past the last. It takes no
-    /// memory.
+    /// The string at a place in the archive's own trees. There is none if the path leaves the tree, if no text has the
+    /// term, or if the document's number is past the last. It allocates nothing.
     pub fn hashed_string(&self, place: &Place, query: &Query) -> Option<HashedString>
         requires shallow { place.now.depth ≤ 32 }
         requires asked { IsOfQuery query.now place.now.tree }

@@ -36,7 +36,7 @@ fn put_u16<W: Takes>(to: &mut W, number: u16) -> Result<(), OutOfMemory>
     to.put(&bytes)
 }
 
-// Puts a text behind its length.
+// Puts a text after its length.
 #[tactic(auto, unfolding(crate::specs::Spelling::text_bytes))]
 fn put_text<W: Takes>(to: &mut W, text: &[u8]) -> Result<(), OutOfMemory>
     requires { length text.now < 2 ^ 32 }
@@ -48,7 +48,7 @@ fn put_text<W: Takes>(to: &mut W, text: &[u8]) -> Result<(), OutOfMemory>
     Ok(())
 }
 
-/// Puts the texts of a collection behind what was put, with what stands in front of them.
+/// Puts the first fields and then the texts of a collection.
 pub(crate) fn put_texts<W: Takes>(to: &mut W, collection: &Collection) -> Result<(), OutOfMemory>
     ensures { (about front : List ℕ) → W.has to.old about front
         → OnOk result (W.has to.new about (front ++ texts_bytes collection.now)) }
@@ -75,7 +75,7 @@ fn put_entries<W: Takes>(to: &mut W, entries: &[Entry]) -> Result<(), OutOfMemor
     Ok(())
 }
 
-// Puts a list behind its term.
+// Puts a list after its term.
 #[tactic(auto, unfolding(crate::specs::Spelling::list_bytes))]
 fn put_list<W: Takes>(to: &mut W, term: &[u8], entries: &[Entry]) -> Result<(), OutOfMemory>
     requires term { length term.now ≤ 64 }
@@ -89,7 +89,7 @@ fn put_list<W: Takes>(to: &mut W, term: &[u8], entries: &[Entry]) -> Result<(), 
     put_entries(to, entries)
 }
 
-/// Puts the lists behind what was put.
+/// Puts the number of lists and then the lists.
 pub(crate) fn put_lists<W: Takes>(to: &mut W, lists: &Lists) -> Result<(), OutOfMemory>
     ensures { (about front : List ℕ) → W.has to.old about front
         → OnOk result (W.has to.new about (front ++ lists_bytes lists.now)) }
@@ -101,19 +101,19 @@ pub(crate) fn put_lists<W: Takes>(to: &mut W, lists: &Lists) -> Result<(), OutOf
     Ok(())
 }
 
-// The bytes in front of the texts, and those of the number of lists and of the root.
+// The bytes before the texts, and those of the number of lists and of the root.
 const FRONT_BYTES: usize = 9;
 
 const LISTS_AND_ROOT_BYTES: usize = 36;
 
-// The bytes of the length of a text; of those of a term and of its list; and of an entry.
+// The bytes of the length of a text; of the lengths of a term and of its list; and of an entry.
 const TEXT_LENGTH_BYTES: usize = 4;
 
 const LIST_LENGTH_BYTES: usize = 5;
 
 const ENTRY_BYTES: usize = 6;
 
-/// How many bytes the index of these has, so that room for them is taken at once.
+/// How many bytes the index of these has, so that room for them is allocated at once.
 pub(crate) fn room_of(collection: &Collection, lists: &Lists) -> usize {
     let mut room = FRONT_BYTES + LISTS_AND_ROOT_BYTES;
     for doc in 0..collection.documents() {

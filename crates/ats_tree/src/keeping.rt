@@ -57,8 +57,9 @@ impl Nodes {
         Ok(Nodes { digests })
     }
 
-    /// The digests of the tree of the leaves. Each node is hashed once. The tree is halved `halvings` times, each part
-    /// again, and the parts are hashed by several threads. With 0 halvings one thread hashes everything.
+    /// The digests of the tree of the leaves. Each node is hashed once. The tree is cut in two, and its parts again,
+    /// `halvings` times in all; the parts of each cut may be hashed by two threads. With 0 one thread hashes
+    /// everything.
     pub fn of_by_threads<H: Hash32 + Sync, L: Leaves + Sync, R: Threads + Sync>(
         rt: &R,
         alloc: Global,

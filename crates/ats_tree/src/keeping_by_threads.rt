@@ -11,8 +11,8 @@ use ats_hash::{Hash32, Steps};
 use std::alloc::Global;
 use std::thread::{Threads, join_mut};
 
-/// Puts the digests of the tree of the `n` leaves from leaf `from` on in their places. It is halved `halvings` times,
-/// each part again, and the parts are hashed by several threads.
+/// Puts the digests of the tree of the `n` leaves from leaf `from` on in their places. The tree is cut in two, and its
+/// parts again, `halvings` times in all; the parts of each cut may be hashed by two threads.
 #[cycle(parts)]
 pub(crate) fn keep_by_threads<H: Hash32 + Sync, L: Leaves + Sync, R: Threads + Sync>(
     rt: &R,

@@ -6,7 +6,7 @@ use Rattle.ats_impact.specs.Limits.{AllShort}
 use Rattle.ats_index.specs.Spelling.{front_bytes, text_bytes}
 use Rattle.ats_index.proofs.read.read_texts.Given as goal
 
--- the texts so far stand in front of the rest, and are within the limits
+-- the texts so far precede the rest, and are within the limits
 abbrev pub invariant-loop-document : goal.invariant-loop-document
 invariant-loop-document l = record {
   same : l.bytes ≡ (front_bytes l.documents ++ flat_map text_bytes l.texts) ++ l.rest;

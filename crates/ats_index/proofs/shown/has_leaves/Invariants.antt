@@ -2,7 +2,7 @@ use Rattle.std.proofs.Common.{◌≡◌, ◌<◌, ◌≤◌, ◌++◌, length, A
 use Rattle.ats_tree.specs.Elided.{shown_with}
 use Rattle.ats_index.proofs.shown.has_leaves.Given as goal
 
--- the leaves that were passed stand in the list
+-- the leaves that were passed are in the list
 abbrev pub invariant-loop-passed : goal.invariant-loop-passed
 invariant-loop-passed g l = record {
   seen : g.S.ShownTree.shown l.fn.shown ≡ shown_with (g.L.Leaves.items l.leaves) l.positions.items ++ g.S.ShownTree.shown l.shown;
