@@ -17,7 +17,7 @@ reached_first bounds lanes r = record {
   none = λ n earlier less is can. omega (arith, less);
 }
 
--- where no answer is settled, it goes on with the next cut
+-- if no answer is settled, the walk goes on with the next cut
 pub reached_after : (bounds : Bounding) (lanes : List WholeLane) (r : ℕ) (cut : List ℕ) (i : ℕ) → IsReached bounds lanes r cut → (CanSettleBy bounds lanes r cut → ⊥)
     → IsNextLane lanes cut i → IsReached bounds lanes r (set cut i (get_or cut i 0 + 1))
 reached_after bounds lanes r cut i reached cannot next = record {
@@ -34,7 +34,7 @@ reached_after bounds lanes r cut i reached cannot next = record {
   ];
 }
 
--- where the chosen answer is not settled, none is
+-- if the chosen answer is not settled, none is
 pub cannot_settle : (bounds : Bounding) (lanes : List WholeLane) (r : ℕ) (cut : List ℕ) (walk : Walk) → IsStand bounds lanes r cut walk
     → (IsSettled walk.brackets walk.picks walk.threshold r → ⊥) → CanSettleBy bounds lanes r cut → ⊥
 cannot_settle bounds lanes r cut walk stand unsettled can =
@@ -43,7 +43,7 @@ cannot_settle bounds lanes r cut walk stand unsettled can =
     let here : IsSettled can.brackets can.answer walk.threshold r = subst (λ (t : ℕ). IsSettled can.brackets can.answer t r) (sym stand.threshold) can.settled in
     unsettled (stand.best can.answer inside (subst (λ (bs : List Bracket). IsSettled bs can.answer walk.threshold r) same here))
 
--- where it is settled, the walk ends
+-- if it is settled, the walk ends
 pub end_at : (bounds : Bounding) (lanes : List WholeLane) (r : ℕ) (cut : List ℕ) (walk : Walk) → IsReached bounds lanes r cut → IsStand bounds lanes r cut walk
     → IsSettled walk.brackets walk.picks walk.threshold r → IsEnd bounds lanes r walk
 end_at bounds lanes r cut walk reached stand settled =

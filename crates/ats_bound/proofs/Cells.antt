@@ -13,7 +13,7 @@ apart : (a b : ℕ) → a ≢ b → a / 64 ≡ b / 64 → a % 64 ≢ b % 64
 apart a b differ page same = differ (omega (arith, page, same, div-add-mod a 64, div-add-mod b 64))
 
 module _ {S : Type 0} (old new : HashMap ℕ (List ℕ) S) (doc : ℕ) (page : List ℕ) (is : get nat_eq new (doc / 64) ≡ Some page) where
-  -- the number in the cell of a document tells its slot
+  -- the number in the cell of a document gives its slot
   pub placed : (slot : ℕ) → get_or page (doc % 64) 0 ≡ slot + 1 → slot_in new doc ≡ Some slot
   placed slot here =
       let next : get_or page (doc % 64) 0 ≡ suc slot = omega (arith, here) in

@@ -1,4 +1,4 @@
--- The chosen answer is settled wherever any answer is.
+-- The chosen answer is settled if any answer is.
 use Rattle.std.proofs.Common.{◌≡◌, ◌⊎◌, ◌<◌, ◌≤◌, ◌+◌, ◌-◌, ◌*◌, min, ℕ, zero, suc, true, false, nat_eq, cond, List, length, take, drop, get_or, sym, ap, ◌∙◌, inl, inr, arith, take_all, length-take, length-drop, drop-cons}
 use Rattle.std.specs.List.{All, sum_by, range_with_len}
 use Rattle.std.specs.Ordering.{nat_cmp, is_lt}
@@ -17,7 +17,7 @@ use Rattle.ats_bound.specs.Settled.{ArePicks, IsOutside, IsSettled, bracket_at, 
 use Rattle.ats_bound.specs.Chosen.{AreBrackets, IsChosen, bracket_cmp, place_cmp}
 use Rattle.ats_bound.proofs.Places.{counted_places, few_places, some_place, position_of, stands_twice, range_once, range_has, range_below}
 
--- b comes no earlier than a
+-- b is not before a
 abbrev NotBefore : Bracket → Bracket → Type 0
 NotBefore a b = (b.lo ≤ a.lo) × (a.lo ≤ b.lo → b.hi ≤ a.hi)
 
@@ -70,7 +70,7 @@ module _ (brackets : List Bracket) (all : List ℕ) (ordered : IsSorted (place_c
       not_before (at (p + suc m)) (at ((p + suc m) + 1)) (ordered (p + suc m) 0 (omega arith) (omega (arith, inside))) in
       rw step (not_before_trans (at p) (at (p + suc m)) (at ((p + suc m) + 1)) (falls_by m p (omega (arith, inside))) here)
 
-  -- what stands later comes no earlier in the order
+  -- a later place is not before an earlier one in the order
   falls : (p q : ℕ) → p < q → q < length all → NotBefore (at p) (at q)
   falls p q less inside =
       let step : p + suc (q - p - 1) ≡ q = omega arith in
@@ -113,7 +113,7 @@ module _ (brackets : List Bracket) (threshold r : ℕ) (answer all : List ℕ) (
       let middle : (row brackets answer (k + suc m)).lo ≤ (row brackets answer (k + suc m)).hi = proper_at (get_or answer (k + suc m) 0) (inside (k + suc m) 0 (omega (arith, low))) in
       rw step (omega (arith, here, middle, chain m k (omega (arith, low))))
 
-  -- a later row can score no more than an earlier row scores at least
+  -- a later row can score at most the least that an earlier row scores
   rows_fall : (j k : ℕ) → j < k → k < length answer → (row brackets answer k).hi ≤ (row brackets answer j).lo
   rows_fall j k less low =
       let step : j + suc (k - j - 1) ≡ k = omega arith in
@@ -133,7 +133,7 @@ module _ (brackets : List Bracket) (threshold r : ℕ) (answer all : List ℕ) (
         rw is (omega arith)
   ]
 
-  -- a bracket of the answer scores at least what its last row scores at least
+  -- a bracket of the answer scores at least the least that its last row scores
   pick_floor : (i : ℕ) → 1 ≤ times i answer → floor ≤ (of i).lo
   pick_floor i some =
       let found = position_of i answer some in
@@ -176,7 +176,7 @@ module _ (brackets : List Bracket) (threshold r : ℕ) (answer all : List ℕ) (
   put_apart : (p q : ℕ) → p < q → q < length all → put p ≡ put q → ⊥
   put_apart p q less low is = omega (arith, stands_twice all p q less low is, once_all (put q))
 
-  -- where the answer has r rows and one of the first r brackets is outside it, a later one is in it
+  -- if the answer has r rows and one of the first r brackets is outside it, a later one is in it
   later_pick : (p : ℕ) → p < length all → p < r → length answer ≡ r → times (put p) answer ≡ 0
       → (q : ℕ) × (p < q) × (q < length all) × (1 ≤ times (put q) answer)
   later_pick p low few full none =
@@ -211,7 +211,7 @@ module _ (brackets : List Bracket) (threshold r : ℕ) (answer all : List ℕ) (
   flip i j (inl le) = inr le
   flip i j (inr le) = inl le
 
-  -- one of the first r brackets scores at least what any later one can score
+  -- the least that one of the first r brackets scores is at least what any later one can score
   put_falls : (p q : ℕ) → p < q → q < length all → p < r → (of (put q)).hi ≤ (of (put p)).lo
   put_falls p q less low few =
       let first : p < length all = omega (arith, low) in

@@ -1,4 +1,4 @@
--- Whether any answer is settled at a cut is decided, since one is wherever the chosen one is.
+-- Whether any answer is settled at a cut is decidable, since one is exactly if the chosen one is.
 use Rattle.std.proofs.Common.{◌≡◌, ◌⊎◌, ◌<◌, ◌≤◌, ◌+◌, min, ℕ, nat_eq, cond, List, length, take, drop, subst, ◌∙◌, arith, inl, inr, take_all, length-take}
 use Rattle.std.specs.List.{range_with_len}
 use Rattle.std.specs.List.Sorted.{IsPermutation}
@@ -104,7 +104,7 @@ module _ (brackets : List Bracket) (threshold r : ℕ) (all : List ℕ) (same : 
 pub decided_settled : (brackets : List Bracket) (threshold r : ℕ) (picks : List ℕ) → IsChosen brackets r picks → IsDecided (IsSettled brackets picks threshold r)
 decided_settled brackets threshold r picks chosen = rw chosen.first (decided_first brackets threshold r chosen.all chosen.same)
 
--- whether some answer is settled at a cut, where no lower bound is above its upper bound
+-- whether some answer is settled at a cut, if no lower bound is above its upper bound
 pub decided_can_settle : (bounds : Bounding) (lanes : List WholeLane) (r : ℕ) (cut : List ℕ)
     → ((doc : ℕ) → IsNarrow (threshold (shown lanes cut)) doc (bounds (shown lanes cut) doc)) → IsDecided (CanSettleBy bounds lanes r cut)
 decided_can_settle bounds lanes r cut narrow =

@@ -21,7 +21,7 @@ use Rattle.ats_bound.proofs.Shown.{cut_after, fewer_hidden, first_is_cut, have_e
 use Rattle.ats_bound.proofs.Sorted.{chosen_exists}
 use Rattle.ats_bound.proofs.Whole.{even_settled}
 
--- the greatest rest of the first lanes stands somewhere
+-- the largest rest of the first lanes is at some place
 abbrev HasGreatest : List ShownLane → ℕ → Type 0
 HasGreatest lanes i = (place : ℕ) × (greatest : ℕ) × IsGreatest lanes i place greatest
 
@@ -47,7 +47,7 @@ next_from lanes cut place greatest is all = elim (cases_lt 0 greatest) [
       inl (none_left (shown lanes cut) place (rw (size, ← zero_is) all))
 ]
 
--- a list comes next, or nothing that is not shown can add to a score
+-- either a list is next, or nothing that is not shown can add to a score
 next_or_none : (lanes : List WholeLane) (cut : List ℕ) → IsCut lanes cut → (threshold (shown lanes cut) ≡ 0) ⊎ ((i : ℕ) × IsNextLane lanes cut i)
 next_or_none lanes cut is =
     let found = has_greatest (shown lanes cut) (length lanes) (omega (arith, length-shown lanes cut is.size)) in
@@ -57,7 +57,7 @@ module _ (bounds : Bounding) (lanes : List WholeLane) (r : ℕ) (narrow : AreNar
   abbrev left : List ℕ → ℕ
   left cut = sum_by hidden (shown lanes cut)
 
-  -- where nothing that is not shown can add to a score, an answer is settled
+  -- if nothing that is not shown can add to a score, an answer is settled
   settled_at_none : (cut : List ℕ) → threshold (shown lanes cut) ≡ 0 → CanSettleBy bounds lanes r cut
   settled_at_none cut none =
       let made = brackets_exist bounds (shown lanes cut) (λ doc. (narrow (shown lanes cut) doc).of) in
@@ -100,7 +100,7 @@ module _ (bounds : Bounding) (lanes : List WholeLane) (r : ℕ) (narrow : AreNar
     ]
   ]
 
-  -- with so many entries that are not shown at most
+  -- if at most `most` entries are not shown
   ends : (most : ℕ) (cut : List ℕ) → left cut ≤ most → IsCut lanes cut → IsReached bounds lanes r cut → (end : List ℕ) × IsEnd end
   ends zero cut few is reached = elim (end_or_more cut is reached) [
     | inl end ↦ (cut, end)
@@ -117,7 +117,7 @@ first_settled_exists bounds lanes r narrow whole =
     let some = have_entries lanes whole in
     ends bounds lanes r narrow whole (sum_by hidden (shown lanes (first_cut lanes))) (first_cut lanes) (omega arith) (first_is_cut lanes some) (reached_first bounds lanes r)
 
--- brackets from the shown entries alone are narrow
+-- brackets from the shown entries only are narrow
 pub brackets_are_narrow : AreNarrow bracket
 brackets_are_narrow lanes doc = is_narrow (threshold lanes) doc (lo_of lanes doc) (missing lanes doc) (omega (arith, held_or_missing lanes doc))
 

@@ -1,4 +1,4 @@
--- What one entry more says of scores.
+-- What one more entry says of scores.
 use Rattle.std.proofs.Common.{◌≡◌, ◌≢◌, ◌<◌, ◌+◌, ◌*◌, ◌^◌, ◌||◌, ℕ, zero, suc, Bool, true, false, cond, nat_eq, List, [], ◌∷◌, length, take, set, get_or, refl, sym, ap, ◌∙◌, arith, inl, inr, length-take}
 use Rattle.std.specs.List.{list_any}
 use Rattle.std.proofs.Math.Nat.{mul-add, pow-succ'}
@@ -66,7 +66,7 @@ none_named (lane ∷ all) doc out = elim (cases_Bool (names doc lane)) [
       (omega (arith, sum_by-cons (λ (l : ShownLane). l.coefficient * shown_impact doc l) lane all, part, before.0), ap (λ b. cond b 1 0 + 2 * named_by all doc) none ∙ omega (arith, before.1))
 ]
 
--- the entry behind those that are shown names another document than they do
+-- the entry after those that are shown names another document than they do
 not_before : (lane : WholeLane) (k : ℕ) (e : Entry) → IsWholeLane lane → k < length lane.entries → names (get_or lane.entries k e).doc (lane_of lane.coefficient lane.entries k) ≡ false
 not_before lane k e whole inside = list_any_none _ (take k lane.entries) (λ j d low.
     let less : j < k = omega (arith, low, length-take k lane.entries, inside) in

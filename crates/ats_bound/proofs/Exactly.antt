@@ -30,7 +30,7 @@ use Rattle.ats_bound.proofs.One.{Rise, same_doc}
 use Rattle.ats_lists.specs.declared.entry.Entry.{Entry}
 use Rattle.ats_bound.specs.declared.lane.Lane.{Lane}
 
--- ---- a document that comes
+-- ---- a new document
 
 is_same : (a b : ℕ) → is_eq (nat_cmp a b) ≡ nat_eq a b
 is_same a b = grind (arith, nat_tests)
@@ -42,7 +42,7 @@ match_permutes pair e es rest Equal apart later = absurd (cc)
 match_permutes pair e es rest Greater apart later =
     IsPermutation-trans (pair ∷ e ∷ es) (e ∷ pair ∷ es) (e ∷ rest) (IsPermutation-middle (pair ∷ []) e es) (IsPermutation-cons e (pair ∷ es) rest later)
 
--- a document that is not there comes to the others
+-- a document that is not there is added to the others
 pub inserted : (es : List (ℕ × ℕ)) (doc score : ℕ) → is_some (score_in es doc) ≡ false → IsPermutation ((doc, score) ∷ es) (insert_entry nat_cmp es doc score)
 inserted [] doc score new = IsPermutation-refl ((doc, score) ∷ [])
 inserted (e ∷ es) doc score new = elim (cases_Bool (is_eq (nat_cmp doc e.0))) [
@@ -150,7 +150,7 @@ names_more doc coefficient count entries d inside =
     turned false true = refl
     turned false false = refl
 
--- a document is met after a turn where it is the new entry's or met before
+-- a document is met after a turn if it is the new entry's or was met before
 pub names_after : (stage : Stage) (i doc : ℕ) → IsStage stage → i < length stage.lanes → IsOpen stage.lanes stage.cut i
     → list_any (names doc) (shown stage.lanes (set stage.cut i (get_or stage.cut i 0 + 1))) ≡ (nat_eq (entry_on stage i).doc doc || list_any (names doc) (shown_on stage))
 names_after stage i doc is inside more =
@@ -249,7 +249,7 @@ scored_proper scores =
     let f : ℕ × ℕ → Bracket = λ pair. exact pair.0 pair.1 in
     All-map (λ (b : Bracket). b.lo ≤ b.hi) f scores (λ i d inside. omega arith)
 
--- ---- where a walk stands
+-- ---- the state of a walk
 
 abbrev stage_of : List WholeLane → List ℕ → Stage
 stage_of lanes cut = record { lanes = lanes; cut = cut }

@@ -17,7 +17,7 @@ module _ (met : ℕ → Bool) (of : ℕ → Bracket) (own : (doc : ℕ) → (of 
   gathered a zero = []
   gathered a (suc n) = cond (met a) (of a ∷ gathered (suc a) n) (gathered (suc a) n)
 
-  -- the same, where it is known whether the first is met
+  -- the same, with a flag for whether the first is met
   abbrev from : ℕ → ℕ → Bool → List Bracket
   from a n here = cond here (of a ∷ gathered (suc a) n) (gathered (suc a) n)
 
@@ -65,7 +65,7 @@ module _ (met : ℕ → Bool) (of : ℕ → Bracket) (own : (doc : ℕ) → (of 
       ap (λ x. x || has_bracket doc (gathered (suc a) n)) (other_doc (of a).doc doc (λ e. omega (arith, own a, e, less))) ∙ later
   has_later a n doc false less later = later
 
-  -- each met document has one, where none is met behind them
+  -- each met document has one, if none is met after them
   has_met : (a n doc : ℕ) → ((far : ℕ) → a + n ≤ far → met far ≡ false) → a ≤ doc → has_bracket doc (gathered a n) ≡ met doc
   has_met a zero doc none low = sym (none doc (omega (arith, low)))
   has_met a (suc n) doc none low = elim (cases_order a doc) [

@@ -1,4 +1,4 @@
--- The greatest rest of the first lanes, at the first place that has it.
+-- The largest rest of the first lanes, at the first place that has it.
 use Rattle.std.proofs.Common.{◌≡◌, ◌<◌, ◌≤◌, ◌+◌, ◌*◌, ℕ, true, nat_eq, cond, ◌-◌, mul-zero, length-take, List, [], length, map, get_or, sym, ap, ◌∙◌, arith, inl, inr}
 use Rattle.std.proofs.lemmas.Bool.{cases_order, cases_lt}
 use Rattle.std.proofs.lemmas.Bool.Decides.{nat_tests}
@@ -52,7 +52,7 @@ no_greater lanes i place greatest amount so_far here few = record {
   first = so_far.first;
 }
 
--- where the greatest is 0, the threshold is
+-- if the largest is 0, the threshold is
 pub none_left : (lanes : List ShownLane) (place : ℕ) → IsGreatest lanes (length lanes) place 0 → threshold lanes ≡ 0
 none_left lanes place all =
     let most : threshold lanes ≤ length lanes * 0 = sum_by-le rest 0 lanes (λ j d inside. all.most j d inside) in

@@ -1,4 +1,4 @@
--- The greatest of a growing list are kept by count.
+-- The largest of a growing list are kept by count.
 use Rattle.std.proofs.Common.{◌≡◌, ◌≢◌, ◌<◌, ◌≤◌, ◌↔◌, ◌+◌, ◌*◌, ℕ, suc, cond, leb, List, [], ◌∷◌, length, set, get_or, replicate, refl, sym, ap, ◌∙◌, subst, inl, inr, arith, length-set, get_or-set_same, get_or-set_other}
 use Rattle.std.specs.List.Sorted.{IsPermutation}
 use Rattle.std.specs.List.{SwappedAt}
@@ -53,7 +53,7 @@ sifted xs ys k next is inside size less swapped but =
       ];
     }
 
--- where the next is no lower, all ascend
+-- if the next is no lower, all ascend
 pub sifted_end : (xs : List ℕ) (k : ℕ) → AscendsBut k xs → (k + 1 < length xs → get_or xs k 0 ≤ get_or xs (k + 1) 0) → Ascends xs
 sifted_end xs k but next i j le inside = elim (cases_order i k) [
   | inl here ↦ elim (cases_order j k) [
@@ -85,7 +85,7 @@ put_ascends xs k v up inside more = record {
 
 -- ---- counts
 
--- 1 where the value is at least so much
+-- 1 if the value is at least `least`, else 0
 abbrev pub reached : ℕ → ℕ → ℕ
 reached least x = cond (leb least x) 1 0
 
@@ -105,7 +105,7 @@ count_set least xs i v inside = sum_by-set (reached least) xs i v 0 inside
 pub count_permuted : (least : ℕ) (xs ys : List ℕ) → IsPermutation xs ys → count_at_least least ys ≡ count_at_least least xs
 count_permuted least xs ys same = sum_by-IsPermutation (reached least) xs ys same
 
--- where each is at least so much, all are counted
+-- if each is at least `least`, all are counted
 pub count_all : (least : ℕ) (xs : List ℕ) → ((i : ℕ) → i < length xs → least ≤ get_or xs i 0) → count_at_least least xs ≡ length xs
 count_all least [] each = refl
 count_all least (x ∷ xs) each =
@@ -116,7 +116,7 @@ count_all least (x ∷ xs) each =
       count_all least xs (λ i inside. each (suc i) (omega (arith, inside))),
     )
 
--- where one is lower, fewer are
+-- if one is lower, fewer are
 pub count_short : (least : ℕ) (xs : List ℕ) (i : ℕ) → i < length xs → get_or xs i 0 < least → count_at_least least xs < length xs
 count_short least xs i inside low =
     omega (
@@ -134,7 +134,7 @@ reached_less least x = elim (cases_lt x (least + 1)) [
   | inr high ↦ omega (arith, reached_yes (least + 1) x high, reached_yes least x (omega (arith, high)))
 ]
 
--- one value stands among those of at least it, and not among those above it
+-- a value is among those that are at least it, and not among those above it
 pub count_of_one : (xs : List ℕ) (i x : ℕ) → i < length xs → get_or xs i 0 ≡ x → 1 ≤ x → count_at_least (x + 1) xs < count_at_least x xs
 count_of_one xs i x inside is some =
     let out : List ℕ = set xs i 0 in
@@ -151,7 +151,7 @@ count_of_one xs i x inside is some =
       sum_by-le-sum_by (reached (x + 1)) (reached x) out (reached_less x),
     )
 
--- where no value is this one, as many are above it as are at least it
+-- if no value is x, as many are above x as are at least x
 pub count_of_none : (x : ℕ) (xs : List ℕ) → ((i : ℕ) → i < length xs → get_or xs i 0 ≢ x) → count_at_least x xs ≡ count_at_least (x + 1) xs
 count_of_none x [] none = refl
 count_of_none x (y ∷ xs) none =
@@ -164,7 +164,7 @@ count_of_none x (y ∷ xs) none =
           omega (arith, count_cons x y xs, count_cons (x + 1) y xs, reached_no x y below, reached_no (x + 1) y (omega (arith, below)), later)
     ]
 
--- ---- the greatest, as more come
+-- ---- the largest, as more are added
 
 pub none_kept : (n : ℕ) → AreBest (replicate n 0) []
 none_kept n = record {
@@ -281,7 +281,7 @@ module _ (kept : List ℕ) (ascends : Ascends kept) where
         )
   ]
 
-  -- a value that is not kept is now a greater one, as if that one came
+  -- raising a value that is not kept is like adding the larger one
   pub raised_absent : (new all : List ℕ) (i from to : ℕ) → length new ≡ length kept → from ≤ to → AreBest kept all → i < length all → get_or all i 0 ≡ from → from < get_or kept 0 0
       → AreBest new (to ∷ all) → AreBest new (set all i to)
   raised_absent new all i from to size le best low is below after = record {

@@ -1,4 +1,4 @@
--- What is known of the met documents after one entry more.
+-- What is known of the met documents after one more entry.
 use Rattle.std.proofs.Common.{◌≡◌, ◌≢◌, ◌<◌, ◌≤◌, ◌+◌, ◌*◌, ◌||◌, ◌++◌, ◌∷◌, [], ℕ, Bool, true, false, nat_eq, List, length, map, set, get_or, refl, sym, ap, ap₂, subst, ◌∙◌, arith, inl, inr, length-append, length-set, get_or-set_same, get_or-set_other}
 use Rattle.std.specs.List.{list_any}
 use Rattle.std.proofs.lemmas.Bool.{cases_Bool, cases_eq, cases_lt}
@@ -18,7 +18,7 @@ nothing = record { doc = 0; lo = 0; named = 0 }
 abbrev has_doc : ℕ → Met → Bool
 has_doc q m = nat_eq m.doc q
 
--- a test of documents is passed alike where documents are alike
+-- lists of the same documents pass the same test of documents
 same_docs : (q : ℕ) (xs ys : List Met) → map (λ (m : Met). m.doc) xs ≡ map (λ (m : Met). m.doc) ys → list_any (has_doc q) xs ≡ list_any (has_doc q) ys
 same_docs q [] [] same = refl
 same_docs q [] (y ∷ ys) same = absurd (cc)

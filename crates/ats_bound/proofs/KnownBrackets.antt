@@ -161,7 +161,7 @@ counts_agree t lanes met brackets known are =
     are.each (All-map (λ (b : Bracket). b ≡ bracket lanes b.doc) (λ (m : Met). bracket lanes m.doc) met (λ i d inside. refl))
     ∙ count_lows t lanes met known.each
 
--- the bracket of what a slot knows stands in the brackets of the cut
+-- the bracket of what a slot knows is among the brackets of the cut
 pub bracket_of_slot : (lanes : List ShownLane) (met : List Met) (brackets : List Bracket) (slot : ℕ) → AreKnown lanes met → AreBracketsOf lanes brackets → slot < length met
     → (i : ℕ) × (i < length brackets) × (bracket_at brackets i ≡ bracket lanes (met_at met slot).doc)
 bracket_of_slot lanes met brackets slot known are inside =

@@ -1,4 +1,4 @@
--- One entry more of a list, and the first entry of each, keep what is known.
+-- One more entry of a list, and the first entry of each, keep what is known.
 use Rattle.std.proofs.Common.{◌≡◌, ◌<◌, ◌≤◌, ◌+◌, ◌*◌, ◌^◌, ℕ, zero, suc, false, List, [], ◌∷◌, length, set, get_or, refl, sym, ap, ap₂, subst, ◌∙◌, arith, inl, inr, length-set, add-one}
 use Rattle.std.specs.List.{list_any}
 use Rattle.std.proofs.Math.Nat.{pow-le-pow_right, pow-succ'}

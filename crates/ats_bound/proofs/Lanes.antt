@@ -18,7 +18,7 @@ share doc entry = cond (nat_eq entry.doc doc) entry.impact 0
 abbrev pub is_of : ℕ → Entry → Bool
 is_of doc entry = nat_eq entry.doc doc
 
--- an entry to stand where there is none
+-- an entry as a default
 abbrev pub none : Entry
 none = record { doc = 0; impact = 0 }
 
@@ -139,7 +139,7 @@ module _ (n : ℕ) (lane : CutLane) (is : IsCutLane n lane) (doc : ℕ) where
       let low : (get_or entries found.0 none).doc < n = is.list.documents found.0 none (omega (arith, found.1, is.within)) in
       rw found.2 at low
 
-  -- the entry at a place behind the shown ones
+  -- the entry at a place after the shown ones
   hidden_at : (j : ℕ) (d : Entry) → j < length (drop k entries) → (k + j < length entries) × (get_or (drop k entries) j d ≡ get_or entries (k + j) none)
   hidden_at j d inside =
       let low : k + j < length entries = omega (arith, inside, length-drop k entries, is.within) in
@@ -186,7 +186,7 @@ module _ (n : ℕ) (lane : CutLane) (is : IsCutLane n lane) (doc : ℕ) where
     | inr all ↦ omega (arith, unnamed_has_none doc (drop k entries) (λ j d inside. absurd (omega (arith, inside, length-drop k entries, all))))
   ]
 
-  -- a whole list has no more than what is shown and, where that does not name the document, the rest
+  -- a whole list has at most what is shown and, if that does not name the document, the rest
   pub whole_within : impact_in doc entries ≤ shown_impact doc cut + cond (names doc cut) 0 (rest_impact cut)
   whole_within = elim (cases_Bool (names doc cut)) [
     | inl seen ↦ rw seen (omega (arith, whole_is, hidden_none seen))

@@ -1,4 +1,4 @@
--- The numbers of a list, and of what is left where each stands once.
+-- The numbers of a list, and of what is left if each occurs once.
 use Rattle.std.proofs.Common.{◌≡◌, ℕ, Bool, true, nat_eq, List, get_or, sym, subst, ◌∙◌, inl, inr}
 use Rattle.std.specs.List.{Contains, dedup, list_any}
 use Rattle.std.proofs.lemmas.Bool.{cases_Bool, eqb-true, eq-eqb}

@@ -121,7 +121,7 @@ risen_are_distinct (b ∷ brackets) rise doc =
           omega (arith, rw no at step, risen_are_distinct brackets (tail_rises b brackets rise) doc)
     ]
 
--- no lower bound is above its upper bound, where none is as they are formed
+-- no lower bound is above its upper bound, if none is as they are formed
 pub are_brackets : (bounds : Bounding) (lanes : List ShownLane) (brackets : List Bracket) → ((doc : ℕ) → (bounds lanes doc).lo ≤ (bounds lanes doc).hi)
     → AreBracketsBy bounds lanes brackets → AreBrackets brackets
 are_brackets bounds lanes brackets proper of i d inside =

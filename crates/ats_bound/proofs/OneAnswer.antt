@@ -61,7 +61,7 @@ module _ (brackets : List Bracket) (distinct : HaveDistinctDocs brackets) where
       let there : get_or docs j 0 ≡ (at j).doc = get_or-map doc brackets j none 0 inside in
       omega (arith, stands_twice docs i j less (omega (arith, size, inside)) (here ∙ same ∙ sym there), distinct (get_or docs j 0))
 
-  -- a document stands at one place
+  -- a document is at one place
   same_place : (i j : ℕ) → i < n → j < n → at i ≡ at j → i ≡ j
   same_place i j first second same = elim (cases_order i j) [
     | inl is ↦ is
@@ -91,7 +91,7 @@ module _ (brackets : List Bracket) (distinct : HaveDistinctDocs brackets) where
       let next : k + 1 < length places = omega (arith, size, inside) in
       rw (get_or-map at places (k + 1) 0 d next, get_or-map at places k 0 d (omega (arith, next))) (ordered k 0 low next)
 
-  -- places in the order of their brackets stand in one way
+  -- places in the order of their brackets have one order
   one_order : (a b : List ℕ) → IsPermutation (range_with_len 0 n) a → IsSorted (place_cmp brackets) a
       → IsPermutation (range_with_len 0 n) b → IsSorted (place_cmp brackets) b → a ≡ b
   one_order a b first first_sorted second second_sorted =

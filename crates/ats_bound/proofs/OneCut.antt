@@ -3,7 +3,7 @@ use Rattle.std.proofs.Common.{◌≡◌, ◌+◌, ℕ, zero, suc, List, set, get
 use Rattle.std.proofs.lemmas.Bool.{cases_order}
 use Rattle.ats_bound.specs.Schedule.{WholeLane, IsNextLane, IsTurn, IsScheduled, Bounding, IsFirstSettledBy}
 
--- one list comes next
+-- only one list is next
 pub one_next : (lanes : List WholeLane) (cut : List ℕ) (i j : ℕ) → IsNextLane lanes cut i → IsNextLane lanes cut j → i ≡ j
 one_next lanes cut i j first second = elim (cases_order i j) [
   | inl same ↦ same
@@ -18,14 +18,14 @@ pub one_turn : (lanes : List WholeLane) (cut a b : List ℕ) → IsTurn lanes cu
 one_turn lanes cut a b first second =
     first.counts ∙ ap (λ i. set cut i (get_or cut i 0 + 1)) (one_next lanes cut first.place second.place first.next second.next) ∙ sym second.counts
 
--- so many turns lead to one cut
+-- n turns lead to one cut
 pub one_schedule : (lanes : List WholeLane) (n : ℕ) (a b : List ℕ) → IsScheduled lanes n a → IsScheduled lanes n b → a ≡ b
 one_schedule lanes zero a b first second = first ∙ sym second
 one_schedule lanes (suc n) a b first second =
     let same : first.0 ≡ second.0 = one_schedule lanes n first.0 second.0 first.1 second.1 in
     one_turn lanes second.0 a b (subst (λ (cut : List ℕ). IsTurn lanes cut a) same first.2) second.2
 
--- of two first settled cuts neither comes before the other
+-- of two first settled cuts neither is before the other
 pub one_first_settled : (bounds : Bounding) (lanes : List WholeLane) (r : ℕ) (a b : List ℕ) → IsFirstSettledBy bounds lanes r a → IsFirstSettledBy bounds lanes r b → a ≡ b
 one_first_settled bounds lanes r a b first second = elim (cases_order first.turns second.turns) [
   | inl same ↦ one_schedule lanes second.turns a b (subst (λ (n : ℕ). IsScheduled lanes n a) same first.scheduled) second.scheduled

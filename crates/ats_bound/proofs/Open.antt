@@ -1,4 +1,4 @@
--- What no answer can be settled over: brackets around the least of the best, and overlapping ones that go above it.
+-- Why no answer can be settled: brackets around the smallest of the best, and overlapping ones that go above it.
 use Rattle.std.proofs.Common.{◌≡◌, ◌⊎◌, ◌<◌, ◌≤◌, ◌+◌, ◌-◌, ◌∷◌, ℕ, zero, suc, List, [], length, map, set, get_or, refl, sym, ap, ◌∙◌, arith, inl, inr, length-set, get_or-set_same, get_or-set_other}
 use Rattle.std.specs.List.{All, sum_by}
 use Rattle.std.proofs.lemmas.Bool.{cases_eq, cases_lt, cases_order}
@@ -48,7 +48,7 @@ module _ (brackets : List Bracket) (picks : List ℕ) (threshold r : ℕ) (prope
         rw same (omega arith)
   ]
 
-  -- where a bracket stands in the answer, or it is outside
+  -- a bracket is either in the answer, at some row, or outside and within the smallest
   pub found : (i : ℕ) → i < length brackets → ((k : ℕ) × (k < length picks) × (get_or picks k 0 ≡ i)) ⊎ ((bracket_at brackets i).hi ≤ least)
   found i inside = elim (cases_lt 0 (times i picks)) [
     | inl some ↦ inl (position_of i picks some)
@@ -81,7 +81,7 @@ pub sum_of_map : (g : ℕ → ℕ) (f : ℕ → ℕ) (xs : List ℕ) → sum_by 
 sum_of_map g f [] = refl
 sum_of_map g f (x ∷ xs) = omega (arith, sum_by-cons g (f x) (map f xs), sum_by-cons (λ y. g (f y)) x xs, sum_of_map g f xs)
 
--- where each place at which a value reaches the number is among some places, as many values reach it as at those places
+-- if each place at which a value reaches the number is among some places, as many values reach it as at those places
 pub few_above : (least : ℕ) (places xs : List ℕ) → 1 ≤ least → ((i : ℕ) → i < length xs → least ≤ get_or xs i 0 → 1 ≤ times i places) → All (λ (p : ℕ). p < length xs) places
     → count_at_least least xs ≤ sum_by (λ p. reached least (get_or xs p 0)) places
 few_above least [] xs some each low =

@@ -1,4 +1,4 @@
--- How often places stand in an answer.
+-- How often places occur in an answer.
 use Rattle.std.proofs.Common.{◌≡◌, ◌⊎◌, ◌<◌, ◌≤◌, ◌+◌, ℕ, zero, suc, true, false, cond, nat_eq, List, [], ◌∷◌, length, get_or, refl, sym, ap, take, ◌∙◌, inl, inr, arith, zero-add}
 use Rattle.std.specs.List.{All, sum_by, range_with_len}
 use Rattle.std.proofs.lemmas.Bool.{cases_order}
@@ -86,7 +86,7 @@ some_place numbers (i ∷ range) some =
       | inr other ↦ (0, omega arith, elim other [ inl less ↦ absurd (omega arith) | inr more ↦ omega (arith, more) ])
     ]
 
--- a number of the list stands there
+-- a number of the list occurs in it
 pub stands : (numbers : List ℕ) (k : ℕ) → k < length numbers → 1 ≤ times (get_or numbers k 0) numbers
 stands [] k inside = absurd (omega arith)
 stands (m ∷ numbers) zero inside =
@@ -94,7 +94,7 @@ stands (m ∷ numbers) zero inside =
 stands (m ∷ numbers) (suc k) inside =
     omega (arith, times-cons (get_or numbers k 0) m numbers, stands numbers k (omega arith))
 
--- what stands in a list has a position there
+-- what occurs in a list has a position there
 pub position_of : (n : ℕ) (numbers : List ℕ) → 1 ≤ times n numbers → (k : ℕ) × (k < length numbers) × (get_or numbers k 0 ≡ n)
 position_of n [] some = absurd (omega arith)
 position_of n (m ∷ numbers) some =
@@ -105,7 +105,7 @@ position_of n (m ∷ numbers) some =
           (suc found.0, omega (arith, found.1), found.2)
     ]
 
--- a number at two positions stands twice
+-- a number at two positions occurs twice
 pub stands_twice : (numbers : List ℕ) (j k : ℕ) → j < k → k < length numbers → get_or numbers j 0 ≡ get_or numbers k 0 → 2 ≤ times (get_or numbers k 0) numbers
 stands_twice [] j k less inside same = absurd (omega arith)
 stands_twice (m ∷ numbers) j zero less inside same = absurd (omega arith)
@@ -120,7 +120,7 @@ range_past i a zero low = refl
 range_past i a (suc n) low =
     omega (arith, times_other i a (range_with_len (a + 1) n) (inr low), range_past i (a + 1) n (omega arith))
 
--- no number stands twice in a range
+-- no number occurs twice in a range
 pub range_once : (i a n : ℕ) → times i (range_with_len a n) ≤ 1
 range_once i a zero = omega arith
 range_once i a (suc n) =
@@ -129,7 +129,7 @@ range_once i a (suc n) =
       | inr other ↦ omega (arith, times_other i a (range_with_len (a + 1) n) other, range_once i (a + 1) n)
     ]
 
--- each number below n stands in the range
+-- each number below n occurs in the range
 pub range_has : (i n : ℕ) → i < n → 1 ≤ times i (range_with_len 0 n)
 range_has i n low =
     let is : get_or (range_with_len 0 n) i 0 ≡ 0 + i = get_or-range_with_len 0 n i 0 low in
@@ -145,7 +145,7 @@ range_below n k d inside =
 times_more : (n : ℕ) (numbers : List ℕ) (k : ℕ) → k < length numbers → times n (take (k + 1) numbers) ≡ times n (take k numbers) + cond (nat_eq (get_or numbers k 0) n) 1 0
 times_more n numbers k inside = sum_by_more (λ x. cond (nat_eq x n) 1 0) numbers k 0 inside
 
--- one more number that stands nowhere before keeps the first numbers distinct
+-- one more number that does not occur before keeps the first numbers distinct
 pub distinct_more : (numbers : List ℕ) (k : ℕ) → k < length numbers → ((n : ℕ) → times n (take k numbers) ≤ 1)
     → times (get_or numbers k 0) (take k numbers) ≡ 0 → (n : ℕ) → times n (take (k + 1) numbers) ≤ 1
 distinct_more numbers k inside once none n =
@@ -161,7 +161,7 @@ distinct_more numbers k inside once none n =
           omega (arith, rw no at step, once n)
     ]
 
--- a number that stands before stands twice
+-- a number that occurs before occurs twice
 pub twice_before : (numbers : List ℕ) (k : ℕ) → k < length numbers → 1 ≤ times (get_or numbers k 0) (take k numbers) → 2 ≤ times (get_or numbers k 0) numbers
 twice_before numbers k inside before =
     let m : ℕ = get_or numbers k 0 in

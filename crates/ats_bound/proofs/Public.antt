@@ -36,7 +36,7 @@ pub use Rattle.ats_bound.proofs.Scores.{bracket_holds}
 pub use Rattle.ats_bound.proofs.Scores.{held_or_missing}
 -- the lanes that do not name a document can add at most the threshold to its score
 pub use Rattle.ats_bound.proofs.Scores.{missing_within}
--- a settled answer over brackets that hold the scores of the met documents is a top answer
+-- a settled answer over brackets that contain the scores of the met documents is a top answer
 pub use Rattle.ats_bound.proofs.Ranking.{settled_is_top}
 -- whether the text of a document has the term
 pub use Rattle.ats_bound.proofs.Texts.{has}
@@ -84,7 +84,7 @@ pub use Rattle.ats_bound.proofs.Advance.{reached_first}
 pub use Rattle.ats_bound.proofs.Whole.{whole_settled}
 -- a bracket is narrow if its upper bound is its lower bound plus at most the threshold
 pub use Rattle.ats_bound.proofs.Narrow.{is_narrow}
--- brackets formed from the shown entries alone are no wider than the threshold
+-- brackets formed from the shown entries only are no wider than the threshold
 pub use Rattle.ats_bound.proofs.Ending.{brackets_are_narrow}
 -- whole lanes have a first settled cut, if brackets are never wider than the threshold
 pub use Rattle.ats_bound.proofs.Ending.{first_settled_exists}

@@ -1,4 +1,4 @@
--- With known scores the chosen answer is settled exactly where the necessary test passes.
+-- With known scores the chosen answer is settled exactly if the necessary test passes.
 use Rattle.std.proofs.Common.{◌≡◌, ◌≢◌, ◌<◌, ◌≤◌, ◌↔◌, ◌+◌, ◌-◌, ℕ, zero, suc, leb, Bool, List, [], ◌∷◌, length, map, take, drop, set, get_or, refl, sym, subst, ap, ◌∙◌, inl, inr, arith, length-take, length-drop, length-set, get_or-set_other}
 use Rattle.ats_impact.specs.Rank.{times}
 use Rattle.std.specs.List.{All, count_by, range_with_len}
@@ -31,7 +31,7 @@ count_none least [] low = refl
 count_none least (x ∷ xs) low =
     omega (arith, count_cons least x xs, reached_no least x (low 0 (omega arith)), count_none least xs (λ i inside. low (suc i) (omega (arith, inside))))
 
--- of numbers that fall, those from place r - 1 on are low where the one there is
+-- of numbers that fall, those from place r - 1 on are low if the one there is
 few_reach : (least : ℕ) (xs : List ℕ) (k : ℕ) → ((i j : ℕ) → i < j → j < length xs → get_or xs j 0 ≤ get_or xs i 0) → k < length xs → get_or xs k 0 < least
     → count_at_least least xs ≤ k
 few_reach least xs k fall inside low =
@@ -45,7 +45,7 @@ few_reach least xs k fall inside low =
     ]) in
     omega (arith, split, none, count_by-le-length (λ x. leb least x) (take k xs), length-take k xs)
 
--- as many as stand at distinct places of a list and are at least so much are counted there
+-- values at distinct places of a list that are at least `least` are counted there
 distinct_reach : (least : ℕ) (places xs : List ℕ) → 1 ≤ least → AreDistinct places → All (λ (p : ℕ). (p < length xs) × (least ≤ get_or xs p 0)) places
     → length places ≤ count_at_least least xs
 distinct_reach least [] xs some distinct each = omega arith
@@ -179,7 +179,7 @@ chosen_inside brackets r picks chosen =
     let below : All (λ i. i < n) chosen.all = All-permutation (λ i. i < n) (range_with_len 0 n) chosen.all chosen.same (range_below n) in
     rw (chosen.first) (All-take (λ i. i < n) r chosen.all below)
 
--- with known scores the chosen answer is settled exactly where the test passes
+-- with known scores the chosen answer is settled exactly if the test passes
 pub exact_settled : (brackets : List Bracket) (r threshold : ℕ) (picks : List ℕ) → 1 ≤ r → AreBrackets brackets → ((i : ℕ) → i < length brackets → (bracket_at brackets i).hi ≤ (bracket_at brackets i).lo)
     → IsChosen brackets r picks → PassesQuickTest brackets threshold r ↔ IsSettled brackets picks threshold r
 exact_settled brackets r threshold picks some proper even chosen = (
@@ -187,7 +187,7 @@ exact_settled brackets r threshold picks some proper even chosen = (
   λ settled. settled_passes brackets picks threshold r proper (chosen_inside brackets r picks chosen) settled,
 )
 
--- ---- what a walk with known scores answers
+-- ---- what a walk with known scores returns
 
 even_brackets : (scores : List (ℕ × ℕ)) (i : ℕ) → i < length (exact_brackets scores) → (bracket_at (exact_brackets scores) i).hi ≤ (bracket_at (exact_brackets scores) i).lo
 even_brackets scores i inside =
@@ -195,7 +195,7 @@ even_brackets scores i inside =
     let is = get_or-map f scores i (0, 0) (record { doc = 0; lo = 0; hi = 0 }) (omega (arith, inside, length-map scores f)) in
     omega (arith, ap (λ (b : Bracket). b.lo) is, ap (λ (b : Bracket). b.hi) is)
 
--- an answer that is the necessary test tells of settled answers
+-- the result of the necessary test reports whether an answer is settled
 pub tells_settled : (stage : Stage) (rows : ℕ) (scores : List (ℕ × ℕ)) (kept : List ℕ) (answer : Bool) → AreScored stage rows scores kept
     → (IsTrue answer ↔ PassesQuickTest (exact_brackets scores) (threshold (shown_on stage)) rows)
     → (bounds : Bounding) → AreBracketsBy bounds (shown_on stage) (exact_brackets scores) → TellsSettled bounds stage.lanes rows stage.cut answer
@@ -213,7 +213,7 @@ tells_settled stage rows scores kept answer are quick bounds of =
           quick.1 (settled_passes (exact_brackets scores) can.answer threshold_here rows (scored_proper scores) inside settled);
     }
 
--- where the threshold is not 0, the least of the greatest scores tells
+-- if the threshold is not 0, the smallest of the largest scores decides
 pub least_answers : (stage : Stage) (rows : ℕ) (scores : List (ℕ × ℕ)) (kept : List ℕ) (threshold least : ℕ) → AreScored stage rows scores kept
     → ((all : List ℕ) (t : ℕ) → AreBest kept all → 1 ≤ t → (t ≤ least) ↔ (length kept ≤ count_at_least t all)) → (threshold ≡ 0 → ⊥)
     → IsTrue (leb threshold least) ↔ PassesQuickTest (exact_brackets scores) threshold rows

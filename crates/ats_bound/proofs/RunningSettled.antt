@@ -1,4 +1,4 @@
--- What a walk from the shown entries alone tells of settled answers.
+-- What a walk from the shown entries only reports of settled answers.
 use Rattle.std.proofs.Common.{◌≡◌, ◌<◌, ◌≤◌, ◌-◌, ◌↔◌, ℕ, Bool, true, false, List, length, map, get_or, refl, sym, ap, subst, ◌∙◌, arith, inl, inr}
 use Rattle.std.specs.Prelude.{leb, count_by}
 use Rattle.std.specs.Bool.{IsTrue}
@@ -86,7 +86,7 @@ module _ (brackets : List Bracket) (picks : List ℕ) (threshold r : ℕ) (prope
         is_full,
       )
 
--- ---- where the walk stands
+-- ---- the state of the walk
 
 module _ (stage : Stage) (rows : ℕ) (met : List Met) (best : List ℕ) (run : IsRunning stage rows met best) (least : ℕ)
     (tells : (all : List ℕ) (t : ℕ) → AreBest best all → 1 ≤ t → (t ≤ least) ↔ (length best ≤ count_at_least t all)) where
@@ -161,7 +161,7 @@ module _ (stage : Stage) (rows : ℕ) (met : List Met) (best : List ℕ) (run : 
           no_overlapping first.0 second.0 first.1 second.1 (subst (λ (a : Bracket). DoOverlap least a (bracket_at can.brackets second.0)) (sym first.2) (subst (DoOverlap least (bracket all (met_at met two.0).doc)) (sym second.2) two.4))
     ]
 
--- ---- what is told
+-- ---- what is reported
 
 pub tells_no : (stage : Stage) (rows : ℕ) → (CanSettleBy bracket stage.lanes rows stage.cut → ⊥) → TellsSettled bracket stage.lanes rows stage.cut false
 tells_no stage rows cannot = record {

@@ -65,7 +65,7 @@ first_is_cut lanes some =
           (omega (arith, is), omega (arith, is, some i d low));
     }
 
--- a list that is not whole has an entry behind those that are shown
+-- a list that is not whole has an entry after those that are shown
 pub open_more : (lanes : List WholeLane) (cut : List ℕ) (i : ℕ) (e : WholeLane) → IsCut lanes cut → i < length lanes → IsOpen lanes cut i
     → get_or cut i 0 < length (get_or lanes i e).entries
 open_more lanes cut i e is low more =

@@ -10,7 +10,7 @@ use Rattle.ats_bound.specs.Settled.{bracket_at}
 use Rattle.ats_bound.specs.Chosen.{IsChosen, place_cmp}
 use Rattle.ats_bound.proofs.OneAnswer.{bracket_cmp_total}
 
--- each stands no later than the next, by a test that never holds both ways
+-- each is not after the next, by a test that never holds both ways
 module _ {X : Type 0} (lt : X → X → Bool) (one_way : (x y : X) → lt x y ≡ true → lt y x ≡ false) where
   -- x among sorted items, before the first that is not less
   abbrev put : X → List X → List X
@@ -30,7 +30,7 @@ module _ {X : Type 0} (lt : X → X → Bool) (one_way : (x y : X) → lt x y �
   IsOrdered [] = Unit {0}
   IsOrdered (x ∷ xs) = Leads x xs × IsOrdered xs
 
-  -- x put among items of which the first is less or not
+  -- x put among items; the flag is whether the first is less
   abbrev placed : X → X → List X → Bool → List X
   placed x y ys less = cond less (y ∷ put x ys) (x ∷ y ∷ ys)
 

@@ -76,13 +76,13 @@ next_of lanes counts i now lane is inside more now_is lane_is =
       whole = subst IsWholeLane same (whole_on stage i is inside);
     }
 
--- ---- the digits that tell which lanes name a document
+-- ---- the digits that show which lanes name a document
 
 pub named_step : (all : List ShownLane) (doc i : ℕ) (d : ShownLane) → i < length all
     → named_by (drop i all) doc ≡ cond (names doc (get_or all i d)) 1 0 + 2 * named_by (drop (i + 1) all) doc
 named_step all doc i d inside = ap (λ (rest : List ShownLane). named_by rest doc) (drop-cons all i d inside) ∙ ap (λ n. cond (names doc (get_or all i d)) 1 0 + 2 * named_by (drop n all) doc) (sym (add-one i))
 
--- a lane adds its rest where its digit is 0
+-- a lane adds its rest if its digit is 0
 pub missing_even : (all : List ShownLane) (doc i digits sum amount : ℕ) (d : ShownLane) → i < length all → digits % 2 ≡ 0 → digits ≡ named_by (drop i all) doc
     → sum ≡ missing (take i all) doc → amount ≡ rest (get_or all i d) → sum + amount ≡ missing (take (i + 1) all) doc
 missing_even all doc i digits sum amount d inside even digits_are so_far is =
@@ -94,7 +94,7 @@ missing_even all doc i digits sum amount d inside even digits_are so_far is =
       | inr out ↦ omega (arith, rw out at step, so_far, is)
     ]
 
--- and nothing where it is 1
+-- and nothing if it is 1
 pub missing_odd : (all : List ShownLane) (doc i digits sum : ℕ) (d : ShownLane) → i < length all → (digits % 2 ≡ 0 → ⊥) → digits ≡ named_by (drop i all) doc
     → sum ≡ missing (take i all) doc → sum ≡ missing (take (i + 1) all) doc
 missing_odd all doc i digits sum d inside odd digits_are so_far =

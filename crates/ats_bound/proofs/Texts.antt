@@ -15,7 +15,7 @@ use Rattle.ats_bound.specs.Ranked.{impact_in}
 use Rattle.ats_bound.proofs.Lanes.{share}
 use Rattle.ats_bound.proofs.Places.{times-cons, range_once, range_has}
 
--- a value that counts at one number counts as often as that stands there
+-- a value that counts at one number counts as often as that number occurs
 weighted : (doc v : ℕ) (numbers : List ℕ) → sum_by (λ x. cond (nat_eq x doc) v 0) numbers ≡ times doc numbers * v
 weighted doc v [] = omega arith
 weighted doc v (x ∷ numbers) =

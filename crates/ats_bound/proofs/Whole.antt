@@ -1,4 +1,4 @@
--- Where nothing that is not shown can add to a score, the chosen answer is settled.
+-- If nothing that is not shown can add to a score, the chosen answer is settled.
 use Rattle.std.proofs.Common.{◌≡◌, ◌⊎◌, ◌<◌, ◌≤◌, ◌+◌, ◌-◌, min, ℕ, zero, suc, true, false, nat_eq, cond, List, length, take, drop, get_or, sym, refl, ap, ◌∙◌, inl, inr, arith, take_all, length-take, length-drop}
 use Rattle.std.specs.List.{All, range_with_len}
 use Rattle.std.specs.Ordering.{nat_cmp, is_lt}

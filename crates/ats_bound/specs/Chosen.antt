@@ -11,7 +11,7 @@ use Rattle.ats_bound.specs.Settled.{bracket_at}
 abbrev pub bracket_cmp : Bracket → Bracket → Ordering
 bracket_cmp a b = ordering_then (ordering_then (nat_cmp b.lo a.lo) (nat_cmp b.hi a.hi)) (nat_cmp a.doc b.doc)
 
--- the places of brackets, by their brackets
+-- places, in the order of their brackets
 abbrev pub place_cmp : List Bracket → ℕ → ℕ → Ordering
 place_cmp brackets i j = bracket_cmp (bracket_at brackets i) (bracket_at brackets j)
 

@@ -1,4 +1,4 @@
--- A cut of the lists of a query's terms: what is shown of each, and what it says of scores.
+-- A cut of the lists of a query's terms: what is shown of each list, and the bounds of scores that follow.
 use Rattle.std.specs.Prelude.{◌≡◌, ◌+◌, ◌-◌, ◌*◌, ◌≤◌, ◌==◌, ℕ, Bool, true, List, length, map, take, sum_by, slice_index, if◌then◌else◌}
 use Rattle.std.specs.List.{list_any}
 use Rattle.ats_lists.specs.declared.entry.Entry.{Entry}
@@ -10,7 +10,7 @@ pub record ShownLane : Type 0 where
   pub total : ℕ
   pub shown : List Entry
 
--- from one entry to all are shown
+-- at least one entry is shown, and at most all
 abbrev pub IsShownLane : ShownLane → Type 0
 IsShownLane lane = (1 ≤ length lane.shown) × (length lane.shown ≤ lane.total)
 
@@ -18,17 +18,17 @@ IsShownLane lane = (1 ≤ length lane.shown) × (length lane.shown ≤ lane.tota
 abbrev pub lane_of : ℕ → List Entry → ℕ → ShownLane
 lane_of coefficient entries k = record { coefficient = coefficient; total = length entries; shown = take k entries }
 
--- no entry that is not shown has a greater impact: 0 if all are shown, else the impact of the last shown
+-- the largest impact that an entry that is not shown can have: 0 if all are shown, else the impact of the last shown
 abbrev pub rest_impact : ShownLane → ℕ
 rest_impact lane =
     if length lane.shown == lane.total then 0
     else slice_index (map (λ (entry : Entry). entry.impact) lane.shown) (length lane.shown - 1)
 
--- what the entries that are not shown can add to the score of a document, at most
+-- the most that the entries that are not shown can add to the score of a document
 abbrev pub rest : ShownLane → ℕ
 rest lane = lane.coefficient * rest_impact lane
 
--- what a document that no shown entry names can score, at most
+-- the most that a document can score that no shown entry names
 abbrev pub threshold : List ShownLane → ℕ
 threshold lanes = sum_by rest lanes
 
@@ -44,15 +44,15 @@ IsMet lanes doc = list_any (names doc) lanes ≡ true
 abbrev pub shown_impact : ℕ → ShownLane → ℕ
 shown_impact doc lane = sum_by (λ (entry : Entry). if entry.doc == doc then entry.impact else 0) lane.shown
 
--- what the shown entries say that the document scores at least
+-- the least that the document scores, by the shown entries
 abbrev pub lo_of : List ShownLane → ℕ → ℕ
 lo_of lanes doc = sum_by (λ lane. lane.coefficient * shown_impact doc lane) lanes
 
--- what the lanes that do not name the document can add, at most
+-- the most that the lanes that do not name the document can add
 abbrev pub missing : List ShownLane → ℕ → ℕ
 missing lanes doc = sum_by (λ lane. if names doc lane then 0 else rest lane) lanes
 
--- what the lanes that name the document can add, at most
+-- the sum of the rests of the lanes that name the document
 abbrev pub held : List ShownLane → ℕ → ℕ
 held lanes doc = sum_by (λ lane. if names doc lane then rest lane else 0) lanes
 

@@ -1,4 +1,4 @@
--- What the shown entries of a stage say of the documents that they name.
+-- What is known of the documents that the shown entries of a stage name.
 use Rattle.std.specs.Prelude.{◌≡◌, ◌≢◌, ◌⊎◌, ◌<◌, ◌≤◌, ◌+◌, ◌*◌, ◌==◌, ◌++◌, ◌∷◌, [], ℕ, List, length, map, set, slice_index_or}
 use Rattle.std.specs.List.{list_any}
 use Rattle.std.specs.declared.option.Option.{Option}
@@ -15,25 +15,25 @@ met_at met slot = slice_index_or met slot (record { doc = 0; lo = 0; named = 0 }
 abbrev pub AreOnce : List Met → Type 0
 AreOnce met = (i j : ℕ) → i < j → j < length met → (met_at met i).doc ≢ (met_at met j).doc
 
--- the slot of each document, and of no other
+-- `slots` gives the slot of each document that has one, and none for any other
 pub record AreSlots (met : List Met) (slots : ℕ → Option ℕ) : Type 0 where
   pub found : (doc slot : ℕ) → slots doc ≡ Some slot → (slot < length met) × ((met_at met slot).doc ≡ doc)
   pub each : (slot : ℕ) → slot < length met → slots (met_at met slot).doc ≡ Some slot
 
--- what the shown entries say of one document
+-- the lower bound and the lanes of one document are those of the shown entries
 pub record IsKnown (lanes : List ShownLane) (met : Met) : Type 0 where
   pub lo : met.lo ≡ lo_of lanes met.doc
   pub named : met.named ≡ named_by lanes met.doc
-  -- each lane that names it adds no more than the greatest coefficient times the greatest impact
+  -- each lane that names it adds at most the largest coefficient times the largest impact
   pub few : met.lo ≤ 34935 * 65535 * met.named
 
--- a slot for each met document and no other, with what is known of it
+-- there is one slot for each met document and for no other, with what is known of it
 pub record AreKnown (lanes : List ShownLane) (met : List Met) : Type 0 where
   pub once : AreOnce met
   pub named : (doc : ℕ) → list_any (λ (m : Met). m.doc == doc) met ≡ list_any (names doc) lanes
   pub each : (slot : ℕ) → slot < length met → IsKnown lanes (met_at met slot)
 
--- what is known of a document after one entry more that names it: it adds so much, and the digit of its list
+-- what is known of a document after one more entry that names it, which adds `gain`; `digit` is that of its list
 abbrev pub more_of : Met → ℕ → ℕ → Met
 more_of met gain digit = record { doc = met.doc; lo = met.lo + gain; named = met.named + digit }
 
@@ -41,7 +41,7 @@ more_of met gain digit = record { doc = met.doc; lo = met.lo + gain; named = met
 abbrev pub IsUnmet : List Met → ℕ → Type 0
 IsUnmet met doc = (slot : ℕ) → slot < length met → (met_at met slot).doc ≢ doc
 
--- one entry more names the document: more is known in its slot, or it takes a new one
+-- one more entry names the document: its slot is updated, or it gets the next slot
 abbrev pub Meets : List Met → List Met → ℕ → ℕ → ℕ → Type 0
 Meets met after doc gain digit =
     ((slot : ℕ) × (slot < length met) × ((met_at met slot).doc ≡ doc)

@@ -9,7 +9,7 @@ use Rattle.ats_bound.specs.Ranked.{impact_in}
 abbrev pub Table : Type 0
 Table = ℕ → ℕ → ℕ
 
--- what a document scores by the table, the lists being counted from this number on
+-- the score of a document by the table; the lists are counted from i on
 abbrev pub looked_score_from : ℕ → Table → List ShownLane → ℕ → ℕ
 looked_score_from i table [] doc = 0
 looked_score_from i table (lane ∷ lanes) doc =

@@ -1,10 +1,10 @@
--- What each bracket of a walk keeps.
+-- What holds for each bracket of a walk.
 use Rattle.std.specs.Prelude.{◌≡◌, ◌≤◌, ◌+◌, ℕ, List}
 use Rattle.ats_bound.specs.declared.bracket.Bracket.{Bracket}
 use Rattle.ats_bound.specs.Cut.{ShownLane, threshold}
 use Rattle.ats_bound.specs.Schedule.{Bounding}
 
--- it is the document's, its bounds are in order, and they lie no further apart than this
+-- the bracket is the document's, its bounds are in order, and they differ by at most `room`
 pub record IsNarrow (room doc : ℕ) (bracket : Bracket) : Type 0 where
   pub of : bracket.doc ≡ doc
   pub proper : bracket.lo ≤ bracket.hi

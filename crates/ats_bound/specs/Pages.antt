@@ -2,12 +2,12 @@
 use Rattle.std.specs.Prelude.{ℕ, zero, suc, List, Option, Some, None, nat_eq, slice_index, ◌/◌, ◌%◌}
 use Rattle.std.specs.HashMap.{get, HashMap}
 
--- the number below, if there is one
+-- the number minus one, if it is not 0
 abbrev pub before : ℕ → Option ℕ
 before zero = None
 before (suc slot) = Some slot
 
--- the slot that a cell of a page tells: it has the number above, or 0 for none
+-- the slot in a cell of a page, which holds it plus one, or 0 for none
 abbrev pub slot_at : Option (List ℕ) → ℕ → Option ℕ
 slot_at None cell = None
 slot_at (Some page) cell = before (slice_index page cell)

@@ -10,7 +10,7 @@ use Rattle.ats_bound.specs.Chosen.{bracket_cmp}
 abbrev pub bracket_of : Placed → Bracket
 bracket_of placed = record { doc = placed.doc; lo = placed.lo; hi = placed.hi }
 
--- the bracket stands at its place
+-- the bracket at its place in the list is this one
 abbrev pub IsPlaced : List Bracket → Placed → Type 0
 IsPlaced brackets placed = bracket_of placed ≡ bracket_at brackets placed.place
 

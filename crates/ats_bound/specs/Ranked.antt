@@ -1,4 +1,4 @@
--- Scores that are sums over whole lists, and brackets that hold them.
+-- Scores that are sums over whole lists, and brackets that contain them.
 use Rattle.std.specs.Prelude.{◌≡◌, ◌<◌, ◌≤◌, ◌*◌, ◌==◌, ◌↔◌, ℕ, List, length, map, sum_by, if◌then◌else◌}
 use Rattle.std.specs.List.{All}
 use Rattle.ats_impact.specs.Rank.{times}
@@ -14,7 +14,7 @@ pub record CutLane : Type 0 where
   pub entries : List Entry
   pub shown : ℕ
 
--- a list over n documents, of which one entry or more are shown
+-- a list over n documents, of which at least one entry is shown
 pub record IsCutLane (n : ℕ) (lane : CutLane) : Type 0 where
   pub weighs : 1 ≤ lane.coefficient
   pub some : 1 ≤ lane.shown
@@ -25,11 +25,11 @@ pub record IsCutLane (n : ℕ) (lane : CutLane) : Type 0 where
 abbrev pub cut_of : List CutLane → List ShownLane
 cut_of lanes = map (λ (lane : CutLane). lane_of lane.coefficient lane.entries lane.shown) lanes
 
--- the document's impact in a list, or 0 where the list does not name it
+-- the document's impact in a list, or 0 if the list does not name it
 abbrev pub impact_in : ℕ → List Entry → ℕ
 impact_in doc entries = sum_by (λ (entry : Entry). if entry.doc == doc then entry.impact else 0) entries
 
--- what a document scores by whole lists
+-- the score of a document by whole lists
 abbrev pub whole_score : List CutLane → ℕ → ℕ
 whole_score lanes doc = sum_by (λ (lane : CutLane). lane.coefficient * impact_in doc lane.entries) lanes
 
@@ -38,7 +38,7 @@ pub record AreScores (n : ℕ) (score : ℕ → ℕ) (lanes : List CutLane) : Ty
   pub each : All (IsCutLane n) lanes
   pub sums : (doc : ℕ) → doc < n → score doc ≡ whole_score lanes doc
 
--- the score of the bracket's document lies in it, and is above 0
+-- the score of the bracket's document is between its bounds, and above 0
 pub record HoldsScore (score : ℕ → ℕ) (bracket : Bracket) : Type 0 where
   pub lo : bracket.lo ≤ score bracket.doc
   pub hi : score bracket.doc ≤ bracket.hi

@@ -8,17 +8,17 @@ use Rattle.ats_bound.specs.Front.{IsStage, Stage, shown_on}
 use Rattle.ats_bound.specs.Known.{AreKnown, lows, met_at}
 use Rattle.ats_bound.specs.Schedule.{WholeLane, shown}
 
--- the whole lists, how many rows an answer may have, and how far the lists are shown
+-- the whole lists, how many rows an answer may have, and how many entries of each list are shown
 pub record Standing : Type 0 where
   pub lanes : List WholeLane
   pub rows : ℕ
   pub cut : List ℕ
 
--- what is shown there
+-- what is shown at this cut
 abbrev pub shown_in : Standing → List ShownLane
 shown_in standing = shown standing.lanes standing.cut
 
--- what is known of each met document, and the greatest of their lower bounds
+-- `met` is what is known of each met document, and `best` the largest of their lower bounds
 pub record IsRunning (stage : Stage) (rows : ℕ) (met : List Met) (best : List ℕ) : Type 0 where
   pub stands : IsStage stage
   pub some : 1 ≤ rows
@@ -26,15 +26,16 @@ pub record IsRunning (stage : Stage) (rows : ℕ) (met : List Met) (best : List 
   pub size : length best ≡ rows
   pub greatest : AreBest best (lows met)
 
--- a bracket around this score, so that its document is none of the best by lower bounds and may become one
+-- the score is inside the bracket, so its document is not among the best by lower bounds and may still become one
 abbrev pub IsAround : ℕ → Bracket → Type 0
 IsAround score b = (b.lo < score) × (score < b.hi)
 
--- brackets of two documents that overlap, of which one goes above this score: it is open which of the two is better
+-- brackets of two documents that overlap, and one of them goes above this score: which of the two is better is still
+-- open
 abbrev pub DoOverlap : ℕ → Bracket → Bracket → Type 0
 DoOverlap score a b = (a.doc ≢ b.doc) × (b.lo < a.hi) × (a.lo < b.hi) × ((score < a.hi) ⊎ (score < b.hi))
 
--- some met document has such a bracket, or some two have
+-- the bracket of some met document is around the score, or those of some two overlap
 abbrev pub IsOpenAt : ℕ → List ShownLane → List Met → Type 0
 IsOpenAt score lanes met =
     ((i : ℕ) × (i < length met) × IsAround score (bracket lanes (met_at met i).doc))

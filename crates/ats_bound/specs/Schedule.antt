@@ -1,5 +1,5 @@
--- The schedule of a walk: the cuts of whole lists, one after the other, and the first at which an answer is settled.
--- A profile of the threshold algorithms of Pang and Mouratidis, VLDB 2008.
+-- The schedule of a walk: the cuts of whole lists, one after another, and the first at which an answer is settled. A
+-- profile of the threshold algorithms of Pang and Mouratidis, VLDB 2008.
 use Rattle.std.specs.Prelude.{◌≡◌, ◌≢◌, ◌<◌, ◌≤◌, ◌+◌, ◌==◌, ℕ, zero, suc, List, [], ◌∷◌, length, map, set, slice_index, slice_index_or, Bool}
 use Rattle.std.specs.List.{All, list_any}
 use Rattle.ats_lists.specs.declared.entry.Entry.{Entry}
@@ -13,7 +13,7 @@ pub record WholeLane : Type 0 where
   pub coefficient : ℕ
   pub entries : List Entry
 
--- impacts of at least 1 that never rise, of distinct documents
+-- a list of 1 to 65,536 entries of distinct documents, with impacts of at least 1 that never rise
 pub record IsWholeLane (lane : WholeLane) : Type 0 where
   pub weighted : (1 ≤ lane.coefficient) × (lane.coefficient ≤ 34935)
   pub some : 1 ≤ length lane.entries
@@ -24,19 +24,19 @@ pub record IsWholeLane (lane : WholeLane) : Type 0 where
   pub once : (i j : ℕ) (d : Entry) → i < j → j < length lane.entries
       → (slice_index_or lane.entries i d).doc ≢ (slice_index_or lane.entries j d).doc
 
--- one lane for each term of a query that has a list
+-- at most 32 lanes, one for each term of a query that has a list
 pub record AreWholeLanes (lanes : List WholeLane) : Type 0 where
   pub few : length lanes ≤ 32
   pub each : All IsWholeLane lanes
 
--- the lane that a call is given
+-- the lane that is passed to a call
 abbrev pub whole_lane : Lane → WholeLane
 whole_lane lane = record { coefficient = lane.coefficient; entries = lane.entries.now }
 
 abbrev pub whole_lanes : List Lane → List WholeLane
 whole_lanes lanes = map whole_lane lanes
 
--- of each list from one entry to all are shown
+-- of each list at least one entry is shown, and at most all
 pub record IsCut (lanes : List WholeLane) (cut : List ℕ) : Type 0 where
   pub size : length cut ≡ length lanes
   pub each : (i : ℕ) (d : WholeLane) → i < length lanes
@@ -56,7 +56,7 @@ shown_at lanes cut i = slice_index_or (shown lanes cut) i (record { coefficient 
 abbrev pub IsOpen : List WholeLane → List ℕ → ℕ → Type 0
 IsOpen lanes cut i = length (shown_at lanes cut i).shown < (shown_at lanes cut i).total
 
--- of the lists that are not whole, the one with the greatest rest, and of several the first
+-- of the lists that are not whole, the one with the largest rest; of several such lists the first
 pub record IsNextLane (lanes : List WholeLane) (cut : List ℕ) (i : ℕ) : Type 0 where
   pub inside : i < length lanes
   pub more : IsOpen lanes cut i
@@ -64,7 +64,7 @@ pub record IsNextLane (lanes : List WholeLane) (cut : List ℕ) (i : ℕ) : Type
       → rest (shown_at lanes cut j) ≤ rest (shown_at lanes cut i)
   pub least : (j : ℕ) → j < i → IsOpen lanes cut j → rest (shown_at lanes cut j) < rest (shown_at lanes cut i)
 
--- one turn: the next list shows one entry more
+-- one turn: the next list shows one more entry
 pub record IsTurn (lanes : List WholeLane) (cut : List ℕ) (after : List ℕ) : Type 0 where
   pub place : ℕ
   pub next : IsNextLane lanes cut place
@@ -79,7 +79,7 @@ abbrev pub IsScheduled : List WholeLane → ℕ → List ℕ → Type 0
 IsScheduled lanes zero cut = cut ≡ first_cut lanes
 IsScheduled lanes (suc n) cut = (before : List ℕ) × IsScheduled lanes n before × IsTurn lanes before cut
 
--- whether a bracket is the document's
+-- whether one of the brackets is the document's
 abbrev pub has_bracket : ℕ → List Bracket → Bool
 has_bracket doc brackets = list_any (λ (b : Bracket). b.doc == doc) brackets
 
@@ -87,7 +87,7 @@ has_bracket doc brackets = list_any (λ (b : Bracket). b.doc == doc) brackets
 abbrev pub Bounding : Type 0
 Bounding = List ShownLane → ℕ → Bracket
 
--- the brackets of the met documents so formed, by document ascending
+-- the brackets of the met documents, formed this way, by document ascending
 pub record AreBracketsBy (bounds : Bounding) (lanes : List ShownLane) (brackets : List Bracket) : Type 0 where
   pub rise : (i j : ℕ) → i < j → j < length brackets → (bracket_at brackets i).doc < (bracket_at brackets j).doc
   pub met : (doc : ℕ) → has_bracket doc brackets ≡ list_any (names doc) lanes
@@ -109,7 +109,7 @@ pub record IsFirstSettledBy (bounds : Bounding) (lanes : List WholeLane) (r : �
   pub first : (n : ℕ) (earlier : List ℕ) → n < turns
       → IsScheduled lanes n earlier → CanSettleBy bounds lanes r earlier → ⊥
 
--- ---- from the shown entries alone, with no random access
+-- ---- from the shown entries only, with no random access
 
 abbrev pub AreBracketsOf : List ShownLane → List Bracket → Type 0
 AreBracketsOf lanes brackets = AreBracketsBy bracket lanes brackets

@@ -1,4 +1,4 @@
--- A walk at which the score of each document that is named is known.
+-- A walk in which the score of each document that an entry names is known.
 use Rattle.std.specs.Prelude.{◌≡◌, ◌≢◌, ◌<◌, ◌≤◌, ℕ, List, [], length, map, is_some, slice_index, slice_index_or, Option}
 use Rattle.std.specs.List.{list_any}
 use Rattle.std.specs.List.Sorted.{IsStrictlySortedBy}
@@ -11,7 +11,7 @@ use Rattle.ats_bound.specs.Cut.{names}
 use Rattle.ats_bound.specs.Front.{IsStage, Stage, shown_on}
 use Rattle.ats_bound.specs.Schedule.{Bounding, WholeLane}
 
--- where the walk stands, how many rows the answer may have, and the brackets of the met documents
+-- the state of the walk, how many rows the answer may have, and the brackets of the met documents
 pub record ScoredStanding : Type 0 where
   pub stage : Stage
   pub rows : ℕ
@@ -33,7 +33,7 @@ exact_brackets scores = map (λ (pair : ℕ × ℕ). exact pair.0 pair.1) scores
 abbrev pub score_in : List (ℕ × ℕ) → ℕ → Option ℕ
 score_in scores doc = lookup (is_at (nat_cmp doc)) scores
 
--- the scores of the documents that the shown entries name, by document ascending, and the greatest of them
+-- the scores of the documents that the shown entries name, by document ascending, and the largest of them
 pub record AreScored (stage : Stage) (rows : ℕ) (scores : List (ℕ × ℕ)) (kept : List ℕ) : Type 0 where
   pub stands : IsStage stage
   pub some : 1 ≤ rows

@@ -1,11 +1,11 @@
--- When an answer, a list of places in a list of brackets, is settled: no other answer can be right.
+-- When an answer, a list of places in a list of brackets, is settled: what is shown proves this answer right.
 -- A profile of the stopping rule of Pang and Mouratidis, VLDB 2008.
 use Rattle.std.specs.Prelude.{◌≡◌, ◌⊎◌, ◌<◌, ◌≤◌, ◌+◌, ◌-◌, ℕ, List, length, map, slice_index, slice_index_or}
 use Rattle.std.specs.List.{All}
 use Rattle.ats_impact.specs.Rank.{times}
 use Rattle.ats_bound.specs.declared.bracket.Bracket.{Bracket}
 
--- no number stands twice
+-- no number occurs twice
 abbrev pub AreDistinct : List ℕ → Type 0
 AreDistinct numbers = (n : ℕ) → times n numbers ≤ 1
 
@@ -37,12 +37,12 @@ pub record IsSettled (brackets : List Bracket) (picks : List ℕ) (threshold : �
   -- its documents are distinct, and at most r
   pub once : AreDistinct picks
   pub most : length picks ≤ r
-  -- it has r documents, or every bracket's document, and nothing that is not met can score
+  -- it has r documents; or it has every bracket's document, and no document that is not met can score
   pub whole : (length picks ≡ r) ⊎ (((i : ℕ) → i < length brackets → 1 ≤ times i picks) × (threshold ≡ 0))
-  -- no row can score more than the row before it scores at least
+  -- no row can score more than the least that the row before it scores
   pub falling : (k : ℕ) → k + 1 < length picks → (row brackets picks (k + 1)).hi ≤ (row brackets picks k).lo
-  -- no document outside it can score more than its last row scores at least
+  -- no document outside it can score more than the least that its last row scores
   pub rest : (i : ℕ) → IsOutside brackets picks i → 0 < length picks
       → (bracket_at brackets i).hi ≤ (last_row brackets picks).lo
-  -- nor can a document that is not met
+  -- neither can a document that is not met
   pub unmet : 0 < length picks → 0 < threshold → threshold ≤ (last_row brackets picks).lo

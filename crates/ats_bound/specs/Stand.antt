@@ -1,4 +1,4 @@
--- Where a walk stands.
+-- The state of a walk at a cut, and at its end.
 use Rattle.std.specs.Prelude.{◌≡◌, ◌<◌, ℕ, List}
 use Rattle.ats_bound.specs.declared.walk.Walk.{Walk}
 use Rattle.ats_bound.specs.Cut.{threshold}
@@ -13,17 +13,17 @@ pub record IsStand (bounds : Bounding) (lanes : List WholeLane) (r : ℕ) (count
   pub threshold : walk.threshold ≡ threshold (shown lanes counts)
   pub chosen : IsChosen walk.brackets r walk.picks
   pub inside : ArePicks walk.brackets walk.picks
-  -- it is settled where any answer is
+  -- it is settled if any answer is
   pub best : (answer : List ℕ) → ArePicks walk.brackets answer → IsSettled walk.brackets answer walk.threshold r
       → IsSettled walk.brackets walk.picks walk.threshold r
 
--- it stands at the first cut of the schedule at which an answer is settled, with the chosen answer
+-- the walk is at the first cut of the schedule at which an answer is settled, with the chosen answer
 pub record IsEnd (bounds : Bounding) (lanes : List WholeLane) (r : ℕ) (walk : Walk) : Type 0 where
   pub first : IsFirstSettledBy bounds lanes r walk.cut
   pub stand : IsStand bounds lanes r walk.cut walk
   pub settled : IsSettled walk.brackets walk.picks walk.threshold r
 
--- a cut of the schedule such that no answer is settled at an earlier one
+-- a cut of the schedule, with no answer settled at an earlier one
 pub record IsReached (bounds : Bounding) (lanes : List WholeLane) (r : ℕ) (counts : List ℕ) : Type 0 where
   pub turns : ℕ
   pub scheduled : IsScheduled lanes turns counts

@@ -1,4 +1,4 @@
--- The room in which the marks of a check are kept.
+-- The memory for the marks of a check.
 use Rattle.std.specs.Prelude.{ℕ, List, replicate, slice_index_or, false}
 use Rattle.ats_bound.specs.declared.work.Mark.{Mark}
 
@@ -11,7 +11,7 @@ pub record Marked : Type 0 where
 abbrev pub zero_mark : Mark
 zero_mark = record { lo = 0; held = 0; list = 0; row = false }
 
--- n marks that say nothing yet
+-- n zero marks
 abbrev pub begun : ℕ → ℕ → Marked
 begun n room = record { marks = replicate n zero_mark; room = room }
 

@@ -1,4 +1,4 @@
-//! The greatest of a growing list of values.
+//! The largest of a growing list of values.
 
 ghost use Rattle.std.specs.Prelude.{◌≡◌, ◌<◌, ◌≤◌, ◌↔◌, ◌∷◌, [], ℕ, List, length, slice_index, slice_set, IfOk};
 ghost use Rattle.std.specs.List.Sorted.{IsPermutation};
@@ -9,10 +9,9 @@ use ats_impact::Top;
 use std::alloc::Global;
 use std::marker::Model;
 
-/// The greatest values of a list, as many as an answer may have rows.
+/// The largest values of a list, as many as an answer may have rows.
 ///
-/// The values ascend, and a 0 stands in the place of each that is not there yet, so that no call after
-/// the first wants memory.
+/// The values ascend. A 0 fills the place of each that is still missing, so no call after the first allocates.
 #[derive(Drop)]
 pub(crate) struct Best {
     values: Vec<u64>,
@@ -29,7 +28,7 @@ impl Model for Best {
     ghost invariant = { λ b. AreKept b.values.items };
 }
 
-// Moves the value at a place behind those that are lower.
+// Moves the value at a place after those that are lower.
 fn sift(values: &mut [u64], place: usize)
     requires inside { place < length values.old }
     requires others { AscendsBut place values.old }
@@ -56,7 +55,7 @@ impl Best {
         })
     }
 
-    /// The last of the greatest values; 0 where there are fewer.
+    /// The smallest of the values kept; 0 if there are fewer than rows.
     pub(crate) fn least(&self) -> u64
         ensures { (all : List ℕ) (threshold : ℕ) → AreBest self.now all → 1 ≤ threshold
             → (threshold ≤ result) ↔ (length self.now ≤ count_at_least threshold all) }
@@ -64,7 +63,7 @@ impl Best {
         self.values[0]
     }
 
-    // Puts a value that is no lower in the place of one.
+    // Replaces the value at a place by one that is no lower.
     fn put(&mut self, place: usize, value: u64)
         requires inside { place < length self.old }
         requires more { slice_index self.old place ≤ value }
@@ -76,7 +75,7 @@ impl Best {
         sift(values.as_mut_slice(), place);
     }
 
-    /// One value more.
+    /// Adds one value.
     pub(crate) fn add(&mut self, value: u64)
         ensures size { length self.new ≡ length self.old }
         ensures best { (all after : List ℕ)
@@ -87,7 +86,7 @@ impl Best {
         }
     }
 
-    /// A value of the list is now a greater one.
+    /// Raises a value of the list from `from` to `to`.
     pub(crate) fn raise(&mut self, from: u64, to: u64)
         requires { from ≤ to }
         ensures size { length self.new ≡ length self.old }

@@ -1,4 +1,4 @@
-//! Brackets of what is known.
+//! Brackets from what is known of met documents.
 
 ghost use Rattle.std.specs.Prelude.{◌≡◌, ◌↔◌, IsTrue, IfOk};
 ghost use Rattle.ats_bound.specs.Cut.{bracket};

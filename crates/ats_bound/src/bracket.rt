@@ -8,7 +8,7 @@ use crate::memory::OutOfMemory;
 use std::alloc::Global;
 use std::marker::Model;
 
-/// A document, counted from 0, with what it scores at least and at most.
+/// A document, counted from 0, with the least and the most that it can score.
 #[derive(Clone, Copy, Debug, PartialEq, Eq)]
 pub struct Bracket {
     pub doc: u32,
@@ -49,7 +49,7 @@ impl Brackets {
         Ok(Brackets { items })
     }
 
-    /// Puts a bracket at the end. Want of memory leaves the list as it was.
+    /// Appends a bracket. If memory runs out, the list stays as it was.
     pub fn push(&mut self, bracket: Bracket) -> Result<(), OutOfMemory>
         ensures { self.new ≡ (if is_ok result then self.old ++ bracket ∷ [] else self.old) }
     {

@@ -58,7 +58,7 @@ fn sort_placed(all: &mut Vec<Placed>) -> Result<(), OutOfMemory>
     Ok(())
 }
 
-// The places alone.
+// Only the places.
 fn places_of(alloc: Global, all: &[Placed]) -> Result<Picks, OutOfMemory>
     ensures { IfOk result (λ picks. picks ≡ map (λ p. p.place) all.now) }
 {
@@ -72,7 +72,7 @@ fn places_of(alloc: Global, all: &[Placed]) -> Result<Picks, OutOfMemory>
 /// The places of the first brackets by lower bound descending, then upper bound descending, then
 /// document ascending.
 ///
-/// Where any answer is settled, so is this one: a walk need try no other.
+/// If any answer is settled, this one is too: a walk need try no other.
 pub fn choose(alloc: Global, brackets: &[Bracket], top: Top) -> Result<Picks, OutOfMemory>
     requires distinct { HaveDistinctDocs brackets.now }
     requires proper { AreBrackets brackets.now }

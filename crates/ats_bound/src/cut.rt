@@ -36,7 +36,7 @@ impl Cut {
         Cut { items: counts }
     }
 
-    /// Puts a count at the end. Want of memory leaves the list as it was.
+    /// Appends a count. If memory runs out, the list stays as it was.
     pub fn push(&mut self, count: u32) -> Result<(), OutOfMemory>
         ensures { self.new ≡ (if is_ok result then self.old ++ count ∷ [] else self.old) }
     {

@@ -1,4 +1,4 @@
-//! Where a walk stands in the schedule.
+//! The state of a walk in the schedule.
 
 ghost use Rattle.std.specs.Prelude.{◌≡◌, ◌<◌, ◌≤◌, ◌+◌, ◌*◌, ◌^◌, ℕ, length, map, set, sum, slice_index, IfOk, MatchOption};
 ghost use Rattle.ats_bound.specs.Cut.{missing, rest, threshold};
@@ -12,8 +12,8 @@ use crate::turns::{first_counts, rest};
 use std::alloc::Global;
 use std::marker::Model;
 
-/// The lists of a query, how many entries of each are shown, what the rest of each can add to a score,
-/// and what all rests can add together.
+/// The lists of a query, how many entries of each are shown, what the rest of each can add to a score, and what all
+/// rests together can add.
 #[derive(Drop)]
 pub(crate) struct Front<'a> {
     lanes: Vec<Lane<'a>>,
@@ -63,7 +63,7 @@ fn total(rests: &[u32]) -> u64
 }
 
 impl<'a> Front<'a> {
-    /// One entry of each list is shown.
+    /// The first cut: one entry of each list is shown.
     pub(crate) fn new(alloc: Global, lanes: &[Lane<'a>]) -> Result<Front<'a>, OutOfMemory>
         requires { AreWholeLanes (whole_lanes lanes.now) }
         ensures { IfOk result (λ front.
@@ -80,8 +80,8 @@ impl<'a> Front<'a> {
         })
     }
 
-    /// The list that shows one entry more in the next turn; none where nothing that is not shown can add
-    /// to a score, which is where all lists are whole.
+    /// The list that shows one more entry in the next turn. `None` if nothing that is not shown can add to a score,
+    /// which is when all lists are whole.
     pub(crate) fn next_lane(&self) -> Option<u32>
         ensures next { MatchOption result (threshold (shown_on self.now) ≡ 0) (IsNextLane self.now.lanes self.now.cut) }
         ensures stage { IsStage self.now }
@@ -117,7 +117,7 @@ impl<'a> Front<'a> {
         }
     }
 
-    /// Shows one entry more of a list.
+    /// Shows one more entry of a list.
     pub(crate) fn advance(&mut self, lane: u32)
         requires inside { lane < length self.old.lanes }
         requires more { IsOpen self.old.lanes self.old.cut lane }
@@ -131,15 +131,15 @@ impl<'a> Front<'a> {
         self.threshold = total(&self.rests);
     }
 
-    /// What a document that no shown entry names can score, at most.
+    /// The most that a document can score that no shown entry names.
     pub(crate) fn threshold(&self) -> u64
         ensures { result ≡ threshold (shown_on self.now) }
     {
         self.threshold
     }
 
-    /// What the lists that do not name a document can add to its score, at most. The binary digits of the
-    /// number tell which do, the first list by the lowest digit.
+    /// The most that the lists can add to a document's score that do not name it. The binary digits of the number show
+    /// which do, the first list by the lowest digit.
     pub(crate) fn missing(&self, named: u32) -> u64
         ensures sum { (doc : ℕ) → named ≡ named_by (shown_on self.now) doc → result ≡ missing (shown_on self.now) doc }
         ensures few { result ≤ 2 ^ 37 }
@@ -155,7 +155,7 @@ impl<'a> Front<'a> {
         sum
     }
 
-    /// How far the lists are shown.
+    /// How many entries of each list are shown.
     pub(crate) fn cut(self) -> Cut
         ensures { result ≡ self.entry.cut }
     {

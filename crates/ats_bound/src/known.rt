@@ -1,4 +1,4 @@
-//! What is known of the documents that are met.
+//! What is known of the met documents.
 
 ghost use Rattle.std.specs.Prelude.{◌≡◌, ◌≢◌, ◌<◌, ◌++◌, ◌∷◌, [], ℕ, length, set, is_ok, if◌then◌else◌, MatchOption};
 ghost use Rattle.ats_bound.specs.Known.{AreOnce, met_at};
@@ -8,8 +8,8 @@ use crate::pages::Pages;
 use std::alloc::Global;
 use std::marker::Model;
 
-/// A document with what the shown entries say that it scores at least, and which lists name it: the binary
-/// digits of the number tell, the first list by the lowest digit.
+/// A document with the least that it scores by the shown entries, and which lists name it. The binary digits of `named`
+/// show which, the first list by the lowest digit.
 #[derive(Clone, Copy, Debug)]
 pub(crate) struct Met {
     pub(crate) doc: u32,
@@ -17,7 +17,7 @@ pub(crate) struct Met {
     pub(crate) lo: u64,
 }
 
-/// The documents that are met, each in a slot, in the order in which they were met first.
+/// The met documents, each in a slot, in the order in which they were first met.
 #[derive(Drop)]
 pub(crate) struct Known {
     met: Vec<Met>,
@@ -77,7 +77,7 @@ impl Known {
         self.met.as_slice()
     }
 
-    /// Puts a document that has no slot into the next one. Want of memory leaves all as it was.
+    /// Puts a document that has no slot into the next one. If memory runs out, nothing changes.
     pub(crate) fn push(&mut self, met: Met) -> Result<(), OutOfMemory>
         requires { (slot : ℕ) → slot < length self.old → (met_at self.old slot).doc ≢ met.doc }
         ensures { self.new ≡ (if is_ok result then self.old ++ met ∷ [] else self.old) }
@@ -93,7 +93,7 @@ impl Known {
         }
     }
 
-    /// Something else is known of the document in a slot.
+    /// Replaces what is known of the document in a slot.
     pub(crate) fn set(&mut self, slot: usize, met: Met)
         requires inside { slot < length self.old }
         requires doc { met.doc ≡ (met_at self.old slot).doc }

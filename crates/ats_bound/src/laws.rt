@@ -1,5 +1,5 @@
-//! What a cut of whole lists says of scores, as contracts of functions that do nothing. No hash
-//! stands in these sentences, and scores are any sums over lists.
+//! The laws of cuts of whole lists and of scores, as contracts of functions that do nothing. They name no hash
+//! function, and scores are any sums over lists.
 
 ghost use Rattle.std.specs.Prelude.{◌≡◌, ◌↔◌, ◌+◌, ◌<◌, ◌≤◌, ◌*◌, ℕ, Bool, IsTrue, List, [], length, map, sum_by, slice_index_or};
 ghost use Rattle.std.specs.List.{All};
@@ -31,30 +31,29 @@ pub fn cuts_bound_scores()
         → HoldsScore score (looked_up table (cut_of lanes) doc) }
 {}
 
-/// What the lists that name a document can add, and what the others can, come to the threshold.
+/// The rests of the lists that name a document, and those of the other lists, sum to the threshold.
 pub fn rests_are_held_or_missing()
     ensures { (lanes : List ShownLane) (doc : ℕ) → held lanes doc + missing lanes doc ≡ threshold lanes }
 {}
 
-/// What a document scores for a query is a sum over the lists of the query's terms, where a term that no
-/// document has adds nothing.
+/// The score of a document for a query is a sum over the lists of the query's terms. A term that no document has adds
+/// nothing.
 pub fn scores_are_sums_over_lists()
     ensures { (texts : List (List ℕ)) (query : List (List ℕ × ℕ)) (doc : ℕ) → doc < length texts
         → score texts query (slice_index_or texts doc [])
         ≡ sum_by (λ pair. coefficient texts pair * impact_in doc (list texts pair.0)) query }
 {}
 
-/// A settled answer is a top answer, whatever the brackets are made from: they need only be those of the
-/// met documents, and hold their scores.
+/// A settled answer is a top answer, whatever the brackets are made from: they need only be those of the met documents,
+/// and contain their scores.
 pub fn settled_answers_are_top()
     ensures { (n r : ℕ) (score : ℕ → ℕ) (lanes : List CutLane) (brackets : List Bracket) (picks : List ℕ)
         → AreScores n score lanes → AreOfMet lanes brackets → All (HoldsScore score) brackets → ArePicks brackets picks
         → IsSettled brackets picks (threshold (cut_of lanes)) r → IsTopBy n score r (answer_of brackets picks) }
 {}
 
-/// A walk ends at one cut with one answer, however brackets are formed. However they are formed, whole
-/// lists have one first settled cut, a cut has one list of brackets, and brackets of distinct documents
-/// have one chosen answer.
+/// A walk ends at one cut with one answer, however brackets are formed: whole lists have one first settled cut, a cut
+/// has one list of brackets, and brackets of distinct documents have one chosen answer.
 pub fn walks_end_at_one_cut()
     ensures cut { (bounds : Bounding) (lanes : List WholeLane) (r : ℕ) (a b : List ℕ)
         → IsFirstSettledBy bounds lanes r a → IsFirstSettledBy bounds lanes r b → a ≡ b }
@@ -64,9 +63,9 @@ pub fn walks_end_at_one_cut()
         → IsChosen brackets r a → IsChosen brackets r b → a ≡ b }
 {}
 
-/// A walk of whole lists ends, for any number of rows: wherever brackets are narrow, some cut of the
-/// schedule is the first at which an answer is settled. Brackets from the shown entries are narrow, and so
-/// are those of scores that are looked up. A cut has brackets, and brackets have a chosen answer.
+/// A walk of whole lists ends, for any number of rows: if brackets are narrow, some cut of the schedule is the first at
+/// which an answer is settled. Brackets from the shown entries are narrow, and so are those of scores that are looked
+/// up. A cut has brackets, and brackets have a chosen answer.
 pub fn walks_end()
     ensures cut { (bounds : Bounding) (lanes : List WholeLane) (r : ℕ) → AreNarrow bounds → AreWholeLanes lanes
         → (cut : List ℕ) × IsFirstSettledBy bounds lanes r cut }
@@ -79,24 +78,24 @@ pub fn walks_end()
     ensures answer { (brackets : List Bracket) (r : ℕ) → (picks : List ℕ) × IsChosen brackets r picks }
 {}
 
-/// Where the two bounds of each bracket are one, the chosen answer is settled exactly where the necessary
-/// test passes. So a walk with known scores needs no other test.
+/// If the two bounds of each bracket are equal, the chosen answer is settled exactly if the necessary test passes. So a
+/// walk with known scores needs no other test.
 pub fn known_scores_settle_by_the_test()
     ensures { (brackets : List Bracket) (r threshold : ℕ) (picks : List ℕ)
         → 1 ≤ r → All (λ (b : Bracket). b.hi ≡ b.lo) brackets
         → IsChosen brackets r picks → PassesQuickTest brackets threshold r ↔ IsSettled brackets picks threshold r }
 {}
 
-/// What is settled passes the necessary test, which is whether as many brackets as there are rows reach
-/// the threshold by their lower bounds.
+/// A settled answer passes the necessary test: whether at least as many brackets as there are rows reach the threshold
+/// by their lower bounds.
 pub fn settled_answers_pass_the_test()
     ensures { (brackets : List Bracket) (picks : List ℕ) (threshold r : ℕ)
         → AreBrackets brackets → ArePicks brackets picks
         → IsSettled brackets picks threshold r → PassesQuickTest brackets threshold r }
 {}
 
-/// What a walk tells at a cut is what [`crate::settled`] answers of the answer that [`crate::choose`]
-/// makes there, however brackets are formed.
+/// What a walk reports at a cut is what [`crate::settled`] returns for the answer that [`crate::choose`] makes there,
+/// however brackets are formed.
 pub fn walks_tell_the_chosen_answer()
     ensures { (bounds : Bounding) (lanes : List WholeLane) (r : ℕ) (cut : List ℕ)
         (told answered : Bool) (brackets : List Bracket) (picks : List ℕ)

@@ -1,16 +1,14 @@
 //! Cuts of inverted lists, brackets of scores, and when an answer is settled.
 //!
-//! A cut shows the first entries of each list of a query. What is shown bounds the score of each document
-//! that it names by a bracket, and that of every other document by a threshold. An answer is settled where
-//! these bounds alone show that it is right. The room stands on the entries of `ats_lists`, the number of
-//! rows of `ats_impact` and the steps of `ats_hash`. A walk shows the lists further, turn by turn, until an
-//! answer is settled: as [`Running`] it bounds scores by the shown entries alone, as [`Scored`] it is given
-//! them. The contracts promise that [`settled`] answers exactly the rules of a settled answer, and that what
-//! [`choose`] answers is settled wherever any answer is. They promise that each walk of whole lists ends, at
-//! one cut with one answer. They promise that such a walk takes the turns of one schedule and tells at each
-//! cut exactly whether that answer is settled there. They promise that a settled answer is a top answer
-//! wherever the brackets hold the scores, and that a [`Work`] begins with marks that say nothing. How places
-//! are looked up, brackets sorted, what is known kept and open answers found may change unasked.
+//! A cut shows the first entries of each list of a query. What is shown bounds the score of each document that it names
+//! by a bracket, and that of every other document by a threshold. An answer is settled if these bounds alone prove it
+//! right. The room stands on the entries of `ats_lists`, the number of rows of `ats_impact` and the steps of
+//! `ats_hash`. A walk shows more of the lists, turn by turn, until an answer is settled: [`Running`] bounds scores by
+//! the shown entries only, [`Scored`] is given the scores. [`settled`] returns exactly whether the rules of a settled
+//! answer hold, and if any answer is settled, the one from [`choose`] is. Each walk of whole lists takes the turns of
+//! one schedule, reports at each cut exactly whether that answer is settled there, and ends, at one cut with one
+//! answer. A settled answer is a top answer if the brackets contain the scores. A [`Work`] begins with zero marks. How
+//! places are looked up, brackets sorted, what is known kept and open answers found may change freely.
 //!
 //! ```
 //! use ats_impact::Top;

@@ -7,17 +7,17 @@ use crate::memory::OutOfMemory;
 use std::alloc::Global;
 use std::collections::HashMap;
 
-/// For each document the slot that it has, if it has one.
+/// The slot of each document that has one.
 ///
-/// A page has the slots of 64 documents with neighbouring numbers side by side, each as the number above
-/// it, and 0 for none. So all slots of a collection take little more room than their numbers, and finding
-/// one reads little of it. With a map from each document to its slot most of a walk was waiting for memory.
+/// A page has the slots of 64 documents with neighbouring numbers side by side. Each is stored plus one, and 0 means
+/// none. So all slots of a collection take little more room than their numbers, and finding one reads little of it. A
+/// map from each document to its slot would make most of a walk wait for memory.
 #[derive(Drop)]
 pub(crate) struct Pages {
     pub(crate) pages: HashMap<u32, [u32; 64]>,
 }
 
-// A page with this number in one cell.
+// A page with this number in one cell, and 0 in the rest.
 fn page_of(cell: usize, number: u32) -> [u32; 64]
     requires { cell < 64 }
     ensures here { slice_index result cell ≡ number }
@@ -46,7 +46,7 @@ impl Pages {
         (number as usize).checked_sub(1)
     }
 
-    /// Gives a document the slot below this number. For more slots than 32 bits count there is no memory.
+    /// Gives a document the slot below this number. More slots than 32 bits can count are reported as out of memory.
     pub(crate) fn put(&mut self, doc: u32, number: usize) -> Result<(), OutOfMemory>
         ensures here { OnOk result ((slot : ℕ) → number ≡ slot + 1 → slot_in self.new.pages doc ≡ Some slot) }
         ensures others { OnOk result ((other : ℕ) → other ≢ doc

@@ -29,7 +29,7 @@ impl Picks {
         }
     }
 
-    /// Puts a pick at the end. Want of memory leaves the list as it was.
+    /// Appends a pick. If memory runs out, the list stays as it was.
     pub fn push(&mut self, pick: u32) -> Result<(), OutOfMemory>
         ensures { self.new ≡ (if is_ok result then self.old ++ pick ∷ [] else self.old) }
     {

@@ -24,11 +24,11 @@ use ats_impact::Top;
 use std::alloc::Global;
 use std::marker::Model;
 
-/// A walk that bounds scores by the shown entries alone, where it stands in the schedule.
+/// A walk that bounds scores by the shown entries only, at some cut of the schedule.
 ///
-/// It is seen as its whole lists, the number of rows and its cut. What is known of each met document is
-/// kept from cut to cut, so that one entry more costs little. A slot that shows that no answer is
-/// settled is remembered as long as it does.
+/// Contracts see it as its whole lists, the number of rows and its cut. What is known of each met document is kept from
+/// cut to cut, so that one more entry costs little. A slot that shows that no answer is settled is remembered as long
+/// as it does.
 #[derive(Drop)]
 pub struct Running<'a> {
     alloc: Global,
@@ -49,7 +49,7 @@ impl<'a> Model for Running<'a> {
     ghost invariant = { λ r. IsRunning r.front r.top r.known r.best };
 }
 
-// The digit of a list among those that tell which lists name a document.
+// The digit of a list among those that show which lists name a document.
 fn digit(lane: u32) -> u32
     requires { lane < 32 }
     ensures { result ≡ 2 ^ lane }
@@ -72,7 +72,7 @@ fn first_gain(lane: &Lane<'_>) -> Gain
     }
 }
 
-// One entry more names a document. Want of memory leaves all as it was.
+// Adds to what is known that one more entry names a document. If memory runs out, nothing changes.
 fn meet(known: &mut Known, best: &mut Best, gain: Gain, digit: u32) -> Result<(), OutOfMemory>
     requires { (slot : ℕ) → slot < length known.old → (met_at known.old slot).doc ≡ gain.doc
         → ((met_at known.old slot).lo + gain.gain < 2 ^ 64) × ((met_at known.old slot).named + digit < 2 ^ 32) }
@@ -108,7 +108,7 @@ fn meet(known: &mut Known, best: &mut Best, gain: Gain, digit: u32) -> Result<()
     Ok(())
 }
 
-// The first entry of each list names a document.
+// Adds the documents that the first entries of the lists name.
 fn meet_first(lanes: &[Lane<'_>], known: &mut Known, best: &mut Best) -> Result<(), OutOfMemory>
     requires lanes { AreWholeLanes (whole_lanes lanes.now) }
     requires none { known.old ≡ [] }
@@ -125,7 +125,7 @@ fn meet_first(lanes: &[Lane<'_>], known: &mut Known, best: &mut Best) -> Result<
 }
 
 impl<'a> Running<'a> {
-    /// Stands at the first cut, which shows one entry of each list.
+    /// Begins at the first cut, which shows one entry of each list.
     pub fn new(alloc: Global, lanes: &[Lane<'a>], top: Top) -> Result<Running<'a>, OutOfMemory>
         requires { AreWholeLanes (whole_lanes lanes.now) }
         ensures { IfOk result (λ running.
@@ -145,14 +145,14 @@ impl<'a> Running<'a> {
         })
     }
 
-    /// The list that shows one entry more in the next turn; none where all lists are whole.
+    /// The list that shows one more entry in the next turn; `None` if all lists are whole.
     pub fn next_lane(&self) -> Option<u32>
         ensures { MatchOption result (threshold (shown_in self.now) ≡ 0) (IsNextLane self.now.lanes self.now.cut) }
     {
         self.front.next_lane()
     }
 
-    /// Shows one entry more of a list. Want of memory leaves the walk where it stood.
+    /// Shows one more entry of a list. If memory runs out, the walk stays at its cut.
     pub fn advance(&mut self, lane: u32) -> Result<(), OutOfMemory>
         requires inside { lane < length self.old.lanes }
         requires more { IsOpen self.old.lanes self.old.cut lane }
@@ -171,8 +171,8 @@ impl<'a> Running<'a> {
         Ok(())
     }
 
-    /// Whether the chosen answer is settled, and so whether any answer is. Memory is wanted only where the
-    /// necessary test holds.
+    /// Whether the chosen answer is settled, and so whether any answer is. Out of memory is returned only if the
+    /// necessary test passes.
     pub fn settled(&self) -> Result<bool, OutOfMemory>
         ensures told { IfOk result (TellsSettled bracket self.now.lanes self.now.rows self.now.cut) }
         ensures wanted { OnErr result ((brackets : List Bounded) → AreBracketsOf (shown_in self.now) brackets

@@ -1,4 +1,4 @@
-//! A walk at which the score of each document that is named is known.
+//! A walk that is given the score of each document that an entry names.
 
 ghost use Rattle.std.specs.Prelude.{◌≡◌, ◌≢◌, ◌↔◌, ◌||◌, ◌==◌, ◌<◌, ◌≤◌, ◌+◌, ◌∷◌, [], ℕ, Bool, true, false, List, length, map, set, slice_index, is_some, IfOk, IfSome, OnOk, OnErr, IsTrue, MatchOption};
 ghost use Rattle.std.specs.List.{All, Contains, list_any};
@@ -26,10 +26,10 @@ use std::alloc::Global;
 use std::collections::BTreeMap;
 use std::marker::Model;
 
-/// A walk at which the score of each document that an entry names is given.
+/// A walk that is given the score of each document that an entry names.
 ///
-/// It begins with one entry of each list. Whoever walks hands in the score of the document that a newly
-/// shown entry names; of a document that is met already the first score stays.
+/// It begins with one entry of each list. With each further entry the caller passes the score of the document that it
+/// names. If the document was met before, its first score stays.
 #[derive(Drop)]
 pub struct Scored<'a> {
     alloc: Global,
@@ -49,7 +49,7 @@ impl<'a> Model for Scored<'a> {
     ghost invariant = { λ s. AreScored s.front s.top s.scores.entries s.best };
 }
 
-// Takes the score of a document that is not met yet.
+// Adds the score of a document that is not met yet.
 fn meet(
     scores: &mut BTreeMap<u32, u64>,
     best: &mut Best,
@@ -117,8 +117,8 @@ fn first_met(
 }
 
 impl<'a> Scored<'a> {
-    /// One entry of each list. The scores are those of the documents that the first entries name, one for
-    /// each list; where several name a document, the first of its scores stays.
+    /// Begins with one entry of each list. The scores are those of the documents that the first entries name, one for
+    /// each list; if several name a document, the first of its scores stays.
     pub fn new(
         alloc: Global,
         lanes: &[Lane<'a>],
@@ -147,8 +147,7 @@ impl<'a> Scored<'a> {
         })
     }
 
-    /// The list that shows one entry more in the next turn, counted from 0; none where all lists are
-    /// whole.
+    /// The list that shows one more entry in the next turn, counted from 0; `None` if all lists are whole.
     pub fn next_lane(&self) -> Option<u32>
         ensures next { MatchOption result (threshold (shown_on self.now.stage) ≡ 0)
             (IsNextLane self.now.stage.lanes self.now.stage.cut) }
@@ -166,7 +165,7 @@ impl<'a> Scored<'a> {
         self.front.gain(lane).doc
     }
 
-    /// The score of a document that is met; none of any other.
+    /// The score of a met document; `None` for any other.
     pub fn score_of(&self, doc: u32) -> Option<u64>
         ensures { MatchOption result (has_bracket doc self.now.brackets ≡ false)
             (λ score. Contains self.now.brackets (exact doc score)) }
@@ -174,8 +173,8 @@ impl<'a> Scored<'a> {
         self.scores.get(&doc).copied()
     }
 
-    /// One more entry of a list that is not whole, with the score of the document that it names. Want of
-    /// memory leaves the walk where it was.
+    /// Shows one more entry of a list that is not whole, with the score of the document that it names. If memory runs
+    /// out, the walk stays as it was.
     pub fn advance(&mut self, lane: u32, score: u64) -> Result<(), OutOfMemory>
         requires inside { lane < length self.old.stage.lanes }
         requires more { IsOpen self.old.stage.lanes self.old.stage.cut lane }
@@ -207,7 +206,7 @@ impl<'a> Scored<'a> {
         threshold == 0 || threshold <= self.best.least()
     }
 
-    /// How far the lists are shown, the brackets of the met documents by document ascending, the chosen
+    /// How many entries of each list are shown, the brackets of the met documents by document ascending, the chosen
     /// answer and the threshold.
     pub fn finish(self) -> Result<Walk, OutOfMemory>
         ensures cut { IfOk result (λ walk. walk.cut ≡ self.entry.stage.cut) }

@@ -39,8 +39,7 @@ fn are_distinct(picks: &[u32]) -> bool
     true
 }
 
-// Whether each of the first places is picked. It stops at the first that is not, which comes early
-// where picks are few.
+// Whether each of the first places is picked. It stops at the first that is not, which is soon if picks are few.
 fn are_all_picked(places: usize, picks: &[u32]) -> bool
     ensures { IsTrue result ↔ ((i : ℕ) → i < places → 1 ≤ times i picks.now) }
 {
@@ -52,7 +51,7 @@ fn are_all_picked(places: usize, picks: &[u32]) -> bool
     true
 }
 
-// Whether the answer has as many rows as it may have, or all there can be.
+// Whether the answer has as many rows as it may have, or every bracket while no other document can score.
 fn is_whole(brackets: &[Bracket], picks: &[u32], threshold: u64, rows: usize) -> bool
     ensures { IsTrue result ↔ ((length picks.now ≡ rows)
         ⊎ (((i : ℕ) → i < length brackets.now → 1 ≤ times i picks.now) × (threshold ≡ 0))) }
@@ -66,7 +65,7 @@ fn is_whole(brackets: &[Bracket], picks: &[u32], threshold: u64, rows: usize) ->
     are_all_picked(brackets.len(), picks)
 }
 
-// Whether no row can score more than the row before it scores at least.
+// Whether no row can score more than the least that the row before it scores.
 fn rows_fall(brackets: &[Bracket], picks: &[u32]) -> bool
     requires { ArePicks brackets.now picks.now }
     ensures { IsTrue result ↔ ((k : ℕ) → k + 1 < length picks.now
@@ -94,8 +93,7 @@ fn rest_is_within(brackets: &[Bracket], picks: &[u32], score: u64) -> bool
 
 /// Whether the picks are an answer that no document outside it, met or not, can change.
 ///
-/// The brackets are those of all documents that are met, and the threshold is what any other document
-/// can score at most.
+/// The brackets are those of all met documents, and the threshold is the most that any other document can score.
 pub fn settled(brackets: &[Bracket], picks: &[u32], threshold: u64, top: Top) -> bool
     requires picks { ArePicks brackets.now picks.now }
     requires distinct { HaveDistinctDocs brackets.now }

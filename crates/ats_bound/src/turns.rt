@@ -8,7 +8,7 @@ use crate::lane::Lane;
 use crate::memory::OutOfMemory;
 use std::alloc::Global;
 
-/// What the entries of a lane behind its first ones, as many as are counted, can add to a score, at most.
+/// The most that the entries of a lane after the first `count` can add to a score.
 pub(crate) fn rest(lane: &Lane<'_>, count: u32) -> u32
     requires whole { IsWholeLane (whole_lane lane.now) }
     requires some { 1 ≤ count }
@@ -22,7 +22,7 @@ pub(crate) fn rest(lane: &Lane<'_>, count: u32) -> u32
     lane.coefficient * lane.entries[shown - 1].impact as u32
 }
 
-/// One entry of each list.
+/// The first cut: one entry of each list.
 pub(crate) fn first_counts(alloc: Global, lanes: &[Lane<'_>]) -> Result<Vec<u32>, OutOfMemory>
     ensures { IfOk result (λ counts. counts.items ≡ first_cut (whole_lanes lanes.now)) }
 {

@@ -1,11 +1,11 @@
-//! Where a walk of the lists ends.
+//! The end of a walk of the lists.
 
 use crate::bracket::Brackets;
 use crate::cut::Cut;
 use crate::picks::Picks;
 
-/// The first cut at which an answer is settled: the brackets of the documents met there, the answer's
-/// places among them, and what any other document can score at most.
+/// The first cut at which an answer is settled: the brackets of the documents met there, the answer's places among
+/// them, and the most that any other document can score.
 #[derive(Drop)]
 pub struct Walk {
     pub cut: Cut,

@@ -1,4 +1,4 @@
-//! What shows that no answer is settled yet.
+//! Slots that show that no answer is settled yet.
 
 ghost use Rattle.std.specs.Prelude.{IsTrue};
 ghost use Rattle.ats_bound.specs.Front.{shown_on};
@@ -11,7 +11,7 @@ use crate::known::Known;
 use std::alloc::Global;
 use std::cmp::Reverse;
 
-// A slot whose document was one of the best when it was looked at, with its bounds at that time.
+// A slot whose document was one of the best when it was seen, with its bounds at that moment.
 #[derive(Clone, Copy)]
 struct Row {
     slot: usize,
@@ -21,9 +21,9 @@ struct Row {
 
 /// One slot, or two, whose brackets show that no answer is settled, as long as they do.
 ///
-/// Lower bounds never fall, upper bounds never rise, and the least of the best never falls. So a document
-/// whose upper bound is no longer above it is never looked at again: [`Watch::look`] goes once through the
-/// slots, and keeps those of the best documents aside. What it misses costs time and nothing else.
+/// Lower bounds never fall, upper bounds never rise, and the smallest of the best scores never falls. So a document
+/// whose upper bound is not above that score is never checked again: [`Watch::look`] goes once through the slots, and
+/// keeps those of the best documents apart. What it misses costs only time.
 #[derive(Drop)]
 pub(crate) struct Watch {
     around: usize,
@@ -44,8 +44,7 @@ impl Watch {
         }
     }
 
-    /// Whether these slots show that no answer is settled. The score is the least of the best lower
-    /// bounds.
+    /// Whether these slots show that no answer is settled. The score is the smallest of the best lower bounds.
     pub(crate) fn stands(&self, front: &Front<'_>, known: &Known, score: u64) -> bool
         requires { AreKnown (shown_on front.now) known.now }
         ensures { IsTrue result → IsOpenAt score (shown_on front.now) known.now }
@@ -62,7 +61,7 @@ impl Watch {
         overlap(score, left, right)
     }
 
-    /// Looks for other slots where these show it no longer.
+    /// Searches for other slots after these no longer show it.
     pub(crate) fn look(&mut self, front: &Front<'_>, known: &Known, score: u64)
         requires { AreKnown (shown_on front.now) known.now }
     {
@@ -79,8 +78,8 @@ impl Watch {
         self.compare(score);
     }
 
-    // Goes on through the slots to a document whose bracket lies around the score, and keeps those above
-    // it aside. Where memory is wanted, one is left out.
+    // Goes on through the slots to a document whose bracket lies around the score, and keeps those above it apart. If
+    // memory runs out, one is left out.
     fn sweep(&mut self, front: &Front<'_>, known: &Known, score: u64) -> bool
         requires { AreKnown (shown_on front.now) known.now }
     {
@@ -103,7 +102,7 @@ impl Watch {
         false
     }
 
-    // The bounds of the rows as they are.
+    // Updates the bounds of the rows.
     fn refresh(&mut self, front: &Front<'_>, known: &Known)
         requires { AreKnown (shown_on front.now) known.now }
     {
@@ -116,7 +115,7 @@ impl Watch {
         }
     }
 
-    // Takes the last row where its bracket lies around the score, else the neighbours that overlap most.
+    // Takes the last row if its bracket lies around the score, else the neighbours that overlap most.
     fn compare(&mut self, score: u64) {
         let mut most = 0;
         for i in 1..self.rows.len() {

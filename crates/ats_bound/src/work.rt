@@ -11,9 +11,9 @@ use std::marker::Model;
 /// What a check notes of a document.
 #[derive(Clone, Copy, Debug, PartialEq, Eq)]
 pub struct Mark {
-    /// What the document scores at least, by the entries read so far.
+    /// The least that the document scores, by the entries read so far.
     pub lo: u64,
-    /// What the rests of the lists that name the document come to.
+    /// The sum of the rests of the lists that name the document.
     pub held: u64,
     /// A list, for the notes of the call that uses the work.
     pub list: u32,
@@ -28,9 +28,9 @@ const ZERO: Mark = Mark {
     row: false,
 };
 
-/// Memory for the marks of a check, taken once and used for many.
+/// Memory for the marks of a check, allocated once and used for many checks.
 ///
-/// A check takes no memory of its own: it begins as many marks as it needs, up to the room that is there.
+/// A check allocates nothing: it begins as many marks as it needs, up to the room that there is.
 #[derive(Drop)]
 pub struct Work {
     marks: Vec<Mark>,
@@ -48,7 +48,7 @@ impl Model for Work {
     ghost invariant = { λ w. (w.len ≤ length w.marks.items) × (length w.marks.items < 2 ^ 32) };
 }
 
-// Makes the first n marks zero marks, and ticks for each.
+// Sets the first n marks to zero, and ticks for each.
 fn clear(marks: &mut [Mark], n: usize, steps: &mut Steps)
     requires room { n ≤ length marks.old }
     requires count { steps.old + n < 2 ^ 64 }
@@ -62,7 +62,7 @@ fn clear(marks: &mut [Mark], n: usize, steps: &mut Steps)
 }
 
 impl Work {
-    /// Room for `n` marks, of which none is begun.
+    /// Room for `n` marks, none of them begun.
     pub fn with_room(alloc: Global, n: u32) -> Result<Self, OutOfMemory>
         ensures { IfOk result (λ work. work ≡ begun 0 n) }
     {
@@ -77,7 +77,7 @@ impl Work {
         self.marks.len() as u32
     }
 
-    /// Begins `n` marks in place of those that are there. Nothing of these is kept.
+    /// Begins `n` marks. The earlier marks are lost.
     pub fn begin(&mut self, n: u32, steps: &mut Steps)
         requires room { n ≤ self.old.room }
         requires count { steps.old ≤ 2 ^ 63 }

@@ -39,7 +39,7 @@ come_more : (fields : List (List ℕ)) (t u : Table) (field : List ℕ) → Come
 come_more [] t u field same is = (subst (λ (x : Table). IsField (head x) field) (sym same) is, ap (λ (x : Table). follow x (number field)) same)
 come_more (f ∷ fields) t u field come is = (come.0, come_more fields (follow t (number f)) u field come.1 is)
 
--- what follows depends on the number alone where the field is one
+-- if the field is a number, what follows depends only on it
 follow_same : (t : Table) (field : List ℕ) (n : ℕ) → IsNumberOf (head t) field n → follow t n ≡ follow t (number field)
 follow_same End field n is = refl
 follow_same (Number size low high kind rest) field n is = ap rest is
@@ -141,7 +141,7 @@ refused format bytes t left fault few reached is at = inr (record {
 pub reached_few : (format : Format) (bytes : List ℕ) (t : Table) (left : List ℕ) → IsReached format bytes t left → length left ≤ length bytes
 reached_few format bytes t left reached = omega (arith, ap length reached.front.parts, length-append (concat reached.fields) left)
 
--- an answer that is right is the only right one
+-- a right result is the only right one
 pub reads : (format : Format) (bytes : List ℕ) (answer : Result (Unit {0}) ShapeFault) → IfErr answer (λ f. IsBad format bytes f) → (fields : List (List ℕ)) → Spells format bytes fields → answer ≡ Ok tt
 reads format bytes (Ok x) bad fields spells = refl
 reads format bytes (Err e) bad fields spells = absurd (no_fault format bytes e fields bad spells)

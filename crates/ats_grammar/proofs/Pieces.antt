@@ -111,7 +111,7 @@ at_whole bytes stand after part rest n at whole follows none nought =
       value = subst (λ n. IsNumberOf (head (remaining after.state)) [] n) (sym nought) (empty_number (head (remaining after.state)));
     }
 
--- a part of a field came
+-- a part of a field was read
 pub at_part : (bytes : List ℕ) (stand after : Stand) (part rest : List ℕ) → IsAt bytes stand (part ++ rest)
     → after.state ≡ stand.state → after.came ≡ stand.came + length part
     → ((left : List ℕ) → IsNumberOf (head (remaining stand.state)) left stand.number → IsNumberOf (head (remaining stand.state)) (left ++ part) after.number)
@@ -202,7 +202,7 @@ on_part stand after part rest same came value some = record {
   smaller = omega (arith, some, length-append part rest, at_most_one after.state.part);
 }
 
--- ---- a number of which one byte more came
+-- ---- a number of which one more byte was read
 
 pub number_part : (t : Table) (size low high : ℕ) (kind : ShapeKind) (left : List ℕ) (old b n : ℕ) → head t ≡ next.Number size low high kind
     → n ≡ old * 256 + b → IsNumberOf (head t) left old → IsNumberOf (head t) (left ++ b ∷ []) n
@@ -266,7 +266,7 @@ pub one_or_more : (n : ℕ) → 1 ≤ 256 ^ n
 one_or_more zero = omega arith
 one_or_more (suc n) = omega (arith, pow-suc 256 n, one_or_more n)
 
--- at most three bytes of a number came
+-- at most three bytes of a number were read
 pub few_came : (stand : Stand) (size low high : ℕ) (kind : ShapeKind) → head (remaining stand.state) ≡ next.Number size low high kind
     → (size ≡ 1) ⊎ (size ≡ 2) ⊎ (size ≡ 4) → stand.came ≤ 3
 few_came stand size low high kind is sized =
@@ -279,7 +279,7 @@ few_came stand size low high kind is sized =
       ]
     ]
 
--- so many came that one byte more makes the number whole
+-- one more byte makes the number whole
 pub last_came : (stand : Stand) (size low high : ℕ) (kind : ShapeKind) → head (remaining stand.state) ≡ next.Number size low high kind
     → (size ≡ 1) ⊎ (size ≡ 2) ⊎ (size ≡ 4) → size ≤ stand.came + 1 → stand.came + 1 ≡ size
 last_came stand size low high kind is sized enough =
@@ -292,9 +292,9 @@ last_came stand size low high kind is sized enough =
       ]
     ]
 
--- ---- what a feeder stands for
+-- ---- which bytes a feeder was fed
 
--- a piece more comes behind the bytes so far
+-- one more piece after the bytes so far
 pub at_more : (bytes piece : List ℕ) (stand : Stand) → IsAt bytes stand [] → IsAt (bytes ++ piece) stand piece
 at_more bytes piece stand at =
     let front = at.reached.front in
@@ -344,7 +344,7 @@ missing (next.Bytes size) left waiting wanted = record {
   same = refl;
 }
 
--- where a field is wanted, the bytes so far are cut
+-- if a field is missing, the bytes so far are cut
 pub cut_off : (bytes : List ℕ) (stand : Stand) (fault : ShapeFault) → length bytes ≤ 2 ^ 26 → IsAt bytes stand [] → IsWaiting (head (remaining stand.state)) stand.came
     → (head (remaining stand.state) ≡ next.End → ⊥) → fault.kind ≡ Cut → fault.at + stand.came ≡ length bytes → IsBad proof_format bytes fault
 cut_off bytes stand fault few at waiting wanted kind place =
@@ -354,7 +354,7 @@ cut_off bytes stand fault few at waiting wanted kind place =
     (subst (λ k. IsRefused (head (remaining stand.state)) (at.left ++ []) k) (sym kind) (missing (head (remaining stand.state)) (at.left ++ []) there wanted))
     (omega (arith, place, at.many, length-append at.left []))
 
--- where none is, they spell a proof
+-- if none is, they spell a proof
 pub spelled : (bytes : List ℕ) (stand : Stand) → length bytes ≤ 2 ^ 26 → IsAt bytes stand [] → IsWaiting (head (remaining stand.state)) stand.came
     → head (remaining stand.state) ≡ next.End → IsSpelling proof_format bytes
 spelled bytes stand few at waiting done =
@@ -390,7 +390,7 @@ pub wrong_is_first : (bytes : List ℕ) (fault : ShapeFault) (many : ℕ) → le
 wrong_is_first bytes fault many few wrong place = first_of bytes fault few
     (refused proof_format bytes wrong.table wrong.left fault few wrong.reached wrong.refused (omega (arith, place, wrong.same)))
 
--- ---- where a feeder stands
+-- ---- the position of a feeder
 
 pub stand_of : (place : Place) (stand : Stand) (bytes : List ℕ) → place ≡ places.Reading stand → StandsAt place bytes → IsAt bytes stand [] × IsWaiting (head (remaining stand.state)) stand.came
 stand_of place stand bytes is at = subst (λ (p : Place). StandsAt p bytes) is at

@@ -1,4 +1,4 @@
--- Which bytes a feeder stands for.
+-- Which bytes a feeder was fed, by its state.
 use Rattle.std.specs.Prelude.{◌≡◌, ◌≢◌, ℕ, List, [], length}
 use Rattle.ats_grammar.specs.declared.fault.ShapeKind.TheVariants.{Cut}
 use Rattle.ats_grammar.specs.declared.feeder.Place.{Place}
@@ -14,6 +14,7 @@ abbrev pub StandsAt : Place → List ℕ → Type 0
 StandsAt (place.Reading stand) bytes = IsAt bytes stand [] × IsWaiting (head (remaining stand.state)) stand.came
 StandsAt (place.Refused fault) bytes = IsFirst proof_format bytes fault × (fault.kind ≢ Cut)
 
--- a feeder stands for the bytes that were fed to it: so many, of which it knows the fields that are whole and what came of the next, or the first fault
+-- The feeder was fed these bytes: `fed` is their number. It is either after their whole fields and inside the next one,
+-- or has their first fault, which is no cut.
 abbrev pub StandsFor : Feeder → List ℕ → Type 0
 StandsFor feeder bytes = (length bytes ≡ feeder.fed) × StandsAt feeder.place bytes

@@ -1,4 +1,4 @@
--- Fronts of fields, what spells bytes of a format, and the first fault of other bytes.
+-- Fronts of fields, spellings of a format, and the first fault of other bytes.
 use Rattle.std.specs.Prelude.{◌≡◌, ◌⊎◌, ℕ, ◌<◌, ◌≤◌, nat_lt, if◌then◌else◌, List, [], ◌∷◌, ◌++◌, length}
 use Rattle.std.specs.List.{concat}
 use Rattle.ats_grammar.specs.declared.fault.ShapeFault.{ShapeFault}
@@ -14,12 +14,13 @@ IsField next.End field = ⊥
 IsField (next.Number size low high kind) field = (length field ≡ size) × (low ≤ number field) × (number field ≤ high)
 IsField (next.Bytes size) field = length field ≡ size
 
--- each field comes next after those before it, and the last table after them all
+-- each field may come next after those before it, and `last` is the table after all of them
 abbrev pub Come : List (List ℕ) → Table → Table → Type 0
 Come [] table last = table ≡ last
 Come (field ∷ fields) table last = IsField (head table) field × Come fields (follow table (number field)) last
 
--- the fields are a front of the format, the table comes after them, and the bytes are their join and those left
+-- the fields are a front of the format, `table` is what comes after them, and the bytes are the fields joined, then
+-- `left`
 pub record IsFront (format : Format) (bytes : List ℕ) (fields : List (List ℕ)) (table : Table) (left : List ℕ) : Type 0 where
   pub come : Come fields format.table table
   pub parts : bytes ≡ concat fields ++ left
@@ -29,22 +30,22 @@ pub record Spells (format : Format) (bytes : List ℕ) (fields : List (List ℕ)
   pub whole : IsFront format bytes fields End []
   pub few : length bytes ≤ format.limit
 
--- some fields are spelled so
+-- the bytes spell some fields
 pub record IsSpelling (format : Format) (bytes : List ℕ) : Type 0 where
   pub fields : List (List ℕ)
   pub spells : Spells format bytes fields
 
--- no front whose join begins the bytes has more fields
+-- no front of the bytes has more fields
 abbrev pub IsLongest : Format → List ℕ → List (List ℕ) → Type 0
 IsLongest format bytes fields = (others : List (List ℕ)) (table : Table) (left : List ℕ) → IsFront format bytes others table left → length others ≤ length fields
 
--- a field is wanted, or bytes are left
+-- a field is still missing, or bytes are left after the last one
 abbrev pub IsOpen : Next → List ℕ → Type 0
 IsOpen next.End left = 1 ≤ length left
 IsOpen (next.Number size low high kind) left = Unit {0}
 IsOpen (next.Bytes size) left = Unit {0}
 
--- the fault where this should come next and so many bytes are left
+-- the fault if `next` should follow and this many bytes are left
 abbrev pub kind_of : Next → ℕ → ShapeKind
 kind_of next.End left = Trailing
 kind_of (next.Number size low high kind) left = if nat_lt left size then Cut else kind
@@ -55,7 +56,7 @@ pub record IsLong (format : Format) (bytes : List ℕ) (fault : ShapeFault) : Ty
   pub at : fault.at ≡ format.limit
   pub kind : fault.kind ≡ Long
 
--- the fault comes behind the longest front
+-- the fault is right after the longest front
 pub record IsFirst (format : Format) (bytes : List ℕ) (fault : ShapeFault) : Type 0 where
   pub few : length bytes ≤ format.limit
   pub fields : List (List ℕ)
@@ -67,6 +68,6 @@ pub record IsFirst (format : Format) (bytes : List ℕ) (fault : ShapeFault) : T
   pub at : fault.at ≡ length (concat fields)
   pub kind : fault.kind ≡ kind_of (head table) (length left)
 
--- there are too many bytes, or the fault comes behind the longest front
+-- there are too many bytes, or the fault is right after the longest front
 abbrev pub IsBad : Format → List ℕ → ShapeFault → Type 0
 IsBad format bytes fault = IsLong format bytes fault ⊎ IsFirst format bytes fault

@@ -1,9 +1,9 @@
--- The fields of a proof's bytes, in their order. A run of n like parts is followed by what is given last.
+-- The fields of a proof's bytes, in their order. A run of n like parts is followed by its last argument.
 use Rattle.std.specs.Prelude.{ℕ, zero, suc, ◌+◌, ◌^◌, ◌==◌, Bool, true, false}
 use Rattle.ats_grammar.specs.declared.fault.ShapeKind.TheVariants.{Magic, Version, Algorithm, Count, Order}
 use Rattle.ats_grammar.specs.Table.{Table, Format, End, Number, Bytes}
 
--- any number of 2 bytes, or of 4; its kind of fault never comes
+-- any number of 2 bytes, or of 4; its kind of fault never occurs
 abbrev pub any_2 : (ℕ → Table) → Table
 any_2 rest = Number 2 0 0xffff Count rest
 
@@ -18,7 +18,7 @@ rising low rest = Number 4 low 0xffff_ffff Order rest
 abbrev pub index : ℕ → (ℕ → Table) → Table
 index low rest = Number 2 low 0xffff Order rest
 
--- 1 where the term is present, else 0
+-- 1 if the term is present, else 0
 abbrev pub kind : (ℕ → Table) → Table
 kind rest = Number 1 0 1 Count rest
 
@@ -73,7 +73,7 @@ doc_leaves (suc n) rest = any_4 (λ _. Bytes 32 (doc_leaves n rest))
 abbrev pub doc_digests : Table → Table
 doc_digests rest = Number 4 0 65536 Count (λ n. digests n rest)
 
--- these two for TRA alone
+-- these two only for TRA
 abbrev pub documents : Bool → ℕ → ℕ → Table
 documents true met present = doc_leaves met (doc_digests (term_sections met present))
 documents false met present = answer
@@ -103,7 +103,7 @@ met_ids (suc n) low rest = rising low (λ id. met_ids n (id + 1) rest)
 abbrev pub met : Bool → ℕ → Table
 met tra present = Number 4 0 65536 Count (λ n. met_ids n 0 (prefixes present (documents tra n present)))
 
--- ---- slots, one per query term; indexes never fall, and so many terms are present so far
+-- ---- slots, one per query term; indexes never fall; `present` counts the terms that are present so far
 
 abbrev pub slots : Bool → ℕ → ℕ → ℕ → Table
 slots tra zero low present = met tra present

@@ -1,4 +1,4 @@
--- What the field that comes next may still add: a present term, or a step that takes no byte; and what came of it.
+-- What the next field may be: one that finds a term present, an empty one; and that its own fault is no cut.
 use Rattle.std.specs.Prelude.{◌≡◌, ℕ, Bool, true, false}
 use Rattle.ats_grammar.specs.declared.fault.ShapeKind.{ShapeKind}
 use Rattle.ats_grammar.specs.declared.fault.ShapeKind.TheVariants.{Cut}
@@ -10,7 +10,7 @@ use Rattle.ats_grammar.specs.declared.state.TermsPart.TheVariants as terms
 use Rattle.ats_grammar.specs.declared.state.Part.{Part}
 use Rattle.ats_grammar.specs.declared.state.Part.TheVariants.{Dict, Met, Terms}
 
--- how many terms may be found present by the field that comes next
+-- how many terms the next field may find present
 abbrev pub pending : Part → ℕ
 pending (Met SlotKind) = 1
 pending _ = 0
@@ -25,7 +25,7 @@ abbrev pub is_cut : ShapeKind → Bool
 is_cut Cut = true
 is_cut _ = false
 
--- a number that is out of range is not told as missing bytes
+-- a number that is out of range is not reported as a cut
 abbrev pub HasOwnKind : Next → Type 0
 HasOwnKind (next.Number size low high kind) = is_cut kind ≡ false
 HasOwnKind _ = Unit {0}

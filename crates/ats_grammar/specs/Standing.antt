@@ -1,4 +1,4 @@
--- Where a reader of pieces stands in the bytes of a proof, and what a step takes.
+-- The position of a reader of pieces in the bytes of a proof, and what a step does.
 use Rattle.std.specs.Prelude.{◌≡◌, ◌≢◌, ℕ, ◌+◌, ◌*◌, ◌<◌, ◌≤◌, List, [], ◌++◌, length}
 use Rattle.ats_grammar.specs.declared.fault.ShapeKind.{ShapeKind}
 use Rattle.ats_grammar.specs.declared.fault.ShapeKind.TheVariants.{Cut}
@@ -11,20 +11,21 @@ use Rattle.ats_grammar.specs.State.{remaining}
 use Rattle.ats_grammar.specs.Reading.{IsNumberOf, IsReached, IsRefused}
 use Rattle.ats_grammar.specs.Pending.{may_be_empty}
 
--- of the field that comes next some bytes came, which are this number, if it is one; the rest is still to be read
+-- the reader is after whole fields, it has read `came` bytes of the next one, with their value if it is a number, and
+-- `rest` is still to be read
 pub record IsAt (bytes : List ℕ) (stand : Stand) (rest : List ℕ) : Type 0 where
   pub left : List ℕ
   pub reached : IsReached proof_format bytes (remaining stand.state) (left ++ rest)
   pub many : length left ≡ stand.came
   pub value : IsNumberOf (head (remaining stand.state)) left stand.number
 
--- bytes of the field are missing, or no field is wanted
+-- bytes of the field are missing, or no field is expected
 abbrev pub IsWaiting : Next → ℕ → Type 0
 IsWaiting next.End came = came ≡ 0
 IsWaiting (next.Number size low high kind) came = came < size
 IsWaiting (next.Bytes size) came = came < size
 
--- a step of the reader: what it knew of the bytes it knows again, and it came closer to their end
+-- a step of the reader: what it knew of the bytes it still knows, and it is closer to their end
 pub record IsOn (stand : Stand) (rest : List ℕ) (after : Stand) (behind : List ℕ) : Type 0 where
   pub at : (bytes : List ℕ) → IsAt bytes stand rest → IsAt bytes after behind
   pub fewer : after.came + length behind ≤ stand.came + length rest
@@ -34,7 +35,8 @@ pub record IsOn (stand : Stand) (rest : List ℕ) (after : Stand) (behind : List
 abbrev pub IsStill : Stand → List ℕ → Type 0
 IsStill stand rest = (rest ≡ []) × IsWaiting (head (remaining stand.state)) stand.came
 
--- so many of the last bytes belong to no whole field, and the field that comes next is not there, for another reason than that bytes are missing
+-- after some whole fields `many` bytes are left, which do not begin with the next field, and not because bytes are
+-- missing
 pub record IsWrong (bytes : List ℕ) (kind : ShapeKind) (many : ℕ) : Type 0 where
   pub table : Table
   pub left : List ℕ

@@ -1,4 +1,4 @@
--- Where a reader of a proof stands determines what comes next.
+-- What may still come in a proof, by the state of its reader.
 use Rattle.std.specs.Prelude.{suc, ◌==◌}
 use Rattle.ats_grammar.specs.declared.fault.ShapeKind.TheVariants.{Version, Algorithm, Count}
 use Rattle.ats_grammar.specs.declared.state.FrontPart.{FrontPart}

@@ -4,8 +4,8 @@ use Rattle.ats_grammar.specs.declared.fault.ShapeKind.{ShapeKind}
 use Rattle.ats_grammar.specs.declared.next.Next.{Next}
 use Rattle.ats_grammar.specs.declared.next.Next.TheVariants as next
 
--- Either nothing more comes, or a number of `size` bytes, or `size` bytes of any content. The number is
--- from low to high, its fault outside is of that kind, and what comes after it depends on the number.
+-- Either nothing more comes, or a number of `size` bytes, or `size` bytes of any content. The number is from low to
+-- high, its fault outside that range has this kind, and what follows depends on the number.
 pub data Table : Type 0 where
   End : Table
   Number : (size low high : ℕ) → ShapeKind → (ℕ → Table) → Table
@@ -16,7 +16,7 @@ pub record Format : Type 0 where
   pub table : Table
   pub limit : ℕ
 
--- bytes as a number, the high byte first
+-- the value of bytes as a number, high byte first
 abbrev pub number : List ℕ → ℕ
 number [] = 0
 number (b ∷ bs) = b * 256 ^ length bs + number bs

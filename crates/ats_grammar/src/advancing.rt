@@ -1,4 +1,4 @@
-//! Where a reader stands after the field that comes next.
+//! The state of a reader after the next field.
 
 ghost use Rattle.std.specs.Prelude.{◌≡◌, ◌+◌, ◌*◌, ◌<◌};
 ghost use Rattle.ats_grammar.specs.declared.state.Part.TheVariants as parts;
@@ -9,7 +9,7 @@ ghost use Rattle.ats_grammar.specs.State.{in_front, in_dict, in_met, in_list, in
 use crate::state::{DictPart, DocsPart, FrontPart, ListPart, MetPart, Part, State, TermsPart};
 
 impl State {
-    // Another field to come, which finds no term present, with the same numbers.
+    // Moves to another field that finds no term present. The numbers stay.
     fn before(&mut self, part: Part)
         requires { pending part ≡ 0 }
         ensures remaining { remaining self.new ≡ remaining_in part self.old }
@@ -18,7 +18,7 @@ impl State {
         self.part = part;
     }
 
-    /// What stands after the field that comes next, which is this number where it is one.
+    /// Moves past the next field. `number` is its value if it is a number.
     pub(crate) fn advance(&mut self, number: u32)
         requires { IsWithin (remaining self.old) number }
         ensures part { remaining self.new ≡ follow (remaining self.old) number }

@@ -1,4 +1,4 @@
-//! What comes next where a reader stands.
+//! The field that comes next, by the state of a reader.
 
 ghost use Rattle.std.specs.Prelude.{◌≡◌};
 ghost use Rattle.ats_grammar.specs.Table.{head, IsSized};

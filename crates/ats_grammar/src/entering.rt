@@ -1,4 +1,4 @@
-//! Where a reader stands before a run of parts, which may be empty.
+//! The state of a reader before a run of parts, which may be empty.
 
 ghost use Rattle.std.specs.Prelude.{◌≡◌, ◌+◌, ◌<◌, ◌^◌};
 ghost use Rattle.ats_grammar.specs.Grammar.{dict_leaves, dict_digests, digests, slots, met_ids, prefixes};

@@ -17,11 +17,11 @@ pub enum ShapeKind {
     Count,
     /// A position, an index or a document's number does not rise as it must.
     Order,
-    /// Bytes stand after the last field.
+    /// Bytes follow the last field.
     Trailing,
 }
 
-/// Where the bytes of a proof first are wrong, and how.
+/// The first place where the bytes of a proof are wrong, and how.
 #[derive(Clone, Copy, Debug, PartialEq, Eq)]
 pub struct ShapeFault {
     /// The place of the first byte of the field, or of the first byte too many.

@@ -1,4 +1,4 @@
-//! What a reader of pieces keeps.
+//! What a reader of pieces keeps between them.
 
 ghost use Rattle.std.specs.Prelude.{◌≤◌, ◌^◌};
 ghost use Rattle.ats_grammar.specs.Inside.{came_in};
@@ -12,8 +12,8 @@ pub(crate) enum Place {
     Refused(ShapeFault),
 }
 
-/// Reads a proof whose bytes come in pieces, and keeps none of them. It tells a fault as soon as the bytes so far have
-/// one that more bytes do not mend.
+/// Reads a proof whose bytes arrive in pieces, and keeps none of them. It reports a fault as soon as the bytes so far
+/// have one that no further bytes can mend.
 #[derive(Clone, Copy)]
 pub struct Feeder {
     pub(crate) length: u64,

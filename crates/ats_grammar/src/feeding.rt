@@ -1,4 +1,4 @@
-//! Reading a proof whose bytes come in pieces.
+//! Reads a proof whose bytes arrive in pieces.
 
 ghost use Rattle.std.specs.Prelude.{◌≡◌, ◌≢◌, ℕ, ◌+◌, ◌<◌, ◌≤◌, ◌^◌, List, [], ◌++◌, length, IfOk, IfErr, OnOk};
 ghost use Rattle.ats_grammar.specs.declared.fault.ShapeFault.{ShapeFault};
@@ -19,7 +19,7 @@ use crate::state::State;
 /// The most bytes that a proof may have.
 pub const MAX_PROOF: u64 = 1 << 26;
 
-// Why reading stopped, and how many bytes there are behind the last whole field.
+// Why reading stopped, and how many bytes follow the last whole field.
 #[derive(Clone, Copy)]
 struct Wrong {
     kind: ShapeKind,
@@ -53,7 +53,7 @@ impl Stand {
 }
 
 impl Feeder {
-    /// A reader of a proof of so many bytes.
+    /// A reader of a proof of `length` bytes.
     ///
     /// # Errors
     /// A proof of more than 2^26 bytes is too long.
@@ -78,7 +78,7 @@ impl Feeder {
     /// Reads the next piece.
     ///
     /// # Errors
-    /// The first fault of the bytes so far, where more bytes do not mend it. From then on each call answers it.
+    /// The first fault of the bytes so far, if no further bytes can mend it. Every later call returns it too.
     pub fn feed(&mut self, piece: &[u8]) -> Result<(), ShapeFault>
         requires { self.old.fed + length piece.now ≤ self.old.length }
         ensures more { (self.new.length ≡ self.old.length) × (self.new.fed ≡ self.old.fed + length piece.now) }
@@ -106,7 +106,7 @@ impl Feeder {
         }
     }
 
-    /// Says what the bytes are, where no more come.
+    /// Decides on the bytes after the last piece.
     ///
     /// # Errors
     /// The first fault of the bytes.

@@ -1,4 +1,4 @@
-//! What holds of every spelling of a format, as contracts of functions that do nothing.
+//! The laws of all spellings of a format, as contracts of functions that do nothing.
 
 ghost use Rattle.std.specs.Prelude.{◌≡◌, ◌≢◌, ◌+◌, ◌≤◌, ◌++◌, ℕ, List, length};
 ghost use Rattle.ats_grammar.specs.declared.fault.ShapeFault.{ShapeFault};
@@ -6,27 +6,27 @@ ghost use Rattle.ats_grammar.specs.declared.fault.ShapeKind.TheVariants.{Cut, Tr
 ghost use Rattle.ats_grammar.specs.Front.{Spells, IsBad, IsFirst};
 ghost use Rattle.ats_grammar.specs.Table.{Format};
 
-/// Bytes spell one list of fields at most.
+/// Bytes spell at most one list of fields.
 pub fn spellings_tell_their_fields()
     ensures { (format : Format) (bytes : List ℕ) (fields others : List (List ℕ))
         → Spells format bytes fields → Spells format bytes others → fields ≡ others }
 {}
 
-/// Where further bytes stand after what is spelled, the fault is at the first of them.
+/// If further bytes follow what is spelled, the fault is at the first of them.
 pub fn further_bytes_are_trailing()
     ensures { (format : Format) (bytes more : List ℕ) (fields : List (List ℕ))
         → Spells format bytes fields → 1 ≤ length more → length bytes + length more ≤ format.limit
         → IsBad format (bytes ++ more) (record { at = length bytes; kind = Trailing }) }
 {}
 
-/// A fault other than a field that passes the end is that of all longer bytes too, within the limit.
+/// A fault other than `Cut` is the fault of all longer bytes too, within the limit.
 pub fn faults_stay()
     ensures { (format : Format) (bytes more : List ℕ) (fault : ShapeFault)
         → IsFirst format bytes fault → fault.kind ≢ Cut → length bytes + length more ≤ format.limit
         → IsFirst format (bytes ++ more) fault }
 {}
 
-/// Bytes have one fault at most, and none where they are spelled.
+/// Bytes have at most one fault, and none if they spell fields.
 pub fn bytes_have_one_fault()
     ensures one { (format : Format) (bytes : List ℕ) (a b : ShapeFault)
         → IsBad format bytes a → IsBad format bytes b → a ≡ b }

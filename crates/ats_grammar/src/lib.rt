@@ -1,13 +1,12 @@
-//! The bytes of a proof: which bytes spell one, and where and how others first go wrong.
+//! The bytes of a proof: which bytes spell one, and where and how all others first go wrong.
 //!
-//! A proof is bytes from a stranger. Its grammar stands in `specs/Grammar.antt` as what may come next, field
-//! by field: the size, the range, the kind of fault outside it, and what comes after each number. Fronts,
-//! spellings and the first fault follow from that alone, in `specs/Front.antt`. The reader keeps a few
-//! numbers that determine all that may still come; it makes one pass, and takes no memory. [`Feeder`] is that
-//! reader over pieces, which may end inside a field; [`scan`] feeds it bytes that are at hand.
-//! The crate stands on no other room. It promises that bytes are read exactly where they are the join of a whole
-//! front, and that the fault is else the one behind the longest front.
-//! How the reader keeps its place may change without asking; the grammar and the faults may not.
+//! A proof is bytes from a stranger. Its grammar, in `specs/Grammar.antt`, says field by field what may come next: the
+//! size, the range, the kind of fault outside it, and what follows each number. Fronts, spellings and the first fault
+//! follow from that alone, in `specs/Front.antt`. The reader keeps a few numbers that determine all that may still
+//! come; it makes one pass and allocates nothing. [`Feeder`] is that reader over pieces, which may end inside a field;
+//! [`scan`] feeds it bytes that are all there. The crate stands on `byteorder` only. It promises that bytes are
+//! accepted exactly if they are the join of a whole front, and that otherwise the fault is the one right after the
+//! longest front. How the reader keeps its place may change freely; the grammar and the faults may not.
 //!
 //! ```
 //! // bytes: a proof of 365 bytes; front, back: the pieces in which it came

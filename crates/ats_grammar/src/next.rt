@@ -1,4 +1,4 @@
-//! The field that comes next.
+//! The kinds of field that may come next.
 
 ghost use Rattle.std.specs.Prelude.{◌≡◌};
 ghost use Rattle.ats_grammar.specs.declared.fault.ShapeKind.TheVariants.{Count, Order};
@@ -8,7 +8,7 @@ use crate::fault::ShapeKind;
 
 const U16_MAX: u32 = 0xffff;
 
-/// What the bytes of a proof have next.
+/// What comes next in the bytes of a proof.
 #[derive(Clone, Copy)]
 pub(crate) enum Next {
     /// Nothing more.
@@ -17,11 +17,11 @@ pub(crate) enum Next {
     Number {
         /// How many bytes it has: 1, 2 or 4.
         size: u32,
-        /// The least that it may be, which no number reaches after the greatest of all.
+        /// The smallest allowed. It may be above every number of this size, as after the largest of a run.
         low: u64,
-        /// The greatest that it may be.
+        /// The largest allowed.
         high: u32,
-        /// The fault of another number.
+        /// The fault of a number out of this range.
         kind: ShapeKind,
     },
     /// Bytes of any content.

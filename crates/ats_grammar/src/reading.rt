@@ -22,8 +22,8 @@ fn number_of(bytes: &[u8]) -> u32
     }
 }
 
-/// Takes the field that comes next from the front of the bytes. Answers its number, or 0 where it is none,
-/// and the bytes after it; or nothing, where no field comes and no bytes are left.
+/// Takes the next field from the front of the bytes. Returns its number, or 0 if it is none, and the bytes after it; or
+/// `None`, if no field comes and no bytes are left.
 pub(crate) fn take(next: Next, bytes: &[u8]) -> Result<Option<(u32, &[u8])>, ShapeKind>
     requires { IsSized next }
     ensures taken { IfOk result (λ step. IfSome step (λ x. IsTaken next bytes.now x.0 x.1.now)) }

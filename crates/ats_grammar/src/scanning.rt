@@ -18,7 +18,7 @@ fn read(bytes: &[u8]) -> Result<(), ShapeFault>
     feeder.finish()
 }
 
-/// Reads the bytes from left to right, and tells the first fault where they spell no proof.
+/// Reads the bytes from left to right, and returns the first fault if they spell no proof.
 pub fn scan(bytes: &[u8]) -> Result<(), ShapeFault>
     ensures spelled { OnOk result (IsSpelling proof_format bytes.now) }
     ensures refused { IfErr result (λ fault. IsBad proof_format bytes.now fault) }

@@ -1,4 +1,4 @@
-//! Where a reader of pieces stands.
+//! The position of a reader of pieces.
 
 ghost use Rattle.std.specs.Prelude.{◌≡◌, ◌<◌, ◌≤◌, ◌+◌, ◌-◌, ◌*◌, ◌^◌};
 ghost use Rattle.ats_grammar.specs.Pending.{may_be_empty};
@@ -7,13 +7,13 @@ ghost use Rattle.ats_grammar.specs.Table.{head, follow, size_of, IsWithin};
 
 use crate::state::State;
 
-/// Where a reader stands: behind whole fields, and perhaps inside the next one.
+/// The position of a reader: after whole fields, and perhaps inside the next one.
 #[derive(Clone, Copy)]
 pub(crate) struct Stand {
     pub(crate) state: State,
-    /// How many bytes of the field that comes next were read. They are not all of it.
+    /// How many bytes of the next field were read. They are not all of it.
     pub(crate) came: u32,
-    /// The number that these bytes are, where the field is a number.
+    /// The value of these bytes, if the field is a number.
     pub(crate) number: u32,
     ghost inside: { came ≤ size_of (head (remaining state)) - 1 },
     ghost small: { number < 256 ^ came },
@@ -32,7 +32,7 @@ impl Stand {
         }
     }
 
-    /// Passes the field that comes next, which is this number where it is one.
+    /// Passes the next field. `number` is its value if it is a number.
     pub(crate) fn pass(&mut self, number: u32)
         requires { IsWithin (remaining self.old.state) number }
         ensures part { remaining self.new.state ≡ follow (remaining self.old.state) number }

@@ -1,4 +1,4 @@
-//! Where a reader of a proof stands.
+//! The state of a reader of a proof.
 
 ghost use Rattle.std.specs.Prelude.{◌+◌, ◌<◌, ◌^◌};
 ghost use Rattle.ats_grammar.specs.Pending.{pending};
@@ -87,26 +87,26 @@ pub(crate) enum Part {
     Terms(TermsPart),
 }
 
-/// What a reader of a proof keeps: the field that comes next, and of those before it only what bears on it
-/// or on later ones.
+/// What a reader of a proof keeps: the field that comes next, and from the fields before it only what matters to it or
+/// to later ones.
 #[derive(Clone, Copy)]
 pub(crate) struct State {
     pub(crate) part: Part,
     /// Whether the algorithm is TRA.
     pub(crate) tra: bool,
-    /// How many parts of the run are still to come after the one that the field belongs to.
+    /// How many parts of the run follow the one that the field belongs to.
     pub(crate) left: u32,
-    /// The least that the next position, document or index may be.
+    /// The smallest that the next position, document or index may be.
     pub(crate) low: u64,
-    /// How many bytes the term has that comes next.
+    /// How many bytes the next term has.
     pub(crate) size: u32,
-    /// How many query terms still have their slots to come.
+    /// How many query terms have no slot yet.
     pub(crate) slots: u32,
-    /// How many query terms are present, of those that have had their slots.
+    /// How many query terms are present, among those that have a slot.
     pub(crate) present: u32,
     /// How many documents are met.
     pub(crate) met: u32,
-    /// How many prefixes or terms sections are still to come after this one.
+    /// How many prefixes or terms sections follow this one.
     pub(crate) sections: u32,
     ghost few: { present + slots + pending part < 2 ^ 32 },
 }

@@ -25,7 +25,7 @@ impl Next {
 }
 
 impl Stand {
-    // Takes the whole field, where it is at hand and nothing of it was read.
+    // Takes the whole field, if all its bytes are there and none was read before.
     fn step_over<'a>(&mut self, next: Next, rest: &'a [u8]) -> Result<Option<&'a [u8]>, ShapeKind>
         requires none { self.old.came ≡ 0 }
         requires next { next ≡ head (remaining self.old.state) }
@@ -48,7 +48,7 @@ impl Stand {
         }
     }
 
-    // Reads one byte more of a number.
+    // Reads one more byte of a number.
     fn step_in_number(
         &mut self,
         size: u32,
@@ -78,7 +78,7 @@ impl Stand {
         Ok(())
     }
 
-    // Passes so many bytes of a field of any content.
+    // Passes `many` bytes of a field of any content.
     fn step_in_bytes(&mut self, size: u32, many: u32)
         requires next { head (remaining self.old.state) ≡ Bytes size }
         requires some { 1 ≤ many }
@@ -94,7 +94,7 @@ impl Stand {
         self.pass(0);
     }
 
-    /// Goes on by a field, or into one. Where nothing more can be read, there are no bytes.
+    /// Moves over a field, or further into one. Returns `None` if there is nothing more to read.
     pub(crate) fn step<'a>(&mut self, rest: &'a [u8]) -> Result<Option<&'a [u8]>, ShapeKind>
         ensures on { IfOk result (λ step. IfSome step (λ after. IsOn self.old rest.now self.new after.now)) }
         ensures wait { IfOk result (λ step. IfNone step ((self.new ≡ self.old) × IsStill self.old rest.now)) }
@@ -102,7 +102,7 @@ impl Stand {
             → IsWrong bytes kind (self.old.came + length rest.now)) }
         ensures same { OnErr result (self.new ≡ self.old) }
     {
-        // Inside a field more bytes are wanted, whatever it is.
+        // Inside a field more bytes are needed, whatever it is.
         if self.came > 0 && rest.is_empty() {
             return Ok(None);
         }

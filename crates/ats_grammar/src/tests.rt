@@ -88,7 +88,7 @@ fn tra(alloc: Global) -> Result<Vec<u8>, AllocError> {
     Ok(out)
 }
 
-// What is said of the bytes where they come in pieces of this size.
+// The verdict on the bytes if they arrive in pieces of this size.
 fn fed(bytes: &[u8], size: usize) -> Result<(), ShapeFault>
     requires { 1 ≤ size }
 {
@@ -102,7 +102,7 @@ fn fed(bytes: &[u8], size: usize) -> Result<(), ShapeFault>
     feeder.finish()
 }
 
-// The same is said of the bytes whole, byte by byte and in pieces of seven.
+// The verdict is the same on the bytes whole, byte by byte and in pieces of seven.
 fn expect(rt: &impl Abort, bytes: &[u8], said: Result<(), ShapeFault>) {
     assert_eq!(rt; scan(bytes), said);
     assert_eq!(rt; fed(bytes, 1), said);
@@ -161,8 +161,8 @@ fn each_field_is_cut(rt: HostRuntime) -> Result<(), Fail> {
     cuts(&rt, &tra(rt.alloc())?, &TRA_FIELDS)
 }
 
-// A place, what stands from there on, and the fault: in the fields that both have, each below and above its
-// range where that is possible.
+// A place, the bytes put there, and the fault: in the fields that both have, each below and above its range if that is
+// possible.
 const BEGUN: [(usize, &[u8], u64, ShapeKind); 27] = [
     (0, b"ATSO", 0, ShapeKind::Magic),
     (0, b"ATSQ", 0, ShapeKind::Magic),
@@ -255,7 +255,7 @@ fn each_field_has_its_faults(rt: HostRuntime) -> Result<(), Fail> {
     faults(&rt, rt.alloc(), &tra(rt.alloc())?, &TRA)
 }
 
-// Numbers that nobody chose.
+// Pseudo-random numbers.
 #[derive(Drop)]
 struct Dice {
     state: u32,
@@ -271,7 +271,7 @@ impl Dice {
     }
 }
 
-// Puts other bytes in some places, where the bytes have them, and cuts some of the ends.
+// Puts other bytes in some places, if the bytes have them, and cuts some of the ends.
 fn spoil(bytes: &mut Vec<u8>, dice: &mut Dice) {
     for _place in 0..dice.roll() % 3 {
         if let Some(byte) = bytes.get_mut(dice.roll() % 1024) {
@@ -281,7 +281,7 @@ fn spoil(bytes: &mut Vec<u8>, dice: &mut Dice) {
     bytes.truncate(dice.roll() % 2048);
 }
 
-// What is said of the bytes where they come in pieces of chosen sizes, one byte at least while there is one.
+// The verdict on the bytes if they arrive in pieces of random sizes, of at least one byte while there is one.
 fn fed_by_chance(bytes: &[u8], dice: &mut Dice) -> Result<(), ShapeFault> {
     let mut feeder = Feeder::new(bytes.len() as u64)?;
     let mut rest = bytes;

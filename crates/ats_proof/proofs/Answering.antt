@@ -1,4 +1,4 @@
--- Where the answer of a view stands.
+-- The place of the answer of a view.
 use Rattle.std.proofs.Common.{◌≡◌, ◌∙◌, Bool, ap}
 use Rattle.ats_proof.specs.declared.view.ProofView.TheInside.{Inside}
 use Rattle.ats_proof.specs.Reading.{is_tra, answer_place}

@@ -1,4 +1,4 @@
--- What a writer has after more bytes were asked for.
+-- A writer after more bytes were appended.
 use Rattle.std.proofs.Common.{◌≡◌, ◌+◌, ◌≤◌, ◌<◌, ◌++◌, ℕ, List, length, Option, Some, None, nat_lt, refl, sym, ap, ap₂, inl, inr, arith, length-append}
 use Rattle.std.specs.Prelude.{if◌then◌else◌}
 use Rattle.std.proofs.lemmas.Bool.Decides.{nat_tests}
@@ -13,7 +13,7 @@ after_beyond limit asked kept more over =
     let test : (if nat_lt limit (asked + length more) then None else joined kept more) ≡ None = grind (arith, nat_tests) in
     ap (λ (k : Option (List ℕ)). let w : Written = record { limit = limit; asked = asked + length more; kept = k } in w) test
 
--- within the limit the bytes stand behind the others
+-- within the limit the bytes follow the others
 pub after_within : (limit asked : ℕ) (bytes more : List ℕ) → asked + length more ≤ limit
     → after (record { limit = limit; asked = asked; kept = Some bytes }) more
     ≡ record { limit = limit; asked = asked + length more; kept = Some (bytes ++ more) }
@@ -22,12 +22,12 @@ after_within limit asked bytes more fits =
     let test : (if nat_lt limit (asked + length more) then None else Some (bytes ++ more)) ≡ Some (bytes ++ more) = grind (arith, nat_tests) in
     ap (λ (k : Option (List ℕ)). let w : Written = record { limit = limit; asked = asked + length more; kept = k } in w) test
 
--- where all bytes fit that are asked for, they are kept
+-- bytes that all fit are kept
 pub none_kept : (limit asked n : ℕ) (kept : Option (List ℕ)) → Holds limit asked kept → ((bytes : List ℕ) → kept ≡ Some bytes → ⊥) → asked + n ≤ limit → ⊥
 none_kept limit asked n None holds not fits = omega arith
 none_kept limit asked n (Some bytes) holds not fits = not bytes refl
 
--- what is asked for after some bytes stands behind them
+-- bytes that are appended after some follow them
 pub after-writing : (limit : ℕ) (bytes more : List ℕ) → after (writing limit bytes) more ≡ writing limit (bytes ++ more)
 unfolding after
 after-writing limit bytes more =

@@ -1,4 +1,4 @@
--- A leaf cut behind its term.
+-- A leaf cut after its term.
 use Rattle.std.proofs.Common.{◌≡◌, ◌∙◌, ℕ, ◌+◌, ◌-◌, ◌<◌, List, ◌++◌, take, drop, sym, ap, ap₂, subst, arith}
 use Rattle.std.specs.List.Sorted.{IsStrictlyIncreasing}
 use Rattle.std.proofs.Math.Seq.{take-add}
@@ -28,7 +28,7 @@ rest_rises behind n bytes some rises =
 pub rest_of_leaf : (behind : ℕ) (bytes : List ℕ) → drop behind (drop (1 + term_length_in bytes) (drop 4 bytes)) ≡ drop (leaf_size behind bytes) bytes
 rest_of_leaf behind bytes = ap (drop behind) (behind_term bytes) ∙ drop-drop behind (5 + term_length_in bytes) bytes
 
--- the entry that a leaf of the dictionary tells, from its two parts
+-- the entry of a leaf of the dictionary, from its two parts
 pub entry_of_parts : (bytes front back : List ℕ) → front ≡ take (1 + term_length_in bytes) (drop 4 bytes) → back ≡ take 36 (drop (5 + term_length_in bytes) bytes)
     → (let e : DictEntry = record { term = drop 1 front; f = number_in 4 back; root = take 32 (drop 4 back) } in e) ≡ (entry_in bytes).entry
 entry_of_parts bytes front back front_is back_is =
@@ -41,7 +41,7 @@ entry_of_parts bytes front back front_is back_is =
     ap₂ (λ (t : List ℕ) (n : ℕ). let e : DictEntry = record { term = t; f = n; root = take 32 (drop 4 back) } in e) term f
     ∙ ap (λ (r : List ℕ). let e : DictEntry = record { term = (entry_in bytes).entry.term; f = (entry_in bytes).entry.f; root = r } in e) root
 
--- the term and the impact that a leaf of a document's terms tells
+-- the term and the impact of a leaf of a document's terms, from its two parts
 pub term_of_parts : (bytes front back : List ℕ) → front ≡ take (1 + term_length_in bytes) (drop 4 bytes) → back ≡ take 2 (drop (5 + term_length_in bytes) bytes)
     → (let t : List ℕ × ℕ = (drop 1 front, number_in 2 back) in t) ≡ (term_in bytes).term
 term_of_parts bytes front back front_is back_is =

@@ -33,7 +33,7 @@ module _ {X : Type 0} (behind : ℕ) (read : List ℕ → X) (position : X → �
   leaf_positions zero bytes = refl
   leaf_positions (suc n) bytes = ap₂ (λ (x : ℕ) (xs : List ℕ). x ∷ xs) (begins bytes) (leaf_positions n (drop (leaf_size behind bytes) bytes))
 
--- what stands behind the digests of a terms section
+-- the bytes after the digests of a terms section
 pub slots_start : (bytes digests slots : List ℕ) → digests ≡ drop (section_leaves_size bytes) bytes → slots ≡ drop (counted_size 2 digest_size digests) digests
     → slots ≡ drop (section_slots_place bytes) bytes
 slots_start bytes digests slots digests_are slots_are =

@@ -93,7 +93,7 @@ front_bytes bytes room =
     take-add 1 l (drop 4 bytes) ∙ ap₂ (λ (xs ys : List ℕ). xs ++ take l ys) (head_byte (drop 4 bytes) (omega (arith, room, length-drop 4 bytes))) (drop-drop 1 4 bytes)
     ∙ ap (λ (n : ℕ). n ∷ term) (sym size)
 
--- the length, the term, and the bytes behind it
+-- the length, the term, and the bytes after it
 leaf_parts : (behind : ℕ) (bytes : List ℕ) → 5 + term_length_in bytes ≤ length bytes
     → take (1 + term_length_in bytes + behind) (drop 4 bytes)
     ≡ (length (take (term_length_in bytes) (drop 5 bytes)) ∷ take (term_length_in bytes) (drop 5 bytes)) ++ take behind (drop (5 + term_length_in bytes) bytes)

@@ -1,4 +1,4 @@
--- Each kind of part, as it stands in bytes.
+-- Each kind of part in bytes.
 use Rattle.std.proofs.Common.{◌≡◌, ℕ, zero, suc, ◌+◌, ◌==◌, ◌≤◌, if◌then◌else◌, List, [], ◌∷◌, length, take, drop, refl, sym, subst, arith}
 use Rattle.std.proofs.lemmas.List.{length-take-le, length-drop}
 use Rattle.ats_grammar.specs.Table.{Table, Bytes}

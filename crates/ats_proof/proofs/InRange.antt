@@ -1,4 +1,4 @@
--- The fields that spell a proof keep its parts in their ranges.
+-- The fields that spell a proof put its parts into their ranges.
 use Rattle.std.proofs.Common.{◌≡◌, ◌∙◌, ℕ, zero, suc, ◌+◌, ◌^◌, ◌==◌, ◌<◌, ◌≤◌, Bool, true, List, [], ◌∷◌, ◌++◌, length, map, slice_index_or, Option, Some, None, sym, ap, subst, append_assoc, map-id, zero-add, arith}
 use Rattle.std.specs.List.{All, AllByRecursion, AllAdjacentBelow, flat_map}
 use Rattle.std.specs.Option.{ForSome}
@@ -77,7 +77,7 @@ module _ {S X : Type 0} (next : S → X → S) (Good : S → X → Type 0) (P : 
   each : (xs : List X) (s : S) → AreGoodFrom next Good s xs → All P xs
   each xs s good = All-from_recursion P xs (each_by_recursion xs s good)
 
--- each number stands to the next as their parts' states ask
+-- each number relates to the next as their parts' states require
 module _ {S X : Type 0} (next : S → X → S) (Good : S → X → Type 0) (number : X → ℕ) (R : ℕ → ℕ → Type 0) (told : (s : S) (x y : X) → Good (next s x) y → R (number x) (number y)) where
   adjacent : (xs : List X) (s : S) → AreGoodFrom next Good s xs → AllAdjacentBelow R (map number xs) (length (map number xs))
   adjacent [] s good k d below = absurd (omega (arith, below))
@@ -88,12 +88,12 @@ module _ {S X : Type 0} (next : S → X → S) (Good : S → X → Type 0) (numb
       let all = map number (x ∷ y ∷ xs) in
       subst (λ (j : ℕ). R (slice_index_or all (suc k) d) (slice_index_or all j d)) e (adjacent (y ∷ xs) (next s x) good.1 k d (omega (arith, below)))
 
--- a number is at least so much, and something is so
+-- a number is at least `low`, and a condition holds
 pub record IsAbove (low number : ℕ) (good : Type 0) : Type 0 where
   pub above : low ≤ number
   pub is_good : good
 
--- parts of which each has a number above that of the part before it
+-- parts that each have a number above that of the part before
 module _ {X : Type 0} (number : X → ℕ) (P : X → Type 0) where
   abbrev AreAbove : ℕ → List X → Type 0
   AreAbove low xs = AreGoodFrom (λ _ x. number x + 1) (λ least x. IsAbove least (number x) (P x)) low xs

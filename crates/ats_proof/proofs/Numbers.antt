@@ -23,7 +23,7 @@ small_number (suc k) n few =
     let rest : number (spelled k (n % 256 ^ k)) ≡ n % 256 ^ k = small_number k (n % 256 ^ k) (mod-lt n (power_some k)) in
     ap₂ (λ (a b : ℕ). n / 256 ^ k * 256 ^ a + b) (length-spelled k (n % 256 ^ k)) rest ∙ div-add-mod' n (256 ^ k)
 
--- the bytes of a number tell it, though it be too great
+-- the bytes of a number give it back, even if it is too large
 pub number-spelled : (k n : ℕ) → number (spelled (suc k) n) ≡ n
 number-spelled k n =
     let rest : number (spelled k (n % 256 ^ k)) ≡ n % 256 ^ k = small_number k (n % 256 ^ k) (mod-lt n (power_some k)) in

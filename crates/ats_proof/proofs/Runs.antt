@@ -1,4 +1,4 @@
--- Runs of like parts that stand in bytes.
+-- Runs of like parts in bytes.
 use Rattle.std.proofs.Common.{◌≡◌, ℕ, zero, suc, ◌+◌, List, [], ◌∷◌, ◌++◌, length, drop, refl, sym, ap, subst}
 use Rattle.std.specs.List.{flat_map}
 use Rattle.ats_grammar.specs.declared.fault.ShapeKind.{ShapeKind}
@@ -6,7 +6,7 @@ use Rattle.ats_grammar.specs.Table.{Table, Number}
 use Rattle.ats_proof.specs.Parts.{spelled, number_in, parts_in, total_size, counted_in, counted_size, counted}
 use Rattle.ats_proof.proofs.Standing.{Stands, HasFront, both, nothing, has_number}
 
--- so many parts, of which each tells by a state what the next may be, then what is given last
+-- n parts, each of which leads by a state to what the next may be, then the last argument
 abbrev pub runs : {S : Type 0} → (S → (S → Table) → Table) → ℕ → S → (S → Table) → Table
 runs part zero s last = last s
 runs part (suc n) s last = part s (λ t. runs part n t last)
@@ -39,7 +39,7 @@ module _ {S X : Type 0} (part : S → (S → Table) → Table) (size : List ℕ 
       both a k (runs part n s last) fields bytes (flat_map spell (parts_in size read n behind)) (total_size size n behind) (last (state_after next s (parts_in size read n behind)))
       is (has_run n s last is.after behind is.stands)
 
-  -- a number of parts, and a run of so many
+  -- a number of parts, and a run of as many
   pub has_counted : (width low high : ℕ) (kind : ShapeKind) (s : S) (last : ℕ → S → Table) (fields : List (List ℕ)) (bytes : List ℕ)
       → Stands (Number width low high kind (λ n. runs part n s (last n))) fields bytes
       → HasFront (counted width spell (counted_in width size read bytes)) (counted_size width size bytes) (last (number_in width bytes) (state_after next s (counted_in width size read bytes))) fields bytes

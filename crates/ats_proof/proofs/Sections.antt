@@ -1,4 +1,4 @@
--- Prefixes and terms sections, as they stand in bytes.
+-- Prefixes and terms sections in bytes.
 use Rattle.std.proofs.Common.{ℕ, ◌+◌, List, ◌++◌, drop, subst}
 use Rattle.ats_grammar.specs.declared.fault.ShapeKind.TheVariants.{Count}
 use Rattle.ats_grammar.specs.Table.{Table, Number}

@@ -1,4 +1,4 @@
--- Fields that stand in bytes: one field, and runs of like parts.
+-- Fields in bytes: one field, and runs of like parts.
 use Rattle.std.proofs.Common.{◌≡◌, ◌∙◌, ℕ, zero, suc, ◌+◌, ◌≤◌, List, [], ◌∷◌, ◌++◌, length, take, drop, refl, sym, ap, subst, arith, append_assoc, length-append}
 use Rattle.std.specs.List.{concat}
 use Rattle.std.proofs.lemmas.List.{take_at, drop_at, drop-drop, get_or-drop, length-drop}
@@ -14,7 +14,7 @@ pub record Stands (table : Table) (fields : List (List ℕ)) (bytes : List ℕ) 
   pub join : bytes ≡ concat fields
   pub small : AreBytes bytes
 
--- the first of them are these, of so many bytes, and the rest is the other table's
+-- these are the first fields, of `size` bytes, and the others are the rest's
 pub record HasFront (front : List (List ℕ)) (size : ℕ) (rest : Table) (fields : List (List ℕ)) (bytes : List ℕ) : Type 0 where
   pub after : List (List ℕ)
   pub split : fields ≡ front ++ after

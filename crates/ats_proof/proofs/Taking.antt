@@ -55,13 +55,13 @@ increasing-tail p ps rises k below =
     let e : suc k + 1 ≡ suc (k + 1) = omega arith in
     subst (λ (j : ℕ). slice_index ps k < slice_index (p ∷ ps) j) e (rises (suc k) (omega (arith, below)))
 
--- what stands behind the entries of a prefix
+-- the bytes after the entries of a prefix
 pub after_postings : (bytes : List ℕ) → drop (number_in 4 bytes * 6) (drop 4 bytes) ≡ drop (counted_size 4 posting_size bytes) bytes
 after_postings bytes = drop-drop (number_in 4 bytes * 6) 4 bytes ∙ ap (λ (n : ℕ). drop (4 + n) bytes) (sym (total_fixed 6 (λ b. b) (number_in 4 bytes) (drop 4 bytes)))
 
 -- ---- going along a run, part by part
 
--- so many parts are left of those in the bytes, and the rest has room for them
+-- `left` of the parts in the bytes are left, and the rest has room for them
 pub record IsAlong (size : List ℕ → ℕ) (count : ℕ) (bytes : List ℕ) (left : ℕ) (rest : List ℕ) : Type 0 where
   pub fits : total_size size left rest ≤ length rest
   pub same : length bytes + total_size size left rest ≡ length rest + total_size size count bytes
@@ -74,7 +74,7 @@ along_more size count bytes left rest some is =
       same = omega (arith, is.same, is.fits, e, length-drop (size rest) rest);
     }
 
--- the items of the parts passed, which are no more than their bytes
+-- the items of the parts passed are no more than their bytes
 pub record AreCounted {X : Type 0} (size : List ℕ → ℕ) (read : List ℕ → X) (items_of : X → ℕ) (count : ℕ) (bytes : List ℕ) (left : ℕ) (rest : List ℕ) (items : ℕ) : Type 0 where
   pub sum : items + sum_by items_of (parts_in size read left rest) ≡ sum_by items_of (parts_in size read count bytes)
   pub few : items + length rest ≤ length bytes

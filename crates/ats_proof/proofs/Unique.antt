@@ -1,4 +1,4 @@
--- Fields tell the parts that they spell.
+-- Fields determine the parts that they spell.
 use Rattle.std.proofs.Common.{◌≡◌, ◌∙◌, ℕ, suc, Bool, true, false, if◌then◌else◌, List, [], ◌∷◌, ◌++◌, length, get_or, drop, Option, Some, None, refl, sym, ap, ap₂, arith, append_assoc, append-nil}
 use Rattle.std.specs.List.{All, concat, flat_map}
 use Rattle.std.proofs.lemmas.List.Elements.{All-tail}
@@ -19,7 +19,7 @@ pub record AreSame {X : Type 0} (x y : X) (a b : List (List ℕ)) : Type 0 where
   pub value : x ≡ y
   pub rest : a ≡ b
 
--- what a part and all after it are spelled as tells both
+-- the fields of a part and of all after it determine both
 abbrev pub Tells : {X : Type 0} → (X → List (List ℕ)) → Type 0
 Tells {X} spell = (x y : X) (a b : List (List ℕ)) → spell x ++ a ≡ spell y ++ b → AreSame x y a b
 
@@ -31,7 +31,7 @@ number_first k m n a b e =
     let one = first (spelled (suc k) m) (spelled (suc k) n) a b e in
     record { value = sym (number-spelled k m) ∙ ap number one.value ∙ number-spelled k n; rest = one.rest }
 
--- the same of runs whose parts are good, each by what is asked of its own run
+-- the same for runs whose parts are good, each by a condition of its own run
 pub good_runs_tell : {X : Type 0} (spell : X → List (List ℕ)) (P Q : X → Type 0) → ((x y : X) (a b : List (List ℕ)) → P x → Q y → spell x ++ a ≡ spell y ++ b → AreSame x y a b)
     → (xs ys : List X) (a b : List (List ℕ)) → All P xs → All Q ys → length xs ≡ length ys → flat_map spell xs ++ a ≡ flat_map spell ys ++ b → AreSame xs ys a b
 good_runs_tell spell P Q one [] [] a b good other len e = record { value = refl; rest = e }

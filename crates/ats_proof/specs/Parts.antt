@@ -1,18 +1,18 @@
--- Numbers as bytes, and like parts that stand one after another in bytes.
+-- Numbers as bytes, and like parts one after another in bytes.
 use Rattle.std.specs.Prelude.{◌<◌, get_or, ℕ, zero, suc, ◌+◌, ◌/◌, ◌%◌, ◌^◌, List, [], ◌∷◌, length, take, drop}
 use Rattle.std.specs.List.{flat_map}
 use Rattle.ats_grammar.specs.Table.{number}
 
--- so many bytes whose number is n, the high byte first
+-- `size` bytes with the value n, high byte first
 abbrev pub spelled : (size n : ℕ) → List ℕ
 spelled zero n = []
 spelled (suc k) n = n / 256 ^ k ∷ spelled k (n % 256 ^ k)
 
--- the number of so many bytes at the front
+-- the value of the first `size` bytes
 abbrev pub number_in : ℕ → List ℕ → ℕ
 number_in size bytes = number (take size bytes)
 
--- each of the next parts, of which each has the size that its own bytes tell
+-- the next parts; the size of each is read from its own bytes
 abbrev pub parts_in : {X : Type 0} → (List ℕ → ℕ) → (List ℕ → X) → ℕ → List ℕ → List X
 parts_in size read zero bytes = []
 parts_in size read (suc n) bytes = read bytes ∷ parts_in size read n (drop (size bytes) bytes)
@@ -22,17 +22,17 @@ abbrev pub total_size : (List ℕ → ℕ) → ℕ → List ℕ → ℕ
 total_size size zero bytes = 0
 total_size size (suc n) bytes = size bytes + total_size size n (drop (size bytes) bytes)
 
--- the parts whose number stands in so many bytes before them, and how many bytes number and parts have
+-- the parts after their number, which has `width` bytes; and how many bytes the number and the parts have
 abbrev pub counted_in : {X : Type 0} → ℕ → (List ℕ → ℕ) → (List ℕ → X) → List ℕ → List X
 counted_in width size read bytes = parts_in size read (number_in width bytes) (drop width bytes)
 
 abbrev pub counted_size : ℕ → (List ℕ → ℕ) → List ℕ → ℕ
 counted_size width size bytes = width + total_size size (number_in width bytes) (drop width bytes)
 
--- the fields of parts behind their number
+-- the fields of parts, after the field of their number
 abbrev pub counted : {X : Type 0} → ℕ → (X → List (List ℕ)) → List X → List (List ℕ)
 counted width spell xs = spelled width (length xs) ∷ flat_map spell xs
 
--- each is a byte
+-- each element is a byte
 abbrev pub AreBytes : List ℕ → Type 0
 AreBytes bytes = (i : ℕ) → get_or bytes i 0 < 256

@@ -1,4 +1,4 @@
--- What the parts of a proof keep, whatever bytes spell it.
+-- The ranges of a proof's parts, whatever bytes spell it.
 use Rattle.std.specs.Prelude.{◌≡◌, ◌<◌, ◌≤◌, ◌^◌, ℕ, List, length, map}
 use Rattle.std.specs.List.{All}
 use Rattle.std.specs.Option.{ForSome}
@@ -78,7 +78,7 @@ pub record AreDocumentsInRange (docs : Documents) : Type 0 where
   pub sized : AreDigests docs.digests
   pub sections : All IsSectionInRange docs.sections
 
--- what all parts of a proof keep
+-- all parts of a proof are in their ranges
 pub record IsInRange (proof : Proof) : Type 0 where
   pub front : IsHeader proof.header.documents proof.header.dict_leaves proof.header.dict_root proof.header.docs_root proof.header.texts_root
   pub terms : IsDictInRange proof.dict proof.dict_digests

@@ -1,4 +1,4 @@
--- What the parts of a proof say, read from their bytes, and how many bytes each has.
+-- The parts of a proof, read from their bytes, and how many bytes each has.
 use Rattle.std.specs.Prelude.{ℕ, ◌+◌, ◌==◌, Bool, true, false, List, take, drop, Option, Some, None}
 use Rattle.ats_dict.specs.declared.header.Header.{Header}
 use Rattle.ats_lists.specs.declared.entry.Entry.{Entry}
@@ -13,11 +13,11 @@ digest_size bytes = 32
 abbrev pub digest_in : List ℕ → List ℕ
 digest_in bytes = take 32 bytes
 
--- the length of the term that stands behind a position
+-- the length of the term after a position
 abbrev pub term_length_in : List ℕ → ℕ
 term_length_in bytes = number_in 1 (drop 4 bytes)
 
--- a leaf's position, length and term, and so many bytes behind the term
+-- a leaf's position, length and term, and `behind` bytes after the term
 abbrev pub leaf_size : ℕ → List ℕ → ℕ
 leaf_size behind bytes = 5 + term_length_in bytes + behind
 
@@ -105,7 +105,7 @@ header_in bytes = record {
   texts_root = take 32 (drop 79 bytes);
 }
 
--- the number of query terms, and where the parts behind it begin
+-- the number of query terms, and where the parts after it begin
 abbrev pub terms_in : List ℕ → ℕ
 terms_in bytes = number_in 2 (drop 111 bytes)
 
@@ -151,7 +151,7 @@ documents_in true bytes = Some (record {
 })
 documents_in false bytes = None
 
--- what bytes say that spell a proof
+-- the proof that bytes spell, if they spell one
 abbrev pub proof_in : List ℕ → Proof
 proof_in bytes = record {
   header = header_in bytes;

@@ -1,4 +1,4 @@
--- The bytes of each record of a proof. All numbers have their high byte first.
+-- The bytes of each record of a proof. All numbers are written high byte first.
 use Rattle.std.specs.Prelude.{ℕ, List, ◌∷◌, ◌++◌, Bool, true, false}
 use Rattle.std.specs.Int.{to_be_bytes, w16, w32}
 use Rattle.ats_dict.specs.Entry.{dict_leaf_bytes}
@@ -37,7 +37,7 @@ dict_leaf_record position term f root = to_be_bytes w32 position ++ dict_leaf_by
 abbrev pub digest_record : List ℕ → List ℕ
 digest_record digest = digest
 
--- 1 where the term is present, else 0
+-- 1 if the term is present, else 0
 abbrev pub kind_byte : Bool → ℕ
 kind_byte true = 1
 kind_byte false = 0

@@ -1,4 +1,4 @@
--- What is left of the runs that a view keeps.
+-- What is left of the runs that a view goes through.
 use Rattle.std.specs.Prelude.{ℕ, ◌+◌, ◌<◌, List, [], ◌∷◌, map, take, drop, slice_index_or}
 use Rattle.std.specs.List.{All}
 use Rattle.std.specs.List.Sorted.{IsStrictlyIncreasing}
@@ -38,7 +38,7 @@ shown_list at met (e ∷ es) = (at, leaf_bytes (named met e)) ∷ shown_list (at
 
 -- ---- positions
 
--- a leaf as it stands in bytes: its position, and the bytes from its length on
+-- a leaf in a proof's bytes: its position, and the bytes from its length on, of which `behind` follow the term
 abbrev pub leaf_in : ℕ → List ℕ → Shown
 leaf_in behind bytes = (number_in 4 bytes, take (1 + term_length_in bytes + behind) (drop 4 bytes))
 

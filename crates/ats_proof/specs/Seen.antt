@@ -17,7 +17,7 @@ digests_of run = parts_in digest_size digest_in run.left run.bytes.now
 abbrev pub leaves_of : LeafRun → List Shown
 leaves_of run = leaves_in run.behind run.left run.bytes.now
 
--- the length and the term of the first leaf that stands in the bytes
+-- the length and the term of the first leaf in the bytes
 abbrev pub term_front : List ℕ → List ℕ
 term_front bytes = take (1 + term_length_in bytes) (drop 4 bytes)
 

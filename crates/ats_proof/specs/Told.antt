@@ -1,4 +1,4 @@
--- What a view keeps of its bytes: where the parts begin.
+-- The places of a proof's parts in its bytes, which a view keeps.
 use Rattle.std.specs.Prelude.{◌≡◌, ◌≤◌, ◌+◌, ◌^◌, ℕ, Bool, true, List, length, drop}
 use Rattle.ats_proof.specs.declared.places.Begun.{Begun}
 use Rattle.ats_proof.specs.declared.places.Ended.{Ended}
@@ -12,7 +12,7 @@ pub record HasRoom (bytes : List ℕ) : Type 0 where
   pub docs : docs_place bytes ≤ length bytes
   pub answer : answer_place (is_tra bytes) bytes + counted_size 2 id_size (drop (answer_place (is_tra bytes) bytes) bytes) ≤ length bytes
 
--- up to the prefixes
+-- the places and numbers up to the prefixes
 pub record IsBegun (bytes : List ℕ) (begun : Begun) : Type 0 where
   pub dict_digests : begun.dict_digests ≡ dict_digests_place bytes
   pub terms : begun.terms ≡ terms_in bytes
@@ -22,14 +22,14 @@ pub record IsBegun (bytes : List ℕ) (begun : Begun) : Type 0 where
   pub met : begun.met ≡ met_in bytes
   pub lists : begun.lists ≡ lists_place bytes
 
--- the documents and the answer, and how many items these are
+-- the places of the documents and the answer, and how many items the documents have
 pub record IsEnded (bytes : List ℕ) (tra : Bool) (ended : Ended) : Type 0 where
   pub doc_digests : tra ≡ true → ended.doc_digests ≡ doc_digests_place bytes
   pub sections : tra ≡ true → ended.sections ≡ sections_place bytes
   pub answer : ended.answer ≡ answer_place tra bytes
   pub items : ended.items ≡ items_of_documents (documents_in tra bytes)
 
--- the whole
+-- all of these, of bytes that spell a proof
 pub record IsPlaced (bytes : List ℕ) (tra : Bool) (begun : Begun) (ended : Ended) (docs : ℕ) (items : ℕ) : Type 0 where
   pub room : HasRoom bytes
   pub same : tra ≡ is_tra bytes

@@ -18,7 +18,7 @@ pub record ShownEntry : Type 0 where
   pub position : ℕ
   pub entry : DictEntry
 
--- the shown front of a list, whose entries name documents by their place among the met ids
+-- the shown front of a list; its entries name documents by their place among the met ids
 pub record Prefix : Type 0 where
   pub entries : List Entry
   pub digests : List (List ℕ)
@@ -40,7 +40,7 @@ pub record Documents : Type 0 where
   pub digests : List (List ℕ)
   pub sections : List TermsSection
 
--- what a proof says; the documents stand in those of TRA alone
+-- what a proof says; only a TRA proof has documents
 pub record Proof : Type 0 where
   pub header : Header
   pub dict : List ShownEntry
@@ -115,7 +115,7 @@ fields_of p = front_fields p.docs ++ header_fields p.header ++ spelled 2 (length
     ++ flat_map slot_fields p.slots ++ counted 4 id_fields p.met ++ flat_map prefix_fields p.lists
     ++ documents_fields p.docs ++ counted 2 id_fields p.answer
 
--- ---- what is spelled once only
+-- ---- numbers of parts that other parts determine
 
 -- how many terms are present
 abbrev pub present_in : List Slot → ℕ

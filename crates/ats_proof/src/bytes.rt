@@ -35,7 +35,7 @@ pub(crate) fn digest(bytes: &[u8]) -> [u8; 32]
     digest
 }
 
-/// What stands from one of some parts on, which have one size.
+/// The bytes from part `i` on, if there are `count` parts of one size.
 pub(crate) fn nth(bytes: &[u8], count: u32, size: usize, i: u32) -> &[u8]
     requires within { i < count }
     requires small { size ≤ 64 }
@@ -47,7 +47,7 @@ pub(crate) fn nth(bytes: &[u8], count: u32, size: usize, i: u32) -> &[u8]
     part
 }
 
-// What a slice of bytes holds.
+// A slice holds bytes.
 pub(crate) fn are_bytes(bytes: &[u8])
     ensures { AreBytes bytes.now }
 {}

@@ -35,7 +35,7 @@ impl<'a> ListView<'a> {
     ghost use Rattle.ats_proof.specs.SeenLists.{list_of};
     ghost use Rattle.ats_proof.specs.SeenCursor.{list_leaves_of};
 
-    /// The entries as leaves, whose documents are the proof's. Each entry names a met document.
+    /// The entries as leaves, with the document numbers of the proof. Each entry names a met document.
     pub fn revealed(&self, proof: &ProofView<'a>) -> ListCursor<'a>
         requires { All (λ e. e.doc < length proof.now.met) (list_of self.now).entries }
         ensures shown { list_leaves_of result ≡ shown_list 0 proof.now.met (list_of self.now).entries }

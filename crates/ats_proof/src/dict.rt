@@ -9,8 +9,7 @@ use ats_dict::DictLeaf;
 use ats_hash::Steps;
 use ats_tree::Revealed;
 
-/// The leaves of the dictionary that a proof shows, of which those that were passed are gone, and the
-/// digests left.
+/// The leaves of the dictionary that a proof shows, without those that were passed, and the digests left.
 #[derive(Clone, Copy)]
 pub struct DictView<'a> {
     pub(crate) leaves: LeafRun<'a>,
@@ -22,14 +21,14 @@ impl<'a> DictView<'a> {
     ghost use Rattle.ats_proof.specs.Runs.{shown_entry};
     ghost use Rattle.ats_proof.specs.Seen.{entries_of, entry_of, leaves_of};
 
-    // Each leaf left is as it is hashed.
+    // Each leaf left has the bytes that are hashed.
     pub(crate) fn are_shown(&self)
         ensures { leaves_of self.now.leaves ≡ map shown_entry (entries_of self.now) }
     {
         are_bytes(self.leaves.bytes);
     }
 
-    /// The first leaf left, `None` where none is left.
+    /// The first leaf left, `None` if none is left.
     pub fn leaf(&self) -> Option<DictLeaf<'a>>
         ensures leaf { option_map entry_of result ≡ option_map (λ e. e.entry) (slice_get (entries_of self.now) 0) }
         ensures shown { leaves_of self.now.leaves ≡ map shown_entry (entries_of self.now) }

@@ -1,4 +1,4 @@
-//! Digests that stand one after another.
+//! Runs of digests, one after another.
 
 ghost use Rattle.std.specs.Prelude.{◌≡◌, ◌+◌, ◌*◌, ◌^◌, ◌<◌, ◌≤◌, length, drop, All, slice_get};
 ghost use Rattle.std.specs.Option.{option_copied};
@@ -16,7 +16,7 @@ pub(crate) struct DigestRun<'a> {
     pub ghost fits: { left * 32 ≤ length bytes.now },
 }
 
-// So many digests at the front of bytes, and the bytes after them.
+// The `left` digests at the front of bytes, and the bytes after them.
 fn cut_digests(left: u32, bytes: &[u8]) -> (DigestRun<'_>, &[u8])
     requires { left * 32 ≤ length bytes.now }
     ensures left { result.0.left ≡ left }
@@ -27,7 +27,7 @@ fn cut_digests(left: u32, bytes: &[u8]) -> (DigestRun<'_>, &[u8])
     (DigestRun { left, bytes }, rest)
 }
 
-/// The digests whose number stands before them in two bytes, and the bytes after them.
+/// The digests after their number, which has two bytes, and the bytes after them.
 pub(crate) fn counted_digests_2(bytes: &[u8]) -> (DigestRun<'_>, &[u8])
     requires { counted_size 2 digest_size bytes.now ≤ length bytes.now }
     ensures digests { parts_in digest_size digest_in result.0.left result.0.bytes.now
@@ -39,7 +39,7 @@ pub(crate) fn counted_digests_2(bytes: &[u8]) -> (DigestRun<'_>, &[u8])
     cut_digests(left, digests)
 }
 
-/// The digests whose number stands before them in four bytes, and the bytes after them.
+/// The digests after their number, which has four bytes, and the bytes after them.
 pub(crate) fn counted_digests_4(bytes: &[u8]) -> (DigestRun<'_>, &[u8])
     requires { counted_size 4 digest_size bytes.now ≤ length bytes.now }
     ensures digests { parts_in digest_size digest_in result.0.left result.0.bytes.now
@@ -54,7 +54,7 @@ pub(crate) fn counted_digests_4(bytes: &[u8]) -> (DigestRun<'_>, &[u8])
 impl<'a> DigestRun<'a> {
     ghost use Rattle.ats_proof.specs.Seen.{digests_of};
 
-    /// Removes and answers the first digest left, nothing where none is left.
+    /// Removes and returns the first digest left, `None` if none is left.
     pub(crate) fn pass(&mut self, steps: &mut Steps) -> Option<&'a [u8]>
         requires { steps.old + 1 < 2 ^ 64 }
         ensures first { option_copied result ≡ slice_get (digests_of self.old) 0 }

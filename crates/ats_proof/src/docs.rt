@@ -81,7 +81,7 @@ impl<'a> DocsView<'a> {
         (doc, slots.split_at(self.present as usize * 3).1)
     }
 
-    /// Removes and answers the first document left, `None` where none is left.
+    /// Removes and returns the first document left, `None` if none is left.
     pub fn next(&mut self, steps: &mut Steps) -> Option<DocView<'a>>
         requires { steps.old + 1 < 2 ^ 64 }
         ensures doc { option_map doc_of result ≡ slice_get (ids_of self.old) 0 }
@@ -144,7 +144,7 @@ impl<'a> DocView<'a> {
         self.terms
     }
 
-    /// The slot of a present term, counted among the present terms alone.
+    /// The slot of a present term, counted among the present terms only.
     pub fn slot(&self, i: u32, steps: &mut Steps) -> Slot
         requires within { i < length (section_of self.now).slots }
         requires room { steps.old + 1 < 2 ^ 64 }

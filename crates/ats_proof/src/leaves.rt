@@ -1,4 +1,4 @@
-//! Leaves with terms that stand one after another.
+//! Runs of leaves with terms, one after another.
 
 ghost use Rattle.std.specs.Prelude.{◌≡◌, ◌≤◌, ◌<◌, ◌+◌, ◌^◌, ◌++◌, length, map, take, drop};
 ghost use Rattle.std.specs.List.Sorted.{IsStrictlyIncreasing};
@@ -10,7 +10,7 @@ ghost use Rattle.ats_proof.specs.Runs.{leaves_in};
 use crate::bytes::{number_1, number_4};
 use ats_hash::Steps;
 
-/// The first of some leaves, from its length on, cut behind its term; and the leaves after it.
+/// The first of some leaves, from its length on, cut after its term; and the leaves after it.
 #[derive(Clone, Copy)]
 pub(crate) struct CutLeaf<'a> {
     pub(crate) front: &'a [u8],
@@ -18,7 +18,7 @@ pub(crate) struct CutLeaf<'a> {
     pub(crate) rest: &'a [u8],
 }
 
-/// Cuts the first leaf, which has so many bytes behind its term.
+/// Cuts the first leaf, which has `behind` bytes after its term.
 pub(crate) fn cut_leaf(bytes: &[u8], behind: usize) -> CutLeaf<'_>
     requires { leaf_size behind bytes.now ≤ length bytes.now }
     ensures front { result.front.now ≡ take (1 + term_length_in bytes.now) (drop 4 bytes.now) }
@@ -36,7 +36,7 @@ pub(crate) fn cut_leaf(bytes: &[u8], behind: usize) -> CutLeaf<'_>
 #[derive(Clone, Copy)]
 pub(crate) struct LeafRun<'a> {
     pub(crate) left: u32,
-    /// How many bytes each has behind its term.
+    /// How many bytes each has after its term.
     pub(crate) behind: usize,
     pub(crate) bytes: &'a [u8],
     pub ghost fits: { total_size (leaf_size behind) left bytes.now ≤ length bytes.now },
@@ -46,7 +46,7 @@ pub(crate) struct LeafRun<'a> {
 impl<'a> LeafRun<'a> {
     ghost use Rattle.ats_proof.specs.Seen.{leaves_of};
 
-    /// The first leaf left, cut behind its term.
+    /// The first leaf left, cut after its term.
     pub(crate) fn first(&self) -> CutLeaf<'a>
         requires { 0 < self.now.left }
         ensures front { result.front.now ≡ take (1 + term_length_in self.now.bytes.now) (drop 4 self.now.bytes.now) }

@@ -50,7 +50,7 @@ impl<'a> ListsView<'a> {
         )
     }
 
-    /// Removes and answers the first prefix left, `None` where none is left.
+    /// Removes and returns the first prefix left, `None` if none is left.
     pub fn next(&mut self, steps: &mut Steps) -> Option<ListView<'a>>
         requires { steps.old + 1 < 2 ^ 64 }
         ensures first { option_map list_of result ≡ slice_get (lists_of self.old) 0 }

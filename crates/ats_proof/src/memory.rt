@@ -1,6 +1,6 @@
-//! Want of memory.
+//! The error for lack of memory.
 
-/// Memory was wanted and not there.
+/// Memory ran out.
 #[derive(Clone, Copy, Debug, PartialEq, Eq)]
 pub struct OutOfMemory;
 

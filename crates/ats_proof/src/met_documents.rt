@@ -40,7 +40,7 @@ impl<'a> ProofView<'a> {
         }
     }
 
-    /// The met documents, `None` where the algorithm shows none.
+    /// The met documents, `None` if the algorithm shows none.
     pub fn docs(&self) -> Option<DocsView<'a>>
         ensures none { IfNone result (self.now.docs ≡ None) }
         ensures documents { IfSome result (λ docs. self.now.docs ≡ Some (documents_of docs)) }

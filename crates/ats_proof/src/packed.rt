@@ -5,7 +5,7 @@ ghost use Rattle.std.specs.Prelude.{◌≡◌, ◌+◌, ◌≤◌, ◌++◌, ◌
 use crate::record::FRONT_BYTES;
 use std::marker::Model;
 
-/// Up to 113 bytes that take no memory: the front is the longest record.
+/// Up to 113 bytes without allocating: the longest record is the front.
 #[derive(Drop)]
 pub(crate) struct Packed {
     bytes: [u8; FRONT_BYTES],
@@ -32,7 +32,7 @@ impl Packed {
         }
     }
 
-    /// Puts bytes at the end.
+    /// Appends bytes.
     pub(crate) fn put(&mut self, part: &[u8])
         requires { length self.old + length part.now ≤ 113 }
         ensures { self.new ≡ self.old ++ part.now }
@@ -42,7 +42,7 @@ impl Packed {
         self.len = end;
     }
 
-    /// Puts a term at the end, behind its length in one byte.
+    /// Appends a term, after its length in one byte.
     pub(crate) fn put_term(&mut self, term: &[u8])
         requires short { length term.now ≤ 64 }
         requires room { length self.old + 65 ≤ 113 }

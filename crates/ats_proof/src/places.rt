@@ -26,7 +26,7 @@ pub(crate) struct Begun {
     pub(crate) lists: usize,
 }
 
-/// The parts behind the prefixes, and how many items the documents are.
+/// The parts after the prefixes, and how many items the documents have.
 #[derive(Clone, Copy)]
 pub(crate) struct Ended {
     pub(crate) doc_digests: usize,
@@ -43,7 +43,7 @@ fn dict_digests_at(bytes: &[u8]) -> usize
     FRONT_BYTES + counted_leaves_size(DICT_BACK_BYTES, bytes.split_at(FRONT_BYTES).1)
 }
 
-// Where the slots begin, behind those digests.
+// Where the slots begin, after those digests.
 fn slots_at(bytes: &[u8], dict_digests: usize) -> usize
     requires room { HasRoom bytes.now }
     requires at { dict_digests ≡ dict_digests_place bytes.now }
@@ -52,7 +52,7 @@ fn slots_at(bytes: &[u8], dict_digests: usize) -> usize
     dict_digests + counted_digests_size_2(bytes.split_at(dict_digests).1)
 }
 
-// Where the terms sections begin, behind the digests of the documents.
+// Where the terms sections begin, after the digests of the documents.
 fn sections_at(bytes: &[u8], doc_digests: usize) -> usize
     requires few { length bytes.now ≤ 2 ^ 26 }
     requires room { answer_place true bytes.now ≤ length bytes.now }
@@ -93,7 +93,7 @@ impl Ended {
     ghost use Rattle.ats_proof.specs.Value.{items_of_documents, present_in};
     ghost use Rattle.std.specs.Prelude.{false};
 
-    // The parts behind the prefixes where documents are shown.
+    // The parts after the prefixes if documents are shown.
     fn of_tra(bytes: &[u8], docs: usize, met: u32, present: u32) -> Ended
         requires few { length bytes.now ≤ 2 ^ 26 }
         requires docs { docs ≡ docs_place bytes.now }
@@ -115,7 +115,7 @@ impl Ended {
         }
     }
 
-    /// The parts behind the prefixes.
+    /// The parts after the prefixes.
     pub(crate) fn of(bytes: &[u8], tra: bool, docs: usize, met: u32, present: u32) -> Ended
         requires room { HasRoom bytes.now }
         requires tra { tra ≡ is_tra bytes.now }

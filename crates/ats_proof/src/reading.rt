@@ -15,7 +15,7 @@ use crate::sizes::lists_sum;
 use crate::view::ProofView;
 use ats_grammar::{ShapeFault, scan};
 
-// What bytes are that spell a proof.
+// Bytes that spell a proof spell the one that is read from them.
 fn are_a_proof(bytes: &[u8])
     requires { IsSpelling proof_format bytes.now }
     ensures proof { IsProof bytes.now (proof_in bytes.now) }
@@ -55,7 +55,7 @@ impl<'a> ProofView<'a> {
         }
     }
 
-    /// Reads the bytes of a proof from left to right, and tells the first fault where they spell none.
+    /// Reads the bytes of a proof from left to right, and returns the first fault if they spell none.
     pub fn read(bytes: &'a [u8]) -> Result<ProofView<'a>, ShapeFault>
         ensures spelled { IfOk result (IsProof bytes.now) }
         ensures accepted { (proof : Proof) → IsProof bytes.now proof → result ≡ Ok proof }

@@ -6,7 +6,7 @@ pub(crate) const FRONT_BYTES: usize = 113;
 /// An entry of a list: the place of its document among the met ones, and the impact.
 pub(crate) const ENTRY_BYTES: usize = 6;
 
-/// What stands behind the term in a leaf of the dictionary: the number of its documents, and the root of its list.
+/// The part of a dictionary leaf after the term: the number of its documents, and the root of its list.
 pub(crate) const DICT_BACK_BYTES: usize = 36;
 
 /// How a proof was made, and so which sections it has.
@@ -14,21 +14,21 @@ pub(crate) const DICT_BACK_BYTES: usize = 36;
 pub enum Algorithm {
     /// The threshold algorithm with random access: the documents show the terms of each.
     Tra,
-    /// The threshold algorithm with no random access: the lists alone are shown.
+    /// The threshold algorithm with no random access: only the lists are shown.
     Tnra,
 }
 
 /// Where a section of leaves shows a term.
 #[derive(Clone, Copy, Debug, PartialEq, Eq)]
 pub struct Slot {
-    /// Whether the term stands at a leaf; else it is absent, between two neighbours.
+    /// Whether the term has a leaf; else it is absent, between two neighbours.
     pub present: bool,
-    /// Which of the section's leaves that is, counted from 0; of two neighbours the lower one.
+    /// The index of that leaf among the section's, counted from 0; of two neighbours that of the lower one.
     pub index: u16,
 }
 
-/// A leaf of the terms of a document. The low sentinel has the empty term, the high one the one byte 0xFF;
-/// both have impact 0.
+/// A leaf of the terms of a document. The low sentinel has the empty term, the high one the single byte 0xFF; both have
+/// impact 0.
 #[derive(Clone, Copy, Debug, PartialEq, Eq)]
 pub struct TermLeaf<'a> {
     /// The bytes of the term, at most 64 of them.

@@ -1,4 +1,4 @@
-//! How many bytes the sections have whose parts tell their own sizes, and how many items.
+//! How many bytes and items the sections have whose parts have sizes of their own.
 
 ghost use Rattle.std.specs.Prelude.{◌≡◌, ◌≤◌, ◌<◌, ◌+◌, ◌*◌, ◌^◌, length, sum_by};
 ghost use Rattle.ats_proof.specs.Parts.{total_size, parts_in, counted_size, number_in};
@@ -9,14 +9,14 @@ use crate::bytes::{number_1, number_2, number_4};
 use crate::leaves::cut_leaf;
 use crate::record::ENTRY_BYTES;
 
-/// How many bytes some parts have, and how many items they are.
+/// How many bytes and items some parts have.
 #[derive(Clone, Copy)]
 pub(crate) struct Sum {
     pub(crate) size: usize,
     pub(crate) items: u64,
 }
 
-// How many bytes so many leaves have, each with so many behind its term.
+// How many bytes `count` leaves have, each with `behind` bytes after its term.
 fn leaves_size(count: u32, behind: usize, bytes: &[u8]) -> usize
     requires { total_size (leaf_size behind) count bytes.now ≤ length bytes.now }
     ensures { result ≡ total_size (leaf_size behind) count bytes.now }
@@ -56,7 +56,7 @@ pub(crate) fn counted_digests_size_4(bytes: &[u8]) -> usize
     4 + number_4(bytes) as usize * 32
 }
 
-// 1 where a slot finds its term present, else 0.
+// 1 if a slot finds its term present, else 0.
 fn kind_of(bytes: &[u8]) -> u32
     requires { 3 ≤ length bytes.now }
     ensures kind { result ≡ kind_of_slot (slot_in bytes.now) }
@@ -65,7 +65,7 @@ fn kind_of(bytes: &[u8]) -> u32
     u32::from(number_1(bytes) == 1)
 }
 
-/// How many terms so many slots find present.
+/// How many terms the first `count` slots find present.
 pub(crate) fn present_count(count: u32, bytes: &[u8]) -> u32
     requires { count * 3 ≤ length bytes.now }
     ensures { result ≡ present_in (parts_in slot_size slot_in count bytes.now) }
@@ -105,7 +105,7 @@ fn list_sum(bytes: &[u8]) -> Sum
     }
 }
 
-/// How many bytes and items so many prefixes have.
+/// How many bytes and items `count` prefixes have.
 pub(crate) fn lists_sum(count: u32, bytes: &[u8]) -> Sum
     requires few { length bytes.now ≤ 2 ^ 26 }
     requires fits { total_size prefix_size count bytes.now ≤ length bytes.now }
@@ -129,7 +129,7 @@ pub(crate) fn lists_sum(count: u32, bytes: &[u8]) -> Sum
     }
 }
 
-// How many bytes and items a terms section has, with so many slots.
+// How many bytes and items a terms section has, with `present` slots.
 fn section_sum(present: u32, bytes: &[u8]) -> Sum
     requires few { length bytes.now ≤ 2 ^ 26 }
     requires fits { section_size present bytes.now ≤ length bytes.now }
@@ -145,7 +145,7 @@ fn section_sum(present: u32, bytes: &[u8]) -> Sum
     }
 }
 
-/// How many bytes and items so many terms sections have.
+/// How many bytes and items `count` terms sections have.
 pub(crate) fn sections_sum(present: u32, count: u32, bytes: &[u8]) -> Sum
     requires few { length bytes.now ≤ 2 ^ 26 }
     requires fits { total_size (section_size present) count bytes.now ≤ length bytes.now }

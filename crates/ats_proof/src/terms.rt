@@ -9,8 +9,7 @@ use crate::record::TermLeaf;
 use ats_hash::Steps;
 use ats_tree::Revealed;
 
-/// The leaves of a document's terms that a proof shows, of which those that were passed are gone, and the
-/// digests left.
+/// The leaves of a document's terms that a proof shows, without those that were passed, and the digests left.
 #[derive(Clone, Copy)]
 pub struct TermsView<'a> {
     pub(crate) leaves: LeafRun<'a>,
@@ -23,14 +22,14 @@ impl<'a> TermsView<'a> {
     ghost use Rattle.ats_proof.specs.Seen.{leaves_of};
     ghost use Rattle.ats_proof.specs.SeenTerms.{terms_of, term_of};
 
-    // Each leaf left is as it is hashed.
+    // Each leaf left has the bytes that are hashed.
     pub(crate) fn are_shown(&self)
         ensures { leaves_of self.now.leaves ≡ map shown_term (terms_of self.now) }
     {
         are_bytes(self.leaves.bytes);
     }
 
-    /// The first leaf left, `None` where none is left.
+    /// The first leaf left, `None` if none is left.
     pub fn leaf(&self) -> Option<TermLeaf<'a>>
         ensures leaf { option_map term_of result ≡ option_map (λ t. t.term) (slice_get (terms_of self.now) 0) }
         ensures shown { leaves_of self.now.leaves ≡ map shown_term (terms_of self.now) }

@@ -47,7 +47,7 @@ impl<'a> ProofView<'a> {
     ghost use Rattle.ats_proof.specs.Seen.{entries_of, digests_of, leaves_of};
     ghost use Rattle.ats_proof.specs.SeenLists.{lists_of};
 
-    /// What holds of every proof that was read.
+    /// Facts that hold for every proof that was read.
     pub fn is_spelled(&self)
         ensures spelled { IsSpelled self.now }
         ensures range { IsInRange self.now }
@@ -103,7 +103,7 @@ impl<'a> ProofView<'a> {
         self.begun.met
     }
 
-    /// The four bytes of the number of a met document.
+    /// The number of a met document, in its four bytes.
     pub fn met_id(&self, i: u32, steps: &mut Steps) -> &'a [u8]
         requires within { i < length self.now.met }
         requires room { steps.old + 1 < 2 ^ 64 }

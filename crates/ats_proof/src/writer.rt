@@ -19,9 +19,9 @@ const VERSION: u8 = 1;
 
 /// A proof that is being written, record by record.
 ///
-/// It keeps the bytes while they are within its limit. Past that it only counts them, and takes no memory.
-/// A writer keeps its allocator. Which record comes next is the caller's to know. Where a record finds no
-/// memory, the writer is as it was before.
+/// It keeps the bytes while they are within its limit. Past that it only counts them, and allocates nothing. A writer
+/// keeps its allocator. The caller decides which record comes next. If memory runs out for a record, the writer stays
+/// as it was.
 #[derive(Drop)]
 pub struct ProofWriter {
     limit: u64,
@@ -39,7 +39,7 @@ impl Model for ProofWriter {
     ghost invariant = { λ w. Holds w.limit w.asked w.kept };
 }
 
-// The byte that stands for an algorithm.
+// The byte of an algorithm.
 fn algorithm_byte(algorithm: Algorithm) -> u8
     ensures { result ≡ algorithm_byte algorithm }
 {
@@ -50,7 +50,7 @@ fn algorithm_byte(algorithm: Algorithm) -> u8
 }
 
 impl ProofWriter {
-    /// A writer of at most `limit` bytes, of which none is there. It takes no memory.
+    /// An empty writer of at most `limit` bytes. It allocates nothing.
     pub fn new(alloc: Global, limit: u64) -> Self
         ensures made { result ≡ writing limit [] }
         ensures size { result.asked ≡ 0 }
@@ -62,7 +62,7 @@ impl ProofWriter {
         }
     }
 
-    // Puts a record's bytes behind the others.
+    // Appends a record's bytes.
     fn append(&mut self, bytes: &[u8]) -> Result<(), OutOfMemory>
         requires { self.old.asked + length bytes.now ≤ 2 ^ 63 }
         ensures ok { OnOk result (self.new ≡ after self.old bytes.now) }
@@ -229,7 +229,7 @@ impl ProofWriter {
         self.append(&index.to_be_bytes())
     }
 
-    /// All bytes, or how many were asked for where those are more than the limit.
+    /// All bytes, or how many were appended if those are more than the limit.
     pub fn finish(self) -> Result<Bytes, u64>
         ensures bytes { IfOk result (λ bytes. self.kept ≡ Some bytes) }
         ensures whole { (bytes : List ℕ) → self ≡ writing self.limit bytes → IfOk result (λ made. made ≡ bytes) }

@@ -1,4 +1,4 @@
-//! The walk.
+//! The walk with no random access, from the first cut to the settled one.
 
 ghost use Rattle.std.specs.Prelude.{◌≡◌, IfOk};
 ghost use Rattle.ats_bound.specs.Chosen.{IsChosen};
@@ -11,8 +11,7 @@ use ats_bound::{Lane, OutOfMemory, Running, Walk};
 use ats_impact::Top;
 use std::alloc::Global;
 
-// The walk to the first cut at which the chosen answer is settled. Where all lists are whole it needs no
-// test.
+// The walk to the first cut at which the chosen answer is settled. If all lists are whole it needs no test.
 fn first_settled(alloc: Global, lanes: &[Lane<'_>], top: Top) -> Result<Walk, OutOfMemory>
     requires { AreWholeLanes (whole_lanes lanes.now) }
     ensures { IfOk result (IsEnd bracket (whole_lanes lanes.now) top) }
@@ -31,8 +30,8 @@ fn first_settled(alloc: Global, lanes: &[Lane<'_>], top: Top) -> Result<Walk, Ou
 /// The first cut of the schedule at which an answer is settled, with the brackets of the documents met
 /// there by document ascending, the chosen answer and the threshold.
 ///
-/// The schedule begins with one entry of each list. Each turn shows one entry more of the list that is not
-/// whole and whose coefficient times last shown impact is the greatest; a tie goes to the first such lane.
+/// The schedule begins with one entry of each list. Each turn shows one more entry of the list that is not whole and
+/// whose coefficient times last shown impact is the largest; a tie goes to the first such lane.
 pub fn walk(alloc: Global, lanes: &[Lane<'_>], top: Top) -> Result<Walk, OutOfMemory>
     requires { AreWholeLanes (whole_lanes lanes.now) }
     ensures cut { IfOk result (λ walk. IsFirstSettled (whole_lanes lanes.now) top walk.cut) }

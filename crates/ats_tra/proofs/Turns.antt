@@ -22,7 +22,7 @@ looked_there table lanes stage brackets same is known =
     let size : length stage.cut ≡ length lanes = subst (λ (ls : List WholeLane). length stage.cut ≡ length ls) same is.cut.size in
     scores_are_looked table lanes stage.cut brackets size (subst Here same known)
 
--- so it is told whether an answer is settled
+-- so whether an answer is settled is reported
 pub told_there : (bounds : Bounding) (lanes : List WholeLane) (r : ℕ) (walk : ScoredStanding) (told : Bool) → walk.stage.lanes ≡ lanes → walk.rows ≡ r
     → ((bs : Bounding) → AreBracketsBy bs (shown_on walk.stage) walk.brackets → TellsSettled bs walk.stage.lanes walk.rows walk.stage.cut told)
     → AreBracketsBy bounds (shown lanes walk.stage.cut) walk.brackets → TellsSettled bounds lanes r walk.stage.cut told
@@ -31,7 +31,7 @@ told_there bounds lanes r walk told same rows tells of =
     let there : AreBracketsBy bounds (shown_on walk.stage) walk.brackets = subst (λ (ls : List WholeLane). AreBracketsBy bounds (shown ls cut) walk.brackets) (sym same) of in
     subst (λ (n : ℕ). TellsSettled bounds lanes n cut told) rows (subst (λ (ls : List WholeLane). TellsSettled bounds ls walk.rows cut told) same (tells bounds there))
 
--- where the walk ends
+-- the end of the walk
 pub finished : (bounds : Bounding) (lanes : List WholeLane) (r : ℕ) (walk : ScoredStanding) (end : Walk) → walk.stage.lanes ≡ lanes → walk.rows ≡ r
     → end.cut ≡ walk.stage.cut → end.brackets ≡ walk.brackets → end.threshold ≡ threshold (shown_on walk.stage) → IsChosen end.brackets walk.rows end.picks
     → ArePicks end.brackets end.picks

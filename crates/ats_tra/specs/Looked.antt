@@ -3,7 +3,7 @@ use Rattle.std.specs.Prelude.{◌*◌, ◌+◌, ℕ, List, [], ◌∷◌}
 use Rattle.ats_bound.specs.Lookup.{Table}
 use Rattle.ats_bound.specs.Schedule.{WholeLane}
 
--- what a document scores by the table, the lists being counted from this number on
+-- the score of a document by the table; the lists are counted from i on
 abbrev pub score_from : ℕ → Table → List WholeLane → ℕ → ℕ
 score_from i table [] doc = 0
 score_from i table (lane ∷ lanes) doc = lane.coefficient * table i doc + score_from (i + 1) table lanes doc

@@ -3,8 +3,8 @@
 ghost use Rattle.std.specs.Prelude.{◌≡◌};
 ghost use Rattle.ats_bound.specs.Lookup.{Table};
 
-/// Impacts by list and document. Where they are those of the lists that are walked, with 0 for a document
-/// that a list does not name, what they come to is the document's score.
+/// Impacts by list and document. If they are those of the lists that are walked, with 0 for a document that a list does
+/// not name, they sum to the document's score.
 pub trait RandomAccess {
     /// The impact for each number of a list and each document.
     ghost table: { Self → Table };

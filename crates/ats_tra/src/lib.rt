@@ -1,11 +1,10 @@
-//! The threshold walk with random access: how far the lists of a query must be shown, where the score of
-//! each document that they name is looked up.
+//! The threshold walk with random access: how many entries of a query's lists must be shown if the score of each
+//! document that they name is looked up.
 //!
-//! The room stands on the lanes, settled answers and the walk with known scores of `ats_bound` and the
-//! number of rows of `ats_impact`. A caller hands in the impacts as a [`RandomAccess`]. The contract of
-//! [`walk`] promises the first cut of the schedule at which any answer is settled by exact scores. With it
-//! the contract promises the brackets of the documents met there, each its document's score twice, the
-//! chosen answer among them, and the threshold. How scores are summed may change without asking.
+//! The room stands on the lanes, settled answers and the walk with known scores of `ats_bound` and the number of rows
+//! of `ats_impact`. A caller passes the impacts as a [`RandomAccess`]. [`walk`] returns the first cut of the schedule
+//! at which any answer is settled by exact scores, with the brackets of the documents met there, whose two bounds are
+//! the document's score, the chosen answer among them, and the threshold. How scores are summed may change freely.
 //!
 //! ```
 //! use ats_bound::Lane;

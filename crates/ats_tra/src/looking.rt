@@ -9,7 +9,7 @@ use crate::access::RandomAccess;
 use ats_bound::{Lane, OutOfMemory};
 use std::alloc::Global;
 
-/// What a document scores.
+/// The score of a document.
 pub(crate) fn score<A: RandomAccess>(access: &A, lanes: &[Lane<'_>], doc: u32) -> u64
     requires { AreWholeLanes (whole_lanes lanes.now) }
     ensures { result ≡ score_by (A.table access.now) (whole_lanes lanes.now) doc }
@@ -21,7 +21,7 @@ pub(crate) fn score<A: RandomAccess>(access: &A, lanes: &[Lane<'_>], doc: u32) -
     sum
 }
 
-/// What the documents score that the first entries name, one for each list.
+/// The scores of the documents that the first entries name, one for each list.
 pub(crate) fn first_scores<A: RandomAccess>(
     alloc: Global,
     access: &A,

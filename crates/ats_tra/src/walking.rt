@@ -1,4 +1,4 @@
-//! The walk.
+//! The walk with random access, from the first cut to the settled one.
 
 ghost use Rattle.std.specs.Prelude.{◌≡◌, IfOk};
 ghost use Rattle.ats_bound.specs.Chosen.{IsChosen};
@@ -17,7 +17,7 @@ use ats_bound::{Lane, OutOfMemory, Scored, Walk};
 use ats_impact::Top;
 use std::alloc::Global;
 
-// The score of a document, which is not summed again where the document is met.
+// The score of a document, which is not summed again if the document is met already.
 fn score_at<A: RandomAccess>(access: &A, lanes: &[Lane<'_>], walk: &Scored<'_>, doc: u32) -> u64
     requires lanes { AreWholeLanes (whole_lanes lanes.now) }
     requires known { AreBracketsBy (exactly (score_by (A.table access.now) (whole_lanes lanes.now)))
@@ -30,8 +30,7 @@ fn score_at<A: RandomAccess>(access: &A, lanes: &[Lane<'_>], walk: &Scored<'_>, 
     }
 }
 
-// The walk to the first cut at which the chosen answer is settled. Where all lists are whole it needs no
-// test.
+// The walk to the first cut at which the chosen answer is settled. If all lists are whole it needs no test.
 fn first_settled<A: RandomAccess>(
     alloc: Global,
     lanes: &[Lane<'_>],
@@ -57,9 +56,9 @@ fn first_settled<A: RandomAccess>(
 /// The first cut of the schedule at which an answer is settled by the scores of the documents met there,
 /// with these scores as brackets by document ascending, the chosen answer and the threshold.
 ///
-/// The schedule begins with one entry of each list. Each turn shows one entry more of the list that is not
-/// whole and whose coefficient times last shown impact is the greatest; a tie goes to the first such lane.
-/// The score of a document is summed once, when it is first met.
+/// The schedule begins with one entry of each list. Each turn shows one more entry of the list that is not whole and
+/// whose coefficient times last shown impact is the largest; a tie goes to the first such lane. The score of a document
+/// is summed once, when it is first met.
 pub fn walk<A: RandomAccess>(
     alloc: Global,
     lanes: &[Lane<'_>],

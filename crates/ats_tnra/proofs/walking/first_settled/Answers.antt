@@ -43,7 +43,7 @@ loop-lane-preserved c =
       reached = reached_after bracket lanes c.args.top walk.cut i c.loop-lane.invariant.reached cannot next;
     })
 
--- where the walk stands, of the lists that it was given
+-- the state of the walk, for the lists that it was given
 stand_of : (lanes : List WholeLane) (r : ℕ) (walk : Standing) (end : Walk) → walk.lanes ≡ lanes → walk.rows ≡ r → IsStand bracket walk.lanes walk.rows walk.cut end
     → IsStand bracket lanes r walk.cut end
 stand_of lanes r walk end same rows stand =

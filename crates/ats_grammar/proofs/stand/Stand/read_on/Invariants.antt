@@ -6,6 +6,6 @@ use Rattle.ats_grammar.proofs.stand.Stand.read_on.Given as goal
 abbrev pub invariant-steps : goal.invariant-steps
 invariant-steps l = ((bytes : List ℕ) → IsAt bytes l.fn.self l.piece → IsAt bytes l.self l.rest) × (l.self.came + length l.rest ≤ l.fn.self.came + length l.piece)
 
--- a field of no bytes comes only where a term may be empty
+-- a field is empty only if it is a term
 abbrev pub decreases-steps : goal.decreases-steps
 decreases-steps l = may_be_empty l.self.state.part + 2 * length l.rest
