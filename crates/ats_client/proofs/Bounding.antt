@@ -1,4 +1,4 @@
--- What the marks of the met documents say of their brackets, and so of whether an answer is settled.
+-- What the marks of the met documents say of their brackets, and so whether an answer is settled.
 use Rattle.std.proofs.Common.{◌≡◌, ◌⊎◌, ◌<◌, ◌≤◌, ◌+◌, ◌-◌, ◌^◌, ℕ, zero, suc, nat_lt, false, List, ◌∷◌, length, get_or, sym, ap, subst, ◌∙◌, inl, inr, arith, add-one}
 use Rattle.std.specs.List.{All, sum_by, range_with_len}
 use Rattle.std.proofs.lemmas.Bool.{cases_order, cases_lt}
@@ -26,7 +26,7 @@ many numbers a (suc n) each =
     let later = many numbers (a + 1) n (λ i less. each i (omega (arith, less))) in
     omega (arith, sum_by-cons (λ i. times i numbers) a (range_with_len (a + 1) n), each a (omega arith), later)
 
--- where each number below n stands in the list, it has as many
+-- if each number below n is in the list, the list has at least n numbers
 pub all_fill : (n : ℕ) (numbers : List ℕ) → All (λ m. m < n) numbers → ((i : ℕ) → i < n → 1 ≤ times i numbers) → n ≤ length numbers
 all_fill n numbers inside each = omega (arith, counted_places n numbers inside, many numbers 0 n (λ i less. each i (omega (arith, less))))
 
@@ -102,7 +102,7 @@ module _ (bounds : Bounding) (lanes : List ShownLane) (met : List ℕ) (marks : 
     high : (i : ℕ) → i < length met → upper threshold (mark_at marks i) ≤ 2 ^ 64 - 1
     high i inside = omega (arith, (are.each i inside).small, small)
 
-    -- a document is outside the answer where its mark notes no row
+    -- a document is outside the answer if its mark notes no row
     outside_if : (i : ℕ) → i < length met → (mark_at marks i).row ≡ false → times i answer ≡ 0
     outside_if i inside free = any_none i answer (sym (noted i (omega (arith, inside, are.size))) ∙ free)
 

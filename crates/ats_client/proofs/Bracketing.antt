@@ -15,6 +15,6 @@ alone : (met : List ℕ) (docs : Option Documents) → (let walk : Algorithm = e
 alone met None is = refl
 alone met (Some docs) is = absurd (cc)
 
--- a proof of lists alone forms them from the shown entries
+-- a TNRA proof forms them from the shown entries
 pub lists_alone : (proof : Proof) → algorithm_of proof ≡ Tnra → bounds_of proof ≡ bracket
 lists_alone proof is = alone proof.met proof.docs is

@@ -1,5 +1,5 @@
 -- The descent: from the root to the header, the dictionary, the lists and the met documents, what a proof shows is the
--- archive's own but for a collision.
+-- archive's own, unless there is a collision.
 use Rattle.std.proofs.Common.{◌≡◌, ◌+◌, ◌<◌, ◌≤◌, ◌^◌, ℕ, List, [], ◌∷◌, ◌++◌, length, map, get_or, slice_get, Option, Some, refl, sym, ◌∙◌, ap, subst, arith}
 use Rattle.std.specs.List.{All, flat_map}
 use Rattle.std.specs.List.Sorted.{IsStrictlyIncreasing}
@@ -134,7 +134,7 @@ list-binds H sized archive query layout met one same digests rooted own =
 
 -- ---- all lists
 
--- a present pair, its slot and its prefix make a present term that is asked
+-- a present pair, its slot and its prefix make a present term that is in the query
 pair-asked : (query : List (List ℕ × ℕ)) (proof : Proof) → IsQuery query → groups.AreSlotsRight query proof
     → HoldsPresent (IsAsked query proof.dict) proof.dict 0 query proof.slots
 pair-asked query proof is right j pair slot prefix at spot present range =
@@ -177,7 +177,7 @@ lists-bind H sized archive query proof are range asked rooted own =
 
 -- ---- the whole proof
 
--- where each section rebuilds to the root that is told for it
+-- if each section rebuilds to the root that the proof has for it
 pub whole-binds : (H : List ℕ → List ℕ) → ((m : List ℕ) → length (H m) ≡ 32) → (archive : Archive) (query : List (List ℕ × ℕ)) (proof : Proof) → AreTexts archive.texts
     → IsQuery query → IsInRange proof → present_in proof.slots ≡ length proof.lists → AreRooted H (root_of H archive) query proof → IsBound H archive query proof
 whole-binds H sized archive query proof are is range size rooted =

@@ -104,7 +104,8 @@ each-ranged (id ∷ met) (leaf ∷ leaves) (section ∷ sections) ranges =
     All-cons (λ (one : MetDocument). IsSectionInRange one.section) (record { doc = id; leaf = leaf; section = section }) (documents_from met leaves sections)
     (All-head IsSectionInRange section sections ranges) (each-ranged met leaves sections (All-tail IsSectionInRange section sections ranges))
 
--- what is shown of the met documents, where the documents tree and each document's terms rebuild to the told roots
+-- what is shown of the met documents, if the documents tree and each document's terms rebuild to the roots that the
+-- proof has
 pub all-documents-bind : (H : List ℕ → List ℕ) → ((m : List ℕ) → length (H m) ≡ 32) → (archive : Archive) (query : List (List ℕ × ℕ)) (header : Header) (met : List ℕ) (docs : Option Documents)
     → AreTexts archive.texts → IsStrictlyIncreasing met → ForSome docs AreDocumentsInRange → AreDocsRooted H header met docs → All (IsTermsTree H) (documents_in met docs)
     → IsHeaderOf H archive header → Binds H (ours H archive query) (documents_strings H header met docs) (ForSome docs (AreOwnDocuments H archive.texts met))

@@ -1,4 +1,4 @@
--- What runs of strings show one after another: each run something, but for a collision.
+-- What runs of strings show one after another: each run shows something, unless there is a collision.
 use Rattle.std.proofs.Common.{◌≡◌, ℕ, List, [], ◌∷◌, ◌++◌, map, sym, inl, inr, Option, Some, None, subst, MatchOption}
 use Rattle.std.specs.List.{All, flat_map}
 use Rattle.std.specs.Str.{bytes_eq}
@@ -22,7 +22,7 @@ or-binds H A B None None p q = (p, q p)
 or-binds H A B None (Some c) p q = q p
 or-binds H A B (Some c) b p q = p
 
--- two runs joined, of which the second shows B where the first shows A
+-- two runs joined; the second shows B if the first shows A
 pub binds-both : {P : Type 0} (H : List ℕ → List ℕ) (ours : P → Option (List ℕ)) (a b : List (Hashed P)) (A B : Type 0)
     → Binds H ours a A → (A → Binds H ours b B) → Binds H ours (a ++ b) (A × B)
 binds-both {P} H ours a b A B p q =

@@ -1,4 +1,4 @@
--- Where a group of rules fails, it is not kept.
+-- A group of rules that fails does not hold.
 use Rattle.std.proofs.Common.{◌≡◌, ◌<◌, ◌+◌, ◌∙◌, ℕ, List, ◌∷◌, length, true, nat_eq, cond, Option, Some, ap, subst, arith}
 use Rattle.std.specs.List.{All}
 use Rattle.std.proofs.lemmas.Bool.Decides.{nat_tests}

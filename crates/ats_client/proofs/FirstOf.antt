@@ -1,4 +1,4 @@
--- The first of some elements that does not keep its rules: there is one at most, and all keep theirs or there is one.
+-- The first of some elements that breaks its rules: there is at most one, and either all keep theirs or there is one.
 use Rattle.std.proofs.Common.{◌≡◌, ◌∙◌, ◌⊎◌, List, [], ◌∷◌, ◌++◌, refl, sym, ap, ap₂, subst, inl, inr}
 use Rattle.std.specs.List.{All}
 use Rattle.std.proofs.lemmas.List.Elements.{All-nil, All-cons, All-head, All-tail}

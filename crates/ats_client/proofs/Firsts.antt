@@ -4,7 +4,7 @@ use Rattle.ats_tree.specs.Shown.{first_position}
 use Rattle.ats_proof.specs.Value.{ShownTerm}
 use Rattle.ats_proof.specs.Runs.{shown_term}
 
--- it is told by its position and its term
+-- its position and its term determine it
 pub first_told : (terms : List ShownTerm) (position : ℕ) (term : List ℕ × ℕ) → Some position ≡ first_position (map shown_term terms)
     → Some term ≡ option_map (λ (t : ShownTerm). t.term) (slice_get terms 0)
     → ◌≡◌ {A = Option ShownTerm} (Some (record { position = position; term = term })) (slice_get terms 0)

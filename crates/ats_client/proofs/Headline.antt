@@ -1,5 +1,5 @@
--- Where all that an accepted proof shows is an archive's own, its rows are right. So they are right for each archive with
--- the root, or two different strings have equal digests.
+-- If all that an accepted proof shows is an archive's own, its rows are right. So for each archive with the root they
+-- are right, or two different strings have equal digests.
 use Rattle.std.proofs.Common.{◌≡◌, ◌⊎◌, ℕ, List, [], length, get_or, map, Option, Some, None, refl, sym, subst, inl, inr}
 use Rattle.std.specs.Prelude.{IsSome, MatchOption}
 use Rattle.std.proofs.lemmas.List.Elements.{All-weaker}

@@ -1,4 +1,4 @@
--- The brackets of met documents hold their scores where all that is shown is the archive's own, by either algorithm.
+-- If all that is shown is the archive's own, the brackets of met documents contain their scores, by either algorithm.
 use Rattle.std.proofs.Common.{◌≡◌, ◌<◌, ◌+◌, ◌*◌, ◌∙◌, ℕ, zero, suc, List, [], ◌∷◌, length, map, get_or, slice_get, Option, Some, None, refl, sym, ap, ap₂, subst, arith, add-zero}
 use Rattle.std.specs.List.{All}
 use Rattle.std.proofs.lemmas.List.{length-map, get_or-map}

@@ -1,4 +1,4 @@
--- The rows of a settled answer are right, where the lanes that are shown are cuts of lists that sum to scores.
+-- The rows of a settled answer are right if the lanes that are shown are cuts of lists that sum to scores.
 use Rattle.std.proofs.Common.{◌≡◌, ◌<◌, ◌≤◌, ◌+◌, ◌∙◌, ℕ, suc, true, false, nat_eq, List, [], ◌∷◌, length, get_or, map, refl, sym, ap, ap₂, subst, inl, inr, arith}
 use Rattle.std.specs.List.{All, list_any}
 use Rattle.std.specs.List.Sorted.{IsStrictlyIncreasing}
@@ -145,7 +145,7 @@ module _ (n r : ℕ) (score_of : ℕ → ℕ) (bounds : Bounding) (lanes : List 
       let held : HoldsScore score_of (bounds lanes (met_at met (get_or answer k d))) = holds (get_or answer k d) (rows.inside k d low) in
       (held.lo, held.hi))
 
--- what a settled answer tells is right for the texts, where each bracket holds its score
+-- the rows of a settled answer are right for the texts, if each bracket contains its score
 pub settled_rows_right : (texts : List (List ℕ)) (query : List (List ℕ × ℕ)) (r : ℕ) (bounds : Bounding) (documents : ℕ) (met answer : List ℕ) (terms : List Presented) (own : List CutLane)
     → AreOf bounds (map (lane_of documents met) terms)
     → ((i : ℕ) → i < length met → HoldsScore (λ doc. score texts query (get_or texts doc [])) (bounds (map (lane_of documents met) terms) (met_at met i)))

@@ -63,7 +63,7 @@ each_presented P dict n (pair ∷ query) (slot ∷ slots) (prefix ∷ lists) siz
           (each_presented P dict (n + 1) query slots (prefix ∷ lists) (kind_absent slot slots (length (prefix ∷ lists)) absent size) range (later P dict n pair query slot slots each))
     ]
 
--- what present terms add, where absent pairs add nothing
+-- what present terms add, if absent pairs add nothing
 abbrev pub AddsPresent : (List ℕ × ℕ → ℕ) → (Presented → ℕ) → List ShownEntry → ℕ → List (List ℕ × ℕ) → List Slot → Type 0
 AddsPresent F G dict n query slots = (j : ℕ) (pair : List ℕ × ℕ) (slot : Slot) (prefix : Prefix) → slice_get query j ≡ Some pair
     → slice_get slots j ≡ Some slot → slot.present ≡ true → G (present_one dict (n + j) pair slot prefix) ≡ F pair

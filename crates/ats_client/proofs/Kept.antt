@@ -1,4 +1,4 @@
--- The rules that an accepted proof keeps, by name.
+-- The rules that hold for an accepted proof, by name.
 use Rattle.std.proofs.Common.{◌≡◌, ℕ, List, Option, Some, None, inl, inr}
 use Rattle.std.specs.List.{All}
 use Rattle.std.proofs.lemmas.List.Elements.{All-nil, All-weaker}
@@ -16,7 +16,7 @@ use Rattle.ats_client.specs.Accepts.{Accepts, IsFirstRefusal}
 use Rattle.ats_client.specs.declared.refusal.Refusal.{Refusal}
 use Rattle.ats_client.specs.declared.refusal.Refusal.TheVariants.{NotSettled}
 
--- a proof of lists alone keeps the rules of the documents
+-- the rules of the documents hold for a TNRA proof
 none_shown : (H : List ℕ → List ℕ) (query : List (List ℕ × ℕ)) (numbers : List ℕ) (header : Header) (met : List ℕ) (docs : Option Documents)
     → (let walk : Algorithm = elim docs [ None ↦ Tnra | Some docs ↦ Tra ] in walk) ≡ Tnra
     → AreDocsRooted H header met docs × All (IsDocumentRight H query numbers) (documents_in met docs)
@@ -30,7 +30,7 @@ module _ (H : List ℕ → List ℕ) (root : List ℕ) (query : List (List ℕ �
   accepts_each opened dictionary slots lists met tree documents rows settled =
       record { kept = (opened, (dictionary, (slots, (lists, (met, (tree, (documents, (rows, (settled, tt))))))))) }
 
-  -- of a proof of lists alone
+  -- for a TNRA proof
   pub accepts_all : algorithm_of proof ≡ Tnra → IsOpened H root query proof → IsDictionary H proof → AreSlotsRight query proof → AreListsRight H query proof
       → AreAllMet (lanes_of query proof) proof.met → AreRowsRight proof.met proof.answer → IsAnswerSettled (bounds_of proof) (lanes_of query proof) proof.met proof.answer r
       → Accepts H root query r proof
@@ -38,7 +38,7 @@ module _ (H : List ℕ → List ℕ) (root : List ℕ) (query : List (List ℕ �
       let none = none_shown H query (present_numbers proof) proof.header proof.met proof.docs walk in
       accepts_each opened dictionary slots lists met none.0 none.1 rows settled
 
-  -- ---- the first refusal, where all groups before are kept
+  -- ---- the first refusal, if all groups before it hold
 
   module _ (opened : IsOpened H root query proof) (dictionary : IsDictionary H proof) (slots : AreSlotsRight query proof) (lists : AreListsRight H query proof) where
     pub fails_met : (refusal : Refusal) → IsMetFault (lanes_of query proof) proof.met refusal → IsFirstRefusal H root query r proof refusal
@@ -92,7 +92,7 @@ module _ (H : List ℕ → List ℕ) (root : List ℕ) (query : List (List ℕ �
     pub settled : IsAnswerSettled (bounds_of proof) (lanes_of query proof) proof.met proof.answer r
     settled = accepts.kept.1.1.1.1.1.1.1.1.0
 
-    -- each section rebuilds to the root that is told for it
+    -- each section rebuilds to the root that the proof has for it
     pub rooted : AreRooted H root query proof
     rooted = record {
       header = opened.commits;

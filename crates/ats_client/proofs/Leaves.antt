@@ -1,4 +1,4 @@
--- Shown leaves of a section, which stand for terms: of the dictionary, or of a document's terms.
+-- Shown leaves of a section with their terms: of the dictionary, or of a document's terms.
 use Rattle.std.proofs.Common.{◌≡◌, ◌+◌, ◌∙◌, ℕ, List, map, slice_get, Option, Some, None, option_map, true, false, refl, sym, ap, subst}
 use Rattle.std.proofs.lemmas.Option.{slice_get-map}
 use Rattle.ats_dict.specs.Dictionary.{IsBelow}
@@ -13,7 +13,7 @@ was_mapped : {X Y : Type 0} (f : X → Y) (o : Option X) (y : Y) → option_map 
 was_mapped f None y is = absurd (cc)
 was_mapped f (Some x) y is = (x, refl, cc)
 
--- a leaf that is the own one of a tree stands at its position
+-- a leaf that is a tree's own is at its position
 pub leaf_own : {X : Type 0} (hashed : X → tree.Shown) (own : List (List ℕ)) (leaves : List X) (place : ℕ) (x : X) → AreLeavesOf own (map hashed leaves)
     → slice_get leaves place ≡ Some x → slice_get own (hashed x).0 ≡ Some (hashed x).1
 leaf_own hashed own leaves place x are is =

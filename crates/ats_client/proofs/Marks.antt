@@ -1,4 +1,4 @@
--- Marks after some notes, and after one note more.
+-- Marks after some notes, and after one more note.
 use Rattle.std.proofs.Common.{◌≡◌, ◌≢◌, ◌<◌, ◌≤◌, ◌+◌, ◌*◌, ◌^◌, ◌||◌, ◌++◌, ℕ, Bool, true, false, nat_eq, nat_lt, cond, List, [], ◌∷◌, length, map, take, set, slice_get, Some, option_map, refl, sym, ap, subst, ◌∙◌, append_assoc, arith, inl, inr, get_or-set_other, get_or-set_same}
 use Rattle.std.specs.List.{list_any, sum_by}
 use Rattle.std.proofs.lemmas.Bool.{cases_eq, or_right}

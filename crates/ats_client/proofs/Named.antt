@@ -10,7 +10,7 @@ use Rattle.ats_impact.specs.Rank.{times}
 use Rattle.ats_bound.proofs.Public.{times_same, times_other, distinct_more}
 use Rattle.ats_client.specs.Indexes.{AreNames, IsOut, IsAgain}
 
--- whether a number stands in a list, and how often
+-- whether a number is in a list, and how often
 pub any_is_times : (i : ℕ) (rows : List ℕ) → list_any (λ index. nat_eq index i) rows ≡ nat_lt 0 (times i rows)
 any_is_times i [] = refl
 any_is_times i (m ∷ rows) =

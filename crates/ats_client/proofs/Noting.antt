@@ -56,7 +56,7 @@ noted_more rows k index marks mark is inside noted low marked i in_marks =
           ∙ (noted i before ∙ sym (more ∙ or_none (list_any (λ x. nat_eq x i) (take k rows)) (nat_eq index i) unseen))
     ]
 
--- a note of a row changes nothing of what a mark says of its document
+-- a note of a row changes nothing that a mark says of its document
 pub marks_kept : (bounds : Bounding) (lanes : List ShownLane) (met : List ℕ) (marks : List Mark) (index : ℕ) (noted : Bool) → AreMarks bounds lanes met marks → index < length marks
     → AreMarks bounds lanes met (set marks index (record { lo = (mark_at marks index).lo; held = (mark_at marks index).held; list = (mark_at marks index).list; row = noted }))
 marks_kept bounds lanes met marks index noted are low =

@@ -1,4 +1,4 @@
--- The groups of rules of the met documents: each is kept or fails first in one way.
+-- The groups of rules of the met documents: each holds or fails first in one way.
 use Rattle.std.proofs.Common.{◌≡◌, ◌⊎◌, ◌∙◌, ℕ, List, length, map, get_or, Option, Some, None, refl, sym, ap, ap₂, inl, inr}
 use Rattle.ats_dict.specs.declared.header.Header.{Header}
 use Rattle.ats_commit.specs.Ours.{asked_term}

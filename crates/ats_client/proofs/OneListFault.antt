@@ -1,4 +1,4 @@
--- Indexes break their rule first at one place at most, and the present terms have one first failure at most.
+-- Indexes first break their rule at one place at most, and the present terms have at most one first failure.
 use Rattle.std.proofs.Common.{◌≡◌, ◌∙◌, ℕ, List, ◌∷◌, ◌++◌, length, refl, sym, ap, ap₂, arith}
 use Rattle.ats_proof.specs.Value.{Proof, layout_of}
 use Rattle.ats_lists.specs.Layout.{Layout}
@@ -50,7 +50,7 @@ one_again met indexes m n a b =
     (again_breaks met indexes m a) (again_breaks met indexes n b) in
     sym a.place_of ∙ ap length one.0 ∙ b.place_of
 
--- the first that fails is not below the number of met documents, or stands before it, and not both
+-- the first that fails is either not below the number of met documents or occurs before, never both
 pub out_or_again : (met : ℕ) (indexes : List ℕ) (m n : ℕ) → IsOut met indexes m → IsAgain met indexes n → ⊥
 out_or_again met indexes m n a b =
     let one = one_front (AreNames met) a.before b.before a.index b.index a.after b.after (sym a.stands ∙ b.stands) a.names b.names

@@ -1,4 +1,4 @@
--- A proof has one first refusal at most, and none where it is accepted.
+-- A proof has at most one first refusal, and none if it is accepted.
 use Rattle.std.proofs.Common.{◌≡◌, ◌∙◌, ℕ, List, true, Result, Ok, Err, refl, sym, ap}
 use Rattle.std.specs.Result.{is_ok, IfErr}
 use Rattle.ats_bound.specs.Cut.{ShownLane, IsMet}

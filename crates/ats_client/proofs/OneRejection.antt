@@ -1,4 +1,4 @@
--- Bytes are rejected in one way at most, and in none where they are accepted.
+-- Bytes are rejected in at most one way, and in none if they are accepted.
 use Rattle.std.proofs.Common.{◌≡◌, ℕ, List, ap, subst}
 use Rattle.ats_grammar.specs.Grammar.{proof_format}
 use Rattle.ats_grammar.proofs.Public.{no_fault, one_fault}
@@ -20,7 +20,7 @@ module _ (H : List ℕ → List ℕ) (root : List ℕ) (query : List (List ℕ �
       let same = one_value bytes also.0 is.0 also.1 is.1 in
       ap Check (one_refusal H root query r is.0 a b is.2 (subst (λ (p : Proof). IsFirstRefusal H root query r p b) same also.2))
 
-  -- an accepted proof has no fault, and keeps all rules
+  -- an accepted proof has no fault, and satisfies all rules
   pub accepted_kept : (proof : Proof) (rejection : Rejection) → IsAcceptedBytes H root query r bytes proof → IsRejectedBytes H root query r bytes rejection → ⊥
   accepted_kept proof (Shape fault) is rejected = no_fault proof_format bytes fault (fields_of proof) rejected is.says.spells
   accepted_kept proof (Check refusal) is rejected =

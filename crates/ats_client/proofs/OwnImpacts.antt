@@ -26,14 +26,14 @@ use Rattle.ats_client.proofs.Leaves.{leaf_own, present_leaf, absent_leaves}
 use Rattle.ats_client.proofs.Presents.{at_place}
 
 module _ (texts : List (List ℕ)) (doc : ℕ) (low : doc < length texts) where
-  -- a term that stands in the document has its impact there in its list
+  -- a term that the document has has its impact there in its list
   impact_listed : (item : List ℕ × ℕ) → IsImpactOf texts doc item → impact_in doc (list texts item.0) ≡ item.1
   unfolding posting
   impact_listed item is =
       let yes : has texts item.0 doc doc ≡ true = lt-ltb 0 (count item.0 (get_or texts doc [])) is.some in
       listed texts item.0 doc low ∙ ap (λ b. cond b (posting texts item.0 doc).impact 0) yes ∙ sym is.value
 
-  -- a term that does not stand there has none
+  -- a term that it does not have has none
   none_listed : (term : List ℕ) → count term (get_or texts doc []) ≡ 0 → impact_in doc (list texts term) ≡ 0
   none_listed term none =
       let no : has texts term doc doc ≡ false = ap (nat_lt 0) none in

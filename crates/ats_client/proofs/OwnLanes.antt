@@ -84,7 +84,7 @@ product_some a b some more =
 abbrev Weighs : Presented → Type 0
 Weighs one = (1 ≤ one.weight) × IsPrefixInRange one.prefix
 
--- it weighs something, its entry tells the length of its list, and its prefix is in range
+-- it weighs something, its entry has the length of its list, and its prefix is in range
 abbrev pub HasOwnList : List (List ℕ) → List (List ℕ × ℕ) → Presented → Type 0
 HasOwnList texts query one = (1 ≤ one.weight) × (one.entry.f ≡ length (list texts (asked_term query one.number))) × IsPrefixInRange one.prefix
 

@@ -1,4 +1,4 @@
--- The numbers of the present terms, as slots tell them and as the present terms have them.
+-- The numbers of the present terms, from slots and from the present terms themselves.
 use Rattle.std.proofs.Common.{◌≡◌, ◌∙◌, ◌<◌, ◌≤◌, ◌+◌, ℕ, cond, List, [], ◌∷◌, length, map, drop, get_or, refl, sym, ap, subst, inl, inr, arith}
 use Rattle.std.specs.List.{All}
 use Rattle.std.proofs.lemmas.Bool.{cases_Bool}

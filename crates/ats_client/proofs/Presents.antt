@@ -18,7 +18,7 @@ use Rattle.ats_client.proofs.Slotted.{slot_shows}
 pub at_place : {X : Type 0} (P : X → Type 0) (xs : List X) (i : ℕ) (x : X) → All P xs → slice_get xs i ≡ Some x → P x
 at_place P xs i x all is = subst P (get_or_from_slice_get xs i x x is) (all i x (slice_get_within xs i x is))
 
--- the items from a place on, where one stands there
+-- the items from a place on, if there is one at that place
 pub at_front : {X : Type 0} (xs : List X) (i : ℕ) (x : X) → slice_get xs i ≡ Some x → drop i xs ≡ x ∷ drop (i + 1) xs
 at_front xs i x is =
     let low : i < length xs = slice_get_within xs i x is in
@@ -51,7 +51,7 @@ entry_there dict place e is =
 pub prefix_there : (left : List Prefix) (p : Prefix) → Some p ≡ slice_get left 0 → p ≡ first_prefix left
 prefix_there left p is = sym (get_or_from_slice_get left 0 p (record { entries = []; digests = [] }) (sym is))
 
--- how many present terms are left behind a slot
+-- how many present terms are left after a slot
 pub fewer_absent : (slots : List Slot) (i n : ℕ) (slot : Slot) → slice_get slots i ≡ Some slot → slot.present ≡ false → present_in (drop i slots) ≡ n → present_in (drop (i + 1) slots) ≡ n
 fewer_absent slots i n slot is absent all =
     let front : present_in (drop i slots) ≡ kind_of_slot slot + present_in (drop (i + 1) slots) = ap present_in (at_front slots i slot is) ∙ sum_by-cons kind_of_slot slot (drop (i + 1) slots) in

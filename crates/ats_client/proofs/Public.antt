@@ -1,6 +1,6 @@
 -- What other rooms may cite of the proofs of this one. All other files here are private.
 
--- a proof that keeps each group of the check's rules is accepted
+-- a proof that satisfies each group of the check's rules is accepted
 pub use Rattle.ats_client.proofs.Kept.{accepts_each}
 -- no bytes are both accepted and rejected under one root for one query and row limit
 pub use Rattle.ats_client.proofs.OneRejection.{accepted_kept}

@@ -1,4 +1,4 @@
--- Where a walk stands, before the places of slots that never fall.
+-- The place of a walk, before the places of slots that never fall.
 use Rattle.std.proofs.Common.{◌≡◌, ◌<◌, ◌≤◌, ◌+◌, ℕ, List, length, map, get_or, slice_get, Some, false, ap, arith}
 use Rattle.std.proofs.Math.ListN.{get_or-map}
 use Rattle.std.specs.List.Sorted.{IsNonDecreasing}
@@ -7,14 +7,14 @@ use Rattle.std.proofs.lemmas.Option.{get_or_from_slice_get}
 use Rattle.ats_proof.specs.declared.record.Slot.{Slot}
 use Rattle.ats_client.specs.Groups.{slot_at}
 
--- the place is not behind that of any slot from a number on
+-- the place is not after that of any slot from a number on
 abbrev pub IsBefore : ℕ → List Slot → ℕ → Type 0
 IsBefore place slots i = (j : ℕ) → i ≤ j → j < length slots → place ≤ (slot_at slots j).index
 
 pub before_first : (place : ℕ) (slots : List Slot) → place ≡ 0 → IsBefore place slots 0
 before_first place slots none j from low = omega (arith, none)
 
--- the slot that stands at a number
+-- the slot with a number
 pub index_is : (slots : List Slot) (i : ℕ) (slot : Slot) → slice_get slots i ≡ Some slot → (slot_at slots i).index ≡ slot.index
 index_is slots i slot is =
     ap (λ (s : Slot). s.index) (get_or_from_slice_get slots i slot (record { present = false; index = 0 }) is)

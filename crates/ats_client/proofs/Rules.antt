@@ -1,4 +1,4 @@
--- Laws of groups of rules that are tried one after another.
+-- Laws of groups of rules that are checked one after another.
 use Rattle.std.proofs.Common.{◌≡◌, ◌⊎◌, List, [], ◌∷◌, inl, inr}
 use Rattle.ats_client.specs.Rules.{Group, AreKept, IsFirstFault}
 
@@ -11,7 +11,7 @@ abbrev pub AreExact : {F : Type 0} → List (Group F) → Type 0
 AreExact [] = Unit {0}
 AreExact (group ∷ groups) = IsExact group × AreExact groups
 
--- where a group fails first, not all are kept
+-- if a group fails first, not all hold
 pub not_kept : {F : Type 0} (groups : List (Group F)) (fault : F) → AreExact groups → IsFirstFault groups fault → AreKept groups → ⊥
 not_kept [] fault exact is kept = is
 not_kept (group ∷ groups) fault exact (inl is) kept = exact.0.breaks fault is kept.0
@@ -25,7 +25,7 @@ one_first (group ∷ groups) a b exact (inl is) (inr later) = absurd (exact.0.br
 one_first (group ∷ groups) a b exact (inr later) (inl is) = absurd (exact.0.breaks b is later.0)
 one_first (group ∷ groups) a b exact (inr later) (inr also) = one_first groups a b exact.1 later.1 also.1
 
--- where each group is kept or fails, all are kept or one fails first
+-- if each group holds or fails, all hold or one fails first
 abbrev pub AreTried : {F : Type 0} → List (Group F) → Type 0
 AreTried [] = Unit {0}
 AreTried {F} (group ∷ groups) = (group.kept ⊎ ((fault : F) × group.fault fault)) × AreTried groups

@@ -34,7 +34,7 @@ impacts_at (first ∷ met) (front ∷ sections) (suc j) id section i rises at is
     cond-false (nat_eq first id) (impact_shown front i) (impacts_shown met sections i id) no
     ∙ impacts_at met sections j id section i (increasing-tail first met rises) at is
 
--- a looked up score is one of coefficients and impacts alone
+-- a looked up score depends only on coefficients and impacts
 looked_alike : (table other : Table) (doc documents : ℕ) (met : List ℕ) (i : ℕ) (terms : List Presented) → ((k : ℕ) → table k doc ≡ other k doc)
     → looked_score_from i table (bare_lanes (map (kept_term documents) terms)) doc ≡ looked_score_from i other (map (lane_of documents met) terms) doc
 looked_alike table other doc documents met i [] same = refl
@@ -50,7 +50,7 @@ section_scores met sections j doc section documents terms rises at is =
     looked_alike (λ i other. impact_shown section i) (impacts_shown met sections) doc documents met 0 terms
     (λ k. sym (impacts_at met sections j doc section k rises at is))
 
--- a mark with that score, of which all of the threshold is held
+-- a mark with that score that holds all of the threshold
 pub mark_scored : (met : List ℕ) (docs : Documents) (lanes : List ShownLane) (doc score threshold : ℕ) (mark : Mark) → IsMark bracket lanes doc mark
     → score ≡ looked_score (impacts_shown met docs.sections) lanes doc → score ≤ 2 ^ 38 → threshold ≡ threshold_of lanes
     → IsMark (bounds_in met (Some docs)) lanes doc (record { lo = score; held = threshold; list = mark.list; row = mark.row })

@@ -1,4 +1,5 @@
--- The first collision of a proof's strings from those of its sections, and what the sections of a proof that rebuilds keep.
+-- The first collision of a proof's strings from those of its sections, and what holds for the sections of a proof that
+-- rebuilds.
 use Rattle.std.proofs.Common.{◌≡◌, ◌≢◌, ◌<◌, ◌≤◌, ◌+◌, ◌∙◌, ℕ, List, [], ◌∷◌, ◌++◌, length, map, drop, Bool, true, false, Option, Some, None, slice_get, refl, sym, ap, ap₂, subst, arith, IfSome}
 use Rattle.std.specs.List.{All, flat_map}
 use Rattle.std.specs.Option.{option_map, option_or, IsSome}
@@ -195,12 +196,12 @@ list-short at met (e ∷ entries) =
 
 -- ---- the parts that are left to be looked through
 
--- strings of which the first part has no collision
+-- strings whose first part has no collision
 pub none_first : (H : List ℕ → List ℕ) (own : TreePlace → Option (List ℕ)) (a b : List (Hashed TreePlace)) → None ≡ first_collision H own a
     → first_collision H own (a ++ b) ≡ first_collision H own b
 none_first H own a b none = collision-append H own a b ∙ ap (λ c. option_or c (first_collision H own b)) (sym none)
 
--- strings of which the first part has one
+-- strings whose first part has one
 pub one_first : (H : List ℕ → List ℕ) (own : TreePlace → Option (List ℕ)) (a b : List (Hashed TreePlace)) (c : Difference TreePlace) → Some c ≡ first_collision H own a
     → Some c ≡ first_collision H own (a ++ b)
 one_first H own a b c one = sym (collision-append H own a b ∙ ap (λ d. option_or d (first_collision H own b)) (sym one))
@@ -222,7 +223,7 @@ pub later_all : {X : Type 0} (P : X → Type 0) (xs : List X) → All P xs → A
 later_all P [] all = all
 later_all P (x ∷ xs) all = All-tail P x xs all
 
--- ---- the met documents, where they are shown
+-- ---- the met documents, if they are shown
 
 module _ (H : List ℕ → List ℕ) (own : TreePlace → Option (List ℕ)) (header : Numbers) (met : List ℕ) (shown : Option Documents) (docs : Documents) (n : ℕ)
     (leaves : List tree.Shown) (ds : List (List ℕ)) (is : shown ≡ Some docs) (is_n : n ≡ header.documents) (is_leaves : leaves ≡ shown_docs met docs.leaves) (is_ds : ds ≡ docs.digests) where

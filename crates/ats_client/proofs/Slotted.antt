@@ -7,7 +7,7 @@ use Rattle.ats_client.specs.Slots.{ShowsTerm}
 use Rattle.ats_commit.specs.Ours.{asked_term}
 use Rattle.ats_client.specs.Groups.{dict_terms, slot_at, IsSlotRight}
 
--- the slot that stands at a place, where it is right, shows its term
+-- the slot at a place, if it is right, shows its term
 pub slot_shows : (query : List (List ℕ × ℕ)) (proof : Proof) (i : ℕ) (slot : Slot) → slice_get proof.slots i ≡ Some slot → IsSlotRight query proof i
     → ShowsTerm (dict_terms proof.dict) (asked_term query i) slot
 slot_shows query proof i slot is right =

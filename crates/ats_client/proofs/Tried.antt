@@ -1,4 +1,4 @@
--- How far the met documents are tried.
+-- The progress of the check of the met documents.
 use Rattle.std.proofs.Common.{◌≡◌, ◌≢◌, ◌<◌, ◌≤◌, ◌+◌, ◌^◌, ◌++◌, ◌∙◌, ℕ, List, [], ◌∷◌, length, drop, set, slice_get, Option, Some, sym, ap, subst, inl, inr, arith, append_assoc}
 use Rattle.std.specs.List.{All}
 use Rattle.std.specs.List.Sorted.{IsStrictlyIncreasing}
@@ -80,7 +80,7 @@ module _ (H : List ℕ → List ℕ) (query : List (List ℕ × ℕ)) (proof : P
 
   -- ---- one document more
 
-  -- what is first of those left stands at the place
+  -- the first of those left is at the place
   pub first_at : {X : Type 0} (xs left : List X) (j : ℕ) (x : X) → left ≡ drop j xs → Some x ≡ slice_get left 0 → slice_get xs j ≡ Some x
   first_at xs left j x is here = sym (first_left j xs) ∙ ap (λ l. slice_get l 0) (sym is) ∙ sym here
 

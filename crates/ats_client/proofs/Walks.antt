@@ -16,7 +16,7 @@ first_left zero (x ∷ xs) = refl
 first_left (suc place) [] = refl
 first_left (suc place) (x ∷ xs) = first_left place xs
 
--- nothing is left further on where nothing is left
+-- if nothing is left, nothing is left further on
 pub ends : {X : Type 0} (xs left after : List X) (i more : ℕ) (some : Bool) → some ≡ false → IsTrue some ⊎ (left ≡ []) → after ≡ drop 1 left → left ≡ drop i xs
     → after ≡ drop (i + more) xs
 ends xs left after i more some none (inl seen) next is = absurd (cc)
@@ -75,7 +75,7 @@ module _ {X : Type 0} (read : X → Shown) (leaves : List X) (term : List ℕ) w
       let gone = no_place (slot.index + 1) is in
       rw absent (λ yes. absurd (cc), λ (at : IsBetween (map read leaves) term slot.index). let there = at.next in absurd (cc))
 
--- the first of those that are left behind the first of those left at a place is the next one
+-- after the first of those left at a place is removed, the first of those left is the next one
 pub next_left : {X : Type 0} (leaves at after : List X) (place : ℕ) (first : Option X) → at ≡ drop place leaves → after ≡ drop 1 at → first ≡ slice_get after 0
     → first ≡ slice_get leaves (place + 1)
 next_left leaves at after place first is next one =

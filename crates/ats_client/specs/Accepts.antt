@@ -1,4 +1,4 @@
--- When a proof is accepted, and else by which rule it is refused.
+-- When a proof is accepted, and by which rule it is refused otherwise.
 use Rattle.std.specs.Prelude.{ℕ, List, [], ◌∷◌}
 use Rattle.ats_proof.specs.Value.{Proof}
 use Rattle.ats_client.specs.declared.refusal.Refusal.{Refusal}
@@ -8,7 +8,7 @@ use Rattle.ats_client.specs.Rules.{Group, AreKept, IsFirstFault}
 use Rattle.ats_client.specs.Documents.{IsDocsTree, IsDocsFault, AreDocumentsRight, IsDocumentsFault}
 use Rattle.ats_client.specs.Groups.{IsOpened, IsOpeningFault, IsDictionary, IsDictFault, AreSlotsRight, IsSlotsFault, AreListsRight, IsListsFault, AreAllMet, IsMetFault, AreRowsRight, IsRowsFault, IsAnswerSettled, IsSettledFault}
 
--- the rules of a proof, in their order; a proof of lists alone keeps those of the documents
+-- the rules of a proof, in their order; those of the documents hold for every TNRA proof
 abbrev pub rules : (List ℕ → List ℕ) → List ℕ → List (List ℕ × ℕ) → ℕ → Proof → List (Group Refusal)
 rules H root query r proof =
     record { kept = IsOpened H root query proof; fault = IsOpeningFault H root query proof }
@@ -25,10 +25,10 @@ rules H root query r proof =
     }
     ∷ []
 
--- all rules are kept
+-- all rules hold
 pub record Accepts (H : List ℕ → List ℕ) (root : List ℕ) (query : List (List ℕ × ℕ)) (r : ℕ) (proof : Proof) : Type 0 where
   pub kept : AreKept (rules H root query r proof)
 
--- the first rule that is not kept
+-- the first rule that the proof breaks
 pub record IsFirstRefusal (H : List ℕ → List ℕ) (root : List ℕ) (query : List (List ℕ × ℕ)) (r : ℕ) (proof : Proof) (refusal : Refusal) : Type 0 where
   pub first : IsFirstFault (rules H root query r proof) refusal

@@ -6,8 +6,8 @@ use Rattle.ats_bound.specs.Schedule.{Bounding}
 use Rattle.ats_proof.specs.Value.{ShownTerm, TermsSection, Documents, Proof}
 use Rattle.ats_client.specs.Groups.{slot_at}
 
--- the impact that a document's section shows of a present term, which is counted among the present terms alone: 0 where
--- its slot says that the document has no such term
+-- the impact that a document's section shows of present term i, counted among the present terms only: 0 if its slot
+-- says that the document has no such term
 abbrev pub impact_shown : TermsSection → ℕ → ℕ
 impact_shown section i =
     if (slot_at section.slots i).present
@@ -20,7 +20,7 @@ impacts_shown [] sections i doc = 0
 impacts_shown (id ∷ met) [] i doc = 0
 impacts_shown (id ∷ met) (section ∷ sections) i doc = if id == doc then impact_shown section i else impacts_shown met sections i doc
 
--- from the shown entries where lists alone are shown, and from looked up impacts where documents are
+-- from the shown entries if only lists are shown, and from looked up impacts if documents are
 abbrev pub bounds_in : List ℕ → Option Documents → Bounding
 bounds_in met None = bracket
 bounds_in met (Some docs) = looked_up (impacts_shown met docs.sections)

@@ -1,4 +1,4 @@
--- What a proof by random access shows of the met documents, and the rules of these sections.
+-- What a TRA proof shows of the met documents, and the rules of these sections.
 use Rattle.std.specs.Prelude.{◌≡◌, ◌<◌, ◌+◌, ◌∷◌, ℕ, List, [], length, map, slice_index, if◌then◌else◌, Option, Some, None}
 use Rattle.std.specs.List.{All}
 use Rattle.ats_tree.specs.Rebuild.{rebuilt}
@@ -28,7 +28,7 @@ documents_from (id ∷ met) (leaf ∷ leaves) [] = []
 documents_from (id ∷ met) (leaf ∷ leaves) (section ∷ sections) =
     record { doc = id; leaf = leaf; section = section } ∷ documents_from met leaves sections
 
--- none where lists alone are shown
+-- none if only lists are shown
 abbrev pub documents_in : List ℕ → Option Documents → List MetDocument
 documents_in met None = []
 documents_in met (Some docs) = documents_from met docs.leaves docs.sections
@@ -38,11 +38,11 @@ met_documents proof = documents_in proof.met proof.docs
 
 -- ---- the documents tree
 
--- what the leaves of the met documents rebuild to, each at its document's number
+-- the digest that the leaves of the met documents rebuild to, each at its document's number
 abbrev pub docs_digest : (List ℕ → List ℕ) → Header → List ℕ → Documents → Option (List ℕ)
 docs_digest H header met docs = rebuilt H header.documents (shown_docs met docs.leaves) docs.digests
 
--- it is the documents root of the header
+-- that digest is the documents root of the header
 abbrev pub AreDocsRooted : (List ℕ → List ℕ) → Header → List ℕ → Option Documents → Type 0
 AreDocsRooted H header met None = Unit {0}
 AreDocsRooted H header met (Some docs) = docs_digest H header met docs ≡ Some header.docs_root
@@ -61,11 +61,11 @@ IsDocsFault H proof refusal = IsDocsRootFault H proof.header proof.met proof.doc
 
 -- ---- the terms trees
 
--- what the shown leaves of a document's terms rebuild to, among as many as its leaf tells
+-- the digest that the shown leaves of a document's terms rebuild to, in a tree of the size that its leaf gives
 abbrev pub terms_digest : (List ℕ → List ℕ) → MetDocument → Option (List ℕ)
 terms_digest H one = rebuilt H one.leaf.leaves (map shown_term one.section.leaves) one.section.digests
 
--- it is the root in that leaf
+-- that digest is the root in the leaf
 abbrev pub IsTermsTree : (List ℕ → List ℕ) → MetDocument → Type 0
 IsTermsTree H one = terms_digest H one ≡ Some one.leaf.root
 
@@ -76,7 +76,7 @@ IsTermsFault H one _ = ⊥
 
 -- ---- the slots of a document
 
--- the numbers in the query of the terms whose slots say that they are present, the first slot having this number
+-- the numbers in the query of the terms whose slots say that they are present; the first slot has this number
 abbrev pub present_from : ℕ → List Slot → List ℕ
 present_from number [] = []
 present_from number (slot ∷ slots) = if slot.present then number ∷ present_from (number + 1) slots else present_from (number + 1) slots
@@ -88,7 +88,7 @@ present_numbers proof = present_from 0 proof.slots
 abbrev pub term_shown : ShownTerm → Shown
 term_shown t = record { position = t.position; term = t.term.0 }
 
--- the document's slot of a present term, counted among the present terms alone, shows it
+-- the document's slot of a present term, counted among the present terms only, shows it
 abbrev pub IsTermSlotRight : List (List ℕ × ℕ) → List ℕ → TermsSection → ℕ → Type 0
 IsTermSlotRight query numbers section i = ShowsTerm (map term_shown section.leaves) (asked_term query (slice_index numbers i)) (slot_at section.slots i)
 
@@ -109,7 +109,7 @@ IsTermSlotsFault query numbers one _ = ⊥
 
 -- ---- all met documents
 
--- the rules of one met document: its tree comes before its slots
+-- the rules of one met document: its tree first, then its slots
 abbrev pub document_rules : (List ℕ → List ℕ) → List (List ℕ × ℕ) → List ℕ → MetDocument → List (Group Refusal)
 document_rules H query numbers one =
     record { kept = IsTermsTree H one; fault = IsTermsFault H one }

@@ -1,4 +1,4 @@
--- The rules of a proof, group by group: when a group is kept, and else its first failure.
+-- The rules of a proof, group by group: when a group holds, and its first failure otherwise.
 use Rattle.std.specs.Prelude.{◌≡◌, ◌≢◌, ◌<◌, ◌∷◌, ℕ, List, [], length, map, slice_index_or, Option, Some, None, false}
 use Rattle.std.specs.List.{All}
 use Rattle.ats_tree.specs.Rebuild.{rebuilt}
@@ -21,7 +21,7 @@ use Rattle.ats_client.specs.Presented.{Presented, presented}
 use Rattle.ats_client.specs.Slots.{Shown, entry_shown, ShowsTerm}
 use Rattle.ats_client.specs.Indexes.{AreNames, IsOut, IsAgain}
 
--- there is a digest, but another one than this
+-- there is a digest, and it is not this one
 pub record IsOther (digest : Option (List ℕ)) (root : List ℕ) : Type 0 where
   pub other : List ℕ
   pub rebuilt : digest ≡ Some other
@@ -41,7 +41,7 @@ IsOpeningFault H root query proof _ = ⊥
 
 -- ---- the dictionary
 
--- what the dictionary section rebuilds to
+-- the digest that the dictionary section rebuilds to
 abbrev pub dict_digest : (List ℕ → List ℕ) → Proof → Option (List ℕ)
 dict_digest H proof = rebuilt H proof.header.dict_leaves (map shown_entry proof.dict) proof.dict_digests
 
@@ -84,15 +84,15 @@ IsSlotsFault query proof _ = ⊥
 abbrev pub indexes_of : List Entry → List ℕ
 indexes_of entries = map (λ (entry : Entry). entry.doc) entries
 
--- what the prefix of a present term rebuilds to, among as many entries as its entry in the dictionary tells
+-- the digest that the prefix of a present term rebuilds to, in a list of the length that its dictionary entry gives
 abbrev pub list_digest : (List ℕ → List ℕ) → Layout → List ℕ → Presented → Option (List ℕ)
 list_digest H layout met term = prefix_root H layout term.entry.f (shown_list 0 met term.prefix.entries) term.prefix.digests
 
--- it is the front of the list in the dictionary
+-- that digest is the root of the list in the dictionary
 abbrev pub IsListRooted : (List ℕ → List ℕ) → Layout → List ℕ → Presented → Type 0
 IsListRooted H layout met term = list_digest H layout met term ≡ Some term.entry.root
 
--- its entries name met documents, each once, and it is the front of that list
+-- its entries name met documents, each once, and it is the front of the list in the dictionary
 pub record IsListRight (H : List ℕ → List ℕ) (layout : Layout) (met : List ℕ) (term : Presented) : Type 0 where
   pub names : AreNames (length met) (indexes_of term.prefix.entries)
   pub root : IsListRooted H layout met term
@@ -106,13 +106,13 @@ IsEntryFault met one (IndexOut term entry) = (term ≡ one.number) × IsOut met 
 IsEntryFault met one (Repeated term entry) = (term ≡ one.number) × IsAgain met (indexes_of one.prefix.entries) entry
 IsEntryFault met one _ = ⊥
 
--- how its digest fails
+-- why it is not the front of the list in the dictionary
 abbrev pub IsListRootFault : (List ℕ → List ℕ) → Layout → List ℕ → Presented → Refusal → Type 0
 IsListRootFault H layout met one (ListMisfit term) = (term ≡ one.number) × (list_digest H layout met one ≡ None)
 IsListRootFault H layout met one (ListRoot term) = (term ≡ one.number) × IsOther (list_digest H layout met one) one.entry.root
 IsListRootFault H layout met one _ = ⊥
 
--- the rules of one present term: its entries come before its digest
+-- the rules of one present term: its entries first, then its digest
 abbrev pub list_rules : (List ℕ → List ℕ) → Layout → List ℕ → Presented → List (Group Refusal)
 list_rules H layout met one =
     record { kept = AreNames (length met) (indexes_of one.prefix.entries); fault = IsEntryFault (length met) one }
@@ -137,7 +137,7 @@ met_at met index = slice_index_or met index 0
 abbrev pub AreAllMet : List ShownLane → List ℕ → Type 0
 AreAllMet lanes met = (i : ℕ) → i < length met → IsMet lanes (met_at met i)
 
--- no entry names this one, and some entry names each before it
+-- no entry names this document, and some entry names each one before it
 pub record IsUnmet (lanes : List ShownLane) (met : List ℕ) (index : ℕ) : Type 0 where
   pub inside : index < length met
   pub unmet : ¬ IsMet lanes (met_at met index)

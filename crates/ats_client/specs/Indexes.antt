@@ -4,12 +4,12 @@ use Rattle.std.specs.List.{All}
 use Rattle.ats_impact.specs.Rank.{times}
 use Rattle.ats_bound.specs.Settled.{AreDistinct}
 
--- each is below the number of met documents, and none stands twice
+-- each index is below the number of met documents, and none occurs twice
 pub record AreNames (met : ℕ) (indexes : List ℕ) : Type 0 where
   pub inside : All (λ index. index < met) indexes
   pub once : AreDistinct indexes
 
--- the first that breaks this stands at the place, and is not below that number
+-- the index at this place is the first that breaks the rule, and is not below that number
 pub record IsOut (met : ℕ) (indexes : List ℕ) (place : ℕ) : Type 0 where
   pub before : List ℕ
   pub index : ℕ
@@ -19,7 +19,7 @@ pub record IsOut (met : ℕ) (indexes : List ℕ) (place : ℕ) : Type 0 where
   pub names : AreNames met before
   pub out : met ≤ index
 
--- the first that breaks this stands at the place, and stands before it too
+-- the index at this place is the first that breaks the rule, and occurs before it too
 pub record IsAgain (met : ℕ) (indexes : List ℕ) (place : ℕ) : Type 0 where
   pub before : List ℕ
   pub index : ℕ

@@ -1,4 +1,4 @@
--- What is seen of the prefixes while they are checked.
+-- The views of prefixes during the check, as specifications see them.
 use Rattle.std.specs.Prelude.{List}
 use Rattle.ats_proof.specs.Value.{Prefix}
 use Rattle.ats_proof.specs.Seen.{entry_of}
@@ -15,6 +15,6 @@ prefix_of view = list_of view
 unfoldable pub prefixes_left : ListsView → List Prefix
 prefixes_left view = lists_of view
 
--- the present term at hand
+-- the present term that is checked
 abbrev pub presented_of : Present → Presented
 presented_of one = record { number = one.number; weight = one.weight; entry = entry_of one.entry; prefix = prefix_of one.list }

@@ -7,8 +7,8 @@ use Rattle.ats_bound.specs.Cut.{ShownLane, names, threshold}
 use Rattle.ats_bound.specs.Schedule.{Bounding}
 use Rattle.ats_client.specs.Groups.{met_at}
 
--- what a document scores at least, what of the threshold it cannot reach above that, and whether some lane names it. The
--- numbers are small, so that sums of them do not wrap.
+-- the least that a document scores; the part of the threshold that it cannot reach above that; and whether some lane
+-- names it. The numbers are small, so that their sums do not wrap.
 pub record IsMark (bounds : Bounding) (lanes : List ShownLane) (doc : ℕ) (mark : Mark) : Type 0 where
   pub least : mark.lo ≡ (bounds lanes doc).lo
   pub within : mark.held ≤ threshold lanes

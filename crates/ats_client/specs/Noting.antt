@@ -1,4 +1,4 @@
--- What the entries of prefixes add to the marks of the documents that they name, by met index.
+-- Notes: what the entries of prefixes add to the marks of the documents that they name, by met index.
 use Rattle.std.specs.Prelude.{◌≡◌, ◌<◌, ◌≤◌, ◌*◌, ◌+◌, ◌^◌, ◌==◌, ℕ, Bool, false, List, length, map, nat_lt, if◌then◌else◌}
 use Rattle.std.specs.List.{list_any, sum_by, flat_map}
 use Rattle.ats_impact.specs.Numbers.{idf}
@@ -16,7 +16,7 @@ index_lane documents term = record {
   shown = term.prefix.entries;
 }
 
--- what an entry adds to what its document scores at least, and to what the lanes that name it can add
+-- what an entry adds to the least that its document scores, and to the rests of the lanes that name it
 pub record Note : Type 0 where
   pub index : ℕ
   pub gain : ℕ
@@ -41,11 +41,11 @@ held_of index notes = sum_by (λ (n : Note). if n.index == index then n.rest els
 abbrev pub has_note : ℕ → List Note → Bool
 has_note index notes = list_any (λ (n : Note). n.index == index) notes
 
--- a mark after one note more, of a list that is counted from 1
+-- a mark after one more note, of a list that is counted from 1
 abbrev pub with_note : Mark → ℕ → ℕ → ℕ → Mark
 with_note mark list gain most = record { lo = mark.lo + gain; held = mark.held + most; list = list; row = mark.row }
 
--- the mark of a met index after some notes: the list at hand, counted from 1, has named these indexes so far
+-- the mark of a met index after some notes; the current list, counted from 1, has named these indexes so far
 pub record IsNoted (notes : List Note) (list : ℕ) (named : List ℕ) (index : ℕ) (mark : Mark) : Type 0 where
   pub least : mark.lo ≡ gain_of index notes
   pub held : mark.held ≡ held_of index notes

@@ -23,7 +23,7 @@ entry_at dict place = slice_index_or (map (λ (shown : ShownEntry). shown.entry)
 abbrev pub first_prefix : List Prefix → Prefix
 first_prefix lists = slice_index_or lists 0 (record { entries = []; digests = [] })
 
--- the present ones among the terms from a number on: each has the first of the prefixes that are left
+-- the present ones among the terms from this number on; each takes the first prefix that is left
 abbrev pub presented_from : List ShownEntry → ℕ → List (List ℕ × ℕ) → List Slot → List Prefix → List Presented
 presented_from dict number [] slots lists = []
 presented_from dict number (pair ∷ query) [] lists = []

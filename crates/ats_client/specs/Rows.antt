@@ -1,4 +1,4 @@
--- What an accepted check leaves, and the rows of the answer that it tells.
+-- What an accepted check leaves, and the rows of the answer that follow from it.
 use Rattle.std.specs.Prelude.{◌≡◌, ◌<◌, ◌^◌, ℕ, List, length, map, slice_index}
 use Rattle.std.specs.List.{All}
 use Rattle.ats_impact.specs.declared.rank.Row.{Row}
@@ -22,10 +22,10 @@ pub record IsLeft (query : List (List ℕ × ℕ)) (proof : Proof) (marks : List
 abbrev pub row_bracket : List (List ℕ × ℕ) → Proof → ℕ → Bracket
 row_bracket query proof i = bounds_of proof (lanes_of query proof) (met_at proof.met (slice_index proof.answer i))
 
--- a document with what it scores at least and at most
+-- a document with the least and the most that it scores
 abbrev pub row_of : Bracket → Row
 row_of b = record { doc = b.doc; lower = b.lo; upper = b.hi }
 
--- the rows of the answer: each document with what it scores at least and at most
+-- the rows of the answer: each document with the least and the most that it scores
 abbrev pub rows_of : List (List ℕ × ℕ) → Proof → List Row
 rows_of query proof = map (λ index. row_of (bounds_of proof (lanes_of query proof) (met_at proof.met index))) proof.answer

@@ -1,8 +1,8 @@
--- Groups of rules that are tried one after another: when all are kept, and else the first failure.
+-- Groups of rules that are checked one after another: when all hold, and the first failure otherwise.
 use Rattle.std.specs.Prelude.{◌≡◌, ◌⊎◌, List, [], ◌∷◌, ◌++◌}
 use Rattle.std.specs.List.{All}
 
--- when a group of rules is kept, and how it fails
+-- when a group of rules holds, and how it fails
 pub record Group (F : Type 0) : Type 1 where
   pub kept : Type 0
   pub fault : F → Type 0
@@ -11,12 +11,12 @@ abbrev pub AreKept : {F : Type 0} → List (Group F) → Type 0
 AreKept [] = Unit {0}
 AreKept (group ∷ groups) = group.kept × AreKept groups
 
--- the failure of the first group that is not kept: all groups before it are kept
+-- the failure of the first group that fails; all groups before it hold
 abbrev pub IsFirstFault : {F : Type 0} → List (Group F) → F → Type 0
 IsFirstFault [] fault = ⊥
 IsFirstFault (group ∷ groups) fault = group.fault fault ⊎ (group.kept × IsFirstFault groups fault)
 
--- the failure of the first of some elements that does not keep its rules
+-- the failure of the first of some elements that breaks its rules
 pub record IsFirstOf {X F : Type 0} (Keeps : X → Type 0) (Fails : X → F → Type 0) (xs : List X) (told : F) : Type 0 where
   pub before : List X
   pub one : X

@@ -1,4 +1,4 @@
--- When the sections of a proof rebuild, and the two strings that are told of them.
+-- When the sections of a proof rebuild, and the two strings that a clash has.
 use Rattle.std.specs.Prelude.{◌≡◌, ◌<◌, ◌^◌, ℕ, List, length}
 use Rattle.std.specs.List.{All}
 use Rattle.ats_tree.specs.Differences.{Difference}
@@ -9,9 +9,9 @@ use Rattle.ats_client.specs.Documents.{IsDocsTree, IsTermsTree, met_documents}
 use Rattle.ats_client.specs.Groups.{IsDictionary, AreSlotsRight, AreListsRight}
 use Rattle.ats_client.specs.declared.clashing.Clash.{Clash}
 
--- There is a slot for each term of the query, which shows it. The dictionary and the documents rebuild
--- to roots of the header. Each list rebuilds to the root of its term's shown leaf, and each document's
--- terms to the root of its shown leaf.
+-- There is a slot for each term of the query, and it shows the term. The dictionary and the documents rebuild to roots
+-- of the header. Each list names met documents, each once, and rebuilds to the root in its term's shown leaf. Each
+-- document's terms rebuild to the root in its shown leaf.
 pub record AreRebuilt (H : List ℕ → List ℕ) (query : List (List ℕ × ℕ)) (proof : Proof) : Type 0 where
   pub count : length proof.slots ≡ length query
   pub dictionary : IsDictionary H proof
@@ -20,10 +20,10 @@ pub record AreRebuilt (H : List ℕ → List ℕ) (query : List (List ℕ × ℕ
   pub documents : IsDocsTree H proof
   pub terms : All (IsTermsTree H) (met_documents proof)
 
--- the two strings at one place that a clash tells
+-- the two strings at one place that a clash has
 abbrev pub difference_of : Clash → Difference TreePlace
 difference_of clash = record { place = tree_place clash.place; ours = clash.ours; theirs = clash.theirs }
 
--- no turn is told beyond the depth of the place
+-- there are no turns beyond the depth of the place
 abbrev pub HasPlace : Clash → Type 0
 HasPlace clash = clash.place.turns < 2 ^ clash.place.depth

@@ -1,4 +1,4 @@
--- What is seen of a proof while it is checked.
+-- The views of a proof during the check, as specifications see them.
 use Rattle.std.specs.Prelude.{List}
 use Rattle.ats_proof.specs.Value.{ShownEntry}
 use Rattle.ats_proof.specs.Seen.{entries_of, entry_of}

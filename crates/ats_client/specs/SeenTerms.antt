@@ -1,4 +1,4 @@
--- What is seen of a met document while it is checked.
+-- The views of a met document during the check, as specifications see them.
 use Rattle.std.specs.Prelude.{List}
 use Rattle.ats_proof.specs.Value.{ShownTerm}
 use Rattle.ats_proof.specs.SeenDocs.{doc_of, leaf_of, section_of}
@@ -15,6 +15,6 @@ terms_left terms = view.terms_of terms
 abbrev pub term_of : Term → ShownTerm
 term_of term = record { position = term.position; term = view.term_of term.leaf }
 
--- the document at hand
+-- the document that is checked
 abbrev pub document_of : DocView → MetDocument
 document_of doc = record { doc = doc_of doc; leaf = leaf_of doc; section = section_of doc }

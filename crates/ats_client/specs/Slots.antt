@@ -1,4 +1,4 @@
--- When a slot shows that a term stands in a tree of terms, or that it does not.
+-- When a slot shows that a term is in a tree of terms, or that it is absent.
 use Rattle.std.specs.Prelude.{◌≡◌, ◌+◌, ℕ, Bool, true, false, List, Some, slice_get}
 use Rattle.ats_dict.specs.Dictionary.{IsBelow}
 use Rattle.ats_proof.specs.declared.record.Slot.{Slot}
@@ -33,6 +33,6 @@ abbrev pub Shows : Bool → List Shown → List ℕ → ℕ → Type 0
 Shows true leaves term place = IsAt leaves term place
 Shows false leaves term place = IsBetween leaves term place
 
--- the term stands where the slot says, or is absent there
+-- the term is at the slot's leaf, or absent right after it
 abbrev pub ShowsTerm : List Shown → List ℕ → Slot → Type 0
 ShowsTerm leaves term slot = Shows slot.present leaves term slot.index

@@ -1,4 +1,4 @@
--- The byte strings that rebuilding the sections of a proof hashes, and where they are not an archive's own.
+-- The byte strings that rebuilding the sections of a proof hashes, compared with an archive's own.
 use Rattle.std.specs.Prelude.{◌≡◌, ℕ, List, [], ◌∷◌, ◌++◌, map, slice_get, Option, Some, None, MatchOption}
 use Rattle.std.specs.List.{All, flat_map}
 use Rattle.std.specs.Option.{ForSome}
@@ -33,11 +33,11 @@ hashed_header layout header = record {
   text = header_string layout header;
 }
 
--- a place of this tree
+-- a node as a place of this tree
 abbrev pub in_tree : Tree → Node → TreePlace
 in_tree tree node = record { tree = tree; node = node }
 
--- the strings of one tree of so many leaves, in pre-order
+-- the strings of one tree of `leaves` leaves, in pre-order
 abbrev pub strings_in : (List ℕ → List ℕ) → Tree → ℕ → List Shown → List (List ℕ) → List (Hashed TreePlace)
 strings_in H tree leaves shown digests = map (moved (in_tree tree)) (node_strings H leaves shown digests)
 
@@ -66,7 +66,7 @@ strings_of H query proof =
     ++ (flat_map (list_strings H (layout_of proof) proof.met) (presented query proof)
     ++ documents_strings H proof.header proof.met proof.docs)
 
--- the first of them that is another one than the archive's own at its place, with an equal digest
+-- the first of them that differs from the archive's own at its place and has an equal digest
 abbrev pub extract : (List ℕ → List ℕ) → Archive → List (List ℕ × ℕ) → Proof → Option (Difference TreePlace)
 extract H archive query proof = first_collision H (ours H archive query) (strings_of H query proof)
 
@@ -95,8 +95,8 @@ pub record IsOwn (H : List ℕ → List ℕ) (archive : Archive) (query : List (
   pub fronts : All (IsOwnList archive.texts query proof.met) (presented query proof)
   pub documents : ForSome proof.docs (AreOwnDocuments H archive.texts proof.met)
 
--- all that the proof shows is the archive's own, or the first string that differs from the archive's has an equal
--- digest
+-- either all that the proof shows is the archive's own, or the first string that differs from the archive's has an
+-- equal digest
 abbrev pub IsBound : (List ℕ → List ℕ) → Archive → List (List ℕ × ℕ) → Proof → Type 0
 IsBound H archive query proof =
     MatchOption (first_difference (ours H archive query) (strings_of H query proof)) (IsOwn H archive query proof) (λ c. H c.theirs ≡ H c.ours)

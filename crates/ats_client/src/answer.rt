@@ -1,4 +1,4 @@
-//! The rows of an answer that was checked.
+//! The rows of an answer, after the check accepted it.
 
 ghost use Rattle.std.specs.Prelude.{◌≡◌, ◌+◌, ◌≤◌, ◌<◌, ◌^◌, ℕ, List, length};
 ghost use Rattle.ats_client.specs.Rows.{IsLeft, row_of, row_bracket};
@@ -10,9 +10,9 @@ use ats_impact::Row;
 use ats_proof::ProofView;
 use byteorder::{BigEndian, ByteOrder};
 
-/// Row `i` of the answer, counted from 0: its document with what it scores at least and at most.
+/// Row `i` of the answer, counted from 0: its document with the least and the most that it scores.
 ///
-/// The marks and the threshold are those that an accepted check of this proof leaves.
+/// The marks and the threshold must be those that an accepted check of this proof leaves.
 pub fn row(proof: &ProofView<'_>, work: &Work, threshold: u64, i: u32, steps: &mut Steps) -> Row
     requires left { (query : List (List ℕ × ℕ)) × IsLeft query proof.now work.now.marks threshold }
     requires within { i < length proof.now.answer }

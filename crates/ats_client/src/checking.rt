@@ -62,11 +62,11 @@ fn checked<'a, H: Hash32>(
     Ok(threshold)
 }
 
-/// Tries whether a proof shows that its answer is right: the best `top` documents for the query in the
-/// archive that the root commits to. It answers what any document that no entry names can score, at
-/// most, or the first rule that the proof does not keep.
+/// Checks whether a proof shows that its answer is right: the best `top` documents for the query in the archive that
+/// the root commits to. Returns the most that any document can score that no entry names, or the first rule that the
+/// proof breaks.
 ///
-/// The marks are begun anew; what stood there before does not matter. After a refusal they are any.
+/// The marks are begun again; what they held before is ignored. After a refusal their content is unspecified.
 pub fn check<'a, H: Hash32>(
     root: &[u8; 32],
     query: &Query,

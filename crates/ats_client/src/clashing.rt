@@ -1,4 +1,4 @@
-//! The first string of a proof where an archive's own is another one with an equal digest.
+//! The first string of a proof that differs from an archive's own there and has the same digest.
 
 ghost use Rattle.std.specs.Prelude.{◌≡◌, ℕ, ◌+◌, ◌*◌, ◌^◌, ◌<◌, ◌≤◌, List, [], ◌∷◌, length, map, All, IsSome, IfSome, IfOk, option_map};
 ghost use Rattle.std.specs.List.{flat_map};
@@ -32,7 +32,7 @@ use ats_tree::{HashedString, Place, Revealed, Tree, collides};
 use std::alloc::Global;
 use std::marker::PhantomData;
 
-/// Two different strings with equal digests at one place: the archive's own, and the one that a proof has hashed.
+/// Two different strings with equal digests at one place: the archive's own, and the one that the proof hashes there.
 #[derive(Clone, Copy, Debug, PartialEq, Eq)]
 pub struct Clash {
     /// The tree, and the turns from its root. Digits of the turns above the depth are 0.
@@ -43,10 +43,10 @@ pub struct Clash {
     pub theirs: HashedString,
 }
 
-/// The first clash between an archive's own strings and those that rebuilding a proof hashes. The header's string
-/// comes first, then those of the dictionary, of each shown list in the order of terms, of the documents tree,
-/// and of each met document's terms. Sections that are all the archive's own are not hashed; where there is no
-/// memory for comparing them, they are.
+/// The first clash between an archive's own strings and those that rebuilding a proof hashes. The order is: the
+/// header's string, then those of the dictionary, of each shown list in the order of terms, of the documents tree, and
+/// of each met document's terms. Sections that are all the archive's own are not hashed, unless memory for comparing
+/// them runs out.
 pub fn first_clash<'a, H: Hash32, O: OwnStrings<H>>(
     alloc: Global,
     own: &O,
@@ -141,7 +141,7 @@ fn in_tree<'a, H: Hash32, O: OwnStrings<H>, R: Revealed<'a> + Copy>(
         section: *revealed,
         lends: PhantomData,
     };
-    // What is all the archive's own need not be hashed.
+    // If it is all the archive's own, it need not be hashed.
     if own.has_shown(tree, leaves, query, &mut taken) {
         return None;
     }

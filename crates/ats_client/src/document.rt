@@ -1,4 +1,4 @@
-//! One met document, against its leaf and the present terms of the query.
+//! Checks one met document against its leaf and the present terms of the query.
 
 ghost use Rattle.std.specs.Prelude.{◌≡◌, ◌<◌, ◌≤◌, ◌+◌, ◌*◌, ◌^◌, ℕ, length, map, OnOk, IfOk, IfErr};
 ghost use Rattle.std.specs.List.{All};
@@ -27,7 +27,7 @@ use ats_hash::{Hash32, Steps};
 use ats_proof::{DocView, TermsView};
 use ats_terms::Query;
 
-// Tries that what is shown of the document's terms is part of the tree that its leaf names.
+// Checks that what is shown of the document's terms is part of the tree that its leaf names.
 fn rooted<'a, H: Hash32>(doc: &DocView<'a>, steps: &mut Steps) -> Result<(), Refusal>
     requires room { steps.old ≤ 2 ^ 63 }
     ensures kept { OnOk result (IsTermsTree H.hash (document_of doc.now)) }
@@ -47,7 +47,7 @@ fn rooted<'a, H: Hash32>(doc: &DocView<'a>, steps: &mut Steps) -> Result<(), Ref
     Ok(())
 }
 
-// The impact that the slot of a present term shows, 0 where it shows that the document has no such term.
+// The impact that the slot of a present term shows, 0 if it shows that the document has no such term.
 fn impact<'a>(
     doc: &DocView<'a>,
     i: u32,
@@ -90,7 +90,7 @@ fn impact<'a>(
     }
 }
 
-// Tries the slots of the present terms, and answers what they show that the document scores.
+// Checks the slots of the present terms, and returns the document's score that they show.
 fn score<'a>(
     doc: &DocView<'a>,
     query: &Query,
@@ -123,8 +123,8 @@ fn score<'a>(
     Ok(score)
 }
 
-/// Tries what is shown of a met document's terms, its tree and then the slots of the present terms. It answers
-/// what they show that the document scores.
+/// Checks what is shown of a met document's terms: its tree, then the slots of the present terms. Returns the
+/// document's score that they show.
 pub(crate) fn document<'a, H: Hash32>(
     doc: &DocView<'a>,
     query: &Query,

@@ -1,4 +1,4 @@
-//! What is shown of the met documents: their leaves in the documents tree, and the terms of each.
+//! Checks what is shown of the met documents: their leaves in the documents tree, and the terms of each.
 
 ghost use Rattle.std.specs.Prelude.{◌≡◌, ◌<◌, ◌≤◌, ◌+◌, ◌*◌, ◌^◌, sum_by, List, [], Some, length, slice_set, OnOk, IfErr};
 ghost use Rattle.ats_bound.specs.Cut.{bracket, threshold as threshold_of};
@@ -20,7 +20,7 @@ use ats_hash::{Hash32, Steps};
 use ats_proof::{DocsView, ProofView};
 use ats_terms::Query;
 
-/// Tries that the leaves of the met documents are part of the header's documents tree.
+/// Checks that the leaves of the met documents are part of the header's documents tree.
 pub(crate) fn documents_tree<H: Hash32>(
     proof: &ProofView<'_>,
     steps: &mut Steps,
@@ -45,8 +45,7 @@ pub(crate) fn documents_tree<H: Hash32>(
     Ok(())
 }
 
-// Notes what a met document scores in its mark. All of the threshold is held, so that this is what it scores
-// at most too.
+// Notes the score of a met document in its mark. All of the threshold is held, so both bounds are this score.
 fn noted(work: &mut Work, index: u32, score: u64, threshold: u64, steps: &mut Steps)
     requires inside { index < length work.old.marks }
     requires room { steps.old ≤ 2 ^ 63 }
@@ -70,7 +69,7 @@ fn noted(work: &mut Work, index: u32, score: u64, threshold: u64, steps: &mut St
     work.put(index, mark, steps);
 }
 
-// Tries the met documents of a proof that shows them, one after another.
+// Checks the met documents of a proof that shows them, one after another.
 fn each<'a, H: Hash32>(
     docs: DocsView<'a>,
     query: &Query,
@@ -111,8 +110,8 @@ fn each<'a, H: Hash32>(
     Ok(())
 }
 
-/// Tries what is shown of the met documents, one after another, and notes their scores in their marks. Where
-/// the proof shows none, the marks stay as they are.
+/// Checks what is shown of the met documents, one after another, and notes their scores in their marks. If the proof
+/// shows none, the marks stay as they are.
 #[tactic(auto, using(crate::proofs::Counts::section_items))]
 pub(crate) fn documents<H: Hash32>(
     query: &Query,

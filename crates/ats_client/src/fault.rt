@@ -7,21 +7,21 @@ ghost use Rattle.ats_client.specs.declared.fault.VerifyFault.TheVariants.{Reject
 use crate::refusal::Refusal;
 use ats_proof::ShapeFault;
 
-/// What is wrong with bytes as a proof: their shape, or the first rule that the proof does not keep.
+/// What is wrong with bytes as a proof: their shape, or the first rule that the proof breaks.
 #[derive(Clone, Copy, Debug, PartialEq, Eq)]
 pub enum Rejection {
     /// The bytes spell no proof.
     Shape(ShapeFault),
-    /// The first rule that the proof does not keep.
+    /// The first rule that the proof breaks.
     Check(Refusal),
 }
 
-/// Why no rows were answered.
+/// Why no rows were returned.
 #[derive(Clone, Copy, Debug, PartialEq, Eq)]
 pub enum VerifyFault {
     /// The bytes are not accepted.
     Rejected(Rejection),
-    /// Memory was wanted and not there, which says nothing of the bytes.
+    /// Memory ran out. This says nothing of the bytes.
     OutOfMemory,
 }
 

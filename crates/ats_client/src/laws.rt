@@ -1,4 +1,4 @@
-//! What an accepted proof says of an archive, and that a refusal is one, as contracts of functions that do nothing.
+//! What an accepted proof says of an archive, and that refusals are unique, as contracts of functions that do nothing.
 
 ghost use Rattle.std.specs.Prelude.{◌≡◌, ◌⊎◌, ℕ, List};
 ghost use Rattle.ats_tree.specs.Differences.{first_difference};
@@ -20,9 +20,9 @@ ghost use Rattle.ats_client.specs.Headline.{AreRight, IsTopOrCollides};
 
 use ats_hash::HashKind;
 
-/// Let the sections of a proof, by either algorithm, rebuild to the roots that are told for them, from the root
-/// of an archive down. Then all that they show is the archive's own, or the first string of the proof that
-/// differs from the archive's has an equal digest. And `extract` finds that string.
+/// If the sections of a proof, by either algorithm, rebuild to the roots that the proof has for them, from the root of
+/// an archive down, then either all that they show is the archive's own, or the first string of the proof that differs
+/// from the archive's has an equal digest and `extract` finds that string.
 pub fn rebuilt_sections_are_bound<H: HashKind>()
     ensures bound { (archive : Archive) (query : List (List ℕ × ℕ)) (bytes : List ℕ) (proof : Proof)
         → AreTexts archive.texts → IsQuery query
@@ -35,8 +35,8 @@ pub fn rebuilt_sections_are_bound<H: HashKind>()
         ≡ first_difference (ours H.hash archive query) (strings_of H.hash query proof) }
 {}
 
-/// What an accepted proof shows belongs to every archive with the root, or the first string of the proof that
-/// differs from the archive's has an equal digest; `extract` finds that string.
+/// For every archive with the root, either what an accepted proof shows is the archive's own, or the first string of
+/// the proof that differs from the archive's has an equal digest and `extract` finds that string.
 pub fn shown_leaves_are_bound<H: HashKind>()
     ensures bound { (archive : Archive) (query : List (List ℕ × ℕ)) (r : ℕ) (bytes : List ℕ) (proof : Proof)
         → AreTexts archive.texts → IsQuery query
@@ -49,7 +49,7 @@ pub fn shown_leaves_are_bound<H: HashKind>()
         ≡ first_difference (ours H.hash archive query) (strings_of H.hash query proof) }
 {}
 
-/// Where all that an accepted proof shows is an archive's own, its rows are right for the archive's texts.
+/// If all that an accepted proof shows is an archive's own, its rows are right for the archive's texts.
 pub fn own_leaves_make_rows_right<H: HashKind>()
     ensures { (archive : Archive) (query : List (List ℕ × ℕ)) (r : ℕ) (bytes : List ℕ) (proof : Proof)
         → AreTexts archive.texts → IsQuery query
@@ -57,15 +57,15 @@ pub fn own_leaves_make_rows_right<H: HashKind>()
         → AreRight archive.texts query r (rows_of query proof) }
 {}
 
-/// The headline: the rows of an accepted proof are right for each archive with the root, or `extract` finds
-/// two different strings with equal digests.
+/// The headline: for each archive with the root, either the rows of an accepted proof are right, or `extract` finds two
+/// different strings with equal digests.
 pub fn accepted_answers_are_top<H: HashKind>()
     ensures { (root : List ℕ) (query : List (List ℕ × ℕ)) (r : ℕ) (bytes : List ℕ) (proof : Proof)
         → IsQuery query → IsProof bytes proof
         → Accepts H.hash root query r proof → IsTopOrCollides H.hash root query r proof }
 {}
 
-/// A proof has one first refusal at most, and none where all rules hold.
+/// A proof has at most one first refusal, and none if all rules hold.
 pub fn proofs_have_one_refusal<H: HashKind>()
     ensures one { (root : List ℕ) (query : List (List ℕ × ℕ)) (r : ℕ) (proof : Proof) (a b : Refusal)
         → IsFirstRefusal H.hash root query r proof a → IsFirstRefusal H.hash root query r proof b → a ≡ b }
@@ -73,8 +73,8 @@ pub fn proofs_have_one_refusal<H: HashKind>()
         → Accepts H.hash root query r proof → IsFirstRefusal H.hash root query r proof refusal → ⊥ }
 {}
 
-/// What is shown of the met documents keeps its rules or has one first failure, and not both: the documents tree,
-/// and then the documents one after another, each with its tree and its slots.
+/// Either the rules of the met documents hold or there is one first failure, never both: the documents tree, and then
+/// the documents one after another, each with its tree and its slots.
 pub fn documents_have_one_fault<H: HashKind>()
     ensures tree_one { (proof : Proof) (a b : Refusal)
         → IsDocsFault H.hash proof a → IsDocsFault H.hash proof b → a ≡ b }
@@ -90,7 +90,7 @@ pub fn documents_have_one_fault<H: HashKind>()
         → AreDocumentsRight H.hash query proof ⊎ ((refusal : Refusal) × IsDocumentsFault H.hash query proof refusal) }
 {}
 
-/// Bytes are rejected in one way at most, and in none where they are accepted.
+/// Bytes are rejected in at most one way, and in none if they are accepted.
 pub fn bytes_have_one_rejection<H: HashKind>()
     ensures one { (root : List ℕ) (query : List (List ℕ × ℕ)) (r : ℕ) (bytes : List ℕ) (a b : Rejection)
         → IsRejectedBytes H.hash root query r bytes a → IsRejectedBytes H.hash root query r bytes b → a ≡ b }

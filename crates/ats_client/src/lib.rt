@@ -1,17 +1,15 @@
-//! The check of a proof: whoever holds the root of an archive learns whether an answer is right.
+//! The check of a proof: whoever holds the root of an archive finds out whether an answer is right.
 //!
-//! [`verify`] goes from the bytes of a proof to the rows of its answer, or to the first thing that is wrong
-//! with them. A proof shows parts of the dictionary and of the lists of a query's terms, and by random access
-//! also of the met documents. [`check`] rebuilds each part up to the root, and from what the lists and the
-//! documents show it tries whether the answer is settled; [`row`] then tells each document of the answer with
-//! its bounds. These two take no memory. [`first_clash`] finds, for whoever has the archive's own strings, the
-//! first place where one of them is another string than the proof's with an equal digest.
-//! The room stands on the proof that `ats_proof` sees in its bytes, on the trees of `ats_tree`, and on the
-//! cuts and settled answers of `ats_bound`. It promises that a proof is accepted exactly where all rules of
-//! `specs/Accepts.antt` hold, else refused by the first that fails. It promises that an accepted answer is a
-//! top answer for each archive with the root, or two different strings with equal digests are in hand
-//! (`specs/Headline.antt`). In which passes leaves and entries are read, and what the marks note beside the
-//! bounds, may change without asking.
+//! [`verify`] goes from the bytes of a proof to the rows of its answer, or to the first thing that is wrong with them.
+//! A proof shows parts of the dictionary and of the lists of a query's terms; a TRA proof also shows parts of the met
+//! documents. [`check`] rebuilds each part up to the root, and decides from what the lists and the documents show
+//! whether the answer is settled; [`row`] then returns each document of the answer with its bounds. These two allocate
+//! nothing. [`first_clash`] is for whoever has the archive's own strings: it finds the first place where the archive's
+//! string differs from the proof's and has an equal digest. The room stands on the proof that `ats_proof` reads from
+//! bytes, on the trees of `ats_tree`, and on the cuts and settled answers of `ats_bound`. A proof is accepted exactly
+//! if all rules of `specs/Accepts.antt` hold, else refused by the first that fails. For each archive with the root, an
+//! accepted answer is a top answer, or there are two different strings with equal digests (`specs/Headline.antt`). In
+//! which passes leaves and entries are read, and what the marks note beside the bounds, may change freely.
 //!
 //! ```
 //! use ats_hash::Sha;

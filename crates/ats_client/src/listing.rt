@@ -1,4 +1,4 @@
-//! One prefix, against the list that the dictionary names.
+//! Checks one prefix against the list that the dictionary names.
 
 ghost use Rattle.std.specs.Prelude.{◌≡◌, ◌<◌, ◌≤◌, ◌+◌, ◌*◌, ◌^◌, ◌++◌, List, [], Some, length, OnOk, IfOk, IfErr};
 ghost use Rattle.std.specs.List.{All};
@@ -17,7 +17,7 @@ use ats_bound::Work;
 use ats_hash::{Hash32, Steps};
 use ats_proof::ProofView;
 
-// Tries that the prefix is the front of the list that its term's leaf names.
+// Checks that the prefix is the front of the list that its term's leaf names.
 #[tactic(auto, using(crate::proofs::Counts::shown_list_size), unfolding(crate::specs::Lists::prefix_of))]
 fn rooted<'a, H: Hash32>(
     one: &Present<'a>,
@@ -44,8 +44,8 @@ fn rooted<'a, H: Hash32>(
     Ok(())
 }
 
-/// Tries the prefix of a present term with this coefficient, and notes its entries. It answers what the
-/// entries outside the prefix can add to a score, at most.
+/// Checks the prefix of a present term with this coefficient, and notes its entries. Returns the most that the entries
+/// outside the prefix can add to a score.
 pub(crate) fn list<'a, H: Hash32>(
     one: &Present<'a>,
     coefficient: u32,

@@ -1,4 +1,4 @@
-//! The prefixes of all present terms.
+//! Checks the prefixes of all present terms.
 
 ghost use Rattle.std.specs.Prelude.{◌≡◌, ◌<◌, ◌≤◌, ◌+◌, ◌*◌, ◌^◌, sum_by, [], length, OnOk, IfOk, IfErr};
 ghost use Rattle.ats_bound.specs.Cut.{bracket, threshold as threshold_of};
@@ -18,8 +18,8 @@ use ats_hash::{Hash32, Steps};
 use ats_proof::ProofView;
 use ats_terms::Query;
 
-/// Tries the prefixes of all present terms, makes the marks of the met documents, and keeps the terms. It
-/// answers what a document that is not met can score, at most.
+/// Checks the prefixes of all present terms, makes the marks of the met documents, and keeps the terms. Returns the
+/// most that a document that is not met can score.
 pub(crate) fn lists<'a, H: Hash32>(
     query: &Query,
     proof: &ProofView<'a>,

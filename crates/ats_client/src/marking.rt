@@ -1,4 +1,4 @@
-//! The entries of a prefix, noted in the marks of their documents.
+//! Notes the entries of a prefix in the marks of their documents.
 
 ghost use Rattle.std.specs.Prelude.{◌≡◌, ◌≢◌, ◌<◌, ◌≤◌, ◌+◌, ◌*◌, ◌^◌, ◌↔◌, ◌++◌, List, [], length, map, slice_set, IsTrue, OnOk, IfErr};
 ghost use Rattle.ats_bound.specs.Work.{mark_at};
@@ -14,7 +14,7 @@ use ats_bound::{Mark, Work};
 use ats_hash::Steps;
 use ats_proof::ListView;
 
-/// The impact that no entry outside the prefix goes above, where the list has so many entries.
+/// The impact that no entry outside the prefix exceeds, if the list has `total` entries.
 #[tactic(auto, unfolding(crate::specs::Lists::prefix_of))]
 pub(crate) fn rest_impact(list: &ListView<'_>, total: u32, steps: &mut Steps) -> u16
     requires room { steps.old ≤ 2 ^ 63 }
@@ -29,8 +29,8 @@ pub(crate) fn rest_impact(list: &ListView<'_>, total: u32, steps: &mut Steps) ->
     list.entry(len - 1, steps).impact
 }
 
-// Notes an entry of a list, counted from 1, in the mark of its document. It answers false, and notes
-// nothing, where the list has named the document before.
+// Notes an entry of a list, counted from 1, in the mark of its document. Returns false, and notes nothing, if the list
+// has named the document before.
 fn noted(work: &mut Work, index: u32, list: u32, gain: u64, rest: u64, steps: &mut Steps) -> bool
     requires inside { index < length work.old.marks }
     requires lo { (mark_at work.old.marks index).lo + gain < 2 ^ 64 }

@@ -9,7 +9,7 @@ use ats_terms::Query;
 use ats_tree::{HashedString, OwnNodes, Place, Tree};
 use std::marker::PhantomData;
 
-/// One tree of an archive, by the nodes of which its strings are told.
+/// One tree of an archive, whose strings are found by node.
 #[derive(Drop)]
 pub(crate) struct OneTree<'r, H, O> {
     pub(crate) own: &'r O,

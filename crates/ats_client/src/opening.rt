@@ -1,4 +1,4 @@
-//! The root, the number of slots, and the dictionary section.
+//! Checks the root, the number of slots, and the dictionary section.
 
 ghost use Rattle.std.specs.Prelude.{◌≡◌, ◌≤◌, ◌+◌, ◌*◌, ◌^◌, length, OnOk, IfErr};
 ghost use Rattle.ats_tree.specs.Rebuild.{rebuilt};
@@ -12,7 +12,7 @@ use ats_proof::ProofView;
 use ats_terms::Query;
 use ats_tree::{Revealed, rebuild};
 
-/// What a section of a tree of `n` leaves rebuilds to, nothing where it is no part of one.
+/// The digest that a section of a tree of `n` leaves rebuilds to, `None` if it is no part of such a tree.
 pub(crate) fn rebuilt<'a, H: Hash32, R: Revealed<'a>>(
     n: u32,
     revealed: &mut R,
@@ -29,7 +29,7 @@ pub(crate) fn rebuilt<'a, H: Hash32, R: Revealed<'a>>(
     rebuild::<H, R>(n, revealed, steps).ok()
 }
 
-/// Tries that the header stands for the root, and that the proof is one of as many terms as the query has.
+/// Checks that the header has this root, and that the proof has as many slots as the query has terms.
 pub(crate) fn opened<H: Hash32>(
     root: &[u8; 32],
     query: &Query,
@@ -52,7 +52,7 @@ pub(crate) fn opened<H: Hash32>(
     Ok(())
 }
 
-/// Tries that the dictionary section is part of the header's dictionary.
+/// Checks that the dictionary section is part of the header's dictionary.
 pub(crate) fn dictionary<H: Hash32>(proof: &ProofView<'_>, steps: &mut Steps) -> Result<(), Refusal>
     requires room { steps.old ≤ 2 ^ 63 }
     ensures kept { OnOk result (IsDictionary H.hash proof.now) }

@@ -19,7 +19,7 @@ pub(crate) struct Present<'a> {
 }
 
 impl Present<'_> {
-    /// What is kept of the term, with its idf among so many documents.
+    /// The number and the coefficient of the term, with its idf among `documents` documents.
     pub(crate) fn kept(&self, documents: u32) -> PresentTerm
         ensures term { result ≡ kept_term documents (presented_of self.now) }
         ensures small { result.coefficient ≤ 2 ^ 17 }

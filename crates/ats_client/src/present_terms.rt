@@ -1,4 +1,4 @@
-//! The present terms of a query, kept while the met documents are tried.
+//! The present terms of a query, kept while the met documents are checked.
 
 ghost use Rattle.std.specs.Prelude.{◌≡◌, ◌<◌, ◌≤◌, ◌^◌, ◌∷◌, ◌++◌, List, [], length, slice_get, Some};
 
@@ -13,7 +13,7 @@ pub(crate) struct PresentTerm {
 
 /// The present terms of a query in order, at most 32.
 ///
-/// Each met document is tried by all of them, and the slots and the dictionary are not read again for it.
+/// Each met document is checked against all of them, without reading the slots and the dictionary again.
 #[derive(Drop)]
 pub(crate) struct PresentTerms {
     terms: [PresentTerm; 32],
@@ -47,7 +47,7 @@ impl PresentTerms {
         }
     }
 
-    /// One term more.
+    /// Appends a term.
     pub(crate) fn push(&mut self, term: PresentTerm)
         requires few { length self.old < 32 }
         requires small { term.coefficient ≤ 2 ^ 17 }
@@ -65,7 +65,7 @@ impl PresentTerms {
         self.len
     }
 
-    /// The term at a place, counted among the present terms alone.
+    /// The term at a place, counted among the present terms only.
     pub(crate) fn get(&self, i: u32) -> PresentTerm
         requires { i < length self.now }
         ensures term { slice_get self.now i ≡ Some result }

@@ -24,7 +24,7 @@ fn next_list<'a>(left: &mut ListsView<'a>, steps: &mut Steps) -> Option<ListView
     left.next(steps)
 }
 
-/// A term of the query with the next prefix, where its slot says that it is present.
+/// A term of the query with the next prefix, if its slot says that it is present.
 pub(crate) fn present<'a>(
     query: &Query,
     proof: &ProofView<'a>,

@@ -1,12 +1,12 @@
 //! Why a proof is refused.
 
-/// The first rule that a proof does not keep. Terms are counted from 0 in the byte order of the query's
-/// terms, those that are absent included; entries of a prefix, met documents and rows are counted from 0.
+/// The first rule that a proof breaks. Terms are counted from 0 in the byte order of the query's terms, absent ones
+/// included; entries of a prefix, met documents and rows are counted from 0.
 #[derive(Clone, Copy, Debug, PartialEq, Eq)]
 pub enum Refusal {
-    /// The header stands for another root.
+    /// The header has another root.
     OtherRoot,
-    /// The proof is one of another number of terms than the query has.
+    /// The proof has another number of slots than the query has terms.
     SlotCount { shown: u32 },
     /// The dictionary section is no part of a tree of the header's size.
     DictMisfit,
@@ -16,9 +16,9 @@ pub enum Refusal {
     SlotWrong { term: u32 },
     /// An entry names no met document.
     IndexOut { term: u32, entry: u32 },
-    /// An entry names a document that an entry before it in its prefix names.
+    /// An entry names a document that an earlier entry of its prefix names.
     Repeated { term: u32, entry: u32 },
-    /// The prefix is no part of a tree of the size that the dictionary tells.
+    /// The prefix is no part of a tree of the size that the dictionary gives.
     ListMisfit { term: u32 },
     /// The prefix is part of another list.
     ListRoot { term: u32 },
@@ -28,7 +28,7 @@ pub enum Refusal {
     DocsMisfit,
     /// The documents section is part of another tree.
     DocsRoot,
-    /// What is shown of the document's terms is no part of a tree of the size that its leaf tells.
+    /// What is shown of the document's terms is no part of a tree of the size that its leaf gives.
     TermsMisfit { doc: u32 },
     /// What is shown of the document's terms is part of another tree.
     TermsRoot { doc: u32 },
@@ -36,8 +36,8 @@ pub enum Refusal {
     TermSlot { doc: u32, term: u32 },
     /// A row names no met document.
     AnswerOut { row: u32 },
-    /// A row names the document of a row before it.
+    /// A row names the document of an earlier row.
     AnswerRepeated { row: u32 },
-    /// What is shown leaves open whether the answer is right.
+    /// What is shown does not prove the answer right.
     NotSettled,
 }

@@ -12,7 +12,7 @@ use ats_bound::{Mark, Work};
 use ats_hash::Steps;
 use ats_proof::ProofView;
 
-// Reads a row, after those before it, and notes it in the mark of its document.
+// Reads a row, after the earlier ones, and notes it in the mark of its document.
 fn read_row(
     proof: &ProofView<'_>,
     row: u32,

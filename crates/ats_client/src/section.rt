@@ -1,4 +1,4 @@
-//! A section of shown leaves, each of which stands for a term.
+//! A section of shown leaves, each of which has a term.
 
 ghost use Rattle.std.specs.Prelude.{◌≡◌, ◌≤◌, ◌+◌, ◌^◌, ◌↔◌, ◌⊎◌, IsTrue, List, [], length, drop, slice_get, option_map};
 ghost use Rattle.ats_dict.specs.Dictionary.{IsBelow};
@@ -12,16 +12,16 @@ pub(crate) trait Section: Copy {
     /// A leaf as it is lent, with its position in the tree.
     type Leaf: Copy;
 
-    /// What a leaf says.
+    /// The content of a leaf.
     ghost Item: { Type 0 };
 
-    /// Two such sayings are the same in one way, so that a walk can keep where it stands.
+    /// Contents are a set, so that a walk can keep its place.
     ghost item_is_set: { IsSet Item };
 
-    /// What the leaves left say.
+    /// The contents of the leaves left.
     ghost leaves: { Self → List Item };
 
-    /// What a lent leaf says.
+    /// The content of a lent leaf.
     ghost item: { Self.Leaf → Item };
 
     /// The position and the term of a leaf.
@@ -39,7 +39,7 @@ pub(crate) trait Section: Copy {
     fn term(leaf: &Self::Leaf) -> &[u8]
         ensures { result.now ≡ (shown (item leaf.now)).term };
 
-    /// Removes the first leaf left. It answers false where none is left.
+    /// Removes the first leaf left. Returns false if none is left.
     fn pass(&mut self, steps: &mut Steps) -> bool
         requires room { steps.old ≤ 2 ^ 63 + 2 ^ 16 }
         ensures end { IsTrue result ⊎ (leaves self.old ≡ []) }
@@ -48,7 +48,7 @@ pub(crate) trait Section: Copy {
         ensures most { steps.new + length (leaves self.new) ≤ steps.old + length (leaves self.old) };
 }
 
-/// The section without its first leaves, as many as there are.
+/// The section without its first `count` leaves, or without all if there are fewer.
 pub(crate) fn passed<S: Section>(section: S, count: u16, steps: &mut Steps) -> S
     requires room { steps.old ≤ 2 ^ 63 }
     ensures passed { S.leaves result ≡ drop count (S.leaves section) }

@@ -13,7 +13,7 @@ use ats_hash::Steps;
 use ats_impact::Top;
 use ats_proof::ProofView;
 
-/// What a document scores at most, where no document that is not met scores more than the threshold.
+/// The most that a document scores, if no document that is not met scores more than the threshold.
 pub(crate) fn upper(mark: Mark, threshold: u64) -> u64
     requires held { mark.held ≤ threshold }
     requires small { mark.lo + threshold < 2 ^ 64 }
@@ -22,16 +22,16 @@ pub(crate) fn upper(mark: Mark, threshold: u64) -> u64
     mark.lo + (threshold - mark.held)
 }
 
-// Whether an answer has as many rows as it may have, or a row for each met document where no other can
-// score.
+// Whether an answer has at most `most` rows, and either exactly as many, or a row for each met document while no other
+// can score.
 fn is_whole(rows: u32, most: u32, met: u32, threshold: u64) -> bool
     ensures { IsTrue result ↔ ((rows ≤ most) × ((rows ≡ most) ⊎ ((met ≤ rows) × (threshold ≡ 0)))) }
 {
     rows == most || (rows < most && met <= rows && threshold == 0)
 }
 
-// What the last row scores at least, the greatest number where there is none. Nothing if some row can
-// score more than the row before it scores at least.
+// The least that the last row scores, or the largest number if there is no row. `None` if some row can score more than
+// the least that the row before it scores.
 fn last_lower(proof: &ProofView<'_>, work: &Work, threshold: u64, steps: &mut Steps) -> Option<u64>
     requires rows { All (λ index. index < length work.now.marks) proof.now.answer }
     requires below { AreBelow threshold work.now.marks }
@@ -54,7 +54,7 @@ fn last_lower(proof: &ProofView<'_>, work: &Work, threshold: u64, steps: &mut St
     Some(score)
 }
 
-// Whether no document outside the answer can score more than this.
+// Whether no document outside the answer can score more than `score`.
 fn others_are_within(marks: u32, work: &Work, threshold: u64, score: u64, steps: &mut Steps) -> bool
     requires all { marks ≡ length work.now.marks }
     requires below { AreBelow threshold work.now.marks }
@@ -74,8 +74,8 @@ fn others_are_within(marks: u32, work: &Work, threshold: u64, score: u64, steps:
 
 /// Whether what is shown settles the answer. Each row and each mark is read once.
 ///
-/// The threshold is what a document that is not met can score at most. An answer with fewer rows than it may
-/// have is settled only where each met document has a row, and no other can score.
+/// The threshold is the most that a document that is not met can score. An answer with fewer rows than it may have is
+/// settled only if each met document has a row, and no other document can score.
 pub(crate) fn settled(
     proof: &ProofView<'_>,
     work: &Work,

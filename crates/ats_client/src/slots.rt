@@ -9,7 +9,7 @@ use ats_hash::Steps;
 use ats_proof::ProofView;
 use ats_terms::Query;
 
-/// Tries that the slot of each term shows it in the dictionary section.
+/// Checks that the slot of each term shows it in the dictionary section.
 pub(crate) fn slots(query: &Query, proof: &ProofView<'_>, steps: &mut Steps) -> Result<(), Refusal>
     requires each { length proof.now.slots ≡ length query.now }
     requires room { steps.old ≤ 2 ^ 62 + 2 ^ 40 }

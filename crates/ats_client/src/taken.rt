@@ -1,4 +1,4 @@
-//! What a section of a proof shows, as it is taken from the front.
+//! A section of a proof, taken from the front.
 
 ghost use Rattle.std.specs.Prelude.{◌≡◌, length};
 

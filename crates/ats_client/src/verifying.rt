@@ -1,4 +1,4 @@
-//! The check of bytes, up to the rows of the answer.
+//! The check of bytes as a proof, up to the rows of the answer.
 
 ghost use Rattle.std.specs.Prelude.{◌≡◌, ℕ, List, OnOk, IfOk, IfErr};
 ghost use Rattle.ats_client.specs.Accepts.{Accepts};
@@ -35,8 +35,8 @@ fn answer_rows(
     Ok(rows)
 }
 
-/// The rows of the answer of a proof in hand, or the first rule that it does not keep. The memory for the marks is
-/// taken before the check.
+/// The rows of the answer of a proof that is read already, or the first rule that it breaks. The memory for the marks
+/// is allocated before the check.
 pub fn check_rows<H: Hash32>(
     alloc: Global,
     root: &[u8; 32],
@@ -56,9 +56,8 @@ pub fn check_rows<H: Hash32>(
     Ok(rows)
 }
 
-/// Tries whether bytes are a proof that their answer is right: the best `top` documents for the query in
-/// the archive that the root commits to. It answers the rows of the answer, or the first thing that is
-/// wrong with the bytes.
+/// Checks whether bytes are a proof that their answer is right: the best `top` documents for the query in the archive
+/// that the root commits to. Returns the rows of the answer, or the first thing that is wrong with the bytes.
 pub fn verify<H: Hash32>(
     alloc: Global,
     bytes: &[u8],

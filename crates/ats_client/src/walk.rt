@@ -7,7 +7,7 @@ use crate::section::{Section, lies_between, passed};
 use ats_hash::Steps;
 use ats_proof::Slot;
 
-/// The shown leaves of a section from a place on. Where places never fall, each leaf is passed once.
+/// The shown leaves of a section from a place on. If places never fall, each leaf is passed once.
 #[derive(Drop)]
 pub(crate) struct Walk<S: Section> {
     all: S,
@@ -32,7 +32,7 @@ impl<S: Section> Walk<S> {
         }
     }
 
-    /// The leaf at a place, which the walk goes to.
+    /// The leaf at a place. The walk goes there.
     pub(crate) fn leaf(&mut self, place: u16, steps: &mut Steps) -> Option<S::Leaf>
         requires room { steps.old ≤ 2 ^ 63 }
         ensures same { self.new.all ≡ self.old.all }

@@ -1,4 +1,4 @@
--- What holds of honest proofs over any archive.
+-- Facts about honest proofs over any archive.
 use Rattle.std.proofs.Common.{◌≡◌, ◌≤◌, ◌^◌, ℕ, List, length}
 use Rattle.ats_terms.specs.Query.{IsQuery}
 use Rattle.ats_commit.specs.Archive.{Archive}

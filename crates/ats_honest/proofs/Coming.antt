@@ -1,4 +1,4 @@
--- The fields of a proof come in the grammar's order, each in its range.
+-- The fields of a proof are in the grammar's order, each in its range.
 use Rattle.std.proofs.Common.{◌≡◌, ◌+◌, ◌≤◌, ◌==◌, ℕ, suc, Bool, true, false, cond, List, [], ◌∷◌, ◌++◌, length, refl, sym, ap, subst, arith, Option, Some, None}
 use Rattle.std.specs.List.{All, flat_map}
 use Rattle.std.proofs.lemmas.List.Elements.{All-head, All-tail}
@@ -18,7 +18,7 @@ use Rattle.ats_proof.proofs.Public.{length-spelled, number-spelled}
 use Rattle.ats_honest.specs.Order.{AreInOrder}
 use Rattle.ats_honest.proofs.Spots.{IsLeaf}
 
--- fields behind fields
+-- fields after fields
 pub come_join : (a b : List (List ℕ)) (t u v : Table) → Come a t u → Come b u v → Come (a ++ b) t v
 come_join [] b t u v first second = subst (λ x. Come b x v) (sym first) second
 come_join (f ∷ a) b t u v first second = (first.0, come_join a b (follow t (number f)) u v first.1 second)
@@ -154,7 +154,7 @@ pub record IsInRange (proof : Proof) : Type 0 where
   pub documents : AreInOrder (length proof.met) (length proof.lists) proof.docs
   pub rows : (length proof.answer ≤ 1000) × All (λ n. n ≤ 0xffff_ffff) proof.answer
 
--- whether documents stand in the proof
+-- whether the proof has documents
 abbrev tra_of : Option Documents → Bool
 tra_of docs = number_of_algorithm docs == 1
 

@@ -98,7 +98,7 @@ need_holes (suc h) os short = elim (cases_lt (2 ^ h) (length os)) [
   | inr few ↦ subst (λ t. need t ≤ holes os) (sym (within-suc h os few)) (need_holes h os few)
 ]
 
--- ---- no more than one digest for each level and each shown leaf, and one
+-- ---- at most one digest for each level and each shown leaf, plus one
 
 abbrev pub IsFew : ℕ → List (Option (List ℕ)) → Tree (Option (List ℕ)) → Type 0
 IsFew h os t = ((is_bare t ≡ true) × (need t ≤ 1)) ⊎ ((is_bare t ≡ false) × (1 ≤ filled os) × (need t ≤ h * filled os))

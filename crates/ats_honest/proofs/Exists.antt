@@ -48,7 +48,7 @@ needed_exist spots =
 
 -- ---- lanes
 
--- how often a term stands in a query
+-- how often a term occurs in a query
 abbrev IsWeighed : List ℕ × ℕ → Type 0
 IsWeighed pair = (1 ≤ pair.1) × (pair.1 ≤ 255)
 

@@ -23,7 +23,7 @@ use Rattle.ats_honest.proofs.Elided.{dictionary_few}
 use Rattle.ats_honest.proofs.Ranges.{above_first, all_below, elided_sized, rising_slots, some_needed, tail_rises}
 use Rattle.ats_honest.proofs.Spots.{spots_each}
 
--- what a leaf keeps, a sentinel too
+-- what holds for a leaf, sentinels included
 pub record IsItem (item : List ℕ × ℕ) : Type 0 where
   pub short : length item.0 ≤ 64
   pub small : item.1 ≤ 2200
@@ -35,7 +35,7 @@ item_leaf items (suc p) are inside = elim (cases_lt p (length items)) [
   | inr past ↦ subst IsItem (sym (item_at-last items (suc p) (omega (arith, past, inside)))) (record { short = omega arith; small = omega arith })
 ]
 
--- they come in the grammar's order, each in its range
+-- they are in the grammar's order, each in its range
 pub good_terms : (items : List (List ℕ × ℕ)) (ps : List ℕ) (least : ℕ) → AreImpacts items → IsStrictlyIncreasing ps → All (λ p. least ≤ p) ps → All (λ p. p < length items + 2) ps
     → AreGoodTerms least (map (shown_term items) ps)
 good_terms items [] least are rises above below = tt
@@ -49,7 +49,7 @@ good_terms items (p ∷ ps) least are rises above below =
       good_terms items ps (p + 1) are (tail_rises p ps rises) (above_first p ps rises) (All-tail (λ q. q < length items + 2) p ps below),
     )
 
--- ---- where terms stand
+-- ---- the places of terms
 
 pub lower_item : (items : List (List ℕ × ℕ)) (term : List ℕ) (spot : Spot) → IsTermSpot items term spot → lower spot ≤ length items
 lower_item items term (At p) is = is.within
@@ -90,7 +90,7 @@ module _ (H : List ℕ → List ℕ) (sized : (bytes : List ℕ) → length (H b
         places = rising_slots (term_at items) (length items) (IsTermSpot items) (terms_rise items are) (lower_item items) (lower_at items) (upper_at items are) positions terms spots few rises found;
       }
 
-  -- its fields come in the grammar's order
+  -- its fields are in the grammar's order
   pub section_comes : AreImpacts items → 1 ≤ length terms → Rises terms → HaveSpots (IsTermSpot items) terms spots → AreNeeded spots positions → length positions ≤ 64
       → ComesIn (length terms) (section_of H items spots positions)
   section_comes are some rises found needed few =

@@ -21,14 +21,14 @@ module _ (texts : List (List ℕ)) (term : List ℕ) (doc : ℕ) (low_doc : doc 
   abbrev items : List (List ℕ × ℕ)
   items = doc_terms texts doc
 
-  -- by how often the term stands in the document
+  -- by how often the term occurs in the document
   counted : 0 < count term text → impact_in doc (list texts term) ≡ impact (count term text) (total_terms texts) (length (terms text)) (length texts)
   unfolding posting
   counted some =
       let yes : has texts term doc doc ≡ true = lt-ltb 0 (count term text) some in
       listed texts term doc low_doc ∙ ap (λ b. cond b (posting texts term doc).impact 0) yes
 
-  -- where the term stands at a leaf, its impact there
+  -- if the term is at a leaf, its impact there
   pub looked_up_at : (p : ℕ) → StandsAt items term p → impact_in doc (list texts term) ≡ impact_at items p
   looked_up_at zero is = absurd (omega (arith, is.some))
   looked_up_at (suc i) is =
@@ -40,7 +40,7 @@ module _ (texts : List (List ℕ)) (term : List ℕ) (doc : ℕ) (low_doc : doc 
       ∙ ap (λ (t : List ℕ). impact (count t text) (total_terms texts) (length (terms text)) (length texts)) (sym name)
       ∙ sym (impact_tells texts doc i low inside) ∙ sym (ap (λ (x : List ℕ × ℕ). x.1) item)
 
-  -- where it lies between two, none
+  -- if it lies between two, none
   pub looked_up_between : (p : ℕ) → LiesBetween items term p → impact_in doc (list texts term) ≡ 0
   looked_up_between p is =
       let none : count term text ≡ 0 = none_stands texts doc term (none_of low high items (λ (item : List ℕ × ℕ). item.0) term is.absent) in

@@ -55,7 +55,7 @@ met_below n lanes cut brackets all are k d inside =
     let has : has_bracket doc brackets ≡ true = list_any_at (λ (b : Bracket). nat_eq b.doc doc) brackets k none here (eq-eqb doc doc refl) in
     omega (arith, shown_below doc n lanes cut all (sym (are.met doc) ∙ has), get_or-map docs brackets k none d here)
 
--- rising numbers below a bound are no more than that
+-- in rising numbers the one at place k is at least k
 rising_at : (xs : List ℕ) → IsStrictlyIncreasing xs → (k : ℕ) → k < length xs → k ≤ get_or xs k 0
 rising_at xs rise zero inside = omega arith
 rising_at xs rise (suc k) inside =
@@ -70,7 +70,7 @@ rising_few n (x ∷ xs) rise below =
 pub lists_below : (lanes : List WholeLane) → All (λ (lane : WholeLane). IsList 65536 lane.entries) lanes → All (λ (lane : WholeLane). All (λ (e : Entry). e.doc < 65536) lane.entries) lanes
 lists_below lanes all k d inside = (all k d inside).documents
 
--- where a document is met there is a list
+-- if a document is met, there is a list
 pub lists_some : {bounds : Bounding} (lanes : List WholeLane) (cut : List ℕ) (brackets : List Bracket) → AreBracketsBy bounds (shown lanes cut) brackets → 1 ≤ length brackets → 1 ≤ length lanes
 lists_some [] cut brackets are some =
     let none : Bracket = record { doc = 0; lo = 0; hi = 0 } in

@@ -43,7 +43,7 @@ module _ (H : List ℕ → List ℕ) (sized : (bytes : List ℕ) → length (H b
     sections = sections;
   }
 
-  -- it comes in the grammar's order
+  -- it is in the grammar's order
   pub documents_come : (sections : List TermsSection) → All IsSmall (map (document_leaf H texts) met) → length texts ≤ 65536 → AreHonestSections H texts terms met sections
       → All (ComesIn (length terms)) sections → AreInOrder (length met) (length terms) (Some (documents_with sections))
   documents_come sections small few honest come =

@@ -42,7 +42,7 @@ use Rattle.ats_tree.specs.Elided.{elided_digests}
 
 -- ---- spots
 
--- terms have one spot each, where a term has one
+-- terms have one spot each, if a single term has only one
 one_spots : (is : List ℕ → Spot → Type 0) → ((term : List ℕ) (s t : Spot) → is term s → is term t → s ≡ t)
     → (terms : List (List ℕ × ℕ)) (ss ts : List Spot) → HaveSpots is terms ss → HaveSpots is terms ts → ss ≡ ts
 one_spots is one [] [] [] first second = refl
@@ -82,7 +82,7 @@ module _ (H : List ℕ → List ℕ) (texts : List (List ℕ)) where
   stands_and_lies : (term : List ℕ) (p q : ℕ) → StandsAt entries term p → LiesBetween entries term q → ⊥
   stands_and_lies term p q stands lies = lies.absent p stands
 
-  -- a term stands at one position, or lies between one pair of neighbours, and never both
+  -- a term is at one position, or lies between one pair of neighbours, never both
   one_spot : (term : List ℕ) (s t : Spot) → IsSpot entries term s → IsSpot entries term t → s ≡ t
   one_spot term (At p) (At q) first second =
       ap At (one_stand (term_at entries) (length entries) entry_terms_rise term p q (entry_stands term p first) (entry_stands term q second))

@@ -61,7 +61,7 @@ vocabulary_short texts k d inside =
     let occurs : 0 < occurrences term all = omega (arith, own.some k ([], 0) here, weight_at pairs k ([], 0) own.rises here, own.weights term) in
     subst IsShortTerm (sym (get_or-map (λ (pair : List ℕ × ℕ). pair.0) pairs k ([], 0) d here)) (occurs_has IsShortTerm term all (terms_short texts) occurs)
 
--- each entry keeps what a leaf keeps
+-- what holds for a leaf holds for each entry
 pub own_leaves : (H : List ℕ → List ℕ) → ((bytes : List ℕ) → length (H bytes) ≡ 32) → (texts : List (List ℕ)) → length texts ≤ 65536 → All IsLeaf (dictionary_of H (archive_of texts))
 own_leaves H sized texts few k d inside =
     let entries : List DictEntry = dictionary_of H (archive_of texts) in

@@ -20,7 +20,7 @@ never_falls xs rise i j d up inside = elim (cases_lt i j) [
 count_by_cons : {X : Type 0} (p : X → Bool) (x : X) (xs : List X) → count_by p (x ∷ xs) ≡ cond (p x) 1 0 + count_by p xs
 count_by_cons p x xs = sum_by-cons (λ y. cond (p y) 1 0) x xs
 
--- where a test passes up to a place and fails from there on, the place is how often it passes
+-- if a test passes up to a place and fails from there on, the place is how often it passes
 pub count_at_point : (p : ℕ → Bool) (xs : List ℕ) (i : ℕ) → i ≤ length xs → IsPartitionPoint (λ y. p y ≡ true) (λ y. p y ≡ false) xs i → count_by p xs ≡ i
 count_at_point p [] i most point = omega (arith, most)
 count_at_point p (x ∷ xs) zero most point =

@@ -1,4 +1,4 @@
--- Terms by position: a term stands at one position, or lies between two neighbours.
+-- Terms by position: a term is at one position, or lies between two neighbours.
 use Rattle.std.proofs.Common.{◌≡◌, ◌⊎◌, ◌<◌, ◌≤◌, ◌+◌, ℕ, zero, suc, List, refl, sym, subst, arith, inl, inr}
 use Rattle.std.specs.declared.cmp.Ordering.{Ordering}
 use Rattle.std.specs.declared.cmp.Ordering.TheVariants.{Less, Equal, Greater}
@@ -8,7 +8,7 @@ use Rattle.ats_terms.specs.Order.{IsBelow, byte_cmp}
 use Rattle.ats_terms.proofs.Public.{equal_from, above_from}
 use Rattle.ats_honest.proofs.Ranges.{not_below_itself}
 
--- the term stands at a position from 1 to n
+-- the term is at a position from 1 to n
 pub record Stands (at : ℕ → List ℕ) (n : ℕ) (term : List ℕ) (p : ℕ) : Type 0 where
   pub some : 1 ≤ p
   pub within : p ≤ n
@@ -20,7 +20,7 @@ pub record Lies (at : ℕ → List ℕ) (n : ℕ) (term : List ℕ) (p : ℕ) : 
   pub above : IsBelow (at p) term
   pub below : IsBelow term (at (p + 1))
 
--- ---- one position, where the terms from 1 to n rise strictly
+-- ---- one position, if the terms from 1 to n rise strictly
 
 module _ (at : ℕ → List ℕ) (n : ℕ) (rise : (p q : ℕ) → 1 ≤ p → p < q → q ≤ n → IsBelow (at p) (at q)) where
   stands_later : (term : List ℕ) (p q : ℕ) → Stands at n term p → Stands at n term q → p < q → ⊥
@@ -51,13 +51,13 @@ module _ (at : ℕ → List ℕ) (n : ℕ) (rise : (p q : ℕ) → 1 ≤ p → p
   pub one_lie : (term : List ℕ) (p q : ℕ) → Lies at n term p → Lies at n term q → p ≡ q
   one_lie term p q first second = one_position p q (lies_later term p q first second) (lies_later term q p second first)
 
--- ---- some position, where the first term is below this one and the last above
+-- ---- some position, if the first term is below this one and the last above
 
 module _ (at : ℕ → List ℕ) (n : ℕ) (term : List ℕ) (first : IsBelow (at 0) term) (last : IsBelow term (at (n + 1))) where
   abbrev IsFound : Type 0
   IsFound = ((p : ℕ) × Stands at n term p) ⊎ ((p : ℕ) × Lies at n term p)
 
-  -- by how the next position's term stands to it
+  -- by the order of the next position's term and this one
   next_is : (p : ℕ) (order : Ordering) → p < n → IsBelow (at p) term → byte_cmp (at (p + 1)) term ≡ order → IsFound ⊎ IsBelow (at (p + 1)) term
   next_is p Less less above is = inr is
   next_is p Equal less above is = inl (inl (p + 1, record { some = omega arith; within = omega (arith, less); same = equal_from (at (p + 1)) term is }))

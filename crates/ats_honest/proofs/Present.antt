@@ -48,7 +48,7 @@ lane_none texts query i d inside none =
     ap (map (lane_of texts)) (filter_more (has_list texts) query i d inside ∙ ap (λ b. filter (has_list texts) (take i query) ++ cond b (get_or query i d ∷ []) []) no
     ∙ append-nil (filter (has_list texts) (take i query)))
 
--- a term that stands in the dictionary is that of its list
+-- a term at a leaf of the dictionary is that of its list
 pub standing_term : (H : List ℕ → List ℕ) (archive : Archive) (term : List ℕ) (p : ℕ) (d : List ℕ × List Entry) → StandsAt (dictionary_of H archive) term (suc p)
     → (p < length (lists_of archive.texts)) × ((get_or (lists_of archive.texts) p d).0 ≡ term)
 standing_term H archive term p d is =
@@ -99,7 +99,7 @@ absent_term H archive term p is =
     zero_of : (n : ℕ) → nat_lt 0 n ≡ false → n ≡ 0
     zero_of n not = omega (arith, ltb-false 0 n not)
 
--- the greatest coefficient
+-- the largest coefficient
 pub few_doublings : (n f e : ℕ) → n ≤ 65536 → 1 ≤ f → 1024 * 2 ^ e ≤ ratio n f → e ≤ 15
 few_doublings n f e few some within = elim (cases_lt 15 e) [
   | inl more ↦
@@ -152,7 +152,7 @@ is_whole lane is some few = record {
   once = is.once;
 }
 
--- the lane of a term that stands in the dictionary
+-- the lane of a term that is in the dictionary
 pub record IsLaneAt (H : List ℕ → List ℕ) (texts : List (List ℕ)) (query : List (List ℕ × ℕ)) (i : ℕ) (lane : WholeLane) : Type 0 where
   pub same : lane ≡ lane_of texts (get_or query i ([], 0))
   pub more : lanes_of texts (take (i + 1) query) ≡ lanes_of texts (take i query) ++ lane ∷ []

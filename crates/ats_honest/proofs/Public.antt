@@ -12,13 +12,13 @@ pub use Rattle.ats_honest.proofs.Spots.{all_low}
 pub use Rattle.ats_honest.proofs.Spots.{leaf_at}
 -- in a dictionary of at most 2^24 entries, the lower position of each query term's spot is at most 2^24
 pub use Rattle.ats_honest.proofs.Spots.{lowers}
--- where each term has its spot, the spot at position i belongs to the term at position i
+-- if each term has its spot, the spot at position i belongs to the term at position i
 pub use Rattle.ats_honest.proofs.Spots.{one_of_spots}
 -- spot i of a query's spots in the dictionary is the spot of query term i
 pub use Rattle.ats_honest.proofs.Spots.{spot_at}
 -- a query has as many spots in the dictionary as it has terms
 pub use Rattle.ats_honest.proofs.Spots.{spot_each}
--- where each term has its spot, there are as many spots as terms
+-- if each term has its spot, there are as many spots as terms
 pub use Rattle.ats_honest.proofs.Spots.{spots_each}
 -- the spots of the first terms, with the next term's spot appended, are the spots of one term more
 pub use Rattle.ats_honest.proofs.Spots.{spots_more}
@@ -58,19 +58,19 @@ pub use Rattle.ats_honest.proofs.Present.{lane_at}
 pub use Rattle.ats_honest.proofs.Present.{lane_none}
 -- the entries of each lane of a query are an inverted list over the texts
 pub use Rattle.ats_honest.proofs.Present.{lanes_have_lists}
--- each list of a collection is the list of the term under which it stands
+-- each list of a collection is the list of its term
 pub use Rattle.ats_honest.proofs.Present.{list_at}
--- a term that stands at leaf p + 1 of the dictionary is the term of the collection's list p
+-- a term at leaf p + 1 of the dictionary is the term of the collection's list p
 pub use Rattle.ats_honest.proofs.Present.{standing_term}
 -- a first query term that some text has puts its lane in front of the other terms' lanes
 pub use Rattle.ats_honest.proofs.Present.{with_lane}
 -- a first query term that no text has adds no lane to the other terms' lanes
 pub use Rattle.ats_honest.proofs.Present.{with_none}
--- if the next query term stands at a leaf, it is appended to the earlier terms that stand at leaves
+-- if the next query term is at a leaf, it is appended to the earlier terms that are at leaves
 pub use Rattle.ats_honest.proofs.StandingTerms.{standing_more}
--- the query terms that stand at a dictionary leaf are those that some text has
+-- the query terms that are at a dictionary leaf are those that some text has
 pub use Rattle.ats_honest.proofs.StandingTerms.{standing_present}
--- if the terms of a query rise strictly, those of them that stand at leaves rise strictly
+-- if the terms of a query rise strictly, those of them that are at leaves rise strictly
 pub use Rattle.ats_honest.proofs.StandingTerms.{standing_rises}
 -- a next query term that lies between two leaves adds nothing to the earlier terms at leaves
 pub use Rattle.ats_honest.proofs.StandingTerms.{standing_same}
@@ -96,7 +96,7 @@ pub use Rattle.ats_honest.proofs.Items.{section_comes}
 pub use Rattle.ats_honest.proofs.Items.{section_of}
 -- the number of term leaves that a documents leaf states is below 2^32
 pub use Rattle.ats_honest.proofs.MetLeaves.{IsSmall}
--- within the size limits, the fields of met documents come in grammar order if those of their sections do
+-- within the size limits, the fields of met documents are in grammar order if those of their sections are
 pub use Rattle.ats_honest.proofs.MetLeaves.{documents_come}
 -- the documents tree has one leaf for each text
 pub use Rattle.ats_honest.proofs.MetLeaves.{documents_each}
@@ -110,15 +110,15 @@ pub use Rattle.ats_honest.proofs.Whole.{documents_are}
 pub use Rattle.ats_honest.proofs.Whole.{is_honest}
 -- a query has as many lanes as slots that say that their term is present
 pub use Rattle.ats_honest.proofs.Whole.{lanes_each}
--- a proof built from the right parts has one list front per slot that says that its term is present
+-- a proof built from the right parts has one list front for each slot whose term is present
 pub use Rattle.ats_honest.proofs.Whole.{lists_each}
--- the fields of a proof built from the right parts come in the grammar's order
+-- the fields of a proof built from the right parts are in the grammar's order
 pub use Rattle.ats_honest.proofs.Whole.{proof_comes}
 -- the proof for texts and a query made of spots, leaf positions, a cut, brackets, documents and picks
 pub use Rattle.ats_honest.proofs.Whole.{proof_of}
 -- an honest TNRA proof over texts for at most 32 query terms and 1000 rows has at most 2^26 bytes
 pub use Rattle.ats_honest.proofs.Short.{honest_short}
--- if a term stands at a leaf of a document's terms, its list gives the document the leaf's impact
+-- if a term is at a leaf of a document's terms, its list gives the document the leaf's impact
 pub use Rattle.ats_honest.proofs.LookedUp.{looked_up_at}
 -- if a term lies between two leaves of a document's terms, its list gives the document impact 0
 pub use Rattle.ats_honest.proofs.LookedUp.{looked_up_between}

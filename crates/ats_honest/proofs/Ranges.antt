@@ -144,7 +144,7 @@ index_is : (positions : List ℕ) (spot : Spot) → (slot_of positions spot).ind
 index_is positions (At p) = refl
 index_is positions (Between p) = refl
 
--- where the terms of the leaves from 0 to n + 1 rise, and each term lies from its lower leaf on to the next
+-- if the terms of the leaves from 0 to n + 1 rise, and each term lies from its lower leaf on to the next
 module _
     (at : ℕ → List ℕ)
     (n : ℕ)

@@ -1,4 +1,4 @@
--- No honest proof of lists alone has more than 2^26 bytes.
+-- No honest TNRA proof has more than 2^26 bytes.
 use Rattle.std.proofs.Common.{true, false, ◌≡◌, ◌+◌, ◌*◌, ◌^◌, ◌<◌, ◌≤◌, ◌++◌, ℕ, zero, suc, List, [], ◌∷◌, length, map, take, get_or, Option, Some, None, nat_eq, refl, sym, ap, subst, ◌∙◌, arith, inl, inr, length-append, length-take}
 use Rattle.std.specs.List.{All, concat, flat_map, range_with_len}
 use Rattle.std.proofs.lemmas.Bool.{cases_Bool, cond-true, cond-false, eq-eqb, cases_order}
@@ -65,7 +65,7 @@ shown_front leaves a (suc k) j up low = elim (cases_Bool (nat_eq a j)) [
       (later.0, cond-false _ _ _ not ∙ later.1)
 ]
 
--- so many places fewer are empty
+-- k places that hold a leaf leave at most n - k empty ones
 holes_behind : (shown : List Shown) (from n k : ℕ) → k ≤ n → ((j : ℕ) → from ≤ j → j < from + k → (bytes : List ℕ) × (shown_at shown j ≡ Some bytes)) → holes (places from n shown) + k ≤ n
 holes_behind shown from n zero within are = omega (arith, holes-few (places from n shown), length-places from n shown)
 holes_behind shown from zero (suc k) within are = absurd (omega (arith, within))
@@ -212,7 +212,7 @@ add_up : (a b c d e f g h i j all : ℕ) → all ≡ a + b + c + d + e + f + g +
     → g ≤ 262148 → h ≤ 63901696 → i ≡ 0 → j ≤ 4002 → all ≤ 2 ^ 26
 add_up a b c d e f g h i j all sum one two three four five six seven eight nine ten = omega (arith, sum, one, two, three, four, five, six, seven, eight, nine, ten)
 
--- what makes a proof of lists alone short
+-- why a TNRA proof is short
 record HasFew (proof : Proof) : Type 0 where
   front : IsHeader proof.header.documents proof.header.dict_leaves proof.header.dict_root proof.header.docs_root proof.header.texts_root
   entries : All IsSmall proof.dict

@@ -1,4 +1,4 @@
--- Where the terms of a query stand, term by term.
+-- The places of a query's terms, term by term.
 use Rattle.std.proofs.Common.{◌≡◌, ◌+◌, ◌<◌, ◌≤◌, ◌^◌, ◌++◌, ℕ, zero, suc, List, [], ◌∷◌, length, take, get_or, refl, sym, ap, subst, arith, inl, inr}
 use Rattle.std.specs.List.{All}
 use Rattle.ats_terms.specs.declared.spot.Spot.{Spot}
@@ -49,7 +49,7 @@ lower_within entries term (Between p) is = is.within
 
 -- ---- leaves
 
--- what a leaf of a dictionary keeps, a sentinel too
+-- what holds for a leaf of a dictionary, sentinels included
 pub record IsLeaf (entry : DictEntry) : Type 0 where
   pub short : length entry.term ≤ 64
   pub number : entry.f < 2 ^ 32
@@ -59,7 +59,7 @@ zero_root_size : length zero_root ≡ 32
 unfolding zero_root
 zero_root_size = length-replicate {A = ℕ} 32 0
 
--- where each entry keeps it, each leaf does
+-- if it holds for each entry, it holds for each leaf
 pub leaf_among : (entries : List DictEntry) (p : ℕ) → All IsLeaf entries → p < length entries + 2 → IsLeaf (entry_at entries p)
 leaf_among entries zero each inside = record { short = omega arith; number = omega arith; root = zero_root_size }
 leaf_among entries (suc p) each inside = elim (cases_lt p (length entries)) [

@@ -1,4 +1,4 @@
--- Each term has a spot: it stands at a leaf, or lies between two neighbours.
+-- Each term has a spot: it is at a leaf, or lies between two neighbours.
 use Rattle.std.proofs.Common.{◌≡◌, ◌+◌, ℕ, List, [], ◌∷◌, length, refl, sym, ap, subst, inl, inr}
 use Rattle.std.specs.List.{All}
 use Rattle.std.proofs.lemmas.List.Elements.{All-head, All-tail}

@@ -1,4 +1,4 @@
--- The terms of a query that stand at a leaf of the dictionary are those that some text has.
+-- The terms of a query that are at a leaf of the dictionary are those that some text has.
 use Rattle.std.proofs.Common.{◌≡◌, ◌<◌, ◌++◌, ℕ, zero, suc, Bool, cond, nat_lt, List, [], ◌∷◌, length, take, get_or, refl, sym, ap, ◌∙◌, arith}
 use Rattle.std.proofs.lemmas.Cmp.{nat_list_cmp_total}
 use Rattle.ats_terms.specs.Query.{Rises, RisesFrom, byte_cmp}

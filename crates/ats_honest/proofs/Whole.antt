@@ -215,7 +215,7 @@ is_in_range H texts query r algorithm spots positions cut brackets docs picks pa
       documents = subst (λ (n : ℕ). AreInOrder (length ids) n docs) (sym (prefix_each H ids lanes cut is_cut.size ∙ length-map (present texts query) (lane_of texts))) parts.documents_come;
     }
 
--- its fields come in the grammar's order
+-- its fields are in the grammar's order
 pub proof_comes : (H : List ℕ → List ℕ) (texts : List (List ℕ)) (query : List (List ℕ × ℕ)) (r : ℕ) (algorithm : Algorithm) (spots : List Spot) (positions cut : List ℕ) (brackets : List Bracket) (docs : Option Documents) (picks : List ℕ)
     → HasParts H texts query r algorithm spots positions cut brackets docs picks → Come (fields_of (proof_of H texts query spots positions cut brackets docs picks)) grammar.proof End
 proof_comes H texts query r algorithm spots positions cut brackets docs picks parts =

@@ -1,4 +1,4 @@
--- What an honest proof shows of the met documents, where their scores are looked up.
+-- What an honest proof shows of the met documents, if their scores are looked up.
 use Rattle.std.specs.Prelude.{◌≡◌, ℕ, List, [], ◌∷◌, map, Option, Some, None}
 use Rattle.ats_tree.specs.Elided.{elided_digests}
 use Rattle.ats_terms.specs.declared.spot.Spot.{Spot}
@@ -12,7 +12,7 @@ use Rattle.ats_proof.specs.declared.record.Algorithm.TheVariants.{Tra, Tnra}
 use Rattle.ats_proof.specs.Value.{Documents, ShownTerm, TermsSection}
 use Rattle.ats_honest.specs.Terms.{AreNeeded, HaveSpots, slot_of}
 
--- where a term stands among the leaves of a document's terms
+-- the place of a term among the leaves of a document's terms
 abbrev pub IsTermSpot : List (List ℕ × ℕ) → List ℕ → Spot → Type 0
 IsTermSpot = IsSpot
 
@@ -20,7 +20,8 @@ IsTermSpot = IsSpot
 abbrev pub shown_term : List (List ℕ × ℕ) → ℕ → ShownTerm
 shown_term items p = record { position = p; term = item_at items p }
 
--- the leaves of a document's terms that show where these terms stand, what their tree needs besides, and a slot for each
+-- the leaves of a document's terms that show where these terms are, the digests that their tree needs besides, and a
+-- slot for each term
 pub record IsHonestSection (H : List ℕ → List ℕ) (items terms : List (List ℕ × ℕ)) (section : TermsSection) : Type 0 where
   pub spots : List Spot
   pub found : HaveSpots (IsTermSpot items) terms spots
@@ -42,13 +43,14 @@ AreHonestSections H texts terms (doc ∷ met) (section ∷ sections) =
 abbrev pub document_leaf : (List ℕ → List ℕ) → List (List ℕ) → ℕ → DocLeaf
 document_leaf H texts doc = leaf_of_terms H (doc_terms texts doc)
 
--- the leaves of the met documents, what the tree of all documents needs besides, and where these terms stand in each
+-- the leaves of the met documents, the digests that the tree of all documents needs besides, and a section for each
+-- document
 pub record AreHonestDocuments (H : List ℕ → List ℕ) (texts : List (List ℕ)) (terms : List (List ℕ × ℕ)) (met : List ℕ) (docs : Documents) : Type 0 where
   pub leaves : docs.leaves ≡ map (document_leaf H texts) met
   pub digests : docs.digests ≡ elided_digests H (documents_of H texts) met
   pub sections : AreHonestSections H texts terms met docs.sections
 
--- nothing where brackets come from the shown entries alone
+-- TNRA shows no documents
 abbrev pub HasDocuments : Algorithm → (List ℕ → List ℕ) → List (List ℕ) → List (List ℕ × ℕ) → List ℕ → Option Documents → Type 0
 HasDocuments Tnra H texts terms met docs = docs ≡ None
 HasDocuments Tra H texts terms met None = ⊥

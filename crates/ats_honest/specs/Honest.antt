@@ -1,4 +1,4 @@
--- The proof that an honest server gives of a query's best documents, by each algorithm.
+-- The proof of a query's best documents that an honest server makes, by each algorithm.
 use Rattle.std.specs.Prelude.{◌≡◌, ◌<◌, ℕ, List, [], ◌∷◌, length, map, take}
 use Rattle.std.specs.List.{concat}
 use Rattle.ats_tree.specs.Elided.{elided_digests}
@@ -19,11 +19,11 @@ use Rattle.ats_honest.specs.Terms.{AreSpots, AreNeeded, place, shown_entry, slot
 use Rattle.ats_honest.specs.Lanes.{bounding, lanes_of, present}
 use Rattle.ats_honest.specs.Documents.{HasDocuments}
 
--- an entry that names its document by the document's place among the met ids
+-- an entry that names its document by its place among the met ids
 abbrev pub placed : List ℕ → Entry → Entry
 placed met entry = record { doc = place met entry.doc; impact = entry.impact }
 
--- the first entries of a list, and what the list's layout needs besides them
+-- the first `count` entries of a list, and the digests that the list's layout needs besides
 abbrev pub prefix_of : (List ℕ → List ℕ) → Layout → List ℕ → List Entry → ℕ → Prefix
 prefix_of H layout met entries count = record {
   entries = map (placed met) (take count entries);
@@ -36,8 +36,8 @@ prefixes H layout met [] cut = []
 prefixes H layout met (lane ∷ lanes) [] = []
 prefixes H layout met (lane ∷ lanes) (count ∷ cut) = prefix_of H layout met lane.entries count ∷ prefixes H layout met lanes cut
 
--- The leaves that show where the query's terms stand. The first cut of the schedule at which an answer is
--- settled by the algorithm's brackets, with the documents that it meets and what is shown of them. And the
+-- The honest proof shows the leaves that prove where the query's terms are; the first cut of the schedule at which an
+-- answer is settled by the algorithm's brackets, with the documents that it meets and what is shown of them; and the
 -- chosen answer of at most r of these documents.
 pub record IsHonest (H : List ℕ → List ℕ) (archive : Archive) (query : List (List ℕ × ℕ)) (r : ℕ) (algorithm : Algorithm) (proof : Proof) : Type 0 where
   pub spots : List Spot
@@ -69,7 +69,7 @@ pub record IsProved (H : List ℕ → List ℕ) (archive : Archive) (query : Lis
   pub honest : IsHonest H archive query r algorithm proof
   pub spells : IsProof bytes proof
 
--- the honest proof has so many bytes, which are more than the limit
+-- the honest proof has this many bytes, and they are more than the limit
 pub record IsTooLong (H : List ℕ → List ℕ) (archive : Archive) (query : List (List ℕ × ℕ)) (r : ℕ) (algorithm : Algorithm) (limit bytes : ℕ) : Type 0 where
   pub proof : Proof
   pub honest : IsHonest H archive query r algorithm proof

@@ -21,11 +21,11 @@ lane_of texts pair = record { coefficient = coefficient texts pair; entries = li
 abbrev pub lanes_of : List (List ℕ) → List (List ℕ × ℕ) → List WholeLane
 lanes_of texts query = map (lane_of texts) (present texts query)
 
--- a document's impact in the list of a lane, which are counted from 0
+-- a document's impact in the list of lane i, counted from 0
 abbrev pub impacts_of : List WholeLane → Table
 impacts_of lanes i doc = impact_in doc (slice_index_or lanes i (record { coefficient = 0; entries = [] })).entries
 
--- how brackets are formed: from the shown entries alone, or from the impacts of whole lists
+-- how brackets are formed: TNRA uses only the shown entries, TRA the impacts of whole lists
 abbrev pub bounding : Algorithm → List WholeLane → Bounding
 bounding Tnra lanes = bracket
 bounding Tra lanes = looked_up (impacts_of lanes)

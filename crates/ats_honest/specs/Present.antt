@@ -1,4 +1,4 @@
--- The terms of a query that stand at a leaf.
+-- The terms of a query that have a leaf.
 use Rattle.std.specs.Prelude.{ℕ, List, [], ◌∷◌}
 use Rattle.ats_terms.specs.declared.spot.Spot.{Spot}
 use Rattle.ats_terms.specs.declared.spot.Spot.TheVariants.{At, Between}

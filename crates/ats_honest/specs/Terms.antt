@@ -1,4 +1,4 @@
--- Where the terms of a query stand among leaves in byte order, and which of them show that.
+-- The places of a query's terms among leaves in byte order, and the leaves that prove them.
 use Rattle.std.specs.Prelude.{◌≡◌, ◌+◌, ◌==◌, ℕ, Bool, true, false, List, [], ◌∷◌, nat_lt}
 use Rattle.std.specs.List.{count_by, flat_map, list_any}
 use Rattle.std.specs.List.Sorted.{IsStrictlyIncreasing}
@@ -10,7 +10,7 @@ use Rattle.ats_dict.specs.Found.{IsSpot}
 use Rattle.ats_proof.specs.declared.record.Slot.{Slot}
 use Rattle.ats_proof.specs.Value.{ShownEntry}
 
--- each term has its spot, by what a spot says of a term
+-- each term has its spot; `is` relates a term to its spot
 abbrev pub HaveSpots : (List ℕ → Spot → Type 0) → List (List ℕ × ℕ) → List Spot → Type 0
 HaveSpots is [] [] = Unit {0}
 HaveSpots is [] (spot ∷ spots) = ⊥
@@ -21,7 +21,7 @@ HaveSpots is (pair ∷ terms) (spot ∷ spots) = is pair.0 spot × HaveSpots is 
 abbrev pub AreSpots : List DictEntry → List (List ℕ × ℕ) → List Spot → Type 0
 AreSpots entries query spots = HaveSpots (IsSpot entries) query spots
 
--- the positions that show a term: its leaf, or both neighbours where it is absent
+-- the positions that show a term: its leaf, or both neighbours if it is absent
 abbrev pub needs : Spot → List ℕ
 needs (At p) = p ∷ []
 needs (Between p) = p ∷ (p + 1) ∷ []
@@ -31,7 +31,7 @@ abbrev pub lower : Spot → ℕ
 lower (At p) = p
 lower (Between p) = p
 
--- whether a number is one of the list's
+-- whether a number is in the list
 abbrev pub has : ℕ → List ℕ → Bool
 has n numbers = list_any (λ m. m == n) numbers
 
@@ -40,7 +40,7 @@ pub record AreNeeded (spots : List Spot) (positions : List ℕ) : Type 0 where
   pub rise : IsStrictlyIncreasing positions
   pub needed : (p : ℕ) → has p positions ≡ has p (flat_map needs spots)
 
--- how many numbers of a list are below this one: its place among numbers that rise
+-- how many numbers of the list are below n: its place among numbers that rise
 abbrev pub place : List ℕ → ℕ → ℕ
 place numbers n = count_by (λ m. nat_lt m n) numbers
 
@@ -48,7 +48,7 @@ place numbers n = count_by (λ m. nat_lt m n) numbers
 abbrev pub shown_entry : List DictEntry → ℕ → ShownEntry
 shown_entry entries p = record { position = p; entry = entry_at entries p }
 
--- the place of the term's leaf among the shown ones, or of its lower neighbour
+-- a term's slot: the place of its leaf among the shown ones, or that of its lower neighbour
 abbrev pub slot_of : List ℕ → Spot → Slot
 slot_of positions (At p) = record { present = true; index = place positions p }
 slot_of positions (Between p) = record { present = false; index = place positions p }

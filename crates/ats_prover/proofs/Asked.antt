@@ -1,4 +1,4 @@
--- The fields of the honest proof, asked for one behind another.
+-- The fields of the honest proof, appended one after another.
 use Rattle.std.proofs.Common.{◌≡◌, ◌^◌, ◌<◌, ◌≤◌, ◌++◌, ℕ, List, [], ◌∷◌, length, map, Option, Some, None, refl, sym, ap, ap₂, ◌∙◌, append-nil}
 use Rattle.std.specs.List.{concat, flat_map}
 use Rattle.ats_tree.specs.Elided.{elided_digests}
@@ -26,7 +26,7 @@ use Rattle.ats_prover.specs.Writing.{IsWritten, put}
 use Rattle.ats_prover.proofs.Putting.{put_all}
 use Rattle.ats_prover.proofs.Records.{IsKindOf, front_is}
 
--- the parts of the honest proof were asked for, one behind another
+-- the parts of the honest proof were appended, one after another
 pub written : (H : List ℕ → List ℕ) (texts : List (List ℕ)) (query : List (List ℕ × ℕ)) (r : ℕ) (algorithm : Algorithm) (spots : List Spot) (positions cut : List ℕ) (brackets : List Bracket) (docs : Option Documents) (picks : List ℕ) (w x y z : Written)
     → HasParts H texts query r algorithm spots positions cut brackets docs picks
     → x ≡ put w (front_fields docs ++ header_fields (header_parts H (archive_of texts)) ++ spelled 2 (length (map (slot_of positions) spots)) ∷ [])
@@ -53,7 +53,7 @@ written H texts query r algorithm spots positions cut brackets docs picks w x y 
       short = short;
     }
 
--- whose proofs documents stand in
+-- which algorithm's proofs have documents
 pub kind_of_documents : (H : List ℕ → List ℕ) (texts : List (List ℕ)) (terms : List (List ℕ × ℕ)) (met : List ℕ) (algorithm : Algorithm) (docs : Option Documents)
     → HasDocuments algorithm H texts terms met docs → IsKindOf algorithm docs
 kind_of_documents H texts terms met Tnra docs are = ap number_of_algorithm (sym are)

@@ -1,4 +1,4 @@
--- The prefixes of lists, asked for one by one.
+-- The prefixes of lists, appended one by one.
 use Rattle.std.proofs.Common.{◌≡◌, ◌+◌, ◌<◌, ◌++◌, ℕ, List, [], length, map, take, get_or, refl, sym, ap, ◌∙◌, arith, Bor}
 use Rattle.std.specs.List.{concat, flat_map}
 use Rattle.ats_tree.specs.Kept.{kept_digests}

@@ -22,7 +22,7 @@ use Rattle.ats_prover.proofs.Putting.{put_put}
 
 -- ---- a section
 
--- what is asked for is the honest section
+-- what is appended is the honest section
 pub written_section : (H : List ℕ → List ℕ) → ((bytes : List ℕ) → length (H bytes) ≡ 32) → (items terms : List (List ℕ × ℕ)) (spots : List Spot) (positions : List ℕ) (before now : Written)
     → AreImpacts items → 1 ≤ length terms → Rises terms → HaveSpots (IsTermSpot items) terms spots → AreNeeded spots positions → length positions ≤ 64
     → now ≡ put before (section_fields (section_of H items spots positions)) → IsSectionWritten H items terms before now
@@ -78,7 +78,7 @@ sections_more H texts terms met i before now after inside are own = record {
 pub no_documents : (H : List ℕ → List ℕ) (texts : List (List ℕ)) (terms : List (List ℕ × ℕ)) (met : List ℕ) (w : Written) → IsStarted w → AreDocumentsWritten Tnra H texts terms met w w
 no_documents H texts terms met w started = record { docs = None; honest = refl; come = refl; asked = sym started }
 
--- what is asked for is what the honest proof shows
+-- what is appended is what the honest proof shows
 pub written_documents : (H : List ℕ → List ℕ) → ((bytes : List ℕ) → length (H bytes) ≡ 32) → (texts : List (List ℕ)) (terms : List (List ℕ × ℕ)) (met : List ℕ) (before middle now : Written)
     → All IsSmall (map (document_leaf H texts) met) → length texts ≤ 65536
     → middle ≡ put before (flat_map doc_fields (map (document_leaf H texts) met) ++ counted 4 digest_fields (elided_digests H (documents_of H texts) met))

@@ -1,4 +1,4 @@
--- Fields that are asked of a writer, one behind another.
+-- Fields that are appended to a writer, one after another.
 use Rattle.std.proofs.Common.{◌≡◌, ◌+◌, ◌<◌, ℕ, List, [], ◌++◌, length, take, get_or, Option, Some, None, nat_lt, refl, sym, ap, ap₂, ◌∙◌, arith, inl, inr, add-one, append_assoc, append-nil, length-append}
 use Rattle.std.specs.Prelude.{if◌then◌else◌}
 use Rattle.std.specs.List.{concat, flat_map}
@@ -14,7 +14,7 @@ joined_twice : (kept : Option (List ℕ)) (a b : List ℕ) → joined (joined ke
 joined_twice None a b = refl
 joined_twice (Some bytes) a b = ap (λ (xs : List ℕ). Some xs) (append_assoc bytes a b)
 
--- bytes behind bytes
+-- bytes after bytes
 pub after_twice : (w : Written) (a b : List ℕ) → after (after w a) b ≡ after w (a ++ b)
 unfolding after
 after_twice w a b =
@@ -54,6 +54,6 @@ put_all w a b c d e f g h =
     ap (λ (v : Written). put v (e ++ f ++ g ++ h)) (put_put w a (b ++ c ++ d) ∙ ap (put w) (three_more a b c d))
     ∙ put_put w left (e ++ f ++ g ++ h) ∙ ap (put w) (four_more left e f g h)
 
--- nothing behind bytes that were asked for
+-- nothing after bytes that were appended
 pub started : (v w : Written) (bytes : List ℕ) → w ≡ after v bytes → IsStarted w
 started v w bytes is = ap (λ (x : Written). after x []) is ∙ after_twice v bytes [] ∙ ap (after v) (append-nil bytes) ∙ sym is

@@ -83,7 +83,7 @@ header_is h n documents leaves few =
     ap (Front (to_be_bytes w32 h.documents) (to_be_bytes w32 h.dict_leaves)) tail
     ∙ ap₂ (λ (d e : List ℕ). Front d e (h.dict_root ++ (h.docs_root ++ (h.texts_root ++ spelled 2 n)))) (spelled_4 h.documents documents) (spelled_4 h.dict_leaves leaves)
 
--- documents stand in the proofs of an algorithm, or do not
+-- whether the proofs of an algorithm have documents
 abbrev pub IsKindOf : Algorithm → Option Documents → Type 0
 IsKindOf algorithm docs = algorithm_byte algorithm ≡ number_of_algorithm docs
 

@@ -1,4 +1,4 @@
--- What was asked of a writer for one honest proof is the size of any.
+-- The size of one honest proof, as appended to a writer, is the size of any.
 use Rattle.std.proofs.Common.{◌≡◌, ◌<◌, ◌≤◌, ℕ, List, [], ap, ◌∙◌, arith}
 use Rattle.ats_commit.specs.Archive.{Archive}
 use Rattle.ats_proof.specs.Written.{Written, writing}
@@ -9,7 +9,7 @@ use Rattle.ats_prover.specs.Writing.{IsWritten}
 use Rattle.ats_honest.proofs.Public.{archive_one}
 use Rattle.ats_prover.proofs.Asked.{AreJoined, all_asked}
 
--- so many bytes were asked for, under this limit
+-- `size` bytes were appended, under this limit
 pub record IsAsked (limit size : ℕ) (w : Written) : Type 0 where
   pub all : w.asked ≡ size
   pub under : w.limit ≡ limit

@@ -1,4 +1,4 @@
--- Why a server has no proof to give.
+-- Why a server returns no proof.
 use Rattle.std.specs.Prelude.{◌≡◌, ◌<◌, ◌≤◌, ℕ, List, length, Result, Ok, Err}
 use Rattle.ats_commit.specs.Archive.{Archive}
 use Rattle.ats_proof.specs.declared.record.Algorithm.{Algorithm}
@@ -6,13 +6,13 @@ use Rattle.ats_honest.specs.Honest.{IsTooLong}
 use Rattle.ats_prover.specs.declared.fault.ProveFault.{ProveFault}
 use Rattle.ats_prover.specs.declared.fault.ProveFault.TheVariants.{ProofTooLong, OutOfMemory}
 
--- why there is no proof: it is too long, or memory was wanted
+-- why there is no proof: it is too long, or memory ran out
 abbrev pub IsFault : (List ℕ → List ℕ) → Archive → List (List ℕ × ℕ) → ℕ → Algorithm → ℕ → ProveFault → Type 0
 IsFault H archive query r algorithm limit (ProofTooLong bytes) = IsTooLong H archive query r algorithm limit bytes
 IsFault H archive query r algorithm limit OutOfMemory = Unit {0}
 
--- What is answered where the honest proof has so many bytes: so many, if they are at most the limit, and if
--- they are more, that they are too many. Memory may be wanted either way.
+-- what is returned if the honest proof has `size` bytes: that many bytes if they are within the limit, and otherwise
+-- that they are too many. Out of memory may be returned in both cases.
 abbrev pub IsAnswerWithin : (limit size : ℕ) → Result (List ℕ) ProveFault → Type 0
 IsAnswerWithin limit size (Ok bytes) = (length bytes ≡ size) × (size ≤ limit)
 IsAnswerWithin limit size (Err (ProofTooLong bytes)) = (bytes ≡ size) × (limit < size)

@@ -1,4 +1,4 @@
--- Fields that are asked of a writer.
+-- Fields that are appended to a writer.
 use Rattle.std.specs.Prelude.{◌≡◌, ◌≤◌, ◌^◌, ◌++◌, ℕ, List, [], length, Option}
 use Rattle.std.specs.List.{All, concat, flat_map}
 use Rattle.ats_lists.specs.Layout.{whole_lists}
@@ -16,36 +16,37 @@ use Rattle.ats_honest.specs.Documents.{AreHonestSections, HasDocuments, IsHonest
 use Rattle.ats_honest.specs.Honest.{IsHonest, length_of, prefixes}
 use Rattle.ats_honest.specs.Order.{AreInOrder, ComesIn}
 
--- the bytes of these fields were asked for, one field behind another
+-- the writer after these fields were appended, one after another
 abbrev pub put : Written → List (List ℕ) → Written
 put written fields = after written (concat fields)
 
--- nothing more that is asked for changes nothing, as where something was asked for before
+-- appending no bytes leaves the writer as it is; this holds once anything was appended
 abbrev pub IsStarted : Written → Type 0
 IsStarted written = put written [] ≡ written
 
--- the fields of an honest terms section were asked for
+-- the fields of an honest terms section were appended
 pub record IsSectionWritten (H : List ℕ → List ℕ) (items terms : List (List ℕ × ℕ)) (before now : Written) : Type 0 where
   pub section : TermsSection
   pub honest : IsHonestSection H items terms section
   pub come : ComesIn (length terms) section
   pub asked : now ≡ put before (section_fields section)
 
--- those of a section for each met document
+-- the fields of a section for each met document were appended
 pub record AreSectionsWritten (H : List ℕ → List ℕ) (texts : List (List ℕ)) (terms : List (List ℕ × ℕ)) (met : List ℕ) (before now : Written) : Type 0 where
   pub sections : List TermsSection
   pub honest : AreHonestSections H texts terms met sections
   pub come : All (ComesIn (length terms)) sections
   pub asked : now ≡ put before (flat_map section_fields sections)
 
--- those of all that is shown of the met documents
+-- the fields of all that is shown of the met documents were appended
 pub record AreDocumentsWritten (algorithm : Algorithm) (H : List ℕ → List ℕ) (texts : List (List ℕ)) (terms : List (List ℕ × ℕ)) (met : List ℕ) (before now : Written) : Type 0 where
   pub docs : Option Documents
   pub honest : HasDocuments algorithm H texts terms met docs
   pub come : AreInOrder (length met) (length terms) docs
   pub asked : now ≡ put before (documents_fields docs)
 
--- those of the met documents, the fronts of the lists, what is shown of the documents, and the answer
+-- the fields of the met documents, the fronts of the lists, what is shown of the documents, and the answer were
+-- appended
 pub record IsWalkWritten
     (algorithm : Algorithm)
     (H : List ℕ → List ℕ)
@@ -60,12 +61,12 @@ pub record IsWalkWritten
   pub come : AreInOrder (length met) (length terms) docs
   pub asked : now ≡ put before (counted 4 id_fields met ++ flat_map prefix_fields (prefixes H whole_lists met lanes cut) ++ documents_fields docs ++ counted 2 id_fields picks)
 
--- all fields of the honest proof were asked for, and they come in the grammar's order
+-- all fields of the honest proof were appended, in the grammar's order
 pub record IsWritten (H : List ℕ → List ℕ) (archive : Archive) (query : List (List ℕ × ℕ)) (r : ℕ) (algorithm : Algorithm) (before now : Written) : Type 0 where
   pub proof : Proof
   pub honest : IsHonest H archive query r algorithm proof
   pub come : Come (fields_of proof) grammar.proof End
   pub prefix_each : length proof.lists ≡ present_in proof.slots
   pub asked : now ≡ put before (fields_of proof)
-  -- no honest proof of lists alone has more bytes
+  -- no honest TNRA proof has more bytes
   pub short : algorithm ≡ Tnra → length_of proof ≤ 2 ^ 26

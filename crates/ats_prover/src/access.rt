@@ -9,8 +9,7 @@ use ats_hash::HashKind;
 use ats_index::Index;
 use ats_tra::RandomAccess;
 
-/// The impacts of some terms in the documents of an index, each found in the document's own terms when it
-/// is asked for.
+/// The impacts of some terms in the documents of an index. Each is found in the document's own terms when it is read.
 #[derive(Drop)]
 pub(crate) struct Impacts<'a, 'q, H: HashKind> {
     pub(crate) index: &'a Index<H>,

@@ -22,7 +22,7 @@ pub(crate) fn documents(alloc: Global, brackets: &[Bracket]) -> Result<Vec<u32>,
     Ok(documents)
 }
 
-/// The met documents behind their number.
+/// Writes the number of the met documents, then their ids.
 pub(crate) fn write_met(writer: &mut ProofWriter, met: &[u32]) -> Result<(), OutOfMemory>
     requires few { length met.now ≤ 65536 }
     requires room { writer.old.asked ≤ 2 ^ 60 }
@@ -36,7 +36,7 @@ pub(crate) fn write_met(writer: &mut ProofWriter, met: &[u32]) -> Result<(), Out
     Ok(())
 }
 
-/// The rows of the answer behind their number.
+/// Writes the number of rows, then the rows of the answer.
 pub(crate) fn write_answer(writer: &mut ProofWriter, picks: &[u32]) -> Result<(), OutOfMemory>
     requires few { length picks.now ≤ 1000 }
     requires room { writer.old.asked ≤ 2 ^ 60 }

@@ -20,7 +20,7 @@ use ats_terms::Query;
 use ats_tree::{Digests, Leaves, Nodes};
 use std::alloc::Global;
 
-/// Where each term of the query stands in the dictionary.
+/// The place of each term of the query in the dictionary.
 pub(crate) fn spots(
     alloc: Global,
     dictionary: &Dictionary,
@@ -30,7 +30,7 @@ pub(crate) fn spots(
     ensures few { IfOk result (λ spots. length spots.items ≤ 32) }
     ensures low { IfOk result (λ spots. All (λ spot. lower spot ≤ 2 ^ 24) spots.items) }
 {
-    // Positions have 32 bits, and so has the one behind a lower neighbour.
+    // Positions have 32 bits, and so has the position after a lower neighbour.
     prove!(dictionary.len() >= 2);
     let mut spots = Vec::new(alloc);
     for i in 0..query.len() {
@@ -39,7 +39,7 @@ pub(crate) fn spots(
     Ok(spots)
 }
 
-// The leaves at these positions, behind their number.
+// Writes the number of these positions, then their leaves.
 fn write_leaves(
     writer: &mut ProofWriter,
     dictionary: &Dictionary,
@@ -60,7 +60,7 @@ fn write_leaves(
     Ok(())
 }
 
-// The leaves at these positions, and the digests that the tree needs besides them.
+// Writes the leaves at these positions, and the digests that the tree needs besides.
 fn write_section<H: HashKind>(
     alloc: Global,
     writer: &mut ProofWriter,
@@ -86,7 +86,7 @@ fn write_section<H: HashKind>(
     write_digests(writer, &digests)
 }
 
-/// The leaves at these positions, the digests that the tree needs besides them, and a slot for each term.
+/// Writes the leaves at these positions, the digests that the tree needs besides, and a slot for each term.
 pub(crate) fn write_terms<H: HashKind>(
     alloc: Global,
     writer: &mut ProofWriter,

@@ -1,4 +1,4 @@
-//! What a proof shows of the met documents, where their scores are looked up.
+//! What a proof shows of the met documents, if their scores are looked up.
 
 ghost use Rattle.std.specs.Prelude.{◌≡◌, ◌+◌, ◌≤◌, ◌<◌, ◌^◌, ◌++◌, ℕ, length, map, OnOk};
 ghost use Rattle.std.specs.List.{All, flat_map};
@@ -21,7 +21,7 @@ use ats_proof::{Algorithm, ProofWriter};
 use ats_tree::{Digests, Leaves};
 use std::alloc::Global;
 
-// The leaf of each met document.
+// Writes the leaf of each met document.
 fn write_leaves<H: HashKind>(
     writer: &mut ProofWriter,
     index: &Index<H>,
@@ -45,7 +45,7 @@ fn write_leaves<H: HashKind>(
     Ok(())
 }
 
-// The leaf of each met document, and the digests that the tree of all documents needs besides them.
+// Writes the leaf of each met document, and the digests that the tree of all documents needs besides.
 fn write_tree<H: HashKind>(
     alloc: Global,
     writer: &mut ProofWriter,
@@ -74,7 +74,7 @@ fn write_tree<H: HashKind>(
     write_each_digest(writer, &digests)
 }
 
-// Where the present terms stand in each met document.
+// Writes for each met document where the present terms are.
 fn write_sections<H: HashKind>(
     alloc: Global,
     writer: &mut ProofWriter,
@@ -99,8 +99,8 @@ fn write_sections<H: HashKind>(
     Ok(())
 }
 
-/// The leaves of the met documents, the digests that the tree of all documents needs besides them, and
-/// where the present terms stand in each; nothing where scores are not looked up.
+/// Writes the leaves of the met documents, the digests that the tree of all documents needs besides, and for each where
+/// the present terms are. TNRA writes nothing.
 pub(crate) fn write_documents<H: HashKind>(
     alloc: Global,
     writer: &mut ProofWriter,

@@ -2,15 +2,15 @@
 
 use std::alloc::{AllocError, AllocFailed};
 
-/// Why no proof was answered.
+/// Why no proof was returned.
 #[derive(Clone, Copy, Debug, PartialEq, Eq)]
 pub enum ProveFault {
-    /// The proof has this many bytes, which are more than the limit.
+    /// The proof has this many bytes, more than the limit.
     ProofTooLong { length: u64 },
     OutOfMemory,
 }
 
-/// Memory was wanted and not there.
+/// Memory ran out.
 #[derive(Clone, Copy)]
 pub(crate) struct OutOfMemory;
 

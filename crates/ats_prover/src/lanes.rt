@@ -28,7 +28,7 @@ pub(crate) struct QueryLists<'a> {
     pub(crate) nodes: Vec<&'a Nodes>,
 }
 
-// The lane of a term that stands so often in the query.
+// The lane of a term that occurs `weight` times in the query.
 fn lane<'a>(entries: &'a [Entry], weight: u8, documents: u32) -> Lane<'a>
     requires list { IsList 65536 entries.now }
     requires weight { 1 ≤ weight }

@@ -26,7 +26,7 @@ use ats_proof::ProofWriter;
 use ats_tree::{Digests, Nodes};
 use std::alloc::Global;
 
-// Entries behind their number, each with its document's place among the met ids.
+// Writes the number of entries, then the entries, each with its document's place among the met ids.
 fn write_entries(
     writer: &mut ProofWriter,
     met: &[u32],
@@ -48,7 +48,7 @@ fn write_entries(
     Ok(())
 }
 
-// The first numbers.
+// The numbers below `count`.
 fn first(alloc: Global, count: u32) -> Result<Vec<u32>, OutOfMemory>
     ensures { IfOk result (λ numbers. numbers.items ≡ range_with_len 0 count) }
 {
@@ -59,7 +59,7 @@ fn first(alloc: Global, count: u32) -> Result<Vec<u32>, OutOfMemory>
     Ok(numbers)
 }
 
-// The first entries of a list, and the digests that its tree needs besides them.
+// Writes the first entries of a list, and the digests that its tree needs besides.
 fn write_prefix<H: HashKind>(
     alloc: Global,
     writer: &mut ProofWriter,
@@ -86,7 +86,7 @@ fn write_prefix<H: HashKind>(
     write_digests(writer, &digests)
 }
 
-/// The met documents, and of each list the first entries, as many as the cut says.
+/// Writes the met documents, and the first entries of each list, as many as the cut says.
 pub(crate) fn write_lists<H: HashKind>(
     alloc: Global,
     writer: &mut ProofWriter,

@@ -11,8 +11,8 @@ use ats_terms::Query;
 use std::alloc::Global;
 use std::marker::Model;
 
-/// The terms of a query that stand in the dictionary, in the query's order. It keeps where they stand in
-/// the query, and lends them from there.
+/// The terms of a query that are in the dictionary, in the query's order. It keeps their places in the query, and lends
+/// them from there.
 #[derive(Drop)]
 pub(crate) struct PresentTerms<'a> {
     query: &'a Query,
@@ -31,7 +31,7 @@ impl<'a> Model for PresentTerms<'a> {
 }
 
 impl<'a> PresentTerms<'a> {
-    /// The terms of a query that stand at a leaf of the dictionary.
+    /// The terms of a query that have a leaf in the dictionary.
     pub(crate) fn of(alloc: Global, query: &'a Query, spots: &[Spot]) -> Result<Self, OutOfMemory>
         requires { length spots.now ≡ length query.now }
         ensures { IfOk result (λ present. present ≡ standing query.now spots.now) }

@@ -36,8 +36,8 @@ use ats_terms::Query;
 use ats_tree::{Leaves, Nodes};
 use std::alloc::Global;
 
-// What a proof shows of where the walk ended: the met documents, the fronts of the lists, what is shown of
-// the documents, and the answer.
+// Writes what a proof shows of the end of the walk: the met documents, the fronts of the lists, what is shown of the
+// documents, and the answer.
 fn write_walk<H: HashKind>(
     alloc: Global,
     writer: &mut ProofWriter,
@@ -69,7 +69,7 @@ fn write_walk<H: HashKind>(
     write_answer(writer, walk.picks.as_slice())
 }
 
-// Everything that the honest proof says.
+// Writes the whole honest proof.
 fn write_proof<H: HashKind>(
     alloc: Global,
     writer: &mut ProofWriter,

@@ -1,4 +1,4 @@
-//! Which leaves show where terms stand, and what is written of a tree of terms besides its leaves.
+//! Which leaves show where terms are, and what is written of a tree of terms besides its leaves.
 
 ghost use Rattle.std.specs.Prelude.{◌≡◌, ◌+◌, ◌≤◌, ◌*◌, ◌^◌, ◌∷◌, ℕ, length, map, OnOk};
 ghost use Rattle.std.specs.List.{All, flat_map};
@@ -13,7 +13,7 @@ use ats_dict::Spot;
 use ats_proof::{ProofWriter, Slot};
 use ats_tree::Digests;
 
-// Keeps the positions that the terms need, term by term, and nothing else.
+// Collects the positions that the terms need, term by term. Earlier positions are dropped.
 fn keep_all_needed(spots: &[Spot], positions: &mut Vec<u32>) -> Result<(), OutOfMemory>
     requires low { All (λ spot. lower spot ≤ 2 ^ 24) spots.now }
     ensures { OnOk result (positions.new.items ≡ flat_map needs spots.now) }
@@ -31,7 +31,7 @@ fn keep_all_needed(spots: &[Spot], positions: &mut Vec<u32>) -> Result<(), OutOf
     Ok(())
 }
 
-/// Keeps the positions of the leaves that show where the terms stand, and nothing else.
+/// Collects the positions of the leaves that show where the terms are. Earlier positions are dropped.
 pub(crate) fn keep_positions(spots: &[Spot], positions: &mut Vec<u32>) -> Result<(), OutOfMemory>
     requires low { All (λ spot. lower spot ≤ 2 ^ 24) spots.now }
     ensures needed { OnOk result (AreNeeded spots.now positions.new.items) }
@@ -43,7 +43,7 @@ pub(crate) fn keep_positions(spots: &[Spot], positions: &mut Vec<u32>) -> Result
     Ok(())
 }
 
-/// How many of some rising numbers are below this one.
+/// How many of some rising numbers are below `number`.
 pub(crate) fn place(numbers: &[u32], number: u32) -> usize
     requires { IsStrictlyIncreasing numbers.now }
     ensures place { result ≡ place numbers.now number }
@@ -52,7 +52,7 @@ pub(crate) fn place(numbers: &[u32], number: u32) -> usize
     numbers.partition_point(|n| *n < number)
 }
 
-/// Digests, one behind another.
+/// Writes digests, one after another.
 pub(crate) fn write_each_digest(
     writer: &mut ProofWriter,
     digests: &Digests,
@@ -69,7 +69,7 @@ pub(crate) fn write_each_digest(
     Ok(())
 }
 
-/// Digests behind their number, in 2 bytes.
+/// Writes the number of digests in 2 bytes, then the digests.
 pub(crate) fn write_digests(writer: &mut ProofWriter, digests: &Digests) -> Result<(), OutOfMemory>
     requires few { length digests.now ≤ 65535 }
     requires room { writer.old.asked ≤ 2 ^ 60 }
@@ -80,7 +80,7 @@ pub(crate) fn write_digests(writer: &mut ProofWriter, digests: &Digests) -> Resu
     write_each_digest(writer, digests)
 }
 
-// Where the shown leaves show a term.
+// The slot of a term among the shown leaves.
 fn slot(positions: &[u32], spot: &Spot) -> Slot
     requires rise { IsStrictlyIncreasing positions.now }
     requires few { length positions.now ≤ 64 }
@@ -98,7 +98,7 @@ fn slot(positions: &[u32], spot: &Spot) -> Slot
     }
 }
 
-/// A slot for each term.
+/// Writes a slot for each term.
 pub(crate) fn write_slots(
     writer: &mut ProofWriter,
     positions: &[u32],

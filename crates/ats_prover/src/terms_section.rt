@@ -22,8 +22,8 @@ use ats_proof::{ProofWriter, TermLeaf};
 use ats_tree::{Digests, Leaves, Nodes};
 use std::alloc::Global;
 
-/// Where terms stand among one document's, and what is shown of that. It is lent from document to document, so
-/// that they share its memory.
+/// Room for the places of terms among one document's, and for what is shown of them. It is lent from document to
+/// document, so that they share its memory.
 #[derive(Drop)]
 pub(crate) struct Section {
     spots: Vec<Spot>,
@@ -32,7 +32,7 @@ pub(crate) struct Section {
 }
 
 impl Section {
-    /// Of no document. It takes no memory.
+    /// For no document. It allocates nothing.
     pub(crate) fn new(alloc: Global) -> Self {
         Section {
             spots: Vec::new(alloc),
@@ -42,7 +42,7 @@ impl Section {
     }
 }
 
-// Keeps where each of the present terms stands among a document's, and nothing else.
+// Collects the place of each present term among a document's. Earlier places are dropped.
 fn keep_spots(
     terms: &DocTerms,
     present: &PresentTerms<'_>,
@@ -52,7 +52,7 @@ fn keep_spots(
     ensures few { OnOk result (length spots.new.items ≤ 32) }
     ensures low { OnOk result (All (λ spot. lower spot ≤ 2 ^ 24) spots.new.items) }
 {
-    // Positions have 32 bits, and so has the one behind a lower neighbour.
+    // Positions have 32 bits, and so has the position after a lower neighbour.
     prove!(terms.len() >= 2);
     spots.clear();
     for i in 0..present.len() {
@@ -61,7 +61,7 @@ fn keep_spots(
     Ok(())
 }
 
-// The leaves at these positions, behind their number.
+// Writes the number of these positions, then their leaves.
 fn write_leaves(
     writer: &mut ProofWriter,
     terms: &DocTerms,
@@ -85,8 +85,8 @@ fn write_leaves(
     Ok(())
 }
 
-// The leaves at these positions, the digests that the tree needs besides them, and a slot for each term. Other
-// digests are forgotten.
+// Writes the leaves at these positions, the digests that the tree needs besides, and a slot for each term. Earlier
+// digests are dropped.
 fn write_shown<H: HashKind>(
     writer: &mut ProofWriter,
     terms: &DocTerms,
@@ -116,8 +116,8 @@ fn write_shown<H: HashKind>(
     write_slots(writer, positions, spots)
 }
 
-/// The leaves that show where the present terms stand among a document's, the digests that the tree of its
-/// terms needs besides them, and a slot for each present term.
+/// Writes the leaves that show where the present terms are among a document's, the digests that the tree of its terms
+/// needs besides, and a slot for each present term.
 pub(crate) fn write_section<H: HashKind>(
     writer: &mut ProofWriter,
     terms: &DocTerms,

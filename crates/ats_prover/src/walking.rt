@@ -15,7 +15,7 @@ use ats_index::Index;
 use ats_proof::Algorithm;
 use std::alloc::Global;
 
-/// Where the walk of the lists of the present terms ends.
+/// The end of the walk of the lists of the present terms.
 pub(crate) fn walk<H: HashKind>(
     alloc: Global,
     index: &Index<H>,

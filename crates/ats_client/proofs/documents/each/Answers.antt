@@ -20,7 +20,7 @@ use Rattle.ats_client.proofs.Presents.{at_front, at_place}
 use Rattle.ats_client.proofs.Tried.{begins, fails, tries, first_at, all_right, all_marks}
 use Rattle.ats_client.proofs.documents.each.Goals as goal
 
--- a document stands among those that are left
+-- there is a document among those that are left
 no_document : (j : ℕ) (met ids : List ℕ) → ids ≡ drop j met → j < length met → None ≡ slice_get ids 0 → ⊥
 no_document j met ids is low none =
     let more = at_front met j _ (slice_get-get_or met j 0 low) in

@@ -5,7 +5,7 @@ use Rattle.ats_proof.specs.Value.{id_fields}
 use Rattle.ats_prover.specs.Writing.{put}
 use Rattle.ats_prover.proofs.answer.write_answer.Given as goal
 
--- the rows so far stand behind their number
+-- the rows so far follow their number
 abbrev pub invariant-loop-pick : goal.invariant-loop-pick
 invariant-loop-pick l = record {
   fields : l.writer ≡ put l.fn.writer (spelled 2 (length l.picks) ∷ flat_map id_fields (take l.pick-index l.picks));

@@ -5,7 +5,7 @@ use Rattle.ats_proof.specs.Value.{id_fields}
 use Rattle.ats_prover.specs.Writing.{put}
 use Rattle.ats_prover.proofs.answer.write_met.Given as goal
 
--- the ids so far stand behind their number
+-- the ids so far follow their number
 abbrev pub invariant-loop-id : goal.invariant-loop-id
 invariant-loop-id l = record {
   fields : l.writer ≡ put l.fn.writer (spelled 4 (length l.met) ∷ flat_map id_fields (take l.id-index l.met));

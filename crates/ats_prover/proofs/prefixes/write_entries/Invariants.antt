@@ -6,7 +6,7 @@ use Rattle.ats_honest.specs.Honest.{placed}
 use Rattle.ats_prover.specs.Writing.{put}
 use Rattle.ats_prover.proofs.prefixes.write_entries.Given as goal
 
--- the entries so far stand behind their number
+-- the entries so far follow their number
 abbrev pub invariant-loop-entry : goal.invariant-loop-entry
 invariant-loop-entry l = record {
   fields : l.writer ≡ put l.fn.writer (spelled 4 (length (map (placed l.met) l.entries)) ∷ flat_map posting_fields (take l.entry-index (map (placed l.met) l.entries)));

@@ -8,7 +8,7 @@ use Rattle.ats_honest.specs.Honest.{prefixes}
 use Rattle.ats_prover.specs.Writing.{put}
 use Rattle.ats_prover.proofs.prefixes.write_lists.Given as goal
 
--- the prefixes so far stand behind the met ids
+-- the prefixes so far follow the met ids
 abbrev pub invariant-loop-i : goal.invariant-loop-i
 invariant-loop-i g l = record {
   fields : l.writer ≡ put l.fn.writer (counted 4 id_fields l.met ++ flat_map prefix_fields (take l.i (prefixes g.H.HashKind.hash whole_lists l.met (whole_lanes l.lanes) l.cut)));

@@ -68,7 +68,7 @@ own_lanes : (H : List ℕ → List ℕ) (texts : List (List ℕ)) (query present
 own_lanes H texts query present spots lent given items found same is lends lanes =
     ap whole_lanes lends ∙ lanes ∙ ap (map (lane_of texts)) (sym (is ∙ ap (standing query) same ∙ standing_present H texts query spots found))
 
--- the spots that are found in the dictionary that is lent stand in that of the texts
+-- the spots found in the dictionary that is lent are those in that of the texts
 found_in : (H : List ℕ → List ℕ) (archive : Archive) (query : List (List ℕ × ℕ)) (lent : List DictEntry) (spots : List Spot) → lent ≡ dictionary_of H archive → AreSpots lent query spots
     → AreSpots (dictionary_of H (archive_of archive.texts)) query spots
 found_in H archive query lent spots same = subst (λ (es : List DictEntry). AreSpots es query spots) (same ∙ ap (dictionary_of H) (as_built archive))

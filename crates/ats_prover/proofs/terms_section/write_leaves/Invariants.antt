@@ -6,7 +6,7 @@ use Rattle.ats_honest.specs.Documents.{shown_term}
 use Rattle.ats_prover.specs.Writing.{put}
 use Rattle.ats_prover.proofs.terms_section.write_leaves.Given as goal
 
--- the leaves so far stand behind their number
+-- the leaves so far follow their number
 abbrev pub invariant-loop-p : goal.invariant-loop-p
 invariant-loop-p l = record {
   fields : l.writer ≡ put l.fn.writer (spelled 2 (length (map (shown_term l.terms) l.positions)) ∷ flat_map term_fields (take l.p-index (map (shown_term l.terms) l.positions)));
