@@ -1,4 +1,4 @@
--- That the honest proof over any archive is accepted.
+-- The honest proof over any archive is accepted.
 use Rattle.std.proofs.Common.{◌≡◌, ◌≤◌, ℕ, List, length, subst, ap, arith}
 use Rattle.ats_dict.specs.declared.header.Header.{Header}
 use Rattle.ats_commit.specs.Archive.{Archive}
@@ -18,7 +18,7 @@ either_accepted H archive query r algorithm proof =
     each_archive (λ a. (algorithm ≡ Tra → 1 ≤ length a.texts) → IsHonest H a query r algorithm proof → Accepts H (root_of H a) query r proof)
     (λ texts. honest_accepted H texts query r algorithm proof) archive
 
--- a header in bytes tells of a document
+-- a header in bytes has at least one document
 pub has_documents : (H : List ℕ → List ℕ) (archive : Archive) (query : List (List ℕ × ℕ)) (r : ℕ) (algorithm : Algorithm) (bytes : List ℕ)
     → IsProved H archive query r algorithm bytes → 1 ≤ length archive.texts
 has_documents H archive query r algorithm bytes is =

@@ -56,7 +56,7 @@ tail_cut lane lanes count cut is = record {
 
 -- ---- places among the met documents
 
--- the document stands at its place among the met ids
+-- the document is at its place among the met ids
 pub record IsIn (met : List ℕ) (doc : ℕ) : Type 0 where
   pub inside : place met doc < length met
   pub back : get_or met (place met doc) 0 ≡ doc
@@ -85,7 +85,7 @@ entries_back met [] are = refl
 entries_back met (e ∷ es) are =
     ap₂ (λ x xs. x ∷ xs) (entry_back met e (All-head (IsEntryIn met) e es are)) (entries_back met es (All-tail (IsEntryIn met) e es are))
 
--- numbers that differ from one another stand once
+-- numbers that differ from one another occur once
 differing_once : (xs : List ℕ) → ((i j : ℕ) → i < j → j < length xs → get_or xs i 0 ≢ get_or xs j 0) → AreDistinct xs
 differing_once [] differ n = omega arith
 differing_once (x ∷ xs) differ n =
@@ -103,14 +103,14 @@ differing_once (x ∷ xs) differ n =
 
 -- ---- the fronts that a proof shows
 
--- a present term shows the front of a lane, and its entry in the dictionary tells the lane's length and root
+-- a present term shows the front of a lane, and its entry in the dictionary has the lane's length and root
 pub record IsFront (H : List ℕ → List ℕ) (documents : ℕ) (met : List ℕ) (lane : WholeLane) (count : ℕ) (term : Presented) : Type 0 where
   pub weighs : term.weight * idf documents term.entry.f ≡ lane.coefficient
   pub size : term.entry.f ≡ length lane.entries
   pub root : term.entry.root ≡ mth H (map leaf_bytes lane.entries)
   pub front : term.prefix ≡ prefix_of H whole_lists met lane.entries count
 
--- the present terms show the fronts of the lanes, as far as the cut says
+-- the present terms show the fronts of the lanes, as many entries as the cut says
 abbrev pub AreFronts : (List ℕ → List ℕ) → ℕ → List ℕ → List WholeLane → List ℕ → List Presented → Type 0
 AreFronts H documents met [] cut [] = Unit {0}
 AreFronts H documents met [] cut (term ∷ terms) = ⊥

@@ -41,7 +41,7 @@ use Rattle.ats_accepts.proofs.AcceptedLists.{AreIn, AreFronts, front_lanes, fron
 
 -- ---- the documents of brackets
 
--- a document that is named stands among them
+-- a document that is named is among them
 named_in : {bounds : Bounding} (lanes : List ShownLane) (brackets : List Bracket) → AreBracketsBy bounds lanes brackets → AreIn (docs_of brackets) lanes
 named_in lanes brackets are doc is =
     let docs = docs_of brackets in
@@ -63,7 +63,7 @@ all_named lanes brackets are i inside =
     let has : has_bracket doc brackets ≡ true = list_any_at (λ (b : Bracket). nat_eq b.doc doc) brackets i none here (eq-eqb doc doc refl) in
     subst (IsMet lanes) (sym (get_or-map (λ (b : Bracket). b.doc) brackets i none 0 here)) (sym (are.met doc) ∙ has)
 
--- their brackets are these, where the check forms the same
+-- their brackets are these, if the check forms the same
 brackets_again : (bounds formed : Bounding) (lanes : List ShownLane) (brackets : List Bracket) → All (λ (b : Bracket). b ≡ bounds lanes b.doc) brackets
     → All (λ (b : Bracket). formed lanes b.doc ≡ bounds lanes b.doc) brackets → brackets_of formed lanes (docs_of brackets) ≡ brackets
 brackets_again bounds formed lanes [] each same = refl
@@ -108,7 +108,7 @@ module _ (H : List ℕ → List ℕ) (texts : List (List ℕ)) (query : List (Li
       ap (λ (d : List ShownEntry). presented_from d 0 query proof.slots proof.lists) honest.dict
       ∙ ap₂ (λ (s : List Slot) (l : List Prefix). presented_from dict 0 query s l) honest.slots honest.lists
 
-  -- the present terms show the fronts of their lists, as far as the cut says
+  -- the present terms show the fronts of their lists, as many entries as the cut says
   pub honest_presented : AreFronts H (length texts) proof.met lanes honest.cut (presented query proof)
   honest_presented = subst (AreFronts H (length texts) proof.met lanes honest.cut) (sym presented_are)
       (show_terms H texts proof.met honest.positions 0 query honest.spots honest.needed.rise honest.found
@@ -142,7 +142,7 @@ module _ (H : List ℕ → List ℕ) (texts : List (List ℕ)) (query : List (Li
   met_low = subst (All (λ doc. doc < length texts)) (sym honest.met)
       (met_below (length texts) lanes honest.cut honest.brackets (λ i d inside. (lanes_have_lists texts query i d inside).documents) honest.bounds)
 
-  -- the numbers of the present terms ask for them
+  -- the numbers of the present terms give these terms
   named : map (asked_term query) (present_numbers proof) ≡ map (λ (pair : List ℕ × ℕ). pair.0) terms
   named =
       let entries = dictionary_of H (archive_of texts) in

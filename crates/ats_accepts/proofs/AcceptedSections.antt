@@ -26,9 +26,9 @@ use Rattle.ats_honest.proofs.Public.{lower_item, all_below}
 use Rattle.ats_accepts.proofs.ShownTrees.{leaves_shown, positions_rebuild}
 use Rattle.ats_accepts.proofs.AcceptedSlots.{LiesBy, leaf_at, slots_show}
 
--- ---- the numbers of the terms that stand
+-- ---- the numbers of the terms that have a leaf
 
--- the numbers that slots tell from a number on ask for the terms that stand
+-- the numbers that slots give, from a number on, are those of the terms that have a leaf
 pub numbers_ask : (ask : ℕ → List ℕ) (positions : List ℕ) (n : ℕ) (query : List (List ℕ × ℕ)) (spots : List Spot) → length spots ≡ length query
     → ((i : ℕ) (d : List ℕ × ℕ) → i < length query → ask (n + i) ≡ (get_or query i d).0)
     → map ask (present_from n (map (slot_of positions) spots)) ≡ map (λ (pair : List ℕ × ℕ). pair.0) (standing query spots)
@@ -77,7 +77,7 @@ module _ (H : List ℕ → List ℕ) (items terms : List (List ℕ × ℕ)) (sec
       ap₂ (λ (shown : List Shown) (digests : List (List ℕ)). rebuilt H (length leaves) shown digests) section_shown honest.digests
       ∙ positions_rebuild H leaves honest.positions (omega (arith, length-terms_leaves items)) honest.needed.rise positions_low
 
-  -- its slots show the terms that these numbers ask for
+  -- its slots show the terms with these numbers
   pub section_shows : (query : List (List ℕ × ℕ)) (numbers : List ℕ) → map (asked_term query) numbers ≡ map (λ (pair : List ℕ × ℕ). pair.0) terms → AreTermSlotsRight query numbers section
   section_shows query numbers named i inside =
       let name : List ℕ × ℕ → List ℕ = λ pair. pair.0 in

@@ -1,4 +1,4 @@
--- The slots of terms show where they stand among the leaves of a tree.
+-- The slots of terms show their places among the leaves of a tree.
 use Rattle.std.proofs.Common.{◌≡◌, ◌+◌, ◌<◌, ◌||◌, ℕ, zero, suc, true, false, nat_eq, List, [], ◌∷◌, length, map, get_or, slice_get, refl, sym, ap, subst, ◌∙◌, arith}
 use Rattle.std.specs.List.{flat_map}
 use Rattle.std.specs.List.Sorted.{IsStrictlyIncreasing}
@@ -44,7 +44,7 @@ shown_each (spot ∷ spots) positions (suc i) d inside are = shown_each spots po
 
 -- ---- what they show
 
--- where a term lies by its spot, among leaves of which this is the term at a position
+-- the place of a term by its spot; `at` gives the term at each position
 abbrev pub LiesBy : (ℕ → List ℕ) → List ℕ → Spot → Type 0
 LiesBy at term (At p) = at p ≡ term
 LiesBy at term (Between p) = IsBelow (at p) term × IsBelow term (at (p + 1))

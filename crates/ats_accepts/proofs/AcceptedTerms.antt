@@ -127,7 +127,7 @@ shown_entry_at entries positions p rise stands =
     ap (λ (all : List DictEntry). get_or all (place positions p) low) (map-map (λ (shown : ShownEntry). shown.entry) (shown_entry entries) positions)
     ∙ made_at_place (entry_at entries) positions p low rise stands
 
--- the check reads the entry of its list for each term whose slot says that it is present
+-- the check reads for each term whose slot says that it is present the entry of its list
 pub honest_entry : (H : List ℕ → List ℕ) (texts : List (List ℕ)) (positions : List ℕ) (term : List ℕ) (spot : Spot) → IsStrictlyIncreasing positions → IsShown spot positions
     → IsSpot (dictionary_of H (archive_of texts)) term spot → (slot_of positions spot).present ≡ true
     → IsOwnEntry H texts term (presented.entry_at (map (shown_entry (dictionary_of H (archive_of texts))) positions) (slot_of positions spot).index)
@@ -136,7 +136,7 @@ honest_entry H texts positions term (At p) rise shown is present =
     subst (λ (e : DictEntry). IsOwnEntry H texts term e) (sym entry) (own_entry H texts term p is)
 honest_entry H texts positions term (Between p) rise shown is present = absurd (cc)
 
--- and a slot says so of the terms that some text has
+-- and a slot says so for the terms that some text has
 pub honest_present : (H : List ℕ → List ℕ) (texts : List (List ℕ)) (positions : List ℕ) (pair : List ℕ × ℕ) (spot : Spot) → IsSpot (dictionary_of H (archive_of texts)) pair.0 spot
     → nat_lt 0 (frequency pair.0 texts) ≡ (slot_of positions spot).present
 honest_present H texts positions pair spot is =

@@ -1,4 +1,4 @@
--- What is hashed from an honest proof is the archive's own.
+-- The strings that are hashed from an honest proof are the archive's own.
 use Rattle.std.proofs.Common.{◌≡◌, ◌+◌, ◌<◌, ◌≤◌, ℕ, suc, Bool, cond, List, [], ◌∷◌, ◌++◌, length, map, take, drop, get_or, Option, None, Some, IfSome, refl, sym, ap, subst, ◌∙◌, arith}
 use Rattle.std.specs.List.{All, flat_map, range_with_len}
 use Rattle.std.proofs.lemmas.Bool.{lt-ltb}
@@ -54,7 +54,7 @@ use Rattle.ats_accepts.proofs.AcceptedTerms.{dictionary_shown, honest_present}
 
 -- ---- the terms of the lists
 
--- what a query's terms are asked for behind its first
+-- the terms that a query asks for after its first
 asks_later : (asked : List (List ℕ × ℕ)) (number : ℕ) (pair : List ℕ × ℕ) (query : List (List ℕ × ℕ))
     → ((i : ℕ) (d : List ℕ × ℕ) → i < length (pair ∷ query) → asked_term asked (number + i) ≡ (get_or (pair ∷ query) i d).0)
     → (i : ℕ) (d : List ℕ × ℕ) → i < length query → asked_term asked ((number + 1) + i) ≡ (get_or query i d).0

@@ -1,4 +1,4 @@
--- Each number of a list that rises stands at its place.
+-- Each number of a list that rises is at its place.
 use Rattle.std.proofs.Common.{◌≡◌, ◌+◌, ◌<◌, ℕ, true, List, length, map, get_or, Some, slice_get, sym, ap, ◌∙◌, arith, inl, inr}
 use Rattle.std.specs.List.Sorted.{IsStrictlyIncreasing}
 use Rattle.std.proofs.lemmas.Bool.{cases_lt}
@@ -9,7 +9,7 @@ use Rattle.ats_honest.specs.Terms.{has, place}
 use Rattle.ats_bound.proofs.Public.{contained_has}
 use Rattle.ats_honest.proofs.Public.{place_at, never_falls}
 
--- the place of a number is one of the list, and the number stands there
+-- the place of a number is inside the list, and the number is there
 pub record IsAtPlace (positions : List ℕ) (p : ℕ) : Type 0 where
   pub within : place positions p < length positions
   pub there : get_or positions (place positions p) 0 ≡ p
@@ -24,7 +24,7 @@ at_place positions p rise stands =
       there = ap (λ k. get_or positions k 0) own ∙ here;
     }
 
--- what is made of the number stands there too
+-- the value of f at the number is there too
 pub shown_at_place : {X : Type 0} (f : ℕ → X) (positions : List ℕ) (p : ℕ) → IsStrictlyIncreasing positions → has p positions ≡ true
     → slice_get (map f positions) (place positions p) ≡ Some (f p)
 shown_at_place f positions p rise stands =
@@ -37,7 +37,7 @@ got_at_place positions p rise stands =
     let is = at_place positions p rise stands in
     slice_get-get_or positions (place positions p) 0 is.within ∙ ap Some is.there
 
--- neighbours stand one behind the other
+-- neighbours are at consecutive places
 pub next_place : (positions : List ℕ) (p : ℕ) → IsStrictlyIncreasing positions → has p positions ≡ true → has (p + 1) positions ≡ true
     → place positions (p + 1) ≡ place positions p + 1
 next_place positions p rise stands next =

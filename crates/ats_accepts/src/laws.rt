@@ -1,4 +1,4 @@
-//! What holds of honest proofs and the check together, as contracts of functions that do nothing.
+//! The laws of honest proofs and the check together, as contracts of functions that do nothing.
 
 ghost use Rattle.std.specs.Prelude.{◌≡◌, ◌≤◌, ℕ, List, All, None, length};
 ghost use Rattle.ats_tree.specs.Differences.{IsOurs};
@@ -14,9 +14,9 @@ ghost use Rattle.ats_honest.specs.Honest.{IsHonest, IsProved};
 
 use ats_hash::HashKind;
 
-/// An honest proof by either algorithm is accepted under the root of its archive: no rule of the check refuses it.
-/// Where documents are shown the archive has one, since a tree with no leaf is never rebuilt.
-/// So it is with whatever proof the bytes of an honest one spell: bytes never tell of a collection with no document.
+/// An honest proof by either algorithm is accepted under the root of its archive: no rule of the check refuses it. A
+/// TRA proof needs an archive with a document, since a tree without leaves is never rebuilt. The same holds for
+/// whatever proof the bytes of an honest one spell: bytes never spell a collection without documents.
 pub fn honest_proofs_are_accepted<H: HashKind>()
     ensures proof { (archive : Archive) (query : List (List ℕ × ℕ)) (r : ℕ) (algorithm : Algorithm) (proof : Proof)
         → (algorithm ≡ Tra → 1 ≤ length archive.texts)
@@ -26,8 +26,8 @@ pub fn honest_proofs_are_accepted<H: HashKind>()
         → (proof : Proof) → IsProof bytes proof → Accepts H.hash (root_of H.hash archive) query r proof }
 {}
 
-/// What is hashed from an honest proof by either algorithm is the archive's own, so that no string of the proof
-/// clashes with one of the archive. So it is with whatever proof the bytes of an honest one spell.
+/// The strings that are hashed from an honest proof by either algorithm are the archive's own, so no string of the
+/// proof clashes with one of the archive. The same holds for whatever proof the bytes of an honest one spell.
 pub fn honest_proofs_have_no_clash<H: HashKind>()
     ensures ours { (archive : Archive) (query : List (List ℕ × ℕ)) (r : ℕ) (algorithm : Algorithm) (proof : Proof)
         → (algorithm ≡ Tra → 1 ≤ length archive.texts)

@@ -1,11 +1,10 @@
 //! The check accepts what an honest server proves.
 //!
-//! One room says which proof of a query is honest, the reader's room checks proofs, and neither stands on the
-//! other. This room stands on both, `ats_honest` and `ats_client`, and has no code but two laws. No rule of the
-//! check refuses an honest proof, by either algorithm, under the root of its archive. And what is hashed from
-//! such a proof is the archive's own. So whoever refuses a proof, or finds a clash in it, holds one that is not
-//! honest, for this root and this query. The prover, which makes honest proofs, stands beside this room.
-//! How the laws are proved may change without asking anyone.
+//! `ats_honest` defines which proof of a query is honest, `ats_client` checks proofs, and neither stands on the other.
+//! This room stands on both, and has no code but two laws. No rule of the check refuses an honest proof, by either
+//! algorithm, under the root of its archive. And the strings that are hashed from such a proof are the archive's own.
+//! So a proof that is refused, or in which a clash is found, is not the honest one for this root and this query. The
+//! prover, which makes honest proofs, is beside this room. How the laws are proved may change freely.
 #![tactic(auto)]
 
 mod laws;

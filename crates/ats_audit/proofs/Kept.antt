@@ -1,4 +1,4 @@
--- What of two lists holds pair by pair, where the second is a list of answers that are all there.
+-- A relation of two lists, pair by pair, if the second list has no error.
 use Rattle.std.proofs.Common.{◌≡◌, List, [], ◌∷◌, IfOk, map, subst, sym}
 use Rattle.std.specs.Prelude.{Ok}
 use Rattle.std.specs.List.{AllZip}
@@ -12,7 +12,7 @@ module _ {X Y : Type 0} (E : Type 0) (R : X → Y → Type 0) where
   kept (x ∷ xs) (y ∷ ys) h = (h.0, kept xs ys h.1)
 
 module _ {X Y E : Type 0} (R : X → Y → Type 0) where
-  -- each answer is there
+  -- no result is an error
   pub all_there : (xs : List X) (ys : List Y) (answers : List (Result Y E)) → answers ≡ map Ok ys
       → AllZip (λ x r. IfOk r (R x)) xs answers → AllZip R xs ys
   all_there xs ys answers is h = kept E R xs ys (subst (AllZip (λ x (r : Result Y E). IfOk r (R x)) xs) is h)

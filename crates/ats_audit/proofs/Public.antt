@@ -2,7 +2,7 @@
 
 -- a collision extracted from a proof is two different strings with equal digests
 pub use Rattle.ats_audit.proofs.Told.{extract-collides}
--- where a proof has right rows or a collision, and extraction finds no collision, its rows are right
+-- if a proof has right rows or a collision, and extraction finds no collision, its rows are right
 pub use Rattle.ats_audit.proofs.Told.{right_rows}
--- for each archive with the root, an accepted proof has right rows or its audit tells a collision
+-- for each archive with the root, an accepted proof has right rows or its audit reports a collision
 pub use Rattle.ats_audit.proofs.Told.{told}

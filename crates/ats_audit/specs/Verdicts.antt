@@ -39,15 +39,15 @@ IsVerdict H archive query r bytes (Right rows) = IsFoundRight H archive query r 
 IsVerdict H archive query r bytes (Collision place ours theirs) =
     IsFoundCollision H archive query r bytes (record { place = tree_place place; ours = ours; theirs = theirs }) × (place.turns < 2 ^ place.depth)
 
--- the verdict hands over two different strings with equal digests
+-- the verdict contains two different strings with equal digests
 abbrev pub TellsCollision : (List ℕ → List ℕ) → Verdict → Type 0
 TellsCollision H (Collision place ours theirs) = (ours ≢ theirs) × (H ours ≡ H theirs)
 TellsCollision H (BadShape fault) = ⊥
 TellsCollision H (Refused refusal) = ⊥
 TellsCollision H (Right rows) = ⊥
 
--- The headline, as an audit tells it. For every archive with this root, the rows are right for its texts, or the audit
--- of the bytes against that archive answers two different strings with equal digests.
+-- The headline for an audit: for every archive with this root, either the rows are right for its texts, or the audit of
+-- the bytes against that archive returns two different strings with equal digests.
 abbrev pub IsTopOrTold : (List ℕ → List ℕ) → List ℕ → List (List ℕ × ℕ) → ℕ → List ℕ → Proof → Type 0
 IsTopOrTold H root query r bytes proof = (archive : Archive) → AreTexts archive.texts → root_of H archive ≡ root
     → AreRight archive.texts query r (rows_of query proof) ⊎ ((verdict : Verdict) → IsVerdict H archive query r bytes verdict → TellsCollision H verdict)

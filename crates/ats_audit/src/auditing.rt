@@ -18,12 +18,12 @@ use std::alloc::Global;
 pub enum Verdict {
     /// The bytes spell no proof.
     BadShape(ShapeFault),
-    /// The first rule that the proof does not keep.
+    /// The first rule that the proof breaks.
     Refused(Refusal),
     /// The answer is right for the archive: its rows, which are those of the accepted proof.
     Right(Rows),
-    /// The proof is accepted, and two different strings have one digest: the archive's own at a place, and the
-    /// one that the proof has hashed there. It is the first such place, and the answer may be wrong.
+    /// The proof is accepted, and two different strings have the same digest: the archive's own at a place, and the one
+    /// that the proof hashes there. It is the first such place, and the answer may be wrong.
     Collision {
         place: Place,
         ours: HashedString,
@@ -31,8 +31,8 @@ pub enum Verdict {
     },
 }
 
-/// Tries the bytes of a proof under the root of an index, and where the proof is accepted, whether its strings
-/// are the archive's own wherever their digests are.
+/// Checks the bytes of a proof under the root of an index. If the proof is accepted, searches it for a string that
+/// differs from the archive's own and has the same digest.
 pub fn audit<H: Hash32>(
     alloc: Global,
     index: &Index<H>,

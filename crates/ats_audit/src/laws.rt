@@ -8,8 +8,8 @@ ghost use Rattle.ats_audit.specs.Verdicts.{IsTopOrTold};
 
 use ats_hash::HashKind;
 
-/// The rows of an accepted proof are right for each archive with the root, or the audit against that archive
-/// answers two different strings with equal digests.
+/// For each archive with the root, either the rows of an accepted proof are right, or the audit against that archive
+/// returns two different strings with equal digests.
 pub fn accepted_answers_are_audited<H: HashKind>()
     ensures { (root : List ℕ) (query : List (List ℕ × ℕ)) (r : ℕ) (bytes : List ℕ) (proof : Proof) → IsQuery query
         → IsAcceptedBytes H.hash root query r bytes proof → IsTopOrTold H.hash root query r bytes proof }

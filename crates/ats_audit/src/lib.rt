@@ -1,15 +1,12 @@
 //! The audit of an answer, by whoever holds the archive itself.
 //!
-//! A reader who holds the root alone knows that an accepted answer is right, or that the proof and the archive
-//! hold two different strings with equal digests. Who has the archive's index can tell which. [`audit`] checks the
-//! bytes of a proof under the index's own root, and then looks for the first such pair of strings. [`sweep`] does so
-//! for many proofs, in threads.
-//! The room stands on `ats_client` for the check, on `ats_index` for the archive's own strings, and on `rayon`
-//! for the threads.
-//! The contracts promise that a verdict is exactly what its definition says (`specs/Verdicts.antt`), and that rows
-//! are called right only where they are. They promise that an accepted wrong answer is answered by two different
-//! strings with one digest.
-//! How the parts are put together may change without asking anyone.
+//! A reader who holds only the root knows that either an accepted answer is right, or the proof and the archive contain
+//! two different strings with equal digests. Whoever has the archive's index can find out which. [`audit`] checks the
+//! bytes of a proof under the index's own root, and then searches for the first such pair of strings. [`sweep`] does so
+//! for many proofs, with several threads. The room stands on `ats_client` for the check, on `ats_index` for the
+//! archive's own strings, and on `rayon` for the threads. A verdict is exactly what its definition says
+//! (`specs/Verdicts.antt`). Rows are called right only if they are, and for an accepted wrong answer the audit returns
+//! two different strings with the same digest. How the parts are put together may change freely.
 //!
 //! ```
 //! use ats_impact::Top;

@@ -14,7 +14,7 @@ use std::alloc::Global;
 use std::marker::Model;
 use std::thread::Threads;
 
-/// The bytes of a proof that are to be audited, with the query and the number of rows that they are to answer.
+/// The bytes of a proof to audit, with its query and number of rows.
 #[derive(Drop)]
 pub struct Job<'a> {
     pub query: Query,
@@ -51,9 +51,9 @@ impl Verdicts {
     }
 }
 
-/// Audits each job against one index, as [`audit`] does, and gives the verdicts in the order of the jobs.
+/// Audits each job against one index, as [`audit`] does, and returns the verdicts in the order of the jobs.
 ///
-/// The jobs are shared among threads, one by one, and each job takes memory of its own.
+/// The jobs are shared among threads, one by one, and each job has memory of its own.
 pub fn sweep<H: Hash32 + Sync, R: Threads + Sync>(
     rt: &R,
     alloc: Global,

@@ -15,7 +15,7 @@ use std::fs;
 use std::thread::Threads;
 use std::time::Instant;
 
-// One check and one audit, as a line: the microseconds of each. Nothing where the answer is not right.
+// One check and one audit, as a line: the microseconds of each. `None` if the answer is not right.
 fn time_once(
     rt: &HostRuntime,
     index: &Index<Sha>,
@@ -37,8 +37,8 @@ fn time_once(
     }
 }
 
-/// Checks the proof of a file so many times, and audits it against the index of another each time. Prints a line
-/// for each time, and answers how many there were.
+/// Checks the proof of a file and audits it against the index of another file, `times` times. Prints a line for each
+/// time, and returns how many there were.
 pub(crate) fn time_audits(
     rt: &HostRuntime,
     threads: &(impl Threads + Sync),

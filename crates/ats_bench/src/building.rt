@@ -18,7 +18,7 @@ fn collection(rt: &HostRuntime, path: &str) -> Option<Collection> {
     Collection::new(rt.alloc(), texts).ok()
 }
 
-// The microseconds of one build by one thread. What is built is dropped after they are taken.
+// The microseconds of one build by one thread, without dropping the index.
 fn time_plain(rt: &HostRuntime, texts: &str) -> Option<u128> {
     let collection = collection(rt, texts)?;
     let start = Instant::now(rt).ok()?;
@@ -39,8 +39,8 @@ fn time_build(
     Some((built, index.bytes().ok()?))
 }
 
-/// Builds the index of the texts of a file, one a line, by one thread and by several, and loads its bytes, each so
-/// many times. Prints a line each time with the microseconds of the three. Answers how many bytes an index has.
+/// Builds the index of the texts of a file, one a line, by one thread and by several, and loads its bytes, `times`
+/// times each. Prints a line each time with the microseconds of the three. Returns how many bytes an index has.
 pub(crate) fn time_builds(
     rt: &HostRuntime,
     threads: &(impl Threads + Sync),

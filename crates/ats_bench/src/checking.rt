@@ -12,7 +12,7 @@ use ats_terms::Query;
 use std::alloc::Global;
 use std::fs;
 
-/// The steps of one check, nothing where the proof is refused.
+/// The steps of one check, `None` if the proof is refused.
 pub(crate) fn check_once(
     alloc: Global,
     root: &[u8; 32],
@@ -29,7 +29,7 @@ pub(crate) fn check_once(
     Some(steps.count())
 }
 
-/// Checks the proof of a file so many times under its own header's root, and answers how many steps were counted.
+/// Checks the proof of a file `times` times under its own header's root, and returns how many steps were counted.
 pub(crate) fn check_proof(
     rt: &HostRuntime,
     rows: u32,
@@ -63,8 +63,8 @@ fn hash_each(sizes: &[u8], steps: &mut Steps)
     }
 }
 
-/// Hashes strings so many times over, and answers how many digests were counted. Each byte of the file is
-/// the size of a string.
+/// Hashes strings `times` times over, and returns how many digests were counted. Each byte of the file is the size of a
+/// string.
 pub(crate) fn hash_strings(rt: &HostRuntime, sizes: &str, times: u32) -> Option<u64> {
     let sizes = fs::read(rt, sizes).ok()?;
     let mut digests: u64 = 0;

@@ -50,7 +50,7 @@ fn put_slots(writer: &mut ProofWriter) -> Result<(), OutOfMemory>
     Ok(())
 }
 
-// A front of a list, with no digest.
+// Appends a front of a list, with no digest.
 fn put_prefix(writer: &mut ProofWriter, entries: u32) -> Result<(), OutOfMemory>
     requires { writer.old.asked ≤ 2 ^ 60 }
     ensures { OnOk result (writer.new.asked ≡ writer.old.asked + 6 * entries + 6) }
@@ -73,7 +73,7 @@ fn put_prefixes(writer: &mut ProofWriter, entries: u32) -> Result<(), OutOfMemor
     Ok(())
 }
 
-// The bytes of a proof with so many entries to each of the terms.
+// The bytes of a proof with this many entries for each of the terms.
 fn proof(alloc: Global, entries: u32) -> Option<Bytes>
     requires { entries ≤ 65536 }
 {
@@ -84,12 +84,12 @@ fn proof(alloc: Global, entries: u32) -> Option<Bytes>
     writer.finish().ok()
 }
 
-// The bytes of a proof with so many entries in all, as far as the terms can have them.
+// The bytes of a proof with this many entries in all, as far as the terms can have them.
 fn proof_of(alloc: Global, entries: u32) -> Option<Bytes> {
     proof(alloc, (entries / u32::from(TERMS)).clamp(1, 65_536))
 }
 
-/// Reads a proof so many times, and answers how many items were read.
+/// Reads a proof `times` times, and returns how many items were read.
 pub(crate) fn read_proof(alloc: Global, entries: u32, times: u32) -> Option<u64> {
     let bytes = proof_of(alloc, entries)?;
     let mut items: u64 = 0;
@@ -114,7 +114,7 @@ fn feed(bytes: &[u8], size: usize) -> Option<()>
     feeder.finish().ok()
 }
 
-/// Feeds a proof so many times in pieces of so many bytes, and answers how many bytes were fed.
+/// Feeds a proof `times` times in pieces of `piece` bytes, and returns how many bytes were fed.
 pub(crate) fn feed_proof(alloc: Global, entries: u32, piece: u32, times: u32) -> Option<u64> {
     let bytes = proof_of(alloc, entries)?;
     let size = piece.max(1) as usize;
@@ -126,7 +126,7 @@ pub(crate) fn feed_proof(alloc: Global, entries: u32, piece: u32, times: u32) ->
     Some(fed)
 }
 
-/// Hashes the bytes of a proof so many times, and answers how many digests were counted.
+/// Hashes the bytes of a proof `times` times, and returns how many digests were counted.
 pub(crate) fn hash_proof(alloc: Global, entries: u32, times: u32) -> Option<u64> {
     let bytes = proof_of(alloc, entries)?;
     let mut steps = Steps::new(alloc);

@@ -83,7 +83,7 @@ fn lanes<'a>(
     Ok(lanes)
 }
 
-// Goes through the shown entries once, and sums in an ordered map what each document has.
+// Goes through the shown entries once, and sums in an ordered map what each document gets.
 fn sums(alloc: Global, lanes: &[Lane<'_>], counts: &[u32]) -> Result<u64, AllocError> {
     let mut sums: BTreeMap<u32, u64> = BTreeMap::new(alloc);
     for (lane, count) in lanes.iter().zip(counts) {
@@ -137,7 +137,7 @@ fn time_looking(rt: &HostRuntime, lanes: &[Lane<'_>], documents: u32, top: Top) 
     println!(rt; "tra {rows} {entries} {documents} {walked} {summed}").ok()
 }
 
-// The same with no random access.
+// The same for a walk with no random access.
 fn time_bounding(rt: &HostRuntime, lanes: &[Lane<'_>], top: Top) -> Option<()>
     requires { AreWholeLanes (whole_lanes lanes.now) }
 {
@@ -172,8 +172,8 @@ fn time_query(
     }
 }
 
-/// Walks for each query of a file, one a line, over the texts of another, one a line, with this many rows,
-/// by the algorithm that is named, and prints a line for each. Answers how many walks there were.
+/// Walks for each query of a file, one a line, over the texts of another, one a line, with this many rows, by the named
+/// algorithm, and prints a line for each. Returns how many walks there were.
 pub(crate) fn time_walks(
     rt: &HostRuntime,
     algorithm: &str,

@@ -1,4 +1,4 @@
-//! Asks the program what a vector asks, and counts whether it says what the vector says.
+//! Puts a vector to the program, and counts whether the program agrees with it.
 
 use crate::fault::Fault;
 use crate::json::{items, part, text, whole};
@@ -31,7 +31,7 @@ fn either<'v>(entry: &'v Value, other: &'v Value, name: &str) -> Result<&'v Valu
 }
 
 impl<'v> Question<'v> {
-    /// What the entry asks, and where it says nothing, what the other one asks.
+    /// What the entry asks; what it leaves out is taken from the other one.
     pub(crate) fn of(entry: &'v Value, other: &'v Value) -> Result<Self, Fault> {
         let root = either(entry, other, "root")?.as_str();
         let r = either(entry, other, "r")?.as_u64();
@@ -62,7 +62,7 @@ impl Asker {
         Ok(())
     }
 
-    /// What the program shows to these words.
+    /// What the program shows for these words.
     pub(crate) fn ask(
         &mut self,
         threads: &(impl Threads + Sync),
@@ -86,7 +86,7 @@ impl Asker {
         Ok(self.tally.count(self.alloc, shown)?)
     }
 
-    /// Has the proof made, which is to have these bytes.
+    /// Has the proof made. It should have these bytes.
     pub(crate) fn prove(
         &mut self,
         threads: &(impl Threads + Sync),
@@ -104,7 +104,7 @@ impl Asker {
         self.count(&shown)
     }
 
-    /// Has these bytes checked, of which the program is to say what the entry does.
+    /// Has these bytes checked. The program should return what the entry says.
     pub(crate) fn verify(
         &mut self,
         threads: &(impl Threads + Sync),

@@ -1,4 +1,4 @@
-//! The blocks of a document: its odd parts between fences. What else it says is for people.
+//! Plays the blocks of a document: its odd parts between fences. The rest is for people.
 
 use crate::fault::Fault;
 use crate::player::Player;
@@ -19,7 +19,7 @@ pub(crate) fn play<R: Threads + Sync>(
     Ok(())
 }
 
-// A block may begin with the numbers of bytes that a call moves at most, and is played once for each.
+// A block may begin with the most bytes that a call moves, several times, and is played once for each.
 fn play_block<R: Threads + Sync>(rt: &R, player: &mut Player, block: &str) -> Result<(), Fault> {
     let head = block.lines().nth(1).unwrap_or("");
     match head.strip_prefix(": moves ") {
@@ -40,7 +40,7 @@ fn play_in_pieces<R: Threads + Sync>(
     Ok(())
 }
 
-// What stands behind the fence, on its line, is no line of the block.
+// The rest of the fence's own line is no line of the block.
 fn play_lines<R: Threads + Sync>(
     rt: &R,
     player: &mut Player,

@@ -5,9 +5,9 @@ use std::alloc::{AllocError, AllocFailed};
 /// Why a line of a document, or a file, was not played.
 #[derive(Clone, Copy, Debug, PartialEq, Eq)]
 pub(crate) enum Fault {
-    /// Memory was wanted and not there.
+    /// Memory ran out.
     OutOfMemory,
-    /// The line or the file says nothing that is known, or names what is not there.
+    /// The line or the file cannot be read, or names something that is not there.
     Unread,
 }
 

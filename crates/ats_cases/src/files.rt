@@ -1,11 +1,11 @@
-//! How a file comes to hold what a case needs.
+//! Fills a file with what a case needs.
 
 use crate::fault::Fault;
 use crate::said::{number, three, two};
 use ats_base::{Bytes, MemShelf};
 use std::alloc::Global;
 
-/// `NAME TIMES TEXT`: adds the text to the file, so many times.
+/// `NAME TIMES TEXT`: appends the text to the file, TIMES times.
 pub(crate) fn add(alloc: Global, shelf: &mut MemShelf, line: &str) -> Result<(), Fault> {
     let (name, times, text) = three(line)?;
     let start = shelf.bytes_of(name).ok_or(Fault::Unread)?;
@@ -14,7 +14,7 @@ pub(crate) fn add(alloc: Global, shelf: &mut MemShelf, line: &str) -> Result<(),
     Ok(())
 }
 
-/// `NAME TIMES OTHER`: adds what the other file holds.
+/// `NAME TIMES OTHER`: appends what the other file holds, TIMES times.
 pub(crate) fn join(alloc: Global, shelf: &mut MemShelf, line: &str) -> Result<(), Fault> {
     let (name, times, other) = three(line)?;
     let start = shelf.bytes_of(name).ok_or(Fault::Unread)?;
@@ -75,7 +75,7 @@ pub(crate) fn copy(to: &mut MemShelf, from: &MemShelf, line: &str) -> Result<(),
     Ok(())
 }
 
-/// Whether the file holds what the note does, or its first bytes where a number of them is said: `NAME NOTE COUNT`.
+/// Whether the file holds what the note does, or only its first COUNT bytes: `NAME NOTE COUNT`.
 pub(crate) fn holds(shelf: &MemShelf, notes: &MemShelf, line: &str) -> Result<bool, Fault> {
     let (name, rest) = two(line)?;
     let (note, count) = rest.split_once(' ').unwrap_or((rest, ""));
@@ -88,7 +88,7 @@ pub(crate) fn holds(shelf: &MemShelf, notes: &MemShelf, line: &str) -> Result<bo
     Ok(wanted.is_some() && shelf.bytes_of(name) == wanted)
 }
 
-/// Whether the file has so many bytes: `NAME COUNT`.
+/// Whether the file has COUNT bytes: `NAME COUNT`.
 pub(crate) fn has_size(shelf: &MemShelf, line: &str) -> Result<bool, Fault> {
     let (name, count) = two(line)?;
     let wanted = number(count)?;

@@ -1,4 +1,4 @@
-//! A collection of which its numbers alone are told.
+//! A collection that is given only by its numbers.
 
 use crate::fault::Fault;
 use crate::json::count;
@@ -6,8 +6,8 @@ use ats_impact::impact;
 use serde_json::Value;
 use std::alloc::Global;
 
-/// Of `documents` documents, `having` have the term `x`, each of them `times` times among `length` terms. `terms` are
-/// the terms of all documents together.
+/// `having` of `documents` documents have the term `x`, each of them `times` times among `length` terms. `terms` is the
+/// number of terms of all documents together.
 #[derive(Clone, Copy)]
 pub(crate) struct Numbers {
     pub(crate) documents: u32,
@@ -64,7 +64,7 @@ impl Numbers {
     }
 }
 
-/// The text, so many times over.
+/// The text, `times` times over.
 pub(crate) fn repeated(alloc: Global, text: &str, times: u64) -> Result<String, Fault> {
     let mut whole = String::new(alloc);
     for _time in 0..times {

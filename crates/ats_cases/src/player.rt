@@ -1,4 +1,4 @@
-//! What the lines of a block do.
+//! Plays the lines of a block.
 
 use crate::fault::Fault;
 use crate::files;
@@ -11,7 +11,7 @@ use std::thread::Threads;
 
 const ARCHIVE: &str = "examples/archive.json";
 
-/// Plays lines. Notes last from block to block.
+/// Plays lines. Notes are kept from block to block.
 #[derive(Drop)]
 pub(crate) struct Player {
     alloc: Global,
@@ -86,7 +86,7 @@ impl Player {
         self.stage.shown.as_mut().ok_or(Fault::Unread)
     }
 
-    // What is said of the command before stands nearer to it than what prepares the next.
+    // Expectations of the last command are tried before the verbs that prepare the next.
     fn prepare_or_want(&mut self, verb: &str, rest: &str) -> Result<(), Fault> {
         match verb {
             "status" => self.want_status(rest),
@@ -103,7 +103,7 @@ impl Player {
         Ok(())
     }
 
-    // `COUNT TEXT`: so many lines, each with its number.
+    // `COUNT TEXT`: COUNT lines, each with its number.
     fn want_lines(&mut self, rest: &str) -> Result<(), Fault> {
         let (count, text) = two(rest)?;
         let alloc = self.alloc;

@@ -20,7 +20,8 @@ pub(crate) fn number(word: &str) -> Result<usize, Fault> {
     word.parse::<usize>().map_err(|_| Fault::Unread)
 }
 
-/// The words of a command. One between quotation marks may have spaces, and `@NAME` stands for the text of that note.
+/// The words of a command. A word between quotation marks may have spaces, and `@NAME` is replaced by the text of that
+/// note.
 pub(crate) fn words(alloc: Global, notes: &MemShelf, line: &str) -> Result<Vec<String>, Fault> {
     let mut words = Vec::new(alloc);
     for (at, part) in line.split('"').enumerate() {

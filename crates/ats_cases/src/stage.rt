@@ -1,4 +1,4 @@
-//! What a block begins with anew.
+//! The state that each block begins with again.
 
 ghost use Rattle.std.specs.Prelude.{IfOk};
 ghost use Rattle.ats_base.specs.MemoryLinks.{IsUnused};
@@ -25,7 +25,7 @@ pub(crate) struct Stage {
 }
 
 impl Stage {
-    /// An empty shelf and no links. No call fails, and each moves at most so many bytes, and one at least.
+    /// An empty shelf and no links. No call fails, and each moves at most `moves` bytes, or 1 if that is 0.
     pub(crate) fn new(alloc: Global, moves: usize) -> Self {
         let mut shelf = MemShelf::new(alloc);
         shelf.piece(moves.max(1));
@@ -40,7 +40,7 @@ impl Stage {
         }
     }
 
-    /// The last command, which leaves its links.
+    /// The last command. Its links are dropped.
     pub(crate) fn take_shown(&mut self, alloc: Global) -> Option<Shown> {
         let shown = self.shown.take()?;
         self.caller = MemCaller::new(alloc);
@@ -48,7 +48,8 @@ impl Stage {
         Some(shown)
     }
 
-    /// `FILE CALL`: one more link for the next command, over which the file's bytes come. If a call is said, it fails.
+    /// `FILE CALL`: one more link for the next command, over which the file's bytes arrive. If CALL is given, that call
+    /// fails.
     pub(crate) fn add_link(&mut self, alloc: Global, line: &str) -> Result<(), Fault> {
         let (name, call) = line.split_once(' ').unwrap_or((line, ""));
         let bytes = self.shelf.bytes_of(name).ok_or(Fault::Unread)?;
@@ -57,7 +58,7 @@ impl Stage {
         Ok(())
     }
 
-    /// The caller's or the door's call of that number is to fail.
+    /// The caller's or the door's call of that number will fail.
     pub(crate) fn fail_end_at(&mut self, call: u64) -> Result<(), Fault> {
         self.caller.fail_at(call)?;
         self.door.fail_at(call)?;

@@ -1,4 +1,4 @@
-//! The entries of the vectors' files, each put to the program.
+//! Puts the entries of the vectors' files to the program.
 
 use crate::asker::{Asker, Question};
 use crate::fault::Fault;
@@ -54,7 +54,7 @@ pub(crate) fn play_listed(
     Ok(())
 }
 
-// The root that is printed is the header's digest too.
+// The printed root is also the header's digest.
 fn play_archive(
     threads: &(impl Threads + Sync),
     asker: &mut Asker,
@@ -137,7 +137,7 @@ fn play_changed(
     )
 }
 
-// A change is a start, an end, and the bytes that stand there then. There is one, or none.
+// A change is a start, an end, and the bytes that replace those between them. There is one, or none.
 fn changed(alloc: Global, honest: Vec<u8>, changes: &Value) -> Result<Vec<u8>, Fault> {
     let Some(change) = changes.get(0) else {
         return Ok(honest);
@@ -199,7 +199,7 @@ fn play_numbers(
     asker.count(&shown)
 }
 
-// The query is the text, so many times over; the proof is so many bytes 0.
+// The query is a text repeated; the proof is a number of zero bytes.
 fn play_input(
     threads: &(impl Threads + Sync),
     asker: &mut Asker,

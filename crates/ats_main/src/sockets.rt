@@ -1,4 +1,5 @@
-//! The real links, caller and door: TCP over the system's network. They tell no content, and no call of theirs loops.
+//! The real links, caller and door: TCP over the system's network. They promise no content, and no call of theirs
+//! loops.
 
 ghost use Rattle.std.specs.Prelude.{◌≡◌, true, None, is_some, IfOk};
 
@@ -8,10 +9,10 @@ use std::io::{self, Read, Write};
 use std::net::{Net, OpenListener, OpenStream, SocketAddr, TcpListener, TcpStream};
 use std::time::Duration;
 
-// How many seconds a peer is waited for in each call that connects, reads or writes.
+// How many seconds each call that connects, reads or writes waits for a peer.
 const PATIENCE: u64 = 30;
 
-/// One end of a conversation. The conversation is over where it is dropped.
+/// One end of a conversation. Dropping it ends the conversation.
 #[derive(Drop)]
 pub struct TcpLink<S> {
     stream: S,
@@ -19,7 +20,7 @@ pub struct TcpLink<S> {
 }
 
 impl<S: OpenStream + Drop> TcpLink<S> {
-    // A short reply is one packet, which is not to wait for a further one.
+    // A short reply is one packet, and must not wait for another one.
     fn new(stream: S) -> io::Result<Self>
         ensures { IfOk result (λ link. link.counts.faults.count ≡ 0) }
     {
@@ -54,8 +55,7 @@ impl<S: Read + Write + Drop> Link for TcpLink<S> {
     }
 }
 
-// The network, where no connecting takes longer than a peer is waited for.
-// Of a name, each address in turn is waited for so long.
+// The network, with a limit of PATIENCE seconds on connecting. For a name, the limit holds for each of its addresses.
 #[derive(Drop)]
 struct Patient<'a, R: Net> {
     net: &'a R,
@@ -80,7 +80,7 @@ impl<'a, R: Net> Net for Patient<'a, R> {
     }
 }
 
-/// Calls addresses, which are an IP address or a host's name, a colon and a port.
+/// Connects to addresses, which are an IP address or a host's name, a colon and a port.
 #[derive(Drop)]
 pub struct TcpCaller<'a, R: Net> {
     rt: &'a R,
@@ -125,7 +125,7 @@ impl<'a, R: Net> Caller for TcpCaller<'a, R> {
     }
 }
 
-/// Listens at one address, as a caller is given it, and takes those that call there.
+/// Listens at one address, of the form that a caller takes, and accepts those that connect there.
 #[derive(Drop)]
 pub struct TcpDoor<'a, R: Net> {
     rt: &'a R,

@@ -1,7 +1,7 @@
--- What a case shows beside what it wants, and the count of cases.
+-- What a case shows and what it wants, and the count of cases.
 use Rattle.std.specs.Prelude.{ℕ, List, ◌≡◌}
 
--- the status and the printed bytes, those that are wanted, and how many other things are not as they are wanted
+-- the status and the printed bytes, those that are wanted, and how many other things are not as wanted
 pub record Case : Type 0 where
   pub status : ℕ
   pub printed : List ℕ

@@ -1,9 +1,10 @@
-//! The count of cases: what a command showed beside what its case wants, and how many cases are as wanted.
+//! The count of cases: compares what a command showed with what its case wants, and counts the cases that are as
+//! wanted.
 //!
-//! It stands apart from the player of the cases, so that what is promised of the count is tried over these few lines
-//! alone. The room stands on `ats_base` for bytes. It promises that a case is counted as passed exactly where its
-//! status, its printed text, and its files, links or numbers are as they are wanted. It promises that each other case
-//! makes the report longer. The words of the report may change without asking.
+//! It is separate from the player of the cases, so that the promises about the count can be tested on these few lines.
+//! The room stands on `ats_base` for bytes. A case counts as passed exactly if its status, its printed text, and its
+//! files, links or numbers are as wanted. Every failing case adds to the report. The words of the report may change
+//! freely.
 //!
 //! ```
 //! let mut tally = Tally::new(alloc);

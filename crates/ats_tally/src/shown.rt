@@ -1,4 +1,4 @@
-//! What a command showed, beside what its case or its vector wants.
+//! What a command showed, compared with what its case or its vector wants.
 
 ghost use Rattle.std.specs.Prelude.{◌≡◌, ◌≢◌, ◌↔◌, ◌+◌, ◌-◌, ◌^◌, ◌++◌, [], min, true, false, IfOk, is_ok, if◌then◌else◌};
 ghost use Rattle.ats_tally.specs.Cases.{Case, IsAsWanted};
@@ -31,8 +31,8 @@ impl Model for Shown {
 }
 
 impl Shown {
-    /// A command that is to be done, to print nothing, and to leave the files and links that its case names. `said` is
-    /// how a report calls it.
+    /// A command that should end with status 0, print nothing, and leave the files and links that its case names.
+    /// `said` is its name in the report.
     pub fn new(alloc: Global, said: &str, status: u8, printed: &[u8]) -> Result<Self, OutOfMemory>
         ensures { IfOk result (λ made. made
             ≡ record { status = status; printed = printed.now; wanted_status = 0; wanted = []; misfits = 0 }) }
@@ -54,7 +54,7 @@ impl Shown {
         self.wanted_status = status;
     }
 
-    /// These bytes are to be printed after those that are wanted so far.
+    /// These bytes should be printed after those that are wanted so far.
     pub fn want(&mut self, text: &str) -> Result<(), OutOfMemory>
         ensures { self.new
             ≡ (if is_ok result then record self.old { wanted = self.old.wanted ++ text.now } else self.old) }
@@ -62,7 +62,7 @@ impl Shown {
         self.wanted.extend(text.as_bytes())
     }
 
-    /// Notes whether a file, what a link wrote, or what no command tells is as it is wanted.
+    /// Notes whether a file, what a link wrote, or a value that no command prints is as wanted.
     pub fn note_fit(&mut self, fits: bool)
         ensures noted { fits ≡ false → self.new.misfits ≢ 0 }
         ensures count { self.new

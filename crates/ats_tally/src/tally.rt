@@ -1,4 +1,4 @@
-//! How many cases passed, and what there is to say of the others.
+//! How many cases passed, and a report on the others.
 
 ghost use Rattle.std.specs.Prelude.{◌≡◌, ◌<◌, ◌≤◌, ◌+◌, ◌-◌, ◌^◌, ◌⊎◌, [], min, length, string_bytes, OnOk};
 ghost use Rattle.ats_tally.specs.Cases.{Counted, IsAsWanted};
@@ -22,7 +22,7 @@ impl Model for Tally {
 }
 
 impl Tally {
-    /// No case was counted, and there is nothing to say.
+    /// No case counted, and an empty report.
     pub fn new(alloc: Global) -> Self
         ensures { result ≡ record { passed = 0; report = [] } }
     {
@@ -32,7 +32,7 @@ impl Tally {
         }
     }
 
-    /// Counts a case, or reports it. Want of memory may leave a part of the report.
+    /// Counts a case, or reports it. If memory runs out, a part of the report may be left.
     pub fn count(&mut self, alloc: Global, shown: &Shown) -> Result<(), OutOfMemory>
         ensures passed { self.old.passed < self.new.passed → (shown.now.status ≡ shown.now.wanted_status)
             × (shown.now.printed ≡ shown.now.wanted) × (shown.now.misfits ≡ 0) }
@@ -50,7 +50,7 @@ impl Tally {
         Ok(())
     }
 
-    /// Reports a line that says nothing that is known. Want of memory may leave a part of the report.
+    /// Reports a line that cannot be read. If memory runs out, a part of the report may be left.
     pub fn refuse(&mut self, line: &str) -> Result<(), OutOfMemory>
         ensures passed { self.new.passed ≡ self.old.passed }
         ensures reported { OnOk result (length self.old.report < length self.new.report) }
@@ -61,14 +61,14 @@ impl Tally {
         Ok(())
     }
 
-    /// How many cases were as wanted; 2^64 - 1 stands for as many and more.
+    /// How many cases were as wanted; 2^64 - 1 means at least that many.
     pub fn passed(&self) -> u64
         ensures { result ≡ self.now.passed }
     {
         self.passed
     }
 
-    /// What there is to say of the other cases; empty, where each case passed.
+    /// The report on the other cases; empty if each case passed.
     pub fn report(&self) -> &str
         ensures { result.now ≡ self.now.report }
     {

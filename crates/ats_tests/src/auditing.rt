@@ -1,4 +1,4 @@
-//! An audit of a forged proof, under a hash function with collisions at hand.
+//! An audit of a forged proof, under a hash function with known collisions.
 
 use crate::calls::{proof_of, query_of};
 use crate::foxes::foxes;
@@ -12,7 +12,7 @@ use ats_tree::{Place, Tree};
 use std::alloc::Global;
 use std::test::Fail;
 
-// What is said of a verdict is not looked into here.
+// This function states nothing of the verdict.
 fn verdict_of<H: Hash32>(
     alloc: Global,
     index: &Index<H>,
@@ -23,7 +23,7 @@ fn verdict_of<H: Hash32>(
     Ok(audit(alloc, index, query, top, bytes)?)
 }
 
-// From where other bytes stand, and which: the impact of `hen` in document 2, and that document as the answer.
+// Places and the bytes put there: the impact of `hen` in document 2, and that document as the answer.
 const FORGED: [(usize, &[u8]); 2] = [(331, &[0x29, 0x02]), (361, &[0, 0, 0, 2])];
 
 fn forged(alloc: Global, proof: &[u8]) -> Result<Vec<u8>, Fail> {
@@ -58,7 +58,7 @@ fn tells_the_leaf(verdict: &Verdict) -> bool {
     }
 }
 
-// Whether the audit tells the forged leaf, and none in the honest proof.
+// Whether the audit finds the forged leaf, and nothing in the honest proof.
 fn is_found<H: Hash32>(alloc: Global) -> Result<bool, Fail> {
     let index = Index::<H>::build_plain(alloc, foxes(alloc)?)?;
     let (query, top) = (query_of(alloc, "red hen")?, Top::new(1)?);

@@ -1,4 +1,4 @@
-//! Indexes that several threads build are those that one thread builds.
+//! Indexes built by several threads equal those built by one.
 
 use ats_base::Bytes;
 use ats_hash::{Hash32, HashKind, Sha};
@@ -8,7 +8,7 @@ use std::alloc::Global;
 use std::test::Fail;
 use std::thread::Threads;
 
-// Texts of a collection, from one to another, each cut to so many bytes.
+// Some consecutive texts of a collection, each cut to a number of bytes.
 fn part(
     alloc: Global,
     all: &Texts,
@@ -25,7 +25,7 @@ fn part(
     Ok(Collection::new(alloc, texts)?)
 }
 
-// What is said of digests is looked into where the hash function is known, which takes minutes: so here it is any.
+// The hash function is any one here: with a known one the prover looks into digests, which takes minutes.
 fn bytes_of<H: HashKind>(index: &Index<H>) -> Result<Bytes, OutOfMemory> {
     index.bytes()
 }
@@ -76,7 +76,7 @@ const PARTS: [(usize, usize, usize); 13] = [
     (1100, 1134, 110),
 ];
 
-// A text of so many distinct words, twice.
+// A text of `words` distinct words, twice.
 fn twice(alloc: Global, words: u32) -> Result<Texts, Fail> {
     let mut text = String::new(alloc);
     for word in 0..words {
@@ -88,7 +88,7 @@ fn twice(alloc: Global, words: u32) -> Result<Texts, Fail> {
     Ok(texts)
 }
 
-// The trees of so many terms are cut, and hashed in parts. Some terms get a further number in the second document.
+// The trees of this many terms are cut, and hashed in parts. Some terms get a further number in the second document.
 #[test]
 fn threads_build_large_documents(rt: HostRuntime) -> Result<(), Fail> {
     let all = twice(rt.alloc(), 40_000)?;

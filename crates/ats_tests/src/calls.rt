@@ -1,4 +1,4 @@
-//! Calls that want memory and that no command makes, each once where memory is there, and proofs at a limit.
+//! Calls that allocate and that no command makes, each once while memory is available, and proofs at a limit.
 
 ghost use Rattle.std.specs.Prelude.{◌≤◌, ◌^◌};
 
@@ -29,7 +29,7 @@ fn lists_terms(alloc: Global) -> Result<bool, Fail> {
     Ok(Lists::of(alloc, &foxes(alloc)?)?.find(b"red") == Some(3))
 }
 
-// Two terms stand between two sentinels.
+// There are two terms between two sentinels.
 fn has_terms_of_a_document(alloc: Global) -> Result<bool, Fail> {
     let collection = foxes(alloc)?;
     Ok(collection.documents() > 1 && DocTerms::of(alloc, &collection, 1)?.len() == 4)
@@ -51,12 +51,12 @@ fn chooses_the_best(alloc: Global) -> Result<bool, Fail> {
     Ok(choose(alloc, &brackets, Top::new(1)?)?.as_slice() == [1].as_slice())
 }
 
-// A link of any kind: what is said of the bytes of this one is not looked into.
+// The link is of any kind here, so that the prover does not look into the bytes of this one.
 fn asked<L: Link>(alloc: Global, link: &mut L, top: Top) -> Result<Bytes, AskFault> {
     ask_once(alloc, link, Algorithm::Tnra, top, "red hen")
 }
 
-// The byte behind the reply is another one's.
+// The byte after the reply is not part of it.
 fn asks_once(alloc: Global) -> Result<bool, Fail> {
     let mut link = MemLink::new(alloc, Bytes::of(alloc, b"\x00\x00\x00\x04\x00fox!")?);
     let reply = asked(alloc, &mut link, Top::new(1)?)?;
@@ -76,7 +76,7 @@ fn memory_is_there(rt: HostRuntime) -> Result<(), Fail> {
     Ok(())
 }
 
-// What is said of a proof is not looked into here.
+// This function states nothing of the proof.
 pub(crate) fn proof_of<H: HashKind>(
     alloc: Global,
     index: &Index<H>,
@@ -100,12 +100,12 @@ fn proof_within<H: HashKind>(
     prove_within(alloc, index, query, top, algorithm, limit)
 }
 
-// A query of any text: the words of a text that is known are looked into.
+// The text is any one here: the prover looks into the words of a known text.
 pub(crate) fn query_of(alloc: Global, text: &str) -> Result<Query, QueryFault> {
     Query::read(alloc, text)
 }
 
-// Whether the proof has so many bytes, and is refused within 364.
+// Whether the proof has this many bytes, and is refused within 364.
 fn fits<H: Hash32>(alloc: Global, algorithm: Algorithm, length: u64) -> Result<bool, Fail> {
     let index = Index::<H>::build_plain(alloc, foxes(alloc)?)?;
     let (query, top) = (query_of(alloc, "red hen")?, Top::new(1)?);

@@ -88,7 +88,7 @@ fn is_refused(
     Ok(fault_of::<Sha>(rt, alloc, &bytes) == Some(LoadFault::BadIndex { at }))
 }
 
-// Where the bytes end, from where others stand, which, and the place that is told.
+// Where the bytes end, from where they are replaced, by which, and the place that the fault has.
 const REFUSED: [(usize, usize, &[u8], u64); 9] = [
     (5, 0, b"", 5),
     (8, 0, b"", 5),

@@ -1,11 +1,11 @@
 //! The tests of the rooms below the commands.
 //!
-//! They show what neither a contract says nor a case of the commands prints. They show values of other
-//! implementations, refusals at limits, a collision that an audit tells, and which types cross threads. They show that
-//! memory is there for the calls that no command makes, and that threads build what one thread builds. What a command
-//! shows stands in the cases of `ats_cases`. A crate with tests of its own is proved twice, once with them, so these
-//! stand apart, over public calls alone. Each is a table of data that one helper without a contract goes through, since
-//! tests are proved too. The room has no code of its own and promises nothing.
+//! They cover what no contract says and no case of the commands prints: values of other implementations, refusals at
+//! limits, a collision that an audit finds, and which types cross threads. They show that the calls that no command
+//! makes succeed while memory is available, and that several threads build what one thread builds. The cases of the
+//! commands are in `ats_cases`. A crate with tests of its own is proved twice, once with them, so these are in a crate
+//! of their own and use only public calls. Each is a table of data that one helper without a contract goes through,
+//! since tests are proved too. The room has no code of its own and promises nothing.
 #![tactic(auto)]
 
 #[cfg(test)]

@@ -106,7 +106,7 @@ fn roots_of_the_first_leaves(rt: HostRuntime) {
     }
 }
 
-// The digests that leaf `at` of the first `n` leaves needs, from left to right, or none where there is no such leaf.
+// The digests that leaf `at` of the first `n` leaves needs, from left to right, or none if there is no such leaf.
 fn path(alloc: Global, at: u32, n: u32) -> Result<Digests, OutOfMemory> {
     let mut out = Digests::new(alloc);
     if at < n && n <= 8 {
