@@ -1,4 +1,4 @@
-"""A server over loopback as a process of its own, and requests over an open connection to it, timed."""
+"""Runs a server over loopback as a process of its own, and times requests over an open connection to it."""
 
 import socket
 import struct
@@ -10,13 +10,13 @@ from typing import NamedTuple
 
 CODES = {"tra": 1, "tnra": 2}  # of the algorithms in a request
 
-RUNS = 5  # of each query, of which the fastest counts
-LOADING = 600  # seconds that a server may take until it listens
-LIMIT = 120  # seconds that any one wait may take
+RUNS = 5  # of each query; the fastest counts
+LOADING = 600  # seconds after which a server must listen
+LIMIT = 120  # the longest wait in seconds
 
 
 class Reply(NamedTuple):
-    """How many bytes came, and the seconds from the request to the last byte and from the first byte to it."""
+    """How many bytes arrived, and the seconds from the request to the last byte and from the first byte to it."""
 
     length: int
     seconds: float
@@ -29,7 +29,7 @@ def request(algorithm: str, rows: int, query: str) -> bytes:
 
 
 def receive(link: socket.socket, room: memoryview) -> int:
-    """Fills the room, and answers how much of it there is."""
+    """Fills the buffer, unless the input ends before, and returns how many bytes arrived."""
     came = 0
     while came < len(room):
         count = link.recv_into(room[came:])
@@ -66,7 +66,7 @@ def free_address() -> tuple[str, int]:
 
 
 def started(program: str, index: str, connections: int, address: tuple[str, int]) -> subprocess.Popen[str]:
-    """A server for so many connections, once it has loaded the index and listens."""
+    """A server for this many connections, after it has loaded the index and listens."""
     command = [program, "serve", index, str(connections), f"{address[0]}:{address[1]}"]
     server = subprocess.Popen(command, stdout=subprocess.PIPE, text=True)
     killer = threading.Timer(LOADING, server.kill)
@@ -76,6 +76,6 @@ def started(program: str, index: str, connections: int, address: tuple[str, int]
     killer.cancel()
     if first != "listening\n":
         sys.exit(f"the server does not listen: {first.strip()}")
-    # What it prints later is read, so that it never waits for that.
+    # Its later output is read, so that it never blocks on that.
     threading.Thread(target=server.stdout.read).start()
     return server

@@ -1,12 +1,12 @@
-"""Times `build` over collections of 1, 4 and 16 MiB, beside the hashing alone, and builds by one thread and by several.
+"""Times `build` over collections of 1, 4 and 16 MiB, compares it with the hashing only, and times builds by one thread
+and by several.
 
 usage: python3 bench/build.py [SHAPE ..]
 
-Prints, for each shape, the seconds, how they grow, and how they stand against the time that the
-SHA-256 blocks of the index's trees take alone; then the most memory that a run held; and for 16 MiB how the call
-that builds stands by several threads against one, one against the blocks, and `root`, which loads the index, against
-`build`. Ends with 0 where all that is wanted is met, and with 1 where something is not. Without SHAPE it goes
-through three.
+Prints, for each shape, the seconds, how they grow, and their ratio to the time that only the SHA-256 blocks of the
+index's trees take; then the most memory that a run held; and for 16 MiB the ratio of several threads to one in the call
+that builds, of one thread to the blocks, and of `root`, which loads the index, to `build`. Ends with 0 if all limits are
+met, and with 1 if one is not. Without SHAPE it runs three.
 """
 
 import json
@@ -26,24 +26,24 @@ AGAINST_BLOCKS = 2.5
 PEAK = 512 << 20  # bytes, for 16 MiB of short texts
 NODES = 2_000_000
 PROCESSORS = 4  # with fewer, threads are not judged
-TIMES = 5  # of each call that builds, and of the blocks beside it
+TIMES = 5  # of each call that builds, and of the blocks with it
 THREADS = 0.35  # the time of several threads over that of one
 ONE_THREAD = {"notes": 1.35, "books": 1.8, "lexicon": 1.35}  # over the time of the blocks
 LOAD = 1.1  # over the time of `build`
 
 
 def blocks_of(length: int) -> int:
-    """The blocks of FIPS 180-4 for so many bytes: one bit, eight bytes of length, and padding follow."""
+    """The blocks of FIPS 180-4 for this many bytes: one bit, eight bytes of length, and padding follow."""
     return (length + 8) // 64 + 1
 
 
 def blocks_of_tree(leaves: list[int]) -> int:
-    """The blocks of a tree whose leaves have these lengths: a tag is hashed in front of each."""
+    """The blocks of a tree whose leaves have these lengths: a tag is hashed before each."""
     return sum(blocks_of(1 + leaf) for leaf in leaves) + (len(leaves) - 1) * blocks_of(1 + 64)
 
 
 def blocks_of_index(path: Path) -> int:
-    """All blocks that an index of the collection needs. Words stand between single spaces here."""
+    """All blocks that an index of the collection needs. Words are separated by single spaces here."""
     texts = json.loads(path.read_text(encoding="utf-8"))
     sentinels, frequency, blocks = [3, 4], Counter(), 0
     for text in texts:
@@ -57,7 +57,7 @@ def blocks_of_index(path: Path) -> int:
 
 
 def seconds_of_a_block(bench: str, runs: int = measure.RUNS, nodes: int = NODES) -> float:
-    """Of the blocks of inner nodes, which are most of an index's: the least of some runs."""
+    """The seconds of a block of an inner node, the kind that an index has most of: the least of some runs."""
     none = measure.best([bench, "nodes", "0"], runs).seconds
     some = measure.best([bench, "nodes", str(nodes)], runs).seconds
     return (some - none) / (nodes * blocks_of(1 + 64))
@@ -89,7 +89,7 @@ def seconds_of_threads(bench: str, path: Path, blocks: int) -> tuple[float, floa
 
 
 def seconds_of_loading(program: str, path: Path) -> tuple[float, float]:
-    """The least seconds of `build`, and of `root`, which loads the index, turn by turn."""
+    """The least seconds of `build`, and of `root`, which loads the index, in alternation."""
     index = path.with_suffix(".index")
     built, loaded = [], []
     for _ in range(TIMES):
@@ -99,7 +99,7 @@ def seconds_of_loading(program: str, path: Path) -> tuple[float, float]:
 
 
 def judge_threads(program: str, bench: str, name: str, path: Path, blocks: int) -> bool:
-    """Several threads against one, and loading against building."""
+    """Compares several threads with one, and loading with building."""
     block, one, several = seconds_of_threads(bench, path, blocks)
     processors = len(os.sched_getaffinity(0))
     print(f"  the call alone: {one:.3f} s by one thread, {several:.3f} s by {processors}; blocks: {blocks * block:.3f} s")

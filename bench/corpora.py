@@ -71,7 +71,7 @@ def texts(shape: Shape, total: int) -> Iterator[str]:
 
 
 def write(path: str, shape: Shape, total: int) -> int:
-    """Writes a collection, and answers how many documents it has."""
+    """Writes a collection, and returns how many documents it has."""
     found = list(texts(shape, total))
     assert len(found) <= MAX_DOCUMENTS and max(map(len, found)) <= MAX_TEXT
     assert sum(map(len, found)) <= MAX_TEXTS

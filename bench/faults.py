@@ -2,12 +2,12 @@
 
 usage: python3 bench/faults.py [--quick] [PROGRAM [CASES]]
 
-PROGRAM is the program and CASES that of `crates/ats_cases`; without them both are proved and built where that is due.
-The program runs over real files and over loopback addresses; with --quick it does so without the runs in pieces of one
-byte. CASES plays the same commands over objects in memory, of which a refused growth is a fault. Prints a line for each
-command and for what fails: how many runs ended with which status. Each run must end with its answer, with status 6, or with
+PROGRAM is the program and CASES that of `crates/ats_cases`; without them both are proved and built if needed.
+The program runs over real files and over loopback addresses; --quick leaves out the runs in pieces of one byte. CASES
+plays the same commands over objects in memory, for which a refused growth is a fault. Prints a line for each command
+and for what fails: how many runs ended with which status. Each run must end with its answer, with status 6, or with
 that of an object that failed (3, 7, 8 or 10); what is printed must be a text of that status; a stored file must be
-as it was, or a prefix, or whole, and any other file as it was. Ends with status 0 where each run did.
+as it was, or a prefix, or whole, and any other file as it was. Ends with status 0 if each run did.
 """
 
 import collections
@@ -25,14 +25,14 @@ import tracing
 from sockets import QUERY, REQUEST, ROW, TEXTS, framed, free_port
 
 ROOT = "297978110ffb580733eaf8938f9328114690e802ab3108a3bfabc34ba2db2490"
-NO_MEMORY = framed(b"\x01\x06")  # the reply where a proof found no memory
-BEFORE = b"before"  # what a file holds before another is stored under its name
+NO_MEMORY = framed(b"\x01\x06")  # the reply if memory ran out for a proof
+BEFORE = b"before"  # the content of a file before another one is stored under its name
 
 SERVED = "connection 1 requests {} {}\n"
 
 
 class House(NamedTuple):
-    """The program, what its files hold, and the reply to REQUEST."""
+    """The program, the content of its files, and the reply to REQUEST."""
 
     program: str
     folder: Path
@@ -66,7 +66,7 @@ COMMANDS = [
 
 
 class Peer:
-    """The other end of one conversation, in a thread of its own, which bears any fault."""
+    """The other end of one conversation, in a thread of its own. It tolerates any fault."""
 
     def __init__(self) -> None:
         self.came, self.is_over = b"", threading.Event()
@@ -104,7 +104,7 @@ class Peer:
 
 
 class Server(Peer):
-    """Takes a request and gives the reply."""
+    """Reads a request and sends the reply."""
 
     def __init__(self, reply: bytes):
         super().__init__()
@@ -128,7 +128,7 @@ class Server(Peer):
 
 
 class Client(Peer):
-    """Sends one request once a server is there, and takes what comes."""
+    """Sends one request as soon as a server listens, and reads the reply."""
 
     def __init__(self) -> None:
         super().__init__()
@@ -167,7 +167,7 @@ def peer_of(house: House, command: Command) -> Peer:
 
 
 def texts(command: Command) -> dict[int, list[str]]:
-    """What may be printed with each status, but for 7."""
+    """What may be printed with each status except 7."""
     if command.name != "serve":
         return {0: [command.answer], 3: ["fault: shelf\n"], 6: ["memory\n"], 8: ["fault: link\n"]}
     head = "listening\n"
@@ -190,7 +190,7 @@ def text_fits(command: Command, status: int, printed: str) -> bool:
 
 
 def files_fit(house: House, command: Command, status: int) -> bool:
-    """The stored file is as before or a prefix, and whole where the answer was printed; any other is as before."""
+    """The stored file is as before or a prefix, and whole if the answer was printed; any other file is as before."""
     for name, whole in house.files.items():
         held = (house.folder / name).read_bytes()
         if name != command.stores:
@@ -205,7 +205,7 @@ def files_fit(house: House, command: Command, status: int) -> bool:
 
 
 def talk_fits(house: House, command: Command, status: int, peer: Peer) -> bool:
-    """What a peer got is a prefix of what is right, or the reply that there is no memory; whole where the answer was printed."""
+    """What a peer got is a prefix of the right bytes, or the reply that memory ran out; whole if the answer was printed."""
     if command.name not in ("ask", "serve"):
         return True
     right = [REQUEST] if command.name == "ask" else [house.reply, NO_MEMORY]
@@ -248,7 +248,7 @@ def head(says: str) -> None:
 
 
 def fail_in_turn(house: House, command: Command, what: str, plans: Iterator[tracing.Plan]) -> bool:
-    """Runs by one plan after another, until nothing is left that can fail."""
+    """Runs one plan after another, until nothing is left that can fail."""
     runs: collections.Counter[str] = collections.Counter()
     for plan in plans:
         ended, end = tried(house, command, plan)
@@ -277,7 +277,7 @@ def over_real_objects(program: str, ways: list[str]) -> bool:
 
 
 class Case(NamedTuple):
-    """A command over objects in memory, with the lines that stand before it and behind what it prints."""
+    """A command over objects in memory, with the lines before it and those after what it prints."""
 
     before: list[str]
     command: Command
@@ -287,13 +287,13 @@ class Case(NamedTuple):
 
 
 def lines_of(text: str) -> list[str]:
-    """How a document of cases says what is printed."""
+    """What is printed, in the words of a document of cases."""
     *lines, rest = text.split("\n")
     return [*lines, *([f": part {rest}"] if rest else [])]
 
 
 def block(house: House, case: Case, moves: int) -> str:
-    """The case as a block of a document, in pieces of so many bytes."""
+    """The case as a block of a document, in pieces of this many bytes."""
     files = [f": bytes {name} {whole.hex()}" for name, whole in house.files.items() if name != case.command.stores]
     files += [f": bytes Q {REQUEST.hex()}", f": bytes R {house.reply.hex()}", ": keep texts X"]
     words = " ".join(f'"{word}"' if " " in word else word for word in case.command.words)
@@ -302,7 +302,7 @@ def block(house: House, case: Case, moves: int) -> str:
     return "```\n" + "\n".join(lines) + "\n```\n\n"
 
 
-# The player plays the vectors too, of which there are none here.
+# The player plays the vectors too, and there are none here.
 NO_VECTORS = [(f"{name}.json", "{}") for name in ("archives", "proofs", "fields")]
 NO_VECTORS += [(f"{name}.json", "[]") for name in ("changed", "made", "words", "numbers", "inputs")]
 NO_VECTOR = "0 vectors passed\n"
@@ -319,7 +319,7 @@ def links(command: Command) -> list[str]:
 
 
 def played(command: Command, ended: tracing.Ended) -> str:
-    """The status of the command, or what is wrong with it; nothing where the growth was the player's own."""
+    """The status of the command, or what is wrong with it; None if the refused growth was the player's own."""
     printed = ended.printed.decode()
     if ended.status == 0 and printed == "1 cases passed\n" + NO_VECTOR:
         return "0"
@@ -377,7 +377,7 @@ def sink_cases(command: Command) -> Iterator[Case]:
 
 
 def link_cases(house: House, command: Command) -> Iterator[Case]:
-    """The link fails at each call in turn. A reader writes first; a server reads first, and at last looks for a further frame."""
+    """The link fails at each call in turn. A reader writes first; a server reads first, and tries a further frame last."""
     asks = command.name == "ask"
     write = REQUEST if asks else house.reply
     reads = len(house.reply if asks else REQUEST)

@@ -1,13 +1,13 @@
-"""Runs the commands at their limits and on hostile files, and tells what each run took.
+"""Runs the commands at their limits and on hostile files, and reports what each run took.
 
 usage: python3 bench/limits.py [PROGRAM]
 
-PROGRAM is the program; without it, it is proved and built where that is due. Makes collections at the limits (65,536
+PROGRAM is the program; without it, it is proved and built if needed. Makes collections at the limits (65,536
 documents, texts of 2^20 bytes, 16 MiB of text), answers queries of up to 32 terms with up to 1,000 rows over them, and
-hands the program files that promise more than they hold, nest deeply or are as long as they may be. Prints for each run
+gives the program files that promise more than they hold, nest deeply or are as long as they may be. Prints for each run
 its status, its first line, its seconds and the most memory that it held, and whether that is as it should be. At the
-limits memory is there: no run ends with status 6. A hostile file is refused in memory in proportion to its length, at most
-what stands beside it. Ends with status 0 where all is as it should be. Needs 4 GiB of memory and 3 GiB of disk.
+limits memory suffices: no run ends with status 6. A hostile file is refused in memory proportional to its length, at
+most the amount in its row. Ends with status 0 if all is as it should be. Needs 4 GiB of memory and 3 GiB of disk.
 """
 
 import json
@@ -37,7 +37,7 @@ NO_ROOT = "00" * 32
 
 
 class Ended(NamedTuple):
-    """How a run ended: None where it was ended at the limit."""
+    """How a run ended: None if it was ended at the limit."""
 
     status: Optional[int]
     lines: list[str]
@@ -46,7 +46,7 @@ class Ended(NamedTuple):
 
 
 class Table:
-    """The runs so far, each in a line."""
+    """The runs so far, one a line."""
 
     def __init__(self, program: str, folder: Path):
         self.program, self.folder, self.wrong = program, folder, 0
@@ -72,7 +72,7 @@ class Table:
             print(f"    WRONG: {wrong}", flush=True)
 
     def wanted(self, says: str, words: list[str], status: int = 0, first: Optional[str] = None, rows: Optional[int] = None, peak: Optional[int] = None) -> Ended:
-        """A run that is to end so: with the status, the first line, so many rows, and at most so much memory held."""
+        """A run that must end with this status, first line and number of rows, and hold at most this much memory."""
         ended = self.end(self.start(*words))
         wrong = []
         if ended.status != status:
@@ -98,7 +98,7 @@ def scores(lines: list[str]) -> list[tuple[str, ...]]:
 
 
 def ask(table: Table, says: str, index: str, root: str, algorithm: str, query: str, rows: list[str]) -> None:
-    """Asks a server of its own; its seconds are those of the reader."""
+    """Puts a question to a server of its own; the seconds are those of the reader."""
     address = f"127.0.0.1:{free_port('127.0.0.1')}"
     server = table.start("serve", index, "1", address)
     assert server.stdout is not None
@@ -159,7 +159,7 @@ def longest_texts(table: Table) -> None:
 
 
 def repeated(front: bytes, unit: bytes, back: bytes, length: int) -> Iterator[bytes]:
-    """A file of nearly that length: the unit as often as it fits."""
+    """A file of almost that length: the unit as often as it fits."""
     times = (length - len(front) - len(back)) // len(unit)
     yield front
     part = unit * (MIB // len(unit))
@@ -170,7 +170,7 @@ def repeated(front: bytes, unit: bytes, back: bytes, length: int) -> Iterator[by
 
 
 class Hostile(NamedTuple):
-    """A file, what is said of it, and how many bytes may be held for each of its own."""
+    """A file, what the program says of it, and how many bytes may be held for each of its own."""
 
     says: str
     pieces: Union[bytes, Iterator[bytes]]
@@ -231,7 +231,7 @@ SLOTS = b"\x01\x00\x00" * 32
 
 
 def greatest() -> Iterator[Hostile]:
-    """Proofs in which one count after another is the greatest, and nothing follows it."""
+    """Proofs in which one count after another is the largest, and nothing follows it."""
     told = front(32)
     yield Hostile("a proof of 65,535 terms", front(65_535), f"refused: shape count {len(told) - 2}")
     yield Hostile("a proof of 65,535 leaves", told + b"\xff\xff", f"refused: shape count {len(told)}")
@@ -278,7 +278,7 @@ def hostile_files(table: Table) -> None:
 
 
 def hostile_peers(table: Table) -> None:
-    """Peers that promise a reply of the greatest length, and send nothing, or as many bytes of nothing."""
+    """Peers that promise a reply of the largest length, and send nothing, or as many zero bytes."""
     for says, reply, wanted, status, peak in (
         ("nothing of the 2^26 + 1 bytes that it promises", number(MAX_PROOF + 1), "peer: short 4 67108869", 9, 16),
         ("a reply of 2^26 + 1 bytes", number(MAX_PROOF + 1) + b"\0" * (MAX_PROOF + 1), "refused: shape magic 0", 1, 16 + 4 * 64),

@@ -1,12 +1,12 @@
-"""Runs the program into faults of a real machine, and tells what each leaves.
+"""Exposes the program to faults of a real machine, and reports what each leaves.
 
 usage: python3 bench/machine_faults.py [PROGRAM]
 
-PROGRAM is the program; without it, it is proved and built where that is due. Tries a full disk, standard outputs that
-take nothing, what is no plain file in place of one, files that may not be read or written, files that change while they are
+PROGRAM is the program; without it, it is proved and built if needed. Tries a full disk, standard outputs that take
+nothing, other things in place of a plain file, files that may not be read or written, files that change while they are
 read, and ends by `kill -9` while a command stores. Prints for each the status, what was printed and what is left, and
 whether that is as it should be: a stored file that is not whole is a prefix, and no command takes it for whole. Ends with
-status 0 where all is. As root it mounts a small disk in memory and runs as nobody where permissions count; else it says what
+status 0 if all is. As root it mounts a small disk in memory and runs as nobody if permissions count; else it reports what
 it cannot try.
 """
 
@@ -33,7 +33,7 @@ ROOT = "297978110ffb580733eaf8938f9328114690e802ab3108a3bfabc34ba2db2490"
 WAIT = 5  # seconds after which a command that waits is ended
 LIMIT = 120
 KILLS = 60
-STEP = 23  # calls, in a file that is read in pieces of one byte
+STEP = 23  # calls, with a file that is read in pieces of one byte
 LARGE = 2 * corpora.MIB  # bytes of text of the larger collection
 NOBODY = 65534
 DISK = 64 << 10  # bytes of the small disk
@@ -52,7 +52,7 @@ class House(NamedTuple):
 
 
 class Done(NamedTuple):
-    """How a run ended: None where it still waited and was ended."""
+    """How a run ended: None if it still waited and was ended."""
 
     status: Optional[int]
     printed: str
@@ -70,7 +70,7 @@ def run(house: House, *words: str, patience: float = LIMIT, **how: object) -> Do
 
 
 def build(program: str, folder: Path) -> House:
-    """The programs' own work, on files that nothing goes wrong with."""
+    """The programs' own work, on files with which nothing goes wrong."""
     folder.chmod(0o755)
     own = shutil.copy(program, folder / "ats")
     os.chmod(own, 0o755)
@@ -88,7 +88,7 @@ def build(program: str, folder: Path) -> House:
 
 
 def left(path: Path, whole: bytes, before: Optional[bytes] = None) -> str:
-    """What a file is that was to become the whole one."""
+    """How much of the whole file a stored file has."""
     if not path.exists():
         return "no file"
     held = path.read_bytes()
@@ -102,7 +102,7 @@ def left(path: Path, whole: bytes, before: Optional[bytes] = None) -> str:
 
 
 def refused_prefix(house: House, path: Path, what: str, is_index: bool) -> None:
-    """A prefix is refused by whoever reads it."""
+    """Every reader refuses a prefix."""
     if is_index:
         done = run(house, "root", str(path))
         expect(f"root of {what}", (done.status, done.printed.startswith("input: index at ")), (4, True))
@@ -122,7 +122,7 @@ COMMANDS = [
 
 
 def every_command(house: House, wanted: Done, **how: object) -> str:
-    """Each command ends so, and those that store have stored the whole file."""
+    """Each command ends like this, and those that store have stored the whole file."""
     for words, _ in COMMANDS:
         new = house.folder / "N"
         new.unlink(missing_ok=True)
@@ -163,7 +163,7 @@ def server_output_closed(house: House) -> str:
 
 
 def reader_output_closed(house: House) -> str:
-    """The link takes the number of the closed output, and what is printed must not go over it."""
+    """The link gets the number of the closed output, and what is printed must not go over it."""
     with faults.Server(framed(b"\x00" + house.proof)) as peer:
         words = ["ask", ROOT, "tnra", "1", QUERY, f"127.0.0.1:{peer.port}"]
         done = run(house, *words, stdout=None, preexec_fn=lambda: os.close(1))
@@ -173,7 +173,7 @@ def reader_output_closed(house: House) -> str:
 
 
 def stores_into(house: House, path: Path, whole: bytes, words: list[str], **how: object) -> str:
-    """A store that does not end: what is told, what is left, and that it is refused."""
+    """A store that does not end: what is reported, what is left, and that it is refused."""
     before = path.read_bytes() if path.exists() else None
     done = run(house, *words, **how)
     what = left(path, whole, before)
@@ -214,7 +214,7 @@ def limited(length: int, handler: signal.Handlers) -> Callable[[], None]:
 
 
 def long_file(house: House) -> str:
-    """A file that may not grow further, where the system's signal for that is ignored, and where it is not."""
+    """A file that may not grow further, with the system's signal for that ignored, and with the signal in effect."""
     path, said = house.folder / "N", []
     for handler, status in ((signal.SIG_IGN, "3, 'fault: shelf\\n'"), (signal.SIG_DFL, f"{-signal.SIGXFSZ}, ''")):
         for words, whole, length in (
@@ -271,7 +271,7 @@ def permissions(house: House) -> str:
 
 
 def pipes(house: House) -> str:
-    """A named pipe to which nobody comes, one that somebody reads or writes, and standard input."""
+    """A named pipe that nobody opens, one that somebody reads or writes, and standard input."""
     pipe = house.folder / "pipe"
     os.mkfifo(pipe)
     for words in (["rank", "pipe", "1", QUERY], ["build", "X", "pipe"]):
@@ -309,7 +309,7 @@ def devices(house: House) -> str:
 
 
 def changes(house: House) -> str:
-    """The file that is read is cut, emptied, taken away or made longer before the program's calls in turn: before each, and in
+    """The file that is read is cut, emptied, removed or extended before the program's calls in turn: before each, and in
     pieces of one byte before some."""
     path, counts = house.folder / "C", {}
     kinds: dict[str, Callable[[bytes], None]] = {

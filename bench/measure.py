@@ -14,7 +14,7 @@ HOME = Path(__file__).resolve().parent.parent
 RUNS = 5
 LIMIT = 120  # seconds of one run
 
-# How the launcher ends where there is no program to run.
+# The launcher's status if there is no program to run.
 NOT_BUILT = (126, 127)
 
 
@@ -31,7 +31,7 @@ class TooSlow(Exception):
 
 
 def program() -> str:
-    """The program, which the launcher keeps in out/ and builds first where that is due."""
+    """The program, which the launcher keeps in out/ and builds first if needed."""
     status = subprocess.run([HOME / "ats"], stdout=subprocess.DEVNULL, check=False).returncode
     if status in NOT_BUILT:
         sys.exit("nothing is measured, since the program could not be built")
@@ -39,7 +39,7 @@ def program() -> str:
 
 
 def bench_program() -> str:
-    """The program that does one kind of work alone, proved and built where that is due, and kept in out/ too."""
+    """The program that does only one kind of work, proved and built if needed, and kept in out/ too."""
     room = HOME / "crates" / "ats_bench"
     built = subprocess.run(["rt", "run", "--", "nodes", "0"], cwd=room, capture_output=True, text=True, check=False)
     if built.returncode != 0:
@@ -49,7 +49,7 @@ def bench_program() -> str:
 
 
 def cases_program() -> str:
-    """The program that plays the cases, proved and built where that is due."""
+    """The program that plays the cases, proved and built if needed."""
     room = HOME / "crates" / "ats_cases"
     built = subprocess.run(["rt", "run"], cwd=room, capture_output=True, text=True, check=False)
     if not (room / "out" / "ats_cases").exists():
@@ -84,7 +84,7 @@ def best(command: list[str], runs: int = RUNS) -> Run:
 
 
 def judge(name: str, value: float, wanted: float) -> bool:
-    """Prints whether a value is at most what is wanted."""
+    """Prints whether a value is within its limit."""
     met = value <= wanted
     print(f"{name}: {value:.2f}, wanted at most {wanted:.2f}: {'met' if met else 'NOT MET'}")
     return met

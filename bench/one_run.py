@@ -1,10 +1,10 @@
-"""Runs one command as a child of a small process, and tells what it took.
+"""Runs one command as a child of a small process, and reports what it took.
 
 usage: python3 bench/one_run.py SECONDS BYTES COMMAND..
 
 The command's peak of memory counts what its parent held when it was started, so a measure that holds much itself starts it
-by this. Ends the command after so many seconds, and lets it have so many bytes of address space. Prints its status (-9
-where it was ended), its seconds and its peak of memory in bytes on standard error, and leaves it standard output.
+by this. Ends the command after SECONDS, and limits it to BYTES of address space. Prints its status (-9 if it was ended),
+its seconds and its peak of memory in bytes on standard error, and leaves it standard output.
 """
 
 import os

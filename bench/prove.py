@@ -1,9 +1,9 @@
-"""Times the walks of both algorithms over collections of 4 and 16 MiB, beside one pass over what they show.
+"""Times the walks of both algorithms over collections of 4 and 16 MiB, and one pass over what they show.
 
-Prints, for each algorithm and number of rows, the longest walk and the greatest ratio of a walk to going
+Prints, for each algorithm and number of rows, the longest walk and the largest ratio of a walk to going
 through the same entries once while summing into an ordered map; how the longest walk grows from 4 to 16 MiB;
-and what a proof takes beside loading the index, from a request to a server until its last byte has come. Ends
-with status 0 where all is as wanted.
+and what a proof takes compared with loading the index, from a request to a server until its last byte has arrived. Ends
+with status 0 if all limits are met.
 """
 
 import socket
@@ -22,13 +22,13 @@ ALGORITHMS = ("tra", "tnra")
 FEW_ROWS = (1, 10, 100)
 MANY_ROWS = 1000
 
-TIMES = 5  # runs, of which the fastest walk counts
+TIMES = 5  # runs; the fastest walk counts
 RATIO = 4.0  # of a walk to one pass, at a number of rows of at most 100
 SECONDS = 0.5
 MANY_SECONDS = 2.0
 GROWTH = 5.0
 
-# Of a proof beside loading, for two words by their place in the order of frequency: by `tra` it has 700 KB.
+# Of a proof compared with loading, for two words by their place in the order of frequency: a TRA proof has 700 KB.
 PROVED = (7, 8)
 PROVED_ROWS = 10
 PROVED_MS = {"tra": 20.0, "tnra": 5.0}
@@ -59,7 +59,7 @@ def queries() -> list[str]:
 
 
 def walks(bench: str, algorithm: str, rows: int, texts: str, asked: str) -> list[Walk]:
-    """The walk of each query, the fastest of some."""
+    """The walk of each query, the fastest of some runs."""
     found: list[Walk] = []
     for _ in range(TIMES):
         lines = measure.run([bench, "walk", algorithm, str(rows), texts, asked]).printed.splitlines()[:-1]

@@ -2,8 +2,8 @@
 
 usage: python3 bench/rank.py [SHAPE]
 
-Prints the seconds, and how they grow and stand against Python's. Ends with 0 where both wanted
-ratios are met, and with 1 where one is not. Without SHAPE the texts have 200 words each.
+Prints the seconds, how they grow, and their ratio to Python's. Ends with 0 if both ratios are within their limits, and
+with 1 if one is not. Without SHAPE the texts have 200 words each.
 """
 
 import sys

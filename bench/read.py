@@ -1,10 +1,10 @@
-"""Times the reading of proofs with 10^5 and 10^6 entries, beside hashing the same bytes and feeding them in pieces.
+"""Times the reading of proofs with 10^5 and 10^6 entries, hashing the same bytes, and feeding them in pieces.
 
 usage: python3 bench/read.py
 
-Prints what one reading takes, how that grows from 10^5 to 10^6 entries, how fast bytes are read
-beside SHA-256 over the same bytes, and what it takes to feed them in pieces of 64 KiB and byte by byte.
-Ends with 0 where all wanted ratios are met, and else with 1.
+Prints what one reading takes, how that grows from 10^5 to 10^6 entries, how fast bytes are read compared with SHA-256
+over the same bytes, and what it takes to feed them in pieces of 64 KiB and byte by byte.
+Ends with 0 if all ratios are within their limits, and else with 1.
 """
 
 import sys
@@ -25,14 +25,14 @@ def size(entries: int) -> int:
 
 
 def seconds(bench: str, job: list[str], times: int) -> float:
-    """Of one time: the making of the proof is in both runs, and drops out."""
+    """The seconds of one time. Making the proof is in both runs, and cancels out."""
     some = measure.best([bench, *job, str(times)]).seconds
     none = measure.best([bench, *job, "0"]).seconds
     return (some - none) / times
 
 
 def pieces_are_met(bench: str, read: float) -> bool:
-    """Whether feeding the longer proof in pieces takes no longer than wanted, each of them judged."""
+    """Whether feeding the longer proof in pieces takes no longer than wanted, for each size of piece."""
     met = []
     for piece, wanted in WANTED_PIECES:
         fed = seconds(bench, ["feed", "1000000", str(piece)], 20)

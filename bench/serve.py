@@ -1,8 +1,8 @@
 """Times a server over loopback: readers, a thousand connections one after another, and a long reply.
 
-The server loads the index of 16 MiB of notes once. Prints what a reader takes beside the reply alone and the
-reply beside the walk in it, the memory that the server holds before and after a thousand connections, and how
-fast a long reply comes beside the same bytes sent by Python. Ends with status 0 where all is as wanted.
+The server loads the index of 16 MiB of notes once. Prints what a reader takes compared with the reply only, and the
+reply compared with the walk in it, the memory that the server holds before and after a thousand connections, and how
+fast a long reply arrives compared with the same bytes sent by Python. Ends with status 0 if all limits are met.
 """
 
 import socket
@@ -25,8 +25,8 @@ ALGORITHM = "tnra"
 ROWS = 10
 CONNECTIONS = 1000
 
-CLOCK = 1e-6  # seconds: what the clock of a walk tells apart
-MEMORY = 1.05  # after the connections over before
+CLOCK = 1e-6  # seconds: the resolution of a walk's clock
+MEMORY = 1.05  # memory after the connections, as a ratio to that before
 SENDING = 2.0  # over the time of the same bytes by Python
 
 
@@ -35,7 +35,7 @@ def asked(query: str) -> bytes:
 
 
 def sent_by_python(length: int) -> float:
-    """Seconds in which so many bytes come that Python sends at once, from the first one on."""
+    """The seconds in which this many bytes arrive, sent by Python at once, from the first byte on."""
     with socket.socket() as door:
         door.bind(("127.0.0.1", 0))
         door.listen()
@@ -63,7 +63,7 @@ def median_ms(seconds: list[float]) -> str:
 
 
 def time_readers(ask: list[str], address: tuple[str, int], queries: list[str], walks: list[prove.Walk]) -> str:
-    """Prints medians over the queries, of the fastest run of each. Answers the query with the fastest reply."""
+    """Prints medians over the queries, of the fastest run of each. Returns the query with the fastest reply."""
     with socket.create_connection(address, timeout=LIMIT) as link:
         replies = [asking.fastest(link, asked(query)).seconds for query in queries]
     at = f"{address[0]}:{address[1]}"

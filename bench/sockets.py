@@ -2,8 +2,8 @@
 
 usage: python3 bench/sockets.py [--silence]
 
-Prints each try and whether it passed, and ends with status 0 where none failed. With --silence peers that fall
-silent are tried too: for each of these the program waits 30 seconds, as long as it waits for any peer.
+Prints each try and whether it passed, and ends with status 0 if none failed. With --silence peers that fall silent are
+tried too: for each of these the program waits 30 seconds, as long as it waits for any peer.
 """
 
 import re
@@ -23,12 +23,12 @@ TEXTS = '["red fox","red red hen","blue hen"]'
 QUERY = "red hen"
 REQUEST = bytes.fromhex("0000000d0102000100077265642068656e")
 ROW = "1 1 13014 13014\n"
-LIMIT = 120  # seconds that any one wait may take
+LIMIT = 120  # the longest wait in seconds
 SILENCE = 30  # seconds that the program waits for a silent peer
 
 
 class Differs(Exception):
-    """What came is not what was wanted."""
+    """What arrived is not what was wanted."""
 
 
 class Skipped(Exception):
@@ -50,7 +50,7 @@ def expect(what: str, came: object, wanted: object) -> None:
 
 
 def build(folder: Path) -> House:
-    """An index of three short texts; the reply is made of the proof that `prove` stores."""
+    """An index of three short texts; the reply is made from the proof that `prove` stores."""
     program, texts, index, proof = measure.program(), folder / "texts.json", folder / "index", folder / "proof"
     texts.write_text(TEXTS, encoding="utf-8")
     root = measure.run([program, "build", str(texts), str(index)]).printed.strip()
@@ -63,7 +63,7 @@ def framed(body: bytes) -> bytes:
 
 
 def free_port(host: str) -> int:
-    """A port that nobody listens at: one that the system chose just before."""
+    """A port where nobody listens: one that the system chose just before."""
     family = socket.AF_INET6 if ":" in host else socket.AF_INET
     with socket.socket(family) as one:
         one.bind((host, 0))
@@ -95,13 +95,13 @@ class Server:
         return socket.create_connection((self.host, self.port), timeout=LIMIT)
 
     def end(self) -> tuple[list[str], int]:
-        """The lines behind the first, and the status."""
+        """The lines after the first, and the status."""
         assert self.process.stdout is not None
         return self.process.stdout.read().splitlines(), self.process.wait(LIMIT)
 
 
 def read_all(client: socket.socket) -> bytes:
-    """What comes until the end."""
+    """All bytes until the end."""
     pieces = []
     while piece := client.recv(1 << 16):
         pieces.append(piece)
@@ -119,7 +119,7 @@ def asked(server: Server, pieces: list[bytes]) -> bytes:
 
 
 def reset(client: socket.socket) -> None:
-    """Ends the connection at once by a reset, and not by an end of input."""
+    """Ends the connection at once by a reset, without an end of input."""
     client.setsockopt(socket.SOL_SOCKET, socket.SO_LINGER, struct.pack("ii", 1, 0))
     client.close()
 
@@ -134,7 +134,7 @@ def ask(house: House, address: str) -> tuple[str, int]:
 
 
 def ask_peer(house: House, answer: Callable[[socket.socket], None]) -> tuple[str, int]:
-    """Asks a peer that reads the request and then does this."""
+    """Asks a peer that reads the request and then does what it is given to do."""
     with socket.socket() as door:
         door.bind(("127.0.0.1", 0))
         door.listen()
@@ -154,7 +154,7 @@ def ask_peer(house: House, answer: Callable[[socket.socket], None]) -> tuple[str
 
 
 def serves(house: House, pieces: list[bytes], replies: bytes, line: str) -> None:
-    """One client writes the pieces, and gets the replies; the server prints this of it and ends with status 0."""
+    """One client writes the pieces, and gets the replies; the server prints this line for it and ends with status 0."""
     with Server(house, 1) as server:
         expect("first line", server.first, "listening\n")
         expect("replies", asked(server, pieces), replies)
@@ -203,7 +203,7 @@ def gone_before_reply(house: House) -> None:
             client.sendall(REQUEST)
         expect("the next reply", asked(server, [REQUEST]), house.reply)
         lines, status = server.end()
-        # Whether the reply or its refusal is seen first is a matter of time.
+        # Whether the reply or its refusal is seen first depends on timing.
         expect("the next line", lines[1], "connection 2 requests 1 end")
         expect("status", status, 10 if lines[0].endswith("fault") else 0)
 
@@ -292,7 +292,7 @@ def silent_client(house: House) -> None:
 
 
 def client_that_never_reads(house: House) -> None:
-    # Replies of many kilobytes fill what the system keeps for the client.
+    # Replies of many kilobytes fill the system's buffer for the client.
     index = house.index + ".archive"
     measure.run([house.program, "build", str(measure.HOME / "examples" / "archive.json"), index])
     words = b"the of and to in a is for on with was by that as at from it be not"

@@ -1,9 +1,9 @@
-"""Times a sweep of 1,000 proofs on four processors, beside the same sweep on one.
+"""Times a sweep of 1,000 proofs on four processors, and the same sweep on one.
 
 usage: python3 bench/sweep.py
 
-Prints for one processor and for four what loading the index takes and what a sweep takes beside it, by the clock,
-and the one sweep over the other. Ends with status 0 where that ratio is as wanted, and else with 1.
+Prints for one processor and for four, by the clock, what loading the index takes and what a sweep takes besides, and the
+ratio of the two sweeps. Ends with status 0 if that ratio is within its limit, and else with 1.
 """
 
 import os
@@ -19,13 +19,13 @@ MIB = 4
 LINES = 1000
 ROWS = 10
 PROCESSORS = 4
-TERMS = (7, 8)  # of the query, by their place in the order of frequency: 1,000 of its proofs are within a sweep's limit
+TERMS = (7, 8)  # of the query, by their place in the order of frequency; 1,000 of its proofs are within a sweep's limit
 
-WANTED = 0.35  # of a sweep on four processors to one on one, beside loading
+WANTED = 0.35  # of a sweep on four processors to one on one, without loading
 
 
 def sweeping(program: str, places: list[int], index: Path, listed: Path) -> float:
-    """Seconds of a sweep on these processors, beside those of loading the index."""
+    """Prints what loading the index and a sweep take on these processors, and returns the seconds of the sweep."""
     bound = ["taskset", "-c", ",".join(map(str, places)), program]
     loads = measure.best([*bound, "root", str(index)]).seconds
     sweeps = measure.best([*bound, "sweep", str(index), str(listed)]).seconds

@@ -3,10 +3,10 @@
 usage: python3 bench/too_long.py
 
 Each document has one of the words of the query and many others, between which the absent words of the query
-lie far apart. No document can be told to be among the best before nearly all lists are shown to their ends,
-so nearly all documents are met, and each shows two leaves and two digests for each absent word. By `tra` that
-comes to more than 2^26 bytes. Prints the length that the program tells, and what that took. Ends with status
-0 where the proof is refused for its length and no file is left, and else with 1.
+lie far apart. No document is known to be among the best before nearly all lists are shown to their ends, so nearly all
+documents are met, and each shows two leaves and two digests for each absent word. A TRA proof then has more than 2^26
+bytes. Prints the length that the program reports, and what that took. Ends with status 0 if the proof is refused for its
+length and no file is left, and else with 1.
 """
 
 import json
@@ -30,7 +30,7 @@ def query() -> str:
 
 
 def text(document: int) -> str:
-    """All words that are not the query's, but one of the query's words in place of its upper neighbour."""
+    """All words that are not the query's, with one of the query's words in place of its upper neighbour."""
     own = LETTERS[document % len(LETTERS)]
     words = [letter + end for letter in LETTERS for end in "bdef"]
     return " ".join(own + "c" if word == own + "d" else word for word in words)

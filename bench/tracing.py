@@ -1,9 +1,9 @@
 """Runs a program and lets one of its growths or of its calls to the system fail, from outside of it.
 
-It traces the program by ptrace, so it wants Linux on x86-64, and a program that kept its symbols, as `rt run` leaves it.
-A growth is a call of the program's allocator; a refused one answers that there is no memory. A call that fails answers an
-error and does nothing. Counting begins where the program does, behind what the system's loader has done. Threads are followed,
-too: their growths and calls are counted in the order in which they come, which may differ from run to run.
+It traces the program by ptrace, so it needs Linux on x86-64, and a program that kept its symbols, as `rt run` leaves it.
+A growth is a call of the program's allocator; a refused one returns that there is no memory. A call that fails returns an
+error and does nothing. Counting begins when the program does, after the work of the system's loader. Threads are followed,
+too: their growths and calls are counted in the order in which they occur, which may differ from run to run.
 """
 
 import contextlib
@@ -20,7 +20,7 @@ from typing import Callable, NamedTuple, Optional
 
 LIMIT = 120  # seconds of one run
 
-# The functions by which a program of the kit takes memory from the system's library.
+# The functions by which a program of the kit allocates from the system's library.
 ALLOCATORS = ("rattle_alloc", "rattle_realloc")
 
 # System calls by their numbers on x86-64.
@@ -34,7 +34,7 @@ CALLS = {**READS, **WRITES, **OTHERS}
 EIO = 5
 
 TRACEME, PEEK, POKE, CONT, GETREGS, SETREGS, SYSCALL, SETOPTIONS = 0, 1, 4, 7, 12, 13, 24, 0x4200
-# System calls are told apart from other stops; new threads are traced; the program ends where the tracer does.
+# System calls are distinguished from other stops; new threads are traced; the program ends when the tracer does.
 OPTIONS = 1 | 8 | 0x100000
 SYSTEM_STOP = signal.SIGTRAP | 0x80
 ANY_OF_MINE = 0x40000000 | 0x20000000  # to wait for: all threads that this thread traces
@@ -51,10 +51,10 @@ class Registers(ctypes.Structure):
 
 
 class Plan(NamedTuple):
-    """What is to fail. Numbers count from 1, and 0 lets nothing fail."""
+    """What should fail. Numbers count from 1, and 0 lets nothing fail."""
 
     growth: int = 0
-    onward: bool = False  # so do all growths behind that one
+    onward: bool = False  # so do all growths after that one
     call: int = 0
     pieces: bool = False  # each read and write moves one byte at most
     kill: bool = False  # the program is killed before that call, which does not fail
@@ -62,14 +62,14 @@ class Plan(NamedTuple):
 
 
 class Ended(NamedTuple):
-    """How a run ended: its status, or the number of a signal below 0; None where it was ended at the limit."""
+    """How a run ended: its status, or the number of a signal below 0; None if it was ended at the limit."""
 
     status: Optional[int]
     printed: bytes
     complained: bytes  # on standard error
     growths: int
     calls: int
-    failed: str  # the name of what was made to fail, or nothing
+    failed: str  # the name of what was made to fail, or empty
 
 
 class Untraceable(Exception):
@@ -90,11 +90,11 @@ def trace(request: int, pid: int, address: int = 0, data: int = 0) -> int:
 
 
 class Image(NamedTuple):
-    """Where a program begins and where its allocators are, from the start of its file in memory."""
+    """Where a program begins and where its allocators are, counted from the start of its file in memory."""
 
     entry: int
     allocators: dict[int, str]
-    moves: bool  # it is loaded anywhere
+    moves: bool  # it may be loaded at any address
 
     @staticmethod
     def of(program: str) -> "Image":
@@ -122,17 +122,17 @@ class Thread:
 
     def __init__(self) -> None:
         self.is_inside = False  # of a system call
-        self.answer: Optional[int] = None  # what that call is to answer
-        self.length: Optional[int] = None  # what stood in the register of its third word
+        self.answer: Optional[int] = None  # what that call should return
+        self.length: Optional[int] = None  # the former content of the register of its third word
 
 
 class Tracer:
-    """One run. It is made and followed by one thread, as the system wants it."""
+    """One run. One thread starts and follows it, as the system requires."""
 
     def __init__(self, command: list[str], plan: Plan, folder: Optional[str], image: Image):
         self.plan, self.image = plan, image
         self.growths, self.calls, self.failed = 0, 0, ""
-        self.allocators: set[int] = set()  # where they are
+        self.allocators: set[int] = set()  # their addresses
         self.printed, self.complained = tempfile.TemporaryFile(), tempfile.TemporaryFile()
         self.process = subprocess.Popen(
             command,
@@ -185,7 +185,7 @@ class Tracer:
         trace(POKE, self.now, address, word)
 
     def stop_at(self, address: int) -> int:
-        """Lets the program stop there, and answers what stood there."""
+        """Makes the program stop there, and returns what was there."""
         word = self.peek(address)
         self.poke(address, word & ~0xFF | BREAKPOINT)
         return word
@@ -212,7 +212,7 @@ class Tracer:
                 raise Untraceable(f"{program} has allocators that begin otherwise")
 
     def run(self) -> int:
-        """Follows the program to its end, and answers the status that the system gives."""
+        """Follows the program to its end, and returns the status that the system gives."""
         looks = self.plan.growth == 0 or self.plan.pieces
         resumed = 0
         while True:
@@ -227,7 +227,7 @@ class Tracer:
             resumed = self.stopped(status)
 
     def stopped(self, status: int) -> int:
-        """Does what is due at a stop, and answers the signal with which the thread goes on."""
+        """Does what a stop requires, and returns the signal with which the thread goes on."""
         stop = os.WSTOPSIG(status)
         if self.now not in self.threads:  # it begins
             self.threads[self.now] = Thread()

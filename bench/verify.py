@@ -1,11 +1,11 @@
-"""Times the check of proofs by both algorithms, beside hashing strings of the same sizes, and their audit.
+"""Times the check of proofs by both algorithms, hashing strings of the same sizes, and their audit.
 
 usage: python3 bench/verify.py
 
 Prints, for queries of few and of many matches over 16 MiB of text, the bytes of the proof by each algorithm
-and number of rows; for ten rows also what one check takes, that over the time of the digests that it makes,
-and the time of an audit over that of a check, beside loading the index. Ends with status 0 where the first
-ratio is as wanted for each long proof by `tra`, and the second for each proof, and else with 1.
+and number of rows; for ten rows also what one check takes, the ratio of that to the time of the digests that it makes,
+and the ratio of an audit to a check, without loading the index. Ends with status 0 if the first ratio is within its limit
+for each long TRA proof, and the second for each proof, and else with 1.
 """
 
 import sys
@@ -22,11 +22,11 @@ ALGORITHMS = ("tnra", "tra")
 ROWS = (1, 10, 100, 1000)
 TIMED_ROWS = 10
 
-WANTED = 1.5  # of a check to its digests, for proofs by `tra` that are long
+WANTED = 1.5  # ratio of a check to its digests, for TRA proofs that are long
 LONG = 300_000  # bytes
 WORK = 3_000_000  # digests that are made in one run
-AUDIT_WANTED = 3.0  # of an audit to a check of the same proof
-AUDITS = 20  # in one run, each beside a check, of which the fastest counts
+AUDIT_WANTED = 3.0  # ratio of an audit to a check of the same proof
+AUDITS = 20  # in one run, each with a check; the fastest counts
 
 # Words by their place in the order of frequency.
 QUERIES = {
@@ -49,20 +49,20 @@ class Fields:
         return int.from_bytes(self.proof[self.at - size : self.at], "big")
 
     def tree(self, leaves: list[int], count: int) -> list[int]:
-        """Passes the digests, whose number has `count` bytes. Answers the sizes of the leaves and inner nodes."""
+        """Passes the digests, whose number has `count` bytes. Returns the sizes of the leaves and inner nodes."""
         digests = self.number(count)
         self.at += 32 * digests
         return leaves + [64] * (len(leaves) + digests - 1)
 
     def leaf(self, behind: int) -> int:
-        """Passes a leaf of a term, with its position. Answers its size."""
+        """Passes a leaf of a term, with its position. Returns its size."""
         self.at += 4
         term = self.number(1)
         self.at += term + behind
         return 1 + term + behind
 
     def slots(self, terms: int) -> int:
-        """Passes slots, and answers how many terms are present."""
+        """Passes slots, and returns how many terms are present."""
         kinds = [self.number(3) >> 16 for _ in range(terms)]
         return sum(kinds)
 
@@ -94,7 +94,7 @@ def strings(proof: bytes) -> list[int]:
 
 
 class Proved(NamedTuple):
-    """A proof in its file, and the query and the number of rows that it answers."""
+    """A proof in its file, and the query and the number of rows that it is for."""
 
     path: Path
     query: str
@@ -111,14 +111,14 @@ def prove(program: str, index: Path, algorithm: str, rows: int, query: str) -> P
 
 
 def seconds(bench: str, words: list[str], times: int) -> float:
-    """Of one time: what is done before the first is in both runs, and drops out."""
+    """The seconds of one time. What is done before the first is in both runs, and cancels out."""
     some = measure.best([bench, *words, str(times)]).seconds
     none = measure.best([bench, *words, "0"]).seconds
     return (some - none) / times
 
 
 def ratio(bench: str, proved: Proved) -> float:
-    """Prints what one check takes. Answers that over what its digests take."""
+    """Prints what one check takes. Returns the ratio of that to what its digests take."""
     sizes = strings(proved.path.read_bytes())
     listed = proved.path.with_name("sizes")
     listed.write_bytes(bytes(sizes))
@@ -130,7 +130,7 @@ def ratio(bench: str, proved: Proved) -> float:
 
 
 def audit_ratio(bench: str, index: Path, proved: Proved) -> float:
-    """Prints what one audit takes beside one check, in one run. Answers the first over the second."""
+    """Prints what one audit and one check take, in one run. Returns the ratio of the first to the second."""
     words = ["audit", str(index), str(proved.rows), proved.query, str(proved.path), str(AUDITS)]
     lines = [line.split() for line in measure.run([bench, *words]).printed.splitlines()[:-1]]
     check, audit = (min(int(line[k]) for line in lines) for k in (0, 1))
