@@ -29,7 +29,7 @@ def request(algorithm: str, rows: int, query: str) -> bytes:
 
 
 def receive(link: socket.socket, room: memoryview) -> int:
-    """Fills the buffer, unless the input ends before, and returns how many bytes arrived."""
+    """Fills the buffer, and returns its size."""
     came = 0
     while came < len(room):
         count = link.recv_into(room[came:])

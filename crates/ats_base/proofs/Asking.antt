@@ -3,7 +3,7 @@ use Rattle.std.proofs.Common.{◌≡◌, ◌≤◌, ◌<◌, ◌+◌, ◌∙◌,
 use Rattle.ats_base.specs.Outside.{Ask, Asked, Calls, ReadsOn, Appends, StoresOnce}
 use Rattle.ats_base.specs.declared.outside.Deed.TheVariants.{Read, Append}
 
--- no call came
+-- there was no call
 pub asked_none : (told : Option (List Ask)) (such : List Ask → Type 0) → such [] → Asked told told such
 asked_none told such none = record { told = λ all is. (all, [], is, sym (append-nil all), none) }
 

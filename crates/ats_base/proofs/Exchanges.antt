@@ -71,7 +71,7 @@ wrote_taken None (Some n) written carries = absurd (cc)
 wrote_taken (Some b) None written (rest, is, then) = absurd (cc)
 wrote_taken (Some b) (Some n) written (rest, is, then) = ap (option_map (λ (t : Traffic). t.written)) then
 
--- what a sink took, by what it tells as of a link
+-- what a sink took, by what it reports in the form of a link
 pub sink_took : (before now : SinkTold) (written : List ℕ)
     → Exchanged (as_link before).traffic (as_link now).traffic [] written → now.taken ≡ option_map (λ taken. taken ++ written) before.taken
 sink_took before now written over = wrote_taken before.taken now.taken written over.carried

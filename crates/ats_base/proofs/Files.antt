@@ -61,7 +61,7 @@ there files name at place =
     ∙ ap (slice_get files) (sym first.0) ∙ slice_get-get_or files at ([], []) first.1) in
     ap is_some told
 
--- a name has a place exactly where its file is there
+-- a name has a place exactly if its file is there
 pub told_there : (files : List (List ℕ × List ℕ)) (name : List ℕ) (place : Option ℕ)
     → place ≡ position (λ f. bytes_eq f.0 name) files → MatchOption place (told_files files name ≡ None) (λ _. IsSome (told_files files name))
 told_there files name None is = told_nowhere files name (sym is)

@@ -1,8 +1,8 @@
 -- What other rooms may cite of the proofs of this one. All other files here are private.
 
--- calls of which a condition holds also meet each weaker condition
+-- calls that satisfy a condition also satisfy each weaker condition
 pub use Rattle.ats_base.proofs.Asking.{asked_as}
--- where no call came, each condition that the empty list of calls meets holds of the calls
+-- if there was no call, each condition that the empty list of calls satisfies holds for the calls
 pub use Rattle.ats_base.proofs.Asking.{asked_none}
 -- two successive runs of calls are one run, which meets what follows from the conditions of both
 pub use Rattle.ats_base.proofs.Asking.{asked_then}

@@ -1,42 +1,43 @@
--- What links, callers and doors tell of themselves, and what their calls do to it.
+-- What links, callers and doors report of themselves, and how calls change it.
 use Rattle.std.specs.Prelude.{◌≡◌, ◌⊎◌, ◌<◌, ◌+◌, ◌-◌, ◌^◌, ℕ, zero, suc, min, Bool, true, List, [], ◌∷◌, ◌++◌, Option, Some, None, MatchOption, IsSome, option_map}
 use Rattle.ats_base.specs.Outside.{SinkTold}
 
--- What went over a link: the address that was called for it, where one was;
--- the bytes read so far, those still to come, and those written.
+-- What went over a link: the address that was called for it, if there was one; the bytes read so far, those still to
+-- come, and those written.
 pub record Traffic : Type 0 where
   pub address : Option (List ℕ)
   pub read : List ℕ
   pub rest : List ℕ
   pub written : List ℕ
 
--- What a link tells of itself: what went over it, where it tells it; how many calls there were;
--- and how often it failed.
+-- What a link reports of itself: what went over it, if it reports that; how many calls there were; and how often it
+-- failed.
 pub record LinkTold : Type 0 where
   pub traffic : Option Traffic
   pub calls : ℕ
   pub faults : ℕ
 
--- What a caller tells where it tells: the links given back, as they then told of themselves;
--- the addresses called; how many links are out.
+-- What a caller reports, if it does: the links given back, each with what it reported at that moment; the addresses
+-- called; how many links are out.
 pub record Calling : Type 0 where
   pub given_back : List LinkTold
   pub addresses : List (List ℕ)
   pub out : ℕ
 
--- What a caller tells of itself. Its count of faults rises for each broken link that it takes back, too.
+-- What a caller reports of itself. Its count of faults also rises for each broken link that it takes back.
 pub record CallerTold : Type 0 where
   pub content : Option Calling
   pub faults : ℕ
 
--- What a door tells where it tells: as a caller, with the addresses listened at; and how often `accept` was called.
+-- What a door reports, if it does: as a caller, with the addresses listened at; and how often `accept` was called.
 pub record Opening : Type 0 where
   pub given_back : List LinkTold
   pub addresses : List (List ℕ)
   pub accepts : ℕ
   pub out : ℕ
 
--- What a door tells of itself: always, whether it is open, how often it failed, and how many broken links it took back.
+-- What a door reports of itself. It always reports whether it is open, how often it failed, and how many broken links
+-- it took back.
 pub record DoorTold : Type 0 where
   pub content : Option Opening
   pub is_open : Bool
@@ -48,33 +49,32 @@ Carries None now read written = now ≡ None
 Carries (Some before) now read written = (rest : List ℕ) × (before.rest ≡ read ++ rest)
     × (now ≡ Some (record before { read = before.read ++ read; rest = rest; written = before.written ++ written }))
 
--- Between two moments these bytes, which were still to come, were read, and these were written,
--- where the link tells it.
+-- Between two moments these bytes, which were still to come, were read, and these were written, if the link reports it.
 pub record Exchanged (before now : Option Traffic) (read written : List ℕ) : Type 0 where
   pub carried : Carries before now read written
 
--- the link, where it tells, has nothing more to read
+-- the link, if it reports, has nothing more to read
 abbrev pub IsAtEnd : Option Traffic → Type 0
 IsAtEnd None = Unit {0}
 IsAtEnd (Some traffic) = traffic.rest ≡ []
 
--- a link that has not failed, and over which nothing went; it tells what goes over it where it must
+-- a link that has not failed, and over which nothing went; if it must, it reports what goes over it
 pub record IsNew (must_tell : Bool) (link : LinkTold) : Type 0 where
   pub calm : link.faults ≡ 0
   pub tells : must_tell ≡ true → IsSome link.traffic
   pub unused : MatchOption link.traffic (Unit {0}) (λ traffic. (traffic.read ≡ []) × (traffic.written ≡ []))
 
--- the link, where it tells, was called at this address
+-- the link, if it reports, was called at this address
 abbrev pub IsCalledAt : List ℕ → Option Traffic → Type 0
 IsCalledAt address None = Unit {0}
 IsCalledAt address (Some traffic) = traffic.address ≡ Some address
 
--- the count after a link with this many faults came back: it rose if that link failed; at the end of its type it stays
+-- the count after a link with this many faults came back: it rises if that link failed; at the end of its type it stays
 abbrev pub counted_broken : (faults before : ℕ) → ℕ
 counted_broken zero before = before
 counted_broken (suc _) before = min (before + 1) (2 ^ 64 - 1)
 
--- a caller that tells has a link out
+-- a caller, if it reports, has a link out
 abbrev pub HasCalledOut : Option Calling → Type 0
 HasCalledOut None = Unit {0}
 HasCalledOut (Some calling) = 0 < calling.out
@@ -83,19 +83,19 @@ HasCalledOut (Some calling) = 0 < calling.out
 abbrev pub noting_call : List ℕ → Calling → Calling
 noting_call address calling = record calling { addresses = calling.addresses ++ address ∷ [] }
 
--- a call of this address was answered with a link, which is out
+-- a call of this address returned a link, which is out
 abbrev pub calling_out : List ℕ → Calling → Calling
 calling_out address calling = record calling { addresses = calling.addresses ++ address ∷ []; out = calling.out + 1 }
 
--- a link came back
+-- a link was given back
 abbrev pub called_back : LinkTold → Calling → Calling
 called_back link calling = record calling { given_back = calling.given_back ++ link ∷ []; out = calling.out - 1 }
 
--- a call that failed changed nothing else than that the address may be noted
+-- a call that failed changed nothing, except that the address may be noted
 abbrev pub MayNoteCall : List ℕ → Option Calling → Option Calling → Type 0
 MayNoteCall address before now = (now ≡ before) ⊎ (now ≡ option_map (noting_call address) before)
 
--- a door that tells has a link out
+-- a door, if it reports, has a link out
 abbrev pub HasAcceptedOut : Option Opening → Type 0
 HasAcceptedOut None = Unit {0}
 HasAcceptedOut (Some opening) = 0 < opening.out
@@ -104,7 +104,7 @@ HasAcceptedOut (Some opening) = 0 < opening.out
 abbrev pub noting_listen : List ℕ → Opening → Opening
 noting_listen address opening = record opening { addresses = opening.addresses ++ address ∷ [] }
 
--- a listening that failed changed nothing else than that the address may be noted
+-- listening that failed changed nothing, except that the address may be noted
 abbrev pub MayNoteListen : List ℕ → Option Opening → Option Opening → Type 0
 MayNoteListen address before now = (now ≡ before) ⊎ (now ≡ option_map (noting_listen address) before)
 
@@ -112,15 +112,15 @@ MayNoteListen address before now = (now ≡ before) ⊎ (now ≡ option_map (not
 abbrev pub counting_accept : Opening → Opening
 counting_accept opening = record opening { accepts = min (opening.accepts + 1) (2 ^ 64 - 1) }
 
--- that call was answered with a link, which is out
+-- that call returned a link, which is out
 abbrev pub accepting_out : Opening → Opening
 accepting_out opening = record opening { accepts = min (opening.accepts + 1) (2 ^ 64 - 1); out = opening.out + 1 }
 
--- a link came back
+-- a link was given back
 abbrev pub accepted_back : LinkTold → Opening → Opening
 accepted_back link opening = record opening { given_back = opening.given_back ++ link ∷ []; out = opening.out - 1 }
 
--- what a sink tells, said as of a link whose input is empty
+-- what a sink reports, in the form of a link whose input is empty
 abbrev pub as_link : SinkTold → LinkTold
 as_link sink = record {
   traffic = option_map (λ taken. record { address = None; read = []; rest = []; written = taken }) sink.taken;

@@ -1,4 +1,4 @@
--- What links, callers and doors in memory hold.
+-- The state of links, callers and doors in memory.
 use Rattle.std.specs.Prelude.{◌≡◌, ℕ, List, [], Option, Some, Bool, map}
 use Rattle.ats_base.specs.Memory.{Device}
 use Rattle.ats_base.specs.Links.{LinkTold, CallerTold, DoorTold}
@@ -10,7 +10,7 @@ pub record LinkState : Type 0 where
   pub written : List ℕ
   pub device : Device
 
--- the links that wait to be handed out, in order; those given back, in order; and how many are out
+-- the links that are still to be handed out, in order; those given back, in order; and how many are out
 pub record LinksState : Type 0 where
   pub waiting : List LinkState
   pub back : List LinkState
@@ -29,7 +29,7 @@ pub record DoorState : Type 0 where
   pub broken : ℕ
   pub device : Device
 
--- what a link in memory tells
+-- what a link in memory reports
 abbrev pub told_link : LinkState → LinkTold
 told_link link = record {
   traffic = Some (record { address = link.address; read = link.read; rest = link.rest; written = link.written });
@@ -43,7 +43,7 @@ pub record IsUnused (link : LinkState) : Type 0 where
   pub written : link.written ≡ []
   pub calm : link.device.faults ≡ 0
 
--- what a caller in memory tells
+-- what a caller in memory reports
 abbrev pub told_caller : CallerState → CallerTold
 told_caller caller = record {
   content = Some (record {
@@ -54,7 +54,7 @@ told_caller caller = record {
   faults = caller.device.faults;
 }
 
--- what a door in memory tells
+-- what a door in memory reports
 abbrev pub told_door : DoorState → DoorTold
 told_door door = record {
   content = Some (record {

@@ -1,4 +1,4 @@
-//! Links, and those who call and accept them: the network as traits.
+//! The network as traits: links, and those who make and accept them.
 
 ghost use Rattle.std.specs.Prelude.{◌≡◌, ◌<◌, ◌≤◌, ◌+◌, ◌∷◌, List, [], ℕ, length, take, true, Some, is_some, option_map, IfOk, OnOk, OnErr};
 ghost use Rattle.ats_base.specs.Outside.{HasCause, MovesSome, IsCounted, moved};
@@ -6,13 +6,13 @@ ghost use Rattle.ats_base.specs.Links.{LinkTold, CallerTold, DoorTold, Exchanged
 
 use crate::outside::Failed;
 
-/// Bytes that come and go, as over a socket.
+/// Bytes in both directions, as over a socket.
 pub trait Link {
-    /// What it tells of itself. Its counts never fall.
+    /// What the link reports of itself. Its counts never fall.
     ghost told: { Self → LinkTold };
 
-    /// Puts the next bytes at the front of `buf`, and says how many.
-    /// None of a `buf` with room means that the input has ended.
+    /// Puts the next bytes at the front of `buf`, and returns how many. 0 for a `buf` with room means that the input
+    /// has ended.
     fn read_some(&mut self, buf: &mut [u8]) -> Result<usize, Failed>
         ensures within { IfOk result (λ n. n ≤ length buf.new) }
         ensures bytes { Exchanged (told self.old).traffic (told self.new).traffic (take (moved result) buf.new) [] }
@@ -20,7 +20,7 @@ pub trait Link {
         ensures counted { IsCounted (told self.old).calls (told self.new).calls }
         ensures cause { HasCause (told self.old).faults (told self.new).faults result };
 
-    /// Takes some of the bytes from their front, and says how many.
+    /// Takes some of the bytes from their front, and returns how many.
     fn write_some(&mut self, bytes: &[u8]) -> Result<usize, Failed>
         ensures some { MovesSome result bytes.now }
         ensures bytes { Exchanged (told self.old).traffic (told self.new).traffic [] (take (moved result) bytes.now) }
@@ -32,7 +32,7 @@ pub trait Link {
 pub trait Caller {
     type Link: Link;
 
-    /// What it tells of itself. Its count never falls.
+    /// What the caller reports of itself. Its count never falls.
     ghost told: { Self → CallerTold };
 
     fn call(&mut self, address: &str) -> Result<Self::Link, Failed>
@@ -43,7 +43,7 @@ pub trait Caller {
         ensures address { IfOk result (λ link. IsCalledAt address.now (Self.Link.told link).traffic) }
         ensures cause { HasCause (told self.old).faults (told self.new).faults result };
 
-    /// Takes a link of this caller back when its conversation is over.
+    /// Takes a link of this caller back after its conversation.
     fn give_back(&mut self, link: Self::Link)
         requires { HasCalledOut (told self.old).content }
         ensures content { (told self.new).content
@@ -55,7 +55,7 @@ pub trait Caller {
 pub trait Door {
     type Link: Link;
 
-    /// What it tells of itself. Its counts never fall.
+    /// What the door reports of itself. Its counts never fall.
     ghost told: { Self → DoorTold };
 
     /// Opens the door at the address. It stays open.
@@ -78,7 +78,7 @@ pub trait Door {
         ensures broken { (told self.new).broken ≡ (told self.old).broken }
         ensures cause { HasCause (told self.old).faults (told self.new).faults result };
 
-    /// Takes a link of this door back when its conversation is over.
+    /// Takes a link of this door back after its conversation.
     fn give_back(&mut self, link: Self::Link)
         requires { HasAcceptedOut (told self.old).content }
         ensures content { (told self.new).content

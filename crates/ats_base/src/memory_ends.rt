@@ -1,4 +1,5 @@
-//! A caller and a door in memory. Each tells what it was handed, and hands out its links in the order of their adding.
+//! A caller and a door in memory. Each reports what was passed to it, and hands out its links in the order in which
+//! they were added.
 
 ghost use Rattle.std.specs.Prelude.{◌≡◌, ◌⊎◌, ◌≤◌, ◌<◌, ◌+◌, ◌-◌, ◌^◌, ◌++◌, ◌∷◌, [], List, ℕ, length, min, true, false, Some, None, IfOk, OnOk, OnErr, IsErr, option_map, slice_get};
 ghost use Rattle.std.specs.List.{All};
@@ -18,7 +19,7 @@ use std::alloc::Global;
 use std::collections::VecDeque;
 use std::marker::Model;
 
-// The links that wait to be handed out, those given back, and how many are out.
+// The links that are still to be handed out, those given back, and how many are out.
 #[derive(Drop)]
 struct Links {
     waiting: VecDeque<MemLink>,
@@ -55,8 +56,8 @@ impl Links {
         Ok(())
     }
 
-    // The room for the link's return is made here, so that its return needs none.
-    // No memory holds as many links as there are numbers.
+    // The room for the link's return is allocated here, so that its return needs none. No memory holds as many links as
+    // there are numbers.
     fn hand_out(&mut self) -> Result<MemLink, Failed>
         ensures first { IfOk result (λ link. self.old.waiting ≡ link ∷ self.new.waiting) }
         ensures unused { IfOk result IsUnused }
@@ -94,7 +95,7 @@ impl Links {
     }
 }
 
-/// A caller whose links are made beforehand. Want of memory counts as a fault of its own.
+/// A caller whose links are made beforehand. If memory runs out, that counts as a fault of the caller.
 #[derive(Drop)]
 pub struct MemCaller {
     alloc: Global,
@@ -125,7 +126,7 @@ impl MemCaller {
         }
     }
 
-    /// A further link to be handed out, after those before it. Want of memory drops it.
+    /// Adds a link to be handed out, after those before it. If memory runs out, the link is dropped.
     pub fn add(&mut self, link: MemLink) -> Result<(), OutOfMemory>
         requires { IsUnused link }
         ensures ok { OnOk result (self.new
@@ -135,14 +136,14 @@ impl MemCaller {
         self.links.add(link)
     }
 
-    /// The link that was given back as that number, counted from 0.
+    /// Link `i`, counted from 0, of those that were given back.
     pub fn given_back(&self, i: u32) -> Option<&MemLink>
         ensures { option_copied result ≡ slice_get self.now.links.back i }
     {
         self.links.given_back(i)
     }
 
-    /// The call of that number, counted from 1 since the caller was made, is to fail.
+    /// Plans that the call with this number, counted from 1 since the caller was made, fails.
     pub fn fail_at(&mut self, call: u64) -> Result<(), OutOfMemory>
         ensures ok { OnOk result (self.new ≡ record self.old { device = failing_at self.old.device call }) }
         ensures err { OnErr result (self.new ≡ self.old) }
@@ -158,7 +159,7 @@ impl MemCaller {
         self.plan.set_piece(n);
     }
 
-    // The address is noted before a link is handed out, so that no link is lost where there is no memory for it.
+    // The address is noted before a link is handed out, so that no link is lost if memory for it runs out.
     fn reach(&mut self, address: &str) -> Result<MemLink, Failed>
         ensures ok { OnOk result ((told_caller self.new).content
             ≡ option_map (calling_out address.now) (told_caller self.old).content) }
@@ -233,7 +234,7 @@ impl Caller for MemCaller {
     }
 }
 
-/// A door at which links made beforehand arrive. Want of memory counts as a fault of its own.
+/// A door at which links made beforehand arrive. If memory runs out, that counts as a fault of the door.
 #[derive(Drop)]
 pub struct MemDoor {
     alloc: Global,
@@ -280,7 +281,7 @@ impl MemDoor {
         }
     }
 
-    /// A further link to be handed out, after those before it. Want of memory drops it.
+    /// Adds a link to be handed out, after those before it. If memory runs out, the link is dropped.
     pub fn add(&mut self, link: MemLink) -> Result<(), OutOfMemory>
         requires { IsUnused link }
         ensures ok { OnOk result (self.new
@@ -290,14 +291,14 @@ impl MemDoor {
         self.links.add(link)
     }
 
-    /// The link that was given back as that number, counted from 0.
+    /// Link `i`, counted from 0, of those that were given back.
     pub fn given_back(&self, i: u32) -> Option<&MemLink>
         ensures { option_copied result ≡ slice_get self.now.links.back i }
     {
         self.links.given_back(i)
     }
 
-    /// The call of that number, counted from 1 since the door was made, is to fail.
+    /// Plans that the call with this number, counted from 1 since the door was made, fails.
     pub fn fail_at(&mut self, call: u64) -> Result<(), OutOfMemory>
         ensures ok { OnOk result (self.new ≡ record self.old { device = failing_at self.old.device call }) }
         ensures err { OnErr result (self.new ≡ self.old) }

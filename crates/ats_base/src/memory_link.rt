@@ -1,4 +1,4 @@
-//! A link in memory. It tells what goes over it.
+//! A link in memory. It reports what goes over it.
 
 ghost use Rattle.std.specs.Prelude.{◌≡◌, ◌≤◌, ◌++◌, [], List, ℕ, length, take, drop, min, true, Some, None, IfOk, OnOk, OnErr, IsErr, IsTrue, ◌↔◌, ◌<◌};
 ghost use Rattle.ats_base.specs.Memory.{Device, new_device, answered, fails_next, failing_at};
@@ -13,8 +13,8 @@ use crate::plan::Plan;
 use std::alloc::Global;
 use std::marker::Model;
 
-/// A link whose input is known beforehand, and which keeps what is written.
-/// Want of memory counts as a fault of its own.
+/// A link whose input is known beforehand, and which keeps what is written. If memory runs out, that counts as a fault
+/// of the link.
 #[derive(Drop)]
 pub struct MemLink {
     address: Option<Bytes>,
@@ -39,7 +39,7 @@ impl Model for MemLink {
 }
 
 impl MemLink {
-    /// A link over which these bytes come.
+    /// A link with these bytes as input.
     pub fn new(alloc: Global, incoming: Bytes) -> Self
         ensures { result ≡ record { address = None; read = []; rest = incoming; written = []; device = new_device } }
     {
@@ -59,7 +59,7 @@ impl MemLink {
         self.written.as_slice()
     }
 
-    /// The call of that number, counted from 1 since the link was made, is to fail.
+    /// Plans that the call with this number, counted from 1 since the link was made, fails.
     pub fn fail_at(&mut self, call: u64) -> Result<(), OutOfMemory>
         ensures ok { OnOk result (self.new ≡ record self.old { device = failing_at self.old.device call }) }
         ensures err { OnErr result (self.new ≡ self.old) }

@@ -7,7 +7,7 @@ use crate::bytes::OutOfMemory;
 use std::alloc::Global;
 use std::marker::Model;
 
-/// The calls that are to fail, the most bytes that one call moves, and how many failed.
+/// The calls that will fail, the most bytes that one call moves, and how many failed.
 #[derive(Drop)]
 pub(crate) struct Plan {
     calls: u64,
@@ -36,7 +36,7 @@ impl Plan {
         }
     }
 
-    /// Counts a call, and says whether it is to fail.
+    /// Counts a call, and returns whether it must fail.
     pub(crate) fn next_fails(&mut self) -> bool
         ensures counts { self.new ≡ called self.old }
         ensures planned { result ≡ fails_next self.old }

@@ -31,7 +31,7 @@ moves_read before now buf n within some over counted later = record {
   later = later;
 }
 
--- what was read into the rest of a buffer stands behind what was read before
+-- what was read into the rest of a buffer follows what was read before
 pub took_mid : (done n : ℕ) (buf new : List ℕ) → done ≤ length buf → n ≤ length new
     → take (done + n) (put_mid done (length buf - done) buf new) ≡ take done buf ++ take n new
 took_mid done n buf new few within =

@@ -1,4 +1,4 @@
--- Numbers of 2 and 4 bytes that were read stand there as they would be written.
+-- Numbers of 2 and 4 bytes that were read have the bytes with which they would be written.
 use Rattle.std.proofs.Common.{◌≡◌, ◌<◌, ℕ, List, length, get_or, arith}
 use Rattle.std.specs.Int.{to_be_bytes, w16, w32}
 use Rattle.std.proofs.lemmas.Nat.{be_bytes_2, be_bytes_4}

@@ -1,4 +1,4 @@
--- What comes over a link is one reply.
+-- What arrives over a link is one reply.
 use Rattle.std.proofs.Common.{◌≡◌, ◌≤◌, ◌<◌, ◌+◌, ◌^◌, ◌∙◌, ◌++◌, ◌∷◌, ◌⊎◌, inl, inr, ℕ, suc, List, [], length, get_or, refl, sym, subst, ap, arith, append_assoc, append-nil, length-append, Option, Some, None, IsSome, Result, Ok, Err}
 use Rattle.std.specs.Int.{to_be_bytes, w32}
 use Rattle.ats_base.specs.Links.{LinkTold, Traffic, IsAtEnd}
@@ -8,7 +8,7 @@ use Rattle.ats_wire.specs.declared.asking.AskFault.{AskFault}
 use Rattle.ats_wire.specs.declared.asking.AskFault.TheVariants.{ShortReply, LongReply, BadReply, PeerRefused, ReadFault, WriteFault, OutOfMemory}
 use Rattle.ats_wire.proofs.OneWay.{head_same, split_same}
 
--- the answer to a reply of this length, of which these bytes come behind it
+-- the result for a reply of this length, with these bytes after it
 abbrev Hears : (n : ℕ) → (body : List ℕ) → Result (List ℕ) AskFault → Type 0
 Hears n body (Ok bytes) = (n ≡ suc (length bytes)) × (n ≤ 2 ^ 26 + 1) × ((rest : List ℕ) × (body ≡ (0 ∷ bytes) ++ rest))
 Hears n body (Err (ShortReply got wanted)) = IsReplyLength n × (length body < n) × BeginsWithKind n body × (wanted ≡ n + 4) × (got ≡ length body + 4)
@@ -94,7 +94,7 @@ hears_once n body one (Err ReadFault) first second = absurd second
 hears_once n body one (Err WriteFault) first second = absurd second
 hears_once n body one (Err OutOfMemory) first second = absurd second
 
--- what is told of a stream: fewer than the bytes of a length, or a length and what comes behind it
+-- the result for a stream: fewer than the bytes of a length, or a length and what follows it
 abbrev Heard : (stream : List ℕ) → Result (List ℕ) AskFault → Type 0
 Heard stream result =
     ((length stream < 4) × (result ≡ Err (ShortReply (length stream) 4)))
@@ -167,7 +167,7 @@ told_heard question before now traffic result told asked heard =
     heard_of before now asked.read carried.0 traffic.rest result carried.1 (λ at_end. subst IsAtEnd carried.2 at_end) heard
     (says_of (request_frame question) before now asked.read asked.written result heard asked.says)
 
--- what comes in one way is told in one way, over whichever links
+-- the same stream gives the same result, over whichever links
 pub asked_alike : (question other : Question) (before now late later : LinkTold) (traffic more : Traffic) (one two : Result (List ℕ) AskFault)
     → before.traffic ≡ Some traffic → late.traffic ≡ Some more → traffic.rest ≡ more.rest
     → IsAsked question before now one → IsAsked other late later two → IsHeard one → IsHeard two → one ≡ two
@@ -181,7 +181,7 @@ told_once question other before now later one two None told tells first second h
 told_once question other before now later one two (Some traffic) told tells first second heard also =
     asked_alike question other before now before later traffic traffic one two told told refl first second heard also
 
--- one reply is told in one way
+-- one reply gives one result
 pub asked_once : (question other : Question) (before now later : LinkTold) (one two : Result (List ℕ) AskFault)
     → IsAsked question before now one → IsAsked other before later two → IsSome before.traffic → IsHeard one → IsHeard two → one ≡ two
 asked_once question other before now later one two first second tells heard also =

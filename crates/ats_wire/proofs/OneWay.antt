@@ -1,4 +1,4 @@
--- What comes over a link is cut into frames in one way.
+-- What arrives over a link is cut into frames in one way.
 use Rattle.std.proofs.Common.{◌≡◌, ◌≤◌, ◌<◌, ◌+◌, ◌-◌, ◌^◌, ◌∙◌, ◌++◌, ◌∷◌, ◌⊎◌, inl, inr, ℕ, List, [], length, take, drop, map, refl, sym, subst, ap, arith, append_assoc, append-nil, length-append, Option, Some, None, IsSome, zero-add}
 use Rattle.std.specs.Int.{to_be_bytes, w32}
 use Rattle.std.specs.List.{All}
@@ -29,7 +29,7 @@ head_same m n xs ys small_m small_n is = (
   ap (λ (x : List ℕ). drop 4 x) is,
 )
 
--- the end is told by what is left of the stream, where so many requests may still come
+-- what is left of the stream determines the end, if `left` requests may still come
 abbrev Stops : (left : ℕ) → (tail rest : List ℕ) → ConnectionEnd → Type 0
 Stops left tail rest Ended = (0 < left) × (tail ≡ []) × (rest ≡ [])
 Stops left tail rest (CutFrame came) = (0 < left) × (came ≡ length tail) × (0 < came) × IsUnfinished tail × (rest ≡ [])
@@ -44,7 +44,7 @@ Cuts left [] stream end = (tail : List ℕ) × (rest : List ℕ) × (stream ≡ 
 Cuts left (body ∷ more) stream end =
     (0 < left) × IsFrameLength (length body) × ((rest : List ℕ) × (stream ≡ to_be_bytes w32 (length body) ++ (body ++ rest)) × Cuts (left - 1) more rest end)
 
--- an unfinished frame is no frame with something behind it, and no bad length
+-- an unfinished frame is no frame with something after it, and no bad length
 not_unfinished : (tail : List ℕ) (n : ℕ) (rest : List ℕ) → n < 2 ^ 32 → IsUnfinished tail → tail ≡ to_be_bytes w32 n ++ rest
     → IsFrameLength n × (length rest < n)
 not_unfinished tail n rest small (inl short) is = absurd (omega (arith, short, ap length is))
@@ -52,7 +52,7 @@ not_unfinished tail n rest small (inr (m, body, good, short, begun)) is =
     let same = head_same m n body rest (omega (arith, good.1)) small (sym begun ∙ is) in
     ((omega (arith, good.0, same.0), omega (arith, good.1, same.0)), omega (arith, short, same.0, ap length same.1))
 
--- where the stream stops in one way it goes on with no frame
+-- if the stream stops in one way it goes on with no frame
 no_frame : (left : ℕ) (tail rest : List ℕ) (end : ConnectionEnd) (body more : List ℕ) → 0 < left → Stops left tail rest end → IsFrameLength (length body)
     → tail ++ rest ≡ to_be_bytes w32 (length body) ++ (body ++ more) → ⊥
 no_frame left tail rest Ended body more some (_, none, at_end) good is = omega (arith, ap length is, ap length none, ap length at_end, length-append tail rest)
@@ -122,7 +122,7 @@ cut_once left (body ∷ bodies) (other ∷ others) stream one two (some, good, (
     let later = cut_once (left - 1) bodies others rest one two cuts (subst (λ (x : List ℕ). Cuts (left - 1) others x two) (sym back.1) other_cuts) in
     (omega (arith, later.0), later.1)
 
--- the end of a connection, by what is still to come then
+-- the end of a connection, by what is still to come at that moment
 ends_stop : (gives : Question → Reply → Type 0) (before now : LinkTold) (traffic : Traffic) (requests left : ℕ) (tail part : List ℕ) (end : ConnectionEnd)
     → now.traffic ≡ Some traffic → requests + left ≡ 65536 → IsClean end → Ends gives before now requests tail part end → Stops left tail traffic.rest end
 ends_stop gives before now traffic requests left tail part Ended told sum clean (few, _, (none, at_end)) = (omega (arith, sum, few), none, subst IsAtEnd told at_end)
@@ -142,7 +142,7 @@ few_requests gives before now requests tail part RequestLimit ends = omega (arit
 few_requests gives before now requests tail part ReadFault ends = omega (arith, ends.0)
 few_requests gives before now requests tail part WriteFault ends = omega (arith, ends.0)
 
--- whole frames and what stands behind them
+-- whole frames and what follows them
 turns_cut : (gives : Question → Reply → Type 0) (turns : List (List ℕ × Reply)) (left : ℕ) (tail rest stream : List ℕ) (end : ConnectionEnd)
     → All (IsAnswered gives) turns → stream ≡ (frames turns ++ tail) ++ rest → Stops left tail rest end
     → Cuts (length turns + left) (map (λ (turn : List ℕ × Reply). turn.0) turns) stream end
@@ -188,7 +188,7 @@ told_once gives before now later one other (Some traffic) told tells first secon
     let same = cut_once 65536 cuts.0 others.0 traffic.rest one.end other.end cuts.2 others.2 in
     (sym cuts.1 ∙ same.0 ∙ others.1, same.1)
 
--- served connections over what comes in one way end in one way
+-- served connections over the same stream end in the same way
 pub end_once : (gives : Question → Reply → Type 0) (before now later : LinkTold) (one other : Served)
     → IsServed gives before now one → IsServed gives before later other → IsSome before.traffic → IsClean one.end → IsClean other.end
     → (one.requests ≡ other.requests) × (one.end ≡ other.end)

@@ -1,4 +1,4 @@
--- A proof that is read as it comes.
+-- A proof that is read while it arrives.
 use Rattle.std.proofs.Common.{◌≡◌, ◌≢◌, ℕ, ◌+◌, ◌-◌, ◌≤◌, ◌^◌, List, [], ◌∷◌, ◌++◌, ◌∙◌, length, refl, sym, ap, subst, Bool, false, append_assoc, arith, inl, inr, Result, Ok, Err}
 use Rattle.std.specs.Prelude.{IfOk, IfErr, if◌then◌else◌}
 use Rattle.std.specs.Result.{is_ok, is_err}
@@ -20,18 +20,18 @@ use Rattle.ats_wire.specs.declared.feeding.Fed.{Fed}
 use Rattle.ats_wire.proofs.Replying.{asked, rest_fault}
 use Rattle.ats_wire.proofs.Moved.{moves_then, moves_idle, rose_since}
 
--- a fault of a front of the bytes is theirs, where it is no missing byte
+-- a fault of a front of the bytes is theirs, if it is not a missing byte
 pub bad_stays : (bytes more : List ℕ) (fault : ShapeFault) → IsBad proof_format bytes fault → fault.kind ≢ Cut → length bytes + length more ≤ 2 ^ 26 → IsBad proof_format (bytes ++ more) fault
 bad_stays bytes more fault (inl long) here few = absurd (omega (arith, long.many, few))
 bad_stays bytes more fault (inr first) here few = inr (fault_stays proof_format bytes more fault first here few)
 
--- the frame was written, and a reply read whose proof was tried as it came
+-- the frame was written, and a reply read whose proof was checked while it arrived
 pub asked_fed : (question : Question) (before mid now : LinkTold) (read : List ℕ) (result : Result Fed AskFault)
     → Moves before mid [] (request_frame question) 0 → Moves mid now read [] 1 → SaysFed mid now read result → IsAskedFed question before now result
 asked_fed question before mid now read (Ok fed) sent came says = (says.0, asked question before mid now read (Ok says.0) sent came says.1, says.2)
 asked_fed question before mid now read (Err fault) sent came says = asked question before mid now read (Err fault) sent came says
 
--- a fault of what came behind some bytes is one since before them
+-- a fault of what follows some bytes is one since before them
 pub rest_since : (before mid now : LinkTold) (size : ℕ) (came : List ℕ) (fault : AskFault) → before.faults ≤ mid.faults → RestFault mid now size came fault → RestFault before now size came fault
 rest_since before mid now size came (ShortReply got wanted) later fails = fails
 rest_since before mid now size came (LongReply n) later fails = fails

@@ -1,4 +1,4 @@
--- A reply that was read: its head, and what came behind it.
+-- A reply that was read: its head, and what follows it.
 use Rattle.std.proofs.Common.{◌≡◌, ◌≤◌, ◌<◌, ◌+◌, ◌-◌, ◌∙◌, ◌++◌, ◌∷◌, ◌⊎◌, inl, inr, ℕ, suc, List, [], length, get_or, take, refl, sym, subst, ap, arith, append_assoc, append-nil, length-append, Result, Ok, Err}
 use Rattle.std.specs.Int.{to_be_bytes, w32}
 use Rattle.std.proofs.lemmas.Bool.{cases_lt}
@@ -16,7 +16,7 @@ single [] long = absurd (omega arith)
 single (b ∷ []) long = refl
 single (b ∷ c ∷ rest) long = absurd (omega arith)
 
--- a length came, and no kind
+-- a length was read, and no kind
 pub no_kind : (before mid now : LinkTold) (head body : List ℕ) (n came : ℕ)
     → Moves before mid head [] 0 → Moves mid now (take came body) [] 1 → came < length body → length body ≡ 1
     → to_be_bytes w32 n ≡ head → length head ≡ 4 → IsReplyLength n
@@ -30,7 +30,7 @@ no_kind before mid now head body n came first second short one is four good =
       omega (arith, length-append head [], four),
     )
 
--- a length and a kind came
+-- a length and a kind were read
 pub head_came : (before mid now : LinkTold) (head body : List ℕ) (n : ℕ)
     → Moves before mid head [] 0 → Moves mid now body [] 0 → length body ≡ 1 → to_be_bytes w32 n ≡ head
     → Moves before now (to_be_bytes w32 n ++ get_or body 0 0 ∷ []) [] 0
@@ -39,7 +39,7 @@ head_came before mid now head body n first second one is =
     ap (λ (x : List ℕ). x ++ body) (sym is) ∙ ap (λ (x : List ℕ). to_be_bytes w32 n ++ x) (single body one) in
     subst (λ (x : List ℕ). Moves before now x [] 0) whole (moves_then before mid now head [] body [] 0 first second)
 
--- what is wanted of a reply whose head came
+-- how many bytes a reply has whose head was read
 begun : (n kind : ℕ) (came : List ℕ) → IsReplyLength n → IsKind n kind → length came < n - 1
     → IsBegun ((to_be_bytes w32 n ++ kind ∷ []) ++ came) (n + 4)
 begun n kind came good is short =
@@ -53,7 +53,7 @@ begun_or_whole n kind came good is few = elim (cases_lt (length came) (n - 1)) [
       inr (kind ∷ came, append_assoc (to_be_bytes w32 n) (kind ∷ []) came ∙ ap (λ (k : ℕ). to_be_bytes w32 k ++ kind ∷ came) size)
 ]
 
--- a fault behind a head is that fault of the reply
+-- a fault after a head is that fault of the reply
 pub rest_fault : (before mid now : LinkTold) (n kind : ℕ) (came : List ℕ) (fault : AskFault)
     → before.faults ≤ mid.faults → IsReplyLength n → IsKind n kind → RestFault mid now (n - 1) came fault
     → ReplyFault before now ((to_be_bytes w32 n ++ kind ∷ []) ++ came) fault
@@ -71,7 +71,7 @@ rest_fault before mid now n kind came ReadFault later good is (short, rose) =
 rest_fault before mid now n kind came WriteFault later good is fails = absurd fails
 rest_fault before mid now n kind came OutOfMemory later good is few = begun_or_whole n kind came good is few
 
--- a fault of the reply alone is one of the whole exchange
+-- a fault of only the reply is one of the whole exchange
 reply_since : (before mid now : LinkTold) (read : List ℕ) (fault : AskFault) → before.faults ≤ mid.faults → ReplyFault mid now read fault → ReplyFault before now read fault
 reply_since before mid now read (ShortReply got wanted) later fails = fails
 reply_since before mid now read (LongReply n) later fails = fails

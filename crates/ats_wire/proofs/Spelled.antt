@@ -1,4 +1,4 @@
--- A body that is found to begin as a request spells one.
+-- A body that begins as a request spells one.
 use Rattle.std.proofs.Common.{◌⊎◌, inl, inr, ◌≡◌, ◌≤◌, ◌<◌, ◌-◌, ◌∙◌, ℕ, zero, suc, List, [], ◌∷◌, ◌++◌, length, get_or, take, drop, take_all, length-drop, refl, sym, ap, arith}
 use Rattle.std.specs.Int.{to_be_bytes, w16}
 use Rattle.byteorder.specs.Endian.{big_number}

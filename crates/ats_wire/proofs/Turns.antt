@@ -14,7 +14,7 @@ use Rattle.ats_wire.specs.declared.serving.ConnectionEnd.{ConnectionEnd}
 use Rattle.ats_wire.specs.declared.serving.ConnectionEnd.TheVariants.{Ended, CutFrame, BadFrame, RequestLimit, ReadFault, WriteFault}
 use Rattle.ats_wire.proofs.Moved.{moves_then, rose_since}
 
--- what holds of a failure holds where there was one
+-- what holds for a failure holds if there was one
 pub err_part : {T E P : Type 0} (result : Result T E) → is_err result ≡ true → OnErr result P → P
 err_part (Ok done) is part = absurd (cc)
 err_part (Err fault) is part = part
@@ -23,13 +23,13 @@ pub ok_part : {T E P : Type 0} (result : Result T E) → is_err result ≡ false
 ok_part (Ok done) is part = part
 ok_part (Err fault) is part = absurd (cc)
 
--- an answerer that has the same relation gives the same answers
+-- an answerer with the same relation gives the same replies
 pub answers_same : (now was : Question → Reply → Type 0) (body : List ℕ) (reply : Reply)
     → ((question : Question) (reply : Reply) → (now question reply ↔ was question reply)) → Answers now body reply → Answers was body reply
 answers_same now was body reply same (inl (question, asks, given)) = inl (question, asks, (same question reply).0 given)
 answers_same now was body reply same (inr refused) = inr refused
 
--- where reading ended, the connection ended
+-- if reading ended, the connection ended
 pub ends_reading : (gives : Question → Reply → Type 0) (before mid now : LinkTold) (requests : ℕ) (tail : List ℕ) (end : ConnectionEnd)
     → requests < 65536 → before.faults ≤ mid.faults → EndsReading mid now tail end → Ends gives before now requests tail [] end
 ends_reading gives before mid now requests tail Ended few later ends = (few, refl, ends)
@@ -64,7 +64,7 @@ one_more gives before mid read now turns body requests count answered moved good
           (subst (λ (x : List ℕ). Moves before now (frames turns ++ (framed body ++ [])) x 0) (sym (reply_more turns turn)) both),
     )
 
--- a fault came before one more reply was written whole
+-- there was a fault before one more reply was written whole
 pub cut_turn : (gives : Question → Reply → Type 0) (before mid read now : LinkTold) (turns : List (List ℕ × Reply)) (body : List ℕ) (requests : ℕ)
     → requests ≡ length turns → requests < 65536 → All (IsAnswered gives) turns → Moves before mid (frames turns) (replies turns) 0
     → IsFrameLength (length body) → Moves mid read (framed body) [] 0 → IsCutReply gives read now body

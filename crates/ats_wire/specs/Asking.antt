@@ -12,28 +12,28 @@ use Rattle.ats_wire.specs.declared.asking.AskFault.TheVariants.{ShortReply, Long
 abbrev pub request_frame : Question → List ℕ
 request_frame question = framed (request_body question.algorithm question.top question.query)
 
--- a length that a reply may have: room for its kind, and no more than the longest proof wants
+-- a length that a reply may have: room for its kind, and at most for the longest proof
 abbrev pub IsReplyLength : ℕ → Type 0
 IsReplyLength n = (1 ≤ n) × (n ≤ 2 ^ 26 + 1)
 
--- the kind of a reply of this length is that of a proof, or that of a code, for which the length is 2
+-- the kind of a reply of this length: 0 for a proof, or 1 for a code, which needs the length 2
 abbrev pub IsKind : ℕ → ℕ → Type 0
 IsKind n kind = (kind ≡ 0) ⊎ ((kind ≡ 1) × (n ≡ 2))
 
--- the kind, if it came, is one
+-- the kind is valid, if it was read
 abbrev pub BeginsWithKind : ℕ → List ℕ → Type 0
 BeginsWithKind n [] = Unit {0}
 BeginsWithKind n (kind ∷ _) = IsKind n kind
 
--- A reply of which not all bytes came, and nothing is wrong with those that did: 4 bytes are wanted until its length is
--- whole, and then so many more.
+-- A reply of which not all bytes were read, with nothing wrong in those that were: `wanted` is 4 until its length n is
+-- whole, and then n + 4.
 abbrev pub IsBegun : List ℕ → (wanted : ℕ) → Type 0
 IsBegun read wanted =
     ((length read < 4) × (wanted ≡ 4))
     ⊎ ((n : ℕ) × (body : List ℕ) × IsReplyLength n × (read ≡ to_be_bytes w32 n ++ body)
     × (length body < n) × BeginsWithKind n body × (wanted ≡ n + 4))
 
--- What was read where there is no proof, by the fault that is told. Nothing is read behind a whole reply, a length that
+-- What was read if there is no proof, by the fault that is returned. Nothing is read after a whole reply, a length that
 -- is too long, or a kind that is wrong.
 abbrev pub ReplyFault : LinkTold → LinkTold → List ℕ → AskFault → Type 0
 ReplyFault before now read (ShortReply got wanted) = (got ≡ length read) × IsBegun read wanted × IsAtEnd now.traffic
@@ -46,13 +46,13 @@ ReplyFault before now read ReadFault = ((wanted : ℕ) × IsBegun read wanted) �
 ReplyFault before now read WriteFault = ⊥
 ReplyFault before now read OutOfMemory = ((wanted : ℕ) × IsBegun read wanted) ⊎ ((body : List ℕ) × (read ≡ framed body))
 
--- what was read by what is told: a whole reply with these bytes of a proof, or a fault
+-- what was read, by the result: a whole reply with these bytes of a proof, or a fault
 abbrev pub Says : LinkTold → LinkTold → List ℕ → Result (List ℕ) AskFault → Type 0
 Says before now read (Ok bytes) = (read ≡ framed (0 ∷ bytes)) × (length bytes ≤ 2 ^ 26)
 Says before now read (Err fault) = ReplyFault before now read fault
 
--- What was written and read by what is told: the request's whole frame and then a reply; or a part of the frame, and
--- nothing was read; or nothing at all for want of memory.
+-- What was written and read, by the result: either the request's whole frame and then a reply; or a part of the frame,
+-- and nothing was read; or nothing at all, because memory ran out.
 abbrev pub Exchanges : (frame : List ℕ) → LinkTold → LinkTold
     → (read written : List ℕ) → Result (List ℕ) AskFault → Type 0
 Exchanges frame before now read written (Err WriteFault) =
@@ -68,8 +68,8 @@ pub record IsAsked (question : Question) (before now : LinkTold) (result : Resul
   pub moved : Moves before now read written 1
   pub says : Exchanges (request_frame question) before now read written result
 
--- What came behind the head of a reply where not all of so many bytes did,
--- by the fault that is told; the head has 5 bytes.
+-- What was read after the head of a reply, if it was not all of `size` bytes, by the fault that is returned; the head
+-- has 5 bytes. Out of memory may also be returned after all bytes.
 abbrev pub RestFault : LinkTold → LinkTold → (size : ℕ) → List ℕ → AskFault → Type 0
 RestFault before now size came (ShortReply got wanted) = (length came < size) × (got ≡ length came + 5)
     × (wanted ≡ size + 5) × IsAtEnd now.traffic
@@ -77,7 +77,7 @@ RestFault before now size came ReadFault = (length came < size) × Rose before.f
 RestFault before now size came OutOfMemory = length came ≤ size
 RestFault before now size came fault = ⊥
 
--- an answer by what the peer sent, and not by a fault or for want of memory; its length has 4 bytes
+-- a result that what the peer sent decided, not a fault or lack of memory; a length has 4 bytes
 abbrev pub IsHeard : Result (List ℕ) AskFault → Type 0
 IsHeard (Ok bytes) = Unit {0}
 IsHeard (Err (ShortReply got wanted)) = Unit {0}

@@ -36,13 +36,13 @@ frames turns = flat_map (λ turn. framed turn.0) turns
 abbrev pub replies : List (List ℕ × Reply) → List ℕ
 replies turns = flat_map (λ turn. reply_bytes turn.1) turns
 
--- bytes behind whole frames that are no whole frame, nor a bad length:
--- fewer than the 4 of a length, or fewer than a good length names
+-- bytes after whole frames that are no whole frame, nor a bad length: fewer than the 4 of a length, or fewer than a
+-- good length names
 abbrev pub IsUnfinished : List ℕ → Type 0
 IsUnfinished tail = (length tail < 4)
     ⊎ ((n : ℕ) × (body : List ℕ) × IsFrameLength n × (length body < n) × (tail ≡ to_be_bytes w32 n ++ body))
 
--- How reading ends behind whole frames: what was read there, and what the link tells then.
+-- How reading ends after whole frames: what was read there, and what the link reports at that moment.
 abbrev pub EndsReading : LinkTold → LinkTold → List ℕ → ConnectionEnd → Type 0
 EndsReading before now tail Ended = (tail ≡ []) × IsAtEnd now.traffic
 EndsReading before now tail (CutFrame left) = (left ≡ length tail) × (0 < left)
@@ -52,8 +52,9 @@ EndsReading before now tail RequestLimit = ⊥
 EndsReading before now tail ReadFault = IsUnfinished tail × Rose before.faults now.faults
 EndsReading before now tail WriteFault = ⊥
 
--- How a connection ends behind so many whole replies: what was read behind their frames and written behind them. At the
--- limit nothing further was read, and each other end comes before it. A write fault leaves the front of one more reply.
+-- How a connection ends after `requests` whole replies: `tail` was read after their frames, and `part` written after
+-- the replies. At the limit nothing more was read; every other end is before the limit. A write fault leaves the front
+-- of one more reply.
 abbrev pub Ends : (Question → Reply → Type 0) → LinkTold → LinkTold
     → (requests : ℕ) → (tail part : List ℕ) → ConnectionEnd → Type 0
 Ends gives before now requests tail part RequestLimit = (requests ≡ 65536) × (tail ≡ []) × (part ≡ [])
@@ -63,8 +64,8 @@ Ends gives before now requests tail part WriteFault =
     × (n : ℕ) × (n < length (reply_bytes reply)) × (part ≡ take n (reply_bytes reply)))
 Ends gives before now requests tail part end = (requests < 65536) × (part ≡ []) × EndsReading before now tail end
 
--- A connection was served: whole frames were read and answered, each by one whole reply, in order,
--- and the count is theirs; then it ended.
+-- A connection was served: whole frames were read and answered, each by one whole reply, in order, and the count is
+-- theirs; then it ended.
 pub record IsServed (gives : Question → Reply → Type 0) (before now : LinkTold) (served : Served) : Type 0 where
   pub turns : List (List ℕ × Reply)
   pub tail : List ℕ
@@ -74,7 +75,7 @@ pub record IsServed (gives : Question → Reply → Type 0) (before now : LinkTo
   pub moved : Moves before now (frames turns ++ tail) (replies turns ++ part) 1
   pub ends : Ends gives before now served.requests tail part served.end
 
--- an end by no fault, with a length that has 4 bytes
+-- an end without a fault; a length has 4 bytes
 abbrev pub IsClean : ConnectionEnd → Type 0
 IsClean (BadFrame n) = n < 2 ^ 32
 IsClean ReadFault = ⊥

@@ -1,4 +1,4 @@
--- A question whose proof is read as it comes.
+-- A question whose proof is checked while it arrives.
 use Rattle.std.specs.Prelude.{◌≡◌, ℕ, List, Result, Ok, Err}
 use Rattle.ats_base.specs.Links.{LinkTold}
 use Rattle.ats_grammar.specs.Front.{IsSpelling, IsBad}
@@ -9,18 +9,18 @@ use Rattle.ats_wire.specs.declared.asking.AskFault.{AskFault}
 use Rattle.ats_wire.specs.declared.feeding.Fed.{Fed}
 use Rattle.ats_wire.specs.declared.feeding.Fed.TheVariants.{Whole, Refused}
 
--- what is told of bytes that came: they spell a proof and are kept, or this is their first fault
+-- the verdict on bytes that arrived: they spell a proof and are kept, or this is their first fault
 abbrev pub IsFed : Fed → List ℕ → Type 0
 IsFed (Whole kept) bytes = (kept ≡ bytes) × IsSpelling proof_format bytes
 IsFed (Refused fault) bytes = IsBad proof_format bytes fault
 
--- one question was asked over the link: a whole reply with the bytes of a proof came, of which this is told,
--- or there is none for this fault
+-- one question was asked over the link: either a whole reply with the bytes of a proof was read, with this verdict, or
+-- there is none because of this fault
 abbrev pub IsAskedFed : Question → LinkTold → LinkTold → Result Fed AskFault → Type 0
 IsAskedFed question before now (Ok fed) = (bytes : List ℕ) × IsAsked question before now (Ok bytes) × IsFed fed bytes
 IsAskedFed question before now (Err fault) = IsAsked question before now (Err fault)
 
--- what was read says this: a whole reply with bytes of which this is told, or a fault
+-- what was read: either a whole reply with bytes that have this verdict, or a fault
 abbrev pub SaysFed : LinkTold → LinkTold → List ℕ → Result Fed AskFault → Type 0
 SaysFed before now read (Ok fed) = (bytes : List ℕ) × Says before now read (Ok bytes) × IsFed fed bytes
 SaysFed before now read (Err fault) = Says before now read (Err fault)

@@ -5,8 +5,8 @@ use Rattle.ats_base.specs.Links.{LinkTold, Exchanged, IsAtEnd}
 use Rattle.ats_wire.specs.declared.receiving.Filling.{Filling}
 use Rattle.ats_wire.specs.declared.receiving.Filling.TheVariants.{Whole, Ended, Broken}
 
--- These bytes were read and these written, where the link tells; all calls but so many moved a byte or more;
--- the count of faults did not fall.
+-- If the link reports, these bytes were read and these written. At most `idle` calls moved no byte. The count of faults
+-- did not fall.
 pub record Moves (before now : LinkTold) (read written : List ℕ) (idle : ℕ) : Type 0 where
   pub over : Exchanged before.traffic now.traffic read written
   pub turns : now.calls ≤ before.calls + (length read + length written + idle)
@@ -19,7 +19,7 @@ Fills before now buf (Ended came) = (came < length buf) × IsAtEnd now.traffic �
 Fills before now buf Broken = (came : ℕ) × (came < length buf)
     × Rose before.faults now.faults × Moves before now (take came buf) [] 1
 
--- how all these bytes were sent, or which part of them up to a fault
+-- a fault cut off the sending of these bytes: only the first n of them were sent
 abbrev pub IsCutOff : LinkTold → LinkTold → List ℕ → Type 0
 IsCutOff before now bytes = (n : ℕ) × (n < length bytes)
     × Rose before.faults now.faults × Moves before now [] (take n bytes) 1

@@ -12,13 +12,13 @@ reply_body (Code code) = 1 ∷ code ∷ []
 abbrev pub reply_bytes : Reply → List ℕ
 reply_bytes reply = framed (reply_body reply)
 
--- a reply that has room for no proof longer than the longest
+-- a reply whose proof is no longer than the longest
 abbrev pub IsShort : Reply → Type 0
 IsShort (Proof bytes) = length bytes ≤ 2 ^ 26
 IsShort (Code _) = Unit {0}
 
--- The reply to a body, where these are the replies to a question:
--- the code of its refusal, or one of those to what it asks.
+-- The reply to a body, if `gives` relates questions to replies: either one of the replies to what the body asks, or the
+-- code of its refusal.
 abbrev pub Answers : (Question → Reply → Type 0) → List ℕ → Reply → Type 0
 Answers gives body reply =
     ((question : Question) × Asks body question × gives question reply)

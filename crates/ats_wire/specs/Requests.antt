@@ -1,15 +1,15 @@
--- What the frames of requests say. Numbers stand high byte first.
+-- The frames of requests. Numbers are written high byte first.
 use Rattle.std.specs.Prelude.{◌≡◌, ◌⊎◌, ◌<◌, ◌≤◌, ◌^◌, ℕ, List, ◌∷◌, ◌++◌, length}
 use Rattle.std.specs.Int.{to_be_bytes, w16, w32}
 use Rattle.std.specs.Str.{IsUtf8}
 use Rattle.ats_proof.specs.declared.record.Algorithm.{Algorithm}
 use Rattle.ats_proof.specs.declared.record.Algorithm.TheVariants.{Tra, Tnra}
 
--- bytes with their number in front, in 4 bytes
+-- bytes after their number, which has 4 bytes
 abbrev pub framed : List ℕ → List ℕ
 framed body = to_be_bytes w32 (length body) ++ body
 
--- how many rows of which query are asked for, by a proof of which algorithm
+-- the algorithm of the proof, the number of rows, and the query
 pub record Question : Type 0 where
   pub algorithm : Algorithm
   pub top : ℕ
@@ -25,13 +25,13 @@ abbrev pub request_body : Algorithm → ℕ → List ℕ → List ℕ
 request_body algorithm rows query =
     1 ∷ algorithm_byte algorithm ∷ to_be_bytes w16 rows ++ (to_be_bytes w16 (length query) ++ query)
 
--- the body of a frame spells a request, of which the number of rows may be out of range
+-- the body of a frame spells a request, whose number of rows may be out of range
 pub record Spells (body : List ℕ) (algorithm : Algorithm) (rows : ℕ) (query : List ℕ) : Type 0 where
   pub is : body ≡ request_body algorithm rows query
   pub small : rows < 2 ^ 16
   pub text : IsUtf8 query
 
--- the body asks this
+-- the body asks this question
 pub record Asks (body : List ℕ) (question : Question) : Type 0 where
   pub spells : Spells body question.algorithm question.top question.query
   pub some : 1 ≤ question.top

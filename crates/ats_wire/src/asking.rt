@@ -1,4 +1,4 @@
-//! One question over a link.
+//! Asks one question over a link.
 
 ghost use Rattle.std.specs.Prelude.{◌≡◌, ◌≤◌, ◌+◌, ◌^◌, ◌++◌, ◌∷◌, [], ℕ, List, length, IfOk, IfErr, OnOk, IsTrue, ◌↔◌, Err};
 ghost use Rattle.std.specs.Int.{to_be_bytes, w32};
@@ -15,10 +15,10 @@ use ats_proof::Algorithm;
 use byteorder::{BigEndian, ByteOrder};
 use std::alloc::Global;
 
-// The most bytes of a reply behind its length: its kind and the longest proof.
+// The most bytes of a reply after its length: its kind and the longest proof.
 const MAX_REPLY: u32 = (1 << 26) + 1;
 
-// The bytes of a reply in front of its proof or code: its length and its kind.
+// The bytes of a reply before its proof or code: its length and its kind.
 pub(crate) const HEAD: u64 = 5;
 
 // How many bytes of a reply are read at a time.
@@ -27,13 +27,13 @@ pub(crate) const PIECE: usize = 1 << 13;
 /// Why a question got no proof.
 #[derive(Clone, Copy, Debug, PartialEq, Eq)]
 pub enum AskFault {
-    /// The input ended after `got` bytes of a reply of `wanted`; 4 are wanted until its length is whole.
+    /// The input ended after `got` bytes of a reply of `wanted` bytes. Until its length is whole, `wanted` is 4.
     ShortReply { got: u64, wanted: u64 },
     /// The reply is longer than one with the longest proof.
     LongReply { length: u32 },
-    /// The reply is of no kind, or has not the length of its kind. For the length 0 its `kind` is 0.
+    /// The reply has no known kind, or not the length of its kind. If the length is 0, `kind` is 0.
     BadReply { length: u32, kind: u8 },
-    /// The server refused, and says why by a code.
+    /// The server refused, with a code that says why.
     PeerRefused { code: u8 },
     ReadFault,
     WriteFault,
@@ -115,8 +115,8 @@ pub(crate) fn read_head<L: Link>(link: &mut L) -> Result<(u32, u8), AskFault>
     Ok((length, kind))
 }
 
-// So many bytes behind a reply's head. Memory grows as they come,
-// so a peer that announces many and sends few costs little.
+// The `size` bytes after a reply's head. Memory grows as they arrive, so a peer that announces many and sends few costs
+// little.
 pub(crate) fn read_rest<L: Link>(alloc: Global, link: &mut L, size: u32) -> Result<Bytes, AskFault>
     ensures ok { IfOk result (λ bytes. (length bytes ≡ size) × Moves (L.told link.old) (L.told link.new) bytes [] 0) }
     ensures err { IfErr result (λ fault. (came : List ℕ) × Moves (L.told link.old) (L.told link.new) came [] 1
@@ -182,7 +182,7 @@ pub(crate) fn send_request<L: Link>(
     Ok(())
 }
 
-/// Writes one request and reads one reply. The bytes are those of the reply's proof, which is not tried here.
+/// Writes one request and reads one reply. The bytes are those of the reply's proof, which is not checked here.
 pub fn ask_once<L: Link>(
     alloc: Global,
     link: &mut L,

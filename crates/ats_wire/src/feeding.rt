@@ -1,4 +1,4 @@
-//! A question whose proof is read as it comes, so that nothing of a bad one is kept.
+//! A question whose proof is checked while it arrives, so that nothing of a bad one is kept.
 
 ghost use Rattle.std.specs.Prelude.{◌≡◌, ◌≤◌, ◌+◌, ◌^◌, ◌++◌, [], ℕ, List, length, IfOk, IfErr, OnOk};
 ghost use Rattle.ats_wire.specs.Moving.{Moves};
@@ -22,7 +22,7 @@ pub enum Fed {
     Refused(ShapeFault),
 }
 
-// Reads the bytes of a proof that come behind so many, and keeps none.
+// Reads the rest of a proof of which `read` bytes were read, and keeps nothing.
 fn pass_rest<L: Link>(link: &mut L, size: u32, read: u32) -> Result<(), AskFault>
     requires { read ≤ size }
     ensures ok { OnOk result ((came : List ℕ) × (read + length came ≡ size)
@@ -50,7 +50,7 @@ fn pass_rest<L: Link>(link: &mut L, size: u32, read: u32) -> Result<(), AskFault
     Ok(())
 }
 
-// Reads so many bytes of a proof piece by piece. From a fault on none is kept.
+// Reads a proof of `size` bytes piece by piece. After a fault nothing is kept.
 fn read_proof<L: Link>(alloc: Global, link: &mut L, size: u32) -> Result<Fed, AskFault>
     requires { size ≤ 2 ^ 26 }
     ensures ok { IfOk result (λ fed. (bytes : List ℕ) × (length bytes ≡ size)
@@ -110,8 +110,8 @@ fn read_reply<L: Link>(alloc: Global, link: &mut L) -> Result<Fed, AskFault>
     }
 }
 
-/// Writes one request and reads one reply, as [`ask_once`](crate::ask_once) does, and tries the bytes of its proof as
-/// they come. A reply is read to its end, whatever it says.
+/// Writes one request and reads one reply, as [`ask_once`](crate::ask_once) does, and checks the bytes of its proof
+/// while they arrive. A reply is read to its end, whatever it says.
 pub fn ask_fed<L: Link>(
     alloc: Global,
     link: &mut L,

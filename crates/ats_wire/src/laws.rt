@@ -1,4 +1,4 @@
-//! What a reader may take from the frames, as the contracts of functions that do nothing.
+//! The laws of frames for a reader, as contracts of functions that do nothing.
 
 ghost use Rattle.std.specs.Prelude.{◌≡◌, ℕ, List, IsSome, Result};
 ghost use Rattle.ats_base.specs.Links.{LinkTold};
@@ -11,16 +11,15 @@ ghost use Rattle.ats_wire.specs.declared.serving.Served.{Served};
 
 use crate::reply::Answerer;
 
-/// A body spells one request at most. So it asks one question at most,
-/// and one that asks a question is refused by no code.
+/// A body spells at most one request. So it asks at most one question, and no code refuses a body that asks one.
 pub fn requests_say_one_thing()
     ensures spells { (body : List ℕ) (one other : Algorithm) (rows more : ℕ) (query words : List ℕ)
         → Spells body one rows query → Spells body other more words → (one ≡ other) × (rows ≡ more) × (query ≡ words) }
     ensures asks { (body : List ℕ) (question : Question) (code : ℕ) → Asks body question → IsRefused body code → ⊥ }
 {}
 
-/// What comes over a link that tells is cut into frames in one way. How many requests are answered, and how the
-/// connection ends, is the same however often the same bytes come over it, as long as no fault does.
+/// What arrives over a link that reports is cut into frames in only one way. If the same bytes arrive twice, the same
+/// number of requests is answered and the connection ends the same way, unless there is a fault.
 pub fn connections_end_in_one_way<A: Answerer>(_answerer: &A)
     ensures { (before now later : LinkTold) (one other : Served)
         → IsServed (A.gives _answerer.now) before now one → IsServed (A.gives _answerer.now) before later other
@@ -28,8 +27,8 @@ pub fn connections_end_in_one_way<A: Answerer>(_answerer: &A)
         → (one.requests ≡ other.requests) × (one.end ≡ other.end) }
 {}
 
-/// What comes over a link that tells is one reply: a question is answered by it in one way,
-/// as long as no fault comes and memory is there.
+/// What arrives over a link that reports is one reply: it gives one answer to a question, unless there is a fault or
+/// memory runs out.
 pub fn replies_say_one_thing()
     ensures { (question other : Question) (before now later : LinkTold) (one two : Result (List ℕ) AskFault)
         → IsAsked question before now one → IsAsked other before later two

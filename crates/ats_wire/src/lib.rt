@@ -1,14 +1,14 @@
-//! The frames of requests and replies, a connection served, and one question asked.
+//! Frames of requests and replies: serves a connection, and asks one question.
 //!
-//! A request says how many of the best documents for which query are wanted, by a proof of which algorithm. A reply is
-//! the bytes of a proof, or the code that says why there is none. A server reads frames from a link and writes one
-//! reply to each, made by an [`Answerer`]; a client writes one request and reads one reply, whose proof it may try as
-//! it comes.
+//! A request asks for a number of the best documents for a query, with a proof by one of the algorithms. A reply is the
+//! bytes of a proof, or the code that says why there is none. A server reads frames from a link and writes one reply to
+//! each, made by an [`Answerer`]; a client writes one request and reads one reply, whose proof it may check while it
+//! arrives.
 //!
 //! It stands on the links of `ats_base`, on the number of rows, on the algorithms of proofs and on their grammar. The
-//! contract promises what was read and written where the link tells it, and why each end and each fault comes. Which
-//! proof is right is not known here. In what pieces bytes are read and written may be changed without asking anyone
-//! upstairs; the bytes of the frames may not.
+//! contract promises what was read and written, if the link reports it, and the cause of each end and each fault. It
+//! does not say which proof is right. In what pieces bytes are read and written may change freely; the bytes of the
+//! frames may not.
 //!
 //! ```
 //! use ats_impact::Top;

@@ -1,8 +1,8 @@
-//! Want of memory.
+//! The error for lack of memory.
 
 use std::alloc::AllocFailed;
 
-/// Memory was wanted and not there.
+/// Memory ran out.
 #[derive(Clone, Copy, Debug, PartialEq, Eq)]
 pub struct OutOfMemory;
 

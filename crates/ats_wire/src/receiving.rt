@@ -1,14 +1,14 @@
-//! A buffer, filled from a link.
+//! Fills a buffer from a link.
 
 ghost use Rattle.std.specs.Prelude.{◌<◌, ℕ, slice_index};
 ghost use Rattle.ats_wire.specs.Moving.{Fills};
 
 use ats_base::Link;
 
-/// How far a buffer was filled.
+/// How a buffer was filled.
 pub(crate) enum Filling {
     Whole,
-    /// The input ended after so many bytes, fewer than the buffer has.
+    /// The input ended after this many bytes, fewer than the buffer has.
     Ended(usize),
     Broken,
 }

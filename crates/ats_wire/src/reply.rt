@@ -1,4 +1,4 @@
-//! What a server replies, and who answers.
+//! What a server replies, and the trait of whoever answers.
 
 ghost use Rattle.std.specs.Prelude.{◌↔◌};
 ghost use Rattle.ats_wire.specs.Requests.{Question};
@@ -16,11 +16,11 @@ pub enum Reply {
     Code(u8),
 }
 
-/// Answers requests. It has one relation between what is asked and what it replies, and its calls keep it.
+/// Answers requests. It has one relation between questions and replies, and its calls keep it.
 pub trait Answerer {
     ghost gives: { Self → Question → Reply → Type 0 };
 
-    /// Want of memory is a code of its own.
+    /// Out of memory has a code of its own.
     fn answer(&mut self, alloc: Global, request: &Request<'_>) -> Reply
         ensures gives { gives self.old (record {
           algorithm = request.now.algorithm;

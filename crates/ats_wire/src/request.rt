@@ -8,15 +8,15 @@ use ats_impact::Top;
 use ats_proof::Algorithm;
 use byteorder::{BigEndian, ByteOrder};
 
-// The code of a frame that spells no request, and that of one that asks for no row or too many.
+// The code of a frame that spells no request, and that of one with a number of rows not in 1 to 1,000.
 const NO_REQUEST: u8 = 1;
 
 const ROWS_OUT: u8 = 4;
 
 pub(crate) const VERSION: u8 = 1;
 
-/// What a client asks: the proof of how many of the best documents for a query, and by which algorithm. Whether the
-/// query has terms, and not too many, is not tried here.
+/// What a client asks: a number of the best documents for a query, with a proof by this algorithm. Whether the query
+/// has terms, and not too many, is not checked here.
 #[derive(Clone, Copy, Debug)]
 pub struct Request<'a> {
     pub algorithm: Algorithm,
@@ -25,7 +25,7 @@ pub struct Request<'a> {
 }
 
 impl<'a> Request<'a> {
-    /// What a frame asks; `frame` is its body, the bytes behind its length. The error is the code of the reply.
+    /// What a frame asks; `frame` is its body, the bytes after its length. The error is the code of the reply.
     pub fn read(frame: &'a [u8]) -> Result<Request<'a>, u8>
         requires least { 6 ≤ length frame.now }
         requires most { length frame.now ≤ 4096 }

@@ -1,12 +1,12 @@
-//! The room for one frame.
+//! The memory for one frame.
 
 use crate::memory::OutOfMemory;
 use std::alloc::Global;
 
-/// The most bytes of a request's frame behind its length.
+/// The most bytes of a request's frame after its length.
 pub(crate) const MAX_FRAME: usize = 4096;
 
-/// Room for one frame. It is taken once, and serves any number of connections one after another.
+/// Memory for one frame. It is allocated once, and used for any number of connections one after another.
 #[derive(Drop)]
 pub struct FrameRoom {
     pub(crate) bytes: Box<[u8; MAX_FRAME]>,

@@ -1,4 +1,4 @@
-//! Frames, sent over a link.
+//! Sends frames over a link.
 
 ghost use Rattle.std.specs.Prelude.{◌≡◌, ◌≤◌, ◌+◌, ◌^◌, ◌∷◌, ◌++◌, [], ℕ, List, length, take, OnOk, OnErr};
 ghost use Rattle.std.specs.Int.{to_be_bytes, w32};
@@ -11,7 +11,7 @@ use crate::room::MAX_FRAME;
 use ats_base::{Failed, Link, send_all};
 use byteorder::{BigEndian, ByteOrder};
 
-// The bytes of a reply in front of a proof: the length and the kind.
+// The bytes of a reply before a proof: the length and the kind.
 const HEAD: usize = 5;
 
 /// Sends all bytes.
@@ -22,8 +22,8 @@ pub(crate) fn send<L: Link>(link: &mut L, bytes: &[u8]) -> Result<(), Failed>
     send_all(link, bytes)
 }
 
-// Puts the head of a frame with this kind and these bytes at the front of the room, and as many of the bytes behind it
-// as there is room for. Says how many these are.
+// Puts the head of a frame with this kind and these bytes at the front of the room, and after it as many of the bytes
+// as fit. Returns how many these are.
 fn pack(room: &mut [u8], kind: u8, bytes: &[u8]) -> usize
     requires room { length room.old ≡ 4096 }
     requires short { length bytes.now ≤ 2 ^ 26 }
@@ -41,7 +41,7 @@ fn pack(room: &mut [u8], kind: u8, bytes: &[u8]) -> usize
     front
 }
 
-// Sends a frame whose body is this kind and these bytes. The front of the bytes goes out with the head in one piece, so
+// Sends a frame whose body is this kind and these bytes. The front of the bytes is sent with the head in one piece, so
 // that a short reply is one packet, and a long proof is not copied.
 fn send_frame<L: Link>(link: &mut L, room: &mut [u8], kind: u8, bytes: &[u8]) -> Result<(), Failed>
     requires room { length room.old ≡ 4096 }

@@ -18,7 +18,7 @@ use std::alloc::Global;
 
 const MAX_REQUESTS: u32 = 65536;
 
-// The fewest bytes of a request's frame behind its length.
+// The fewest bytes of a request's frame after its length.
 const MIN_FRAME: u32 = 6;
 
 /// How a connection ended.
@@ -26,11 +26,11 @@ const MIN_FRAME: u32 = 6;
 pub enum ConnectionEnd {
     /// The input ended between two frames.
     Ended,
-    /// The input ended in a frame of which `left` bytes came, those of its length included.
+    /// The input ended inside a frame, of which `left` bytes were read, those of its length included.
     CutFrame { left: u32 },
-    /// A frame's length is not in 6 to 4,096. Nothing behind the length is read.
+    /// A frame's length is not in 6 to 4,096. Nothing after the length is read.
     BadFrame { length: u32 },
-    /// 65,536 requests were answered. Nothing behind them is read.
+    /// 65,536 requests were answered. Nothing after them is read.
     RequestLimit,
     ReadFault,
     WriteFault,
@@ -43,7 +43,7 @@ pub struct Served {
     pub end: ConnectionEnd,
 }
 
-// Reads a frame's body to the front of the room, and says how long it is.
+// Reads a frame's body to the front of the room, and returns its length.
 fn read_frame<L: Link>(link: &mut L, room: &mut [u8]) -> Result<usize, ConnectionEnd>
     requires { length room.old ≡ 4096 }
     ensures frame { IfOk result (λ n. IsFrameLength n
@@ -86,7 +86,7 @@ fn reply_to<A: Answerer>(alloc: Global, answerer: &mut A, body: &[u8]) -> Reply
     }
 }
 
-// Answers the frame whose body stands at the front of the room.
+// Answers the frame whose body is at the front of the room.
 fn answer_frame<L: Link, A: Answerer>(
     alloc: Global,
     link: &mut L,
@@ -107,7 +107,8 @@ fn answer_frame<L: Link, A: Answerer>(
     send_reply(link, room, &reply)
 }
 
-/// Reads frames and answers each, until the connection ends. Each turn reads or writes a byte or more, or is the last.
+/// Reads frames and answers each, until the connection ends. Each turn reads or writes at least one byte, or is the
+/// last.
 pub fn serve_connection<L: Link, A: Answerer>(
     alloc: Global,
     link: &mut L,

@@ -2,7 +2,7 @@ use Rattle.std.proofs.Common.{[], length, ◌-◌, ◌≤◌}
 use Rattle.ats_wire.specs.Moving.{Moves}
 use Rattle.ats_wire.proofs.asking.read_rest.Given as goal
 
--- these bytes came
+-- these bytes were read
 abbrev pub invariant-pieces : goal.invariant-pieces
 invariant-pieces g l = record {
   few : length l.bytes ≤ l.size;

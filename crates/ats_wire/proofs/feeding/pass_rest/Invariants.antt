@@ -2,7 +2,7 @@ use Rattle.std.proofs.Common.{◌≡◌, ◌≤◌, ℕ, ◌+◌, ◌-◌, List,
 use Rattle.ats_wire.specs.Moving.{Moves}
 use Rattle.ats_wire.proofs.feeding.pass_rest.Given as goal
 
--- so many more bytes came
+-- this many more bytes were read
 abbrev pub invariant-pieces : goal.invariant-pieces
 invariant-pieces g l = (l.done ≤ l.size) × ((came : List ℕ) × (l.fn.read + length came ≡ l.done) × Moves (g.L.Link.told l.fn.link) (g.L.Link.told l.link) came [] 0)
 

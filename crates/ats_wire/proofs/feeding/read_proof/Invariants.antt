@@ -3,7 +3,7 @@ use Rattle.ats_grammar.specs.Feeding.{StandsFor}
 use Rattle.ats_wire.specs.Moving.{Moves}
 use Rattle.ats_wire.proofs.feeding.read_proof.Given as goal
 
--- these bytes came, and the feeder stands for them
+-- these bytes were read, and fed to the feeder
 abbrev pub invariant-pieces : goal.invariant-pieces
 invariant-pieces g l = record {
   few : length l.bytes ≤ l.size;

@@ -6,7 +6,7 @@ use Rattle.ats_wire.specs.Connections.{IsAnswered, frames, replies}
 use Rattle.ats_wire.specs.declared.reply.Reply.{Reply}
 use Rattle.ats_wire.proofs.serving.serve_connection.Given as goal
 
--- so many frames were read and answered, and the answerer has the relation that it had
+-- this many frames were read and answered, and the answerer still has its relation
 abbrev pub invariant-turns : goal.invariant-turns
 invariant-turns g l = record {
   few : l.requests ≤ 65536;
