@@ -1,4 +1,4 @@
--- The replies that the index of an archive gives to a question.
+-- The replies of a server with the index of an archive.
 use Rattle.std.specs.Prelude.{◌≡◌, ◌⊎◌, ◌≤◌, ◌^◌, ℕ, List, length}
 use Rattle.ats_terms.specs.Query.{IsQueryOf}
 use Rattle.ats_terms.specs.Faults.{IsFirstFault}
@@ -26,7 +26,7 @@ abbrev pub code_of_proof : ProveFault → ℕ
 code_of_proof (proof.ProofTooLong bytes) = 5
 code_of_proof proof.OutOfMemory = 6
 
--- the bytes are the honest proof that the question asks for, and no more than a proof may have
+-- the bytes are the honest proof that the question asks for, and at most as long as a proof may be
 pub record IsGivenProof (H : List ℕ → List ℕ) (archive : Archive) (question : Question) (bytes : List ℕ) : Type 0 where
   pub query : List (List ℕ × ℕ)
   pub asked : IsQueryOf question.query query
@@ -47,7 +47,7 @@ pub record IsNoProof (H : List ℕ → List ℕ) (archive : Archive) (question :
   pub cause : IsFault H archive query question.top question.algorithm (2 ^ 26) fault
   pub is : code ≡ code_of_proof fault
 
--- The honest proof, or the code of the first reason why there is none; want of memory is free.
+-- The honest proof, or the code of the first reason why there is none; out of memory needs no cause.
 abbrev pub gives : (List ℕ → List ℕ) → Archive → Question → Reply → Type 0
 gives H archive question (Proof bytes) = IsGivenProof H archive question bytes
 gives H archive question (Code code) = IsNoQuery question code ⊎ IsNoProof H archive question code

@@ -21,7 +21,7 @@ use Rattle.ats_top.specs.declared.stops.Stop.TheVariants.{Input, Rejected, Memor
 abbrev pub question_of : AskWords → Question
 question_of words = record { algorithm = words.algorithm; top = words.r; query = words.query }
 
--- the address of the words was asked their question, and replied these bytes of a proof
+-- the question of the words was put to their address, and the reply has these bytes of a proof
 pub record IsReplied (before now : CallerTold) (words : AskWords)
     (query : List (List ℕ × ℕ)) (bytes : List ℕ) : Type 0 where
   pub asks : AsksRanking words.r words.query
@@ -36,7 +36,7 @@ pub record IsReplyAccepted (H : List ℕ → List ℕ) (before now : CallerTold)
   pub proof : Proof
   pub accepted : IsAcceptedBytes H words.root query words.r bytes proof
 
--- the bytes of the reply are rejected so
+-- the bytes of the reply are rejected for this reason
 pub record IsReplyRejected (H : List ℕ → List ℕ) (before now : CallerTold)
     (words : AskWords) (rejection : Rejection) : Type 0 where
   pub query : List (List ℕ × ℕ)
@@ -49,16 +49,16 @@ pub record IsReplyFault (before now : CallerTold) (words : AskWords) (fault : Pe
   pub asks : AsksRanking words.r words.query
   pub heard : HearsFault words.address (question_of words) before now fault
 
--- The reply is an accepted proof, and the text is the lines of the rows of its answer. For every archive with the root
--- one of two things holds. These rows are right; or the proof and the archive hold two different strings with equal
--- digests, and an audit of the bytes against that archive answers two such strings.
+-- The reply is an accepted proof, and the text is the lines of the rows of its answer. For every archive with the root,
+-- either these rows are right, or the proof and the archive contain two different strings with equal digests, and an
+-- audit of the bytes against that archive returns two such strings.
 pub record IsAnswered (H : List ℕ → List ℕ) (before now : CallerTold) (words : AskWords) (text : List ℕ) : Type 0 where
   pub accepted : IsReplyAccepted H before now words
   pub headline : IsTopOrCollides H words.root accepted.query words.r accepted.proof
   pub audited : IsTopOrTold H words.root accepted.query words.r accepted.bytes accepted.proof
   pub printed : text ≡ lines (rows_of accepted.query accepted.proof)
 
--- why it stopped; want of memory is free
+-- why it stopped; out of memory needs no cause
 abbrev pub AskStop : (List ℕ → List ℕ) → (before now : CallerTold) → AskWords → Stop → Type 0
 AskStop H before now words (Input refusal) = IsRankingRefused words.r words.query (λ other. ⊥) refusal
 AskStop H before now words (Rejected rejection) = IsReplyRejected H before now words rejection

@@ -41,13 +41,14 @@ pub record IsAuditedRight (H : List ℕ → List ℕ) (files : Files) (words : A
   pub right : AreRight audited.archive.texts audited.query words.r (rows_of audited.query audited.proof)
   pub printed : text ≡ lines (rows_of audited.query audited.proof)
 
--- what the words say is within the limits, and the proof has this first collision with the archive
+-- the words are within the limits, and the proof has this first collision with the archive
 abbrev pub HasCollision : (List ℕ → List ℕ) → Files → Command → Difference TreePlace → Type 0
 HasCollision H files (Audit words) collision = AsksRanking words.r words.query
     × IsAudited H files words (Some collision)
 HasCollision H files _ collision = ⊥
 
--- the collision is at this place, whose turns have no digit above its depth, and its strings are two with one digest
+-- the collision is at this place, whose turns have no digit above its depth, and its two strings differ and have the
+-- same digest
 pub record CollidesAt (H : List ℕ → List ℕ) (files : Files) (command : Command)
     (place : Place) (ours theirs : List ℕ) : Type 0 where
   pub collision : HasCollision H files command (record { place = tree_place place; ours = ours; theirs = theirs })

@@ -1,4 +1,4 @@
--- The lines of two different strings with one digest.
+-- The lines of two different strings with the same digest.
 use Rattle.std.specs.Prelude.{◌++◌, ℕ, List, codes, decimal}
 use Rattle.hex.specs.Hex.{encode_lower}
 use Rattle.ats_tree.specs.declared.hashed.Place.{Place}

@@ -1,4 +1,4 @@
--- A conversation: an address is called, one question is asked over the link that comes, and the link is given back.
+-- A conversation: an address is called, one question is asked over the link, and the link is given back.
 use Rattle.std.specs.Prelude.{◌≡◌, ◌<◌, ◌≤◌, ◌⊎◌, ◌^◌, ℕ, List, is_some, option_map, Result, Ok, Err}
 use Rattle.ats_base.specs.Outside.{Rose}
 use Rattle.ats_base.specs.Links.{LinkTold, CallerTold, IsNew, IsCalledAt, MayNoteCall, calling_out, called_back, counted_broken}
@@ -13,8 +13,8 @@ use Rattle.ats_top.specs.declared.stops.PeerFault.TheVariants.{Short, Long, Bad,
 use Rattle.ats_top.specs.declared.stops.Stop.{Stop}
 use Rattle.ats_top.specs.declared.stops.Stop.TheVariants.{Memory, Link, Peer}
 
--- The address was called, the question was asked over the link that came, with this result, and the link was given
--- back. The record has the link as it came and as it was given back, and the caller's count between the two.
+-- The address was called, the question was asked over the link, with this result, and the link was given back. The
+-- record has the link as it was received and as it was given back, and the caller's count between the two.
 pub record Converses (address : List ℕ) (question : Question) (before now : CallerTold)
     (result : Result (List ℕ) AskFault) : Type 0 where
   pub link : LinkTold
@@ -27,17 +27,18 @@ pub record Converses (address : List ℕ) (question : Question) (before now : Ca
   pub later : before.faults ≤ count
   pub counted : now.faults ≡ counted_broken back.faults count
 
--- a whole reply came with the bytes of a proof, of which this is told
+-- a whole reply with the bytes of a proof was read, with this verdict
 abbrev pub ConversesFed : (address : List ℕ) → Question → (before now : CallerTold) → Fed → Type 0
 ConversesFed address question before now fed = (bytes : List ℕ)
     × Converses address question before now (Ok bytes) × IsFed fed bytes
 
--- the address was called, and no link came
+-- the address was called, and there was no link
 pub record CallsInVain (address : List ℕ) (before now : CallerTold) : Type 0 where
   pub noted : MayNoteCall address before.content now.content
   pub rose : Rose before.faults now.faults
 
--- the caller's count rose: no link came, or the question was not written or its reply not read for a fault
+-- the caller's count rose: either there was no link, or a fault kept the question from being written or its reply from
+-- being read
 pub record LosesLink (address : List ℕ) (question : Question) (before now : CallerTold) : Type 0 where
   pub rose : Rose before.faults now.faults
   pub way : CallsInVain address before now
@@ -56,20 +57,20 @@ pub record HearsFault (address : List ℕ) (question : Question) (before now : C
   pub heard : IsHeard (Err (reply_fault fault))
   pub conversation : Converses address question before now (Err (reply_fault fault))
 
--- why there are no bytes of a proof; want of memory is free
+-- why there are no bytes of a proof; out of memory needs no cause
 abbrev pub ConversationStop : (address : List ℕ) → Question → (before now : CallerTold) → Stop → Type 0
 ConversationStop address question before now Memory = Unit {0}
 ConversationStop address question before now Link = LosesLink address question before now
 ConversationStop address question before now (Peer fault) = HearsFault address question before now fault
 ConversationStop address question before now _ = ⊥
 
--- the length that is told has 4 bytes
+-- the reported length has 4 bytes
 abbrev pub IsRanged : AskFault → Type 0
 IsRanged (LongReply size) = size < 2 ^ 32
 IsRanged (BadReply size kind) = size < 2 ^ 32
 IsRanged _ = Unit {0}
 
--- the address was called once, and a link that came is back
+-- the address was called once, and the link, if there was one, is back
 abbrev pub Calls : (address : List ℕ) → Question → (before now : CallerTold) → Type 0
 Calls address question before now = CallsInVain address before now
     ⊎ ((result : Result (List ℕ) AskFault) × Converses address question before now result)

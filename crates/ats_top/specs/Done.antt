@@ -1,4 +1,4 @@
--- What the commands do where they are done, and what of it is left where they are not.
+-- What the commands do if they are done, and what they leave if they are not.
 use Rattle.std.specs.Prelude.{◌≡◌, ◌≤◌, ℕ, List, length, take, map, Option, Some, None}
 use Rattle.hex.specs.Hex.{encode_lower}
 use Rattle.ats_base.specs.Outside.{Puts}
@@ -38,12 +38,12 @@ pub record IsRanked (files : Files) (words : RankWords) (text : List ℕ) : Type
   pub top : IsTop texts query words.r (map (λ row. row.doc) rows)
   pub printed : text ≡ lines rows
 
--- the text is the line of this root, and its digits are the word that `verify` reads the root from
+-- the text is the line of this root, whose digits are the word to give `verify` as ROOT
 pub record IsPublished (root text : List ℕ) : Type 0 where
   pub printed : text ≡ line_of_root root
   pub word : root_word (encode_lower root) ≡ Some root
 
--- INDEX was given the index bytes of the archive of the named file's texts, and its root was published
+-- INDEX holds the index bytes of the archive of the named file's texts, and its root was published
 pub record IsBuilt (H : List ℕ → List ℕ) (before now : Files) (words : BuildWords) (text : List ℕ) : Type 0 where
   pub texts : List (List ℕ)
   pub bytes : List ℕ
@@ -58,7 +58,7 @@ pub record IsRooted (H : List ℕ → List ℕ) (files : Files) (words : RootWor
   pub index : HasIndex H files words.index archive
   pub published : IsPublished (root_of H archive) text
 
--- PROOF was given the honest proof that the words ask for, and the text is the line of its length
+-- PROOF holds the honest proof that the words ask for, and the text is the line of its length
 pub record IsProofStored (H : List ℕ → List ℕ) (before now : Files) (words : ProveWords) (text : List ℕ) : Type 0 where
   pub asks : AsksRanking words.r words.query
   pub bytes : List ℕ
@@ -67,8 +67,8 @@ pub record IsProofStored (H : List ℕ → List ℕ) (before now : Files) (words
   pub printed : text ≡ line_of_proof (length bytes)
 
 -- The named file is an accepted proof, and the text is the lines of the rows of its answer. For every archive with the
--- root one of two things holds. These rows are right; or the proof and the archive hold two different strings with
--- equal digests, and an audit of the bytes against that archive answers two such strings.
+-- root, either these rows are right, or the proof and the archive contain two different strings with equal digests, and
+-- an audit of the bytes against that archive returns two such strings.
 pub record IsVerified (H : List ℕ → List ℕ) (files : Files) (words : VerifyWords) (text : List ℕ) : Type 0 where
   pub asks : AsksRanking words.r words.query
   pub accepted : IsAccepted H files words
@@ -76,7 +76,7 @@ pub record IsVerified (H : List ℕ → List ℕ) (files : Files) (words : Verif
   pub audited : IsTopOrTold H words.root accepted.query words.r accepted.bytes accepted.proof
   pub printed : text ≡ lines (rows_of accepted.query accepted.proof)
 
--- the command of these words is done: this is its text, and what the objects of the outside hold after it
+-- the command of these words is done: this is its text, and what the objects outside the program hold after it
 abbrev pub IsDone : (List ℕ → List ℕ) → Outside → Outside → Command → List ℕ → Type 0
 IsDone H before now (Rank words) text = IsRanked before.shelf.files words text × (now.shelf.files ≡ before.shelf.files)
 IsDone H before now (Build words) text = IsBuilt H before.shelf.files now.shelf.files words text
@@ -95,13 +95,13 @@ IsDone H before now (Sweep words) text = IsSwept H before.shelf.files words 0 te
     × (now.shelf.files ≡ before.shelf.files)
 IsDone H before now (Trial words) text = IsTrial H words.number text × (now.shelf.files ≡ before.shelf.files)
 
--- the name was given a prefix of the bytes, which may be all of them
+-- the named file holds a prefix of the bytes, which may be all of them
 pub record PutsPart (before now : Files) (name bytes : List ℕ) : Type 0 where
   pub n : ℕ
   pub within : n ≤ length bytes
   pub stored : Puts before now name (take n bytes)
 
--- INDEX was given a prefix of the index bytes of the archive of the named file's texts
+-- INDEX holds a prefix of the index bytes of the archive of the named file's texts
 pub record IsBuiltPart (H : List ℕ → List ℕ) (before now : Files) (words : BuildWords) : Type 0 where
   pub texts : List (List ℕ)
   pub bytes : List ℕ
@@ -109,7 +109,7 @@ pub record IsBuiltPart (H : List ℕ → List ℕ) (before now : Files) (words :
   pub spelling : IsSpelling H bytes (archive_of texts)
   pub part : PutsPart before now words.index bytes
 
--- PROOF was given a prefix of the honest proof that the words ask for
+-- PROOF holds a prefix of the honest proof that the words ask for
 pub record IsProofPart (H : List ℕ → List ℕ) (before now : Files) (words : ProveWords) : Type 0 where
   pub asks : AsksRanking words.r words.query
   pub bytes : List ℕ
@@ -129,8 +129,8 @@ Changes H before now (Audit words) = ⊥
 Changes H before now (Sweep words) = ⊥
 Changes H before now (Trial words) = ⊥
 
--- what the words say is within the limits, and the named file is of the form that the command reads; a proof is one
--- that is accepted; the texts of a trial's queries are queries
+-- the words are within the limits, and the named file has the form that the command reads; a proof must be an accepted
+-- one; the texts of a trial's queries must be queries
 abbrev pub HasInput : (List ℕ → List ℕ) → Files → Command → Type 0
 HasInput H files (Rank words) = AsksRanking words.r words.query
     × ((texts : List (List ℕ)) × HasCollection files words.collection texts)
@@ -146,8 +146,8 @@ HasInput H files (Audit words) = AsksRanking words.r words.query
 HasInput H files (Sweep words) = (findings : List Finding) × AreFound H files words findings
 HasInput H files (Trial words) = AreQueries words.number 20
 
--- And no honest proof that the words ask for is too long, and the audited proof has no collision with the archive. Of
--- `ask` no file decides, but the reply.
+-- The command has its input, no honest proof that the words ask for is too long, and an audited proof has no collision
+-- with the archive. For `ask` the reply decides, and no file.
 abbrev pub IsServed : (List ℕ → List ℕ) → Files → Command → Type 0
 IsServed H files (Rank words) = HasInput H files (Rank words)
 IsServed H files (Build words) = HasInput H files (Build words)

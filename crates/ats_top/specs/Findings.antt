@@ -1,4 +1,4 @@
--- What a sweep finds of the listed proofs: of each what `audit` finds of it, and a line for it.
+-- What a sweep finds for the listed proofs: for each what `audit` finds, and a line.
 use Rattle.std.specs.Prelude.{◌≡◌, ◌≢◌, ◌+◌, ◌^◌, ◌++◌, ◌∷◌, ℕ, Bool, true, false, List, [], length, codes, decimal, Some, None, if◌then◌else◌}
 use Rattle.std.specs.List.{AllZip, list_any}
 use Rattle.ats_terms.specs.Query.{IsQuery, IsQueryOf}
@@ -24,8 +24,8 @@ pub data Finding : Type 0 where
   FoundRefused : Rejection → Finding
   FoundCollision : Difference TreePlace → Finding
 
--- What `audit` finds of these words: the rows of the answer, why the proof is refused, or its first collision with the
--- archive. The rows are right for the archive's texts, and the collision is two different strings with one digest.
+-- What `audit` finds for these words: the rows of the answer, why the proof is refused, or its first collision with the
+-- archive. The rows are right for the archive's texts, and the collision is two different strings with the same digest.
 abbrev pub IsFinding : (List ℕ → List ℕ) → Files → AuditWords → Finding → Type 0
 IsFinding H files words (FoundRight rows) = (audited : IsAudited H files words None)
     × (rows ≡ rows_of audited.query audited.proof) × AreRight audited.archive.texts audited.query words.r rows
@@ -38,8 +38,8 @@ IsFinding H files words (FoundCollision collision) =
 abbrev pub audit_of : List ℕ → Listed → AuditWords
 audit_of index listed = record { index = index; r = listed.r; query = listed.query; proof = listed.proof }
 
--- the named files are an index and a list whose proofs are all there,
--- and this is found of each in the order of the lines
+-- the named files are an index and a list whose proofs are all there, and these are the findings in the order of the
+-- lines
 pub record AreFound (H : List ℕ → List ℕ) (files : Files) (words : SweepWords) (findings : List Finding) : Type 0 where
   pub archive : Archive
   pub index : HasIndex H files words.index archive
@@ -78,7 +78,7 @@ finding_lines number (finding ∷ findings) = line_of_finding number finding ++ 
 abbrev pub lines_of_findings : List Finding → List ℕ
 lines_of_findings findings = finding_lines 1 findings
 
--- what is found comes to this status, and the text is its lines
+-- the findings give this status, and the text is their lines
 pub record IsSwept (H : List ℕ → List ℕ) (files : Files) (words : SweepWords)
     (status : ℕ) (text : List ℕ) : Type 0 where
   pub findings : List Finding
@@ -91,8 +91,8 @@ abbrev pub SweepStops : (List ℕ → List ℕ) → Files → Command → (text 
 SweepStops H files (Sweep words) text collides = IsSwept H files words (if collides then 5 else 1) text
 SweepStops H files _ text collides = ⊥
 
--- the file of a line is the honest proof, by one of the algorithms, of what the line asks for;
--- each query that is read is one of `IsQuery`
+-- the file of a line is the honest proof, by one of the algorithms, of what the line asks for; each query that is read
+-- satisfies `IsQuery`
 pub record IsHonestLine (H : List ℕ → List ℕ) (files : Files) (archive : Archive) (line : Listed) : Type 0 where
   pub algorithm : Algorithm
   pub query : List (List ℕ × ℕ)

@@ -1,4 +1,4 @@
--- The proofs of a list, as a sweep gathers them in the order of its lines, and what keeps it from gathering all.
+-- The proofs of a list, as a sweep gathers them in the order of its lines, and why it cannot gather all.
 use Rattle.std.specs.Prelude.{◌≡◌, ◌+◌, ◌<◌, ◌≤◌, ◌^◌, ◌++◌, ◌∷◌, ℕ, List, [], length, sum_by}
 use Rattle.std.specs.List.{AllZip}
 use Rattle.ats_base.specs.Outside.{IsMissing, IsLonger}
@@ -22,7 +22,7 @@ size proof = length (content proof)
 abbrev pub total : List Gathered → ℕ
 total proofs = sum_by size proofs
 
--- the named files are these proofs, and have no more bytes together than a sweep may gather
+-- the named files are these proofs, and together have at most the bytes that a sweep may gather
 pub record AreGathered (files : Files) (names : List (List ℕ)) (proofs : List Gathered) : Type 0 where
   pub each : AllZip (IsGathered files) names proofs
   pub within : total proofs ≤ 2 ^ 28
@@ -41,7 +41,7 @@ pub record LacksProof (files : Files) (names : List (List ℕ)) : Type 0 where
   pub gathered : AreGathered files before proofs
   pub missing : IsMissing files name
 
--- those before a file are within the limit; with it they have this many bytes, which are more
+-- the files before one are within the limit; with it they have this many bytes, which are more
 pub record PassesLimit (files : Files) (names : List (List ℕ)) (bytes : ℕ) : Type 0 where
   pub before : List (List ℕ)
   pub name : List ℕ

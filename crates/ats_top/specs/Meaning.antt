@@ -1,4 +1,4 @@
--- The command that the program's own value of it means.
+-- The command that a value of the program's own type means.
 use Rattle.ats_top.specs.Words.{Command, Rank, Build, Root, Prove, Verify, Ask, Serve, Audit, Sweep, Trial}
 use Rattle.ats_top.specs.declared.words.Command.{Command as Said}
 use Rattle.ats_top.specs.declared.words.Command.TheVariants as said

@@ -1,4 +1,4 @@
--- What is printed once a serving of links ended.
+-- What is printed after links were served.
 use Rattle.std.specs.Prelude.{◌≡◌, ◌⊎◌, ◌<◌, ℕ, Result, Ok, Err}
 use Rattle.ats_base.specs.Outside.{SinkTold}
 use Rattle.ats_top.specs.Run.{PrintsStop}
@@ -6,7 +6,7 @@ use Rattle.ats_top.specs.declared.serving.Halt.{Halt}
 use Rattle.ats_top.specs.declared.serving.Halt.TheVariants.{Door, Sink, Memory}
 use Rattle.ats_top.specs.declared.stops.Stop.TheVariants as stop
 
--- nothing, where no link failed; the line of the stop; or nothing to a sink that failed
+-- nothing, if no link failed; the line of the stop; or nothing, to a sink that failed
 abbrev pub PrintsOutcome : (before now : SinkTold) → Result ℕ Halt → (result : ℕ) → Type 0
 PrintsOutcome before now (Ok faults) result =
     ((faults ≡ 0) × (result ≡ 0) × (now ≡ before)) ⊎ ((0 < faults) × PrintsStop before now (stop.Faults faults) result)

@@ -1,4 +1,4 @@
--- What the objects of the outside tell of themselves, all together.
+-- What the objects outside the program report of themselves, all together.
 use Rattle.ats_base.specs.Outside.{ShelfTold, SinkTold}
 use Rattle.ats_base.specs.Links.{CallerTold, DoorTold}
 

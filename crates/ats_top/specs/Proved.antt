@@ -10,7 +10,8 @@ use Rattle.ats_top.specs.declared.stops.InputRefusal.TheVariants.{ProofTooLong}
 use Rattle.ats_top.specs.declared.stops.Stop.{Stop}
 use Rattle.ats_top.specs.declared.stops.Stop.TheVariants.{Input, Memory}
 
--- the bytes are the honest proof of the query over the archive of the named index, and no more than a proof may have
+-- the bytes are the honest proof of the query over the archive of the named index, and at most as long as a proof may
+-- be
 pub record IsProofFor (H : List ℕ → List ℕ) (files : Files) (words : ProveWords) (bytes : List ℕ) : Type 0 where
   pub archive : Archive
   pub query : List (List ℕ × ℕ)
@@ -19,7 +20,7 @@ pub record IsProofFor (H : List ℕ → List ℕ) (files : Files) (words : Prove
   pub proved : IsProved H archive query words.r words.algorithm bytes
   pub short : length bytes ≤ 2 ^ 26
 
--- the honest proof of the query over that archive has so many bytes, which are more than a proof may have
+-- the honest proof of the query over that archive has this many bytes, more than a proof may have
 pub record IsProofTooLong (H : List ℕ → List ℕ) (files : Files) (words : ProveWords) (size : ℕ) : Type 0 where
   pub archive : Archive
   pub query : List (List ℕ × ℕ)
@@ -27,7 +28,7 @@ pub record IsProofTooLong (H : List ℕ → List ℕ) (files : Files) (words : P
   pub asked : IsQueryOf words.query query
   pub long : IsTooLong H archive query words.r words.algorithm (2 ^ 26) size
 
--- a query's proof over an archive is not made: it is too long, or memory was wanted
+-- why a query's proof over an archive is not made: it is too long, or memory ran out
 abbrev pub MakingStop : (List ℕ → List ℕ) → Archive → List (List ℕ × ℕ) → ℕ → Algorithm → Stop → Type 0
 MakingStop H archive query r algorithm Memory = Unit {0}
 MakingStop H archive query r algorithm (Input (ProofTooLong bytes)) =

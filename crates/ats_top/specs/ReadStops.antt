@@ -1,4 +1,4 @@
--- Why a file was not read as what a command wants, or no ranking was made of it; want of memory is free.
+-- Why a file was not read in the form that a command needs, or no ranking was made of it; out of memory needs no cause.
 use Rattle.std.specs.Prelude.{◌≡◌, ◌⊎◌, ℕ, List}
 use Rattle.ats_base.specs.Outside.{Rose, IsMissing, IsLonger, ShelfTold}
 use Rattle.ats_client.specs.Bytes.{IsRejectedBytes}
@@ -9,11 +9,11 @@ use Rattle.ats_top.specs.declared.stops.InputRefusal.TheVariants.{FileTooLong}
 use Rattle.ats_top.specs.declared.stops.Stop.{Stop}
 use Rattle.ats_top.specs.declared.stops.Stop.TheVariants.{Shelf, Input, Rejected, Memory}
 
--- the shelf's count rose, or it tells and the named file is not there
+-- the shelf's count rose, or it reports its files and the named one is missing
 abbrev pub IsUnread : (before now : ShelfTold) → List ℕ → Type 0
 IsUnread before now name = Rose before.faults now.faults ⊎ IsMissing before.files name
 
--- a shelf's fault, or a refusal of which this holds
+-- a shelf's fault, or a refusal that satisfies `refused`
 abbrev pub StopsBy : (before now : ShelfTold) → List ℕ → (InputRefusal → Type 0) → Stop → Type 0
 StopsBy before now name refused Shelf = IsUnread before now name
 StopsBy before now name refused (Input refusal) = refused refusal
@@ -30,7 +30,7 @@ CollectionStop before now name stop = StopsBy before now name (IsCollectionRefus
 abbrev pub IndexStop : (List ℕ → List ℕ) → (before now : ShelfTold) → List ℕ → Stop → Type 0
 IndexStop H before now name stop = StopsBy before now name (IsIndexRefused H before.files name) stop
 
--- the rows and the query are tried first, then the named file and what is made of it
+-- the rows and the query are checked first, then the named file and what is made of it
 abbrev pub RankingStop : (before now : ShelfTold) → List ℕ → (r : ℕ) (text : List ℕ)
     → (InputRefusal → Type 0) → Stop → Type 0
 RankingStop before now name r text later Shelf = AsksRanking r text × IsUnread before now name

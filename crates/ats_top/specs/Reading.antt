@@ -1,4 +1,4 @@
--- The files that commands read and store, and what comes of the shelf by it.
+-- The files that commands read and store, and the calls on the shelf for it.
 use Rattle.std.specs.Prelude.{◌≡◌, ◌⊎◌, ◌≤◌, ◌^◌, ◌++◌, ◌∷◌, ℕ, List, [], Option, Some, None, map}
 use Rattle.ats_base.specs.Outside.{IsMissing, ShelfTold, Ask, Asked, ReadsAtMostOnce, StoresOnce}
 use Rattle.ats_top.specs.Read.{Files}
@@ -12,7 +12,7 @@ pub data Form : Type 0 where
   AsProof : Form
   AsList : Form
 
--- the most bytes that it may have
+-- the most bytes that a file of this form may have
 abbrev pub limit_of : Form → ℕ
 limit_of AsCollection = 2 ^ 26
 limit_of AsIndex = 2 ^ 29
@@ -38,7 +38,7 @@ reads (Sweep words) = (record { name = words.index; form = AsIndex })
     ∷ (record { name = words.list; form = AsList }) ∷ []
 reads (Trial words) = []
 
--- the file that it stores, if it stores one
+-- the file that a command stores, if it stores one
 abbrev pub stores : Command → Option (List ℕ)
 stores (Rank words) = None
 stores (Build words) = Some words.index
@@ -51,7 +51,7 @@ stores (Audit words) = None
 stores (Sweep words) = None
 stores (Trial words) = None
 
--- these files alone are read, in this order, each once at most
+-- only these files are read, in this order, each at most once
 abbrev pub ReadsInOrder : List InputFile → List Ask → Type 0
 ReadsInOrder [] asks = asks ≡ []
 ReadsInOrder (file ∷ rest) asks =
@@ -62,15 +62,15 @@ ReadsInOrder (file ∷ rest) asks =
 abbrev pub proof_files : List (List ℕ) → List InputFile
 proof_files names = map (λ (name : List ℕ). record { name = name; form = AsProof }) names
 
--- behind the files that its words name a sweep reads those of the proofs of its list, once that is read;
--- no other command reads more
+-- A command reads only the files that its words name. A sweep then also reads the proofs of its list, if it read a
+-- list.
 abbrev pub ReadsFilesOf : Files → Command → List Ask → Type 0
 ReadsFilesOf files (Sweep words) asks = ReadsInOrder (reads (Sweep words)) asks
     ⊎ ((listed : List Listed) × IsList files words.list listed
     × ReadsInOrder (reads (Sweep words) ++ proof_files (names_of listed)) asks)
 ReadsFilesOf files command asks = ReadsInOrder (reads command) asks
 
--- this file alone is stored, once at most, if there is one to store
+-- only this file is stored, at most once, if there is one to store
 abbrev pub StoresAtMostOnce : Option (List ℕ) → List Ask → Type 0
 StoresAtMostOnce None asks = asks ≡ []
 StoresAtMostOnce (Some name) asks = (asks ≡ []) ⊎ StoresOnce name asks
@@ -92,14 +92,14 @@ abbrev pub IsFirstMissing : Option (List ℕ → Option (List ℕ)) → List Inp
 IsFirstMissing files [] = ⊥
 IsFirstMissing files (file ∷ rest) = IsMissing files file.name
 
--- what the reading of one file leaves of the shelf
+-- what reading one file leaves of the shelf
 pub record Reads (before now : ShelfTold) (name : List ℕ) (limit : ℕ) : Type 0 where
   pub files : now.files ≡ before.files
   pub later : before.faults ≤ now.faults
   pub uncounted : IsMissing before.files name → now.faults ≡ before.faults
   pub asked : Asked before.asked now.asked (ReadsAtMostOnce name limit)
 
--- what a command leaves of the shelf's counts, and its calls
+-- what a command leaves of the shelf's counts, and its calls on the shelf
 pub record Serves (before now : ShelfTold) (command : Command) : Type 0 where
   pub later : before.faults ≤ now.faults
   pub uncounted : IsFirstMissing before.files (reads command) → now.faults ≡ before.faults

@@ -1,5 +1,5 @@
--- Why a command refuses its words or its file, or a query or a proof of a trial: the first limit or form that is not
--- kept, in the order in which they are tried.
+-- Why a command refuses its words or its file, or a query or a proof of a trial: the first limit or form that is
+-- broken, in the order in which they are checked.
 use Rattle.std.specs.Prelude.{◌≡◌, ◌⊎◌, ◌≤◌, ◌^◌, ℕ, List}
 use Rattle.ats_base.specs.Outside.{IsMissing, IsLonger}
 use Rattle.ats_terms.specs.Query.{HasQuery}
@@ -33,7 +33,7 @@ pub record AsksRanking (r : ℕ) (text : List ℕ) : Type 0 where
   pub rows : IsRowCount r
   pub query : HasQuery text
 
--- what the words of a command say is within the limits
+-- the words of a command are within the limits
 abbrev pub Asks : Command → Type 0
 Asks (Rank words) = AsksRanking words.r words.query
 Asks (Build words) = Unit {0}
@@ -46,13 +46,13 @@ Asks (Audit words) = AsksRanking words.r words.query
 Asks (Sweep words) = Unit {0}
 Asks (Trial words) = Unit {0}
 
--- and it comes to the shelf
+-- the command reads a file, and its words are within the limits
 abbrev pub NeedsShelf : Command → Type 0
 NeedsShelf (Ask words) = ⊥
 NeedsShelf (Trial words) = ⊥
 NeedsShelf command = Asks command
 
--- a file that the command reads is not there, where what is tried before it is good
+-- a file that the command reads is missing, and everything that is checked before it is good
 abbrev pub LacksFile : (List ℕ → List ℕ) → Files → Command → Type 0
 LacksFile H files (Rank words) = AsksRanking words.r words.query × IsMissing files words.collection
 LacksFile H files (Build words) = IsMissing files words.collection
@@ -117,7 +117,7 @@ abbrev pub IsSweepRefused : (List ℕ → List ℕ) → Files → SweepWords →
 IsSweepRefused H files words refusal = IsIndexRefused H files words.index refusal
     ⊎ (((archive : Archive) × HasIndex H files words.index archive) × IsListRefused files words.list refusal)
 
--- rows, query, and then what is tried after them
+-- rows, query, and then what is checked after them
 abbrev pub IsRankingRefused : ℕ → List ℕ → (InputRefusal → Type 0) → InputRefusal → Type 0
 IsRankingRefused r text later (ROut out) = (out ≡ r) × (IsRowCount out → ⊥)
 IsRankingRefused r text later (QueryTooLong bytes) = IsRowCount r × IsFirstFault text (query.TooLong bytes)

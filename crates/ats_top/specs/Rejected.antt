@@ -17,7 +17,7 @@ pub record IsLongFile (files : Files) (name : List ℕ) (rejection : Rejection) 
   pub longer : IsLonger files name (2 ^ 26)
   pub is : rejection ≡ Shape (record { at = 2 ^ 26; kind = Long })
 
--- the named file's bytes are rejected so, under the root and for the query of the words
+-- the named file's bytes are rejected for this reason, under the root and for the query of the words
 pub record IsFileRejected (H : List ℕ → List ℕ) (files : Files)
     (words : VerifyWords) (rejection : Rejection) : Type 0 where
   pub query : List (List ℕ × ℕ)
@@ -26,19 +26,19 @@ pub record IsFileRejected (H : List ℕ → List ℕ) (files : Files)
   pub file : IsFile files words.proof (2 ^ 26) bytes
   pub rejected : IsRejectedBytes H words.root query words.r bytes rejection
 
--- the bytes of a file that is too long are not gathered
+-- the file is too long, so that its bytes are not gathered, or its bytes are rejected
 abbrev pub IsProofRejected : (List ℕ → List ℕ) → Files → VerifyWords → Rejection → Type 0
 IsProofRejected H files words rejection = IsLongFile files words.proof rejection
     ⊎ IsFileRejected H files words rejection
 
--- the named index is that of an archive, and the proof is refused so under its root
+-- the named index is that of an archive, and the proof is refused for this reason under its root
 abbrev pub IsAuditRejected : (List ℕ → List ℕ) → Files → AuditWords → Rejection → Type 0
 IsAuditRejected H files words rejection =
     (archive : Archive) × HasIndex H files words.index archive
     × IsProofRejected H files (under (root_of H archive) words) rejection
 
--- what the words say is within the limits, and the proof in the file is refused so;
--- a sweep has many proofs, of which `AreFound` says it
+-- the words are within the limits, and the proof in the file is refused for this reason; for a sweep, which has many
+-- proofs, `AreFound` says it
 abbrev pub IsRejected : (List ℕ → List ℕ) → Files → Command → Rejection → Type 0
 IsRejected H files (Rank words) rejection = ⊥
 IsRejected H files (Build words) rejection = ⊥

@@ -12,7 +12,7 @@ use Rattle.ats_top.specs.declared.serving.Halt.TheVariants.{Door, Sink, Memory}
 use Rattle.ats_top.specs.declared.stops.Stop.{Stop}
 use Rattle.ats_top.specs.declared.stops.Stop.TheVariants as stop
 
--- The door listened at the address, and nothing else came to it.
+-- The door listened at the address, and there was no other call on it.
 pub record Listened (address : List ℕ) (before now : DoorTold) : Type 0 where
   pub content : now.content ≡ option_map (noting_listen address) before.content
   pub broken : now.broken ≡ before.broken
@@ -25,8 +25,8 @@ pub record FailedToListen (address : List ℕ) (before now : DoorTold) : Type 0 
   pub cause : Rose before.faults now.faults
   pub later : before.faults ≤ now.faults
 
--- The named file is the index of an archive, the door listened at the address of the words, and these sessions were
--- had, of which each request was answered from that archive.
+-- The named file is the index of an archive, the door listened at the address of the words, and there were these
+-- sessions, in which each request was answered from that archive.
 pub record HasServed (H : List ℕ → List ℕ) (files : Files) (words : ServeWords)
     (before now : DoorTold) (sessions : List Session) : Type 0 where
   pub archive : Archive
@@ -36,11 +36,11 @@ pub record HasServed (H : List ℕ → List ℕ) (files : Files) (words : ServeW
   pub had : HadSessions (gives H archive) sessions opened now
   pub few : length sessions ≤ words.connections
 
--- what is printed once the door listens, and behind these sessions
+-- what is printed: that the door listens, and then the lines of these sessions
 abbrev pub serving_text : List Session → List ℕ
 serving_text sessions = codes "listening\n" ++ session_lines sessions
 
--- all links that the words say were served, so many of them broken off by a fault, and the text tells it
+-- as many links as the words say were served, `faults` of them were broken off by a fault, and the text is their lines
 pub record AreAllServed (H : List ℕ → List ℕ) (files : Files) (words : ServeWords)
     (before now : DoorTold) (faults : ℕ) (text : List ℕ) : Type 0 where
   pub sessions : List Session
@@ -49,7 +49,7 @@ pub record AreAllServed (H : List ℕ → List ℕ) (files : Files) (words : Ser
   pub faults_are : faults ≡ faults_of sessions
   pub printed : text ≡ serving_text sessions
 
--- `accept` failed before all links that the words say were served
+-- `accept` failed before as many links as the words say were served
 pub record IsDoorBroken (H : List ℕ → List ℕ) (files : Files) (words : ServeWords)
     (before now : DoorTold) (text : List ℕ) : Type 0 where
   pub sessions : List Session
@@ -59,7 +59,7 @@ pub record IsDoorBroken (H : List ℕ → List ℕ) (files : Files) (words : Ser
   pub fewer : length sessions < words.connections
   pub printed : text ≡ serving_text sessions
 
--- memory was wanted for a line behind this text, which tells all sessions, or all but the last
+-- memory for a line ran out after this text, which has the lines of all sessions, or of all but the last
 pub record IsLineUnmade (H : List ℕ → List ℕ) (files : Files) (words : ServeWords)
     (before now : DoorTold) (text : List ℕ) : Type 0 where
   pub sessions : List Session
@@ -68,7 +68,7 @@ pub record IsLineUnmade (H : List ℕ → List ℕ) (files : Files) (words : Ser
   pub but_last : (sessions ≡ told) ⊎ ((last : Session) × (sessions ≡ told ++ last ∷ []))
   pub printed : text ≡ serving_text told
 
--- the text tells these sessions, but was not taken whole
+-- the text is the lines of these sessions, but was not taken whole
 pub record IsServingUnprinted (H : List ℕ → List ℕ) (files : Files) (words : ServeWords)
     (before now : DoorTold) (text : List ℕ) : Type 0 where
   pub sessions : List Session
@@ -83,8 +83,8 @@ pub record IsDoorShut (H : List ℕ → List ℕ) (files : Files) (words : Serve
   pub failed : FailedToListen words.address before now
   pub printed : text ≡ []
 
--- What came of serving where the index was loaded: all links that the words say were served; or the door failed, or the
--- sink; or memory was wanted for a line.
+-- The result of serving after the index was loaded: as many links as the words say were served; or the door failed, or
+-- the sink; or memory for a line ran out.
 abbrev pub Attends : (List ℕ → List ℕ) → Files → ServeWords → (before now : DoorAndSink) → Result ℕ Halt → Type 0
 Attends H files words before now (Ok faults) =
     (text : List ℕ) × Took before.sink now.sink text × AreAllServed H files words before.door now.door faults text
@@ -97,7 +97,7 @@ Attends H files words before now (Err Sink) =
 Attends H files words before now (Err Memory) =
     (text : List ℕ) × Took before.sink now.sink text × IsLineUnmade H files words before.door now.door text
 
--- Why serving stopped behind this text, where the index was loaded; want of memory is free.
+-- Why serving stopped after this text, once the index was loaded.
 abbrev pub ServingStop : (List ℕ → List ℕ) → Files → ServeWords → (before now : DoorTold) → List ℕ → Stop → Type 0
 ServingStop H files words before now text stop.Link = IsDoorShut H files words before now text
     ⊎ IsDoorBroken H files words before now text
@@ -106,8 +106,8 @@ ServingStop H files words before now text (stop.Faults count) = (0 < count)
 ServingStop H files words before now text stop.Memory = IsLineUnmade H files words before now text
 ServingStop H files words before now text _ = ⊥
 
--- What a door that tells tells then: the address was listened at once at most, `accept` was called so many times at
--- most, and each link that came is back.
+-- What a door that reports has reported after serving: the address was listened at, at most once; `accept` was called
+-- at most `connections` times; and each link that it gave is back.
 pub record KeepsOpening (address : List ℕ) (connections : ℕ) (before now : Opening) : Type 0 where
   pub addresses : (now.addresses ≡ before.addresses) ⊎ (now.addresses ≡ before.addresses ++ address ∷ [])
   pub accepts : now.accepts ≤ before.accepts + connections

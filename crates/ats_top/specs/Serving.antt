@@ -1,4 +1,4 @@
--- Links that come to a door, served one after another.
+-- Links from a door, served one after another.
 use Rattle.std.specs.Prelude.{◌≡◌, ◌<◌, ◌≤◌, ◌+◌, ◌++◌, ◌∷◌, ℕ, Bool, true, false, List, [], length, take, fold, count_by, is_some, option_map, codes, decimal, Result, Ok, Err}
 use Rattle.std.specs.List.{All}
 use Rattle.ats_base.specs.Outside.{Rose, SinkTold}
@@ -12,18 +12,19 @@ use Rattle.ats_wire.specs.declared.serving.ConnectionEnd.TheVariants.{Ended, Cut
 use Rattle.ats_top.specs.declared.serving.Halt.{Halt}
 use Rattle.ats_top.specs.declared.serving.Halt.TheVariants.{Door, Sink, Memory}
 
--- A session: what a link told as it came and as it went back, and what is said of how it was served.
+-- A session: what a link reported when it was accepted and when it was given back, and how it was served.
 pub record Session : Type 0 where
   pub came : LinkTold
   pub left : LinkTold
   pub served : Served
 
--- the link was new, and each of its frames was answered with one of these replies, in order, up to the end that is said
+-- the link was new, and each of its frames was answered with one of these replies, in order, up to the end that
+-- `served` has
 pub record IsSession (gives : Question → Reply → Type 0) (must_tell : Bool) (session : Session) : Type 0 where
   pub new : IsNew must_tell session.came
   pub served : IsServed gives session.came session.left session.served
 
--- what a door that tells tells after a session: its link was accepted, and is back
+-- what a door that reports has reported after a session: its link was accepted, and is back
 abbrev pub after_session : Opening → Session → Opening
 after_session opening session = accepted_back session.left (accepting_out opening)
 
@@ -31,7 +32,7 @@ after_session opening session = accepted_back session.left (accepting_out openin
 abbrev pub broken_after : ℕ → Session → ℕ
 broken_after before session = counted_broken session.left.faults before
 
--- These sessions were had at the door, one after another, and nothing else.
+-- There were these sessions at the door, one after another, and nothing else.
 pub record HadSessions (gives : Question → Reply → Type 0) (sessions : List Session)
     (before now : DoorTold) : Type 0 where
   pub each : All (IsSession gives (is_some before.content)) sessions
@@ -39,7 +40,7 @@ pub record HadSessions (gives : Question → Reply → Type 0) (sessions : List 
   pub broken : now.broken ≡ fold broken_after before.broken sessions
   pub later : before.faults ≤ now.faults
 
--- One call of `accept` failed, and nothing else came to the door.
+-- One call of `accept` failed, and there was no other call on the door.
 pub record FailedToAccept (before now : DoorTold) : Type 0 where
   pub content : now.content ≡ option_map counting_accept before.content
   pub broken : now.broken ≡ before.broken
@@ -81,17 +82,17 @@ session_lines_from number (session ∷ sessions) = line_of_session number sessio
 abbrev pub session_lines : List Session → List ℕ
 session_lines sessions = session_lines_from 1 sessions
 
--- What a door and a sink tell of themselves.
+-- What a door and a sink report of themselves.
 pub record DoorAndSink : Type 0 where
   pub door : DoorTold
   pub sink : SinkTold
 
--- the sink took the text, where it tells, and its count of faults did not fall
+-- the sink took the text, if it reports, and its count of faults did not fall
 pub record Took (before now : SinkTold) (text : List ℕ) : Type 0 where
   pub all : now.taken ≡ option_map (λ taken. taken ++ text) before.taken
   pub later : before.faults ≤ now.faults
 
--- the sink failed behind a prefix of the text
+-- the sink failed after a prefix of the text
 pub record FailedToTake (before now : SinkTold) (text : List ℕ) : Type 0 where
   pub n : ℕ
   pub within : n ≤ length text
@@ -99,14 +100,14 @@ pub record FailedToTake (before now : SinkTold) (text : List ℕ) : Type 0 where
   pub cause : Rose before.faults now.faults
   pub later : before.faults ≤ now.faults
 
--- why the sink did not take the whole text: it failed, or memory was wanted for the text
+-- why the sink did not take the whole text: it failed, or memory for the text ran out
 abbrev pub IsUntold : (before now : SinkTold) → List ℕ → Halt → Type 0
 IsUntold before now text Door = ⊥
 IsUntold before now text Sink = FailedToTake before now text
 IsUntold before now text Memory = now ≡ before
 
--- How the serving of so many links ended behind these sessions. All links were served, and so many ended by a
--- fault; or `accept` failed; or the sink did; or memory was wanted for the line of the last session.
+-- How serving `connections` links ended after these sessions: all links were served, and `faults` of them ended by a
+-- fault; or `accept` failed; or the sink did; or memory for the line of the last session ran out.
 abbrev pub EndsServing : (Question → Reply → Type 0) → ℕ
     → (before now : DoorAndSink) → List Session → Result ℕ Halt → Type 0
 EndsServing gives connections before now sessions (Ok faults) =

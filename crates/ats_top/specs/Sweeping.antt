@@ -1,4 +1,4 @@
--- What the steps of `sweep` answer: of the list, of its proofs, of the audits, and of the lines.
+-- The results of the steps of `sweep`: for the list, its proofs, the audits, and the lines.
 use Rattle.std.specs.Prelude.{◌≡◌, ◌⊎◌, ◌≤◌, ◌^◌, ℕ, List, map, string_bytes}
 use Rattle.std.specs.List.{AllZip, list_any, zip}
 use Rattle.ats_base.specs.Outside.{Rose, ShelfTold, Asked}
@@ -28,13 +28,13 @@ use Rattle.ats_top.specs.declared.stops.Stop.TheVariants.{Shelf, Input, Memory}
 abbrev pub IsSpelledAs : List ℕ → ℕ → List ℕ → List ℕ → Type 0
 IsSpelledAs line r proof query = IsSpelled line (record { r = r; proof = proof; query = query })
 
--- a line asks for nothing, or memory was wanted
+-- a line is bad, or memory ran out
 abbrev pub ListStop : List (List ℕ) → Stop → Type 0
 ListStop lines (Input (ListLine number)) = IsBadLine lines number
 ListStop lines Memory = Unit {0}
 ListStop lines _ = ⊥
 
--- the file was not read, or memory was wanted
+-- the file was not read, or memory ran out
 abbrev pub MissingStop : (before now : ShelfTold) → List ℕ → Stop → Type 0
 MissingStop before now name Shelf = IsUnread before now name
 MissingStop before now name Memory = Unit {0}
@@ -44,14 +44,14 @@ MissingStop before now name _ = ⊥
 abbrev pub entry_names : List Entry → List (List ℕ)
 entry_names entries = map (λ (entry : Entry). entry.proof.now) entries
 
--- the shelf's count rose, or a proof is not there; the proofs have too many bytes; or memory was wanted
+-- the shelf's count rose, or a proof is missing; the proofs have too many bytes; or memory ran out
 abbrev pub GatheringStop : (before now : ShelfTold) → List (List ℕ) → Stop → Type 0
 GatheringStop before now names Shelf = Rose before.faults now.faults ⊎ LacksProof before.files names
 GatheringStop before now names (Input (ProofsTooLong bytes)) = PassesLimit before.files names bytes
 GatheringStop before now names Memory = Unit {0}
 GatheringStop before now names _ = ⊥
 
--- what the reading of the proofs leaves of the shelf
+-- what reading the proofs leaves of the shelf
 pub record ReadsProofs (before now : ShelfTold) (names : List (List ℕ)) : Type 0 where
   pub files : now.files ≡ before.files
   pub later : before.faults ≤ now.faults
@@ -66,7 +66,7 @@ pub record IsJobOf (entry : Entry) (proof : Gathered) (job : Job) : Type 0 where
 abbrev pub AreJobs : List Entry → List Gathered → List Job → Type 0
 AreJobs entries proofs jobs = AllZip (λ pair job. IsJobOf pair.0 pair.1 job) (zip entries proofs) jobs
 
--- what is said of a proof with this verdict
+-- the finding for a proof with this verdict
 abbrev pub found_by : Verdict → Finding
 found_by (verdict.BadShape fault) = FoundRefused (Shape fault)
 found_by (verdict.Refused refusal) = FoundRefused (Check refusal)
@@ -74,7 +74,7 @@ found_by (verdict.Right rows) = FoundRight rows
 found_by (verdict.Collision place ours theirs) =
     FoundCollision (record { place = tree_place place; ours = ours; theirs = theirs })
 
--- of a file that is too long the verdict is of no account
+-- the finding for a proof; if its file is too long, the verdict is ignored
 abbrev pub finding_of : Gathered → Verdict → Finding
 finding_of Long found = FoundRefused (Shape (record { at = 2 ^ 26; kind = kind.Long }))
 finding_of (Whole bytes) found = found_by found
@@ -82,7 +82,7 @@ finding_of (Whole bytes) found = found_by found
 abbrev pub findings_of : List Gathered → List Verdict → List Finding
 findings_of proofs verdicts = map (λ found. finding_of found.0 found.1) (zip proofs verdicts)
 
--- the lines of all findings, and whether one refuses a proof, and whether one is a collision
+-- the lines of all findings, whether one refuses a proof, and whether one is a collision
 pub record IsReport (proofs : List Gathered) (verdicts : List Verdict) (report : Report) : Type 0 where
   pub lines : string_bytes report.lines ≡ lines_of_findings (findings_of proofs verdicts)
   pub refused : report.refused ≡ list_any is_refused (findings_of proofs verdicts)

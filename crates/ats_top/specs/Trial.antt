@@ -1,4 +1,4 @@
--- The trial of a number: the honest proofs of its queries over its texts, and what is printed of them.
+-- The trial of a number: the honest proofs of its queries over its texts, and what is printed for them.
 use Rattle.std.specs.Prelude.{◌≡◌, ◌+◌, ◌*◌, ◌<◌, ◌≤◌, ◌^◌, ◌++◌, ℕ, Bool, true, false, List, None, length, sum_by, slice_index_or, codes, decimal}
 use Rattle.ats_terms.specs.Query.{HasQuery, IsQueryOf}
 use Rattle.ats_terms.specs.Faults.{IsFirstFault}
@@ -30,8 +30,8 @@ shown_entries proof = sum_by (λ (prefix : Prefix). length prefix.entries) proof
 abbrev pub trial_archive : ℕ → Archive
 trial_archive number = archive_of (trial_texts number)
 
--- The proof is the honest one of a query for 10 rows, and no longer than a proof may be. It is accepted under the root
--- of its archive, and an audit finds no clash in it.
+-- The proof is the honest one of a query for 10 rows, and at most as long as a proof may be. It is accepted under the
+-- root of its archive, and has no collision with the archive.
 pub record IsTried (H : List ℕ → List ℕ) (archive : Archive) (query : List (List ℕ × ℕ))
     (algorithm : Algorithm) (proof : Proof) : Type 0 where
   pub honest : IsHonest H archive query 10 algorithm proof
@@ -39,14 +39,14 @@ pub record IsTried (H : List ℕ → List ℕ) (archive : Archive) (query : List
   pub accepted : Accepts H (root_of H archive) query 10 proof
   pub right : extract H archive query proof ≡ None
 
--- so it is of the trial's query with this number
+-- the proof is such a one for the trial's query with this number
 pub record IsTrialProof (H : List ℕ → List ℕ) (number : ℕ)
     (algorithm : Algorithm) (i : ℕ) (proof : Proof) : Type 0 where
   pub query : List (List ℕ × ℕ)
   pub asked : IsQueryOf (trial_query number i) query
   pub tried : IsTried H (trial_archive number) query algorithm proof
 
--- they are those of the first queries, in order
+-- the proofs are such ones for the first queries, in order
 abbrev pub AreTrialProofs : (List ℕ → List ℕ) → ℕ → Algorithm → List Proof → Type 0
 AreTrialProofs H number algorithm proofs =
     (i : ℕ) (d : Proof) → i < length proofs → IsTrialProof H number algorithm i (slice_index_or proofs i d)
@@ -58,7 +58,7 @@ line_of_proofs name proofs =
     ++ (codes " entries " ++ (decimal (sum_by shown_entries proofs)
     ++ (codes " bytes " ++ (decimal (sum_by length_of proofs) ++ codes "\n"))))))
 
--- the five lines, of the root and of the accepted proofs by each algorithm, all of which are audited as right
+-- the five lines: of the root, and of the accepted proofs by each algorithm, all of which an audit finds right
 abbrev pub lines_of_trial : List ℕ → List Proof → List Proof → List ℕ
 lines_of_trial root tra tnra =
     codes "documents 2000 terms 100000 queries 20\nroot " ++ (line_of_root root
@@ -82,12 +82,12 @@ pub record AreTried (H : List ℕ → List ℕ) (archive : Archive) (queries : L
   pub each : (i : ℕ) (d : List (List ℕ × ℕ)) (e : Proof) → i < length proofs
       → IsTried H archive (slice_index_or queries i d) algorithm (slice_index_or proofs i e)
 
--- an audit answers that the rows are right
+-- an audit finds the rows right
 abbrev pub is_right : Verdict → Bool
 is_right (Right rows) = true
 is_right _ = false
 
--- what is counted of some proofs, each of which is accepted and audited as right
+-- the totals of some proofs, each of which is accepted and found right by an audit
 abbrev pub tally_of : List Proof → Tally
 tally_of proofs = record {
   accepted = length proofs;
@@ -96,7 +96,7 @@ tally_of proofs = record {
   right = length proofs;
 }
 
--- one such proof more
+-- the totals with one more such proof
 abbrev pub counted : Proof → Tally → Tally
 counted proof tally = record {
   accepted = tally.accepted + 1;
@@ -105,7 +105,7 @@ counted proof tally = record {
   right = tally.right + 1;
 }
 
--- so few proofs that all can be counted
+-- few enough proofs that all can be counted
 pub record IsSmall (tally : Tally) : Type 0 where
   pub accepted : tally.accepted ≤ 20
   pub entries : tally.entries ≤ 2 ^ 48 * tally.accepted
@@ -114,7 +114,7 @@ pub record IsSmall (tally : Tally) : Type 0 where
 
 -- ---- why there is none
 
--- the first queries of the trial, so many, are queries
+-- the first `count` queries of the trial are queries
 abbrev pub AreQueries : ℕ → ℕ → Type 0
 AreQueries number count = (i : ℕ) → i < count → HasQuery (trial_query number i)
 
@@ -136,12 +136,12 @@ AreTrialQueries number queries = (i : ℕ) (d : List (List ℕ × ℕ)) → i < 
 abbrev pub IsTryStop : (List ℕ → List ℕ) → Archive → List (List ℕ × ℕ) → Algorithm → Stop → Type 0
 IsTryStop H archive query algorithm stop = MakingStop H archive query 10 algorithm stop
 
--- where a proof stands in the order of the trial: query after query, TRA first
+-- the place of a proof in the order of the trial: query after query, TRA first
 abbrev pub turn : ℕ → Algorithm → ℕ
 turn i Tra = 2 * i
 turn i Tnra = 2 * i + 1
 
--- the first proof that is not made: before it are those of the queries before, and of this one's that by TRA
+-- the first proof that is not made; each earlier one in the order of the trial is
 pub record IsTriesStop (H : List ℕ → List ℕ) (archive : Archive) (queries : List (List (List ℕ × ℕ)))
     (stop : Stop) : Type 0 where
   pub i : ℕ
@@ -151,7 +151,7 @@ pub record IsTriesStop (H : List ℕ → List ℕ) (archive : Archive) (queries 
   pub before : (k : ℕ) (a : Algorithm) → turn k a < turn i algorithm
       → (d : List (List ℕ × ℕ)) → (proof : Proof) × IsTried H archive (slice_index_or queries k d) a proof
 
--- the lines tell of the proofs of the queries by each algorithm
+-- the lines are those of the proofs of the queries by each algorithm
 pub record AreTriedLines (H : List ℕ → List ℕ) (archive : Archive) (queries : List (List (List ℕ × ℕ))) (text : List ℕ) : Type 0 where
   pub tra : List Proof
   pub tnra : List Proof
@@ -159,7 +159,7 @@ pub record AreTriedLines (H : List ℕ → List ℕ) (archive : Archive) (querie
   pub by_tnra : AreTried H archive queries Tnra tnra
   pub printed : text ≡ lines_of_trial (root_of H archive) tra tnra
 
--- the first honest proof that is longer than a proof may be, with its length, where all texts are queries
+-- the first honest proof that is longer than a proof may be, with its length, if all texts are queries
 pub record IsTrialTooLong (H : List ℕ → List ℕ) (number bytes : ℕ) : Type 0 where
   pub i : ℕ
   pub algorithm : Algorithm
@@ -170,7 +170,7 @@ pub record IsTrialTooLong (H : List ℕ → List ℕ) (number bytes : ℕ) : Typ
   pub own : IsQueryOf (trial_query number i) query
   pub long : IsTooLong H (trial_archive number) query 10 algorithm (2 ^ 26) bytes
 
--- the queries, then the proofs
+-- the queries first, then the proofs
 abbrev pub IsTrialRefused : (List ℕ → List ℕ) → ℕ → InputRefusal → Type 0
 IsTrialRefused H number (ProofTooLong bytes) = IsTrialTooLong H number bytes
 IsTrialRefused H number refusal = IsTrialQueryRefused number refusal
@@ -179,7 +179,7 @@ IsTrialRefused H number refusal = IsTrialQueryRefused number refusal
 abbrev pub IsTrialServed : (List ℕ → List ℕ) → ℕ → Type 0
 IsTrialServed H number = AreQueries number 20 × ((bytes : ℕ) → IsTrialTooLong H number bytes → ⊥)
 
--- a trial ends before it is done: its refusal, or memory was wanted
+-- why a trial ends before it is done: its refusal, or memory ran out
 abbrev pub IsTrialStop : (List ℕ → List ℕ) → ℕ → Stop → Type 0
 IsTrialStop H number Memory = Unit {0}
 IsTrialStop H number (Input refusal) = IsTrialRefused H number refusal

@@ -1,4 +1,4 @@
-//! The answers of a server that has an index.
+//! The replies of a server that has an index.
 
 ghost use Rattle.std.specs.Prelude.{◌≡◌};
 ghost use Rattle.ats_top.specs.Answering.{gives, code_of_query, code_of_proof};
@@ -10,8 +10,8 @@ use ats_terms::{Query, QueryFault};
 use ats_wire::{Answerer, Reply, Request};
 use std::alloc::Global;
 
-/// Answers each request by the honest proof over an index, or by the code that says why there is none. The code is 2
-/// for a query that has no term, 3 for one that is too long, 5 for a proof that is, and 6 for want of memory.
+/// Answers each request with the honest proof over an index, or with the code that says why there is none. The code is
+/// 2 for a query without a term, 3 for one that is too long, 5 for a proof that is too long, and 6 if memory runs out.
 #[derive(Drop)]
 pub struct IndexAnswerer<'a, H: Hash32> {
     pub index: &'a Index<H>,

@@ -1,4 +1,4 @@
-//! One question over the network, and the check of its reply.
+//! `ask`: one question over the network, and the check of its reply.
 
 ghost use Rattle.std.specs.Prelude.{◌≡◌, ◌⊎◌, ◌≤◌, length, IfOk, IfErr, string_bytes};
 ghost use Rattle.ats_top.specs.Refusals.{AsksRanking};
@@ -17,7 +17,7 @@ use ats_terms::Query;
 use ats_wire::{AskFault, Fed, ask_fed};
 use std::alloc::Global;
 
-// Why a question that got no proof stops its command.
+// Why a command stops if its question got no proof.
 fn stop_of(fault: AskFault) -> Stop
     ensures stop { result ≡ stop_of_asking fault }
     ensures ranged { IsRanged fault }
@@ -33,8 +33,8 @@ fn stop_of(fault: AskFault) -> Stop
     }
 }
 
-// Calls the address, asks the question over the link that comes, and gives the link back, whatever came of it. What
-// stands behind the first fault of a proof is not kept.
+// Connects to the address, asks the question over the link, and always gives the link back. Nothing is kept after the
+// first fault of a proof.
 fn converse<C: Caller>(
     alloc: Global,
     algorithm: Algorithm,
@@ -62,7 +62,7 @@ fn converse<C: Caller>(
     }
 }
 
-/// The lines of `ask`. The words are tried before the address is called.
+/// The lines of `ask`. The words are checked before the address is called.
 pub(crate) fn ask<H: Hash32, C: Caller>(
     alloc: Global,
     root: &[u8; 32],

@@ -1,4 +1,4 @@
-//! The audit of a proof against an index, and the lines of its answer.
+//! `audit`: the audit of a proof against an index, and the lines of its answer.
 
 ghost use Rattle.std.specs.Prelude.{◌≡◌, ℕ, List, IfOk, IfErr, string_bytes};
 ghost use Rattle.ats_impact.specs.declared.rank.Row.{Row};
@@ -71,7 +71,7 @@ fn audited<H: Hash32>(
     told(alloc, &verdict)
 }
 
-/// The lines of `audit`. The words are tried before anything is read, and the index before the proof.
+/// The lines of `audit`. The words are checked before anything is read, and the index before the proof.
 pub(crate) fn audit<H: Hash32 + Sync, R: Threads + Sync, S: Shelf>(
     rt: &R,
     alloc: Global,

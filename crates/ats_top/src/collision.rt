@@ -1,4 +1,4 @@
-//! What is printed where a proof and an archive hold two different strings with one digest.
+//! The lines that are printed if a proof and an archive contain two different strings with the same digest.
 
 ghost use Rattle.std.specs.Prelude.{◌≡◌, IfOk, string_bytes};
 ghost use Rattle.ats_top.specs.CollisionLines.{tree_words, lines_of_collision};

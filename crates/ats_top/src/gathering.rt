@@ -11,7 +11,7 @@ use crate::stops::{InputRefusal, Stop};
 use ats_base::{Bytes, Shelf};
 use std::alloc::Global;
 
-/// The file of a proof: its bytes, or none where they are more than a proof may have.
+/// The file of a proof: its bytes, or `Long` if they are more than a proof may have.
 #[derive(Drop)]
 pub(crate) enum Gathered {
     Whole(Bytes),

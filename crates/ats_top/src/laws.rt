@@ -1,4 +1,4 @@
-//! What holds of the commands together, as contracts of functions that do nothing.
+//! The laws of the commands together, as contracts of functions that do nothing.
 
 ghost use Rattle.std.specs.Prelude.{◌≡◌, ◌≤◌, ◌^◌, ℕ, List, All, length, codes, Some, IsSome};
 ghost use Rattle.ats_base.specs.Outside.{Holds};
@@ -26,8 +26,8 @@ ghost use Rattle.ats_top.specs.Calling.{ReplyDecides};
 
 use ats_hash::HashKind;
 
-/// Where a file is the honest proof of a query over an archive, by either algorithm, `verify` serves it under the
-/// word of the archive's root, for the same query and number of rows.
+/// If a file is the honest proof of a query over an archive, by either algorithm, `verify` serves it under the word of
+/// the archive's root, for the same query and number of rows.
 pub fn honest_proofs_are_served<H: HashKind>()
     ensures { (archive : Archive) (asked : List (List ℕ × ℕ)) (rows : ℕ) (algorithm : Algorithm) (bytes : List ℕ)
         (files : Files) (root r query name : List ℕ)
@@ -37,7 +37,7 @@ pub fn honest_proofs_are_served<H: HashKind>()
         → Said (verify_words root r query name) (IsServed H.hash files) }
 {}
 
-/// Where a file is the honest proof of a query over the archive of an index, by either algorithm, `audit` serves it for
+/// If a file is the honest proof of a query over the archive of an index, by either algorithm, `audit` serves it for
 /// the same query and number of rows. Such a proof has no collision with the archive.
 pub fn honest_audits_are_served<H: HashKind>()
     ensures { (archive : Archive) (files : Files) (words : AuditWords)
@@ -47,8 +47,8 @@ pub fn honest_audits_are_served<H: HashKind>()
         → IsFile files words.proof (2 ^ 26) bytes → IsServed H.hash files (Audit words) }
 {}
 
-/// `sweep` serves a list where each line asks for the honest proof of its query over the archive of the index, by
-/// either algorithm, and all the proofs are there within the limit. Each of them is then found right.
+/// `sweep` serves a list in which each line asks for the honest proof of its query over the archive of the index, by
+/// either algorithm, if all the proofs are there within the limit. Each of them is found right.
 pub fn honest_sweeps_are_served<H: HashKind>()
     ensures { (archive : Archive) (files : Files) (words : SweepWords) (listed : List Listed)
         → HasIndex H.hash files words.index archive → IsList files words.list listed
@@ -56,9 +56,9 @@ pub fn honest_sweeps_are_served<H: HashKind>()
         → IsServed H.hash files (Sweep words) }
 {}
 
-/// Where a file holds the index bytes of an archive, which `build` stores, `root` serves it. So does `prove` by lists
-/// alone, for a query and a number of rows within the limits: no proof that they ask for is too long. By either
-/// algorithm `prove` serves it wherever the honest proof has no more bytes than a proof may have.
+/// If a file holds the index bytes of an archive, which `build` stores, `root` serves it. TNRA `prove` serves it too,
+/// for a query and a number of rows within the limits: no proof of these is too long. By either algorithm `prove`
+/// serves it if the honest proof has no more bytes than a proof may have.
 pub fn built_indexes_are_served<H: HashKind>()
     ensures root { (archive : Archive) (bytes : List ℕ) (files : Files) (name : List ℕ)
         → IsSpelling H.hash bytes archive → Holds files name bytes
@@ -76,8 +76,8 @@ pub fn built_indexes_are_served<H: HashKind>()
         → Said (prove_words name word r query proof) (IsServed H.hash files) }
 {}
 
-/// Where the shelf tells its files, the proof of a command is refused in one way at most, and in none where the
-/// command has what it reads.
+/// If the shelf reports its files, the proof of a command is refused in at most one way, and in none if the command has
+/// what it reads.
 pub fn commands_have_one_rejection<H: HashKind>()
     ensures one { (files : Files) (command : Command) (a b : Rejection) → IsTold files
         → IsRejected H.hash files command a → IsRejected H.hash files command b → a ≡ b }
@@ -85,8 +85,8 @@ pub fn commands_have_one_rejection<H: HashKind>()
         → HasInput H.hash files command → IsRejected H.hash files command rejection → ⊥ }
 {}
 
-/// Where the shelf tells its files, the input of a command is refused in one way at most, and in none where the
-/// command is served.
+/// If the shelf reports its files, the input of a command is refused in at most one way, and in none if the command is
+/// served.
 pub fn commands_have_one_refusal<H: HashKind>()
     ensures one { (files : Files) (command : Command) (a b : InputRefusal) → IsTold files
         → IsRefused H.hash files command a → IsRefused H.hash files command b → a ≡ b }
@@ -94,7 +94,7 @@ pub fn commands_have_one_refusal<H: HashKind>()
         → IsServed H.hash files command → IsRefused H.hash files command refusal → ⊥ }
 {}
 
-/// Where the bytes that `ask` got are the honest proof of its query over an archive with its root, by either algorithm,
+/// If the bytes that `ask` got are the honest proof of its query over an archive with its root, by either algorithm,
 /// its reply decides status 0.
 pub fn honest_replies_are_accepted<H: HashKind>()
     ensures { (archive : Archive) (asked : List (List ℕ × ℕ)) (algorithm : Algorithm) (bytes : List ℕ)
@@ -105,7 +105,7 @@ pub fn honest_replies_are_accepted<H: HashKind>()
         → ReplyDecides H.hash before now (Ask words) 0 }
 {}
 
-/// Where the caller tells, what came over the link of a command decides one status at most.
+/// If the caller reports, what arrived over the link of a command decides at most one status.
 pub fn replies_decide_one_status<H: HashKind>()
     ensures { (before now : CallerTold) (command : Command) (a b : ℕ) → IsSome before.content
         → ReplyDecides H.hash before now command a → ReplyDecides H.hash before now command b → a ≡ b }

@@ -13,7 +13,7 @@ use ats_impact::Top;
 use ats_terms::{Query, QueryFault};
 use std::alloc::Global;
 
-/// What a line of a list asks for: the proof of a named file is to answer a query with so many rows.
+/// What a line of a list asks: whether the proof in the named file answers the query with this many rows.
 #[derive(Drop)]
 pub(crate) struct Entry<'a> {
     pub(crate) top: Top,
@@ -21,7 +21,7 @@ pub(crate) struct Entry<'a> {
     pub(crate) query: Query,
 }
 
-// The first line, and what stands behind its line feed.
+// The first line, and what follows its line feed.
 fn first_line(bytes: &[u8]) -> (&[u8], &[u8])
     requires { bytes.now ≢ [] }
     ensures lines { lines_of bytes.now ≡ result.0.now ∷ lines_of result.1.now }
@@ -72,7 +72,7 @@ fn parts(line: &[u8]) -> Option<(u32, &str, &str)>
     }
 }
 
-// What a line asks for, if it does.
+// What a line asks, if it is well formed.
 fn read_line<'a>(alloc: Global, line: &'a [u8]) -> Result<Option<Entry<'a>>, Stop>
     ensures ok { IfOk result (λ found.
         MatchOption found ((listed : Listed) → IsListed line.now listed → ⊥) (IsEntry line.now)) }
@@ -102,7 +102,7 @@ fn bad_line(line: usize) -> Stop
     Stop::Input(InputRefusal::ListLine { line })
 }
 
-/// What the lines of a list ask for, in order. Their number is tried before any of them is.
+/// What the lines of a list ask, in order. Their number is checked before any of them is.
 pub(crate) fn read_entries<'a>(alloc: Global, bytes: &'a [u8]) -> Result<Vec<Entry<'a>>, Stop>
     ensures ok { IfOk result (λ entries. AllZip IsEntry (lines_of bytes.now) entries.items) }
     ensures some { IfOk result (λ entries. 1 ≤ length entries.items) }

@@ -1,4 +1,4 @@
-//! The files that commands read.
+//! Reads the files of commands.
 
 ghost use Rattle.std.specs.Prelude.{◌≤◌, ◌^◌, IfOk, IfErr};
 ghost use Rattle.ats_top.specs.Read.{IsFile, HasCollection, HasIndex};
@@ -26,7 +26,7 @@ const LIST_LIMIT: u64 = 1 << 20;
 // The most bytes that the file of an index may have.
 const INDEX_LIMIT: u64 = 1 << 29;
 
-/// The fault of a file that has more.
+/// The fault of a file that is longer than a proof may be.
 pub(crate) const TOO_LONG: ShapeFault = ShapeFault {
     at: MAX_PROOF,
     kind: ShapeKind::Long,

@@ -1,4 +1,4 @@
-//! What is printed where a proof is refused.
+//! The line that is printed if a proof is refused.
 
 ghost use Rattle.std.specs.Prelude.{◌≡◌, IfOk, string_bytes};
 ghost use Rattle.ats_top.specs.RejectionLines.{kind_word, refusal_words, rejection_words, line_of_rejection};
@@ -60,7 +60,7 @@ pub(crate) fn rejection_words(alloc: Global, rejection: Rejection) -> Result<Str
     }
 }
 
-/// The line that is printed for it.
+/// The line that is printed for a rejection.
 pub(crate) fn rejection_line(alloc: Global, rejection: Rejection) -> Result<String, AllocError>
     ensures { IfOk result (λ line. string_bytes line ≡ line_of_rejection rejection) }
 {

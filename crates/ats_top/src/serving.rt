@@ -1,4 +1,4 @@
-//! Links that come to a door, served one after another.
+//! `serve`: accepts links at a door, and serves them one after another.
 
 ghost use Rattle.std.specs.Prelude.{◌≡◌, ◌⊎◌, ◌≤◌, ◌^◌, ◌∷◌, ℕ, Some, List, [], true, string_bytes, IfOk, IfErr, OnOk, OnErr};
 ghost use Rattle.ats_base.specs.Links.{CallerTold};
@@ -22,7 +22,7 @@ use ats_wire::{ConnectionEnd, FrameRoom, Served, serve_connection};
 use std::alloc::{AllocError, Global};
 use std::thread::Threads;
 
-/// Why not all links were served: no further one came, their lines were not taken, or memory was wanted.
+/// Why not all links were served: the door gave no further one, the sink did not take their lines, or memory ran out.
 #[derive(Clone, Copy)]
 pub(crate) enum Halt {
     Door,
@@ -76,7 +76,7 @@ fn serve_link<H: Hash32, D: Door>(
     Ok(served)
 }
 
-// Hands the line of a served connection to the sink.
+// Passes the line of a served connection to the sink.
 fn announce<K: Sink>(alloc: Global, number: u32, served: Served, out: &mut K) -> Result<(), Halt>
     ensures told { OnOk result (Took (K.told out.old) (K.told out.new) (line_of_session number served)) }
     ensures halt { IfErr result (IsUntold (K.told out.old) (K.told out.new) (line_of_session number served)) }
@@ -90,8 +90,8 @@ fn announce<K: Sink>(alloc: Global, number: u32, served: Served, out: &mut K) ->
     }
 }
 
-/// Serves so many links that come to the open door, one after another, and hands a line for each to the sink.
-/// Says how many ended by a fault.
+/// Serves `connections` links from the open door, one after another, and passes a line for each to the sink. Returns
+/// how many ended by a fault.
 pub(crate) fn serve_links<H: Hash32, K: Sink, D: Door>(
     alloc: Global,
     index: &Index<H>,
@@ -123,7 +123,7 @@ pub(crate) fn serve_links<H: Hash32, K: Sink, D: Door>(
 
 const LISTENING: &str = "listening\n";
 
-/// Listens at the address, says so, and serves so many links that come. Says how many ended by a fault.
+/// Listens at the address, prints that, and serves `connections` links. Returns how many ended by a fault.
 pub(crate) fn attend<H: Hash32, K: Sink, D: Door>(
     alloc: Global,
     index: &Index<H>,
@@ -147,7 +147,7 @@ pub(crate) fn attend<H: Hash32, K: Sink, D: Door>(
     serve_links(alloc, index, connections, room, out, door)
 }
 
-// Prints what is left to be said of the links, and answers the status.
+// Prints the line of a stop, if there is one, and returns the status.
 fn print_outcome<K: Sink>(alloc: Global, out: &mut K, outcome: Result<u32, Halt>) -> u8
     ensures prints { PrintsOutcome (K.told out.old) (K.told out.new) outcome result }
     ensures later { (K.told out.old).faults ≤ (K.told out.new).faults }
@@ -165,7 +165,7 @@ fn print_outcome<K: Sink>(alloc: Global, out: &mut K, outcome: Result<u32, Halt>
     }
 }
 
-/// Loads the index, listens, and serves the links that come. It prints line by line, and answers the status.
+/// Loads the index, listens, and serves the links that arrive. It prints line by line, and returns the status.
 pub(crate) fn serve<H: Hash32 + Sync, R: Threads + Sync, S: Shelf, K: Sink, D: Door>(
     rt: &R,
     alloc: Global,

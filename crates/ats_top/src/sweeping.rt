@@ -1,4 +1,4 @@
-//! The audits of the proofs of a list against an index, and their lines.
+//! `sweep`: the audits of the proofs of a list against an index, and their lines.
 
 ghost use Rattle.std.specs.Prelude.{◌≡◌, ◌++◌, ◌||◌, true, false, IfOk, IfErr, OnOk, length, string_bytes};
 ghost use Rattle.ats_base.specs.Outside.{ShelfTold};
@@ -22,7 +22,7 @@ use ats_index::Index;
 use std::alloc::{AllocError, Global};
 use std::thread::Threads;
 
-// The audits that the lines of a list ask for. Of a file that is too long there is nothing to be audited.
+// The audits that the lines of a list ask for. A file that is too long is audited as no bytes.
 fn jobs<'a>(
     alloc: Global,
     entries: Vec<Entry<'_>>,
@@ -66,7 +66,7 @@ fn verdict_line(alloc: Global, number: usize, verdict: &Verdict) -> Result<Strin
     }
 }
 
-// The line of a proof. The verdict of a file that is too long is of no account.
+// The line of a proof. If its file is too long, the verdict is ignored.
 fn line(
     alloc: Global,
     number: usize,
@@ -105,7 +105,7 @@ fn is_collision(proof: &Gathered, verdict: &Verdict) -> bool
     }
 }
 
-// What is said of proofs: a line for each, and whether one is refused, and whether one collides.
+// The report on some proofs: a line for each, whether one is refused, and whether one collides.
 #[derive(Drop)]
 struct Report {
     lines: String,
@@ -114,7 +114,7 @@ struct Report {
 }
 
 impl Report {
-    // What is said of one more proof, with its number.
+    // Adds the line of one more proof, with its number.
     fn add(
         &mut self,
         alloc: Global,
@@ -137,7 +137,7 @@ impl Report {
     }
 }
 
-// What is said of all proofs, in order.
+// The report on all proofs, in order.
 fn report_of(alloc: Global, proofs: &[Gathered], verdicts: &[Verdict]) -> Result<Report, AllocError>
     requires { length verdicts.now ≡ length proofs.now }
     ensures { IfOk result (IsReport proofs.now verdicts.now) }
@@ -153,7 +153,7 @@ fn report_of(alloc: Global, proofs: &[Gathered], verdicts: &[Verdict]) -> Result
     Ok(report)
 }
 
-// Where one collides, or one is refused, not all is right.
+// If one collides or is refused, not all is right.
 fn conclusion(report: Report) -> Result<String, Stop>
     ensures ok { IfOk result (λ text. (string_bytes text ≡ string_bytes report.lines)
         × (report.collides ≡ false) × (report.refused ≡ false)) }
@@ -169,7 +169,7 @@ fn conclusion(report: Report) -> Result<String, Stop>
     Ok(report.lines)
 }
 
-// The lines of a sweep of a list against an index, both of which were read.
+// The lines of a sweep of a list against an index, after both were read.
 fn swept<H: Hash32 + Sync, R: Threads + Sync, S: Shelf>(
     rt: &R,
     alloc: Global,
@@ -195,7 +195,7 @@ fn swept<H: Hash32 + Sync, R: Threads + Sync, S: Shelf>(
     conclusion(report_of(alloc, proofs.as_slice(), verdicts.as_slice())?)
 }
 
-/// The lines of `sweep`. The index is read before the list, all lines are tried before a proof is gathered, and all
+/// The lines of `sweep`. The index is read before the list, all lines are checked before a proof is gathered, and all
 /// proofs are gathered before one is audited.
 pub(crate) fn sweep<H: Hash32 + Sync, R: Threads + Sync, S: Shelf>(
     rt: &R,

@@ -1,4 +1,4 @@
-//! The trial of a number: the honest proofs of its queries over its texts, by both algorithms.
+//! `trial`: the honest proofs of a number's queries over its texts, by both algorithms.
 
 ghost use Rattle.std.specs.Prelude.{◌≡◌, ◌⊎◌, ◌<◌, ◌≤◌, ◌+◌, ◌^◌, ℕ, List, IfOk, IfErr, OnOk, length, string_bytes};
 ghost use Rattle.ats_commit.specs.Archive.{archive_of};
@@ -27,8 +27,8 @@ use std::thread::Threads;
 
 const QUERIES: u32 = 20;
 
-/// What the proofs of some queries come to: how many are accepted, with the entries that they show and their bytes, and
-/// how many an audit finds right.
+/// The totals of some proofs: how many are accepted, with the entries that they show and their bytes, and how many an
+/// audit finds right.
 #[derive(Clone, Copy)]
 pub(crate) struct Tally {
     pub(crate) accepted: u32,
@@ -66,7 +66,7 @@ fn tells_right(verdict: &Verdict) -> bool
     matches!(verdict, Verdict::Right(_))
 }
 
-// Whether an audit of the bytes of a proof answers that its rows are right.
+// Whether an audit of the bytes of a proof finds its rows right.
 fn is_right<H: Hash32>(
     alloc: Global,
     index: &Index<H>,
@@ -84,8 +84,8 @@ fn is_right<H: Hash32>(
     Ok(tells_right(&verdict))
 }
 
-// Proves a query by an algorithm, checks the proof under the root of the index, and audits it. What is accepted is
-// counted, and so is what is found right.
+// Proves a query by an algorithm, checks the proof under the root of the index, and audits it. Counts it if it is
+// accepted, and if it is found right.
 fn count<H: Hash32>(
     alloc: Global,
     index: &Index<H>,
@@ -122,7 +122,7 @@ fn count<H: Hash32>(
     Ok(())
 }
 
-// What the proofs of all queries by both algorithms come to: TRA first, and query after query.
+// The totals for all queries by both algorithms: query after query, TRA first.
 fn tallies<H: Hash32>(
     alloc: Global,
     index: &Index<H>,

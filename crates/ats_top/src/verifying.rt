@@ -1,4 +1,4 @@
-//! The check of a proof, and the lines of its answer.
+//! `verify`: the check of a proof, and the lines of its answer.
 
 ghost use Rattle.std.specs.Prelude.{◌≡◌, ◌^◌, List, IfOk, IfErr, string_bytes};
 ghost use Rattle.ats_terms.specs.Query.{IsQuery};
@@ -47,7 +47,7 @@ pub(crate) fn answered<H: Hash32>(
     }
 }
 
-/// The lines of `verify`. The words are tried before anything is read.
+/// The lines of `verify`. The words are checked before anything is read.
 pub(crate) fn verify<H: Hash32, S: Shelf>(
     alloc: Global,
     root: &[u8; 32],
