@@ -1,4 +1,4 @@
--- How `ask` ends, from what its steps answer, and which status a reply decides.
+-- How `ask` ends, from the results of its steps, and which status a reply decides.
 use Rattle.std.proofs.Common.{◌≡◌, ◌⊎◌, ◌∙◌, ℕ, List, length, Result, Ok, Err, IsSome, refl, sym, ap, subst, inl, inr, arith}
 use Rattle.std.specs.Prelude.{IfOk, IfErr}
 use Rattle.ats_base.specs.Outside.{Rose}
@@ -38,7 +38,7 @@ module _ (address : List ℕ) (question : Question) (before now : CallerTold) wh
   whole_reply fed bytes is brought = kept bytes (subst (ConversesFed address question before now) is brought)
 
 module _ (H : List ℕ → List ℕ) (before now : CallerTold) (words : AskWords) where
-  -- a reply whose bytes have this fault, which is told before they are kept
+  -- a reply whose bytes have this fault, which is reported before they are kept
   refused_reply : (query : List (List ℕ × ℕ)) (fault : ShapeFault) → AsksRanking words.r words.query → IsQueryOf words.query query
       → ConversesFed words.address (question_of words) before now (Refused fault) → IsReplyRejected H before now words (Shape fault)
   refused_reply query fault asks asked (bytes, conversation, bad) = record {
@@ -129,7 +129,7 @@ module _ (H : List ℕ → List ℕ) (before now : CallerTold) (words : AskWords
         let same = one_reply words.address words.address (question_of words) (question_of words) before now (Ok bytes) (Err (reply_fault fault)) tells
         is.conversation also.heard.conversation tt also.heard.heard in cc
 
-    -- the status that is decided, or want of memory, or a fault of the link
+    -- the status that is decided, or out of memory, or a fault of the link
     abbrev pub Comes : ℕ → ℕ → Type 0
     Comes k status = (status ≡ k) ⊎ ((status ≡ 6) ⊎ ((status ≡ 8) × Rose before.faults now.faults))
 

@@ -1,4 +1,4 @@
--- How the serving of links ends.
+-- How serving links ends.
 use Rattle.std.proofs.Common.{◌≡◌, ◌≤◌, ◌<◌, ◌+◌, ◌++◌, ◌∷◌, ℕ, List, [], length, Result, Ok, Err, refl, sym, subst, inr, arith, length-append}
 use Rattle.std.specs.Prelude.{codes, cond}
 use Rattle.ats_base.specs.Outside.{SinkTold}
@@ -16,7 +16,7 @@ use Rattle.ats_top.specs.declared.serving.Halt.{Halt}
 use Rattle.ats_top.specs.declared.serving.Halt.TheVariants.{Door, Sink, Memory}
 use Rattle.ats_top.proofs.Sessions.{had_then, took_then, failed_then, lines_then, faults_then}
 
--- so many links were served, of which so many ended by a fault
+-- n links were served, of which `faults` ended by a fault
 abbrev pub Had : (Question → Reply → Type 0) → (n faults : ℕ) → (door now : DoorTold) (sink told : SinkTold) → List Session → Type 0
 Had gives n faults door now sink told sessions =
     (length sessions ≡ n) × (faults ≡ faults_of sessions) × HadSessions gives sessions door now × Took sink told (session_lines sessions)
@@ -61,7 +61,7 @@ module _ (H : List ℕ → List ℕ) (files : Files) (words : ServeWords) (archi
       → HasServed H files words before now sessions
   served_of now sessions had few = record { archive = archive; index = index; opened = opened; listened = listened; had = had; few = few }
 
-  -- what came of the links behind the line that says that the door listens
+  -- the result for the links after the line that says that the door listens
   pub attends : (sink told : SinkTold) (now : DoorAndSink) (result : Result ℕ Halt) → Took sink told (codes "listening\n")
       → ServesLinks (gives H archive) words.connections (record { door = opened; sink = told }) now result
       → Attends H files words (record { door = before; sink = sink }) now result

@@ -1,4 +1,4 @@
--- How `audit` ends, from what its steps answer, and what a collision excludes.
+-- How `audit` ends, from the results of its steps, and what a collision excludes.
 use Rattle.std.proofs.Common.{◌≡◌, ◌∙◌, ◌≤◌, ◌^◌, ℕ, List, Option, Some, None, Result, Ok, Err, sym, ap, subst, inl, inr, arith}
 use Rattle.std.specs.Prelude.{IfOk, IfErr}
 use Rattle.ats_base.specs.Outside.{IsMissing, ShelfTold}
@@ -146,7 +146,7 @@ module _ (H : List ℕ → List ℕ) (before mid now : ShelfTold) (words : Audit
 
 -- ---- what a collision excludes
 
--- told files are audited in one way
+-- reported files are audited in one way
 pub one_audited : (H : List ℕ → List ℕ) (files : Files) (words : AuditWords) (a b : Option (Difference TreePlace)) → IsTold files
     → IsAudited H files words a → IsAudited H files words b → a ≡ b
 one_audited H files words a b told x y =

@@ -29,7 +29,7 @@ prove_said : (name word r query proof : List ℕ) (algorithm : Algorithm) (rows 
 prove_said name word r query proof algorithm rows is_algorithm is_rows = ap₂ (said_by name query proof) is_algorithm is_rows
 
 module _ (H : List ℕ → List ℕ) (sized : (m : List ℕ) → length (H m) ≡ 32) (files : Files) where
-  -- no proof by lists alone that words within the limits ask for is too long
+  -- no TNRA proof for words within the limits is too long
   none_too_long : (words : ProveWords) → words.algorithm ≡ Tnra → AsksRanking words.r words.query → (size : ℕ) → IsProofTooLong H files words size → ⊥
   none_too_long words walk asks size long =
       let spelling = long.index.spelling in

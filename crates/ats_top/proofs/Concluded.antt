@@ -64,7 +64,7 @@ has_status (Stopped text Link) = inr (inr (inr (inr (inr (inr (inr (inr (inl ref
 has_status (Stopped text (Peer fault)) = inr (inr (inr (inr (inr (inr (inr (inr (inr (inl refl)))))))))
 has_status (Stopped text (Faults count)) = inr (inr (inr (inr (inr (inr (inr (inr (inr (inr refl)))))))))
 
--- an end of which all may be printed
+-- an end whose text may all be printed
 abbrev IsPrinted : End → Type 0
 IsPrinted (Unprinted text) = ⊥
 IsPrinted _ = Unit {0}
@@ -75,7 +75,7 @@ was_printed (Done text) result not is = tt
 was_printed (Stopped text stop) result not is = tt
 was_printed (Unprinted text) result not is = not is
 
--- what is done was asked within the limits, of a file of the form that the command reads
+-- what is done had words within the limits, and a file of the form that the command reads
 done_input : (H : List ℕ → List ℕ) (before now : Outside) (command : Command) (text : List ℕ) → IsDone H before now command text → HasInput H before.shelf.files command
 done_input H before now (Rank words) text (ranked, same) = (ranked.asks, (ranked.texts, ranked.collection))
 done_input H before now (Build words) text built = (built.texts, built.collection)
@@ -123,7 +123,7 @@ done_changes H before now (Trial words) text (tried, same) = inl same
 
 -- of a run
 module _ (H : List ℕ → List ℕ) (said : List (List ℕ)) (before now : Outside) where
-  -- what the words say of the command that ended is said of theirs
+  -- a condition on the command of the words holds for the command that ended
   its : (P : Command → Type 0) (command : Command) → Said said P → command_of said ≡ Some command → P command
   its P command is also = subst P (same_command said is.0 command is.1 also) is.2
 
@@ -189,7 +189,7 @@ module _ (H : List ℕ → List ℕ) (said : List (List ℕ)) (before now : Outs
         absurd (input_there H before.shelf.files command (swept_input H before.shelf.files command (string_bytes lines) collides stops.1.0) lacks)
     missing_stop lacks text stop (inr links) = absurd (links_there H before now command text stop links lacks)
 
-    -- a fault of the shelf, where no file is missing
+    -- a fault of the shelf, if no file is missing
     shelf_stop : (k : ℕ) → (LacksFile H before.shelf.files command → ⊥) → HasShelfCause H before.shelf now.shelf command → Comes k 3
     shelf_stop k there (inl rose) = inr (inr (refl, rose.1))
     shelf_stop k there (inr lacks) = absurd (there lacks)
@@ -231,7 +231,7 @@ module _ (H : List ℕ → List ℕ) (said : List (List ℕ)) (before now : Outs
         absurd (swept_unrejected H before.shelf.files command (string_bytes lines) collides stops.1.0 rejection cause)
     rejected_stop told rejection cause text stop (inr links) = absurd (links_rejected H before now command text stop links rejection cause)
 
-    -- a proof that has a collision is told by no other run
+    -- no other run reports a proof that has a collision
     collided_stop : IsTold before.shelf.files → (collision : Difference TreePlace) → HasCollision H before.shelf.files command collision → (text : List ℕ) (stop : Stop)
         → IsStopped H before now command text stop → Comes 5 (status_of_stop stop)
     collided_stop told collision has text Usage (inl stops) = absurd stops.1
@@ -249,7 +249,7 @@ module _ (H : List ℕ → List ℕ) (said : List (List ℕ)) (before now : Outs
         absurd (swept_uncollided H before.shelf.files command (string_bytes lines) collides stops.1.0 collision has)
     collided_stop told collision has text stop (inr links) = absurd (links_collided H before now command text stop links collision has)
 
-    -- what is within the limits is done, unless memory is wanted or the shelf or the door failed
+    -- what is within the limits is done, unless memory runs out or the shelf or the door fails
     served_stop : IsTold before.shelf.files → IsServed H before.shelf.files command → (text : List ℕ) (stop : Stop) → IsStopped H before now command text stop
         → IsServedBy (status_of_stop stop)
     served_stop told served text Usage (inl stops) = absurd stops.1
@@ -310,7 +310,7 @@ module _ (H : List ℕ → List ℕ) (said : List (List ℕ)) (before now : Outs
       → (end : End) → IsPrinted end → Ends H before now said end → IsServedBy (status_of end)
   served_end told (command, is, served) = by_end IsServedBy command is (λ text done. inr (inl refl)) (served_stop command told served)
 
-  -- a trial is done, or is refused, or wants memory
+  -- a trial is done, or is refused, or runs out of memory
   module _ (words : TrialWords) (P : ℕ → Type 0) (refused : (refusal : InputRefusal) → IsTrialRefused H words.number refusal → P 4) (memory : P 6) where
     trial_stop : (text : List ℕ) (stop : Stop) → IsStopped H before now (Trial words) text stop → P (status_of_stop stop)
     trial_stop text Usage (inl stops) = absurd stops.1
@@ -329,7 +329,7 @@ module _ (H : List ℕ → List ℕ) (said : List (List ℕ)) (before now : Outs
         → (end : End) → IsPrinted end → Ends H before now said end → P (status_of end)
     trial_end is done = by_end P (Trial words) is done trial_stop
 
-  -- a sweep comes to the status of what it finds
+  -- a sweep ends with the status of its findings
   module _ (words : SweepWords) (told : IsTold before.shelf.files) (findings : List Finding) (found : AreFound H before.shelf.files words findings) where
     abbrev Sweeps : ℕ → Type 0
     Sweeps status = Comes (status_of_findings findings) status
@@ -420,7 +420,8 @@ module _ (H : List ℕ → List ℕ) (said : List (List ℕ)) (before now : Outs
   later (inr serves) = serves.2.later
 
   module _ (result : ℕ) where
-    -- what holds of the status of the end, where all of it may be printed, holds of that of the run, or the sink failed
+    -- what holds for the status of the end, if all of its text may be printed, holds for that of the run, or the sink
+    -- failed
     tells : (P : ℕ → Type 0) (ended : Ended H said before now result)
         → ((end : End) → IsPrinted end → Ends H before now said end → P (status_of end)) → P result ⊎ SinkFailed before now result
     tells P ended is = elim ended.prints [

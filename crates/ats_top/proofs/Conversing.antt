@@ -1,4 +1,4 @@
--- The reply of a conversation of a caller that tells is one.
+-- A caller that reports has one reply in a conversation.
 use Rattle.std.proofs.Common.{◌≡◌, ◌∙◌, ◌++◌, ◌∷◌, ℕ, List, [], Option, Some, None, MatchOption, IsSome, Result, refl, sym, ap}
 use Rattle.std.specs.Prelude.{option_map}
 use Rattle.std.proofs.lemmas.List.{append_cancel_left}
@@ -12,7 +12,7 @@ use Rattle.ats_top.specs.Conversation.{Converses}
 same_some : {X : Type 0} (o : Option X) (x y : X) → o ≡ Some x → o ≡ Some y → x ≡ y
 same_some o x y first second = let both = sym first ∙ second in cc
 
--- what a link that tells, and over which nothing went, tells
+-- what a link that reports, and over which nothing went, reports
 new_traffic : (o : Option Traffic) → IsSome o → MatchOption o (Unit {0}) (λ traffic. (traffic.read ≡ []) × (traffic.written ≡ []))
     → (traffic : Traffic) × (o ≡ Some traffic) × (traffic.read ≡ [])
 new_traffic None tells unused = absurd (cc)
@@ -31,7 +31,8 @@ one_back (Some calling) now address other a b tells is also =
     let lists = append_cancel_left calling.given_back (a ∷ []) (b ∷ []) (ap (λ (c : Calling). c.given_back) same) in
     first_is a b lists
 
--- what came over the link of a conversation of a caller that tells: all that was still to come when it was new
+-- what was read over the link of a conversation of a caller that reports: the front of all that was still to come when
+-- it was new
 record Came (link back : LinkTold) : Type 0 where
   traffic : Traffic
   is : link.traffic ≡ Some traffic
@@ -53,7 +54,7 @@ came address question before now result tells is =
       stream = carried.1 ∙ ap (λ (front : List ℕ). (front ++ is.asked.read) ++ carried.0) (sym new.2);
     }
 
--- the link given back is one, so what came over it is, and so is what it says
+-- the link given back is one, so what was read over it is, and so is its result
 pub one_reply : (address other : List ℕ) (question asking : Question) (before now : CallerTold) (one two : Result (List ℕ) AskFault) → IsSome before.content
     → Converses address question before now one → Converses other asking before now two → IsHeard one → IsHeard two → one ≡ two
 one_reply address other question asking before now one two tells is also heard too =

@@ -38,7 +38,7 @@ files_more (name ∷ names) more = ap (λ (files : List InputFile). (record { na
 
 -- ---- names
 
--- those before an entry, its own, and those behind it
+-- those before an entry, its own, and those after it
 pub names_at : (entries : List Entry) (i : ℕ) (entry : Entry) → i < length entries → entry ≡ get_or entries i entry
     → entry_names entries ≡ entry_names (take i entries) ++ entry.proof.now ∷ entry_names (drop (suc i) entries)
 names_at [] i entry less is = absurd (omega (arith, less))
@@ -67,7 +67,7 @@ total_more (p ∷ proofs) proof =
     let second = sum_by-cons size p proofs in
     omega (arith, first, second, total_more proofs proof)
 
--- the proofs of the first entries were gathered, and have so many bytes
+-- the proofs of the first entries were gathered, and have `count` bytes
 pub record AreSoFar (before now : ShelfTold) (entries : List Entry) (i : ℕ) (proofs : List Gathered) (count : ℕ) : Type 0 where
   pub files : now.files ≡ before.files
   pub later : before.faults ≤ now.faults
@@ -115,7 +115,7 @@ module _ (before mid now : ShelfTold) (entries : List Entry) (i : ℕ) (entry : 
   gathered_first : AreGathered before.files (entry_names (take i entries)) proofs
   gathered_first = record { each = so_far.each; within = omega (arith, so_far.counted, so_far.within) }
 
-  -- the next is not there, or want of memory
+  -- the next is missing, or memory ran out
   pub stops_at : (stop : Stop) → MissingStop mid now entry.proof.now stop → GatheringStop before now (entry_names entries) stop
   stops_at Usage stops = absurd stops
   stops_at Shelf (inl rose) = inl (omega (arith, so_far.later, rose))

@@ -1,4 +1,4 @@
--- An honest proof has no collision with its archive, so that `audit` serves it, and `sweep` a list of such.
+-- An honest proof has no collision with its archive, so `audit` serves it, and `sweep` a list of such proofs.
 use Rattle.std.proofs.Common.{◌≡◌, ◌∷◌, ◌^◌, ℕ, false, List, [], length, None, All, refl}
 use Rattle.std.specs.List.{AllZip, list_any}
 use Rattle.std.proofs.lemmas.List.Elements.{All-head, All-tail}

@@ -43,7 +43,7 @@ text_before items texts doc k inside less same =
     ∙ ap (λ all. get_or all k None) same
     ∙ get_or-map Some texts k [] None (omega (arith, many))
 
--- the first item with no text, where each before it has one
+-- the first item with no text, if each before it has one
 pub first_bad : (items : List Data) (texts : List (List ℕ)) (doc : ℕ) → doc < length items
     → map item_text (take doc items) ≡ map Some texts → item_text (get_or items doc null) ≡ None → IsFirstBadItem items doc
 first_bad items texts doc inside same none = record {
@@ -96,12 +96,12 @@ not_array bytes items value is reads none =
     ap (λ o. option_map item_list (option_and_then as_array o)) reads ∙ ap (option_map item_list) none in
     no_some _ _ nothing is.read
 
--- a fault that is no want of memory
+-- a fault other than out of memory
 abbrev pub IsJsonRefusal : JsonFault → Type 0
 IsJsonRefusal OutOfMemory = ⊥
 IsJsonRefusal _ = Unit {0}
 
--- bytes with texts have no fault but want of memory
+-- bytes with texts have no fault except out of memory
 pub no_json_fault : (bytes : List ℕ) (texts : List (List ℕ)) (fault : JsonFault) → AreJsonTexts bytes texts → IsFirstJsonFault bytes fault
     → IsJsonRefusal fault → ⊥
 no_json_fault bytes texts NotJson are fault free = not_json bytes are.items are.array (fault are.array.utf8)

@@ -1,4 +1,4 @@
--- How commands end that call or serve, beside what their words and files tell.
+-- How commands end that call or serve, besides what their words and files say.
 use Rattle.std.proofs.Common.{◌≡◌, ◌⊎◌, ℕ, List, IsSome, refl, inl, inr}
 use Rattle.ats_base.specs.Outside.{Rose}
 use Rattle.ats_base.specs.Links.{CallerTold}
@@ -71,7 +71,7 @@ module _ (H : List ℕ → List ℕ) (before now : Outside) where
   links_collided (Audit words) text stop links collision has = links
   links_collided other text stop links collision has = has
 
-  -- where the input was good, memory was wanted or the door failed
+  -- if the input was good, memory ran out or the door failed
   pub links_served : (command : Command) (text : List ℕ) (stop : Stop) → LinksStop H before now command text stop → IsServed H before.shelf.files command
       → (status_of_stop stop ≡ 6) ⊎ DoorFailed before.door now.door (status_of_stop stop)
   links_served (Rank words) text stop links served = absurd links
@@ -85,7 +85,7 @@ module _ (H : List ℕ → List ℕ) (before now : Outside) where
   links_served (Sweep words) text stop links served = absurd links
   links_served (Trial words) text stop links served = absurd links
 
-  -- no memory for the line of a stop is want of memory
+  -- if memory for the line of a stop runs out, the stop is out of memory
   pub links_memory : (command : Command) (text : List ℕ) (stop : Stop) → HasLine stop → LinksStop H before now command text stop → IsStopped H before now command text Memory
   links_memory (Rank words) text stop has links = absurd links
   links_memory (Build words) text stop has links = absurd links
@@ -123,7 +123,7 @@ module _ (H : List ℕ → List ℕ) (before now : Outside) where
   links_files (Sweep words) text stop links = absurd links
   links_files (Trial words) text stop links = absurd links
 
-  -- the status that a reply decides comes, unless memory is wanted or the caller's count rose
+  -- the status that a reply decides is returned, unless memory runs out or the caller's count rose
   module _ (tells : IsSome before.caller.content) (k : ℕ) where
     abbrev Replies : ℕ → Type 0
     Replies status = (status ≡ k) ⊎ ((status ≡ 6) ⊎ ((status ≡ 8) × Rose before.caller.faults now.caller.faults))

@@ -1,4 +1,4 @@
--- What follows where serving stopped.
+-- What follows if serving stopped.
 use Rattle.std.proofs.Common.{◌≡◌, ◌⊎◌, ◌<◌, ℕ, List, refl, inl, inr, arith, is_some}
 use Rattle.ats_base.specs.Outside.{Rose}
 use Rattle.ats_base.specs.Links.{DoorTold}
@@ -14,7 +14,7 @@ use Rattle.ats_top.specs.declared.stops.Stop.TheVariants.{Usage, Shelf, Input, R
 use Rattle.ats_top.proofs.Opened.{faults_rise}
 
 module _ (H : List ℕ → List ℕ) (files : Files) (words : ServeWords) (before now : DoorTold) (text : List ℕ) where
-  -- where serving stopped, its index was loaded
+  -- if serving stopped, its index was loaded
   pub serving_index : (stop : Stop) → ServingStop H files words before now text stop → (archive : Archive) × HasIndex H files words.index archive
   serving_index Link (inl shut) = (shut.archive, shut.index)
   serving_index Link (inr broken) = (broken.served.archive, broken.served.index)
@@ -28,14 +28,14 @@ module _ (H : List ℕ → List ℕ) (files : Files) (words : ServeWords) (befor
   serving_index (Collision place ours theirs) stops = absurd stops
   serving_index (Swept lines collides) stops = absurd stops
 
-  -- where links ended by a fault, the door's count of broken links rose
+  -- if links ended by a fault, the door's count of broken links rose
   broken_rose : (count : ℕ) → 0 < count → AreAllServed H files words before now count text → Rose before.broken now.broken
   broken_rose count some all =
       let had = all.served.had in
       let risen = faults_rise (gives H all.served.archive) (is_some all.served.opened.content) all.sessions all.served.opened.broken had.each (omega (arith, some, all.faults_are)) in
       omega (arith, risen, had.broken, all.served.listened.broken)
 
-  -- the status is that of a want of memory, or of the door's fault
+  -- the status is that of out of memory, or of the door's fault
   pub serving_status : (stop : Stop) → ServingStop H files words before now text stop → (status_of_stop stop ≡ 6) ⊎ DoorFailed before now (status_of_stop stop)
   serving_status Link (inl shut) = inr (inl (refl, shut.failed.cause))
   serving_status Link (inr broken) =
@@ -50,7 +50,7 @@ module _ (H : List ℕ → List ℕ) (files : Files) (words : ServeWords) (befor
   serving_status (Collision place ours theirs) stops = absurd stops
   serving_status (Swept lines collides) stops = absurd stops
 
-  -- no memory for the line of a stop is want of memory
+  -- if memory for the line of a stop runs out, the stop is out of memory
   pub serving_line : (stop : Stop) → HasLine stop → ServingStop H files words before now text stop → ServingStop H files words before now text Memory
   serving_line (Faults count) has (some, all) =
       record { sessions = all.sessions; told = all.sessions; served = all.served; but_last = inl refl; printed = all.printed }

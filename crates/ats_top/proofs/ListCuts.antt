@@ -43,7 +43,7 @@ at_prefix byte (x ∷ s) d inside = go (x == byte) refl (at_prefix byte s d)
         let more : prefix_len (λ b. not (b == byte)) (x ∷ s) ≡ suc (prefix_len (λ b. not (b == byte)) s) = rw e (omega arith) in
         rw more (rest (omega (arith, more, inside)))
 
--- a text is what stands before its first space, that space, and what stands behind it
+-- a text is what precedes its first space, that space, and what follows it
 pub cut_at_space : (s : List ℕ) → position_or_len (λ b. b == 32) s < length s
     → s ≡ before_first (λ b. b == 32) s ++ 32 ∷ after_first (λ b. b == 32) s
 cut_at_space s inside =
@@ -77,11 +77,11 @@ digits_unspaced (x ∷ word) all =
     let parts = split_and (is_ascii_digit x) (list_all is_ascii_digit word) all in
     rw (no_space x parts.0) (digits_unspaced word parts.1)
 
--- the parts round the first space, where a text has one
+-- the parts around the first space, if a text has one
 abbrev pub IsCut : List ℕ → List ℕ → List ℕ → Type 0
 IsCut s front back = (front ≡ before_first (λ b. b == 32) s) × (back ≡ after_first (λ b. b == 32) s) × (position_or_len (λ b. b == 32) s < length s)
 
--- what stands before and behind the first space is one thing
+-- only one text precedes the first space, and one follows it
 pub one_cut : (s front back xs ys : List ℕ) → IsCut s front back → s ≡ xs ++ 32 ∷ ys → is_unspaced xs ≡ true → (front ≡ xs) × (back ≡ ys)
 one_cut s front back xs ys (is, also, inside) same none =
     let parts = cut_at_space s inside in

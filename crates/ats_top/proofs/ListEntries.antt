@@ -103,7 +103,7 @@ pub all_read : (bytes : List ℕ) (entries : List Entry) → AreRead bytes [] en
 all_read bytes entries read =
     subst (λ (lines : List (List ℕ)). AllZip IsEntry lines entries) (sym (read.parts ∙ append-nil read.done)) read.are
 
--- all lines are read where nothing is left
+-- all lines are read if nothing is left
 pub as_many_read : (bytes rest : List ℕ) (entries : List Entry) → AreRead bytes rest entries → length rest ≡ 0 → length entries ≡ length (lines_of bytes)
 as_many_read bytes [] entries read none = AllZip-long IsEntry (lines_of bytes) entries (all_read bytes entries read)
 as_many_read bytes (byte ∷ rest) entries read none = absurd (omega (arith, none))

@@ -1,8 +1,8 @@
--- The first line of some bytes, and the lines behind it.
+-- The first line of some bytes, and the lines after it.
 use Rattle.std.proofs.Common.{◌≡◌, ◌≢◌, ◌-◌, ◌==◌, ◌∷◌, ◌<◌, ◌+◌, ℕ, zero, suc, false, List, [], length, take, drop, get_or, take_all, length-drop, refl, subst, arith}
 use Rattle.ats_top.specs.Listed.{lines_of}
 
--- no line feed stands before this place
+-- there is no line feed before this place
 abbrev pub NoneBefore : List ℕ → ℕ → Type 0
 NoneBefore bytes at = (i d : ℕ) → i < at → (get_or bytes i d == 10) ≡ false
 
@@ -26,7 +26,7 @@ cut_line (byte ∷ bytes) (suc at) none inside feed =
 whole : (byte : ℕ) (bytes : List ℕ) (at : ℕ) → at ≡ length (byte ∷ bytes) → NoneBefore (byte ∷ bytes) at → lines_of (byte ∷ bytes) ≡ (byte ∷ bytes) ∷ []
 whole byte bytes at is none = one_line byte bytes (subst (NoneBefore (byte ∷ bytes)) is none)
 
--- where no line feed was found
+-- if no line feed was found
 pub one_alone : (bytes : List ℕ) (at : ℕ) → bytes ≢ [] → at ≡ length bytes → NoneBefore bytes at
     → lines_of bytes ≡ bytes ∷ lines_of (take (length bytes - at) (drop at bytes))
 one_alone [] at some is none = absurd (some refl)
@@ -34,7 +34,7 @@ one_alone (byte ∷ bytes) at some is none =
     let left : length (byte ∷ bytes) - at ≡ 0 = omega (arith, is) in
     rw left (whole byte bytes at is none)
 
--- where one was
+-- if one was
 pub cut_at : (bytes : List ℕ) (at : ℕ) → NoneBefore bytes at → at < length bytes → get_or bytes at 0 ≡ 10
     → lines_of bytes ≡ take at bytes ∷ lines_of (take (length bytes - (at + 1)) (drop (at + 1) bytes))
 cut_at bytes at none inside feed =

@@ -1,4 +1,4 @@
--- How `prove` stops where no proof was made.
+-- How `prove` stops if no proof was made.
 use Rattle.std.proofs.Common.{◌≡◌, ℕ, List}
 use Rattle.ats_base.specs.Outside.{ShelfTold}
 use Rattle.ats_terms.specs.Query.{IsQueryOf}

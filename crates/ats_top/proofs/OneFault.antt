@@ -1,4 +1,5 @@
--- A text has one fault as a query at most, bytes one as a JSON array of texts, and texts one as a collection, want of memory apart.
+-- A text has at most one fault as a query, bytes one as a JSON array of texts, and texts one as a collection, apart
+-- from out of memory.
 use Rattle.std.proofs.Common.{◌≡◌, ◌<◌, ◌^◌, ◌∙◌, ℕ, List, [], length, take, get_or, Option, None, IsSome, refl, sym, ap, subst, inl, inr, arith, length-take}
 use Rattle.std.specs.Prelude.{is_some}
 use Rattle.std.proofs.lemmas.Bool.{cases_order}
@@ -42,7 +43,7 @@ one_query_fault text (query.TooManyTerms a) (query.TooManyTerms b) free other is
 some_none : (o : Option (List ℕ)) → IsSome o → o ≡ None → ⊥
 some_none o some none = let both = sym some ∙ ap is_some none in cc
 
--- of two first items with no text neither stands before the other
+-- of two first items with no text neither is before the other
 one_bad_item : (items : List Data) (a b : ℕ) → IsFirstBadItem items a → IsFirstBadItem items b → a ≡ b
 one_bad_item items a b is also = elim (cases_order a b) [
   | inl same ↦ same
@@ -71,7 +72,7 @@ one_json_fault bytes (json.BadItem a) json.NotArray free other is also = absurd 
 one_json_fault bytes (json.BadItem a) (json.BadItem b) free other is also =
     ap json.BadItem (one_bad_item is.0 a b is.2 (subst (λ (items : List Data). IsFirstBadItem items b) (same_items bytes also.0 is.0 also.1 is.1) also.2))
 
--- a text that is too long stands not before the first such
+-- a text that is too long is not before the first such
 not_before : (texts : List (List ℕ)) (doc k : ℕ) → k < doc → doc < length texts → 2 ^ 20 < length (get_or texts k []) → AllShort (take doc texts) → ⊥
 not_before texts doc k less inside long short =
     let within : k < length (take doc texts) = omega (arith, length-take doc texts) in

@@ -1,4 +1,4 @@
--- Told files are gathered in one way.
+-- Reported files are gathered in one way.
 use Rattle.std.proofs.Common.{◌≡◌, ◌++◌, ◌∷◌, ◌≤◌, ◌+◌, ◌^◌, ℕ, List, [], refl, sym, ap, subst, ◌∙◌, arith}
 use Rattle.std.specs.List.{AllZip}
 use Rattle.std.proofs.lemmas.List.Sums.{sum_by-cons}
@@ -39,7 +39,7 @@ has_more files name some many p q same has =
     record { proof = has.proof; is = has.is; most = omega (arith, has.most, ap size same, first, second) }
 
 module _ (files : Files) (told : IsTold files) where
-  -- where all are there, the next is
+  -- if all are there, the next is
   next_there : (before after : List (List ℕ)) (name : List ℕ) (some all : List Gathered) → AllZip (IsGathered files) before some
       → AllZip (IsGathered files) (before ++ name ∷ after) all → Has files name (total some) (total all)
   next_there [] after name [] [] is also = absurd also

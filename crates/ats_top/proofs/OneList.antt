@@ -1,4 +1,4 @@
--- A line asks for one thing at most, and so a told list has one reading.
+-- A line asks for at most one thing, and so a reported list has one reading.
 use Rattle.std.proofs.Common.{◌≡◌, ◌++◌, ◌∷◌, ◌&&◌, ◌||◌, ◌==◌, ◌≤◌, ◌^◌, ℕ, Bool, true, false, not, List, [], length, slice_index, nat_lt, nat_le, Some, None, refl, sym, ap, subst, if◌then◌else◌, ◌∙◌, inl, inr, arith}
 use Rattle.std.specs.List.{AllZip, list_all}
 use Rattle.std.specs.Char.{is_ascii_digit}
@@ -13,7 +13,7 @@ both : (x y : Bool) → (x && y) ≡ true → (x ≡ true) × (y ≡ true)
 both true y h = (refl, h)
 both false y h = absurd (cc)
 
--- what stands before and behind the first byte of which a test is false
+-- only one part precedes the first byte that fails a test, and one follows it
 pub parts_one : (p : ℕ → Bool) (byte : ℕ) → p byte ≡ false → (xs ys rest other : List ℕ) → list_all p xs ≡ true → list_all p ys ≡ true
     → xs ++ byte ∷ rest ≡ ys ++ byte ∷ other → (xs ≡ ys) × (rest ≡ other)
 parts_one p byte ends [] [] rest other a b same = let tails : rest ≡ other = cc in (refl, tails)
@@ -35,7 +35,7 @@ number_split : (b : Bool) (word : List ℕ) (r : ℕ) (value : ℕ) → (if b th
 number_split true word r value is = refl
 number_split false word r value is = absurd (cc)
 
--- a number word has digits alone
+-- a number word has only digits
 pub number_digits : (word : List ℕ) (r : ℕ) → number_of word ≡ Some r → list_all is_ascii_digit word ≡ true
 number_digits word r is =
     let numbers = number_split (is_number_word word) word r (digits_value 10 word) is in
@@ -69,7 +69,7 @@ same_zip R one (x ∷ xs) (a ∷ ys) (b ∷ zs) is also =
 one_listed : (line : List ℕ) (a b : Listed) → IsListed line a → IsListed line b → a ≡ b
 one_listed line a b is also = one_spelled line a b is.spelled also.spelled
 
--- a told list is one
+-- a reported list is one
 pub one_list : (files : Files) (name : List ℕ) (a b : List Listed) → IsTold files → IsList files name a → IsList files name b → a ≡ b
 one_list files name a b told is also =
     let same = one_file files name is.bytes also.bytes (2 ^ 20) (2 ^ 20) told is.file also.file in

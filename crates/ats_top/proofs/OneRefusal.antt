@@ -1,4 +1,4 @@
--- Words and a told file are refused as an input in one way at most.
+-- Words and a reported file are refused as an input in at most one way.
 use Rattle.std.proofs.Common.{◌≡◌, ◌∙◌, ◌⊎◌, ◌^◌, ℕ, List, refl, sym, ap, subst, inl, inr, arith}
 use Rattle.std.proofs.lemmas.Bool.{cases_order}
 use Rattle.ats_base.specs.Outside.{IsLonger}

@@ -1,4 +1,4 @@
--- A told file is rejected as a proof in one way at most.
+-- A reported file is rejected as a proof in at most one way.
 use Rattle.std.proofs.Common.{◌≡◌, ◌∙◌, ◌^◌, ℕ, List, sym, subst, inl, inr}
 use Rattle.ats_commit.specs.Archive.{Archive}
 use Rattle.ats_commit.specs.Root.{root_of}

@@ -1,4 +1,4 @@
--- What a sweep of told files finds comes to one status.
+-- What a sweep of reported files finds gives one status.
 use Rattle.std.proofs.Common.{◌≡◌, ◌∷◌, ℕ, List, [], Some, None, refl, subst}
 use Rattle.std.specs.List.{AllZip, list_any}
 use Rattle.ats_top.specs.Words.{AuditWords, SweepWords, Audit}

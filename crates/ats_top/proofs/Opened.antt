@@ -49,7 +49,7 @@ accept_keep address fewer connections (Some was) mid now (opening, is, kept) cou
   record { addresses = kept.addresses; accepts = omega (arith, kept.accepts, less); out = kept.out },
 )
 
--- where the door did not listen
+-- if the door did not listen
 noted_keep : (address : List ℕ) (connections : ℕ) (before now : Option Opening) → MayNoteListen address before now → KeepsContent address connections before now
 noted_keep address connections None now (inl same) = same
 noted_keep address connections None now (inr noted) = noted
@@ -110,7 +110,7 @@ rise_by (suc faults) session rest before is calm =
     subst (λ (n : ℕ). Rose before (fold broken_after (counted_broken n before) rest)) (sym is)
     (still_rose before (min (before + 1) (2 ^ 64 - 1)) rest (omega arith))
 
--- where a session ended by a fault, the count of broken links rose
+-- if a session ended by a fault, the count of broken links rose
 pub faults_rise : (gives : Question → Reply → Type 0) (must_tell : Bool) (sessions : List Session) (before : ℕ)
     → All (IsSession gives must_tell) sessions → 0 < faults_of sessions → Rose before (fold broken_after before sessions)
 faults_rise gives must_tell [] before each some = absurd (omega arith)

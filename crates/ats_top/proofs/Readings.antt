@@ -1,4 +1,4 @@
--- What is asked of a shelf, from what is asked for one file.
+-- The calls on a shelf, from those for one file.
 use Rattle.std.proofs.Common.{◌≡◌, ◌≤◌, ◌^◌, ◌++◌, ◌∷◌, ℕ, List, [], Option, Some, None, refl, sym, ap, subst, ◌∙◌, inl, inr, arith, append-nil}
 use Rattle.ats_base.specs.Outside.{IsMissing, ShelfTold, Ask, Asked, ReadsAtMostOnce, StoresOnce}
 use Rattle.ats_base.proofs.Public.{asked_none, asked_then, asked_as}
@@ -38,7 +38,7 @@ no_reads_of files (Serve words) = no_reads (reads (Serve words))
 no_reads_of files (Audit words) = no_reads (reads (Audit words))
 no_reads_of files (Trial words) = no_reads (reads (Trial words))
 
--- nothing was asked
+-- there was no call
 pub serves_none : (told : ShelfTold) (command : Command) → Serves told told command
 serves_none told command = record {
   later = omega arith;
@@ -63,11 +63,11 @@ stores_no_file before now command none is =
     let empty = subst (λ (name : Option (List ℕ)). StoresAtMostOnce name these.stored) none these.stores in
     subst (ReadsFilesOf before.files command) (sym (these.parts ∙ ap (λ (more : List Ask). these.read ++ more) empty ∙ append-nil these.read)) these.reads)
 
--- one file alone is one in order
+-- a single file is a list of files in order
 one_file : (file : InputFile) (asks : List Ask) → ReadsAtMostOnce file.name (limit_of file.form) asks → ReadsInOrder (file ∷ []) asks
 one_file file asks is = (asks, [], sym (append-nil asks), is, refl)
 
--- of a command that reads no more than the files that its words name, and of these one
+-- for a command that reads only the files that its words name, and these are one
 module _ (files : Files) (command : Command) (file : InputFile) (one : reads command ≡ file ∷ [])
     (plain : (asks : List Ask) → ReadsInOrder (reads command) asks → ReadsFilesOf files command asks) where
   asks_one : (asks more : List Ask) → ReadsAtMostOnce file.name (limit_of file.form) asks → StoresAtMostOnce (stores command) more → AsksFor files command (asks ++ more)
@@ -134,7 +134,7 @@ module _ (before now : ShelfTold) where
   pub serve_read : (words : ServeWords) → Reads before now words.index (2 ^ 29) → Serves before now (Serve words)
   serve_read words is = one_read (Serve words) (record { name = words.index; form = AsIndex }) refl (λ files asks is. is) before now is
 
-  -- the index alone was read
+  -- only the index was read
   pub audit_index : (words : AuditWords) → Reads before now words.index (2 ^ 29) → Serves before now (Audit words)
   audit_index words is = record {
     later = is.later;
@@ -165,7 +165,7 @@ module _ (before now : ShelfTold) where
         });
   }
 
-  -- the index alone was read
+  -- only the index was read
   pub sweep_index : (words : SweepWords) → Reads before now words.index (2 ^ 29) → Serves before now (Sweep words)
   sweep_index words is = record {
     later = is.later;

@@ -1,4 +1,4 @@
--- What is within the limits is not refused, and a file that is not there is neither served nor refused.
+-- What is within the limits is not refused, and a missing file is neither served nor refused.
 use Rattle.std.proofs.Common.{◌≡◌, ◌∙◌, ◌<◌, ◌^◌, ℕ, List, [], ◌∷◌, length, get_or, None, sym, ap, subst, inl, inr, arith, append-nil}
 use Rattle.std.specs.List.{concat}
 use Rattle.ats_base.specs.Outside.{IsMissing, IsLonger}
@@ -37,7 +37,7 @@ use Rattle.ats_top.proofs.ToldFiles.{not_longer, one_file, missing_longer, missi
 use Rattle.ats_top.proofs.SweepKept.{found_kept, found_there, lacking_kept}
 use Rattle.ats_top.proofs.JsonLemmas.{same_texts, IsJsonRefusal, no_json_fault}
 
--- a fault that is no want of memory
+-- a fault other than out of memory
 abbrev pub IsQueryRefusal : QueryFault → Type 0
 IsQueryRefusal query.OutOfMemory = ⊥
 IsQueryRefusal _ = Unit {0}
@@ -46,7 +46,7 @@ abbrev pub IsCollectionRefusal : CollectionFault → Type 0
 IsCollectionRefusal collection.OutOfMemory = ⊥
 IsCollectionRefusal _ = Unit {0}
 
--- a text that is a query has no fault but want of memory
+-- a text that is a query has no fault except out of memory
 pub no_query_fault : (text : List ℕ) (fault : QueryFault) → HasQuery text → IsFirstFault text fault → IsQueryRefusal fault → ⊥
 no_query_fault text (query.TooLong bytes) has fault free = omega (arith, has.short, fault.0, fault.1)
 no_query_fault text query.NoTerm has fault free = omega (arith, has.some, fault.1)
@@ -54,7 +54,7 @@ no_query_fault text (query.TooManyWords count) has fault free = omega (arith, ha
 no_query_fault text (query.TooManyTerms distinct) has fault free = omega (arith, has.distinct, fault.3, fault.4)
 no_query_fault text query.OutOfMemory has fault free = free
 
--- texts within the limits have no fault but want of memory
+-- texts within the limits have no fault except out of memory
 pub no_collection_fault : (texts : List (List ℕ)) (fault : CollectionFault) → AreWithin texts → IsFirstCollectionFault texts fault
     → IsCollectionRefusal fault → ⊥
 no_collection_fault texts collection.NoDocuments within fault free = omega (arith, within.some, fault)
@@ -106,7 +106,7 @@ proving_kept H files words kept fits other refused = kept other refused
 
 -- ---- the trial
 
--- a fault of a query that is an input's refusal is no want of memory
+-- a fault of a query that is an input's refusal is not out of memory
 pub query_refusal : (fault : QueryFault) (refusal : InputRefusal) → stop_of_query fault ≡ Input refusal → IsQueryRefusal fault
 query_refusal query.OutOfMemory refusal is = absurd (cc)
 query_refusal (query.TooLong bytes) refusal is = tt
@@ -124,7 +124,7 @@ pub trial_kept : (H : List ℕ → List ℕ) (number : ℕ) → IsTrialServed H 
 trial_kept H number (asks, fits) (ProofTooLong bytes) refused = fits bytes refused
 trial_kept H number (asks, fits) other refused = trial_query_kept number asks other refused
 
--- the honest proof is one, so where it was tried it is not too long
+-- there is only one honest proof, so if it was tried it is not too long
 pub tried_short : (H : List ℕ → List ℕ) (number : ℕ) (algorithm : Algorithm) (i : ℕ) (proof : Proof) → IsTrialProof H number algorithm i proof
     → (query : List (List ℕ × ℕ)) (bytes : ℕ) → IsQueryOf (trial_query number i) query → IsTooLong H (trial_archive number) query 10 algorithm (2 ^ 26) bytes → ⊥
 tried_short H number algorithm i proof is query bytes own long =
@@ -157,7 +157,7 @@ module _ (H : List ℕ → List ℕ) (number : ℕ) (text : List ℕ) (tried : I
   pub trial_done_kept : (refusal : InputRefusal) → IsTrialRefused H number refusal → ⊥
   trial_done_kept refusal refused = trial_kept H number (trial_asks, trial_fits) refusal refused
 
--- what is served is not refused, where the files are told
+-- what is served is not refused, if the files are reported
 pub served_kept : (H : List ℕ → List ℕ) (files : Files) (command : Command) → IsTold files → IsServed H files command
     → (refusal : InputRefusal) → IsRefused H files command refusal → ⊥
 served_kept H files (Rank words) told (asks, (texts, has)) refusal refused =
@@ -179,7 +179,7 @@ served_kept H files (Verify words) told (asks, has) refusal refused = ranking_ke
 spelled_size : (bytes : List ℕ) (proof : Proof) → IsProof bytes proof → length bytes ≡ length_of proof
 spelled_size bytes proof is = ap length is.spells.whole.parts ∙ ap length (append-nil (concat (fields_of proof)))
 
--- the honest proof is one, so where one was stored none is too long
+-- there is only one honest proof, so if one was stored none is too long
 pub too_long_kept : (H : List ℕ → List ℕ) (files : Files) (words : ProveWords) (bytes : List ℕ) (size : ℕ) → IsTold files → IsProofFor H files words bytes
     → IsProofTooLong H files words size → ⊥
 too_long_kept H files words bytes size told stored long =
@@ -197,7 +197,7 @@ proof_kept : (H : List ℕ → List ℕ) (before now : Files) (words : ProveWord
 proof_kept H before now words text told done (ProofTooLong size) refused = too_long_kept H before words done.bytes size told done.proof refused
 proof_kept H before now words text told done other refused = index_kept H before words.index done.proof.archive told done.proof.index other refused
 
--- what is done is not refused, where the files are told
+-- what is done is not refused, if the files are reported
 pub done_kept : (H : List ℕ → List ℕ) (before now : Outside) (command : Command) (text : List ℕ) → IsTold before.shelf.files → IsDone H before now command text
     → (refusal : InputRefusal) → IsRefused H before.shelf.files command refusal → ⊥
 done_kept H before now (Rank words) text told (ranked, same) refusal refused =
@@ -233,7 +233,7 @@ module _ (files : Files) (name : List ℕ) (missing : IsMissing files name) wher
   collection_missing (AllTooLong total) (bytes, texts, file, are, is) = missing_file files name bytes (2 ^ 26) missing file
   collection_missing _ refused = refused
 
--- where a file is not there, what the words say is within the limits
+-- if a file is missing, the words are within the limits
 pub lacks_asks : (H : List ℕ → List ℕ) (files : Files) (command : Command) → LacksFile H files command → Asks command
 lacks_asks H files (Rank words) lacks = lacks.0
 lacks_asks H files (Build words) lacks = tt

@@ -1,4 +1,5 @@
--- A proof that is accepted is not rejected, and what is rejected of a proof is of a file that is there, under words within the limits.
+-- A proof that is accepted is not rejected, and a rejected proof is that of a file that is there, under words within
+-- the limits.
 use Rattle.std.proofs.Common.{◌≡◌, ◌∙◌, ◌^◌, ℕ, List, sym, subst, inl, inr}
 use Rattle.ats_base.specs.Outside.{IsMissing}
 use Rattle.ats_commit.specs.Archive.{Archive}
@@ -18,7 +19,7 @@ use Rattle.ats_top.specs.declared.stops.InputRefusal.{InputRefusal}
 use Rattle.ats_top.proofs.ToldFiles.{not_longer, one_file, missing_longer, missing_file, index_kept}
 use Rattle.ats_top.proofs.Refused.{ranking_kept}
 
--- a told file that is accepted is not rejected
+-- a reported file that is accepted is not rejected
 proof_accepted : (H : List ℕ → List ℕ) (files : Files) (words : VerifyWords) → IsTold files → IsAccepted H files words
     → (rejection : Rejection) → IsProofRejected H files words rejection → ⊥
 proof_accepted H files words told is rejection (inl long) = not_longer files words.proof is.bytes (2 ^ 26) told is.file long.longer
@@ -29,7 +30,7 @@ proof_accepted H files words told is rejection (inr rejected) =
     (subst (λ (query : List (List ℕ × ℕ)). IsAcceptedBytes H words.root query words.r is.bytes is.proof) asked is.accepted) in
     accepted_kept H words.root rejected.query words.r rejected.bytes is.proof rejection accepted rejected.rejected
 
--- a told file is the index of one archive
+-- a reported file is the index of one archive
 pub told_archive : (H : List ℕ → List ℕ) (files : Files) (name : List ℕ) (a b : Archive) → IsTold files → HasIndex H files name a → HasIndex H files name b → a ≡ b
 told_archive H files name a b told is also =
     let same = one_file files name is.bytes also.bytes (2 ^ 29) (2 ^ 29) told is.file also.file in

@@ -1,4 +1,4 @@
--- The lines of all proofs, one after another, and the status that they come to.
+-- The lines of all proofs, one after another, and the status that they give.
 use Rattle.std.proofs.Common.{◌≡◌, ◌++◌, ◌∷◌, ◌||◌, ◌<◌, ◌≤◌, ◌+◌, ℕ, zero, suc, Bool, true, false, List, [], length, drop, get_or, string_bytes, refl, sym, ap, ◌∙◌, arith, append-nil, append_assoc, if◌then◌else◌}
 use Rattle.std.specs.List.{list_any}
 use Rattle.ats_audit.specs.declared.auditing.Verdict.{Verdict}

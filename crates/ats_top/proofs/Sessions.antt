@@ -112,7 +112,7 @@ took_none before = record {
   later = omega arith;
 }
 
--- what came behind all of a text, where the sink tells
+-- what was taken after all of a text, if the sink reports
 behind : (before mid now : Option (List ℕ)) (text more : List ℕ) → mid ≡ option_map (λ taken. taken ++ text) before → now ≡ option_map (λ taken. taken ++ more) mid
     → now ≡ option_map (λ taken. taken ++ (text ++ more)) before
 behind None mid now text more first second = second ∙ ap (λ (o : Option (List ℕ)). option_map (λ taken. taken ++ more) o) first
@@ -125,7 +125,7 @@ took_then before mid now text more first second = record {
   later = omega (arith, first.later, second.later);
 }
 
--- a sink that failed behind all of a text failed behind a prefix of it with what was to come
+-- a sink that failed after all of a text failed after a prefix of it and of what was to follow
 pub failed_then : (before mid now : SinkTold) (text more : List ℕ) → Took before mid text → FailedToTake mid now more → FailedToTake before now (text ++ more)
 failed_then before mid now text more first second = record {
   n = length text + second.n;

@@ -1,4 +1,4 @@
--- A command that is done or stopped ends so.
+-- How a command that is done or stopped ends.
 use Rattle.std.proofs.Common.{◌≡◌, ◌≤◌, ◌++◌, ℕ, List, [], refl, inl, inr, Some, Result, Ok, Err, IfErr}
 use Rattle.std.specs.Prelude.{IfOk}
 use Rattle.ats_base.specs.Outside.{ShelfTold, SinkTold}
@@ -18,7 +18,7 @@ use Rattle.ats_top.specs.declared.stops.Stop.{Stop}
 use Rattle.ats_top.specs.declared.stops.Stop.TheVariants.{Usage, Shelf, Input, Rejected, Memory, Link, Peer, Faults, Collision, Swept}
 use Rattle.ats_top.proofs.Sessions.{took_then, failed_then}
 
--- what is told but by the sink, before and now, of a command of these words
+-- what all objects but the sink report, before and after a command of these words
 module _ (H : List ℕ → List ℕ) (shelf later_shelf : ShelfTold) (caller later_caller : CallerTold) (door later_door : DoorTold)
     (said : List (List ℕ)) (command : Command) (is : command_of said ≡ Some command) where
   abbrev before : SinkTold → Outside
@@ -27,7 +27,7 @@ module _ (H : List ℕ → List ℕ) (shelf later_shelf : ShelfTold) (caller lat
   abbrev now : SinkTold → Outside
   now sink = record { shelf = later_shelf; sink = sink; caller = later_caller; door = later_door }
 
-  -- whatever the sink tells
+  -- whatever the sink reports
   abbrev EndsSo : End → Type 0
   EndsSo end = (was is : SinkTold) → Ends H (before was) (now is) said end
 
@@ -56,7 +56,7 @@ module _ (H : List ℕ → List ℕ) (shelf later_shelf : ShelfTold) (caller lat
   done_ends bytes_of Does (Ok text) says done = λ was now. (command, is, says (bytes_of text) done was now)
   done_ends bytes_of Does (Err stop) says done = tt
 
--- `ask` that stopped before it printed, whatever the sink tells
+-- `ask` that stopped before it printed, whatever the sink reports
 module _ (H : List ℕ → List ℕ) (shelf : ShelfTold) (caller later : CallerTold) (door : DoorTold)
     (said : List (List ℕ)) (words : AskWords) (is : command_of said ≡ Some (Ask words)) where
   ask_end : (stop : Stop) → AskStop H caller later words stop → (was now : SinkTold)
@@ -78,7 +78,7 @@ module _ (H : List ℕ → List ℕ) (shelf : ShelfTold) (caller later : CallerT
   ask_ends (Ok _) stops = tt
   ask_ends (Err stop) stops = ask_end stop stops
 
--- what is printed behind a text that was taken is printed with it
+-- what is printed after a text that was taken is printed with it
 prints_then : (before mid now : SinkTold) (status : ℕ) (text more : List ℕ) (result : ℕ) → Took before mid text → mid.faults ≤ now.faults
     → Prints mid now status more result → Prints before now status (text ++ more) result
 prints_then before mid now status text more result took later (inl (not, is, all)) =
@@ -127,7 +127,7 @@ trial_ends H shelf words (Ok _) stops = tt
 trial_ends H shelf words (Err stop) stops = trial_stop H shelf words stop stops
 
 module _ (H : List ℕ → List ℕ) (said : List (List ℕ)) (before now : Outside) where
-  -- no memory for the line of a stop is want of memory
+  -- if memory for the line of a stop runs out, the stop is out of memory
   pub no_line : (text : List ℕ) (stop : Stop) → HasLine stop → Ends H before now said (Stopped text stop) → Ends H before now said (Stopped text Memory)
   no_line text Usage has ends = absurd has
   no_line text Shelf has ends = absurd has
@@ -150,7 +150,7 @@ module _ (H : List ℕ → List ℕ) (said : List (List ℕ)) (before now : Outs
   stop_ended stop result ends (inl prints) = record { end = Stopped [] stop; ends = ends; prints = prints }
   stop_ended stop result ends (inr (has, prints)) = record { end = Stopped [] Memory; ends = no_line [] stop has ends; prints = prints }
 
-  -- a command that stopped behind this text, which was taken, and whose stop was then printed
+  -- a command that stopped after this text, which was taken, and whose stop was then printed
   pub stopped_behind : (text : List ℕ) (mid : SinkTold) (stop : Stop) (result : ℕ) → Took before.sink mid text → mid.faults ≤ now.sink.faults
       → Ends H before now said (Stopped text stop) → PrintsStop mid now.sink stop result → Ended H said before now result
   stopped_behind text mid stop result took later ends (inl prints) = record {

@@ -1,4 +1,4 @@
--- What of a sweep excludes what: what is found, what is refused, and a file that is not there.
+-- What excludes what in a sweep: what is found, what is refused, and a missing file.
 use Rattle.std.proofs.Common.{◌≡◌, ◌^◌, ℕ, List, refl, sym, ap, subst, ◌∙◌, inl, inr}
 use Rattle.std.specs.List.{AllZip}
 use Rattle.ats_base.specs.Outside.{IsMissing, IsLonger}
@@ -22,7 +22,7 @@ module _ (files : Files) (name : List ℕ) (listed : List Listed) (told : IsTold
       let same = one_file files name list.bytes bytes (2 ^ 20) (2 ^ 20) told list.file file in
       no_bad_line (lines_of bytes) listed list.some list.few (subst (λ (b : List ℕ). AllZip IsListed (lines_of b) listed) same list.each) number bad
 
-  -- but for its proofs
+  -- except for its proofs
   list_kept : ((bytes : ℕ) → PassesLimit files (names_of listed) bytes → ⊥) → (refusal : InputRefusal) → IsListRefused files name refusal → ⊥
   list_kept fits (FileTooLong limit) refused =
       not_longer files name list.bytes (2 ^ 20) told list.file (subst (IsLonger files name) refused.0 refused.1)

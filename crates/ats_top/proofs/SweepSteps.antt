@@ -1,4 +1,4 @@
--- How `sweep` ends, from what its steps answer.
+-- How `sweep` ends, from the results of its steps.
 use Rattle.std.proofs.Common.{◌≡◌, ◌||◌, ◌∙◌, ◌≤◌, ◌^◌, ℕ, true, false, List, length, String, Global, string_bytes, Result, Ok, Err, refl, sym, subst, inl, inr, arith, if◌then◌else◌}
 use Rattle.std.specs.Prelude.{IfOk, IfErr}
 use Rattle.std.specs.List.{AllZip}
@@ -54,7 +54,7 @@ module _ (H : List ℕ → List ℕ) (before now : ShelfTold) (words : SweepWord
     list_stops mid was later Memory stops = kept
     list_stops mid was later _ stops = absurd stops
 
-    -- a line of it that asks for nothing
+    -- a line of it that is bad
     pub lines_stops : (bytes : List ℕ) → IsFile before.files words.list (2 ^ 20) bytes → (stop : Stop) → ListStop (lines_of bytes) stop
         → FilesStop H before now (Sweep words) stop
     lines_stops bytes file (Input (ListLine number)) bad = (inr ((archive, index), (bytes, file, bad)), kept)
@@ -102,7 +102,7 @@ module _ (H : List ℕ → List ℕ) (before now : ShelfTold) (words : SweepWord
       gather_stops mid was later Memory stops = kept
       gather_stops mid was later _ stops = absurd stops
 
-      -- what was asked of the shelf
+      -- the calls on the shelf
       pub serves_all : (first mid : ShelfTold) → first.files ≡ before.files → Reads before first words.index (2 ^ 29) → Reads first mid words.list (2 ^ 20)
           → ReadsProofs mid now (entry_names entries) → Serves before now (Sweep words)
       serves_all first mid was is also proofs =

@@ -1,4 +1,4 @@
--- A told file has one content, and an index in one is not refused.
+-- A reported file has one content, and an index in one is not refused.
 use Rattle.std.proofs.Common.{◌≡◌, ◌∙◌, ◌<◌, ◌≤◌, ◌^◌, ℕ, List, length, Option, Some, None, MatchOption, refl, sym, ap, subst, arith}
 use Rattle.ats_base.specs.Outside.{IsMissing, IsLonger}
 use Rattle.ats_commit.specs.Archive.{Archive}
@@ -16,12 +16,12 @@ longer : (o : Option (List ℕ)) (bytes : List ℕ) (limit : ℕ) → o ≡ Some
 longer None bytes limit is short long = long
 longer (Some file) bytes limit is short long = let same : file ≡ bytes = cc in omega (arith, ap length same)
 
--- a told file that is no longer than the limit
+-- a reported file that is within the limit
 pub not_longer : (files : Files) (name bytes : List ℕ) (limit : ℕ) → IsTold files → IsFile files name limit bytes → IsLonger files name limit → ⊥
 not_longer None name bytes limit told file long = absurd (cc)
 not_longer (Some map) name bytes limit told file long = longer (map name) bytes limit file.held file.short long
 
--- a told file has one content
+-- a reported file has one content
 pub one_file : (files : Files) (name first second : List ℕ) (limit other : ℕ) → IsTold files → IsFile files name limit first → IsFile files name other second → first ≡ second
 one_file None name first second limit other told one two = absurd (cc)
 one_file (Some map) name first second limit other told one two = same_some (map name) first second one.held two.held
@@ -39,7 +39,7 @@ pub missing_file : (files : Files) (name bytes : List ℕ) (limit : ℕ) → IsM
 missing_file None name bytes limit missing file = missing
 missing_file (Some map) name bytes limit missing file = let both = sym missing ∙ file.held in cc
 
--- a shelf that tells of a missing file tells
+-- a shelf that reports a missing file reports its files
 pub missing_told : (files : Files) (name : List ℕ) → IsMissing files name → IsTold files
 missing_told None name missing = absurd missing
 missing_told (Some map) name missing = refl

@@ -1,4 +1,4 @@
--- What the proofs of a trial come to.
+-- The results of the proofs of a trial.
 use Rattle.std.proofs.Common.{◌≡◌, ◌+◌, ◌<◌, ◌≤◌, ◌^◌, ℕ, ◌⊎◌, true, Option, None, List, [], ◌∷◌, ◌++◌, length, drop, get_or, slice_get, sum_by, Some, refl, sym, ap, ap₂, subst, ◌∙◌, arith, inl, inr, zero-add, Result, Ok, Err, IfErr, codes, decimal, String, Global, string_bytes}
 use Rattle.std.specs.Prelude.{IfOk}
 use Rattle.std.proofs.lemmas.Bool.{cases_Bool, cases_lt, cond-false, cond-true}
@@ -87,7 +87,7 @@ tried H archive query algorithm bytes proof is says short = record {
 none_found : {X : Type 0} (found : Option X) (x : X) → found ≡ None → found ≡ Some x → ⊥
 none_found found x none some = let both = sym none ∙ some in cc
 
--- and an audit of them answers that its rows are right
+-- and an audit of them finds the rows right
 pub audited_right : (H : List ℕ → List ℕ) (archive : Archive) (query : List (List ℕ × ℕ)) (algorithm : Algorithm) (bytes : List ℕ) (proof : Proof) (verdict : Verdict)
     → IsProved H archive query 10 algorithm bytes → IsProof bytes proof → IsVerdict H archive query 10 bytes verdict → is_right verdict ≡ true
 audited_right H archive query algorithm bytes proof (BadShape fault) is says found =
@@ -206,7 +206,7 @@ module _ (H : List ℕ → List ℕ) (archive : Archive) (queries : List (List (
       → (d : List (List ℕ × ℕ)) → (proof : Proof) × IsTried H archive (get_or queries k d) algorithm proof
   made algorithm count k tally first low d = made_at algorithm k first.proofs d first.each (omega (arith, low, first.many))
 
-  -- before the proof by TRA stand those of the queries before
+  -- the proofs before the one by TRA are those of the earlier queries
   before_tra : (i : ℕ) (tra tnra : Tally) → AreFirst H archive queries Tra i tra → AreFirst H archive queries Tnra i tnra
       → (k : ℕ) (a : Algorithm) → turn k a < turn i Tra → (d : List (List ℕ × ℕ)) → (proof : Proof) × IsTried H archive (get_or queries k d) a proof
   before_tra i tra tnra first second k Tra less d = made Tra i k tra first (omega (arith, less)) d
@@ -238,7 +238,7 @@ module _ (H : List ℕ → List ℕ) (archive : Archive) (queries : List (List (
     before = before_tnra i tra tnra first second;
   }
 
--- what is said of the query in hand is said of the one at its place
+-- what holds for the current query holds for the one at its place
 pub at_query : (queries : List (List (List ℕ × ℕ))) (i : ℕ) (query : List (List ℕ × ℕ)) (P : List (List ℕ × ℕ) → Type 0)
     → i < length queries → query ≡ get_or queries i query → P query → (d : List (List ℕ × ℕ)) → P (get_or queries i d)
 at_query queries i query P inside here holds d = subst P (get_or_read queries i query inside here d) holds
@@ -296,7 +296,7 @@ module _ (H : List ℕ → List ℕ) (number : ℕ) (queries : List (List (List 
     tried = tried.each i [] d inside;
   }
 
-  -- what is told of the tried proofs is told of the trial
+  -- what holds for the tried proofs holds for the trial
   pub is_trial : (text : List ℕ) (tra tnra : List Proof) → AreTried H (trial_archive number) queries Tra tra → AreTried H (trial_archive number) queries Tnra tnra
       → text ≡ lines_of_trial (root_of H (trial_archive number)) tra tnra → IsTrial H number text
   is_trial text tra tnra by_tra by_tnra printed = record {
@@ -309,7 +309,7 @@ module _ (H : List ℕ → List ℕ) (number : ℕ) (queries : List (List (List 
     printed = printed;
   }
 
-  -- lines that tell of the tried proofs are the trial's
+  -- the lines of the tried proofs are the trial's
   pub tried_ok : (index : Archive) → index ≡ trial_archive number → (asked : List (List (List ℕ × ℕ))) → asked ≡ queries → (result : Result (String Global) Stop)
       → IfOk result (λ text. AreTriedLines H index asked (string_bytes text)) → IfOk result (λ text. IsTrial H number (string_bytes text))
   tried_ok index own asked same (Ok text) is =
@@ -318,7 +318,7 @@ module _ (H : List ℕ → List ℕ) (number : ℕ) (queries : List (List (List 
       is_trial (string_bytes text) here.tra here.tnra here.by_tra here.by_tnra here.printed
   tried_ok index own asked same (Err stop) none = tt
 
-  -- where there are none, it is for a proof of the trial, or memory was wanted
+  -- if there are none, a proof of the trial is the cause, or memory ran out
   pub tried_stop : (index : Archive) → index ≡ trial_archive number → (asked : List (List (List ℕ × ℕ))) → asked ≡ queries → (result : Result (String Global) Stop)
       → IfErr result (λ stop. (stop ≡ Memory) ⊎ IsTriesStop H index asked stop) → IfErr result (IsTrialStop H number)
   tried_stop index own asked same (Ok text) none = tt

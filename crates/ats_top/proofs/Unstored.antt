@@ -1,4 +1,4 @@
--- A command that stopped by another cause than a fault of the shelf stored nothing.
+-- A command that stopped for another cause than a fault of the shelf stored nothing.
 use Rattle.std.proofs.Common.{◌≡◌, ◌≢◌, ◌⊎◌, ℕ, List, None, Some, Result, Ok, Err, subst, inl, inr}
 use Rattle.std.specs.Prelude.{IfErr}
 use Rattle.ats_base.specs.Outside.{ShelfTold, SinkTold}

@@ -1,4 +1,4 @@
--- How `verify` ends, from what its steps answer.
+-- How `verify` ends, from the results of its steps.
 use Rattle.std.proofs.Common.{◌≡◌, ◌≤◌, ◌^◌, ℕ, List, length, Result, Ok, Err, ap, ◌∙◌, inl, inr}
 use Rattle.std.specs.Prelude.{IfOk, IfErr}
 use Rattle.ats_base.specs.Outside.{ShelfTold}

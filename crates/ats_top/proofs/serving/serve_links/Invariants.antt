@@ -4,7 +4,7 @@ use Rattle.ats_top.specs.Serving.{Session}
 use Rattle.ats_top.proofs.Attending.{Had}
 use Rattle.ats_top.proofs.serving.serve_links.Given as goal
 
--- so many links were served
+-- this many links were served
 abbrev pub invariant-loop-before : goal.invariant-loop-before
 invariant-loop-before g l = record {
   opened : (g.D.Door.told l.door).is_open ≡ true;

@@ -3,7 +3,7 @@ use Rattle.ats_top.specs.Trial.{IsSmall}
 use Rattle.ats_top.proofs.Tried.{AreFirst}
 use Rattle.ats_top.proofs.trial.tallies.Given as goal
 
--- what the proofs of the queries so far come to
+-- the totals of the proofs of the queries so far
 abbrev pub invariant-loop-query : goal.invariant-loop-query
 invariant-loop-query g l = record {
   tra : AreFirst g.H.HashKind.hash l.index l.queries Tra l.query-index l.tra;
