@@ -1,6 +1,7 @@
 //! The check accepts what an honest server proves.
 //!
 //! `ats_honest` defines which proof of a query is honest, `ats_client` checks proofs, and neither stands on the other.
+//!
 //! This room stands on both, and has no code but two laws. No rule of the check refuses an honest proof, by either
 //! algorithm, under the root of its archive. And the strings that are hashed from such a proof are the archive's own.
 //! So a proof that is refused, or in which a clash is found, is not the honest one for this root and this query. The

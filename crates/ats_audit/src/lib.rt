@@ -1,12 +1,14 @@
 //! The audit of an answer, by whoever holds the archive itself.
 //!
-//! A reader who holds only the root knows that either an accepted answer is right, or the proof and the archive contain
-//! two different strings with equal digests. Whoever has the archive's index can find out which. [`audit`] checks the
-//! bytes of a proof under the index's own root, and then searches for the first such pair of strings. [`sweep`] does so
-//! for many proofs, with several threads. The room stands on `ats_client` for the check, on `ats_index` for the
-//! archive's own strings, and on `rayon` for the threads. A verdict is exactly what its definition says
-//! (`specs/Verdicts.antt`). Rows are called right only if they are, and for an accepted wrong answer the audit returns
-//! two different strings with the same digest. How the parts are put together may change freely.
+//! A reader who holds only the root knows that either an accepted answer is right, or the proof and the archive
+//! contain two different strings with equal digests. Whoever has the archive's index can find out which. [`audit`]
+//! checks the bytes of a proof under the index's own root, and then searches for the first such pair of strings.
+//! [`sweep`] does so for many proofs, with several threads.
+//!
+//! The room stands on `ats_client` for the check, on `ats_index` for the archive's own strings, and on `rayon` for the
+//! threads. A verdict is exactly what its definition says (`specs/Verdicts.antt`). Rows are called right only if they
+//! are, and for an accepted wrong answer the audit returns two different strings with the same digest. How the parts
+//! are put together may change freely.
 //!
 //! ```
 //! use ats_impact::Top;

@@ -1,4 +1,4 @@
-//! The audit of a proof against an index, timed beside the check of that proof.
+//! The audit of a proof against an index, timed together with the check of that proof.
 
 ghost use Rattle.std.specs.Prelude.{◌≤◌, length};
 

@@ -1,19 +1,24 @@
 //! Work to be timed by the scripts under `bench/`: takes words, does one kind of work, and prints a count.
 //!
-//! `nodes COUNT` hashes COUNT inner nodes of a tree, each of 65 bytes with its tag, and prints how many digests were
-//! counted. `read ENTRIES TIMES` writes a proof that shows ENTRIES entries of lists, reads it TIMES times, and prints
-//! how many items were read in all. `feed ENTRIES PIECE TIMES` feeds that proof TIMES times in pieces of PIECE bytes,
-//! and prints how many bytes were fed. `digest ENTRIES TIMES` hashes the bytes of that proof TIMES times, and prints
-//! how many digests were counted. `walk ALGORITHM ROWS TEXTS QUERIES` walks for each query of a file over the texts of
-//! another, one a line in both. It prints for each query the rows, the entries that are shown, the documents among
-//! them, and the microseconds of the walk and of one pass over these entries. `check ROWS QUERY PROOF TIMES` checks the
-//! proof of a file TIMES times, and prints how many steps were counted. `strings SIZES TIMES` hashes a string for each
-//! byte of a file, which is its size, TIMES times over, and prints how many digests were counted. `audit INDEX ROWS
-//! QUERY PROOF TIMES` checks the proof of a file TIMES times and audits it against the index of another file. It prints
-//! for each time the microseconds of the check and of the audit. `build TEXTS TIMES` builds the index of a file's
-//! texts, one a line, by one thread and by several, and loads it, TIMES times, and prints for each time the
-//! microseconds of the three. The program stands on the rooms below it and promises nothing of its own. Each kind of
-//! work may change as a script needs it.
+//! - `nodes COUNT` hashes COUNT inner nodes of a tree, each of 65 bytes with its tag, and prints the number of digests.
+//! - `read ENTRIES TIMES` writes a proof that shows ENTRIES entries of lists, reads it TIMES times, and prints how many
+//!   items were read in all.
+//! - `feed ENTRIES PIECE TIMES` feeds that proof TIMES times in pieces of PIECE bytes, and prints how many bytes were
+//!   fed.
+//! - `digest ENTRIES TIMES` hashes the bytes of that proof TIMES times, and prints the number of digests.
+//! - `walk ALGORITHM ROWS TEXTS QUERIES` walks for each query of a file over the texts of another, one a line in both.
+//!   It prints for each query the rows, the entries that are shown, the documents among them, and the microseconds of
+//!   the walk and of one pass over these entries.
+//! - `check ROWS QUERY PROOF TIMES` checks the proof of a file TIMES times, and prints how many steps were counted.
+//! - `strings SIZES TIMES` hashes a string for each byte of a file, which is its size, TIMES times over, and prints the
+//!   number of digests.
+//! - `audit INDEX ROWS QUERY PROOF TIMES` checks the proof of a file TIMES times and audits it against the index of
+//!   another file. It prints for each time the microseconds of the check and of the audit.
+//! - `build TEXTS TIMES` builds the index of a file's texts, one a line, by one thread and by several, and loads it,
+//!   TIMES times. It prints for each time the microseconds of the three.
+//!
+//! The program stands on the rooms below it and promises nothing of its own. Each kind of work may change as a script
+//! needs it.
 #![tactic(auto)]
 
 ghost use Rattle.std.specs.Prelude.{◌≡◌, ◌+◌, ◌<◌, ◌^◌};

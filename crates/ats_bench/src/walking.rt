@@ -1,4 +1,4 @@
-//! Walks over the lists of a collection, each timed beside going through the same entries once.
+//! Walks over the lists of a collection, each timed together with one pass over the same entries.
 
 ghost use Rattle.std.specs.Prelude.{◌≡◌, ◌+◌, ◌*◌, ◌<◌, ◌≤◌, length, slice_index, IfOk};
 ghost use Rattle.ats_bound.specs.Schedule.{AreWholeLanes, IsWholeLane, whole_lane, whole_lanes};

@@ -14,7 +14,7 @@ use Rattle.ats_bound.proofs.Lanes.{unnamed, unnamed_has_none}
 use Rattle.ats_bound.proofs.One.{other_doc, same_doc}
 use Rattle.ats_bound.proofs.Shown.{get_or-shown, length-shown, no_shown, shown-set}
 
--- what the lanes say after one entry more, which names a document, adds to its score and has the digit of its list
+-- what the lanes say after one more entry, which names a document, adds to its score and has the digit of its list
 pub record Enters (all after : List ShownLane) (doc gain digit : ℕ) : Type 0 where
   pub any : (q : ℕ) → list_any (names q) after ≡ (list_any (names q) all || nat_eq doc q)
   pub others : (q : ℕ) → q ≢ doc → (lo_of after q ≡ lo_of all q) × (named_by after q ≡ named_by all q)

@@ -10,11 +10,11 @@ pub use Rattle.ats_bound.proofs.Places.{few_places}
 pub use Rattle.ats_bound.proofs.Places.{position_of}
 -- the number at a position of a list occurs in the list at least once
 pub use Rattle.ats_bound.proofs.Places.{stands}
--- a number put in front of a list adds one to its own occurrences and none to those of others
+-- a number put before a list adds one to its own occurrences and none to those of others
 pub use Rattle.ats_bound.proofs.Places.{times-cons}
--- a number put in front of a list leaves the occurrences of a different number as they were
+-- a number put before a list leaves the occurrences of a different number as they were
 pub use Rattle.ats_bound.proofs.Places.{times_other}
--- a number put in front of a list adds one to its own occurrences
+-- a number put before a list adds one to its own occurrences
 pub use Rattle.ats_bound.proofs.Places.{times_same}
 -- the first document of a whole lane is that of the first entry in the list given to the call
 pub use Rattle.ats_bound.proofs.Exactly.{first_given}

@@ -22,7 +22,7 @@ get_or-shown (lane ∷ lanes) [] i d e low also = absurd (omega arith)
 get_or-shown (lane ∷ lanes) (count ∷ cut) zero d e low also = refl
 get_or-shown (lane ∷ lanes) (count ∷ cut) (suc i) d e low also = get_or-shown lanes cut i d e (omega arith) (omega arith)
 
--- the same of lanes that a call is given
+-- the same for lanes that are passed to a call
 pub at_lane : (lanes : List Lane) (cut : List ℕ) (i : ℕ) (d : ShownLane) (e : Lane) → i < length lanes → i < length cut
     → get_or (shown (whole_lanes lanes) cut) i d ≡ lane_of (get_or lanes i e).coefficient (get_or lanes i e).entries.now (get_or cut i 0)
 at_lane [] cut i d e low also = absurd (omega arith)

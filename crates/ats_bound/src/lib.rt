@@ -1,14 +1,16 @@
 //! Cuts of inverted lists, brackets of scores, and when an answer is settled.
 //!
-//! A cut shows the first entries of each list of a query. What is shown bounds the score of each document that it names
-//! by a bracket, and that of every other document by a threshold. An answer is settled if these bounds alone prove it
-//! right. The room stands on the entries of `ats_lists`, the number of rows of `ats_impact` and the steps of
-//! `ats_hash`. A walk shows more of the lists, turn by turn, until an answer is settled: [`Running`] bounds scores by
-//! the shown entries only, [`Scored`] is given the scores. [`settled`] returns exactly whether the rules of a settled
-//! answer hold, and if any answer is settled, the one from [`choose`] is. Each walk of whole lists takes the turns of
-//! one schedule, reports at each cut exactly whether that answer is settled there, and ends, at one cut with one
-//! answer. A settled answer is a top answer if the brackets contain the scores. A [`Work`] begins with zero marks. How
-//! places are looked up, brackets sorted, what is known kept and open answers found may change freely.
+//! A cut shows the first entries of each list of a query. What is shown bounds the score of each document that it
+//! names by a bracket, and that of every other document by a threshold. An answer is settled if these bounds alone
+//! prove it right.
+//!
+//! The room stands on the entries of `ats_lists`, the number of rows of `ats_impact` and the steps of `ats_hash`. A
+//! walk shows more of the lists, turn by turn, until an answer is settled: [`Running`] bounds scores by the shown
+//! entries only, [`Scored`] is given the scores. [`settled`] returns exactly whether the rules of a settled answer
+//! hold, and if any answer is settled, the one from [`choose`] is. Each walk of whole lists takes the turns of one
+//! schedule, reports at each cut exactly whether that answer is settled there, and ends, at one cut with one answer. A
+//! settled answer is a top answer if the brackets contain the scores. A [`Work`] begins with zero marks. How places
+//! are looked up, brackets sorted, what is known kept and open answers found may change freely.
 //!
 //! ```
 //! use ats_impact::Top;

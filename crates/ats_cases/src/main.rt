@@ -3,11 +3,12 @@
 //! The cases are in the documents of `data/`: the words of a command, then what it prints, its status, the files that
 //! it leaves, and what it writes over links. `cases.md` explains how to write one; `QUERIES.md` is a page for
 //! newcomers, which is played as it is. The vectors are the JSON files there, which `vectors/README.md` explains field
-//! by field: each entry is put to the commands, or to the calls of terms and numbers. The room stands on `ats_top` for
-//! the commands, on `ats_base` for files and links in memory, on `ats_terms` and `ats_impact` for terms and numbers, on
-//! `ats_tally` for the counts, and on `ats_hash` for SHA-256 and for a second hash function. It promises only its
-//! counts: a case or a vector counts as passed only if all is as its file says. Each one that differs is printed. The
-//! words in which a case is written may change with the documents.
+//! by field: each entry is put to the commands, or to the calls of terms and numbers.
+//!
+//! The room stands on `ats_top` for the commands, on `ats_base` for files and links in memory, on `ats_terms` and
+//! `ats_impact` for terms and numbers, on `ats_tally` for the counts, and on `ats_hash` for SHA-256 and for a second
+//! hash function. It promises only its counts: a case or a vector counts as passed only if all is as its file says.
+//! Each one that differs is printed. The words in which a case is written may change with the documents.
 #![tactic(auto)]
 
 mod asker;

@@ -1,4 +1,5 @@
--- The first of some elements that breaks its rules: there is at most one, and either all keep theirs or there is one.
+-- The first of some elements that breaks its rules: there is at most one, and either all satisfy theirs or there is
+-- one.
 use Rattle.std.proofs.Common.{◌≡◌, ◌∙◌, ◌⊎◌, List, [], ◌∷◌, ◌++◌, refl, sym, ap, ap₂, subst, inl, inr}
 use Rattle.std.specs.List.{All}
 use Rattle.std.proofs.lemmas.List.Elements.{All-nil, All-cons, All-head, All-tail}
@@ -8,7 +9,7 @@ pub all_middle : {X : Type 0} (P : X → Type 0) (before : List X) (x : X) (afte
 all_middle P [] x after all = All-head P x after all
 all_middle P (y ∷ ys) x after all = all_middle P ys x after (All-tail P y (ys ++ x ∷ after) all)
 
--- two fronts of a list that keep a rule, each before an element with which it is broken, whatever follows, are the same
+-- two fronts of a list that satisfy a rule, each before an element that breaks it whatever follows, are the same
 pub one_front : {X : Type 0} (Keeps : List X → Type 0) (before other : List X) (x y : X) (after rest : List X) → before ++ x ∷ after ≡ other ++ y ∷ rest
     → Keeps before → Keeps other → ((more : List X) → Keeps (before ++ x ∷ more) → ⊥) → ((more : List X) → Keeps (other ++ y ∷ more) → ⊥)
     → (before ≡ other) × (x ≡ y)
@@ -26,7 +27,7 @@ one_front Keeps (z ∷ before) (w ∷ other) x y after rest same kept held break
     (λ more keeps. ends more (subst (λ v. Keeps (v ∷ (other ++ y ∷ more))) first keeps)) in
     (ap₂ (λ v xs. v ∷ xs) first one.0, one.1)
 
--- an element that fails does not keep its rules
+-- an element that fails breaks its rules
 abbrev pub Breaks : {X F : Type 0} → (X → Type 0) → (X → F → Type 0) → Type 0
 Breaks {X} {F} Keeps Fails = (x : X) (fault : F) → Fails x fault → Keeps x → ⊥
 

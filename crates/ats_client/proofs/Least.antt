@@ -17,7 +17,7 @@ pub record IsFirstBelow (P : ℕ → Type 0) (n : ℕ) : Type 0 where
   pub wrong : P place → ⊥
   pub before : (i : ℕ) → i < place → P i
 
--- if each number keeps the rule or breaks it, all below n keep it or one is the first that breaks it
+-- if each number satisfies the rule or breaks it, all below n satisfy it or one is the first that breaks it
 pub all_or_first : (P : ℕ → Type 0) → ((i : ℕ) → P i ⊎ (P i → ⊥)) → (n : ℕ) → ((i : ℕ) → i < n → P i) ⊎ IsFirstBelow P n
 all_or_first P tried zero = inl (λ i low. absurd (omega (arith, low)))
 all_or_first P tried (suc n) = elim (all_or_first P tried n) [

@@ -23,7 +23,7 @@ use Rattle.ats_client.specs.Noting.{Note, AreNotes, IsNoted, index_lane, lane_no
 use Rattle.ats_client.proofs.Lanes.{gain_all, held_all, has_all, rests_all}
 use Rattle.ats_client.proofs.Marks.{notes_turn}
 
--- the terms below a number are tried, and what is noted is of those that are present
+-- the terms below a number are checked, and the notes are of those that are present
 pub record IsPassed (H : List ℕ → List ℕ) (query : List (List ℕ × ℕ)) (proof : Proof) (i : ℕ) (left : List Prefix) (terms : List PresentTerm) (threshold : ℕ) (marks : List Mark) : Type 0 where
   pub before : List Presented
   pub stands : presented query proof ≡ before ++ presented_from proof.dict i (drop i query) (drop i proof.slots) left
@@ -127,7 +127,7 @@ fails H query proof i left terms threshold one later marks refusal p step fault 
   fault = fault;
 }
 
--- all terms are tried
+-- all terms are checked
 pub record IsDone (H : List ℕ → List ℕ) (query : List (List ℕ × ℕ)) (proof : Proof) (terms : List PresentTerm) (threshold : ℕ) (marks : List Mark) : Type 0 where
   pub right : All (IsListRight H (layout_of proof) proof.met) (presented query proof)
   pub list : ℕ

@@ -51,7 +51,7 @@ module _ (H : List ℕ → List ℕ) (query : List (List ℕ × ℕ)) (proof : P
   abbrev Right : MetDocument → Type 0
   Right = IsDocumentRight H query (present_numbers proof)
 
-  -- the first j documents are tried, and noted in their marks
+  -- the first j documents are checked, and noted in their marks
   pub record IsTried (j : ℕ) (ids : List ℕ) (leaves : List DocLeaf) (sections : List TermsSection) (marks : List Mark) : Type 0 where
     pub before : List MetDocument
     pub stands : ones ≡ before ++ documents_from ids leaves sections

@@ -5,11 +5,13 @@
 //! documents. [`check`] rebuilds each part up to the root, and decides from what the lists and the documents show
 //! whether the answer is settled; [`row`] then returns each document of the answer with its bounds. These two allocate
 //! nothing. [`first_clash`] is for whoever has the archive's own strings: it finds the first place where the archive's
-//! string differs from the proof's and has an equal digest. The room stands on the proof that `ats_proof` reads from
-//! bytes, on the trees of `ats_tree`, and on the cuts and settled answers of `ats_bound`. A proof is accepted exactly
-//! if all rules of `specs/Accepts.antt` hold, else refused by the first that fails. For each archive with the root, an
-//! accepted answer is a top answer, or there are two different strings with equal digests (`specs/Headline.antt`). In
-//! which passes leaves and entries are read, and what the marks note beside the bounds, may change freely.
+//! string differs from the proof's and has an equal digest.
+//!
+//! The room stands on the proof that `ats_proof` reads from bytes, on the trees of `ats_tree`, and on the cuts and
+//! settled answers of `ats_bound`. A proof is accepted exactly if all rules of `specs/Accepts.antt` hold, else refused
+//! by the first that fails. For each archive with the root, an accepted answer is a top answer, or there are two
+//! different strings with equal digests (`specs/Headline.antt`). In which passes leaves and entries are read, and what
+//! the marks note beside the bounds, may change freely.
 //!
 //! ```
 //! use ats_hash::Sha;

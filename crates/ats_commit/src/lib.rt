@@ -3,12 +3,13 @@
 //!
 //! The root is the digest of the header, which binds the numbers of documents and of dictionary leaves to the roots of
 //! the dictionary, of the documents and of the texts. The dictionary binds each term to the root of its list, and the
-//! documents tree binds each document to the root of its terms. The room stands on `ats_lists`, `ats_doctree` and
-//! `ats_dict`, which make the leaves of those trees, and defines from plain lists over the archive what they are
-//! together. The contracts promise the root of a header in one step, and the leaves of the documents and texts trees
-//! byte by byte. Whoever has an archive implements [`OwnStrings`]: the strings of its trees, and whether what a proof
-//! shows of a tree ([`ShownTree`]) is its own. The laws say what the definitions mean. How leaves are lent may change
-//! freely; the bytes may not.
+//! documents tree binds each document to the root of its terms.
+//!
+//! The room stands on `ats_lists`, `ats_doctree` and `ats_dict`, which make the leaves of those trees, and defines
+//! from plain lists over the archive what they are together. The contracts promise the root of a header in one step,
+//! and the leaves of the documents and texts trees byte by byte. Whoever has an archive implements [`OwnStrings`]: the
+//! strings of its trees, and whether what a proof shows of a tree ([`ShownTree`]) is its own. The laws say what the
+//! definitions mean. How leaves are lent may change freely; the bytes may not.
 //!
 //! ```
 //! use ats_hash::{Sha, Steps};

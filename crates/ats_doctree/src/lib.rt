@@ -1,11 +1,12 @@
 //! The terms of a document with their impacts, as the leaves of a tree.
 //!
 //! A terms tree has one leaf for each distinct term of the document in byte order, between a low and a high sentinel
-//! that enclose every term. The documents leaf binds the root of this tree to its number of leaves. The room stands on
-//! the table of counts and the search of `ats_terms`, and on the impacts of `ats_impact`: it finds no words itself and
-//! reads no other document. The contracts promise the terms and impacts from plain counts over the texts, and the
-//! leaves byte by byte. A term is found exactly at its position, or else strictly between two neighbours. How terms and
-//! counts are stored in memory may change freely; the bytes may not.
+//! that enclose every term. The documents leaf binds the root of this tree to its number of leaves.
+//!
+//! The room stands on the table of counts and the search of `ats_terms`, and on the impacts of `ats_impact`: it finds
+//! no words itself and reads no other document. The contracts promise the terms and impacts from plain counts over the
+//! texts, and the leaves byte by byte. A term is found exactly at its position, or else strictly between two
+//! neighbours. How terms and counts are stored in memory may change freely; the bytes may not.
 //!
 //! ```
 //! // collection: the texts "red fox", "red red hen" and "blue hen"

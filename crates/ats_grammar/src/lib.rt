@@ -4,9 +4,11 @@
 //! size, the range, the kind of fault outside it, and what follows each number. Fronts, spellings and the first fault
 //! follow from that alone, in `specs/Front.antt`. The reader keeps a few numbers that determine all that may still
 //! come; it makes one pass and allocates nothing. [`Feeder`] is that reader over pieces, which may end inside a field;
-//! [`scan`] feeds it bytes that are all there. The crate stands on `byteorder` only. It promises that bytes are
-//! accepted exactly if they are the join of a whole front, and that otherwise the fault is the one right after the
-//! longest front. How the reader keeps its place may change freely; the grammar and the faults may not.
+//! [`scan`] feeds it bytes that are all there.
+//!
+//! The crate stands on `byteorder` only. It promises that bytes are accepted exactly if they are the join of a whole
+//! front, and that otherwise the fault is the one right after the longest front. How the reader keeps its place may
+//! change freely; the grammar and the faults may not.
 //!
 //! ```
 //! // bytes: a proof of 365 bytes; front, back: the pieces in which it came

@@ -25,7 +25,7 @@ use Rattle.ats_index.proofs.ReadingTexts.{front_stands, length_bad, bytes_bad, t
 abbrev AreBytes : List ℕ → Type 0
 AreBytes bytes = All (λ b. b < 256) bytes
 
--- ---- a number in front
+-- ---- a number at the front
 
 byte_at : (bytes : List ℕ) → AreBytes bytes → (i : ℕ) → get_or bytes i 0 < 256
 byte_at [] all i = omega arith
@@ -83,7 +83,7 @@ module _ (bytes : List ℕ) (low high : ℕ) (all : AreBytes bytes) (small : hig
   number_or_none : Stands bytes low high ⊎ NoneStands bytes low high
   number_or_none = there (cases_lt (length bytes) 4)
 
--- ---- a fixed field in front
+-- ---- a fixed field at the front
 
 module _ (bytes fixed : List ℕ) where
   fixed_by : (equal : Bool) → bytes_eq (take (length fixed) bytes) fixed ≡ equal → (bytes ≡ fixed ++ drop (length fixed) bytes) ⊎ ((rest : List ℕ) → bytes ≢ fixed ++ rest)
@@ -97,7 +97,7 @@ module _ (bytes fixed : List ℕ) where
   fixed_or_none : (bytes ≡ fixed ++ drop (length fixed) bytes) ⊎ ((rest : List ℕ) → bytes ≢ fixed ++ rest)
   fixed_or_none = fixed_by (bytes_eq (take (length fixed) bytes) fixed) refl
 
--- ---- a text in front
+-- ---- a text at the front
 
 -- the bytes begin with a text of this length
 record TextStands (bytes : List ℕ) (size : ℕ) : Type 0 where

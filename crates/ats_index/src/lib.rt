@@ -1,14 +1,15 @@
 //! The index of a collection: its lists, its dictionary, the terms of its documents, and its root.
 //!
-//! An owner builds an index from a collection once, and a server answers queries from it. The room stands on
-//! `ats_lists`, `ats_dict` and `ats_doctree`, whose parts it makes, by one thread or by several, and on `ats_commit`,
-//! which defines what they are together. Each tree is hashed once, and the digests of its nodes are kept and lent,
-//! except those of the texts tree. Both builds return the same index: contracts see only its archive, and each part,
-//! digests included, is that archive's under the hash function. An index has one spelling in bytes, and bytes are the
-//! spelling of at most one archive. Bytes are loaded exactly if they are the spelling of some archive. Else they are
-//! refused with the place of the first bad field up to the last text, or of the first difference from the index of the
-//! texts. The string at each place of the trees of an index is the archive's own. How the parts are made and kept may
-//! change freely; the bytes may not.
+//! An owner builds an index from a collection once, and a server answers queries from it.
+//!
+//! The room stands on `ats_lists`, `ats_dict` and `ats_doctree`, whose parts it makes, by one thread or by several,
+//! and on `ats_commit`, which defines what they are together. Each tree is hashed once, and the digests of its nodes
+//! are kept and lent, except those of the texts tree. Both builds return the same index: contracts see only its
+//! archive, and each part, digests included, is that archive's under the hash function. An index has one spelling in
+//! bytes, and bytes are the spelling of at most one archive. Bytes are loaded exactly if they are the spelling of some
+//! archive. Else they are refused with the place of the first bad field up to the last text, or of the first
+//! difference from the index of the texts. The string at each place of the trees of an index is the archive's own. How
+//! the parts are made and kept may change freely; the bytes may not.
 //!
 //! ```
 //! use ats_hash::Sha;

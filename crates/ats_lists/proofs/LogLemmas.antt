@@ -31,7 +31,7 @@ pairs_kept terms new (l ∷ log) kept inside =
     (kept l.number (All-head (λ (logged : Logged). logged.number < length terms) l log inside))
     (pairs_kept terms new log kept (All-tail (λ (logged : Logged). logged.number < length terms) l log inside))
 
--- the terms after one was asked for its number
+-- the terms after the number of one of them was looked up
 abbrev pub Grows : List (List ℕ) → List (List ℕ) → List ℕ → ℕ → Type 0
 Grows terms new term n = (new ≡ terms) ⊎ ((n ≡ length terms) × (new ≡ terms ++ term ∷ []))
 

@@ -1,10 +1,12 @@
 //! The inverted lists of a collection: for each distinct term the documents that have it.
 //!
-//! An entry is a document with the term's impact there. A list is sorted by impact descending, then document ascending,
-//! so its first entries bound all later ones. The room stands on the collections and impacts of `ats_impact`, and on
-//! the trees of `ats_tree`, whose leaves a list lends. [`Lists::of`] returns exactly the lists that the plain counts
-//! over the texts give, in byte order of the terms. A term is found exactly if it has a list. The bytes of each leaf
-//! are fixed. How postings are gathered, sorted and kept may change freely.
+//! An entry is a document with the term's impact there. A list is sorted by impact descending, then document
+//! ascending, so its first entries bound all later ones.
+//!
+//! The room stands on the collections and impacts of `ats_impact`, and on the trees of `ats_tree`, whose leaves a list
+//! lends. [`Lists::of`] returns exactly the lists that the plain counts over the texts give, in byte order of the
+//! terms. A term is found exactly if it has a list. The bytes of each leaf are fixed. How postings are gathered,
+//! sorted and kept may change freely.
 //!
 //! ```
 //! // collection: the texts "red fox", "red red hen" and "blue hen"

@@ -70,7 +70,8 @@ const FEWEST_SLOTS: usize = 1 << 10;
 // A table with more slots does not grow.
 const MOST_SLOTS: usize = 1 << 19;
 
-// The least number of numbers that counts as many. After a merge it is at least twice the number of distinct terms.
+// Numbers are merged when there are at least this many, and at least twice as many as distinct terms after the last
+// merge.
 const MANY: usize = 1 << 17;
 
 // Terms of at most this length are compared only by the number of their first bytes.

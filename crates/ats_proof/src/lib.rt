@@ -3,11 +3,13 @@
 //! [`ProofView::read`] reads the bytes once by the grammar of `ats_grammar`, and returns the exact first fault if they
 //! spell no proof. Then it goes from section to section, for their places and the number of items. It allocates
 //! nothing. `specs/Value.antt` defines what a proof says and which fields spell it. [`ProofWriter`] appends the bytes
-//! of records, and past its limit only counts them; which records make a proof is the caller's business. The crate
-//! stands on that grammar, on the bytes of `ats_base`, and on the leaves and headers of the rooms below. Bytes spell at
-//! most one proof; they are read exactly if they spell one, and a view says that proof. Every slice that the views and
-//! cursors lend is the named part of the bytes. Each counted call of the views and cursors is one step. A writer holds
-//! exactly its records' bytes. What a view or a writer keeps may change freely; what it says, and the bytes, may not.
+//! of records, and past its limit only counts them; which records make a proof is the caller's business.
+//!
+//! The crate stands on that grammar, on the bytes of `ats_base`, and on the leaves and headers of the rooms below.
+//! Bytes spell at most one proof; they are read exactly if they spell one, and a view says that proof. Every slice
+//! that the views and cursors lend is the named part of the bytes. Each counted call of the views and cursors is one
+//! step. A writer holds exactly its records' bytes. What a view or a writer keeps may change freely; what it says, and
+//! the bytes, may not.
 //!
 //! ```
 //! // bytes: a proof of the best document for "red hen" in "red fox", "red red hen", "blue hen"

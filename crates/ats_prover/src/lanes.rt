@@ -21,7 +21,7 @@ use ats_terms::Query;
 use ats_tree::Nodes;
 use std::alloc::Global;
 
-/// The lists of a query's terms, in the query's order: their lanes, and beside each the nodes of the list's tree.
+/// The lists of a query's terms, in the query's order: their lanes, and for each the nodes of the list's tree.
 #[derive(Drop)]
 pub(crate) struct QueryLists<'a> {
     pub(crate) lanes: Vec<Lane<'a>>,

@@ -47,7 +47,7 @@ fn by_several<H: Hash32 + Sync>(
     bytes_of(&index)
 }
 
-// Whether both build the same of these texts.
+// Whether both build the same from these texts.
 fn are_built_alike(
     rt: &(impl Threads + Sync),
     alloc: Global,

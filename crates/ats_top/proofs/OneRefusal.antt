@@ -50,7 +50,7 @@ record OfQuery (r : ℕ) (text : List ℕ) (refusal : InputRefusal) : Type 0 whe
   rows : IsRowCount r
   first : IsFirstFault text fault
 
--- it is that of the number of rows, of the query, or of what is tried after them
+-- it is that of the number of rows, of the query, or of what is checked after them
 abbrev RankingCause : ℕ → List ℕ → (InputRefusal → Type 0) → InputRefusal → Type 0
 RankingCause r text later refusal =
     ((refusal ≡ ROut r) × (IsRowCount r → ⊥)) ⊎ (OfQuery r text refusal ⊎ (AsksRanking r text × later refusal))

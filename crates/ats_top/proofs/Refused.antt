@@ -88,7 +88,7 @@ module _ (files : Files) (told : IsTold files) (name : List ℕ) (texts : List (
   collection_kept (AllTooLong bytes) refused = texts_kept (collection.AllTooLong bytes) refused tt
   collection_kept _ refused = refused
 
--- rows and a query within the limits are not refused, nor what is tried after them, if that is not
+-- rows and a query within the limits are not refused, nor what is checked after them, if that is not
 pub ranking_kept : (r : ℕ) (text : List ℕ) (later : InputRefusal → Type 0) → AsksRanking r text → ((refusal : InputRefusal) → later refusal → ⊥)
     → (refusal : InputRefusal) → IsRankingRefused r text later refusal → ⊥
 ranking_kept r text later asks kept (ROut out) refused = refused.1 (subst IsRowCount (sym refused.0) asks.rows)
@@ -144,7 +144,7 @@ module _ (H : List ℕ → List ℕ) (number : ℕ) (text : List ℕ) (tried : I
   tried_at Tra i inside = proof_at H number Tra tried.tra tried.tra_are i (omega (arith, inside, tried.tra_each))
   tried_at Tnra i inside = proof_at H number Tnra tried.tnra tried.tnra_are i (omega (arith, inside, tried.tnra_each))
 
-  -- what was tried are queries
+  -- the texts of a trial that is done are queries
   pub trial_asks : AreQueries number 20
   trial_asks i inside = (tried_at Tra i inside).1.asked.has
 

@@ -74,7 +74,7 @@ lists_few proof spelled range =
 
 -- ---- one proof
 
--- what the bytes of an honest proof spell is tried as it shall
+-- a proof that the bytes of an honest one spell is honest, accepted and without collision
 pub tried : (H : List ℕ → List ℕ) (archive : Archive) (query : List (List ℕ × ℕ)) (algorithm : Algorithm) (bytes : List ℕ) (proof : Proof)
     → IsProved H archive query 10 algorithm bytes → IsProof bytes proof → length_of proof ≤ 2 ^ 26 → IsTried H archive query algorithm proof
 tried H archive query algorithm bytes proof is says short = record {

@@ -22,7 +22,7 @@ split_same a b c d long is = (
   sym (drop-append_seam a c) ∙ ap (λ (x : List ℕ). drop (length a) x) is ∙ ap (λ (k : ℕ). drop k (b ++ d)) long ∙ drop-append_seam b d,
 )
 
--- lists with lengths in front that are one list have one length
+-- equal lists that begin with a length have one length, and the same bytes after it
 pub head_same : (m n : ℕ) (xs ys : List ℕ) → m < 2 ^ 32 → n < 2 ^ 32 → to_be_bytes w32 m ++ xs ≡ to_be_bytes w32 n ++ ys → (m ≡ n) × (xs ≡ ys)
 head_same m n xs ys small_m small_n is = (
   sym (big_number-reads_back 4 m xs small_m) ∙ ap (λ (x : List ℕ). big_number 4 x) is ∙ big_number-reads_back 4 n ys small_n,

@@ -25,7 +25,7 @@ pub record IsAnswered (gives : Question → Reply → Type 0) (turn : List ℕ �
 abbrev pub IsReplied : (Question → Reply → Type 0) → LinkTold → LinkTold → List ℕ → Type 0
 IsReplied gives before now body = (reply : Reply) × Answers gives body reply × Moves before now [] (reply_bytes reply) 0
 
--- a fault came before a reply to this body was written whole
+-- a fault cut off the reply to this body before it was written whole
 abbrev pub IsCutReply : (Question → Reply → Type 0) → LinkTold → LinkTold → List ℕ → Type 0
 IsCutReply gives before now body = (reply : Reply) × Answers gives body reply × IsCutOff before now (reply_bytes reply)
 

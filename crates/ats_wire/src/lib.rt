@@ -1,9 +1,9 @@
 //! Frames of requests and replies: serves a connection, and asks one question.
 //!
-//! A request asks for a number of the best documents for a query, with a proof by one of the algorithms. A reply is the
-//! bytes of a proof, or the code that says why there is none. A server reads frames from a link and writes one reply to
-//! each, made by an [`Answerer`]; a client writes one request and reads one reply, whose proof it may check while it
-//! arrives.
+//! A request asks for a number of the best documents for a query, with a proof by one of the algorithms. A reply is
+//! the bytes of a proof, or the code that says why there is none. A server reads frames from a link and writes one
+//! reply to each, made by an [`Answerer`]; a client writes one request and reads one reply, whose proof it may check
+//! while it arrives.
 //!
 //! It stands on the links of `ats_base`, on the number of rows, on the algorithms of proofs and on their grammar. The
 //! contract promises what was read and written, if the link reports it, and the cause of each end and each fault. It
