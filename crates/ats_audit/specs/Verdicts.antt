@@ -31,7 +31,7 @@ pub record IsFoundCollision (H : List ℕ → List ℕ) (archive : Archive) (que
   pub accepted : IsAcceptedBytes H (root_of H archive) query r bytes proof
   pub found : extract H archive query proof ≡ Some collision
 
--- what is found of the bytes against the archive; the turns of a place have no digit above its depth
+-- the verdict on the bytes against the archive; the turns of a place have no digit above its depth
 abbrev pub IsVerdict : (List ℕ → List ℕ) → Archive → List (List ℕ × ℕ) → ℕ → List ℕ → Verdict → Type 0
 IsVerdict H archive query r bytes (BadShape fault) = IsRejectedBytes H (root_of H archive) query r bytes (Shape fault)
 IsVerdict H archive query r bytes (Refused refusal) = IsRejectedBytes H (root_of H archive) query r bytes (Check refusal)

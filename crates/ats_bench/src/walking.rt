@@ -114,7 +114,7 @@ fn collection(rt: &HostRuntime, path: &str) -> Option<Collection> {
     Collection::new(rt.alloc(), texts).ok()
 }
 
-/// The microseconds since then.
+/// The microseconds since `start`.
 pub(crate) fn micros(rt: &HostRuntime, start: &Instant) -> Option<u128> {
     Some(start.elapsed(rt).ok()?.as_micros())
 }

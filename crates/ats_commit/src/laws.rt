@@ -124,8 +124,8 @@ pub fn own_leaves_tell_documents<H: HashKind>()
         → count term (slice_index_or texts doc []) ≡ 0 }
 {}
 
-/// Shown leaves of a list that rebuild its root with some digests are the list's own, or the first string that
-/// differs from the list's has an equal digest.
+/// If shown leaves of a list rebuild its root with some digests, then either they are the list's own, or the first
+/// string that differs from the list's has an equal digest.
 pub fn list_prefixes_are_bound<H: HashKind>()
     ensures { (layout : Layout) (entries : List Entry) (shown : List Shown) (digests : List (List ℕ))
         → RisesFrom 0 shown → All (λ d. length d ≡ 32) digests

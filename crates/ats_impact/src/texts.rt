@@ -1,4 +1,4 @@
-//! Texts, as they are added one by one.
+//! A list of texts, which are added one by one.
 
 ghost use Rattle.std.specs.Prelude.{◌≡◌, ◌<◌, ◌++◌, ◌∷◌, [], List, ℕ, length, slice_index_or, string_bytes, is_ok, if◌then◌else◌};
 ghost use Rattle.std.specs.List.{All};

@@ -10,15 +10,15 @@ use Rattle.ats_doctree.specs.Sentinels.{terms_leaves}
 use Rattle.ats_commit.specs.Archive.{Archive}
 use Rattle.ats_commit.specs.Trees.{dictionary_of, documents_of}
 
--- those of each list's tree
+-- the digests of each list's tree
 abbrev pub all_list_digests : (List ℕ → List ℕ) → List (List ℕ × List Entry) → List (List (List ℕ))
 all_list_digests H lists = map (λ list. kept_digests H (map leaf_bytes list.1)) lists
 
--- those of each document's terms tree, in the order of documents
+-- the digests of each document's terms tree, in the order of documents
 abbrev pub all_term_digests : (List ℕ → List ℕ) → List (List ℕ) → List (List (List ℕ))
 all_term_digests H texts = map (λ text. kept_digests H (terms_leaves (text_terms texts text))) texts
 
--- those of the lists, of the documents' terms, of the dictionary and of the documents are the archive's
+-- the digests of the lists, of the documents' terms, of the dictionary and of the documents are the archive's
 pub record AreNodesOf
     (H : List ℕ → List ℕ)
     (archive : Archive)

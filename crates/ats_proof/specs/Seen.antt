@@ -1,4 +1,4 @@
--- What the views say.
+-- What contracts see of the views: the digests, leaves and entries in their bytes.
 use Rattle.std.specs.Prelude.{ℕ, List, take, drop, ◌+◌}
 use Rattle.ats_tree.specs.Shown.{Shown}
 use Rattle.ats_dict.specs.Entry.{DictEntry}

@@ -1,4 +1,4 @@
--- What the cursor over a prefix says.
+-- What contracts see of the cursor over a prefix.
 use Rattle.std.specs.Prelude.{ℕ, ◌*◌, List, take, drop}
 use Rattle.ats_tree.specs.Shown.{Shown}
 use Rattle.ats_proof.specs.Parts.{number_in, parts_in}

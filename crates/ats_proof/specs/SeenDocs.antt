@@ -1,4 +1,4 @@
--- What the views of the documents say.
+-- What contracts see of the views of the documents.
 use Rattle.std.specs.Prelude.{ℕ, List}
 use Rattle.ats_tree.specs.Shown.{Shown}
 use Rattle.ats_doctree.specs.declared.doc_leaf.DocLeaf.{DocLeaf}
@@ -24,7 +24,7 @@ doc_leaves_of view = parts_in doc_size doc_in view.left view.leaves.now
 abbrev pub sections_of : DocsView → List TermsSection
 sections_of view = parts_in (section_size view.present) (section_in view.present) view.left view.sections.now
 
--- of the whole documents section, however many documents were passed
+-- the whole documents section, however many documents were passed
 abbrev pub whole_leaves_of : DocsView → List Shown
 whole_leaves_of view = docs_leaves_of view.whole
 

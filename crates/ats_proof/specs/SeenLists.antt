@@ -1,4 +1,4 @@
--- What the views of the prefixes say.
+-- What contracts see of the views of the prefixes.
 use Rattle.std.specs.Prelude.{List}
 use Rattle.ats_proof.specs.Parts.{parts_in}
 use Rattle.ats_proof.specs.Value.{Prefix}

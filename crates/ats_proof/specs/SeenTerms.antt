@@ -1,4 +1,4 @@
--- What the view of a document's terms says.
+-- What contracts see of the view of a document's terms.
 use Rattle.std.specs.Prelude.{ℕ, List}
 use Rattle.ats_proof.specs.declared.record.TermLeaf.{TermLeaf}
 use Rattle.ats_proof.specs.Parts.{parts_in}

@@ -31,7 +31,7 @@ pub record AreGathered (files : Files) (names : List (List ℕ)) (proofs : List 
 abbrev pub AreAllThere : Files → List (List ℕ) → Type 0
 AreAllThere files names = (proofs : List Gathered) × AreGathered files names proofs
 
--- a file is not there, and those before it are, within the limit
+-- a file is missing, and those before it are there, within the limit
 pub record LacksProof (files : Files) (names : List (List ℕ)) : Type 0 where
   pub before : List (List ℕ)
   pub name : List ℕ

@@ -87,7 +87,7 @@ pub record AsksFor (files : Files) (command : Command) (asks : List Ask) : Type 
 abbrev pub ReadsAlone : (before now : ShelfTold) → Command → Type 0
 ReadsAlone before now command = Asked before.asked now.asked (ReadsFilesOf before.files command)
 
--- the first of the files is not there
+-- the first of the files is missing
 abbrev pub IsFirstMissing : Option (List ℕ → Option (List ℕ)) → List InputFile → Type 0
 IsFirstMissing files [] = ⊥
 IsFirstMissing files (file ∷ rest) = IsMissing files file.name
