@@ -8,8 +8,9 @@ use crate::cut::cut_of;
 use crate::hashing::Leaves;
 use crate::keeping::keep_part;
 use ats_hash::{Hash32, Steps};
+use rayon::join_mut;
 use std::alloc::Global;
-use std::thread::{Threads, join_mut};
+use std::thread::Threads;
 
 /// Puts the digests of the tree of the `n` leaves from leaf `from` on in their places. The tree is cut in two, and its
 /// parts again, `halvings` times in all; the parts of each cut may be hashed by two threads.
