@@ -9,9 +9,7 @@ use Rattle.std.proofs.lemmas.Nat.{pow_pos}
 use Rattle.std.proofs.lemmas.List.{append-nil, drop_more, length-take, length-drop, length-append, take_all, take-take, get_or-take, get_or-drop}
 use Rattle.std.proofs.lemmas.List.Elements.{All-append, All-nil, All-cons}
 use Rattle.ats_tree.specs.Tree.{Tree, empty, leaf, node, tree_within, tree_of, digest_of, mth, IsPowerOfTwo}
-use Rattle.ats_tree.specs.Shown.{places}
-use Rattle.ats_tree.specs.Elided.{shown_with, elided_of, elided_digests}
-use Rattle.ats_tree.specs.Kept.{digests_of, kept_digests, IsNodeList}
+use Rattle.ats_tree.specs.Kept.{digests_of, kept_digests, nodes_in, IsNodeList}
 use Rattle.ats_tree.specs.Paths.{Path, path_of}
 use Rattle.ats_tree.specs.Strings.{string_at}
 use Rattle.ats_tree.proofs.Trees.{below_power, within-cut, within-suc, of-within, of-cut, of-one}
@@ -53,35 +51,41 @@ kept-part-cut H from k n ds power below largest within = kept-node H _ _ _ (part
 
 -- ---- how many there are, each of 32 bytes
 
-length-within : (H : List ℕ → List ℕ) (h : ℕ) (xs : List (List ℕ)) → 1 ≤ length xs → length xs ≤ 2 ^ h
-    → length (digests_of H (tree_within h xs)) + 1 ≡ 2 * length xs
+nodes-within : {X : Type 0} (h : ℕ) (xs : List X) → 1 ≤ length xs → length xs ≤ 2 ^ h → nodes_in (tree_within h xs) + 1 ≡ 2 * length xs
 unfolding tree_within
-length-within H zero [] some short = absurd (omega arith)
-length-within H zero (x ∷ []) some short = refl
-length-within H zero (x ∷ y ∷ xs) some short = absurd (omega arith)
-length-within H (suc h) xs some short =
+nodes-within zero [] some short = absurd (omega arith)
+nodes-within zero (x ∷ []) some short = refl
+nodes-within zero (x ∷ y ∷ xs) some short = absurd (omega arith)
+nodes-within (suc h) xs some short =
     elim (cases_lt (2 ^ h) (length xs)) [
       | inl long ↦
-          let front : List (List ℕ) = take (2 ^ h) xs
-          in let back : List (List ℕ) = drop (2 ^ h) xs
-          in let power : 0 < 2 ^ h = pow_pos h
-          in let many : length front ≡ 2 ^ h = omega (arith, length-take (2 ^ h) xs)
-          in let others : length back + 2 ^ h ≡ length xs = omega (arith, length-drop (2 ^ h) xs)
-          in let left : length (digests_of H (tree_within h front)) + 1 ≡ 2 * length front =
-          length-within H h front (omega arith) (omega arith)
-          in let right : length (digests_of H (tree_within h back)) + 1 ≡ 2 * length back =
-          length-within H h back (omega arith) (omega (arith, two-pow-succ h))
-          in rw (within-cut h xs long)
-          (omega (arith, length-append (digests_of H (tree_within h front)) (digests_of H (tree_within h back))))
-      | inr few ↦ rw (within-suc h xs few) (length-within H h xs some few)
+          let power : 0 < 2 ^ h = pow_pos h
+          in let many : length (take (2 ^ h) xs) ≡ 2 ^ h = omega (arith, length-take (2 ^ h) xs)
+          in let others : length (drop (2 ^ h) xs) + 2 ^ h ≡ length xs = omega (arith, length-drop (2 ^ h) xs)
+          in let left : nodes_in (tree_within h (take (2 ^ h) xs)) + 1 ≡ 2 * length (take (2 ^ h) xs) =
+          nodes-within h (take (2 ^ h) xs) (omega arith) (omega arith)
+          in let right : nodes_in (tree_within h (drop (2 ^ h) xs)) + 1 ≡ 2 * length (drop (2 ^ h) xs) =
+          nodes-within h (drop (2 ^ h) xs) (omega arith) (omega (arith, two-pow-succ h))
+          in rw (within-cut h xs long) (omega arith)
+      | inr few ↦ rw (within-suc h xs few) (nodes-within h xs some few)
     ]
 
 -- a tree of n leaves has 2 * n - 1 nodes
+pub nodes-of : {X : Type 0} (xs : List X) → 1 ≤ length xs → nodes_in (tree_of xs) + 1 ≡ 2 * length xs
+nodes-of xs some =
+    let by_length : length xs ≤ 2 ^ length xs = omega (arith, below_power (length xs))
+    in rw (of-within (length xs) xs by_length) (nodes-within (length xs) xs some by_length)
+
+-- each has a digest
+pub length-digests : (H : List ℕ → List ℕ) (t : Tree (List ℕ)) → length (digests_of H t) ≡ nodes_in t
+length-digests H empty = refl
+length-digests H (leaf d) = refl
+length-digests H (node l r) =
+    omega (arith, length-append (digests_of H l) (digests_of H r), length-digests H l, length-digests H r)
+
 pub length-kept : (H : List ℕ → List ℕ) (leaves : List (List ℕ)) → 1 ≤ length leaves
     → length (kept_digests H leaves) + 1 ≡ 2 * length leaves
-length-kept H leaves some =
-    let by_length : length leaves ≤ 2 ^ length leaves = omega (arith, below_power (length leaves))
-    in rw (of-within (length leaves) leaves by_length) (length-within H (length leaves) leaves some by_length)
+length-kept H leaves some = omega (arith, length-digests H (tree_of leaves), nodes-of leaves some)
 
 -- it has the size of a digest
 abbrev pub HasSize : List ℕ → Type 0
@@ -242,11 +246,6 @@ kept-number H leaves ds view count odd seen counts same =
 pub string-whole : (H : List ℕ → List ℕ) (leaves : List (List ℕ)) (n : ℕ) (path : Path) → n ≡ length leaves
     → string_at H (tree_of (take n (drop 0 leaves))) path ≡ string_at H (tree_of leaves) path
 string-whole H leaves n path whole = rw whole (ap (λ (xs : List (List ℕ)). string_at H (tree_of xs) path) (take-length leaves))
-
-pub elided-whole : (H : List ℕ → List ℕ) (leaves : List (List ℕ)) (n : ℕ) (ps : List ℕ) → n ≡ length leaves
-    → elided_of H (tree_of (places 0 n (shown_with leaves ps))) (tree_of (take n (drop 0 leaves))) ≡ elided_digests H leaves ps
-elided-whole H leaves n ps whole =
-    rw whole (ap (λ (xs : List (List ℕ)). elided_of H (tree_of (places 0 (length leaves) (shown_with leaves ps))) (tree_of xs)) (take-length leaves))
 
 pub kept-whole : (H : List ℕ → List ℕ) (leaves : List (List ℕ)) (n : ℕ) → n ≡ length leaves
     → kept_digests H leaves ≡ kept_digests H (take n (drop 0 leaves))

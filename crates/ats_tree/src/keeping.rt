@@ -1,11 +1,11 @@
 //! The digests of all nodes of a tree, kept, so that showing them needs no hashing.
 
-ghost use Rattle.std.specs.Prelude.{◌≡◌, ℕ, ◌+◌, ◌*◌, ◌^◌, ◌<◌, ◌≤◌, List, ◌++◌, length, take, drop, All, Some, IfOk, OnOk, OnErr, slice_get};
+ghost use Rattle.std.specs.Prelude.{◌≡◌, ℕ, ◌+◌, ◌*◌, ◌^◌, ◌<◌, ◌≤◌, List, [], ◌++◌, length, take, drop, All, Some, IfOk, OnOk, OnErr, slice_get};
 ghost use Rattle.std.specs.List.Sorted.{IsStrictlyIncreasing};
 ghost use Rattle.ats_tree.specs.Tree.{mth, tree_of};
 ghost use Rattle.ats_tree.specs.Shown.{places};
-ghost use Rattle.ats_tree.specs.Elided.{shown_with, elided_of, elided_digests};
-ghost use Rattle.ats_tree.specs.Kept.{kept_digests, IsNodeList};
+ghost use Rattle.ats_tree.specs.Elided.{shown_with, elided_digests};
+ghost use Rattle.ats_tree.specs.Kept.{kept_digests, elided_places, digests_at, elided_kept, IsNodeList};
 ghost use Rattle.ats_tree.specs.Nodes.{by_path};
 ghost use Rattle.ats_tree.specs.Part.{RisesWithin};
 ghost use Rattle.ats_tree.specs.Paths.{path_of};
@@ -97,6 +97,7 @@ impl Nodes {
     pub fn elided(&self, positions: &[u32], out: &mut Digests) -> Result<(), OutOfMemory>
         requires rising { IsStrictlyIncreasing positions.now }
         requires below { All (λ p. 2 * p + 1 ≤ length self.now) positions.now }
+        ensures places { OnOk result (out.new ≡ out.old ++ elided_kept self.now positions.now) }
         ensures ok { (H : List ℕ → List ℕ) (leaves : List (List ℕ)) → self.now ≡ kept_digests H leaves
             → OnOk result (out.new ≡ out.old ++ elided_digests H leaves positions.now) }
         ensures err { OnErr result (out.new ≡ out.old) }
@@ -165,8 +166,8 @@ pub(crate) fn keep_part<H: Hash32, L: Leaves>(
     own[0] = H::digest2(1, &left[0], &right[0], steps);
 }
 
-/// Appends the digests that the positions need of the part of `n` leaves from position `from` on, whose nodes have
-/// these digests: its own first, then those of its left part, then those of its right part.
+/// Appends the digests that the positions need of the part of `n` leaves from position `from` on, whose nodes have the
+/// first of these digests: its own first, then those of its left part, then those of its right part.
 fn elide_kept(
     digests: &[[u8; 32]],
     from: u32,
@@ -174,14 +175,13 @@ fn elide_kept(
     positions: &[u32],
     out: &mut Digests,
 ) -> Result<(), OutOfMemory>
-    requires nodes { length digests.now + 1 ≡ 2 * n }
+    requires some { 1 ≤ n }
+    requires nodes { 2 * n ≤ length digests.now + 1 }
     requires sized { All (λ d. length d ≡ 32) digests.now }
     requires ends { from + n < 2 ^ 32 }
     requires rising { RisesWithin from (from + n) positions.now }
-    ensures ok { (H : List ℕ → List ℕ) (leaves : List (List ℕ)) → from + n ≤ length leaves
-        → digests.now ≡ kept_digests H (take n (drop from leaves))
-        → OnOk result (out.new ≡ out.old ++ elided_of H
-        (tree_of (places from n (shown_with leaves positions.now))) (tree_of (take n (drop from leaves)))) }
+    ensures ok { OnOk result (out.new ≡ out.old ++ digests_at digests.now
+        (elided_places 0 (tree_of (places from n (shown_with [] positions.now))))) }
     ensures front { take (length out.old) out.new ≡ out.old }
 {
     if positions.is_empty() {
@@ -192,7 +192,7 @@ fn elide_kept(
         let k = cut_of(n);
         let right = 2 * k as usize;
         let (before, after) = positions.split_at(count_below(positions, from + k));
-        elide_kept(&digests[1..right], from, k, before, out)?;
+        elide_kept(&digests[1..], from, k, before, out)?;
         elide_kept(&digests[right..], from + k, n - k, after, out)
     }
 }
