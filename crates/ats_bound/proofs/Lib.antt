@@ -33,3 +33,4 @@ mod KnownBrackets
 mod KnownSteps
 mod Open
 mod RunningSettled
+mod AllShown

@@ -56,6 +56,10 @@ shown_at lanes cut i = slice_index_or (shown lanes cut) i (record { coefficient 
 abbrev pub IsOpen : List WholeLane → List ℕ → ℕ → Type 0
 IsOpen lanes cut i = length (shown_at lanes cut i).shown < (shown_at lanes cut i).total
 
+-- each list shows all its entries
+abbrev pub AreAllShown : List ShownLane → Type 0
+AreAllShown lanes = All (λ (lane : ShownLane). length lane.shown ≡ lane.total) lanes
+
 -- of the lists that are not whole, the one with the largest rest; of several such lists the first
 pub record IsNextLane (lanes : List WholeLane) (cut : List ℕ) (i : ℕ) : Type 0 where
   pub inside : i < length lanes

@@ -1,9 +1,9 @@
 //! The state of a walk in the schedule.
 
-ghost use Rattle.std.specs.Prelude.{◌≡◌, ◌<◌, ◌≤◌, ◌+◌, ◌*◌, ◌^◌, ℕ, length, map, set, sum, slice_index, IfOk, MatchOption};
+ghost use Rattle.std.specs.Prelude.{◌≡◌, ◌↔◌, ◌<◌, ◌≤◌, ◌+◌, ◌*◌, ◌^◌, ℕ, length, map, set, sum, slice_index, IfOk, IsNone, MatchOption};
 ghost use Rattle.ats_bound.specs.Cut.{missing, rest, threshold};
 ghost use Rattle.ats_bound.specs.Front.{IsStage, entry_on, lane_on, named_by, shown_on};
-ghost use Rattle.ats_bound.specs.Schedule.{AreWholeLanes, IsCut, IsNextLane, IsOpen, first_cut, shown, whole_lanes};
+ghost use Rattle.ats_bound.specs.Schedule.{AreAllShown, AreWholeLanes, IsCut, IsNextLane, IsOpen, first_cut, shown, whole_lanes};
 
 use crate::cut::Cut;
 use crate::lane::Lane;
@@ -84,6 +84,7 @@ impl<'a> Front<'a> {
     /// which is when all lists are whole.
     pub(crate) fn next_lane(&self) -> Option<u32>
         ensures next { MatchOption result (threshold (shown_on self.now) ≡ 0) (IsNextLane self.now.lanes self.now.cut) }
+        ensures whole { IsNone result ↔ AreAllShown (shown_on self.now) }
         ensures stage { IsStage self.now }
     {
         let mut place = 0;

@@ -1,11 +1,11 @@
 //! A walk with no random access, from cut to cut.
 
-ghost use Rattle.std.specs.Prelude.{◌≡◌, ◌<◌, ◌≤◌, ◌+◌, ◌*◌, ◌^◌, ℕ, [], List, length, set, slice_index, slice_index_or, MatchOption, IfOk, OnOk, OnErr};
+ghost use Rattle.std.specs.Prelude.{◌≡◌, ◌↔◌, ◌<◌, ◌≤◌, ◌+◌, ◌*◌, ◌^◌, ℕ, [], List, length, set, slice_index, slice_index_or, MatchOption, IsNone, IfOk, OnOk, OnErr};
 ghost use Rattle.ats_bound.specs.declared.bracket.Bracket.{Bracket as Bounded};
 ghost use Rattle.ats_bound.specs.Best.{AreBest};
 ghost use Rattle.ats_bound.specs.Cut.{bracket, threshold};
 ghost use Rattle.ats_bound.specs.Known.{AreKnown, Meets, lows, met_at};
-ghost use Rattle.ats_bound.specs.Schedule.{AreBracketsOf, AreWholeLanes, IsNextLane, IsOpen, IsWholeLane, first_cut, shown, whole_lane, whole_lanes};
+ghost use Rattle.ats_bound.specs.Schedule.{AreAllShown, AreBracketsOf, AreWholeLanes, IsNextLane, IsOpen, IsWholeLane, first_cut, shown, whole_lane, whole_lanes};
 ghost use Rattle.ats_bound.specs.Running.{shown_in};
 ghost use Rattle.ats_bound.specs.QuickTest.{PassesQuickTest, TellsSettled};
 ghost use Rattle.ats_bound.specs.Stand.{IsStand};
@@ -147,7 +147,8 @@ impl<'a> Running<'a> {
 
     /// The list that shows one more entry in the next turn; `None` if all lists are whole.
     pub fn next_lane(&self) -> Option<u32>
-        ensures { MatchOption result (threshold (shown_in self.now) ≡ 0) (IsNextLane self.now.lanes self.now.cut) }
+        ensures next { MatchOption result (threshold (shown_in self.now) ≡ 0) (IsNextLane self.now.lanes self.now.cut) }
+        ensures whole { IsNone result ↔ AreAllShown (shown_in self.now) }
     {
         self.front.next_lane()
     }

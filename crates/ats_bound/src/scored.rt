@@ -1,6 +1,6 @@
 //! A walk that is given the score of each document that an entry names.
 
-ghost use Rattle.std.specs.Prelude.{◌≡◌, ◌≢◌, ◌↔◌, ◌||◌, ◌==◌, ◌<◌, ◌≤◌, ◌+◌, ◌∷◌, [], ℕ, Bool, true, false, List, length, map, set, slice_index, is_some, IfOk, IfSome, OnOk, OnErr, IsTrue, MatchOption};
+ghost use Rattle.std.specs.Prelude.{◌≡◌, ◌≢◌, ◌↔◌, ◌||◌, ◌==◌, ◌<◌, ◌≤◌, ◌+◌, ◌∷◌, [], ℕ, Bool, true, false, List, length, map, set, slice_index, is_some, IfOk, IfSome, IsNone, OnOk, OnErr, IsTrue, MatchOption};
 ghost use Rattle.std.specs.List.{All, Contains, list_any};
 ghost use Rattle.std.specs.List.Sorted.{IsStrictlySortedBy};
 ghost use Rattle.std.specs.Map.{keys_of, values_of};
@@ -9,7 +9,7 @@ ghost use Rattle.ats_bound.specs.Best.{AreBest};
 ghost use Rattle.ats_bound.specs.Chosen.{IsChosen};
 ghost use Rattle.ats_bound.specs.Cut.{names, threshold};
 ghost use Rattle.ats_bound.specs.Front.{IsStage, entry_on, shown_on};
-ghost use Rattle.ats_bound.specs.Schedule.{AreBracketsBy, AreWholeLanes, Bounding, IsNextLane, IsOpen, first_cut, has_bracket, shown, whole_lanes};
+ghost use Rattle.ats_bound.specs.Schedule.{AreAllShown, AreBracketsBy, AreWholeLanes, Bounding, IsNextLane, IsOpen, first_cut, has_bracket, shown, whole_lanes};
 ghost use Rattle.ats_bound.specs.Settled.{ArePicks, IsSettled};
 ghost use Rattle.ats_bound.specs.Scored.{AreFirstScores, AreScored, exact, exact_brackets, exactly, score_in};
 ghost use Rattle.ats_bound.specs.QuickTest.{PassesQuickTest, TellsSettled};
@@ -151,6 +151,7 @@ impl<'a> Scored<'a> {
     pub fn next_lane(&self) -> Option<u32>
         ensures next { MatchOption result (threshold (shown_on self.now.stage) ≡ 0)
             (IsNextLane self.now.stage.lanes self.now.stage.cut) }
+        ensures whole { IsNone result ↔ AreAllShown (shown_on self.now.stage) }
         ensures stage { IsStage self.now.stage }
     {
         self.front.next_lane()

@@ -20,7 +20,7 @@ pub loop-lane-smaller : goal.loop-lane-smaller
 loop-lane-smaller c =
     let walk : Standing = c.loop-lane.walk in
     let i : ℕ = c.in-Some.lane in
-    let next : IsNextLane walk.lanes walk.cut i = c.in-Some.ensures in
+    let next : IsNextLane walk.lanes walk.cut i = c.in-Some.ensures.next in
     let whole : AreWholeLanes walk.lanes = subst AreWholeLanes (sym c.loop-lane.invariant.lanes) c.requires in
     let reached : IsReached bracket walk.lanes c.args.top walk.cut = subst (λ (ls : List WholeLane). IsReached bracket ls c.args.top walk.cut) (sym c.loop-lane.invariant.lanes) c.loop-lane.invariant.reached in
     let is : IsCut walk.lanes walk.cut = scheduled_is_cut walk.lanes reached.turns walk.cut (have_entries walk.lanes whole) reached.scheduled in
@@ -31,7 +31,7 @@ loop-lane-preserved c =
     let walk : Standing = c.loop-lane.walk in
     let i : ℕ = c.in-Some.lane in
     let lanes : List WholeLane = whole_lanes c.args.lanes.now in
-    let next : IsNextLane lanes walk.cut i = subst (λ (ls : List WholeLane). IsNextLane ls walk.cut i) c.loop-lane.invariant.lanes c.in-Some.ensures in
+    let next : IsNextLane lanes walk.cut i = subst (λ (ls : List WholeLane). IsNextLane ls walk.cut i) c.loop-lane.invariant.lanes c.in-Some.ensures.next in
     let cannot : CanSettleBy bracket lanes c.args.top walk.cut → ⊥ = λ can.
     let here : CanSettleBy bracket walk.lanes walk.rows walk.cut = subst (λ (ls : List WholeLane). CanSettleBy bracket ls walk.rows walk.cut) (sym c.loop-lane.invariant.lanes)
     (subst (λ (r : ℕ). CanSettleBy bracket lanes r walk.cut) (sym c.loop-lane.invariant.rows) can) in
@@ -66,7 +66,7 @@ returns c =
     let lanes : List WholeLane = whole_lanes c.args.lanes.now in
     let end : Walk = c.in_ok-finish-2.field-0 in
     let all : List ShownLane = shown lanes walk.cut in
-    let none : threshold all ≡ 0 = subst (λ (ls : List WholeLane). threshold (shown ls walk.cut) ≡ 0) c.loop-lane.invariant.lanes c.in_default.ensures in
+    let none : threshold all ≡ 0 = subst (λ (ls : List WholeLane). threshold (shown ls walk.cut) ≡ 0) c.loop-lane.invariant.lanes c.in_default.ensures.next in
     let stand : IsStand bracket lanes c.args.top walk.cut end = stand_of lanes c.args.top walk end c.loop-lane.invariant.lanes c.loop-lane.invariant.rows c.in_ok-finish-2.ensures in
     end_at bracket lanes c.args.top walk.cut end c.loop-lane.invariant.reached stand
     (whole_settled bracket lanes c.args.top walk.cut end (λ doc. is_narrow (threshold all) doc (lo_of all doc) (missing all doc) (missing_within all doc)) stand none)
