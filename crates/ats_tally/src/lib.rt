@@ -4,8 +4,8 @@
 //! It is separate from the player of the cases, so that the promises about the count can be tested on these few lines.
 //!
 //! The room stands on `ats_base` for bytes. A case counts as passed exactly if its status, its printed text, and its
-//! files, links or numbers are as wanted. Every failing case adds to the report. The words of the report may change
-//! freely.
+//! files, links or numbers are as wanted. Every failing case leaves that number and adds to the report. If memory runs
+//! out, nothing is counted. The words of the report may change freely.
 //!
 //! ```
 //! let mut tally = Tally::new(alloc);

@@ -1,6 +1,6 @@
 //! What a command showed, compared with what its case or its vector wants.
 
-ghost use Rattle.std.specs.Prelude.{◌≡◌, ◌≢◌, ◌↔◌, ◌+◌, ◌-◌, ◌^◌, ◌++◌, [], min, true, false, IfOk, is_ok, if◌then◌else◌};
+ghost use Rattle.std.specs.Prelude.{◌≡◌, ◌≢◌, ◌<◌, ◌↔◌, ◌+◌, ◌-◌, ◌^◌, ◌++◌, [], min, length, string_bytes, true, false, IfOk, is_ok, if◌then◌else◌};
 ghost use Rattle.ats_tally.specs.Cases.{Case, IsAsWanted};
 
 use ats_base::{Bytes, OutOfMemory};
@@ -83,13 +83,15 @@ impl Shown {
     }
 
     /// What a person needs to know of a case that differs.
-    pub(crate) fn difference(&self, alloc: Global) -> Result<String, AllocError> {
+    pub(crate) fn difference(&self, alloc: Global) -> Result<String, AllocError>
+        ensures { IfOk result (λ text. 0 < length (string_bytes text)) }
+    {
         let (status, wanted_status) = (self.status, self.wanted_status);
         let printed = str::from_utf8(self.printed.as_slice()).unwrap_or("(no text)");
         let wanted = str::from_utf8(self.wanted.as_slice()).unwrap_or("(no text)");
         let (said, misfits) = (&self.said, self.misfits);
         format!(in alloc;
-            "{said}\nstatus {status}, wanted {wanted_status}; {misfits} files, links or numbers differ; printed:\n{printed}wanted:\n{wanted}"
+            "differs: {said}\nstatus {status}, wanted {wanted_status}; {misfits} files, links or numbers differ; printed:\n{printed}wanted:\n{wanted}"
         )
     }
 }

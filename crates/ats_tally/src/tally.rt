@@ -1,7 +1,7 @@
 //! How many cases passed, and a report on the others.
 
-ghost use Rattle.std.specs.Prelude.{◌≡◌, ◌<◌, ◌≤◌, ◌+◌, ◌-◌, ◌^◌, ◌⊎◌, [], min, length, string_bytes, OnOk};
-ghost use Rattle.ats_tally.specs.Cases.{Counted, IsAsWanted};
+ghost use Rattle.std.specs.Prelude.{◌≡◌, ◌+◌, ◌-◌, ◌^◌, ◌⊎◌, [], length, min, string_bytes, take, IsOk, OnErr, OnOk};
+ghost use Rattle.ats_tally.specs.Cases.{Counted, IsAsWanted, IsLonger};
 
 use crate::shown::Shown;
 use ats_base::OutOfMemory;
@@ -32,28 +32,28 @@ impl Tally {
         }
     }
 
-    /// Counts a case, or reports it. If memory runs out, a part of the report may be left.
+    /// Counts a case as passed, or reports it. If memory runs out, the tally is as it was.
     pub fn count(&mut self, alloc: Global, shown: &Shown) -> Result<(), OutOfMemory>
-        ensures passed { self.old.passed < self.new.passed → (shown.now.status ≡ shown.now.wanted_status)
-            × (shown.now.printed ≡ shown.now.wanted) × (shown.now.misfits ≡ 0) }
-        ensures counted { IsAsWanted shown.now
-            → self.new ≡ record self.old { passed = min (self.old.passed + 1) (2 ^ 64 - 1) } }
-        ensures reported { OnOk result (IsAsWanted shown.now ⊎ length self.old.report < length self.new.report) }
+        ensures passed { IsAsWanted shown.now ⊎ (self.new.passed ≡ self.old.passed) }
+        ensures counted { IsAsWanted shown.now → IsOk result
+            × (self.new ≡ record self.old { passed = min (self.old.passed + 1) (2 ^ 64 - 1) }) }
+        ensures reported { OnOk result (IsAsWanted shown.now ⊎ IsLonger self.old.report self.new.report) }
+        ensures unchanged { OnErr result (self.new ≡ self.old) }
     {
         if shown.is_as_wanted() {
             self.passed = self.passed.saturating_add(1);
             return Ok(());
         }
         let difference = shown.difference(alloc)?;
-        self.report.push_str("differs: ")?;
         self.report.push_str(difference.as_str())?;
         Ok(())
     }
 
-    /// Reports a line that cannot be read. If memory runs out, a part of the report may be left.
+    /// Reports a line that cannot be read. If memory runs out, a part of it may be left in the report.
     pub fn refuse(&mut self, line: &str) -> Result<(), OutOfMemory>
         ensures passed { self.new.passed ≡ self.old.passed }
-        ensures reported { OnOk result (length self.old.report < length self.new.report) }
+        ensures reported { OnOk result (IsLonger self.old.report self.new.report) }
+        ensures kept { take (length self.old.report) self.new.report ≡ self.old.report }
     {
         self.report.push_str("not understood: ")?;
         self.report.push_str(line)?;
