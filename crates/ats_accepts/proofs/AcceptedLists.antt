@@ -17,8 +17,8 @@ use Rattle.ats_lists.specs.Leaf.{leaf_bytes}
 use Rattle.ats_lists.specs.Lists.{IsList}
 use Rattle.ats_lists.specs.declared.entry.Entry.{Entry}
 use Rattle.ats_lists.proofs.Public.{list_frequency}
-use Rattle.ats_terms.specs.declared.spot.Spot.{Spot}
-use Rattle.ats_terms.specs.declared.spot.Spot.TheVariants.{At, Between}
+use Rattle.ats_dict.specs.declared.spot.Spot.{Spot}
+use Rattle.ats_dict.specs.declared.spot.Spot.TheVariants.{At, Between}
 use Rattle.ats_lists.specs.Layout.{whole_lists}
 use Rattle.ats_commit.specs.Archive.{archive_of}
 use Rattle.ats_commit.specs.Trees.{dictionary_of}

@@ -5,8 +5,8 @@ use Rattle.std.specs.List.Sorted.{IsStrictlyIncreasing}
 use Rattle.std.proofs.lemmas.Bool.{or_left, or_right}
 use Rattle.std.proofs.lemmas.List.{get_or-map}
 use Rattle.std.proofs.lemmas.List.Folds.{list_any-append}
-use Rattle.ats_terms.specs.declared.spot.Spot.{Spot}
-use Rattle.ats_terms.specs.declared.spot.Spot.TheVariants.{At, Between}
+use Rattle.ats_dict.specs.declared.spot.Spot.{Spot}
+use Rattle.ats_dict.specs.declared.spot.Spot.TheVariants.{At, Between}
 use Rattle.ats_dict.specs.Dictionary.{IsBelow}
 use Rattle.ats_proof.specs.declared.record.Slot.{Slot}
 use Rattle.ats_client.specs.Groups.{slot_at}

@@ -4,9 +4,10 @@ ghost use Rattle.std.specs.Prelude.{ℕ, List, IfOk};
 ghost use Rattle.ats_client.specs.Accepts.{Accepts};
 ghost use Rattle.ats_audit.specs.Verdicts.{IsVerdict};
 
+use crate::memory::OutOfMemory;
 use ats_client::{Clash, Refusal, Rejection, VerifyFault, check_rows, first_clash};
 use ats_hash::Hash32;
-use ats_impact::{OutOfMemory, Rows, Top};
+use ats_impact::{Rows, Top};
 use ats_index::Index;
 use ats_proof::{ProofView, ShapeFault};
 use ats_terms::Query;

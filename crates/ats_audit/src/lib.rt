@@ -25,8 +25,10 @@
 
 mod auditing;
 mod laws;
+mod memory;
 mod sweeping;
 
 pub use auditing::{Verdict, audit};
 pub use laws::accepted_answers_are_audited;
+pub use memory::OutOfMemory;
 pub use sweeping::{Job, Verdicts, sweep};

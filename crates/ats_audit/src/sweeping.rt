@@ -5,8 +5,9 @@ ghost use Rattle.std.specs.List.{AllZip};
 ghost use Rattle.ats_audit.specs.Sweeps.{IsVerdictOf};
 
 use crate::auditing::{Verdict, audit};
+use crate::memory::OutOfMemory;
 use ats_hash::Hash32;
-use ats_impact::{OutOfMemory, Top};
+use ats_impact::Top;
 use ats_index::Index;
 use ats_terms::Query;
 use rayon::prelude::*;

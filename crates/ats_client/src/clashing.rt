@@ -18,6 +18,7 @@ ghost use Rattle.ats_client.specs.Sections.{AreRebuilt, difference_of, HasPlace}
 ghost use Rattle.ats_client.specs.SeenTerms.{document_of};
 ghost use Rattle.ats_client.specs.Strings.{hashed_header, strings_in, list_strings, terms_strings, documents_strings, extract};
 
+use crate::memory::OutOfMemory;
 use crate::one_tree::OneTree;
 use crate::present::Present;
 use crate::presenting::present;
@@ -25,7 +26,6 @@ use crate::taken::Taken;
 use crate::walk::Walk;
 use ats_commit::{OwnStrings, root_of_header, string_of_header};
 use ats_hash::{Hash32, Steps};
-use ats_impact::OutOfMemory;
 use ats_proof::{DocView, DocsView, ProofView};
 use ats_terms::Query;
 use ats_tree::{HashedString, Place, Revealed, Tree, collides};

@@ -4,6 +4,7 @@ ghost use Rattle.std.specs.Prelude.{◌≡◌};
 ghost use Rattle.ats_client.specs.declared.fault.Rejection.TheVariants.{Shape, Check};
 ghost use Rattle.ats_client.specs.declared.fault.VerifyFault.TheVariants.{Rejected, OutOfMemory};
 
+use crate::memory::OutOfMemory;
 use crate::refusal::Refusal;
 use ats_proof::ShapeFault;
 
@@ -49,10 +50,10 @@ impl From<ats_bound::OutOfMemory> for VerifyFault {
     }
 }
 
-impl From<ats_impact::OutOfMemory> for VerifyFault {
+impl From<OutOfMemory> for VerifyFault {
     ghost from_gives = { λ _ fault. fault ≡ OutOfMemory };
 
-    fn from(_: ats_impact::OutOfMemory) -> Self {
+    fn from(_: OutOfMemory) -> Self {
         VerifyFault::OutOfMemory
     }
 }

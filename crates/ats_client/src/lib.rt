@@ -36,6 +36,7 @@ mod leaf;
 mod listing;
 mod lists;
 mod marking;
+mod memory;
 mod met;
 mod one_tree;
 mod opening;
@@ -61,5 +62,6 @@ pub use laws::{
     own_leaves_make_rows_right, proofs_have_one_refusal, rebuilt_sections_are_bound,
     shown_leaves_are_bound,
 };
+pub use memory::OutOfMemory;
 pub use refusal::Refusal;
 pub use verifying::{check_rows, verify};

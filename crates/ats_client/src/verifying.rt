@@ -9,9 +9,10 @@ ghost use Rattle.ats_client.specs.Bytes.{AreVerifiedRows, IsVerifyFault, IsProof
 use crate::answer::row;
 use crate::checking::check;
 use crate::fault::VerifyFault;
+use crate::memory::OutOfMemory;
 use ats_bound::Work;
 use ats_hash::{Hash32, Steps};
-use ats_impact::{OutOfMemory, Rows, Top};
+use ats_impact::{Rows, Top};
 use ats_proof::ProofView;
 use ats_terms::Query;
 use std::alloc::Global;

@@ -7,8 +7,9 @@ ghost use Rattle.ats_dict.specs.Dictionary.{IsAboveLast, IsDictionary, entry_at,
 ghost use Rattle.ats_dict.specs.Found.{IsSpot};
 
 use crate::pieces::put;
+use crate::spot::Spot;
 use ats_hash::{Hash32, Steps};
-use ats_terms::{SortedTerms, Spot};
+use ats_terms::SortedTerms;
 use ats_tree::{HashedString, Leaves, ShortLeaves};
 use std::alloc::Global;
 use std::marker::Model;
@@ -193,7 +194,10 @@ impl Dictionary {
         ensures spot { IsSpot self.now term.now result }
         ensures only { (p : ℕ) → p < length self.now + 2 → term_at self.now p ≡ term.now → result ≡ Spot.At p }
     {
-        ats_terms::find(self, term)
+        match ats_terms::find(self, term) {
+            ats_terms::Spot::At(p) => Spot::At(p),
+            ats_terms::Spot::Between(p) => Spot::Between(p),
+        }
     }
 }
 

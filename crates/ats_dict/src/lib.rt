@@ -20,12 +20,13 @@
 //! ```
 #![tactic(auto)]
 
-pub use ats_terms::Spot;
 pub use dictionary::{DictLeaf, Dictionary, OutOfMemory};
 pub use header::{HEADER_BYTES, Header};
 pub use laws::{headers_tell_their_parts, leaves_by_position, leaves_tell_their_parts, terms_rise};
+pub use spot::Spot;
 
 mod dictionary;
 mod header;
 mod laws;
 mod pieces;
+mod spot;

@@ -8,9 +8,10 @@ ghost use Rattle.ats_doctree.specs.Sentinels.{term_at, impact_at, terms_leaves};
 ghost use Rattle.ats_doctree.specs.Found.{IsSpot};
 
 use crate::memory::OutOfMemory;
+use crate::spot::Spot;
 use ats_hash::{Hash32, Steps};
 use ats_impact::{Collection, impact};
-use ats_terms::{SortedTerms, Spot, TermCounts};
+use ats_terms::{SortedTerms, TermCounts};
 use ats_tree::{HashedString, Leaves, ShortLeaves};
 use std::alloc::Global;
 use std::marker::Model;
@@ -114,7 +115,10 @@ impl DocTerms {
         ensures spot { IsSpot self.now term.now result }
         ensures only { (p : ℕ) → p < length self.now + 2 → term_at self.now p ≡ term.now → result ≡ Spot.At p }
     {
-        ats_terms::find(self, term)
+        match ats_terms::find(self, term) {
+            ats_terms::Spot::At(p) => Spot::At(p),
+            ats_terms::Spot::Between(p) => Spot::Between(p),
+        }
     }
 }
 

@@ -24,9 +24,10 @@ mod doc_leaf;
 mod doc_terms;
 mod laws;
 mod memory;
+mod spot;
 
-pub use ats_terms::Spot;
 pub use doc_leaf::{DOC_LEAF_BYTES, DocLeaf};
 pub use doc_terms::DocTerms;
 pub use laws::{impacts_tell_counts, leaves_by_position, leaves_tell_their_parts, terms_rise};
 pub use memory::OutOfMemory;
+pub use spot::Spot;

@@ -15,7 +15,7 @@ use Rattle.ats_lists.specs.Lists.{IsList, list}
 use Rattle.ats_lists.proofs.Public.{list_frequency}
 use Rattle.ats_tree.specs.Elided.{elided_digests}
 use Rattle.ats_dict.specs.Dictionary.{dict_leaves}
-use Rattle.ats_terms.specs.declared.spot.Spot.{Spot}
+use Rattle.ats_dict.specs.declared.spot.Spot.{Spot}
 use Rattle.ats_doctree.specs.Impacts.{doc_terms}
 use Rattle.ats_doctree.specs.Sentinels.{terms_leaves}
 use Rattle.ats_lists.specs.Layout.{whole_lists}

@@ -9,8 +9,8 @@ use Rattle.ats_terms.specs.Query.{Rises}
 use Rattle.ats_tree.specs.Tree.{tree_of}
 use Rattle.ats_tree.specs.Rebuild.{tree_of_places}
 use Rattle.ats_tree.specs.Elided.{elided_digests, shown_with}
-use Rattle.ats_terms.specs.declared.spot.Spot.{Spot}
-use Rattle.ats_terms.specs.declared.spot.Spot.TheVariants.{At, Between}
+use Rattle.ats_dict.specs.declared.spot.Spot.{Spot}
+use Rattle.ats_dict.specs.declared.spot.Spot.TheVariants.{At, Between}
 use Rattle.ats_doctree.specs.Impacts.{AreImpacts}
 use Rattle.ats_doctree.specs.Sentinels.{IsBelow, item_at, low, term_at, terms_leaves}
 use Rattle.ats_doctree.proofs.Public.{item_at-last, item_at-suc, length-terms_leaves, terms_rise}

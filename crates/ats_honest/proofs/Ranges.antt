@@ -13,8 +13,8 @@ use Rattle.ats_terms.specs.Query.{Rises, RisesFrom}
 use Rattle.ats_tree.specs.Tree.{Tree, empty, leaf, node, digest_of}
 use Rattle.ats_tree.specs.Rebuild.{is_bare}
 use Rattle.ats_tree.specs.Elided.{elided_of, left_of, right_of}
-use Rattle.ats_terms.specs.declared.spot.Spot.{Spot}
-use Rattle.ats_terms.specs.declared.spot.Spot.TheVariants.{At, Between}
+use Rattle.ats_dict.specs.declared.spot.Spot.{Spot}
+use Rattle.ats_dict.specs.declared.spot.Spot.TheVariants.{At, Between}
 use Rattle.ats_dict.specs.Entry.{DictEntry}
 use Rattle.ats_dict.specs.Dictionary.{IsBelow, IsDictionary, term_at}
 use Rattle.ats_dict.specs.Found.{IsSpot}

@@ -4,8 +4,8 @@ use Rattle.std.specs.List.{All}
 use Rattle.std.proofs.lemmas.List.Elements.{All-head, All-tail}
 use Rattle.ats_terms.specs.Terms.{IsTerm}
 use Rattle.ats_terms.proofs.Public.{rises_less, high_above, low_below, nowhere}
-use Rattle.ats_terms.specs.declared.spot.Spot.{Spot}
-use Rattle.ats_terms.specs.declared.spot.Spot.TheVariants.{At, Between}
+use Rattle.ats_dict.specs.declared.spot.Spot.{Spot}
+use Rattle.ats_dict.specs.declared.spot.Spot.TheVariants.{At, Between}
 use Rattle.ats_dict.specs.Entry.{DictEntry}
 use Rattle.ats_dict.specs.Dictionary.{IsBelow, entry_at, high, low, term_at}
 use Rattle.ats_dict.specs.Found.{IsSpot}

@@ -4,8 +4,8 @@ use Rattle.std.proofs.lemmas.Cmp.{nat_list_cmp_total}
 use Rattle.ats_terms.specs.Query.{Rises, RisesFrom, byte_cmp}
 use Rattle.std.specs.declared.cmp.Ordering.TheVariants.{Less}
 use Rattle.ats_impact.specs.Score.{frequency}
-use Rattle.ats_terms.specs.declared.spot.Spot.{Spot}
-use Rattle.ats_terms.specs.declared.spot.Spot.TheVariants.{At, Between}
+use Rattle.ats_dict.specs.declared.spot.Spot.{Spot}
+use Rattle.ats_dict.specs.declared.spot.Spot.TheVariants.{At, Between}
 use Rattle.ats_commit.specs.Archive.{archive_of}
 use Rattle.ats_commit.specs.Trees.{dictionary_of}
 use Rattle.ats_honest.specs.Terms.{AreSpots}

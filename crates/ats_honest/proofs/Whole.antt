@@ -16,8 +16,8 @@ use Rattle.ats_lists.specs.declared.entry.Entry.{Entry}
 use Rattle.ats_dict.specs.Dictionary.{IsDictionary, dict_leaves}
 use Rattle.ats_dict.specs.Found.{IsSpot}
 use Rattle.ats_dict.specs.Header.{IsHeader}
-use Rattle.ats_terms.specs.declared.spot.Spot.{Spot}
-use Rattle.ats_terms.specs.declared.spot.Spot.TheVariants.{At, Between}
+use Rattle.ats_dict.specs.declared.spot.Spot.{Spot}
+use Rattle.ats_dict.specs.declared.spot.Spot.TheVariants.{At, Between}
 use Rattle.ats_dict.proofs.Public.{length-dict_leaves}
 use Rattle.ats_lists.specs.Layout.{whole_lists}
 use Rattle.ats_commit.specs.Archive.{Archive, archive_of}

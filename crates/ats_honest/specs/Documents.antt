@@ -1,8 +1,9 @@
 -- What an honest proof shows of the met documents, if their scores are looked up.
 use Rattle.std.specs.Prelude.{◌≡◌, ℕ, List, [], ◌∷◌, map, Option, Some, None}
 use Rattle.ats_tree.specs.Elided.{elided_digests}
-use Rattle.ats_terms.specs.declared.spot.Spot.{Spot}
-use Rattle.ats_doctree.specs.Found.{IsSpot}
+use Rattle.ats_dict.specs.declared.spot.Spot.{Spot}
+use Rattle.ats_dict.specs.declared.spot.Spot.TheVariants.{At, Between}
+use Rattle.ats_doctree.specs.Found.{LiesBetween, StandsAt}
 use Rattle.ats_doctree.specs.Impacts.{doc_terms}
 use Rattle.ats_doctree.specs.Sentinels.{item_at, terms_leaves}
 use Rattle.ats_doctree.specs.declared.doc_leaf.DocLeaf.{DocLeaf}
@@ -12,9 +13,10 @@ use Rattle.ats_proof.specs.declared.record.Algorithm.TheVariants.{Tra, Tnra}
 use Rattle.ats_proof.specs.Value.{Documents, ShownTerm, TermsSection}
 use Rattle.ats_honest.specs.Terms.{AreNeeded, HaveSpots, slot_of}
 
--- the place of a term among the leaves of a document's terms
+-- the place of a term among the leaves of a document's terms, given as a place in the dictionary is
 abbrev pub IsTermSpot : List (List ℕ × ℕ) → List ℕ → Spot → Type 0
-IsTermSpot = IsSpot
+IsTermSpot items term (At p) = StandsAt items term p
+IsTermSpot items term (Between p) = LiesBetween items term p
 
 -- the leaf at a position
 abbrev pub shown_term : List (List ℕ × ℕ) → ℕ → ShownTerm

@@ -3,7 +3,7 @@ use Rattle.std.specs.Prelude.{◌≡◌, ◌<◌, ℕ, List, [], ◌∷◌, leng
 use Rattle.std.specs.List.{concat}
 use Rattle.ats_tree.specs.Elided.{elided_digests}
 use Rattle.ats_lists.specs.declared.entry.Entry.{Entry}
-use Rattle.ats_terms.specs.declared.spot.Spot.{Spot}
+use Rattle.ats_dict.specs.declared.spot.Spot.{Spot}
 use Rattle.ats_dict.specs.Dictionary.{dict_leaves}
 use Rattle.ats_lists.specs.Layout.{Layout}
 use Rattle.ats_commit.specs.Archive.{Archive}

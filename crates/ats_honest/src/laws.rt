@@ -3,7 +3,7 @@
 ghost use Rattle.std.specs.Prelude.{◌≡◌, ◌<◌, ◌≤◌, ◌^◌, ℕ, List, length};
 ghost use Rattle.ats_terms.specs.Query.{IsQuery};
 ghost use Rattle.ats_lists.specs.Lists.{list};
-ghost use Rattle.ats_terms.specs.declared.spot.Spot.TheVariants.{At, Between};
+ghost use Rattle.ats_dict.specs.declared.spot.Spot.TheVariants.{At, Between};
 ghost use Rattle.ats_doctree.specs.Impacts.{doc_terms};
 ghost use Rattle.ats_doctree.specs.Sentinels.{impact_at};
 ghost use Rattle.ats_commit.specs.Archive.{Archive};

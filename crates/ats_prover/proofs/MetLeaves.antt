@@ -5,7 +5,7 @@ use Rattle.std.proofs.lemmas.List.{flat_map_more}
 use Rattle.std.proofs.lemmas.List.Elements.{All-push}
 use Rattle.ats_terms.specs.Query.{Rises}
 use Rattle.ats_tree.specs.Elided.{elided_digests}
-use Rattle.ats_terms.specs.declared.spot.Spot.{Spot}
+use Rattle.ats_dict.specs.declared.spot.Spot.{Spot}
 use Rattle.ats_doctree.specs.Impacts.{AreImpacts, doc_terms}
 use Rattle.ats_doctree.specs.declared.doc_leaf.DocLeaf.{DocLeaf}
 use Rattle.ats_commit.specs.Trees.{documents_of}

@@ -49,8 +49,14 @@ impl From<ats_proof::OutOfMemory> for OutOfMemory {
     }
 }
 
-impl From<ats_bound::OutOfMemory> for OutOfMemory {
-    fn from(_: ats_bound::OutOfMemory) -> Self {
+impl From<ats_tnra::OutOfMemory> for OutOfMemory {
+    fn from(_: ats_tnra::OutOfMemory) -> Self {
+        OutOfMemory
+    }
+}
+
+impl From<ats_tra::OutOfMemory> for OutOfMemory {
+    fn from(_: ats_tra::OutOfMemory) -> Self {
         OutOfMemory
     }
 }

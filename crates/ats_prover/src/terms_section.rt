@@ -3,6 +3,7 @@
 ghost use Rattle.std.specs.Prelude.{◌≡◌, ◌+◌, ◌≤◌, ◌<◌, ◌^◌, ◌++◌, ℕ, length, map, OnOk};
 ghost use Rattle.std.specs.List.{All, flat_map};
 ghost use Rattle.std.specs.List.Sorted.{IsStrictlyIncreasing};
+ghost use Rattle.ats_terms.specs.Terms.{IsTerm};
 ghost use Rattle.ats_tree.specs.Elided.{elided_digests};
 ghost use Rattle.ats_tree.specs.Kept.{kept_digests};
 ghost use Rattle.ats_doctree.specs.Sentinels.{terms_leaves};
@@ -42,6 +43,17 @@ impl Section {
     }
 }
 
+// The place of a term among a document's terms, given as a place in the dictionary is.
+fn spot(terms: &DocTerms, term: &[u8]) -> Spot
+    requires { IsTerm term.now }
+    ensures { IsTermSpot terms.now term.now result }
+{
+    match terms.find(term) {
+        ats_doctree::Spot::At(p) => Spot::At(p),
+        ats_doctree::Spot::Between(p) => Spot::Between(p),
+    }
+}
+
 // Collects the place of each present term among a document's. Earlier places are dropped.
 fn keep_spots(
     terms: &DocTerms,
@@ -56,7 +68,7 @@ fn keep_spots(
     prove!(terms.len() >= 2);
     spots.clear();
     for i in 0..present.len() {
-        spots.push(terms.find(present.term(i)))?;
+        spots.push(spot(terms, present.term(i)))?;
     }
     Ok(())
 }

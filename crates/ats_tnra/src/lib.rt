@@ -19,6 +19,8 @@
 //! ```
 #![tactic(auto)]
 
+mod memory;
 mod walking;
 
+pub use memory::OutOfMemory;
 pub use walking::walk;

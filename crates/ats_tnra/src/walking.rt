@@ -7,7 +7,8 @@ ghost use Rattle.ats_bound.specs.Settled.{IsSettled};
 ghost use Rattle.ats_bound.specs.Schedule.{AreBracketsOf, AreWholeLanes, IsFirstSettled, shown, whole_lanes};
 ghost use Rattle.ats_bound.specs.Stand.{IsEnd};
 
-use ats_bound::{Lane, OutOfMemory, Running, Walk};
+use crate::memory::OutOfMemory;
+use ats_bound::{Lane, Running, Walk};
 use ats_impact::Top;
 use std::alloc::Global;
 

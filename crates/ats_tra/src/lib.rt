@@ -23,7 +23,9 @@
 
 mod access;
 mod looking;
+mod memory;
 mod walking;
 
 pub use access::RandomAccess;
+pub use memory::OutOfMemory;
 pub use walking::walk;

@@ -6,7 +6,8 @@ ghost use Rattle.ats_bound.specs.Scored.{first_document};
 ghost use Rattle.ats_tra.specs.Looked.{score_by};
 
 use crate::access::RandomAccess;
-use ats_bound::{Lane, OutOfMemory};
+use crate::memory::OutOfMemory;
+use ats_bound::Lane;
 use std::alloc::Global;
 
 /// The score of a document.

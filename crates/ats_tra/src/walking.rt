@@ -13,7 +13,8 @@ ghost use Rattle.ats_tra.specs.Looked.{score_by};
 
 use crate::access::RandomAccess;
 use crate::looking::{first_scores, score};
-use ats_bound::{Lane, OutOfMemory, Scored, Walk};
+use crate::memory::OutOfMemory;
+use ats_bound::{Lane, Scored, Walk};
 use ats_impact::Top;
 use std::alloc::Global;
 

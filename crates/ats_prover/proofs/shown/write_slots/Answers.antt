@@ -2,7 +2,7 @@ use Rattle.std.proofs.Common.{[], ◌<◌, length, map, sym, ap, ◌∙◌, arit
 use Rattle.std.proofs.lemmas.List.{length-map, get_or-map}
 use Rattle.ats_proof.specs.Written.{Written, after}
 use Rattle.ats_proof.specs.Records.{slot_record}
-use Rattle.ats_terms.specs.declared.spot.Spot.TheVariants.{At}
+use Rattle.ats_dict.specs.declared.spot.Spot.TheVariants.{At}
 use Rattle.ats_proof.specs.Value.{slot_fields}
 use Rattle.ats_honest.specs.Terms.{slot_of}
 use Rattle.ats_prover.proofs.Records.{slot_is}

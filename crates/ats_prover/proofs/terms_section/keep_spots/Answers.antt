@@ -5,9 +5,9 @@ use Rattle.ats_prover.proofs.terms_section.keep_spots.Goals as goal
 
 pub loop-i-preserved : goal.loop-i-preserved
 loop-i-preserved c =
-    let is = subst (λ (term : List ℕ). IsTermSpot c.args.terms.now term c.find.result) (c.term.ensures.value ([], 0)) c.find.ensures.spot in
+    let is = subst (λ (term : List ℕ). IsTermSpot c.args.terms.now term c.spot.result) (c.term.ensures.value ([], 0)) c.spot.ensures in
     rw (c.in_ok-push.ensures.items, add-one)
-    (spots_more (IsTermSpot c.args.terms.now) c.args.present.now c.loop-i.spots.items c.find.result c.loop-i.i ([], 0) (omega (arith, c.loop-i-test.true, c.len-i-end.ensures.value)) c.loop-i.invariant is)
+    (spots_more (IsTermSpot c.args.terms.now) c.args.present.now c.loop-i.spots.items c.spot.result c.loop-i.i ([], 0) (omega (arith, c.loop-i-test.true, c.len-i-end.ensures.value)) c.loop-i.invariant is)
 
 pub returns-clause-spots : goal.returns-clause-spots
 returns-clause-spots c = rw (take_all c.loop-i.i c.args.present.now (omega (arith, c.loop-i-test.false, c.len-i-end.ensures.value))) at c.loop-i.invariant

@@ -3,7 +3,7 @@ use Rattle.std.specs.List.{All}
 use Rattle.std.proofs.lemmas.List.{map-append}
 use Rattle.std.proofs.lemmas.List.Elements.{All-push}
 use Rattle.ats_terms.specs.Query.{Rises}
-use Rattle.ats_terms.specs.declared.spot.Spot.{Spot}
+use Rattle.ats_dict.specs.declared.spot.Spot.{Spot}
 use Rattle.ats_honest.specs.Present.{standing}
 use Rattle.ats_prover.specs.Places.{terms_at}
 use Rattle.ats_honest.proofs.Public.{standing_more, standing_rises, standing_same}
