@@ -1,6 +1,6 @@
 //! The audits of many proofs against one index.
 
-ghost use Rattle.std.specs.Prelude.{◌≡◌, IfOk, length};
+ghost use Rattle.std.specs.Prelude.{◌≡◌, ◌<◌, IfOk, Some, length, slice_get};
 ghost use Rattle.std.specs.List.{AllZip};
 ghost use Rattle.ats_audit.specs.Sweeps.{IsVerdictOf};
 
@@ -43,6 +43,14 @@ impl Verdicts {
         ensures { result ≡ length self.now }
     {
         self.items.len()
+    }
+
+    /// The verdict at place `i`, counted from 0.
+    pub fn get(&self, i: usize) -> &Verdict
+        requires { i < length self.now }
+        ensures { slice_get self.now i ≡ Some result.now }
+    {
+        &self.items[i]
     }
 
     pub fn as_slice(&self) -> &[Verdict]
