@@ -45,8 +45,7 @@ pub struct Clash {
 
 /// The first clash between an archive's own strings and those that rebuilding a proof hashes. The order is: the
 /// header's string, then those of the dictionary, of each shown list in the order of terms, of the documents tree, and
-/// of each met document's terms. Sections that are all the archive's own are not hashed, unless memory for comparing
-/// them runs out.
+/// of each met document's terms. Sections that are all the archive's own are not hashed.
 pub fn first_clash<'a, H: Hash32, O: OwnStrings<H>>(
     alloc: Global,
     own: &O,

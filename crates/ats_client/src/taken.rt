@@ -2,9 +2,8 @@
 
 ghost use Rattle.std.specs.Prelude.{◌≡◌, length};
 
-use ats_commit::ShownTree;
 use ats_hash::Steps;
-use ats_tree::{HashedString, Revealed};
+use ats_tree::{HashedString, Revealed, ShownTree};
 use std::marker::PhantomData;
 
 /// A section of a proof, from which leaves and digests are taken.

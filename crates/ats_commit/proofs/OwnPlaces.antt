@@ -1,13 +1,16 @@
 -- The places of an archive's own strings, and places that have none.
-use Rattle.std.proofs.Common.{◌≡◌, ◌∙◌, ◌≤◌, ◌^◌, ℕ, List, [], ◌∷◌, length, map, nat_lt, IsSome, None, false, refl, ap, arith}
+use Rattle.std.proofs.Common.{◌≡◌, ◌∙◌, ◌≤◌, ◌^◌, ℕ, List, [], ◌∷◌, length, map, nat_lt, IsSome, IfSome, Option, None, false, All, get_or, refl, sym, ap, subst, arith}
 use Rattle.std.proofs.lemmas.Bool.Decides.{nat_tests}
 use Rattle.std.proofs.lemmas.List.{nil_from_length}
+use Rattle.ats_tree.specs.Differences.{Hashed, IsOurs}
+use Rattle.ats_tree.specs.OwnShown.{IsOwnShown}
+use Rattle.ats_tree.specs.Shown.{Shown}
 use Rattle.ats_tree.specs.Tree.{tree_of, tree_within}
 use Rattle.ats_tree.specs.Nodes.{Node, by_path, depth_of}
-use Rattle.ats_tree.specs.Strings.{string_at, node_string}
+use Rattle.ats_tree.specs.Strings.{string_at, node_string, node_strings}
 use Rattle.ats_tree.specs.declared.hashed.Tree.{Tree}
 use Rattle.ats_tree.specs.declared.hashed.Tree.TheVariants.{Header, Dictionary, List as ListOf, Documents, Terms}
-use Rattle.ats_tree.proofs.Public.{node-ours}
+use Rattle.ats_tree.proofs.Public.{node-ours, own-shown}
 use Rattle.ats_impact.specs.Score.{frequency}
 use Rattle.ats_lists.specs.Leaf.{leaf_bytes}
 use Rattle.ats_lists.specs.Lists.{list}
@@ -16,7 +19,7 @@ use Rattle.ats_lists.specs.declared.entry.Entry.{Entry}
 use Rattle.ats_lists.specs.Layout.{Layout, whole_lists}
 use Rattle.ats_commit.specs.Archive.{Archive}
 use Rattle.ats_commit.specs.Prefixes.{list_string}
-use Rattle.ats_commit.specs.Ours.{asked_term, own_leaves, own_string}
+use Rattle.ats_commit.specs.Ours.{TreePlace, asked_term, own_leaves, own_string, ours}
 
 module _ (H : List ℕ → List ℕ) (archive : Archive) (query : List (List ℕ × ℕ)) where
   -- no node is deeper than its tree is high
@@ -51,3 +54,24 @@ module _ (H : List ℕ → List ℕ) (archive : Archive) (query : List (List ℕ
   none_past doc node past =
       let outside : nat_lt doc (length archive.texts) ≡ false = grind (arith, nat_tests) in
       none_in (own_leaves H archive query (Terms doc)) node (rw outside refl)
+
+  own_at : (tree : Tree) (node : Node) → 1 ≤ length (own_leaves H archive query tree)
+      → own_string H archive query tree node ≡ node_string H (own_leaves H archive query tree) node
+  own_at Header node some = absurd (omega arith)
+  own_at Dictionary node some = refl
+  own_at (ListOf number) node some = listed_at archive.layout (list archive.texts (asked_term query number)) node
+    where
+      listed_at : (layout : Layout) (entries : List Entry) (node : Node) → list_string H layout entries node ≡ node_string H (map leaf_bytes entries) node
+      listed_at whole_lists entries node = refl
+  own_at Documents node some = refl
+  own_at (Terms doc) node some = refl
+
+  -- where what is shown of a tree is the archive's own, so is each string that is hashed from it
+  pub shown_are_ours : (tree : Tree) (n : ℕ) (shown : List Shown) (digests : List (List ℕ))
+      → IsOwnShown H (own_leaves H archive query tree) n shown digests
+      → All (IsOurs (λ node. ours H archive query (let place : TreePlace = record { tree = tree; node = node } in place))) (node_strings H n shown digests)
+  shown_are_ours tree n shown digests is k d inside =
+      let some : 1 ≤ length (own_leaves H archive query tree) = omega (arith, is.some, is.number) in
+      let s : Hashed Node = get_or (node_strings H n shown digests) k d in
+      subst (λ (o : Option (List ℕ)). IfSome o (λ (mine : List ℕ). mine ≡ s.text)) (sym (own_at tree s.place some))
+      (own-shown H (own_leaves H archive query tree) n shown digests is k d inside)

@@ -26,6 +26,8 @@ pub use Rattle.ats_commit.proofs.OwnLeaves.{leaf_tells_entry}
 pub use Rattle.ats_commit.proofs.OwnLeaves.{leaf_tells_posting}
 -- a term strictly between two neighbouring dictionary leaves has an empty list and is in no text
 pub use Rattle.ats_commit.proofs.OwnLeaves.{neighbours_tell}
+-- if what is shown of a tree is the archive's own, each string that is hashed from it is the archive's own
+pub use Rattle.ats_commit.proofs.OwnPlaces.{shown_are_ours}
 -- there is no string in the terms tree of a document number past the last document
 pub use Rattle.ats_commit.proofs.OwnPlaces.{none_past}
 -- if items rise in byte order, a term strictly between two neighbours is no item's

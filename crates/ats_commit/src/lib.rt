@@ -8,8 +8,8 @@
 //! The room stands on `ats_lists`, `ats_doctree` and `ats_dict`, which make the leaves of those trees, and defines
 //! from plain lists over the archive what they are together. The contracts promise the root of a header in one step,
 //! and the leaves of the documents and texts trees byte by byte. Whoever has an archive implements [`OwnStrings`]: the
-//! strings of its trees, and whether what a proof shows of a tree ([`ShownTree`]) is its own. The laws say what the
-//! definitions mean. How leaves are lent may change freely; the bytes may not.
+//! strings of its trees, and whether what a proof shows of a tree is its own. The laws say what the definitions mean.
+//! How leaves are lent may change freely; the bytes may not.
 //!
 //! ```
 //! use ats_hash::{Sha, Steps};
@@ -31,12 +31,10 @@ pub use laws::{
     own_leaves_tell_lists, own_strings_stand_in_trees, roots_bind_headers,
 };
 pub use own_strings::OwnStrings;
-pub use shown_tree::ShownTree;
 pub use texts::TextLeaves;
 
 mod commitment;
 mod documents;
 mod laws;
 mod own_strings;
-mod shown_tree;
 mod texts;

@@ -1,16 +1,14 @@
 //! The strings of an archive's own trees, by their places.
 
-ghost use Rattle.std.specs.Prelude.{◌≡◌, ◌≤◌, length, All, IsTrue};
-ghost use Rattle.ats_tree.specs.Differences.{IsOurs};
-ghost use Rattle.ats_tree.specs.Strings.{node_strings};
+ghost use Rattle.std.specs.Prelude.{◌≡◌, ◌↔◌, ◌≤◌, length, All, IsTrue};
+ghost use Rattle.ats_tree.specs.OwnShown.{IsOwnShown};
 ghost use Rattle.ats_commit.specs.Archive.{Archive};
-ghost use Rattle.ats_commit.specs.Ours.{ours};
+ghost use Rattle.ats_commit.specs.Ours.{own_leaves, ours};
 ghost use Rattle.ats_commit.specs.Places.{tree_place, IsOfQuery};
 
-use crate::shown_tree::ShownTree;
 use ats_hash::Hash32;
 use ats_terms::Query;
-use ats_tree::{HashedString, Place, Tree};
+use ats_tree::{HashedString, Place, ShownTree, Tree};
 
 /// An archive, seen as the byte strings that are hashed in its trees.
 pub trait OwnStrings<H: Hash32> {
@@ -24,17 +22,12 @@ pub trait OwnStrings<H: Hash32> {
         requires asked { IsOfQuery query.now place.now.tree }
         ensures { result ≡ ours H.hash (archive self.now) query.now (tree_place place.now) };
 
-    /// Whether all that a section of a proof shows of a tree of `n` leaves is the archive's own, found by comparing
-    /// only: nothing is hashed. If it returns true, that is so, and the caller need not search the tree. False promises
-    /// nothing: the caller then hashes the section. An implementation may always return false, and does if memory runs
-    /// out.
+    /// Whether what is shown of a tree of `n` leaves is the archive's own tree: its leaves at their positions, and the
+    /// digests of its other maximal subtrees. It only compares: nothing is hashed, and no memory is taken. The header
+    /// is no such tree. What is left in `shown` afterwards is any.
     fn has_shown<S: ShownTree>(&self, tree: Tree, n: u32, query: &Query, shown: &mut S) -> bool
         requires asked { IsOfQuery query.now tree }
         requires short { All (λ s. length s.1 ≤ 127) (S.shown shown.old) }
-        ensures { IsTrue result
-            → All (IsOurs (λ node. ours H.hash (archive self.now) query.now (record { tree = tree; node = node })))
-            (node_strings H.hash n (S.shown shown.old) (S.digests shown.old)) }
-    {
-        false
-    }
+        ensures { IsTrue result ↔ IsOwnShown H.hash (own_leaves H.hash (archive self.now) query.now tree) n
+            (S.shown shown.old) (S.digests shown.old) };
 }

@@ -15,4 +15,3 @@ mod TermBytes
 mod Vocabulary
 mod Size
 mod StringLemmas
-mod ShownLemmas

@@ -16,15 +16,25 @@ module _ (H : List ℕ → List ℕ) (archive : Archive) (term : List ℕ) where
   whole : (layout : Layout) (entries : List Entry) (node : Node) → list_string H layout entries node ≡ node_string H (map leaf_bytes entries) node
   whole whole_lists entries node = refl
 
-  -- the list that is found under a term
+  -- the entries that are found under a term
+  pub entries_found : (i : ℕ) (entries : List Entry) → i < length (lists_of archive.texts)
+      → (get_or (lists_of archive.texts) i ([], [])).0 ≡ term → entries ≡ (get_or (lists_of archive.texts) i ([], [])).1
+      → entries ≡ list archive.texts term
+  entries_found i entries inside same is = is ∙ listed archive.texts term i ([], []) inside same
+
+  -- the strings of their tree
   pub list_found : (i : ℕ) (entries : List Entry) (node : Node) → i < length (lists_of archive.texts)
       → (get_or (lists_of archive.texts) i ([], [])).0 ≡ term → entries ≡ (get_or (lists_of archive.texts) i ([], [])).1
       → node_string H (map leaf_bytes entries) node ≡ list_string H archive.layout (list archive.texts term) node
   list_found i entries node inside same is =
-      ap (λ (all : List Entry). node_string H (map leaf_bytes all) node) (is ∙ listed archive.texts term i ([], []) inside same)
+      ap (λ (all : List Entry). node_string H (map leaf_bytes all) node) (entries_found i entries inside same is)
       ∙ sym (whole archive.layout (list archive.texts term) node)
 
-  -- a term under which there is none
+  -- a term under which there is none has no entries
+  pub entries_absent : All (λ l. l.0 ≡ term → ⊥) (lists_of archive.texts) → length (map leaf_bytes (list archive.texts term)) ≡ 0
+  entries_absent none = ap (λ (all : List Entry). length (map leaf_bytes all)) (unlisted archive.texts term none)
+
+  -- nor a string
   pub list_absent : (node : Node) → All (λ l. l.0 ≡ term → ⊥) (lists_of archive.texts)
       → list_string H archive.layout (list archive.texts term) node ≡ None
   list_absent (by_path path) none =

@@ -34,7 +34,6 @@ mod load;
 mod memory;
 mod parallel;
 mod read;
-mod shown;
 mod strings;
 mod write;
 

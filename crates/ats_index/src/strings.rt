@@ -1,23 +1,23 @@
 //! The strings of an index's own trees, by their places.
 
-ghost use Rattle.std.specs.Prelude.{◌≡◌, ◌≤◌, [], length, All, IsTrue};
-ghost use Rattle.ats_tree.specs.Differences.{IsOurs};
-ghost use Rattle.ats_tree.specs.Strings.{node_strings};
+ghost use Rattle.std.specs.Prelude.{◌≡◌, ◌↔◌, ◌^◌, ◌≤◌, [], length, map, All, IsTrue};
 ghost use Rattle.ats_tree.specs.Nodes.{by_path};
+ghost use Rattle.ats_tree.specs.OwnShown.{IsOwnShown};
 ghost use Rattle.ats_tree.specs.Paths.{path_of};
 ghost use Rattle.ats_tree.specs.declared.hashed.Tree.TheVariants.{Header as HeaderTree, Documents as DocumentsTree, Terms as TermsTree};
+ghost use Rattle.ats_lists.specs.Leaf.{leaf_bytes};
 ghost use Rattle.ats_lists.specs.Lists.{list};
 ghost use Rattle.ats_commit.specs.Prefixes.{list_string};
-ghost use Rattle.ats_commit.specs.Ours.{own_string, ours};
+ghost use Rattle.ats_commit.specs.Ours.{own_leaves, own_string, ours};
 ghost use Rattle.ats_commit.specs.Places.{tree_place, IsOfQuery};
+ghost use Rattle.ats_commit.specs.Trees.{documents_of};
 
 use crate::index::Index;
-use crate::shown::is_own;
-use ats_commit::{DocLeaves, OwnStrings, ShownTree, string_of_header};
-use ats_hash::Hash32;
+use ats_commit::{DocLeaves, OwnStrings, string_of_header};
+use ats_hash::{Hash32, Steps};
 use ats_lists::ListLeaves;
 use ats_terms::Query;
-use ats_tree::{HashedString, Place, Tree};
+use ats_tree::{HashedString, Place, ShownTree, Tree};
 
 impl<H: Hash32> Index<H> {
     /// The string at a place in the archive's own trees. There is none if the path leaves the tree, if no text has the
@@ -97,44 +97,57 @@ impl<H: Hash32> Index<H> {
             .string_at::<H, _>(leaves, place.depth, place.turns)
     }
 
-    // Whether what is shown of a term's list is its own.
-    fn has_entries<S: ShownTree>(&self, term: &[u8], n: u32, shown: &mut S) -> bool
+    // Whether what is shown is of the tree of a term's list.
+    fn has_entries<S: ShownTree>(
+        &self,
+        term: &[u8],
+        n: u32,
+        shown: &mut S,
+        steps: &mut Steps,
+    ) -> bool
         requires short { All (λ s. length s.1 ≤ 127) (S.shown shown.old) }
-        ensures { IsTrue result → All (IsOurs (list_string H.hash self.now.layout (list self.now.texts term.now)))
-            (node_strings H.hash n (S.shown shown.old) (S.digests shown.old)) }
+        requires room { steps.old ≤ 2 ^ 63 }
+        ensures { IsTrue result ↔ IsOwnShown H.hash (map leaf_bytes (list self.now.texts term.now)) n
+            (S.shown shown.old) (S.digests shown.old) }
     {
         let lists = self.lists();
         match lists.find(term) {
             Some(i) => {
-                let entries = lists.list(i);
-                let leaves = ListLeaves { entries };
-                is_own::<H, _, S>(self.alloc, self.list_nodes(i), &leaves, n, shown)
+                let leaves = ListLeaves {
+                    entries: lists.list(i),
+                };
+                self.list_nodes(i)
+                    .has_shown::<H, _, S>(&leaves, n, shown, steps)
             }
             None => false,
         }
     }
 
-    // Whether what is shown of the documents tree is its own.
-    fn has_documents<S: ShownTree>(&self, n: u32, shown: &mut S) -> bool
+    // Whether what is shown is of the tree of all documents.
+    fn has_documents<S: ShownTree>(&self, n: u32, shown: &mut S, steps: &mut Steps) -> bool
         requires short { All (λ s. length s.1 ≤ 127) (S.shown shown.old) }
-        ensures { IsTrue result → All (IsOurs (own_string H.hash self.now [] DocumentsTree))
-            (node_strings H.hash n (S.shown shown.old) (S.digests shown.old)) }
+        requires room { steps.old ≤ 2 ^ 63 }
+        ensures { IsTrue result ↔ IsOwnShown H.hash (documents_of H.hash self.now.texts) n
+            (S.shown shown.old) (S.digests shown.old) }
     {
         let leaves = DocLeaves {
             leaves: self.doc_leaves(),
         };
-        is_own::<H, _, S>(self.alloc, self.docs_nodes(), &leaves, n, shown)
+        self.docs_nodes()
+            .has_shown::<H, _, S>(&leaves, n, shown, steps)
     }
 
-    // Whether what is shown of a document's terms is its own.
-    fn has_terms<S: ShownTree>(&self, doc: u32, n: u32, shown: &mut S) -> bool
+    // Whether what is shown is of the tree of a document's terms.
+    fn has_terms<S: ShownTree>(&self, doc: u32, n: u32, shown: &mut S, steps: &mut Steps) -> bool
         requires short { All (λ s. length s.1 ≤ 127) (S.shown shown.old) }
-        ensures { IsTrue result → All (IsOurs (own_string H.hash self.now [] (TermsTree doc)))
-            (node_strings H.hash n (S.shown shown.old) (S.digests shown.old)) }
+        requires room { steps.old ≤ 2 ^ 63 }
+        ensures { IsTrue result ↔ IsOwnShown H.hash (own_leaves H.hash self.now [] (TermsTree doc)) n
+            (S.shown shown.old) (S.digests shown.old) }
     {
         if doc < self.collection().documents() {
             let leaves = self.doc_terms(doc);
-            is_own::<H, _, S>(self.alloc, self.doc_nodes(doc), leaves, n, shown)
+            self.doc_nodes(doc)
+                .has_shown::<H, _, S>(leaves, n, shown, steps)
         } else {
             false
         }
@@ -149,15 +162,22 @@ impl<H: Hash32> OwnStrings<H> for Index<H> {
     }
 
     fn has_shown<S: ShownTree>(&self, tree: Tree, n: u32, query: &Query, shown: &mut S) -> bool {
+        let mut steps = Steps::new(self.alloc);
         match tree {
             Tree::Header => false,
             Tree::Dictionary => {
                 let leaves = self.dictionary();
-                is_own::<H, _, S>(self.alloc, self.dict_nodes(), leaves, n, shown)
+                self.dict_nodes()
+                    .has_shown::<H, _, S>(leaves, n, shown, &mut steps)
             }
-            Tree::List { term } => self.has_entries(query.term(term as usize), n, shown),
-            Tree::Documents => self.has_documents(n, shown),
-            Tree::Terms { doc } => self.has_terms(doc, n, shown),
+            Tree::List { term } => self.has_entries(
+                query.term(term as usize),
+                n,
+                shown,
+                &mut steps,
+            ),
+            Tree::Documents => self.has_documents(n, shown, &mut steps),
+            Tree::Terms { doc } => self.has_terms(doc, n, shown, &mut steps),
         }
     }
 }

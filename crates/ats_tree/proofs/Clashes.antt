@@ -6,9 +6,9 @@ use Rattle.std.specs.Str.{bytes_eq}
 use Rattle.std.proofs.Math.Nat.{two-pow-succ, mod-eq_of_lt}
 use Rattle.std.proofs.Math.Pow.{pow_mono}
 use Rattle.std.proofs.Math.Seq.{take-length}
-use Rattle.std.proofs.lemmas.Bool.{cond-true, cond-false, cases_lt, cases_Bool, lt-ltb, le-ltb, or_left}
+use Rattle.std.proofs.lemmas.Bool.{cond-true, cond-false, cases_lt, cases_Bool, or_left}
 use Rattle.std.proofs.lemmas.List.{length-append, length-drop, take-take, drop-take, append-nil, map-append}
-use Rattle.std.proofs.lemmas.List.Elements.{All-head, All-tail}
+use Rattle.std.proofs.lemmas.List.Elements.{All-head}
 use Rattle.std.proofs.lemmas.Slice.Eq.{bytes_eq-Decides}
 use Rattle.ats_tree.specs.Tree.{Tree, empty, leaf, node, tree_of, IsPowerOfTwo}
 use Rattle.ats_tree.specs.Shown.{Shown, places, first_position, first_leaf}
@@ -264,15 +264,6 @@ clash-bare H ours path from n shown ds rises =
 pub first-short : (shown : List Shown) (at : ℕ) → first_position shown ≡ Some at → All (λ (s : Shown). length s.1 ≤ 127) shown → length (first_leaf shown) ≤ 127
 first-short [] at first short = absurd (cc)
 first-short (s ∷ rest) at first short = All-head (λ (s : Shown). length s.1 ≤ 127) s rest short
-
-pub short-from : (b : ℕ) (shown : List Shown) → All (λ (s : Shown). length s.1 ≤ 127) shown → All (λ (s : Shown). length s.1 ≤ 127) (shown_from b shown)
-short-from b [] short = short
-short-from b (s ∷ rest) short =
-    let P : List Shown → Type 0 = All (λ (s : Shown). length s.1 ≤ 127)
-    in elim (cases_lt s.0 b) [
-      | inl less ↦ subst P (sym (cond-true _ _ _ (lt-ltb s.0 b less))) (short-from b rest (All-tail (λ (s : Shown). length s.1 ≤ 127) s rest short))
-      | inr more ↦ subst P (sym (cond-false _ _ _ (le-ltb s.0 b more))) short
-    ]
 
 -- the right part has the digests that it needs
 pub right-enough : (H : List ℕ → List ℕ) (from k n : ℕ) (shown shown₁ : List Shown) (ds ds₁ : List (List ℕ)) (l : List ℕ)

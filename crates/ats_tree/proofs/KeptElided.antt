@@ -5,11 +5,11 @@ use Rattle.std.proofs.Math.Seq.{drop-append_seam}
 use Rattle.std.proofs.lemmas.Bool.{cond-true, cond-false, cases_lt, cases_eq, cases_Bool, eq-eqb, ne_eqb}
 use Rattle.std.proofs.lemmas.List.{append-nil, append_assoc, take_all, length-drop, drop-drop, get_or-drop, length-map, map-append, take-map, drop-map}
 use Rattle.ats_tree.specs.Tree.{Tree, empty, leaf, node, tree_within, tree_of, IsPowerOfTwo}
-use Rattle.ats_tree.specs.Shown.{Shown, shown_at, places}
-use Rattle.ats_tree.specs.Part.{shown_from, RisesWithin}
-use Rattle.ats_tree.specs.Rebuild.{is_bare, tree_of_places}
+use Rattle.ats_tree.specs.Shown.{Shown, positions_of, shown_at, places}
+use Rattle.ats_tree.specs.Part.{RisesFrom, shown_from, RisesWithin}
+use Rattle.ats_tree.specs.Rebuild.{is_bare}
 use Rattle.ats_tree.specs.Elided.{shown_with, elided_of, elided_digests}
-use Rattle.ats_tree.specs.Kept.{digests_of, kept_digests, nodes_in, elided_places, digests_at, elided_kept}
+use Rattle.ats_tree.specs.Kept.{digests_of, kept_digests, nodes_in, elided_places, digests_at, elided_part, elided_kept}
 use Rattle.ats_tree.proofs.Trees.{within-cut, within-suc, of-one, bare-of}
 use Rattle.ats_tree.proofs.Places.{length-places, places-none, places-one}
 use Rattle.ats_tree.proofs.Parts.{HasLeaf, has_leaf-of, IsCut, is_cut}
@@ -59,59 +59,73 @@ places-bare at empty has bare = absurd has
 places-bare at (leaf o) has bare = cond-true _ _ _ bare
 places-bare at (node l r) has bare = cond-true _ _ _ bare
 
--- no position among the places
-pub kept-none : (ds items : List (List ℕ)) (from n : ℕ) (ps : List ℕ) → 1 ≤ n → length ps ≡ 0
-    → digests_at ds (elided_places 0 (tree_of (places from n (shown_with items ps)))) ≡ get_or ds 0 [] ∷ []
-kept-none ds items from n [] some none =
-    let many : 0 < length (places from n []) = omega (arith, length-places from n [])
+-- no shown leaf among the places
+pub part-none : (ds : List (List ℕ)) (from n : ℕ) (shown : List Shown) → 1 ≤ n → RisesFrom (from + n) shown
+    → elided_part ds from n shown ≡ get_or ds 0 [] ∷ []
+part-none ds from n shown some rises =
+    let many : 0 < length (places from n shown) = omega (arith, length-places from n shown)
     in ap (digests_at ds)
-    (places-bare 0 _ (has_leaf-of (places from n []) many) (bare-of (places from n []) ∙ places-none from n [] tt))
+    (places-bare 0 _ (has_leaf-of (places from n shown) many) (bare-of (places from n shown) ∙ places-none from n shown rises))
+
+-- one place, which is shown
+pub part-one : (ds : List (List ℕ)) (from n : ℕ) (s : Shown) (rest : List Shown) → n ≡ 1 → from ≤ s.0 → s.0 < from + n
+    → elided_part ds from n (s ∷ rest) ≡ []
+part-one ds from n s rest one low high =
+    let high' : s.0 < from + 1 = omega arith
+    in let t : tree_of (places from n (s ∷ rest)) ≡ leaf (Some s.1) =
+    rw one (ap tree_of (places-one from s rest low high') ∙ of-one _)
+    in ap (λ t. digests_at ds (elided_places 0 t)) t
+
+-- two parts
+pub part-cut : (ds : List (List ℕ)) (from k n : ℕ) (shown : List Shown) → IsCut from k n shown → 1 ≤ k
+    → elided_part ds from n shown
+    ≡ elided_part (drop 1 ds) from k shown ++ elided_part (drop (2 * k) ds) (from + k) (n - k) (shown_from (from + k) shown)
+part-cut ds from k n shown c some =
+    let l : Tree (Option (List ℕ)) = tree_of (places from k shown)
+    in let r : Tree (Option (List ℕ)) = tree_of (places (from + k) (n - k) (shown_from (from + k) shown))
+    in let many : 1 ≤ length (places from k shown) = omega (arith, length-places from k shown)
+    in let count : nodes_in l + 1 ≡ 2 * k = omega (arith, nodes-of (places from k shown) many, length-places from k shown)
+    in let second : 0 + 1 + nodes_in l ≡ 2 * k + 0 = omega arith
+    in let left : digests_at ds (elided_places (0 + 1) l) ≡ digests_at (drop 1 ds) (elided_places 0 l) = shifted ds 1 0 l
+    in let right : digests_at ds (elided_places (0 + 1 + nodes_in l) r) ≡ digests_at (drop (2 * k) ds) (elided_places 0 r) =
+    ap (λ (i : ℕ). digests_at ds (elided_places i r)) second ∙ shifted ds (2 * k) 0 r
+    in ap (λ t. digests_at ds (elided_places 0 t)) c.tree
+    ∙ ap (digests_at ds) (cond-false _ _ _ c.shows)
+    ∙ map-append _ (elided_places (0 + 1) l) (elided_places (0 + 1 + nodes_in l) r)
+    ∙ ap₂ ◌++◌ left right
+
+-- ---- the same of positions
+
+-- none among the places
+pub kept-none : (ds items : List (List ℕ)) (from n : ℕ) (ps : List ℕ) → 1 ≤ n → length ps ≡ 0
+    → elided_part ds from n (shown_with items ps) ≡ get_or ds 0 [] ∷ []
+kept-none ds items from n [] some none = part-none ds from n [] some tt
 kept-none ds items from n (p ∷ ps) some none = absurd (omega arith)
 
 -- one place, which is shown
 pub kept-shown : (ds items : List (List ℕ)) (from n : ℕ) (ps : List ℕ) → n ≡ 1 → 0 < length ps → RisesWithin from (from + n) ps
-    → digests_at ds (elided_places 0 (tree_of (places from n (shown_with items ps)))) ≡ []
+    → elided_part ds from n (shown_with items ps) ≡ []
 kept-shown ds items from n [] one some rises = absurd (omega arith)
 kept-shown ds items from n (p ∷ ps) one some rises =
-    let low : from ≤ p = rises.0
-    in let high : p < from + n = rises.1
-    in let high' : p < from + 1 = omega arith
-    in let t : tree_of (places from n (shown_with items (p ∷ ps))) ≡ leaf (Some (get_or items p [])) =
-    rw one (ap tree_of (places-one from (p, get_or items p []) (shown_with items ps) low high') ∙ of-one _)
-    in ap (λ s. digests_at ds (elided_places 0 s)) t
+    part-one ds from n (p, get_or items p []) (shown_with items ps) one rises.0 rises.1
 
 -- two parts
 pub kept-parts : (ds items : List (List ℕ)) (from k n m : ℕ) (ps : List ℕ) → m ≡ prefix_len (λ p. nat_lt p (from + k)) ps
     → IsPowerOfTwo k → 1 ≤ k → k < n → n ≤ 2 * k → 0 < length ps → RisesWithin from (from + n) ps
-    → digests_at ds (elided_places 0 (tree_of (places from n (shown_with items ps))))
-    ≡ digests_at (drop 1 ds) (elided_places 0 (tree_of (places from k (shown_with items (take m ps)))))
-    ++ digests_at (drop (2 * k) ds) (elided_places 0 (tree_of (places (from + k) (n - k) (shown_with items (drop m ps)))))
+    → elided_part ds from n (shown_with items ps)
+    ≡ elided_part (drop 1 ds) from k (shown_with items (take m ps))
+    ++ elided_part (drop (2 * k) ds) (from + k) (n - k) (shown_with items (drop m ps))
 kept-parts ds items from k n m [] is power part below largest some rises = absurd (omega arith)
 kept-parts ds items from k n m (p ∷ ps) is power part below largest some rises =
     let shown : List Shown = shown_with items (p ∷ ps)
     in let c : IsCut from k n shown =
     is_cut from k n p shown power below largest (rises-with items from (from + n) (p ∷ ps) rises) refl rises.1
     in let reach : from + k ≤ from + k = omega arith
-    in let l : Tree (Option (List ℕ)) = tree_of (places from k shown)
-    in let r : Tree (Option (List ℕ)) = tree_of (places (from + k) (n - k) (shown_from (from + k) shown))
-    in let many : 1 ≤ length (places from k shown) = omega (arith, length-places from k shown)
-    in let count : nodes_in l + 1 ≡ 2 * k = omega (arith, nodes-of (places from k shown) many, length-places from k shown)
-    in let second : 0 + 1 + nodes_in l ≡ 2 * k + 0 = omega arith
-    in let front : l ≡ tree_of (places from k (shown_with items (take m (p ∷ ps)))) =
-    ap tree_of (sym (places-front items from (from + n) (from + k) m from k (p ∷ ps) is rises reach))
-    in let back : r ≡ tree_of (places (from + k) (n - k) (shown_with items (drop m (p ∷ ps)))) =
-    ap (λ s. tree_of (places (from + k) (n - k) s)) (shown-back items from (from + n) (from + k) m (p ∷ ps) is rises)
-    in let left : digests_at ds (elided_places (0 + 1) l)
-    ≡ digests_at (drop 1 ds) (elided_places 0 (tree_of (places from k (shown_with items (take m (p ∷ ps)))))) =
-    shifted ds 1 0 l ∙ ap (λ t. digests_at (drop 1 ds) (elided_places 0 t)) front
-    in let right : digests_at ds (elided_places (0 + 1 + nodes_in l) r)
-    ≡ digests_at (drop (2 * k) ds) (elided_places 0 (tree_of (places (from + k) (n - k) (shown_with items (drop m (p ∷ ps)))))) =
-    ap (λ (i : ℕ). digests_at ds (elided_places i r)) second ∙ shifted ds (2 * k) 0 r
-    ∙ ap (λ t. digests_at (drop (2 * k) ds) (elided_places 0 t)) back
-    in ap (λ t. digests_at ds (elided_places 0 t)) c.tree
-    ∙ ap (digests_at ds) (cond-false _ _ _ c.shows)
-    ∙ map-append _ (elided_places (0 + 1) l) (elided_places (0 + 1 + nodes_in l) r)
-    ∙ ap₂ ◌++◌ left right
+    in part-cut ds from k n shown c part
+    ∙ ap₂ ◌++◌
+    (ap (λ os. digests_at (drop 1 ds) (elided_places 0 (tree_of os)))
+    (sym (places-front items from (from + n) (from + k) m from k (p ∷ ps) is rises reach)))
+    (ap (elided_part (drop (2 * k) ds) (from + k) (n - k)) (shown-back items from (from + n) (from + k) m (p ∷ ps) is rises))
 
 -- ---- the bytes of shown leaves play no part
 
@@ -164,33 +178,38 @@ within-blank (suc h) os =
           in within-suc h (map blank os) few' ∙ within-blank h os ∙ sym (ap blank_tree (within-suc h os few))
     ]
 
-blank-at : (items : List (List ℕ)) (ps : List ℕ) (i : ℕ) → shown_at (shown_with [] ps) i ≡ blank (shown_at (shown_with items ps) i)
+blank-at : (shown : List Shown) (i : ℕ) → shown_at (shown_with [] (positions_of shown)) i ≡ blank (shown_at shown i)
 unfolding blank
-blank-at items [] i = refl
-blank-at items (p ∷ ps) i =
-    elim (cases_eq p i) [
-      | inl same ↦ cond-true (eqb p i) _ _ (eq-eqb p i same) ∙ sym (ap blank (cond-true (eqb p i) _ _ (eq-eqb p i same)))
+blank-at [] i = refl
+blank-at (s ∷ rest) i =
+    elim (cases_eq s.0 i) [
+      | inl same ↦ cond-true (eqb s.0 i) _ _ (eq-eqb s.0 i same) ∙ sym (ap blank (cond-true (eqb s.0 i) _ _ (eq-eqb s.0 i same)))
       | inr other ↦
-          cond-false (eqb p i) _ _ (ne_eqb p i other) ∙ blank-at items ps i
-          ∙ sym (ap blank (cond-false (eqb p i) _ _ (ne_eqb p i other)))
+          cond-false (eqb s.0 i) _ _ (ne_eqb s.0 i other)
+          ∙ blank-at rest i
+          ∙ sym (ap blank (cond-false (eqb s.0 i) _ _ (ne_eqb s.0 i other)))
     ]
 
-blank-places : (items : List (List ℕ)) (ps : List ℕ) (from n : ℕ)
-    → places from n (shown_with [] ps) ≡ map blank (places from n (shown_with items ps))
-blank-places items ps from zero = refl
-blank-places items ps from (suc n) = ap₂ ◌∷◌ (blank-at items ps from) (blank-places items ps (from + 1) n)
+blank-places : (shown : List Shown) (from n : ℕ) → places from n (shown_with [] (positions_of shown)) ≡ map blank (places from n shown)
+blank-places shown from zero = refl
+blank-places shown from (suc n) = ap₂ ◌∷◌ (blank-at shown from) (blank-places shown (from + 1) n)
 
--- where the subtrees stand, whatever the leaves are
-blank-elided : (items : List (List ℕ)) (ps : List ℕ) (n at : ℕ)
-    → elided_places at (tree_of_places n (shown_with [] ps)) ≡ elided_places at (tree_of_places n (shown_with items ps))
+-- the digests of the subtrees, whatever the leaves are
+pub part-blank : (ds : List (List ℕ)) (from n : ℕ) (shown : List Shown)
+    → elided_part ds from n (shown_with [] (positions_of shown)) ≡ elided_part ds from n shown
 unfolding tree_of
-blank-elided items ps n at =
-    let os : List (Option (List ℕ)) = places 0 n (shown_with items ps)
-    in let blanks : List (Option (List ℕ)) = places 0 n (shown_with [] ps)
-    in let size : length blanks ≡ length os = length-places 0 n (shown_with [] ps) ∙ sym (length-places 0 n (shown_with items ps))
-    in ap (elided_places at)
-    (ap₂ (λ (h : ℕ) (xs : List (Option (List ℕ))). tree_within h xs) size (blank-places items ps 0 n) ∙ within-blank (length os) os)
-    ∙ places-blank at (tree_of os)
+part-blank ds from n shown =
+    let os : List (Option (List ℕ)) = places from n shown
+    in let blanks : List Shown = shown_with [] (positions_of shown)
+    in let size : length (places from n blanks) ≡ length os = length-places from n blanks ∙ sym (length-places from n shown)
+    in ap (digests_at ds)
+    (ap (elided_places 0)
+    (ap₂ (λ (h : ℕ) (xs : List (Option (List ℕ))). tree_within h xs) size (blank-places shown from n) ∙ within-blank (length os) os)
+    ∙ places-blank 0 (tree_of os))
+
+place-of : (items : List (List ℕ)) (ps : List ℕ) → positions_of (shown_with items ps) ≡ ps
+place-of items [] = refl
+place-of items (p ∷ ps) = ap (λ (more : List ℕ). p ∷ more) (place-of items ps)
 
 -- ---- the digests of a list
 
@@ -250,6 +269,9 @@ pub kept-elided : (H : List ℕ → List ℕ) (leaves : List (List ℕ)) (ps : L
 kept-elided H leaves ps some =
     let ds : List (List ℕ) = kept_digests H leaves
     in let number : length ds / 2 + 1 ≡ length leaves = omega (arith, length-kept H leaves some)
-    in ap (λ (n : ℕ). digests_at ds (elided_places 0 (tree_of_places n (shown_with [] ps)))) number
-    ∙ ap (digests_at ds) (blank-elided leaves ps (length leaves) 0)
+    in let blanks : List Shown = shown_with [] ps
+    in let same : shown_with [] (positions_of (shown_with leaves ps)) ≡ blanks = ap (shown_with []) (place-of leaves ps)
+    in ap (λ (n : ℕ). elided_part ds 0 n blanks) number
+    ∙ ap (elided_part ds 0 (length leaves)) (sym same)
+    ∙ part-blank ds 0 (length leaves) (shown_with leaves ps)
     ∙ elided-there H _ (tree_of leaves) ds [] 0 (shown-shape leaves ps) (sym (append-nil ds))

@@ -1,12 +1,15 @@
 -- The strings that are hashed from shown leaves of a tree and the digests that they need are the tree's own.
-use Rattle.std.proofs.Common.{◌≡◌, ℕ, List, [], ◌∷◌, ◌++◌, length, map, true, false, ◌&&◌, refl, sym, ◌∙◌, ap, ap₂, inl, inr, Option, Some, None, subst, IfSome, All}
+use Rattle.std.proofs.Common.{◌≡◌, ℕ, List, [], ◌∷◌, ◌++◌, length, map, true, false, ◌&&◌, refl, sym, ◌∙◌, ap, ap₂, inl, inr, Option, Some, None, subst, get_or, slice_get, IfSome, All}
 use Rattle.std.proofs.lemmas.Bool.{cond-true, cond-false, cases_Bool, or_left}
 use Rattle.std.proofs.lemmas.List.{take_at, drop_at}
 use Rattle.std.proofs.lemmas.List.Elements.{All-append, All-map, All-nil, All-cons, All-head, All-tail}
 use Rattle.std.proofs.lemmas.Slice.Eq.{bytes_eq-Decides}
+use Rattle.std.proofs.lemmas.Option.{get_or_from_slice_get}
 use Rattle.ats_tree.specs.Tree.{Tree, empty, leaf, node, tree_of}
+use Rattle.ats_tree.specs.Shown.{Shown, positions_of}
 use Rattle.ats_tree.specs.Rebuild.{is_bare, need, digest_with, tree_of_places}
 use Rattle.ats_tree.specs.Elided.{shown_with, elided_of, elided_digests}
+use Rattle.ats_tree.specs.OwnShown.{IsOwnShown}
 use Rattle.ats_tree.specs.Paths.{Path}
 use Rattle.ats_tree.specs.Nodes.{by_path}
 use Rattle.ats_tree.specs.Differences.{Hashed, moved, Difference, IsOurs, collision_or, first_collision}
@@ -51,6 +54,25 @@ pub own-strings : (H : List ℕ → List ℕ) (leaves : List (List ℕ)) (positi
 own-strings H leaves positions =
     All-map (IsOurs (node_string H leaves)) (moved by_path) (strings H (tree_of_places (length leaves) (shown_with leaves positions)) (elided_digests H leaves positions))
     (elided-strings H (tree_of_places (length leaves) (shown_with leaves positions)) (tree_of leaves) (shown-shape leaves positions) (shown-agrees leaves positions))
+
+-- leaves that are a list's own are the list's at their positions
+own-leaves : (leaves : List (List ℕ)) (shown : List Shown) → All (λ s. slice_get leaves s.0 ≡ Some s.1) shown
+    → shown ≡ shown_with leaves (positions_of shown)
+own-leaves leaves [] own = refl
+own-leaves leaves (s ∷ rest) own =
+    let Own : Shown → Type 0 = λ s. slice_get leaves s.0 ≡ Some s.1 in
+    let here : s.1 ≡ get_or leaves s.0 [] = sym (get_or_from_slice_get leaves s.0 s.1 [] (All-head Own s rest own)) in
+    ap₂ (λ (x : List ℕ) (more : List Shown). (s.0, x) ∷ more) here (own-leaves leaves rest (All-tail Own s rest own))
+
+-- what is hashed from what is shown of a tree, if that is the tree's own, is the tree's own too
+pub own-shown : (H : List ℕ → List ℕ) (leaves : List (List ℕ)) (n : ℕ) (shown : List Shown) (digests : List (List ℕ))
+    → IsOwnShown H leaves n shown digests → All (IsOurs (node_string H leaves)) (node_strings H n shown digests)
+own-shown H leaves n shown digests is =
+    let Own : ℕ → List Shown → List (List ℕ) → Type 0 = λ m ss ds. All (IsOurs (node_string H leaves)) (node_strings H m ss ds) in
+    subst (λ (ss : List Shown). Own n ss digests) (sym (own-leaves leaves shown is.own))
+    (subst (λ (ds : List (List ℕ)). Own n (shown_with leaves (positions_of shown)) ds) (sym is.needed)
+    (subst (λ (m : ℕ). Own m (shown_with leaves (positions_of shown)) (elided_digests H leaves (positions_of shown))) is.number
+    (own-strings H leaves (positions_of shown))))
 
 own-step : {P : Type 0} (H : List ℕ → List ℕ) (o : Option (List ℕ)) (s : Hashed P) (later : Option (Difference P)) → IfSome o (λ own. own ≡ s.text)
     → later ≡ None → collision_or H o s later ≡ None

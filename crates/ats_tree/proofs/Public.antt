@@ -52,5 +52,7 @@ pub use Rattle.ats_tree.proofs.Clashes.{collision-moved}
 pub use Rattle.ats_tree.proofs.OwnStrings.{own-none}
 -- the strings hashed in rebuilding from a tree's own leaves and elided digests are the tree's own
 pub use Rattle.ats_tree.proofs.OwnStrings.{own-strings}
+-- the strings hashed in rebuilding from what is shown of a tree, if that is the tree's own, are the tree's own
+pub use Rattle.ats_tree.proofs.OwnStrings.{own-shown}
 -- a tree of n leaves has 2n - 1 kept digests if n is at least 1
 pub use Rattle.ats_tree.proofs.KeptLemmas.{length-kept}

@@ -1,7 +1,8 @@
 -- The digests of all nodes of a tree, as they are kept.
 use Rattle.std.specs.Prelude.{◌≡◌, ℕ, ◌+◌, ◌/◌, ◌^◌, ◌%◌, ◌<◌, List, [], ◌∷◌, ◌++◌, length, map, ◌&&◌, if◌then◌else◌, Option, is_none, slice_index_or, All}
 use Rattle.ats_tree.specs.Tree.{Tree, empty, leaf, node, tree_of, digest_of}
-use Rattle.ats_tree.specs.Rebuild.{is_bare, tree_of_places}
+use Rattle.ats_tree.specs.Shown.{Shown, places}
+use Rattle.ats_tree.specs.Rebuild.{is_bare}
 use Rattle.ats_tree.specs.Elided.{shown_with}
 
 -- the digests of all nodes in pre-order: a node, its left part, its right part
@@ -34,10 +35,14 @@ elided_places at (node l r) =
 abbrev pub digests_at : List (List ℕ) → List ℕ → List (List ℕ)
 digests_at digests places = map (λ at. slice_index_or digests at []) places
 
--- of the digests of 2n - 1 nodes those at the places of the maximal subtrees of n leaves that hold none of these positions
+-- of these digests, which begin with those of the nodes of the n places from position `from` on, those at the places of
+-- the maximal subtrees with no shown leaf
+abbrev pub elided_part : List (List ℕ) → ℕ → ℕ → List Shown → List (List ℕ)
+elided_part digests from n shown = digests_at digests (elided_places 0 (tree_of (places from n shown)))
+
+-- of the digests of 2n - 1 nodes those of the maximal subtrees of n leaves that hold none of these positions
 abbrev pub elided_kept : List (List ℕ) → List ℕ → List (List ℕ)
-elided_kept digests positions =
-    digests_at digests (elided_places 0 (tree_of_places (length digests / 2 + 1) (shown_with [] positions)))
+elided_kept digests positions = elided_part digests 0 (length digests / 2 + 1) (shown_with [] positions)
 
 -- digests of 32 bytes, in the number of the nodes of a tree of 1 to 2 ^ 31 leaves
 pub record IsNodeList (digests : List (List ℕ)) : Type 0 where

@@ -1,16 +1,17 @@
 //! The digests of all nodes of a tree, kept, so that showing them needs no hashing.
 
-ghost use Rattle.std.specs.Prelude.{◌≡◌, ℕ, ◌+◌, ◌*◌, ◌^◌, ◌<◌, ◌≤◌, List, [], ◌++◌, length, take, drop, All, Some, IfOk, OnOk, OnErr, slice_get};
+ghost use Rattle.std.specs.Prelude.{◌≡◌, ℕ, ◌+◌, ◌*◌, ◌^◌, ◌<◌, ◌≤◌, ◌↔◌, List, [], ◌++◌, length, take, drop, All, Some, IsTrue, IfOk, OnOk, OnErr, slice_get};
 ghost use Rattle.std.specs.List.Sorted.{IsStrictlyIncreasing};
-ghost use Rattle.ats_tree.specs.Tree.{mth, tree_of};
-ghost use Rattle.ats_tree.specs.Shown.{places};
+ghost use Rattle.ats_tree.specs.Tree.{mth};
 ghost use Rattle.ats_tree.specs.Elided.{shown_with, elided_digests};
-ghost use Rattle.ats_tree.specs.Kept.{kept_digests, elided_places, digests_at, elided_kept, IsNodeList};
+ghost use Rattle.ats_tree.specs.Kept.{kept_digests, elided_part, elided_kept, IsNodeList};
 ghost use Rattle.ats_tree.specs.Nodes.{by_path};
+ghost use Rattle.ats_tree.specs.OwnShown.{IsOwnShown};
 ghost use Rattle.ats_tree.specs.Part.{RisesWithin};
 ghost use Rattle.ats_tree.specs.Paths.{path_of};
 ghost use Rattle.ats_tree.specs.Strings.{node_string};
 
+use crate::comparing::begins_with_part;
 use crate::cut::cut_of;
 use crate::digests::{Digests, OutOfMemory};
 use crate::eliding::count_below;
@@ -18,6 +19,7 @@ use crate::hashed_string::HashedString;
 use crate::hashing::Leaves;
 use crate::keeping_by_threads::keep_by_threads;
 use crate::node_strings::{ShortLeaves, string_of_part};
+use crate::shown_tree::ShownTree;
 use ats_hash::{Hash32, HashKind, Steps};
 use std::alloc::Global;
 use std::marker::Model;
@@ -111,6 +113,33 @@ impl Nodes {
         outcome
     }
 
+    /// Whether what is shown of a tree of `n` leaves is this tree's own, whose leaves these are. It only compares: nothing
+    /// is hashed, and no memory is taken. What is left in `shown` afterwards is any.
+    pub fn has_shown<H: HashKind, L: ShortLeaves, S: ShownTree>(
+        &self,
+        leaves: &L,
+        n: u32,
+        shown: &mut S,
+        steps: &mut Steps,
+    ) -> bool
+        requires kept { self.now ≡ kept_digests H.hash (L.items leaves.now) }
+        requires short { All (λ s. length s.1 ≤ 127) (S.shown shown.old) }
+        requires room { steps.old ≤ 2 ^ 63 }
+        ensures exact { IsTrue result
+            ↔ IsOwnShown H.hash (L.items leaves.now) n (S.shown shown.old) (S.digests shown.old) }
+        ensures cost { steps.new ≤ steps.old + n + 1 }
+    {
+        if self.len() / 2 + 1 != n {
+            return false;
+        }
+        // Positions rise.
+        let _first = shown.position();
+        if !begins_with_part(self.digests.as_slice(), leaves, 0, n, shown, steps) {
+            return false;
+        }
+        shown.position().is_none() && shown.take_digest(steps).is_none()
+    }
+
     /// The string that is hashed at the node to which `depth` turns lead from the root of the tree of the leaves, if
     /// there is such a node. The lowest binary digits of `turns` are the turns, highest first: 0 is left and 1 is
     /// right. It allocates nothing and hashes nothing.
@@ -180,8 +209,7 @@ fn elide_kept(
     requires sized { All (λ d. length d ≡ 32) digests.now }
     requires ends { from + n < 2 ^ 32 }
     requires rising { RisesWithin from (from + n) positions.now }
-    ensures ok { OnOk result (out.new ≡ out.old ++ digests_at digests.now
-        (elided_places 0 (tree_of (places from n (shown_with [] positions.now))))) }
+    ensures ok { OnOk result (out.new ≡ out.old ++ elided_part digests.now from n (shown_with [] positions.now)) }
     ensures front { take (length out.old) out.new ≡ out.old }
 {
     if positions.is_empty() {

@@ -2,6 +2,7 @@ use Rattle.std.proofs.Common.{None, sym}
 use Rattle.ats_tree.specs.Strings.{node_strings}
 use Rattle.ats_tree.proofs.Public.{own-none}
 use Rattle.ats_commit.specs.Ours.{ours}
+use Rattle.ats_commit.proofs.Public.{shown_are_ours}
 use Rattle.ats_client.specs.Strings.{in_tree}
 use Rattle.ats_client.proofs.Sections.{in_one_tree}
 use Rattle.ats_client.proofs.clashing.in_tree.Goals as goal
@@ -20,4 +21,5 @@ returns-then-has_shown-clause-clash g c =
     let own = ours H (g.O.OwnStrings.archive c.args.own.now) c.args.query.now in
     let strings = node_strings H c.args.leaves (g.R.Revealed.shown c.args.revealed.now) (g.R.Revealed.digests c.args.revealed.now) in
     in_one_tree H own c.args.tree strings None
-    (sym (own-none H (λ node. own (in_tree c.args.tree node)) strings (c.has_shown.ensures c.if-has_shown.true)))
+    (sym (own-none H (λ node. own (in_tree c.args.tree node)) strings
+    (shown_are_ours H (g.O.OwnStrings.archive c.args.own.now) c.args.query.now c.args.tree _ _ _ (c.has_shown.ensures.0 c.if-has_shown.true))))

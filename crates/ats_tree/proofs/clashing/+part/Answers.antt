@@ -1,8 +1,9 @@
-use Rattle.std.proofs.Common.{rules, arith, sym, ◌+◌}
+use Rattle.std.proofs.Common.{rules, arith, sym, length, ◌+◌, ◌≤◌}
+use Rattle.ats_tree.specs.Shown.{Shown}
 use Rattle.ats_tree.specs.Part.{RisesFrom}
 use Rattle.ats_tree.proofs.Parts.{IsCut, is_cut, need-cut, node-part, leaf-part, bare-part, bare-short, rises_none, rises_past}
-use Rattle.ats_tree.proofs.Places.{rises-from}
-use Rattle.ats_tree.proofs.Clashes.{first_of_two, path-left, path-right, left-placed, right-placed, turns-fit, clash-node, clash-leaf, clash-bare, first-short, short-from, right-enough}
+use Rattle.ats_tree.proofs.Places.{All-from, rises-from}
+use Rattle.ats_tree.proofs.Clashes.{first_of_two, path-left, path-right, left-placed, right-placed, turns-fit, clash-node, clash-leaf, clash-bare, first-short, right-enough}
 use Rattle.ats_tree.proofs.clashing.+part.Goals as goal
 use Rattle.ats_tree.proofs.clashing.+part.Goals.{in_default-via-in-Some+else-at-from, in_default-via-in_default}
 
@@ -90,7 +91,7 @@ part-right-requires g t c κs within =
                     (
                       right-enough g.H.HashKind.hash c.args.from c.cut_of-k.result c.args.n (g.F.Feed.leaves c.args.feed.now) (g.F.Feed.leaves c.part-left.new.feed) (g.F.Feed.others c.args.feed.now)
                           (g.F.Feed.others c.part-left.new.feed) c.part-left.result.digest cut left c.requires.enough,
-                      (rw left.leaves_left (short-from (c.args.from + c.cut_of-k.result) _ c.requires.short), omega (arith, c.part-left.ensures.cost, c.requires.room)),
+                      (rw left.leaves_left (All-from (λ (s : Shown). length s.1 ≤ 127) (c.args.from + c.cut_of-k.result) _ c.requires.short), omega (arith, c.part-left.ensures.cost, c.requires.room)),
                     ),
                   ),
                 ),

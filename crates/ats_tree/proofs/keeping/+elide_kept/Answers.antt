@@ -1,13 +1,11 @@
-use Rattle.std.proofs.Common.{◌≡◌, ℕ, ◌+◌, ◌-◌, ◌*◌, ◌<◌, ◌≤◌, List, [], ◌++◌, length, take, drop, arith, sym, ◌∙◌, ap, subst, OnOk, Option}
+use Rattle.std.proofs.Common.{◌≡◌, ℕ, ◌+◌, ◌-◌, ◌*◌, ◌<◌, ◌≤◌, List, [], ◌++◌, length, take, drop, arith, sym, ◌∙◌, ap, subst, OnOk}
 use Rattle.std.specs.List.{All}
 use Rattle.std.proofs.lemmas.Bool.{eqb-true, eqb-false}
 use Rattle.std.proofs.lemmas.List.{append-nil, append_assoc, length-drop}
 use Rattle.std.proofs.lemmas.List.Elements.{All-drop}
-use Rattle.ats_tree.specs.Tree.{Tree, tree_of}
-use Rattle.ats_tree.specs.Shown.{places}
 use Rattle.ats_tree.specs.Part.{RisesWithin}
 use Rattle.ats_tree.specs.Elided.{shown_with}
-use Rattle.ats_tree.specs.Kept.{elided_places, digests_at}
+use Rattle.ats_tree.specs.Kept.{elided_part}
 use Rattle.ats_tree.proofs.ElidedLemmas.{front-rises, back-rises}
 use Rattle.ats_tree.proofs.KeptLemmas.{HasSize, front-front}
 use Rattle.ats_tree.proofs.KeptElided.{all-from, kept-none, kept-shown, kept-parts}
@@ -64,11 +62,10 @@ returns-in_ok-elide_kept-clause-ok t c =
     in let ne : length ps ≡ 0 → ⊥ = eqb-false _ _ (sym c.if-is_empty.ensures)
     in let some : 0 < length ps = omega arith
     in let part : 1 ≤ k = omega (arith, c.cut_of-k.ensures.below, c.cut_of-k.ensures.largest)
-    in let front : Tree (Option (List ℕ)) = tree_of (places c.args.from k (shown_with [] c.split_at.result.0.now))
-    in let back : Tree (Option (List ℕ)) = tree_of (places (c.args.from + k) (c.args.n - k) (shown_with [] c.split_at.result.1.now))
-    in let left : List (List ℕ) = digests_at (take (length ds - 1) (drop 1 ds)) (elided_places 0 front)
-    in let right : List (List ℕ) = digests_at (take (length ds - 2 * k) (drop (2 * k) ds)) (elided_places 0 back)
-    in let whole : List (List ℕ) = digests_at ds (elided_places 0 (tree_of (places c.args.from c.args.n (shown_with [] ps))))
+    in let left : List (List ℕ) = elided_part (take (length ds - 1) (drop 1 ds)) c.args.from k (shown_with [] c.split_at.result.0.now)
+    in let right : List (List ℕ) =
+    elided_part (take (length ds - 2 * k) (drop (2 * k) ds)) (c.args.from + k) (c.args.n - k) (shown_with [] c.split_at.result.1.now)
+    in let whole : List (List ℕ) = elided_part ds c.args.from c.args.n (shown_with [] ps)
     in let both : whole ≡ left ++ right =
     rw (c.split_at.ensures.front, c.split_at.ensures.back, all-from 1 ds, all-from (2 * k) ds)
     (kept-parts ds [] c.args.from k c.args.n c.count_below.result ps c.count_below.ensures.value

@@ -1,8 +1,7 @@
 use Rattle.std.proofs.Common.{◌≡◌, ℕ, ◌+◌, ◌/◌, ◌<◌, ◌≤◌, List, [], ◌++◌, length, arith, ◌∙◌, ap, subst, OnOk, Result}
 use Rattle.std.specs.List.{All}
-use Rattle.ats_tree.specs.Rebuild.{tree_of_places}
 use Rattle.ats_tree.specs.Elided.{shown_with, elided_digests}
-use Rattle.ats_tree.specs.Kept.{digests_at, elided_places, elided_kept}
+use Rattle.ats_tree.specs.Kept.{elided_part, elided_kept}
 use Rattle.ats_tree.specs.declared.digests.OutOfMemory.{OutOfMemory}
 use Rattle.ats_tree.proofs.Positions.{within-increasing}
 use Rattle.ats_tree.proofs.KeptLemmas.{kept-number}
@@ -12,11 +11,11 @@ use Rattle.ats_tree.proofs.keeping.Nodes.elided.Goals as goal
 -- the digests at the places, as they are counted and seen
 seen : (old ds view : List (List ℕ)) (ps : List ℕ) (count : ℕ) (new : List (List ℕ)) (outcome : Result (Unit {0}) OutOfMemory)
     → ds ≡ view → count ≡ length view
-    → OnOk outcome (new ≡ old ++ digests_at ds (elided_places 0 (tree_of_places (count / 2 + 1) (shown_with [] ps))))
+    → OnOk outcome (new ≡ old ++ elided_part ds 0 (count / 2 + 1) (shown_with [] ps))
     → OnOk outcome (new ≡ old ++ elided_kept view ps)
 seen old ds view ps count new outcome same counts ok =
     let Holds : List (List ℕ) → ℕ → Type 0 =
-    λ z n. OnOk outcome (new ≡ old ++ digests_at z (elided_places 0 (tree_of_places (n / 2 + 1) (shown_with [] ps))))
+    λ z n. OnOk outcome (new ≡ old ++ elided_part z 0 (n / 2 + 1) (shown_with [] ps))
     in subst (λ n. Holds view n) counts (subst (λ z. Holds z count) same ok)
 
 pub elide_kept-outcome-requires-clause-rising : goal.elide_kept-outcome-requires-clause-rising

@@ -4,8 +4,8 @@ ghost use Rattle.std.specs.Prelude.{◌≡◌, ℕ, ◌+◌, ◌^◌, ◌<◌, �
 ghost use Rattle.std.specs.List.Sorted.{IsStrictlyIncreasing};
 ghost use Rattle.ats_tree.specs.Shown.{Shown, positions_of, first_position, first_leaf};
 
+use crate::hashed_string::HashedString;
 use ats_hash::Steps;
-use ats_tree::HashedString;
 
 /// Shown leaves with strictly rising positions, and digests, taken from the front as copies. It names no lifetime,
 /// since a method of a trait cannot be stated under a bound that names one, as `Revealed` does.
@@ -38,5 +38,6 @@ pub trait ShownTree {
         requires room { steps.old + 1 < 2 ^ 64 }
         ensures first { result ≡ slice_get (digests self.old) 0 }
         ensures passed { digests self.new ≡ drop 1 (digests self.old) }
+        ensures others { shown self.new ≡ shown self.old }
         ensures cost { steps.new ≡ steps.old + 1 };
 }

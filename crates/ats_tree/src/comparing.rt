@@ -1,0 +1,55 @@
+//! Whether what is shown of a tree is the tree's own.
+
+ghost use Rattle.std.specs.Prelude.{◌≡◌, ◌↔◌, ◌+◌, ◌*◌, ◌^◌, ◌<◌, ◌≤◌, length, drop, All, IsTrue};
+ghost use Rattle.ats_tree.specs.Kept.{elided_part};
+ghost use Rattle.ats_tree.specs.OwnShown.{IsOwnPart};
+ghost use Rattle.ats_tree.specs.Part.{RisesFrom, shown_from};
+
+use crate::cut::cut_of;
+use crate::node_strings::ShortLeaves;
+use crate::shown_tree::ShownTree;
+use ats_hash::Steps;
+
+/// Whether what is left begins with the part of `n` leaves from position `from` on, whose nodes have the first of these
+/// digests. If it does, the leaves before the part's end and the digests that it needs are taken.
+pub(crate) fn begins_with_part<L: ShortLeaves, S: ShownTree>(
+    digests: &[[u8; 32]],
+    leaves: &L,
+    from: u32,
+    n: u32,
+    shown: &mut S,
+    steps: &mut Steps,
+) -> bool
+    requires some { 1 ≤ n }
+    requires nodes { 2 * n ≤ length digests.now + 1 }
+    requires sized { All (λ d. length d ≡ 32) digests.now }
+    requires within { from + n ≤ length (L.items leaves.now) }
+    requires ends { from + n < 2 ^ 32 }
+    requires rising { RisesFrom from (S.shown shown.old) }
+    requires short { All (λ s. length s.1 ≤ 127) (S.shown shown.old) }
+    requires room { steps.old + n < 2 ^ 64 }
+    ensures exact { IsTrue result
+        ↔ IsOwnPart (L.items leaves.now) digests.now from n (S.shown shown.old) (S.digests shown.old) }
+    ensures leaves_left { IsTrue result → S.shown shown.new ≡ shown_from (from + n) (S.shown shown.old) }
+    ensures digests_left { IsTrue result → S.digests shown.new
+        ≡ drop (length (elided_part digests.now from n (S.shown shown.old))) (S.digests shown.old) }
+    ensures cost { steps.new ≤ steps.old + n }
+{
+    match shown.position() {
+        Some(at) if at < from + n => {
+            if n == 1 {
+                return shown.take_leaf(steps).bytes() == leaves.leaf_string(from).bytes();
+            }
+            let k = cut_of(n);
+            let right = 2 * k as usize;
+            if !begins_with_part(&digests[1..], leaves, from, k, shown, steps) {
+                return false;
+            }
+            begins_with_part(&digests[right..], leaves, from + k, n - k, shown, steps)
+        }
+        _ => match shown.take_digest(steps) {
+            Some(theirs) => theirs == digests[0],
+            None => false,
+        },
+    }
+}
