@@ -1,5 +1,5 @@
 -- What links, callers and doors report of themselves, and how calls change it.
-use Rattle.std.specs.Prelude.{◌≡◌, ◌⊎◌, ◌<◌, ◌+◌, ◌-◌, ◌^◌, ℕ, zero, suc, min, Bool, true, List, [], ◌∷◌, ◌++◌, Option, Some, None, MatchOption, IsSome, option_map}
+use Rattle.std.specs.Prelude.{◌≡◌, ◌⊎◌, ◌<◌, ◌+◌, ◌-◌, ◌^◌, ℕ, zero, suc, min, Bool, true, false, List, [], ◌∷◌, ◌++◌, Option, Some, None, MatchOption, IsSome, option_map}
 use Rattle.ats_base.specs.Outside.{SinkTold}
 
 -- What went over a link: the address that was called for it, if there was one; the bytes read so far, those still to
@@ -10,12 +10,13 @@ pub record Traffic : Type 0 where
   pub rest : List ℕ
   pub written : List ℕ
 
--- What a link reports of itself: what went over it, if it reports that; how many calls there were; and how often it
--- failed.
+-- What a link reports of itself: what went over it, if it reports that; how many calls there were; how often it failed;
+-- and whether the last call did.
 pub record LinkTold : Type 0 where
   pub traffic : Option Traffic
   pub calls : ℕ
   pub faults : ℕ
+  pub last_failed : Bool
 
 -- What a caller reports, if it does: the links given back, each with what it reported at that moment; the addresses
 -- called; how many links are out.
@@ -24,10 +25,12 @@ pub record Calling : Type 0 where
   pub addresses : List (List ℕ)
   pub out : ℕ
 
--- What a caller reports of itself. Its count of faults also rises for each broken link that it takes back.
+-- What a caller reports of itself. Its count of faults also rises for each broken link that it takes back. Its last call
+-- is the last `call`: to give a link back is none.
 pub record CallerTold : Type 0 where
   pub content : Option Calling
   pub faults : ℕ
+  pub last_failed : Bool
 
 -- What a door reports, if it does: as a caller, with the addresses listened at; and how often `accept` was called.
 pub record Opening : Type 0 where
@@ -36,13 +39,14 @@ pub record Opening : Type 0 where
   pub accepts : ℕ
   pub out : ℕ
 
--- What a door reports of itself. It always reports whether it is open, how often it failed, and how many broken links
--- it took back.
+-- What a door reports of itself. It always reports whether it is open, how often it failed, how many broken links it
+-- took back, and whether its last `listen` or `accept` failed.
 pub record DoorTold : Type 0 where
   pub content : Option Opening
   pub is_open : Bool
   pub faults : ℕ
   pub broken : ℕ
+  pub last_failed : Bool
 
 abbrev pub Carries : Option Traffic → Option Traffic → (read written : List ℕ) → Type 0
 Carries None now read written = now ≡ None
@@ -61,6 +65,7 @@ IsAtEnd (Some traffic) = traffic.rest ≡ []
 -- a link that has not failed, and over which nothing went; if it must, it reports what goes over it
 pub record IsNew (must_tell : Bool) (link : LinkTold) : Type 0 where
   pub calm : link.faults ≡ 0
+  pub fine : link.last_failed ≡ false
   pub tells : must_tell ≡ true → IsSome link.traffic
   pub unused : MatchOption link.traffic (Unit {0}) (λ traffic. (traffic.read ≡ []) × (traffic.written ≡ []))
 
@@ -126,4 +131,5 @@ as_link sink = record {
   traffic = option_map (λ taken. record { address = None; read = []; rest = []; written = taken }) sink.taken;
   calls = sink.calls;
   faults = sink.faults;
+  last_failed = sink.last_failed;
 }

@@ -35,6 +35,7 @@ told_link link = record {
   traffic = Some (record { address = link.address; read = link.read; rest = link.rest; written = link.written });
   calls = link.device.calls;
   faults = link.device.faults;
+  last_failed = link.device.last_failed;
 }
 
 -- nothing went over the link, and it has not failed
@@ -52,6 +53,7 @@ told_caller caller = record {
     out = caller.links.out;
   });
   faults = caller.device.faults;
+  last_failed = caller.device.last_failed;
 }
 
 -- what a door in memory reports
@@ -66,4 +68,5 @@ told_door door = record {
   is_open = door.is_open;
   faults = door.device.faults;
   broken = door.broken;
+  last_failed = door.device.last_failed;
 }

@@ -1,7 +1,7 @@
 //! A caller and a door in memory. Each reports what was passed to it, and hands out its links in the order in which
 //! they were added.
 
-ghost use Rattle.std.specs.Prelude.{◌≡◌, ◌⊎◌, ◌≤◌, ◌<◌, ◌+◌, ◌-◌, ◌^◌, ◌++◌, ◌∷◌, [], List, ℕ, length, min, true, false, Some, None, IfOk, OnOk, OnErr, IsErr, option_map, slice_get};
+ghost use Rattle.std.specs.Prelude.{◌≡◌, ◌⊎◌, ◌≤◌, ◌<◌, ◌+◌, ◌-◌, ◌^◌, ◌++◌, ◌∷◌, [], List, ℕ, length, min, true, false, Some, None, IfOk, OnOk, OnErr, is_err, IsErr, option_map, slice_get};
 ghost use Rattle.std.specs.List.{All};
 ghost use Rattle.std.specs.Option.{option_copied};
 ghost use Rattle.std.specs.Vec.{vec_len, vec_capacity};
@@ -61,6 +61,7 @@ impl Links {
     fn hand_out(&mut self) -> Result<MemLink, Failed>
         ensures first { IfOk result (λ link. self.old.waiting ≡ link ∷ self.new.waiting) }
         ensures unused { IfOk result IsUnused }
+        ensures fine { IfOk result (λ link. link.device.last_failed ≡ false) }
         ensures ok { OnOk result (self.new ≡ record self.old { waiting = self.new.waiting; out = self.old.out + 1 }) }
         ensures err { OnErr result (self.new ≡ self.old) }
         ensures none { self.old.waiting ≡ [] → IsErr result }
@@ -75,6 +76,7 @@ impl Links {
             return Err(Failed);
         };
         self.out = out;
+        link.counts_its_fault();
         Ok(link)
     }
 
@@ -168,6 +170,7 @@ impl MemCaller {
         ensures first { IfOk result (λ link. (w : LinkState) × (self.old.links.waiting ≡ w ∷ self.new.links.waiting)
             × (link ≡ record w { address = Some address.now })) }
         ensures unused { IfOk result IsUnused }
+        ensures fine { IfOk result (λ link. link.device.last_failed ≡ false) }
         ensures none { self.old.links.waiting ≡ [] → IsErr result }
         ensures out { OnOk result (self.new.links.out ≡ self.old.links.out + 1) }
         ensures kept { OnErr result (self.new.links ≡ self.old.links) }
@@ -201,6 +204,7 @@ impl Caller for MemCaller {
         ensures new { IfOk result (λ link. IsNew true (told_link link)) }
         ensures address { IfOk result (λ link. IsCalledAt address.now (told_link link).traffic) }
         ensures cause { HasCause self.old.device.faults self.new.device.faults result }
+        ensures last { self.new.device.last_failed ≡ is_err result }
         ensures first { IfOk result (λ link. (w : LinkState) × (self.old.links.waiting ≡ w ∷ self.new.links.waiting)
             × (link ≡ record w { address = Some address.now })) }
         ensures planned { (fails_next self.old.device ≡ true) ⊎ (self.old.links.waiting ≡ []) → IsErr result }
@@ -224,11 +228,14 @@ impl Caller for MemCaller {
         ensures content { (told_caller self.new).content
             ≡ option_map (called_back (told_link link)) (told_caller self.old).content }
         ensures faults { self.new.device.faults ≡ counted_broken link.device.faults self.old.device.faults }
+        ensures last { self.new.device.last_failed ≡ self.old.device.last_failed }
+        ensures device { self.new.device
+            ≡ record self.old.device { faults = counted_broken link.device.faults self.old.device.faults } }
         ensures back { self.new.links
             ≡ record self.old.links { back = self.old.links.back ++ link ∷ []; out = self.old.links.out - 1 } }
     {
         if link.has_failed() {
-            self.plan.fail();
+            self.plan.count_broken();
         }
         self.links.take_back(link);
     }
@@ -338,6 +345,7 @@ impl Door for MemDoor {
         ensures stays { OnErr result (self.new.is_open ≡ self.old.is_open) }
         ensures broken { self.new.broken ≡ self.old.broken }
         ensures cause { HasCause self.old.device.faults self.new.device.faults result }
+        ensures last { self.new.device.last_failed ≡ is_err result }
         ensures planned { fails_next self.old.device ≡ true → IsErr result }
         ensures links { self.new.links ≡ self.old.links }
         ensures device { self.new.device ≡ answered self.old.device result }
@@ -360,6 +368,7 @@ impl Door for MemDoor {
         ensures stays { self.new.is_open ≡ self.old.is_open }
         ensures broken { self.new.broken ≡ self.old.broken }
         ensures cause { HasCause self.old.device.faults self.new.device.faults result }
+        ensures last { self.new.device.last_failed ≡ is_err result }
         ensures first { IfOk result (λ link. self.old.links.waiting ≡ link ∷ self.new.links.waiting) }
         ensures planned { (fails_next self.old.device ≡ true) ⊎ (self.old.links.waiting ≡ []) → IsErr result }
         ensures out { OnOk result (self.new.links.out ≡ self.old.links.out + 1) }
@@ -385,6 +394,8 @@ impl Door for MemDoor {
         ensures stays { self.new.is_open ≡ self.old.is_open }
         ensures faults { self.new.device.faults ≡ self.old.device.faults }
         ensures broken { self.new.broken ≡ counted_broken link.device.faults self.old.broken }
+        ensures last { self.new.device.last_failed ≡ self.old.device.last_failed }
+        ensures device { self.new.device ≡ self.old.device }
         ensures back { self.new.links
             ≡ record self.old.links { back = self.old.links.back ++ link ∷ []; out = self.old.links.out - 1 } }
     {

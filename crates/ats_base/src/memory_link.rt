@@ -1,6 +1,6 @@
 //! A link in memory. It reports what goes over it.
 
-ghost use Rattle.std.specs.Prelude.{◌≡◌, ◌≤◌, ◌++◌, [], List, ℕ, length, take, drop, min, true, Some, None, IfOk, OnOk, OnErr, IsErr, IsTrue, ◌↔◌, ◌<◌};
+ghost use Rattle.std.specs.Prelude.{◌≡◌, ◌≤◌, ◌++◌, [], List, ℕ, length, take, drop, min, true, Some, None, IfOk, OnOk, OnErr, is_err, IsErr, IsTrue, false, ◌↔◌, ◌<◌};
 ghost use Rattle.ats_base.specs.Memory.{Device, new_device, answered, fails_next, failing_at};
 ghost use Rattle.ats_base.specs.MemoryLinks.{LinkState, told_link};
 ghost use Rattle.ats_base.specs.Outside.{HasCause, MovesSome, IsCounted, moved};
@@ -35,7 +35,8 @@ impl Model for MemLink {
       device = l.plan;
     } };
 
-    ghost invariant = { λ l. l.place ≤ length l.incoming };
+    // A link without a fault did not fail in its last call.
+    ghost invariant = { λ l. (l.place ≤ length l.incoming) × (l.plan.faults ≡ 0 → l.plan.last_failed ≡ false) };
 }
 
 impl MemLink {
@@ -81,6 +82,13 @@ impl MemLink {
         self.plan.has_failed()
     }
 
+    // Says what always holds of a link's faults.
+    pub(crate) fn counts_its_fault(&self)
+        ensures { self.now.device.faults ≡ 0 → self.now.device.last_failed ≡ false }
+    {
+        let _plan = &self.plan;
+    }
+
     pub(crate) fn set_address(&mut self, address: Bytes)
         ensures { self.new ≡ record self.old { address = Some address } }
     {
@@ -98,6 +106,7 @@ impl Link for MemLink {
         ensures end { IfOk result (λ n. n ≡ 0 → 0 < length buf.new → self.new.rest ≡ []) }
         ensures counted { IsCounted self.old.device.calls self.new.device.calls }
         ensures cause { HasCause self.old.device.faults self.new.device.faults result }
+        ensures last { self.new.device.last_failed ≡ is_err result }
         ensures failed { IsErr result ↔ (fails_next self.old.device ≡ true) }
         ensures count { IfOk result (λ n. n ≡ min (min (length self.old.rest) (length buf.old)) self.old.device.piece) }
         ensures device { self.new.device ≡ answered self.old.device result }
@@ -120,6 +129,7 @@ impl Link for MemLink {
             [] (take (moved result) bytes.now) }
         ensures counted { IsCounted self.old.device.calls self.new.device.calls }
         ensures cause { HasCause self.old.device.faults self.new.device.faults result }
+        ensures last { self.new.device.last_failed ≡ is_err result }
         ensures planned { fails_next self.old.device ≡ true → IsErr result }
         ensures piece { IfOk result (λ n. n ≡ min (length bytes.now) self.old.device.piece) }
         ensures device { self.new.device ≡ answered self.old.device result }

@@ -1,25 +1,32 @@
-//! How an object in memory counts its calls and its faults.
+//! How an object in memory counts its calls and its faults, and keeps whether the last call failed.
 
 ghost use Rattle.std.specs.Prelude.{◌≡◌, ◌≤◌, ◌<◌, ◌↔◌, IsTrue, OnOk, OnErr};
-ghost use Rattle.ats_base.specs.Memory.{Device, new_device, called, failed, fails_next, failing_at};
+ghost use Rattle.ats_base.specs.Memory.{Device, new_device, next, called, failed, missed, fails_next, failing_at};
 
 use crate::bytes::OutOfMemory;
 use std::alloc::Global;
 use std::marker::Model;
 
-/// The calls that will fail, the most bytes that one call moves, and how many failed.
+/// The calls that will fail, the most bytes that one call moves, how many failed, and whether the last one did.
 #[derive(Drop)]
 pub(crate) struct Plan {
     calls: u64,
     fails: Vec<u64>,
     piece: usize,
     faults: u64,
+    last_failed: bool,
 }
 
 impl Model for Plan {
     ghost Value = { Device };
 
-    ghost view = { λ p. record { calls = p.calls; fails = p.fails.items; piece = p.piece; faults = p.faults } };
+    ghost view = { λ p. record {
+      calls = p.calls;
+      fails = p.fails.items;
+      piece = p.piece;
+      faults = p.faults;
+      last_failed = p.last_failed;
+    } };
 
     ghost invariant = { λ p. 0 < p.piece };
 }
@@ -33,6 +40,7 @@ impl Plan {
             fails: Vec::new(alloc),
             piece: usize::MAX,
             faults: 0,
+            last_failed: false,
         }
     }
 
@@ -42,13 +50,30 @@ impl Plan {
         ensures planned { result ≡ fails_next self.old }
     {
         self.calls = self.calls.saturating_add(1);
+        self.last_failed = false;
         let call = self.calls;
         self.fails.iter().any(|fails| *fails == call)
     }
 
+    /// Counts the call that was begun as one that failed.
     pub(crate) fn fail(&mut self)
         ensures value { self.new ≡ failed self.old }
         ensures later { self.old.faults ≤ self.new.faults }
+    {
+        self.faults = self.faults.saturating_add(1);
+        self.last_failed = true;
+    }
+
+    /// Notes that the call that was begun failed for a name that is not there, which is no fault.
+    pub(crate) fn miss(&mut self)
+        ensures { self.new ≡ missed self.old }
+    {
+        self.last_failed = true;
+    }
+
+    /// Counts a fault that is none of its own calls: that of a broken link which comes back.
+    pub(crate) fn count_broken(&mut self)
+        ensures { self.new ≡ record self.old { faults = next self.old.faults } }
     {
         self.faults = self.faults.saturating_add(1);
     }

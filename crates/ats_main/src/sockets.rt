@@ -1,7 +1,7 @@
 //! The real links, caller and door: TCP over the system's network. They promise no content, and no call of theirs
 //! loops.
 
-ghost use Rattle.std.specs.Prelude.{◌≡◌, true, None, is_some, IfOk};
+ghost use Rattle.std.specs.Prelude.{◌≡◌, true, false, None, is_some, IfOk};
 
 use crate::counts::{Counts, Faults};
 use ats_base::{Caller, Door, Failed, Link};
@@ -22,7 +22,8 @@ pub struct TcpLink<S> {
 impl<S: OpenStream + Drop> TcpLink<S> {
     // A short reply is one packet, and must not wait for another one.
     fn new(stream: S) -> io::Result<Self>
-        ensures { IfOk result (λ link. link.counts.faults.count ≡ 0) }
+        ensures calm { IfOk result (λ link. link.counts.faults.count ≡ 0) }
+        ensures fine { IfOk result (λ link. link.counts.faults.last_failed ≡ false) }
     {
         let patience = Some(Duration::from_secs(PATIENCE));
         stream.set_read_timeout(patience)?;
@@ -36,7 +37,12 @@ impl<S: OpenStream + Drop> TcpLink<S> {
 }
 
 impl<S: Read + Write + Drop> Link for TcpLink<S> {
-    ghost told = { λ l. record { traffic = None; calls = l.counts.calls; faults = l.counts.faults.count } };
+    ghost told = { λ l. record {
+      traffic = None;
+      calls = l.counts.calls;
+      faults = l.counts.faults.count;
+      last_failed = l.counts.faults.last_failed;
+    } };
 
     fn read_some(&mut self, buf: &mut [u8]) -> Result<usize, Failed> {
         self.counts.call();
@@ -99,7 +105,8 @@ impl<'a, R: Net> TcpCaller<'a, R> {
     }
 
     fn reach(&self, address: &str) -> io::Result<TcpLink<R::Stream>>
-        ensures { IfOk result (λ link. link.counts.faults.count ≡ 0) }
+        ensures calm { IfOk result (λ link. link.counts.faults.count ≡ 0) }
+        ensures fine { IfOk result (λ link. link.counts.faults.last_failed ≡ false) }
     {
         let stream = TcpStream::connect(&Patient { net: self.rt }, address)?;
         TcpLink::new(stream)
@@ -109,9 +116,14 @@ impl<'a, R: Net> TcpCaller<'a, R> {
 impl<'a, R: Net> Caller for TcpCaller<'a, R> {
     type Link = TcpLink<R::Stream>;
 
-    ghost told = { λ c. record { content = None; faults = c.faults.count } };
+    ghost told = { λ c. record {
+      content = None;
+      faults = c.faults.count;
+      last_failed = c.faults.last_failed;
+    } };
 
     fn call(&mut self, address: &str) -> Result<TcpLink<R::Stream>, Failed> {
+        self.faults.begin();
         match self.reach(address) {
             Ok(link) => Ok(link),
             Err(_) => Err(self.faults.fail()),
@@ -120,7 +132,7 @@ impl<'a, R: Net> Caller for TcpCaller<'a, R> {
 
     fn give_back(&mut self, link: TcpLink<R::Stream>) {
         if link.counts.has_failed() {
-            self.faults.fail();
+            self.faults.count_broken();
         }
     }
 }
@@ -150,7 +162,8 @@ impl<'a, R: Net> TcpDoor<'a, R> {
 
     fn admit(&self) -> io::Result<TcpLink<R::Stream>>
         requires { is_some self.now.listener ≡ true }
-        ensures { IfOk result (λ link. link.counts.faults.count ≡ 0) }
+        ensures calm { IfOk result (λ link. link.counts.faults.count ≡ 0) }
+        ensures fine { IfOk result (λ link. link.counts.faults.last_failed ≡ false) }
     {
         let Some(listener) = &self.listener else {
             unreachable!();
@@ -168,9 +181,11 @@ impl<'a, R: Net> Door for TcpDoor<'a, R> {
       is_open = is_some d.listener;
       faults = d.faults.count;
       broken = d.broken.count;
+      last_failed = d.faults.last_failed;
     } };
 
     fn listen(&mut self, address: &str) -> Result<(), Failed> {
+        self.faults.begin();
         match TcpListener::bind(self.rt, address) {
             Ok(listener) => {
                 self.listener = Some(listener);
@@ -181,6 +196,7 @@ impl<'a, R: Net> Door for TcpDoor<'a, R> {
     }
 
     fn accept(&mut self) -> Result<TcpLink<R::Stream>, Failed> {
+        self.faults.begin();
         match self.admit() {
             Ok(link) => Ok(link),
             Err(_) => Err(self.faults.fail()),
@@ -189,7 +205,7 @@ impl<'a, R: Net> Door for TcpDoor<'a, R> {
 
     fn give_back(&mut self, link: TcpLink<R::Stream>) {
         if link.counts.has_failed() {
-            self.broken.fail();
+            self.broken.count_broken();
         }
     }
 }

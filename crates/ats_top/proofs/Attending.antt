@@ -5,12 +5,13 @@ use Rattle.ats_base.specs.Outside.{SinkTold}
 use Rattle.ats_base.specs.Links.{DoorTold}
 use Rattle.ats_commit.specs.Archive.{Archive}
 use Rattle.ats_wire.specs.Requests.{Question}
+use Rattle.ats_wire.specs.Connections.{is_fault}
 use Rattle.ats_wire.specs.declared.reply.Reply.{Reply}
 use Rattle.ats_wire.specs.declared.serving.Served.{Served}
 use Rattle.ats_top.specs.Words.{ServeWords}
 use Rattle.ats_top.specs.Read.{Files, HasIndex}
 use Rattle.ats_top.specs.Answering.{gives}
-use Rattle.ats_top.specs.Serving.{Session, HadSessions, DoorAndSink, Took, FailedToTake, IsUntold, EndsServing, ServesLinks, is_fault, faults_of, line_of_session, session_lines}
+use Rattle.ats_top.specs.Serving.{Session, HadSessions, DoorAndSink, Took, FailedToTake, IsUntold, EndsServing, ServesLinks, faults_of, line_of_session, session_lines}
 use Rattle.ats_top.specs.Served.{Listened, HasServed, Attends, serving_text}
 use Rattle.ats_top.specs.declared.serving.Halt.{Halt}
 use Rattle.ats_top.specs.declared.serving.Halt.TheVariants.{Door, Sink, Memory}

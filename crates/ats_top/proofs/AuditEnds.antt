@@ -63,19 +63,19 @@ module _ (H : List ℕ → List ℕ) (before mid now : ShelfTold) (words : Audit
   kept = same ∙ was
 
   -- a proof that was not gathered
-  pub proof_stops : before.faults ≤ mid.faults → (stop : Stop) → ProofStop mid now words.proof stop → FilesStop H before now (Audit words) stop
-  proof_stops later Usage stops = absurd stops
-  proof_stops later Shelf (inl rose) = (inl (asks, omega (arith, later, rose)), inl kept)
-  proof_stops later Shelf (inr missing) = (inr (asks, inr ((archive, index), subst (λ (files : Files). IsMissing files words.proof) was missing)), inl kept)
-  proof_stops later (Input refusal) stops = absurd stops
-  proof_stops later (Rejected rejection) stops =
+  pub proof_stops : mid.faults ≡ before.faults → (stop : Stop) → ProofStop mid now words.proof stop → FilesStop H before now (Audit words) stop
+  proof_stops calm Usage stops = absurd stops
+  proof_stops calm Shelf (inl rose) = (inl (asks, rw (← calm) rose), inl kept)
+  proof_stops calm Shelf (inr missing) = (inr (asks, inr ((archive, index), subst (λ (files : Files). IsMissing files words.proof) was missing)), inl kept)
+  proof_stops calm (Input refusal) stops = absurd stops
+  proof_stops calm (Rejected rejection) stops =
       ((asks, (archive, index, inl (subst (λ (files : Files). IsLongFile files words.proof rejection) was stops))), kept)
-  proof_stops later Memory stops = kept
-  proof_stops later Link stops = absurd stops
-  proof_stops later (Peer fault) stops = absurd stops
-  proof_stops later (Faults count) stops = absurd stops
-  proof_stops later (Collision place ours theirs) stops = absurd stops
-  proof_stops later (Swept lines collides) stops = absurd stops
+  proof_stops calm Memory stops = kept
+  proof_stops calm Link stops = absurd stops
+  proof_stops calm (Peer fault) stops = absurd stops
+  proof_stops calm (Faults count) stops = absurd stops
+  proof_stops calm (Collision place ours theirs) stops = absurd stops
+  proof_stops calm (Swept lines collides) stops = absurd stops
 
   module _ (query : List (List ℕ × ℕ)) (bytes : List ℕ) (asked : IsQueryOf words.query query) (gathered : IsFile mid.files words.proof (2 ^ 26) bytes) where
     file : IsFile before.files words.proof (2 ^ 26) bytes

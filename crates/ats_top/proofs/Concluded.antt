@@ -16,7 +16,9 @@ use Rattle.ats_top.specs.Audited.{HasCollision}
 use Rattle.ats_top.specs.Done.{IsDone, PutsPart, Changes, HasInput, IsServed}
 use Rattle.ats_top.specs.Findings.{Finding, AreFound, IsSwept, status_of_findings}
 use Rattle.ats_top.specs.Trial.{IsTrialRefused}
-use Rattle.ats_top.specs.Run.{Said, HasShelfCause, IsStopped, Ends, Ended, IsStatus, SinkFailed, DoorFailed, LinkFailed, Failed, TookAll, HasTried, Ran}
+use Rattle.ats_top.specs.Run.{Said, HasShelfCause, IsStopped, Ends, Ended, IsStatus, SinkFailed, DoorFailed, LinkFailed, Failed, HasTried, Ran}
+use Rattle.ats_top.specs.Serving.{Took}
+use Rattle.ats_top.specs.Counts.{CountsFaults}
 use Rattle.ats_top.specs.declared.stops.InputRefusal.{InputRefusal}
 use Rattle.ats_top.specs.declared.stops.Stop.{Stop}
 use Rattle.ats_top.specs.declared.stops.Stop.TheVariants.{Usage, Shelf, Input, Rejected, Memory, Link, Peer, Faults, Collision, Swept}
@@ -392,14 +394,14 @@ module _ (H : List ℕ → List ℕ) (said : List (List ℕ)) (before now : Outs
   files_end (Unprinted text) ends = inl (unprinted_files H before now ends.0 text ends.2)
 
   abbrev Served : Type 0
-  Served = (now.shelf ≡ before.shelf) ⊎ Said said (Serves before.shelf now.shelf)
+  Served = (now.shelf ≡ before.shelf) ⊎ Said said (Serves H before.shelf now.shelf)
 
   abbrev Unread : Type 0
   Unread = Said said (λ command. NeedsShelf command → ⊥) → now.shelf ≡ before.shelf
 
   -- by another status than those of what is done, and of a fault of the shelf or of the sink
   abbrev StoredNone : ℕ → Type 0
-  StoredNone result = result ≢ 0 → result ≢ 3 → result ≢ 7 → (now.shelf ≡ before.shelf) ⊎ Said said (ReadsAlone before.shelf now.shelf)
+  StoredNone result = result ≢ 0 → result ≢ 3 → result ≢ 7 → (now.shelf ≡ before.shelf) ⊎ Said said (ReadsAlone H before.shelf now.shelf)
 
   abbrev Called : Type 0
   Called = (now.caller ≡ before.caller) ⊎ Said said (HasCalled before.caller now.caller)
@@ -407,13 +409,13 @@ module _ (H : List ℕ → List ℕ) (said : List (List ℕ)) (before now : Outs
   abbrev Opened : Type 0
   Opened = (now.door ≡ before.door) ⊎ Said said (HasOpened before.door now.door)
 
-  asked : Served → (now.shelf ≡ before.shelf) ⊎ Said said (λ command. Asked before.shelf.asked now.shelf.asked (AsksFor before.shelf.files command))
+  asked : Served → (now.shelf ≡ before.shelf) ⊎ Said said (λ command. Asked before.shelf.asked now.shelf.asked (AsksFor H before.shelf.files command))
   asked (inl same) = inl same
   asked (inr serves) = inr (serves.0, serves.1, serves.2.asked)
 
   uncounted : Served → Said said (λ command. IsFirstMissing before.shelf.files (reads command)) → now.shelf.faults ≡ before.shelf.faults
   uncounted (inl same) missing = ap (λ (told : ShelfTold). told.faults) same
-  uncounted (inr serves) (command, is, gone) = (its (Serves before.shelf now.shelf) command serves is).uncounted gone
+  uncounted (inr serves) (command, is, gone) = (its (Serves H before.shelf now.shelf) command serves is).uncounted gone
 
   later : Served → before.shelf.faults ≤ now.shelf.faults
   later (inl same) = omega (arith, ap (λ (told : ShelfTold). told.faults) same)
@@ -426,18 +428,18 @@ module _ (H : List ℕ → List ℕ) (said : List (List ℕ)) (before now : Outs
         → ((end : End) → IsPrinted end → Ends H before now said end → P (status_of end)) → P result ⊎ SinkFailed before now result
     tells P ended is = elim ended.prints [
       | inl told ↦ inl (subst P (sym told.1) (is ended.end (was_printed ended.end result told.0 told.1) ended.ends))
-      | inr failed ↦ inr (failed.0, failed.1)
+      | inr failed ↦ inr (failed.0, failed.1.cause)
     ]
 
     -- 0 is the status of what is done
-    done_end : (end : End) → Ends H before now said end → result ≡ 0 → result ≡ status_of end → TookAll before.sink now.sink (text_of end)
-        → Said said (λ command. (text : List ℕ) × IsDone H before now command text × TookAll before.sink now.sink text)
+    done_end : (end : End) → Ends H before now said end → result ≡ 0 → result ≡ status_of end → Took before.sink now.sink (text_of end)
+        → Said said (λ command. (text : List ℕ) × IsDone H before now command text × Took before.sink now.sink text)
     done_end (Done text) ends is same took = (ends.0, ends.1, (text, ends.2, took))
     done_end (Stopped text stop) ends is same took = absurd (never_done stop (sym same ∙ is))
     done_end (Unprinted text) ends is same took = absurd (omega (arith, is, same))
 
     done : Ended H said before now result → result ≡ 0
-        → Said said (λ command. (text : List ℕ) × IsDone H before now command text × TookAll before.sink now.sink text)
+        → Said said (λ command. (text : List ℕ) × IsDone H before now command text × Took before.sink now.sink text)
     done ended is = elim ended.prints [
       | inl told ↦ done_end ended.end ended.ends is told.1 told.2
       | inr failed ↦ absurd (omega (arith, is, failed.0))
@@ -492,8 +494,30 @@ module _ (H : List ℕ → List ℕ) (said : List (List ℕ)) (before now : Outs
       | inr sinks ↦ inr (inr (inr (inr (inr (inr (inr (inl sinks.0)))))))
     ]
 
-    pub ran : Ended H said before now result → Served → Unread → Called → Opened → before.sink.faults ≤ now.sink.faults → StoredNone result → Ran H said before now result
-    ran ended served unread called opened sink_later unstored = record {
+    pub counts : Ended H said before now result → (result ≢ 3 → result ≢ 7 → now.shelf.faults ≡ before.shelf.faults)
+        → (result ≢ 8 → result ≢ 7 → now.caller.faults ≡ before.caller.faults) → (result ≢ 8 → result ≢ 7 → now.door.faults ≡ before.door.faults)
+        → CountsFaults before now result
+    counts ended shelf caller door = elim ended.prints [
+      | inl told ↦ record {
+        sink = λ other. told.2.kept;
+        sink_once = λ seven. absurd (told.0 seven);
+        sink_last = λ seven. absurd (told.0 seven);
+        shelf = shelf;
+        caller = caller;
+        door = door;
+      }
+      | inr failed ↦ record {
+        sink = λ other. absurd (other failed.0);
+        sink_once = λ seven. failed.1.cause;
+        sink_last = λ seven. failed.1.last;
+        shelf = shelf;
+        caller = caller;
+        door = door;
+      }
+    ]
+
+    pub ran : Ended H said before now result → CountsFaults before now result → Served → Unread → Called → Opened → before.sink.faults ≤ now.sink.faults → StoredNone result → Ran H said before now result
+    ran ended counted served unread called opened sink_later unstored = record {
       ended = ended;
       status = status ended;
       done = done ended;
@@ -513,6 +537,7 @@ module _ (H : List ℕ → List ℕ) (said : List (List ℕ)) (before now : Outs
       unstored = unstored;
       called = called;
       opened = opened;
+      counts = counted;
       uncounted = uncounted served;
       later = later served;
       sink_later = sink_later;

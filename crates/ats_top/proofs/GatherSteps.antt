@@ -1,40 +1,17 @@
 -- The proofs of a list, gathered one by one.
-use Rattle.std.proofs.Common.{◌≡◌, ◌++◌, ◌∷◌, ◌<◌, ◌≤◌, ◌+◌, ◌^◌, ℕ, suc, zero, List, [], length, take, drop, get_or, refl, sym, ap, subst, ◌∙◌, inl, inr, arith, append-nil, append_assoc}
+use Rattle.std.proofs.Common.{◌≡◌, ◌⊎◌, ◌++◌, ◌∷◌, ◌<◌, ◌≤◌, ◌+◌, ◌^◌, ℕ, suc, zero, List, [], None, length, take, drop, get_or, refl, sym, ap, subst, ◌∙◌, inl, inr, arith, append-nil, append_assoc}
 use Rattle.std.specs.List.{AllZip}
 use Rattle.std.proofs.lemmas.List.Sums.{sum_by-cons}
 use Rattle.ats_base.specs.Outside.{IsMissing, ShelfTold, Ask, Asked, ReadsAtMostOnce}
 use Rattle.ats_base.proofs.Public.{asked_none, asked_then, asked_as}
 use Rattle.ats_top.specs.Read.{Files}
-use Rattle.ats_top.specs.Reading.{AsProof, InputFile, limit_of, ReadsInOrder, proof_files, Reads}
+use Rattle.ats_top.specs.Reading.{AsListed, IsGood, ReadsThen, listed_files, StoresAtMostOnce, Reads}
 use Rattle.ats_top.specs.Gathered.{IsGathered, AreGathered, PassesLimit, size, total}
 use Rattle.ats_top.specs.Sweeping.{entry_names, MissingStop, GatheringStop, ReadsProofs}
 use Rattle.ats_top.specs.declared.gathering.Gathered.{Gathered}
 use Rattle.ats_top.specs.declared.listing.Entry.{Entry}
 use Rattle.ats_top.specs.declared.stops.Stop.{Stop}
 use Rattle.ats_top.specs.declared.stops.Stop.TheVariants.{Usage, Shelf, Input, Rejected, Memory, Link, Peer, Faults, Collision, Swept}
-
--- ---- reads in order
-
-no_reads : (files : List InputFile) → ReadsInOrder files []
-no_reads [] = refl
-no_reads (file ∷ rest) = ([], [], refl, tt, no_reads rest)
-
--- reads of the first files, and of one more
-reads_more : (files : List InputFile) (file : InputFile) (asks more : List Ask) → ReadsInOrder files asks → ReadsAtMostOnce file.name (limit_of file.form) more
-    → ReadsInOrder (files ++ file ∷ []) (asks ++ more)
-reads_more [] file asks more none reads =
-    (more, [], ap (λ (l : List Ask). l ++ more) none ∙ sym (append-nil more), reads, refl)
-reads_more (f ∷ files) file asks more (first, later, parts, one, rest) reads =
-    (first, later ++ more, ap (λ (l : List Ask). l ++ more) parts ∙ append_assoc first later more, one, reads_more files file later more rest reads)
-
--- reads of the first files are reads of all
-reads_first : (files more : List InputFile) (asks : List Ask) → ReadsInOrder files asks → ReadsInOrder (files ++ more) asks
-reads_first [] more asks none = subst (ReadsInOrder more) (sym none) (no_reads more)
-reads_first (f ∷ files) more asks (first, later, parts, one, rest) = (first, later, parts, one, reads_first files more later rest)
-
-files_more : (names more : List (List ℕ)) → proof_files (names ++ more) ≡ proof_files names ++ proof_files more
-files_more [] more = refl
-files_more (name ∷ names) more = ap (λ (files : List InputFile). (record { name = name; form = AsProof }) ∷ files) (files_more names more)
 
 -- ---- names
 
@@ -50,6 +27,13 @@ names_next : (entries : List Entry) (i : ℕ) (entry : Entry) → i < length ent
 names_next [] i entry less is = absurd (omega (arith, less))
 names_next (e ∷ entries) zero entry less is = ap (λ (one : Entry). one.proof.now ∷ []) (sym is)
 names_next (e ∷ entries) (suc i) entry less is = ap (λ (names : List (List ℕ)). e.proof.now ∷ names) (names_next entries i entry (omega (arith, less)) is)
+
+-- those left after the first ones
+names_left : (entries : List Entry) (i : ℕ) (entry : Entry) → i < length entries → entry ≡ get_or entries i entry
+    → entry_names (drop i entries) ≡ entry.proof.now ∷ entry_names (drop (suc i) entries)
+names_left [] i entry less is = absurd (omega (arith, less))
+names_left (e ∷ entries) zero entry less is = ap (λ (one : Entry). one.proof.now ∷ entry_names entries) (sym is)
+names_left (e ∷ entries) (suc i) entry less is = names_left entries i entry (omega (arith, less)) is
 
 -- ---- proofs
 
@@ -67,11 +51,17 @@ total_more (p ∷ proofs) proof =
     let second = sum_by-cons size p proofs in
     omega (arith, first, second, total_more proofs proof)
 
+-- these calls read the proofs of the first entries, which are good: any that read those left make them all of a list's
+abbrev ReadsFirst : (H : List ℕ → List ℕ) → Files → List Entry → ℕ → List Ask → Type 0
+ReadsFirst H files entries i asks = (more : List Ask)
+    → ReadsThen (IsGood H files) (listed_files (entry_names (take i entries)) (entry_names (drop i entries))) (StoresAtMostOnce None) more
+    → ReadsThen (IsGood H files) (listed_files [] (entry_names entries)) (StoresAtMostOnce None) (asks ++ more)
+
 -- the proofs of the first entries were gathered, and have `count` bytes
 pub record AreSoFar (before now : ShelfTold) (entries : List Entry) (i : ℕ) (proofs : List Gathered) (count : ℕ) : Type 0 where
   pub files : now.files ≡ before.files
-  pub later : before.faults ≤ now.faults
-  pub asked : Asked before.asked now.asked (ReadsInOrder (proof_files (entry_names (take i entries))))
+  pub calm : now.faults ≡ before.faults
+  pub asked : (H : List ℕ → List ℕ) → Asked before.asked now.asked (ReadsFirst H before.files entries i)
   pub each : AllZip (IsGathered before.files) (entry_names (take i entries)) proofs
   pub counted : count ≡ total proofs
   pub within : count ≤ 2 ^ 28
@@ -79,8 +69,8 @@ pub record AreSoFar (before now : ShelfTold) (entries : List Entry) (i : ℕ) (p
 pub none_so_far : (told : ShelfTold) (entries : List Entry) → AreSoFar told told entries 0 [] 0
 none_so_far told entries = record {
   files = refl;
-  later = omega arith;
-  asked = asked_none told.asked (ReadsInOrder []) refl;
+  calm = refl;
+  asked = λ H. asked_none told.asked (ReadsFirst H told.files entries 0) (λ more all. all);
   each = tt;
   counted = refl;
   within = omega arith;
@@ -89,28 +79,26 @@ none_so_far told entries = record {
 module _ (before mid now : ShelfTold) (entries : List Entry) (i : ℕ) (entry : Entry) (less : i < length entries) (is : entry ≡ get_or entries i entry)
     (proofs : List Gathered) (count : ℕ) (so_far : AreSoFar before mid entries i proofs count)
     (reads : Reads mid now entry.proof.now (2 ^ 26)) where
-  asked_next : Asked before.asked now.asked (ReadsInOrder (proof_files (entry_names (take i entries)) ++ (record { name = entry.proof.now; form = AsProof }) ∷ []))
-  asked_next = asked_then before.asked mid.asked now.asked (ReadsInOrder (proof_files (entry_names (take i entries)))) (ReadsAtMostOnce entry.proof.now (2 ^ 26))
-      (ReadsInOrder (proof_files (entry_names (take i entries)) ++ (record { name = entry.proof.now; form = AsProof }) ∷ []))
-      so_far.asked reads.asked
-      (λ asks more first further. reads_more (proof_files (entry_names (take i entries))) (record { name = entry.proof.now; form = AsProof }) asks more first further)
+  -- the file of the next proof is read once at most, and nothing comes after it, or it is good and those left are read
+  reads_then : (H : List ℕ → List ℕ) (first later : List Ask) → ReadsAtMostOnce entry.proof.now (2 ^ 26) first
+      → ((later ≡ []) ⊎ (IsGood H before.files (record { name = entry.proof.now; form = AsListed (entry_names (take i entries)) })
+      × ReadsThen (IsGood H before.files) (listed_files (entry_names (take i entries) ++ entry.proof.now ∷ []) (entry_names (drop (suc i) entries))) (StoresAtMostOnce None) later))
+      → ReadsThen (IsGood H before.files) (listed_files (entry_names (take i entries)) (entry_names (drop i entries))) (StoresAtMostOnce None) (first ++ later)
+  reads_then H first later once then =
+      subst (λ (names : List (List ℕ)). ReadsThen (IsGood H before.files) (listed_files (entry_names (take i entries)) names) (StoresAtMostOnce None) (first ++ later))
+      (sym (names_left entries i entry less is)) (first, later, refl, once, then)
 
   -- what all calls so far are of those for all entries
   pub reads_next : ReadsProofs before now (entry_names entries)
   reads_next = record {
     files = reads.files ∙ so_far.files;
-    later = omega (arith, so_far.later, reads.later);
-    asked = asked_as before.asked now.asked _ (ReadsInOrder (proof_files (entry_names entries))) asked_next
-        (λ asks first. subst (λ (files : List InputFile). ReadsInOrder files asks) (sym all_files)
-        (reads_first (proof_files (entry_names (take i entries)) ++ (record { name = entry.proof.now; form = AsProof }) ∷ [])
-        (proof_files (entry_names (drop (suc i) entries))) asks first));
+    later = omega (arith, so_far.calm, reads.later);
+    asked = λ H. asked_then before.asked mid.asked now.asked (ReadsFirst H before.files entries i) (ReadsAtMostOnce entry.proof.now (2 ^ 26))
+        (ReadsThen (IsGood H before.files) (listed_files [] (entry_names entries)) (StoresAtMostOnce None)) (so_far.asked H) reads.asked
+        (λ asks more first further. first more (subst
+        (λ (l : List Ask). ReadsThen (IsGood H before.files) (listed_files (entry_names (take i entries)) (entry_names (drop i entries))) (StoresAtMostOnce None) l)
+        (append-nil more) (reads_then H more [] further (inl refl))));
   }
-    where
-      all_files : proof_files (entry_names entries)
-          ≡ (proof_files (entry_names (take i entries)) ++ (record { name = entry.proof.now; form = AsProof }) ∷ []) ++ proof_files (entry_names (drop (suc i) entries))
-      all_files = ap proof_files (names_at entries i entry less is)
-          ∙ files_more (entry_names (take i entries)) (entry.proof.now ∷ entry_names (drop (suc i) entries))
-          ∙ sym (append_assoc (proof_files (entry_names (take i entries))) ((record { name = entry.proof.now; form = AsProof }) ∷ []) (proof_files (entry_names (drop (suc i) entries))))
 
   gathered_first : AreGathered before.files (entry_names (take i entries)) proofs
   gathered_first = record { each = so_far.each; within = omega (arith, so_far.counted, so_far.within) }
@@ -118,7 +106,7 @@ module _ (before mid now : ShelfTold) (entries : List Entry) (i : ℕ) (entry : 
   -- the next is missing, or memory ran out
   pub stops_at : (stop : Stop) → MissingStop mid now entry.proof.now stop → GatheringStop before now (entry_names entries) stop
   stops_at Usage stops = absurd stops
-  stops_at Shelf (inl rose) = inl (omega (arith, so_far.later, rose))
+  stops_at Shelf (inl rose) = inl (rw (← so_far.calm) rose)
   stops_at Shelf (inr missing) = inr (record {
     before = entry_names (take i entries);
     name = entry.proof.now;
@@ -157,14 +145,31 @@ module _ (before mid now : ShelfTold) (entries : List Entry) (i : ℕ) (entry : 
     }
 
     -- the next was gathered
-    pub so_far_more : (bytes : ℕ) → bytes ≡ count + size proof → bytes ≤ 2 ^ 28 → AreSoFar before now entries (i + 1) (proofs ++ proof ∷ []) bytes
-    so_far_more bytes counted within = subst (λ (n : ℕ). AreSoFar before now entries n (proofs ++ proof ∷ []) bytes) next (record {
+    all_there : (bytes : ℕ) → bytes ≡ count + size proof → bytes ≤ 2 ^ 28 → AreGathered before.files (entry_names (take i entries) ++ entry.proof.now ∷ []) (proofs ++ proof ∷ [])
+    all_there bytes counted within = record {
+      each = gathered_more before.files (entry_names (take i entries)) proofs entry.proof.now proof so_far.each gathered_last;
+      within = omega (arith, counted, within, so_far.counted, total_more proofs proof);
+    }
+
+    asked_more : (H : List ℕ → List ℕ) (bytes : ℕ) → bytes ≡ count + size proof → bytes ≤ 2 ^ 28 → Asked before.asked now.asked (ReadsFirst H before.files entries (suc i))
+    asked_more H bytes counted within =
+        asked_then before.asked mid.asked now.asked (ReadsFirst H before.files entries i) (ReadsAtMostOnce entry.proof.now (2 ^ 26))
+        (ReadsFirst H before.files entries (suc i)) (so_far.asked H) reads.asked
+        (λ asks first all once. λ more rest.
+        subst (λ (l : List Ask). ReadsThen (IsGood H before.files) (listed_files [] (entry_names entries)) (StoresAtMostOnce None) l) (sym (append_assoc asks first more))
+        (all (first ++ more) (reads_then H first more once (inr (
+          (proofs ++ proof ∷ [], all_there bytes counted within),
+          subst (λ (names : List (List ℕ)). ReadsThen (IsGood H before.files) (listed_files names (entry_names (drop (suc i) entries))) (StoresAtMostOnce None) more)
+              (names_next entries i entry less is) rest,
+        )))))
+
+    pub so_far_more : now.faults ≡ mid.faults → (bytes : ℕ) → bytes ≡ count + size proof → bytes ≤ 2 ^ 28 → AreSoFar before now entries (i + 1) (proofs ++ proof ∷ []) bytes
+    so_far_more still bytes counted within = subst (λ (n : ℕ). AreSoFar before now entries n (proofs ++ proof ∷ []) bytes) next (record {
       files = reads.files ∙ so_far.files;
-      later = omega (arith, so_far.later, reads.later);
-      asked = subst (λ (files : List InputFile). Asked before.asked now.asked (ReadsInOrder files))
-          (sym (ap proof_files (names_next entries i entry less is) ∙ files_more (entry_names (take i entries)) (entry.proof.now ∷ []))) asked_next;
+      calm = still ∙ so_far.calm;
+      asked = λ H. asked_more H bytes counted within;
       each = subst (λ (names : List (List ℕ)). AllZip (IsGathered before.files) names (proofs ++ proof ∷ [])) (sym (names_next entries i entry less is))
-          (gathered_more before.files (entry_names (take i entries)) proofs entry.proof.now proof so_far.each gathered_last);
+          (all_there bytes counted within).each;
       counted = counted ∙ ap (λ (n : ℕ). n + size proof) so_far.counted ∙ sym (total_more proofs proof);
       within = within;
     })
@@ -178,6 +183,12 @@ take_all_entries [] (suc i) past = refl
 take_all_entries (e ∷ entries) zero past = absurd (omega (arith, past))
 take_all_entries (e ∷ entries) (suc i) past = ap (λ (es : List Entry). e ∷ es) (take_all_entries entries i (omega (arith, past)))
 
+drop_all_entries : (entries : List Entry) (i : ℕ) → length entries ≤ i → drop i entries ≡ []
+drop_all_entries [] zero past = refl
+drop_all_entries [] (suc i) past = refl
+drop_all_entries (e ∷ entries) zero past = absurd (omega (arith, past))
+drop_all_entries (e ∷ entries) (suc i) past = drop_all_entries entries i (omega (arith, past))
+
 -- all were gathered
 module _ (before now : ShelfTold) (entries : List Entry) (i : ℕ) (past : length entries ≤ i) (proofs : List Gathered) (count : ℕ)
     (so_far : AreSoFar before now entries i proofs count) where
@@ -190,6 +201,10 @@ module _ (before now : ShelfTold) (entries : List Entry) (i : ℕ) (past : lengt
   pub reads_all : ReadsProofs before now (entry_names entries)
   reads_all = record {
     files = so_far.files;
-    later = so_far.later;
-    asked = subst (λ (es : List Entry). Asked before.asked now.asked (ReadsInOrder (proof_files (entry_names es)))) (take_all_entries entries i past) so_far.asked;
+    later = omega (arith, so_far.calm);
+    asked = λ H. asked_as before.asked now.asked (ReadsFirst H before.files entries i) (ReadsThen (IsGood H before.files) (listed_files [] (entry_names entries)) (StoresAtMostOnce None))
+        (so_far.asked H) (λ asks all.
+        subst (ReadsThen (IsGood H before.files) (listed_files [] (entry_names entries)) (StoresAtMostOnce None)) (append-nil asks) (all [] (subst
+        (λ (es : List Entry). ReadsThen (IsGood H before.files) (listed_files (entry_names (take i entries)) (entry_names es)) (StoresAtMostOnce None) [])
+        (sym (drop_all_entries entries i past)) refl)));
   }

@@ -92,7 +92,7 @@ module _ (H : List ℕ → List ℕ) (before now : Outside) where
   links_memory (Root words) text stop has links = absurd links
   links_memory (Prove words) text stop has links = absurd links
   links_memory (Verify words) text stop has links = absurd links
-  links_memory (Ask words) text stop has links = inl (links.0, links.2)
+  links_memory (Ask words) text stop has links = inr (links.0, tt, links.2)
   links_memory (Serve words) text stop has links = inr (serving_line H before.shelf.files words before.door now.door text stop has links.0, links.1)
   links_memory (Audit words) text stop has links = absurd links
   links_memory (Sweep words) text stop has links = absurd links

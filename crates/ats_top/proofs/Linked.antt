@@ -1,6 +1,5 @@
 -- What follows if serving stopped.
 use Rattle.std.proofs.Common.{◌≡◌, ◌⊎◌, ◌<◌, ℕ, List, refl, inl, inr, arith, is_some}
-use Rattle.ats_base.specs.Outside.{Rose}
 use Rattle.ats_base.specs.Links.{DoorTold}
 use Rattle.ats_commit.specs.Archive.{Archive}
 use Rattle.ats_top.specs.Words.{ServeWords}
@@ -8,7 +7,7 @@ use Rattle.ats_top.specs.Read.{Files, HasIndex}
 use Rattle.ats_top.specs.Stops.{HasLine, status_of_stop}
 use Rattle.ats_top.specs.Answering.{gives}
 use Rattle.ats_top.specs.Served.{AreAllServed, ServingStop}
-use Rattle.ats_top.specs.Run.{DoorFailed}
+use Rattle.ats_top.specs.Run.{HasRisen, DoorFailed}
 use Rattle.ats_top.specs.declared.stops.Stop.{Stop}
 use Rattle.ats_top.specs.declared.stops.Stop.TheVariants.{Usage, Shelf, Input, Rejected, Memory, Link, Peer, Faults, Collision, Swept}
 use Rattle.ats_top.proofs.Opened.{faults_rise}
@@ -29,7 +28,7 @@ module _ (H : List ℕ → List ℕ) (files : Files) (words : ServeWords) (befor
   serving_index (Swept lines collides) stops = absurd stops
 
   -- if links ended by a fault, the door's count of broken links rose
-  broken_rose : (count : ℕ) → 0 < count → AreAllServed H files words before now count text → Rose before.broken now.broken
+  broken_rose : (count : ℕ) → 0 < count → AreAllServed H files words before now count text → HasRisen before.broken now.broken
   broken_rose count some all =
       let had = all.served.had in
       let risen = faults_rise (gives H all.served.archive) (is_some all.served.opened.content) all.sessions all.served.opened.broken had.each (omega (arith, some, all.faults_are)) in
@@ -39,7 +38,7 @@ module _ (H : List ℕ → List ℕ) (files : Files) (words : ServeWords) (befor
   pub serving_status : (stop : Stop) → ServingStop H files words before now text stop → (status_of_stop stop ≡ 6) ⊎ DoorFailed before now (status_of_stop stop)
   serving_status Link (inl shut) = inr (inl (refl, shut.failed.cause))
   serving_status Link (inr broken) =
-      inr (inl (refl, omega (arith, broken.served.listened.later, broken.served.had.later, broken.failed.cause)))
+      inr (inl (refl, rw (← broken.served.listened.kept, ← broken.served.had.kept) broken.failed.cause))
   serving_status (Faults count) (some, all) = inr (inr (refl, broken_rose count some all))
   serving_status Memory unmade = inl refl
   serving_status Usage stops = absurd stops

@@ -1,18 +1,17 @@
 -- What serving leaves of the door.
-use Rattle.std.proofs.Common.{◌≡◌, ◌≤◌, ◌<◌, ◌+◌, ◌-◌, ◌^◌, ◌∙◌, ◌∷◌, ℕ, zero, suc, min, Bool, false, List, [], length, fold, option_map, cond, Option, Some, None, Result, Ok, Err, refl, sym, ap, subst, inl, inr, arith}
+use Rattle.std.proofs.Common.{◌≡◌, ◌≤◌, ◌<◌, ◌+◌, ◌-◌, ◌^◌, ◌∙◌, ◌∷◌, ℕ, zero, suc, min, Bool, true, false, List, [], length, fold, option_map, cond, Option, Some, None, Result, Ok, Err, refl, sym, ap, subst, inl, inr, arith}
 use Rattle.std.specs.List.{All}
 use Rattle.std.proofs.lemmas.List.Sums.{sum_by-cons}
 use Rattle.std.proofs.lemmas.List.Elements.{All-head, All-tail}
-use Rattle.ats_base.specs.Outside.{Rose}
+use Rattle.ats_top.specs.Run.{HasRisen}
 use Rattle.ats_base.specs.Links.{LinkTold, Opening, DoorTold, counted_broken, noting_listen, MayNoteListen, counting_accept}
 use Rattle.ats_wire.specs.Requests.{Question}
-use Rattle.ats_wire.specs.Connections.{Ends}
+use Rattle.ats_wire.specs.Connections.{is_fault}
+use Rattle.ats_wire.specs.Moving.{FailsOnce}
 use Rattle.ats_wire.specs.declared.reply.Reply.{Reply}
-use Rattle.ats_wire.specs.declared.serving.ConnectionEnd.{ConnectionEnd}
-use Rattle.ats_wire.specs.declared.serving.ConnectionEnd.TheVariants.{Ended, CutFrame, BadFrame, RequestLimit, ReadFault, WriteFault}
 use Rattle.ats_top.specs.Words.{ServeWords}
 use Rattle.ats_top.specs.Read.{Files}
-use Rattle.ats_top.specs.Serving.{Session, IsSession, after_session, broken_after, FailedToAccept, DoorAndSink, is_fault, faults_of}
+use Rattle.ats_top.specs.Serving.{Session, IsSession, after_session, broken_after, FailedToAccept, DoorAndSink, faults_of}
 use Rattle.ats_top.specs.Served.{HasServed, Attends, KeepsContent, Opens}
 use Rattle.ats_top.specs.declared.serving.Halt.{Halt}
 use Rattle.ats_top.specs.declared.serving.Halt.TheVariants.{Door, Sink, Memory}
@@ -60,7 +59,7 @@ module _ (H : List ℕ → List ℕ) (files : Files) (words : ServeWords) (befor
   served_opens : (now : DoorTold) (sessions : List Session) → HasServed H files words before now sessions → Opens words before now
   served_opens now sessions served = record {
     content = listened_keep words.address sessions words.connections before.content served.opened.content now.content served.listened.content served.had.content served.few;
-    later = omega (arith, served.listened.later, served.had.later);
+    later = omega (arith, served.listened.kept, served.had.kept);
   }
 
   broken_opens : (mid now : DoorTold) (sessions : List Session) → HasServed H files words before mid sessions → length sessions < words.connections
@@ -69,7 +68,7 @@ module _ (H : List ℕ → List ℕ) (files : Files) (words : ServeWords) (befor
     content = accept_keep words.address (length sessions) words.connections before.content mid.content now.content
         (listened_keep words.address sessions (length sessions) before.content served.opened.content mid.content served.listened.content served.had.content (omega arith))
         failed.content fewer;
-    later = omega (arith, served.listened.later, served.had.later, failed.later);
+    later = omega (arith, served.listened.kept, served.had.kept, failed.later);
   }
 
   pub attends_opens : (was now : DoorAndSink) (result : Result ℕ Halt) → was.door ≡ before → Attends H files words was now result → Opens words before now.door
@@ -84,39 +83,34 @@ module _ (H : List ℕ → List ℕ) (files : Files) (words : ServeWords) (befor
   attends_opens was now (Err Memory) is (text, took, some) = served_opens now.door some.sessions (subst (λ (d : DoorTold). HasServed H files words d now.door some.sessions) is some.served)
 
 -- over a link whose count of faults is 0 no connection ends by a fault
-calm_end : (gives : Question → Reply → Type 0) (came left : LinkTold) (requests : ℕ) (tail part : List ℕ) (end : ConnectionEnd)
-    → Ends gives came left requests tail part end → came.faults ≡ 0 → left.faults ≡ 0 → is_fault end ≡ false
-calm_end gives came left requests tail part Ended ends new calm = refl
-calm_end gives came left requests tail part (CutFrame n) ends new calm = refl
-calm_end gives came left requests tail part (BadFrame n) ends new calm = refl
-calm_end gives came left requests tail part RequestLimit ends new calm = refl
-calm_end gives came left requests tail part ReadFault ends new calm = absurd (omega (arith, ends.2.1))
-calm_end gives came left requests tail part WriteFault ends new calm = absurd (omega (arith, ends.1))
+calm_end : (broken : Bool) (came left : LinkTold) → FailsOnce broken came left → came.faults ≡ 0 → left.faults ≡ 0 → broken ≡ false
+calm_end false came left fails new calm = refl
+calm_end true came left fails new calm = absurd (omega (arith, fails.0, new, calm))
 
-one_still : (first now faults : ℕ) → Rose first now → Rose first (counted_broken faults now)
+one_still : (first now faults : ℕ) → HasRisen first now → HasRisen first (counted_broken faults now)
 one_still first now zero rose = rose
 one_still first now (suc faults) rose = omega (arith, rose)
 
 -- a count that rose is not undone by further links
-still_rose : (first now : ℕ) (sessions : List Session) → Rose first now → Rose first (fold broken_after now sessions)
+still_rose : (first now : ℕ) (sessions : List Session) → HasRisen first now → HasRisen first (fold broken_after now sessions)
 still_rose first now [] rose = rose
 still_rose first now (session ∷ rest) rose = still_rose first (broken_after now session) rest (one_still first now session.left.faults rose)
 
 rise_by : (faults : ℕ) (session : Session) (rest : List Session) (before : ℕ) → session.left.faults ≡ faults
-    → (faults ≡ 0 → Rose before (fold broken_after before rest)) → Rose before (fold broken_after (broken_after before session) rest)
+    → (faults ≡ 0 → HasRisen before (fold broken_after before rest)) → HasRisen before (fold broken_after (broken_after before session) rest)
 rise_by zero session rest before is calm =
-    subst (λ (n : ℕ). Rose before (fold broken_after (counted_broken n before) rest)) (sym is) (calm refl)
+    subst (λ (n : ℕ). HasRisen before (fold broken_after (counted_broken n before) rest)) (sym is) (calm refl)
 rise_by (suc faults) session rest before is calm =
-    subst (λ (n : ℕ). Rose before (fold broken_after (counted_broken n before) rest)) (sym is)
+    subst (λ (n : ℕ). HasRisen before (fold broken_after (counted_broken n before) rest)) (sym is)
     (still_rose before (min (before + 1) (2 ^ 64 - 1)) rest (omega arith))
 
 -- if a session ended by a fault, the count of broken links rose
 pub faults_rise : (gives : Question → Reply → Type 0) (must_tell : Bool) (sessions : List Session) (before : ℕ)
-    → All (IsSession gives must_tell) sessions → 0 < faults_of sessions → Rose before (fold broken_after before sessions)
+    → All (IsSession gives must_tell) sessions → 0 < faults_of sessions → HasRisen before (fold broken_after before sessions)
 faults_rise gives must_tell [] before each some = absurd (omega arith)
 faults_rise gives must_tell (session ∷ rest) before each some = rise_by session.left.faults session rest before refl (λ calm.
     let held = All-head (IsSession gives must_tell) session rest each in
-    let clean = calm_end gives session.came session.left _ _ _ session.served.end held.served.ends held.new.calm calm in
+    let clean = calm_end (is_fault session.served.end) session.came session.left held.served.moved.faults held.new.calm calm in
     let count = sum_by-cons (λ (s : Session). cond (is_fault s.served.end) 1 0) session rest in
     let one : Bool → ℕ = λ (b : Bool). cond b 1 0 in
     let none : one (is_fault session.served.end) ≡ 0 = ap one clean in

@@ -34,10 +34,10 @@ serving_said (Some (Serve other)) words is = let same : words ≡ other = cc in 
 -- the count of the sink did not fall
 pub attends_later : (H : List ℕ → List ℕ) (files : Files) (words : ServeWords) (before now : DoorAndSink) (result : Result ℕ Halt)
     → Attends H files words before now result → before.sink.faults ≤ now.sink.faults
-attends_later H files words before now (Ok faults) (text, took, all) = took.later
-attends_later H files words before now (Err Door) (text, took, how) = took.later
+attends_later H files words before now (Ok faults) (text, took, all) = omega (arith, took.kept)
+attends_later H files words before now (Err Door) (text, took, how) = omega (arith, took.kept)
 attends_later H files words before now (Err Sink) (text, failed, some) = failed.later
-attends_later H files words before now (Err Memory) (text, took, some) = took.later
+attends_later H files words before now (Err Memory) (text, took, some) = omega (arith, took.kept)
 
 module _ (H : List ℕ → List ℕ) (said : List (List ℕ)) (words : ServeWords) (is : command_of said ≡ Some (Serve words)) (caller : CallerTold)
     (shelf later : ShelfTold) (same : later.files ≡ shelf.files) where
@@ -62,32 +62,32 @@ module _ (H : List ℕ → List ℕ) (said : List (List ℕ)) (words : ServeWord
       → Ended H said (at shelf sink door) (at later now door) result
   unloaded why sink now door result stops prints =
       stop_ended H said (at shelf sink door) (at later now door) why result
-      (files_end H shelf later caller caller door door said (Serve words) is why (index_stop why stops) sink now) prints
+      (files_end H shelf later caller caller door said (Serve words) is why (index_stop why stops) sink now) prints
 
   -- there was no memory for the room
   pub roomless : (sink now : SinkTold) (door : DoorTold) (result : ℕ) → PrintsStop sink now stop.Memory result → Ended H said (at shelf sink door) (at later now door) result
   roomless sink now door result prints =
-      stop_ended H said (at shelf sink door) (at later now door) stop.Memory result (Serve words, is, inl (refl, same)) prints
+      stop_ended H said (at shelf sink door) (at later now door) stop.Memory result (Serve words, is, inl (refl, same, refl)) prints
 
   -- the links were served, or not all
   pub served : (sink mid now : SinkTold) (door left : DoorTold) (outcome : Result ℕ Halt) (result : ℕ)
       → Attends H shelf.files words (record { door = door; sink = sink }) (record { door = left; sink = mid }) outcome
-      → PrintsOutcome mid now outcome result → mid.faults ≤ now.faults → Ended H said (at shelf sink door) (at later now left) result
-  served sink mid now door left (Ok faults) result (text, took, all) (inl (none, done, quiet)) rises = record {
+      → PrintsOutcome mid now outcome result → Ended H said (at shelf sink door) (at later now left) result
+  served sink mid now door left (Ok faults) result (text, took, all) (inl (none, done, quiet)) = record {
     end = Done text;
     ends = (Serve words, is, (subst (λ (n : ℕ). AreAllServed H shelf.files words door left n text) none all, same));
-    prints = inl (omega (arith, done), done, (subst (λ (s : SinkTold). Took sink s text) (sym quiet) took).all);
+    prints = inl (omega (arith, done), done, subst (λ (s : SinkTold). Took sink s text) (sym quiet) took);
   }
-  served sink mid now door left (Ok faults) result (text, took, all) (inr (some, prints)) rises =
-      stopped_behind H said (at shelf sink door) (at later now left) text mid (stop.Faults faults) result took rises (Serve words, is, inr ((some, all), same)) prints
-  served sink mid now door left (Err Door) result (text, took, how) prints rises =
-      stopped_behind H said (at shelf sink door) (at later now left) text mid stop.Link result took rises (Serve words, is, inr (how, same)) prints
-  served sink mid now door left (Err Memory) result (text, took, unmade) prints rises =
-      stopped_behind H said (at shelf sink door) (at later now left) text mid stop.Memory result took rises (Serve words, is, inr (unmade, same)) prints
-  served sink mid now door left (Err Sink) result (text, failed, some) (seven, quiet) rises =
+  served sink mid now door left (Ok faults) result (text, took, all) (inr (some, prints)) =
+      stopped_behind H said (at shelf sink door) (at later now left) text mid (stop.Faults faults) result took (Serve words, is, inr ((some, all), same)) prints
+  served sink mid now door left (Err Door) result (text, took, how) prints =
+      stopped_behind H said (at shelf sink door) (at later now left) text mid stop.Link result took (Serve words, is, inr (how, same)) prints
+  served sink mid now door left (Err Memory) result (text, took, unmade) prints =
+      stopped_behind H said (at shelf sink door) (at later now left) text mid stop.Memory result took (Serve words, is, inr (unmade, same)) prints
+  served sink mid now door left (Err Sink) result (text, failed, some) (seven, quiet) =
       let told = subst (λ (s : SinkTold). FailedToTake sink s text) (sym quiet) failed in
       record {
         end = Unprinted text;
         ends = (Serve words, is, (some, same));
-        prints = inr (seven, told.cause, (told.n, told.within, told.part));
+        prints = inr (seven, told);
       }

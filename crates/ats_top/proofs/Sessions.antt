@@ -1,5 +1,5 @@
 -- Sessions at a door, one after another, and their lines.
-use Rattle.std.proofs.Common.{◌≡◌, ◌≤◌, ◌+◌, ◌∙◌, ◌++◌, ◌∷◌, ℕ, Bool, List, [], length, take, fold, is_some, option_map, Option, Some, None, refl, sym, ap, subst, arith, append_assoc, append-nil, add-zero, length-append, cond}
+use Rattle.std.proofs.Common.{◌≡◌, ◌≤◌, ◌+◌, ◌∙◌, ◌++◌, ◌∷◌, ℕ, Bool, true, List, [], length, take, fold, is_some, option_map, Option, Some, None, refl, sym, ap, subst, arith, append_assoc, append-nil, add-zero, length-append, cond}
 use Rattle.std.specs.List.{All}
 use Rattle.std.proofs.lemmas.List.Sums.{fold-append, sum_by_push}
 use Rattle.std.proofs.lemmas.List.Elements.{All-append, All-cons, All-nil}
@@ -7,10 +7,10 @@ use Rattle.std.proofs.Math.Seq.{take-append-add}
 use Rattle.ats_base.specs.Outside.{Rose, SinkTold}
 use Rattle.ats_base.specs.Links.{LinkTold, Opening, DoorTold, IsNew, counted_broken, accepting_out, accepted_back}
 use Rattle.ats_wire.specs.Requests.{Question}
-use Rattle.ats_wire.specs.Connections.{IsServed}
+use Rattle.ats_wire.specs.Connections.{IsServed, is_fault}
 use Rattle.ats_wire.specs.declared.reply.Reply.{Reply}
 use Rattle.ats_wire.specs.declared.serving.Served.{Served}
-use Rattle.ats_top.specs.Serving.{Session, IsSession, after_session, broken_after, HadSessions, Took, FailedToTake, is_fault, faults_of, line_of_session, session_lines, session_lines_from}
+use Rattle.ats_top.specs.Serving.{Session, IsSession, after_session, broken_after, HadSessions, Took, FailedToTake, faults_of, line_of_session, session_lines, session_lines_from}
 
 pub map_twice : {A B C : Type 0} (f : B → C) (h : A → B) (o : Option A) → option_map f (option_map h o) ≡ option_map (λ x. f (h x)) o
 map_twice f h None = refl
@@ -33,7 +33,7 @@ had_then gives sessions more before mid now first second =
           ∙ map_twice (λ (opening : Opening). fold after_session opening more) (λ (opening : Opening). fold after_session opening sessions) before.content
           ∙ ap (λ (f : Opening → Opening). option_map f before.content) (λ i. λ opening. sym (fold-append after_session opening sessions more) i);
       broken = second.broken ∙ ap (λ (n : ℕ). fold broken_after n more) first.broken ∙ sym (fold-append broken_after before.broken sessions more);
-      later = omega (arith, first.later, second.later);
+      kept = second.kept ∙ first.kept;
     }
 
 pub had_none : (gives : Question → Reply → Type 0) (before : DoorTold) → HadSessions gives [] before before
@@ -41,16 +41,16 @@ had_none gives before = record {
   each = All-nil (IsSession gives (is_some before.content));
   content = elim before.content as (λ o. o ≡ option_map (λ (opening : Opening). opening) o) [ None ↦ refl | Some x ↦ refl ];
   broken = refl;
-  later = omega arith;
+  kept = refl;
 }
 
 -- a link that was accepted, served and given back is a session
 pub one_had : (gives : Question → Reply → Type 0) (came left : LinkTold) (served : Served) (before accepted now : DoorTold)
     → IsNew (is_some before.content) came → IsServed gives came left served
-    → accepted.content ≡ option_map accepting_out before.content → accepted.broken ≡ before.broken → before.faults ≤ accepted.faults
+    → accepted.content ≡ option_map accepting_out before.content → accepted.broken ≡ before.broken → accepted.faults ≡ before.faults
     → now.content ≡ option_map (accepted_back left) accepted.content → now.broken ≡ counted_broken left.faults accepted.broken → now.faults ≡ accepted.faults
     → (session : Session) × (session.served ≡ served) × HadSessions gives (session ∷ []) before now
-one_had gives came left served before accepted now new is out kept later back broken calm =
+one_had gives came left served before accepted now new is out kept calm back broken still =
     let session : Session = record { came = came; left = left; served = served } in
     let held : IsSession gives (is_some before.content) session = record { new = new; served = is } in (
       session,
@@ -59,7 +59,7 @@ one_had gives came left served before accepted now new is out kept later back br
         each = All-cons (IsSession gives (is_some before.content)) session [] held (All-nil (IsSession gives (is_some before.content)));
         content = back ∙ ap (λ (o : Option Opening). option_map (accepted_back left) o) out ∙ map_twice (accepted_back left) accepting_out before.content;
         broken = broken ∙ ap (λ (n : ℕ). counted_broken left.faults n) kept;
-        later = omega (arith, later, calm);
+        kept = still ∙ calm;
       },
     )
 
@@ -91,17 +91,17 @@ faults_then sessions session served same =
     ∙ ap (λ (s : Served). faults_of sessions + cond (is_fault s.end) 1 0) same
 
 pub took_as : (before now : SinkTold) (bytes text : List ℕ) → bytes ≡ text
-    → now.taken ≡ option_map (λ taken. taken ++ bytes) before.taken → before.faults ≤ now.faults → Took before now text
-took_as before now bytes text is all later =
-    record { all = subst (λ (b : List ℕ). now.taken ≡ option_map (λ taken. taken ++ b) before.taken) is all; later = later }
+    → now.taken ≡ option_map (λ taken. taken ++ bytes) before.taken → now.faults ≡ before.faults → Took before now text
+took_as before now bytes text is all kept =
+    record { all = subst (λ (b : List ℕ). now.taken ≡ option_map (λ taken. taken ++ b) before.taken) is all; kept = kept }
 
 pub failed_as : (before now : SinkTold) (bytes text : List ℕ) → bytes ≡ text
     → ((n : ℕ) × (n ≤ length bytes) × (now.taken ≡ option_map (λ taken. taken ++ take n bytes) before.taken)) → Rose before.faults now.faults
-    → before.faults ≤ now.faults → FailedToTake before now text
-failed_as before now bytes text is (n, within, part) rose later =
+    → before.faults ≤ now.faults → now.last_failed ≡ true → FailedToTake before now text
+failed_as before now bytes text is (n, within, part) rose later last =
     let P : List ℕ → Type 0 = λ (b : List ℕ). (n ≤ length b) × (now.taken ≡ option_map (λ taken. taken ++ take n b) before.taken) in
     let both = subst P is (within, part) in
-    record { n = n; within = both.0; part = both.1; cause = rose; later = later }
+    record { n = n; within = both.0; part = both.1; cause = rose; later = later; last = last }
 
 pub took_none : (before : SinkTold) → Took before before []
 took_none before = record {
@@ -109,7 +109,7 @@ took_none before = record {
     | None ↦ refl
     | Some x ↦ ap (λ (y : List ℕ). Some y) (sym (append-nil x))
   ];
-  later = omega arith;
+  kept = refl;
 }
 
 -- what was taken after all of a text, if the sink reports
@@ -122,7 +122,7 @@ behind (Some x) mid now text more first second =
 pub took_then : (before mid now : SinkTold) (text more : List ℕ) → Took before mid text → Took mid now more → Took before now (text ++ more)
 took_then before mid now text more first second = record {
   all = behind before.taken mid.taken now.taken text more first.all second.all;
-  later = omega (arith, first.later, second.later);
+  kept = second.kept ∙ first.kept;
 }
 
 -- a sink that failed after all of a text failed after a prefix of it and of what was to follow
@@ -132,6 +132,7 @@ failed_then before mid now text more first second = record {
   within = omega (arith, second.within, length-append text more);
   part = subst (λ (x : List ℕ). now.taken ≡ option_map (λ taken. taken ++ x) before.taken) (sym (take-append-add text more second.n))
       (behind before.taken mid.taken now.taken text (take second.n more) first.all second.part);
-  cause = omega (arith, first.later, second.cause);
-  later = omega (arith, first.later, second.later);
+  cause = rw (← first.kept) second.cause;
+  later = omega (arith, first.kept, second.later);
+  last = second.last;
 }

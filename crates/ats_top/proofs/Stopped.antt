@@ -19,13 +19,13 @@ use Rattle.ats_top.specs.declared.stops.Stop.TheVariants.{Usage, Shelf, Input, R
 use Rattle.ats_top.proofs.Sessions.{took_then, failed_then}
 
 -- what all objects but the sink report, before and after a command of these words
-module _ (H : List ℕ → List ℕ) (shelf later_shelf : ShelfTold) (caller later_caller : CallerTold) (door later_door : DoorTold)
+module _ (H : List ℕ → List ℕ) (shelf later_shelf : ShelfTold) (caller later_caller : CallerTold) (door : DoorTold)
     (said : List (List ℕ)) (command : Command) (is : command_of said ≡ Some command) where
   abbrev before : SinkTold → Outside
   before sink = record { shelf = shelf; sink = sink; caller = caller; door = door }
 
   abbrev now : SinkTold → Outside
-  now sink = record { shelf = later_shelf; sink = sink; caller = later_caller; door = later_door }
+  now sink = record { shelf = later_shelf; sink = sink; caller = later_caller; door = door }
 
   -- whatever the sink reports
   abbrev EndsSo : End → Type 0
@@ -33,15 +33,15 @@ module _ (H : List ℕ → List ℕ) (shelf later_shelf : ShelfTold) (caller lat
 
   pub files_end : (stop : Stop) → FilesStop H shelf later_shelf command stop → EndsSo (Stopped [] stop)
   files_end Usage stops = absurd stops
-  files_end Shelf stops = λ was now. (command, is, inl (refl, stops))
-  files_end (Input refusal) stops = λ was now. (command, is, inl (refl, stops))
-  files_end (Rejected rejection) stops = λ was now. (command, is, inl (refl, stops))
-  files_end Memory stops = λ was now. (command, is, inl (refl, stops))
+  files_end Shelf stops = λ was now. (command, is, inl (refl, stops, refl))
+  files_end (Input refusal) stops = λ was now. (command, is, inl (refl, stops, refl))
+  files_end (Rejected rejection) stops = λ was now. (command, is, inl (refl, stops, refl))
+  files_end Memory stops = λ was now. (command, is, inl (refl, stops, refl))
   files_end Link stops = absurd stops
   files_end (Peer fault) stops = absurd stops
   files_end (Faults count) stops = absurd stops
-  files_end (Collision place ours theirs) stops = λ was now. (command, is, inl (refl, stops))
-  files_end (Swept lines collides) stops = λ was now. (command, is, inl (refl, stops))
+  files_end (Collision place ours theirs) stops = λ was now. (command, is, inl (refl, stops, refl))
+  files_end (Swept lines collides) stops = λ was now. (command, is, inl (refl, stops, refl))
 
   -- a command that stopped by its words or files
   pub files_ends : {T : Type 0} (result : Result T Stop) → IfErr result (FilesStop H shelf later_shelf command)
@@ -79,13 +79,10 @@ module _ (H : List ℕ → List ℕ) (shelf : ShelfTold) (caller later : CallerT
   ask_ends (Err stop) stops = ask_end stop stops
 
 -- what is printed after a text that was taken is printed with it
-prints_then : (before mid now : SinkTold) (status : ℕ) (text more : List ℕ) (result : ℕ) → Took before mid text → mid.faults ≤ now.faults
+prints_then : (before mid now : SinkTold) (status : ℕ) (text more : List ℕ) (result : ℕ) → Took before mid text
     → Prints mid now status more result → Prints before now status (text ++ more) result
-prints_then before mid now status text more result took later (inl (not, is, all)) =
-    inl (not, is, (took_then before mid now text more took (record { all = all; later = later })).all)
-prints_then before mid now status text more result took later (inr (is, rose, (n, within, part))) =
-    let failed = failed_then before mid now text more took (record { n = n; within = within; part = part; cause = rose; later = later }) in
-    inr (is, failed.cause, (failed.n, failed.within, failed.part))
+prints_then before mid now status text more result took (inl (not, is, all)) = inl (not, is, took_then before mid now text more took all)
+prints_then before mid now status text more result took (inr (is, failed)) = inr (is, failed_then before mid now text more took failed)
 
 -- why `rank` stopped is why a command stops by its words and files
 rank_stop : (H : List ℕ → List ℕ) (before now : ShelfTold) (words : RankWords) (stop : Stop) → now.files ≡ before.files
@@ -131,9 +128,9 @@ module _ (H : List ℕ → List ℕ) (said : List (List ℕ)) (before now : Outs
   pub no_line : (text : List ℕ) (stop : Stop) → HasLine stop → Ends H before now said (Stopped text stop) → Ends H before now said (Stopped text Memory)
   no_line text Usage has ends = absurd has
   no_line text Shelf has ends = absurd has
-  no_line text (Input refusal) has (command, is, inl stops) = (command, is, inl (stops.0, stops.1.1))
+  no_line text (Input refusal) has (command, is, inl stops) = (command, is, inl (stops.0, stops.1.1, stops.2))
   no_line text (Input refusal) has (command, is, inr links) = (command, is, links_memory H before now command text (Input refusal) has links)
-  no_line text (Rejected rejection) has (command, is, inl stops) = (command, is, inl (stops.0, stops.1.1))
+  no_line text (Rejected rejection) has (command, is, inl stops) = (command, is, inl (stops.0, stops.1.1, stops.2))
   no_line text (Rejected rejection) has (command, is, inr links) = (command, is, links_memory H before now command text (Rejected rejection) has links)
   no_line text Memory has ends = absurd has
   no_line text Link has ends = absurd has
@@ -141,7 +138,7 @@ module _ (H : List ℕ → List ℕ) (said : List (List ℕ)) (before now : Outs
   no_line text (Peer fault) has (command, is, inr links) = (command, is, links_memory H before now command text (Peer fault) has links)
   no_line text (Faults count) has (command, is, inl stops) = absurd stops.1
   no_line text (Faults count) has (command, is, inr links) = (command, is, links_memory H before now command text (Faults count) has links)
-  no_line text (Collision place ours theirs) has (command, is, inl stops) = (command, is, inl (stops.0, stops.1.1))
+  no_line text (Collision place ours theirs) has (command, is, inl stops) = (command, is, inl (stops.0, stops.1.1, stops.2))
   no_line text (Collision place ours theirs) has (command, is, inr links) = (command, is, links_memory H before now command text (Collision place ours theirs) has links)
   no_line text (Swept lines collides) has ends = absurd has
 
@@ -151,15 +148,15 @@ module _ (H : List ℕ → List ℕ) (said : List (List ℕ)) (before now : Outs
   stop_ended stop result ends (inr (has, prints)) = record { end = Stopped [] Memory; ends = no_line [] stop has ends; prints = prints }
 
   -- a command that stopped after this text, which was taken, and whose stop was then printed
-  pub stopped_behind : (text : List ℕ) (mid : SinkTold) (stop : Stop) (result : ℕ) → Took before.sink mid text → mid.faults ≤ now.sink.faults
+  pub stopped_behind : (text : List ℕ) (mid : SinkTold) (stop : Stop) (result : ℕ) → Took before.sink mid text
       → Ends H before now said (Stopped text stop) → PrintsStop mid now.sink stop result → Ended H said before now result
-  stopped_behind text mid stop result took later ends (inl prints) = record {
+  stopped_behind text mid stop result took ends (inl prints) = record {
     end = Stopped text stop;
     ends = ends;
-    prints = prints_then before.sink mid now.sink (status_of_stop stop) text (text_of_stop stop) result took later prints;
+    prints = prints_then before.sink mid now.sink (status_of_stop stop) text (text_of_stop stop) result took prints;
   }
-  stopped_behind text mid stop result took later ends (inr (has, prints)) = record {
+  stopped_behind text mid stop result took ends (inr (has, prints)) = record {
     end = Stopped text Memory;
     ends = no_line text stop has ends;
-    prints = prints_then before.sink mid now.sink (status_of_stop Memory) text (text_of_stop Memory) result took later prints;
+    prints = prints_then before.sink mid now.sink (status_of_stop Memory) text (text_of_stop Memory) result took prints;
   }

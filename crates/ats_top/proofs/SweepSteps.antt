@@ -1,5 +1,5 @@
 -- How `sweep` ends, from the results of its steps.
-use Rattle.std.proofs.Common.{◌≡◌, ◌||◌, ◌∙◌, ◌≤◌, ◌^◌, ℕ, true, false, List, length, String, Global, string_bytes, Result, Ok, Err, refl, sym, subst, inl, inr, arith, if◌then◌else◌}
+use Rattle.std.proofs.Common.{◌≡◌, ◌||◌, ◌∙◌, ◌≤◌, ◌^◌, ℕ, true, false, List, [], None, length, String, Global, string_bytes, Result, Ok, Err, refl, sym, subst, inl, inr, arith, if◌then◌else◌}
 use Rattle.std.specs.Prelude.{IfOk, IfErr}
 use Rattle.std.specs.List.{AllZip}
 use Rattle.ats_base.specs.Outside.{IsMissing, IsLonger, ShelfTold, Asked}
@@ -11,7 +11,7 @@ use Rattle.ats_top.specs.Words.{SweepWords, Sweep}
 use Rattle.ats_top.specs.Read.{Files, IsFile, HasIndex}
 use Rattle.ats_top.specs.Refusals.{IsListRefused}
 use Rattle.ats_top.specs.ReadStops.{FileStop, IndexStop}
-use Rattle.ats_top.specs.Reading.{Reads, Serves, ReadsInOrder, proof_files}
+use Rattle.ats_top.specs.Reading.{Reads, Serves, IsGood, ReadsThen, listed_files, StoresAtMostOnce}
 use Rattle.ats_top.specs.Listed.{Listed, lines_of, IsList, IsEntry, names_of}
 use Rattle.ats_top.specs.Gathered.{AreGathered, LacksProof, PassesLimit}
 use Rattle.ats_top.specs.Findings.{AreFound, IsSwept, status_of_findings}
@@ -40,19 +40,19 @@ module _ (H : List ℕ → List ℕ) (before now : ShelfTold) (words : SweepWord
 
   module _ (archive : Archive) (index : HasIndex H before.files words.index archive) where
     -- a list that was not gathered
-    pub list_stops : (mid : ShelfTold) → mid.files ≡ before.files → before.faults ≤ mid.faults → (stop : Stop) → FileStop mid now words.list (2 ^ 20) stop
+    pub list_stops : (mid : ShelfTold) → mid.files ≡ before.files → mid.faults ≡ before.faults → (stop : Stop) → FileStop mid now words.list (2 ^ 20) stop
         → FilesStop H before now (Sweep words) stop
-    list_stops mid was later Shelf (inl rose) = (inl (tt, omega (arith, later, rose)), inl kept)
-    list_stops mid was later Shelf (inr missing) = (inr (inr ((archive, index), inl (subst (λ (files : Files). IsMissing files words.list) was missing))), inl kept)
-    list_stops mid was later (Input refusal) (is, long) = (
+    list_stops mid was calm Shelf (inl rose) = (inl (tt, rw (← calm) rose), inl kept)
+    list_stops mid was calm Shelf (inr missing) = (inr (inr ((archive, index), inl (subst (λ (files : Files). IsMissing files words.list) was missing))), inl kept)
+    list_stops mid was calm (Input refusal) (is, long) = (
       inr (
         (archive, index),
         subst (λ (r : InputRefusal). IsListRefused before.files words.list r) (sym is) (refl, subst (λ (files : Files). IsLonger files words.list (2 ^ 20)) was long),
       ),
       kept,
     )
-    list_stops mid was later Memory stops = kept
-    list_stops mid was later _ stops = absurd stops
+    list_stops mid was calm Memory stops = kept
+    list_stops mid was calm _ stops = absurd stops
 
     -- a line of it that is bad
     pub lines_stops : (bytes : List ℕ) → IsFile before.files words.list (2 ^ 20) bytes → (stop : Stop) → ListStop (lines_of bytes) stop
@@ -73,10 +73,10 @@ module _ (H : List ℕ → List ℕ) (before now : ShelfTold) (words : SweepWord
       names = sym (listed_names (lines_of bytes) entries are)
 
       -- proofs that were not gathered
-      pub gather_stops : (mid : ShelfTold) → mid.files ≡ before.files → before.faults ≤ mid.faults → (stop : Stop) → GatheringStop mid now (entry_names entries) stop
+      pub gather_stops : (mid : ShelfTold) → mid.files ≡ before.files → mid.faults ≡ before.faults → (stop : Stop) → GatheringStop mid now (entry_names entries) stop
           → FilesStop H before now (Sweep words) stop
-      gather_stops mid was later Shelf (inl rose) = (inl (tt, omega (arith, later, rose)), inl kept)
-      gather_stops mid was later Shelf (inr lacks) = (
+      gather_stops mid was calm Shelf (inl rose) = (inl (tt, rw (← calm) rose), inl kept)
+      gather_stops mid was calm Shelf (inr lacks) = (
         inr (inr (
           (archive, index),
           inr (
@@ -87,7 +87,7 @@ module _ (H : List ℕ → List ℕ) (before now : ShelfTold) (words : SweepWord
         )),
         inl kept,
       )
-      gather_stops mid was later (Input (ProofsTooLong size)) passes = (
+      gather_stops mid was calm (Input (ProofsTooLong size)) passes = (
         inr (
           (archive, index),
           (
@@ -99,15 +99,16 @@ module _ (H : List ℕ → List ℕ) (before now : ShelfTold) (words : SweepWord
         ),
         kept,
       )
-      gather_stops mid was later Memory stops = kept
-      gather_stops mid was later _ stops = absurd stops
+      gather_stops mid was calm Memory stops = kept
+      gather_stops mid was calm _ stops = absurd stops
 
       -- the calls on the shelf
       pub serves_all : (first mid : ShelfTold) → first.files ≡ before.files → Reads before first words.index (2 ^ 29) → Reads first mid words.list (2 ^ 20)
-          → ReadsProofs mid now (entry_names entries) → Serves before now (Sweep words)
+          → ReadsProofs mid now (entry_names entries) → Serves H before now (Sweep words)
       serves_all first mid was is also proofs =
-          sweep_proofs before now first mid H words archive listed index list is also proofs.later
-          (subst (λ (all : List (List ℕ)). Asked mid.asked now.asked (ReadsInOrder (proof_files all))) names proofs.asked)
+          sweep_proofs H before now first mid words archive listed index list is also proofs.later
+          (subst (λ (all : List (List ℕ)). Asked mid.asked now.asked (ReadsThen (IsGood H before.files) (listed_files [] all) (StoresAtMostOnce None))) names
+          (subst (λ (files : Files). Asked mid.asked now.asked (ReadsThen (IsGood H files) (listed_files [] (entry_names entries)) (StoresAtMostOnce None))) (also.files ∙ was) (proofs.asked H)))
 
       module _ (proofs : List Gathered) (gathered : AreGathered before.files (entry_names entries) proofs) (jobs : List Job) (verdicts : List Verdict)
           (its : AreJobs entries proofs jobs) (found : AllZip (IsVerdictOf H archive) jobs verdicts) where

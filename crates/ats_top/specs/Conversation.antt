@@ -1,5 +1,5 @@
 -- A conversation: an address is called, one question is asked over the link, and the link is given back.
-use Rattle.std.specs.Prelude.{◌≡◌, ◌<◌, ◌≤◌, ◌⊎◌, ◌^◌, ℕ, List, is_some, option_map, Result, Ok, Err}
+use Rattle.std.specs.Prelude.{◌≡◌, ◌<◌, ◌⊎◌, ◌^◌, ℕ, true, List, is_some, option_map, Result, Ok, Err}
 use Rattle.ats_base.specs.Outside.{Rose}
 use Rattle.ats_base.specs.Links.{LinkTold, CallerTold, IsNew, IsCalledAt, MayNoteCall, calling_out, called_back, counted_broken}
 use Rattle.ats_wire.specs.Requests.{Question}
@@ -14,18 +14,16 @@ use Rattle.ats_top.specs.declared.stops.Stop.{Stop}
 use Rattle.ats_top.specs.declared.stops.Stop.TheVariants.{Memory, Link, Peer}
 
 -- The address was called, the question was asked over the link, with this result, and the link was given back. The
--- record has the link as it was received and as it was given back, and the caller's count between the two.
+-- record has the link as it was received and as it was given back.
 pub record Converses (address : List ℕ) (question : Question) (before now : CallerTold)
     (result : Result (List ℕ) AskFault) : Type 0 where
   pub link : LinkTold
   pub back : LinkTold
-  pub count : ℕ
   pub new : IsNew (is_some before.content) link
   pub at_address : IsCalledAt address link.traffic
   pub asked : IsAsked question link back result
   pub content : now.content ≡ option_map (called_back back) (option_map (calling_out address) before.content)
-  pub later : before.faults ≤ count
-  pub counted : now.faults ≡ counted_broken back.faults count
+  pub counted : now.faults ≡ counted_broken back.faults before.faults
 
 -- a whole reply with the bytes of a proof was read, with this verdict
 abbrev pub ConversesFed : (address : List ℕ) → Question → (before now : CallerTold) → Fed → Type 0
@@ -36,6 +34,7 @@ ConversesFed address question before now fed = (bytes : List ℕ)
 pub record CallsInVain (address : List ℕ) (before now : CallerTold) : Type 0 where
   pub noted : MayNoteCall address before.content now.content
   pub rose : Rose before.faults now.faults
+  pub last : now.last_failed ≡ true
 
 -- the caller's count rose: either there was no link, or a fault kept the question from being written or its reply from
 -- being read

@@ -1,5 +1,5 @@
 -- What `serve` does: it loads an index, listens, and serves links one after another.
-use Rattle.std.specs.Prelude.{◌≡◌, ◌⊎◌, ◌<◌, ◌≤◌, ◌+◌, ◌++◌, ◌∷◌, ℕ, List, [], length, Option, Some, None, option_map, codes, Result, Ok, Err}
+use Rattle.std.specs.Prelude.{◌≡◌, ◌⊎◌, ◌<◌, ◌≤◌, ◌+◌, ◌++◌, ◌∷◌, ℕ, true, List, [], length, Option, Some, None, option_map, codes, Result, Ok, Err}
 use Rattle.ats_base.specs.Outside.{Rose}
 use Rattle.ats_base.specs.Links.{Opening, DoorTold, MayNoteListen, noting_listen}
 use Rattle.ats_commit.specs.Archive.{Archive}
@@ -16,7 +16,7 @@ use Rattle.ats_top.specs.declared.stops.Stop.TheVariants as stop
 pub record Listened (address : List ℕ) (before now : DoorTold) : Type 0 where
   pub content : now.content ≡ option_map (noting_listen address) before.content
   pub broken : now.broken ≡ before.broken
-  pub later : before.faults ≤ now.faults
+  pub kept : now.faults ≡ before.faults
 
 -- The door did not listen, but may have noted the address.
 pub record FailedToListen (address : List ℕ) (before now : DoorTold) : Type 0 where
@@ -24,6 +24,7 @@ pub record FailedToListen (address : List ℕ) (before now : DoorTold) : Type 0 
   pub broken : now.broken ≡ before.broken
   pub cause : Rose before.faults now.faults
   pub later : before.faults ≤ now.faults
+  pub last : now.last_failed ≡ true
 
 -- The named file is the index of an archive, the door listened at the address of the words, and there were these
 -- sessions, in which each request was answered from that archive.

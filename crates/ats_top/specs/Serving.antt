@@ -4,7 +4,7 @@ use Rattle.std.specs.List.{All}
 use Rattle.ats_base.specs.Outside.{Rose, SinkTold}
 use Rattle.ats_base.specs.Links.{LinkTold, Opening, DoorTold, IsNew, counted_broken, counting_accept, accepting_out, accepted_back}
 use Rattle.ats_wire.specs.Requests.{Question}
-use Rattle.ats_wire.specs.Connections.{IsServed}
+use Rattle.ats_wire.specs.Connections.{IsServed, is_fault}
 use Rattle.ats_wire.specs.declared.reply.Reply.{Reply}
 use Rattle.ats_wire.specs.declared.serving.Served.{Served}
 use Rattle.ats_wire.specs.declared.serving.ConnectionEnd.{ConnectionEnd}
@@ -38,7 +38,7 @@ pub record HadSessions (gives : Question → Reply → Type 0) (sessions : List 
   pub each : All (IsSession gives (is_some before.content)) sessions
   pub content : now.content ≡ option_map (λ opening. fold after_session opening sessions) before.content
   pub broken : now.broken ≡ fold broken_after before.broken sessions
-  pub later : before.faults ≤ now.faults
+  pub kept : now.faults ≡ before.faults
 
 -- One call of `accept` failed, and there was no other call on the door.
 pub record FailedToAccept (before now : DoorTold) : Type 0 where
@@ -46,14 +46,7 @@ pub record FailedToAccept (before now : DoorTold) : Type 0 where
   pub broken : now.broken ≡ before.broken
   pub cause : Rose before.faults now.faults
   pub later : before.faults ≤ now.faults
-
-abbrev pub is_fault : ConnectionEnd → Bool
-is_fault Ended = false
-is_fault (CutFrame left) = false
-is_fault (BadFrame n) = false
-is_fault RequestLimit = false
-is_fault ReadFault = true
-is_fault WriteFault = true
+  pub last : now.last_failed ≡ true
 
 -- how many sessions ended by a fault
 abbrev pub faults_of : List Session → ℕ
@@ -87,18 +80,19 @@ pub record DoorAndSink : Type 0 where
   pub door : DoorTold
   pub sink : SinkTold
 
--- the sink took the text, if it reports, and its count of faults did not fall
+-- the sink took the text, if it reports, and did not fail
 pub record Took (before now : SinkTold) (text : List ℕ) : Type 0 where
   pub all : now.taken ≡ option_map (λ taken. taken ++ text) before.taken
-  pub later : before.faults ≤ now.faults
+  pub kept : now.faults ≡ before.faults
 
--- the sink failed after a prefix of the text
+-- the sink failed after a prefix of the text, once and in its last call
 pub record FailedToTake (before now : SinkTold) (text : List ℕ) : Type 0 where
   pub n : ℕ
   pub within : n ≤ length text
   pub part : now.taken ≡ option_map (λ taken. taken ++ take n text) before.taken
   pub cause : Rose before.faults now.faults
   pub later : before.faults ≤ now.faults
+  pub last : now.last_failed ≡ true
 
 -- why the sink did not take the whole text: it failed, or memory for the text ran out
 abbrev pub IsUntold : (before now : SinkTold) → List ℕ → Halt → Type 0

@@ -1,5 +1,5 @@
 -- The results of the steps of `sweep`: for the list, its proofs, the audits, and the lines.
-use Rattle.std.specs.Prelude.{◌≡◌, ◌⊎◌, ◌≤◌, ◌^◌, ℕ, List, map, string_bytes}
+use Rattle.std.specs.Prelude.{◌≡◌, ◌⊎◌, ◌≤◌, ◌^◌, ℕ, List, [], None, map, string_bytes}
 use Rattle.std.specs.List.{AllZip, list_any, zip}
 use Rattle.ats_base.specs.Outside.{Rose, ShelfTold, Asked}
 use Rattle.ats_client.specs.declared.fault.Rejection.TheVariants.{Shape, Check}
@@ -11,7 +11,7 @@ use Rattle.ats_commit.specs.Archive.{Archive}
 use Rattle.ats_commit.specs.Places.{tree_place}
 use Rattle.ats_top.specs.Words.{SweepWords}
 use Rattle.ats_top.specs.Read.{HasIndex, IsFile}
-use Rattle.ats_top.specs.Reading.{Reads, ReadsInOrder, proof_files}
+use Rattle.ats_top.specs.Reading.{Reads, IsGood, ReadsThen, listed_files, StoresAtMostOnce}
 use Rattle.ats_top.specs.ReadStops.{IsUnread}
 use Rattle.ats_top.specs.Listed.{IsSpelled, IsBadLine}
 use Rattle.ats_top.specs.Gathered.{LacksProof, PassesLimit, content}
@@ -55,7 +55,8 @@ GatheringStop before now names _ = ⊥
 pub record ReadsProofs (before now : ShelfTold) (names : List (List ℕ)) : Type 0 where
   pub files : now.files ≡ before.files
   pub later : before.faults ≤ now.faults
-  pub asked : Asked before.asked now.asked (ReadsInOrder (proof_files names))
+  pub asked : (H : List ℕ → List ℕ) → Asked before.asked now.asked
+      (ReadsThen (IsGood H before.files) (listed_files [] names) (StoresAtMostOnce None))
 
 -- a job is that of its entry, over the bytes of its proof
 pub record IsJobOf (entry : Entry) (proof : Gathered) (job : Job) : Type 0 where
@@ -95,5 +96,6 @@ pub record AreRead (H : List ℕ → List ℕ) (before now : ShelfTold) (words :
   pub file : IsFile before.files words.list (2 ^ 20) list
   pub same : first.files ≡ before.files
   pub files : now.files ≡ before.files
+  pub calm : now.faults ≡ before.faults
   pub index_read : Reads before first words.index (2 ^ 29)
   pub list_read : Reads first now words.list (2 ^ 20)

@@ -5,6 +5,7 @@ ghost use Rattle.ats_top.specs.Refusals.{AsksRanking};
 ghost use Rattle.ats_top.specs.Conversation.{ConversesFed, ConversationStop, IsRanged, Calls};
 ghost use Rattle.ats_top.specs.Asked.{IsAnswered, AskStop};
 ghost use Rattle.ats_top.specs.Stops.{stop_of_asking};
+ghost use Rattle.ats_top.specs.Counts.{KeepsCallerCount};
 
 use crate::stops::{PeerFault, Stop};
 use crate::verifying::answered;
@@ -50,6 +51,7 @@ fn converse<C: Caller>(
         (record { algorithm = algorithm; top = top; query = query.now }) (C.told caller.old) (C.told caller.new)) }
     ensures calls { Calls address.now (record { algorithm = algorithm; top = top; query = query.now })
         (C.told caller.old) (C.told caller.new) }
+    ensures count { KeepsCallerCount (C.told caller.old) (C.told caller.new) result }
 {
     let Ok(mut link) = caller.call(address) else {
         return Err(Stop::Link);
@@ -80,6 +82,7 @@ pub(crate) fn ask<H: Hash32, C: Caller>(
     ensures calls { (C.told caller.new ≡ C.told caller.old)
         ⊎ (AsksRanking r query.now × Calls address.now (record { algorithm = algorithm; top = r; query = query.now })
         (C.told caller.old) (C.told caller.new)) }
+    ensures count { KeepsCallerCount (C.told caller.old) (C.told caller.new) result }
     ensures uncalled { (AsksRanking r query.now → ⊥) → caller.new ≡ caller.old }
 {
     let rows = Top::new(r)?;

@@ -8,6 +8,7 @@ ghost use Rattle.ats_top.specs.Words.{Audit};
 ghost use Rattle.ats_top.specs.Print.{lines};
 ghost use Rattle.ats_top.specs.Refusals.{AsksRanking};
 ghost use Rattle.ats_top.specs.Reading.{Serves};
+ghost use Rattle.ats_top.specs.Counts.{KeepsShelfCount};
 ghost use Rattle.ats_top.specs.Audited.{IsAuditedRight, VerdictStop};
 ghost use Rattle.ats_top.specs.Run.{FilesStop};
 
@@ -86,7 +87,8 @@ pub(crate) fn audit<H: Hash32 + Sync, R: Threads + Sync, S: Shelf>(
     ensures stop { IfErr result (FilesStop H.hash (S.told shelf.old) (S.told shelf.new)
         (Audit (record { index = index.now; r = r; query = query.now; proof = proof.now }))) }
     ensures same { (S.told shelf.new).files ≡ (S.told shelf.old).files }
-    ensures serves { Serves (S.told shelf.old) (S.told shelf.new)
+    ensures count { KeepsShelfCount (S.told shelf.old) (S.told shelf.new) result }
+    ensures serves { Serves H.hash (S.told shelf.old) (S.told shelf.new)
         (Audit (record { index = index.now; r = r; query = query.now; proof = proof.now })) }
     ensures unread { (AsksRanking r query.now → ⊥) → shelf.new ≡ shelf.old }
 {

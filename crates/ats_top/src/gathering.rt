@@ -3,6 +3,7 @@
 ghost use Rattle.std.specs.Prelude.{◌≡◌, ◌≤◌, ◌^◌, List, length, IfOk, IfErr};
 ghost use Rattle.ats_top.specs.Gathered.{AreGathered, IsGathered, content};
 ghost use Rattle.ats_top.specs.Reading.{Reads};
+ghost use Rattle.ats_top.specs.Counts.{KeepsShelfCount};
 ghost use Rattle.ats_top.specs.Sweeping.{GatheringStop, MissingStop, ReadsProofs, entry_names};
 
 use crate::listing::Entry;
@@ -37,6 +38,7 @@ fn gather_one<S: Shelf>(alloc: Global, name: &str, shelf: &mut S) -> Result<Gath
     ensures ok { IfOk result (IsGathered (S.told shelf.old).files name.now) }
     ensures stop { IfErr result (MissingStop (S.told shelf.old) (S.told shelf.new) name.now) }
     ensures reads { Reads (S.told shelf.old) (S.told shelf.new) name.now (2 ^ 26) }
+    ensures count { KeepsShelfCount (S.told shelf.old) (S.told shelf.new) result }
 {
     match read::proof(alloc, name, shelf) {
         Ok(bytes) => Ok(Gathered::Whole(bytes)),
@@ -54,6 +56,7 @@ pub(crate) fn gather_all<S: Shelf>(
     ensures ok { IfOk result (λ proofs. AreGathered (S.told shelf.old).files (entry_names entries.now) proofs.items) }
     ensures stop { IfErr result (GatheringStop (S.told shelf.old) (S.told shelf.new) (entry_names entries.now)) }
     ensures reads { ReadsProofs (S.told shelf.old) (S.told shelf.new) (entry_names entries.now) }
+    ensures count { KeepsShelfCount (S.told shelf.old) (S.told shelf.new) result }
 {
     let mut proofs = Vec::new(alloc);
     let mut total = 0;

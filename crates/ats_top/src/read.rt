@@ -3,6 +3,7 @@
 ghost use Rattle.std.specs.Prelude.{◌≤◌, ◌^◌, IfOk, IfErr};
 ghost use Rattle.ats_top.specs.Read.{IsFile, HasCollection, HasIndex};
 ghost use Rattle.ats_top.specs.Reading.{Reads};
+ghost use Rattle.ats_top.specs.Counts.{KeepsShelfCount};
 ghost use Rattle.ats_top.specs.ReadStops.{FileStop, CollectionStop, IndexStop, ProofStop};
 
 use crate::input::read_collection;
@@ -37,6 +38,7 @@ fn file<S: Shelf>(alloc: Global, name: &str, limit: u64, shelf: &mut S) -> Resul
     ensures ok { IfOk result (IsFile (S.told shelf.old).files name.now limit) }
     ensures stop { IfErr result (FileStop (S.told shelf.old) (S.told shelf.new) name.now limit) }
     ensures reads { Reads (S.told shelf.old) (S.told shelf.new) name.now limit }
+    ensures count { KeepsShelfCount (S.told shelf.old) (S.told shelf.new) result }
 {
     match gather(alloc, shelf, name, limit) {
         Ok(bytes) => Ok(bytes),
@@ -55,6 +57,7 @@ pub(crate) fn collection<S: Shelf>(
     ensures ok { IfOk result (HasCollection (S.told shelf.old).files name.now) }
     ensures stop { IfErr result (CollectionStop (S.told shelf.old) (S.told shelf.new) name.now) }
     ensures reads { Reads (S.told shelf.old) (S.told shelf.new) name.now (2 ^ 26) }
+    ensures count { KeepsShelfCount (S.told shelf.old) (S.told shelf.new) result }
 {
     let bytes = file(alloc, name, COLLECTION_LIMIT, shelf)?;
     let texts = read_collection(alloc, bytes.as_slice())?;
@@ -71,6 +74,7 @@ pub(crate) fn index<H: Hash32 + Sync, R: Threads + Sync, S: Shelf>(
     ensures ok { IfOk result (HasIndex H.hash (S.told shelf.old).files name.now) }
     ensures stop { IfErr result (IndexStop H.hash (S.told shelf.old) (S.told shelf.new) name.now) }
     ensures reads { Reads (S.told shelf.old) (S.told shelf.new) name.now (2 ^ 29) }
+    ensures count { KeepsShelfCount (S.told shelf.old) (S.told shelf.new) result }
 {
     let bytes = file(alloc, name, INDEX_LIMIT, shelf)?;
     Ok(Index::<H>::load(rt, alloc, bytes.as_slice())?)
@@ -81,6 +85,7 @@ pub(crate) fn list<S: Shelf>(alloc: Global, name: &str, shelf: &mut S) -> Result
     ensures ok { IfOk result (IsFile (S.told shelf.old).files name.now (2 ^ 20)) }
     ensures stop { IfErr result (FileStop (S.told shelf.old) (S.told shelf.new) name.now (2 ^ 20)) }
     ensures reads { Reads (S.told shelf.old) (S.told shelf.new) name.now (2 ^ 20) }
+    ensures count { KeepsShelfCount (S.told shelf.old) (S.told shelf.new) result }
 {
     file(alloc, name, LIST_LIMIT, shelf)
 }
@@ -90,6 +95,7 @@ pub(crate) fn proof<S: Shelf>(alloc: Global, name: &str, shelf: &mut S) -> Resul
     ensures ok { IfOk result (IsFile (S.told shelf.old).files name.now (2 ^ 26)) }
     ensures stop { IfErr result (ProofStop (S.told shelf.old) (S.told shelf.new) name.now) }
     ensures reads { Reads (S.told shelf.old) (S.told shelf.new) name.now (2 ^ 26) }
+    ensures count { KeepsShelfCount (S.told shelf.old) (S.told shelf.new) result }
 {
     match gather(alloc, shelf, name, MAX_PROOF) {
         Ok(bytes) => Ok(bytes),

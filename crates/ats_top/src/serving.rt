@@ -1,9 +1,10 @@
 //! `serve`: accepts links at a door, and serves them one after another.
 
-ghost use Rattle.std.specs.Prelude.{◌≡◌, ◌⊎◌, ◌≤◌, ◌^◌, ◌∷◌, ℕ, Some, List, [], true, string_bytes, IfOk, IfErr, OnOk, OnErr};
+ghost use Rattle.std.specs.Prelude.{◌≡◌, ◌≢◌, ◌⊎◌, ◌≤◌, ◌^◌, ◌∷◌, ℕ, Some, List, [], true, string_bytes, IfOk, IfErr, OnOk, OnErr};
 ghost use Rattle.ats_base.specs.Links.{CallerTold};
+ghost use Rattle.ats_wire.specs.Connections.{is_fault};
 ghost use Rattle.ats_top.specs.Answering.{gives};
-ghost use Rattle.ats_top.specs.Serving.{Session, HadSessions, FailedToAccept, Took, IsUntold, ServesLinks, is_fault, end_word, line_of_session};
+ghost use Rattle.ats_top.specs.Serving.{Session, HadSessions, FailedToAccept, Took, IsUntold, ServesLinks, end_word, line_of_session};
 ghost use Rattle.ats_top.specs.Served.{Attends, Opens};
 ghost use Rattle.ats_top.specs.Read.{Files, HasIndex};
 ghost use Rattle.ats_top.specs.Reading.{Reads};
@@ -186,6 +187,8 @@ pub(crate) fn serve<H: Hash32 + Sync, R: Threads + Sync, S: Shelf, K: Sink, D: D
     ensures opened { (D.told door.new ≡ D.told door.old)
         ⊎ Opens (record { index = index.now; connections = connections; address = address.now })
         (D.told door.old) (D.told door.new) }
+    ensures shelf_count { result ≢ 3 → result ≢ 7 → (S.told shelf.new).faults ≡ (S.told shelf.old).faults }
+    ensures door_count { result ≢ 8 → result ≢ 7 → (D.told door.new).faults ≡ (D.told door.old).faults }
     ensures sink_later { (K.told out.old).faults ≤ (K.told out.new).faults }
 {
     let loaded = match read::index::<H, R, S>(rt, alloc, index, shelf) {

@@ -4,6 +4,7 @@ ghost use Rattle.std.specs.Prelude.{◌≡◌, ◌++◌, ◌||◌, true, false, 
 ghost use Rattle.ats_base.specs.Outside.{ShelfTold};
 ghost use Rattle.ats_top.specs.Words.{Sweep, SweepWords};
 ghost use Rattle.ats_top.specs.Reading.{Serves};
+ghost use Rattle.ats_top.specs.Counts.{KeepsShelfCount};
 ghost use Rattle.ats_top.specs.Run.{FilesStop};
 ghost use Rattle.ats_top.specs.Findings.{FoundRefused, IsSwept, is_refused, is_collision, line_of_finding};
 ghost use Rattle.ats_top.specs.Sweeping.{AreJobs, AreRead, IsReport, finding_of, found_by};
@@ -184,9 +185,10 @@ fn swept<H: Hash32 + Sync, R: Threads + Sync, S: Shelf>(
         → AreRead H.hash before (S.told shelf.old) words index.now list.now
         → IfErr result (FilesStop H.hash before (S.told shelf.new) (Sweep words)) }
     ensures same { (S.told shelf.new).files ≡ (S.told shelf.old).files }
+    ensures count { KeepsShelfCount (S.told shelf.old) (S.told shelf.new) result }
     ensures serves { (before : ShelfTold) (words : SweepWords)
         → AreRead H.hash before (S.told shelf.old) words index.now list.now
-        → Serves before (S.told shelf.new) (Sweep words) }
+        → Serves H.hash before (S.told shelf.new) (Sweep words) }
 {
     let entries = read_entries(alloc, list)?;
     let proofs = gather_all(alloc, entries.as_slice(), shelf)?;
@@ -209,7 +211,8 @@ pub(crate) fn sweep<H: Hash32 + Sync, R: Threads + Sync, S: Shelf>(
     ensures stop { IfErr result (FilesStop H.hash (S.told shelf.old) (S.told shelf.new)
         (Sweep (record { index = index.now; list = list.now }))) }
     ensures same { (S.told shelf.new).files ≡ (S.told shelf.old).files }
-    ensures serves { Serves (S.told shelf.old) (S.told shelf.new)
+    ensures count { KeepsShelfCount (S.told shelf.old) (S.told shelf.new) result }
+    ensures serves { Serves H.hash (S.told shelf.old) (S.told shelf.new)
         (Sweep (record { index = index.now; list = list.now })) }
 {
     let loaded = read::index::<H, R, S>(rt, alloc, index, shelf)?;

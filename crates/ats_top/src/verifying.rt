@@ -8,6 +8,7 @@ ghost use Rattle.ats_top.specs.Words.{Verify};
 ghost use Rattle.ats_top.specs.Print.{lines};
 ghost use Rattle.ats_top.specs.Refusals.{AsksRanking};
 ghost use Rattle.ats_top.specs.Reading.{Reads};
+ghost use Rattle.ats_top.specs.Counts.{KeepsShelfCount};
 ghost use Rattle.ats_top.specs.ReadStops.{BytesStop};
 ghost use Rattle.ats_top.specs.Done.{IsVerified};
 ghost use Rattle.ats_top.specs.Run.{FilesStop};
@@ -61,6 +62,7 @@ pub(crate) fn verify<H: Hash32, S: Shelf>(
     ensures stop { IfErr result (FilesStop H.hash (S.told shelf.old) (S.told shelf.new)
         (Verify (record { root = root.now; r = r; query = query.now; proof = proof.now }))) }
     ensures reads { Reads (S.told shelf.old) (S.told shelf.new) proof.now (2 ^ 26) }
+    ensures count { KeepsShelfCount (S.told shelf.old) (S.told shelf.new) result }
     ensures unread { (AsksRanking r query.now → ⊥) → shelf.new ≡ shelf.old }
 {
     let rows = Top::new(r)?;

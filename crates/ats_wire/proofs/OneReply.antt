@@ -109,63 +109,63 @@ heard_once stream one two (inr (n, body, small, is, hears)) (inr (m, more, also_
     hears_once n body one two hears
     (subst (λ (k : ℕ). Hears k body two) (sym same.0) (subst (λ (x : List ℕ). Hears m x two) (sym same.1) second))
 
-says_of : (frame : List ℕ) (before now : LinkTold) (read written : List ℕ) (result : Result (List ℕ) AskFault)
-    → IsHeard result → Exchanges frame before now read written result → Says before now read result
-says_of frame before now read written (Ok bytes) heard (_, says) = says
-says_of frame before now read written (Err (ShortReply got wanted)) heard (_, says) = says
-says_of frame before now read written (Err (LongReply n)) heard (_, says) = says
-says_of frame before now read written (Err (BadReply n kind)) heard (_, says) = says
-says_of frame before now read written (Err (PeerRefused code)) heard (_, says) = says
-says_of frame before now read written (Err ReadFault) heard exchanges = absurd heard
-says_of frame before now read written (Err WriteFault) heard exchanges = absurd heard
-says_of frame before now read written (Err OutOfMemory) heard exchanges = absurd heard
+says_of : (frame : List ℕ) (now : LinkTold) (read written : List ℕ) (result : Result (List ℕ) AskFault)
+    → IsHeard result → Exchanges frame now read written result → Says now read result
+says_of frame now read written (Ok bytes) heard (_, says) = says
+says_of frame now read written (Err (ShortReply got wanted)) heard (_, says) = says
+says_of frame now read written (Err (LongReply n)) heard (_, says) = says
+says_of frame now read written (Err (BadReply n kind)) heard (_, says) = says
+says_of frame now read written (Err (PeerRefused code)) heard (_, says) = says
+says_of frame now read written (Err ReadFault) heard exchanges = absurd heard
+says_of frame now read written (Err WriteFault) heard exchanges = absurd heard
+says_of frame now read written (Err OutOfMemory) heard exchanges = absurd heard
 
-heard_of : (before now : LinkTold) (read rest stream : List ℕ) (result : Result (List ℕ) AskFault)
-    → stream ≡ read ++ rest → (IsAtEnd now.traffic → rest ≡ []) → IsHeard result → Says before now read result → Heard stream result
-heard_of before now read rest stream (Ok bytes) is end heard (read_is, few) = inr (
+heard_of : (now : LinkTold) (read rest stream : List ℕ) (result : Result (List ℕ) AskFault)
+    → stream ≡ read ++ rest → (IsAtEnd now.traffic → rest ≡ []) → IsHeard result → Says now read result → Heard stream result
+heard_of now read rest stream (Ok bytes) is end heard (read_is, few) = inr (
   suc (length bytes),
   (0 ∷ bytes) ++ rest,
   omega (arith, few),
   is ∙ ap (λ (x : List ℕ). x ++ rest) read_is ∙ append_assoc (to_be_bytes w32 (suc (length bytes))) (0 ∷ bytes) rest,
   (refl, omega (arith, few), (rest, refl)),
 )
-heard_of before now read rest stream (Err (ShortReply got wanted)) is end heard (got_is, inl (short, wanted_is), at_end) =
+heard_of now read rest stream (Err (ShortReply got wanted)) is end heard (got_is, inl (short, wanted_is), at_end) =
     let whole : stream ≡ read = is ∙ ap (λ (x : List ℕ). read ++ x) (end at_end) ∙ append-nil read in
     inl (
       omega (arith, short, ap length whole),
       ap (λ (g : ℕ). Err (ShortReply g wanted)) (got_is ∙ ap length (sym whole)) ∙ ap (λ (w : ℕ). Err (ShortReply (length stream) w)) wanted_is,
     )
-heard_of before now read rest stream (Err (ShortReply got wanted)) is end heard (got_is, inr (n, body, good, read_is, short, begins, wanted_is), at_end) =
+heard_of now read rest stream (Err (ShortReply got wanted)) is end heard (got_is, inr (n, body, good, read_is, short, begins, wanted_is), at_end) =
     let whole : stream ≡ read = is ∙ ap (λ (x : List ℕ). read ++ x) (end at_end) ∙ append-nil read in
     inr (n, body, omega (arith, good.1), whole ∙ read_is, (good, short, begins, wanted_is, omega (arith, got_is, ap length read_is)))
-heard_of before now read rest stream (Err (LongReply n)) is end heard (read_is, many) =
+heard_of now read rest stream (Err (LongReply n)) is end heard (read_is, many) =
     inr (n, rest, heard, is ∙ ap (λ (x : List ℕ). x ++ rest) read_is, (refl, many))
-heard_of before now read rest stream (Err (BadReply n kind)) is end heard (inl (none, zero_kind, read_is)) = inr (
+heard_of now read rest stream (Err (BadReply n kind)) is end heard (inl (none, zero_kind, read_is)) = inr (
   n,
   rest,
   heard,
   is ∙ ap (λ (x : List ℕ). x ++ rest) read_is ∙ ap (λ (k : ℕ). to_be_bytes w32 k ++ rest) (sym none),
   (refl, inl (none, zero_kind)),
 )
-heard_of before now read rest stream (Err (BadReply n kind)) is end heard (inr (good, not, read_is)) = inr (
+heard_of now read rest stream (Err (BadReply n kind)) is end heard (inr (good, not, read_is)) = inr (
   n,
   kind ∷ rest,
   heard,
   is ∙ ap (λ (x : List ℕ). x ++ rest) read_is ∙ append_assoc (to_be_bytes w32 n) (kind ∷ []) rest,
   (refl, inr (good, not, (rest, refl))),
 )
-heard_of before now read rest stream (Err (PeerRefused code)) is end heard read_is =
+heard_of now read rest stream (Err (PeerRefused code)) is end heard read_is =
     inr (2, 1 ∷ code ∷ rest, omega arith, is ∙ ap (λ (x : List ℕ). x ++ rest) read_is, (refl, (rest, refl)))
-heard_of before now read rest stream (Err ReadFault) is end heard says = absurd heard
-heard_of before now read rest stream (Err WriteFault) is end heard says = absurd heard
-heard_of before now read rest stream (Err OutOfMemory) is end heard says = absurd heard
+heard_of now read rest stream (Err ReadFault) is end heard says = absurd heard
+heard_of now read rest stream (Err WriteFault) is end heard says = absurd heard
+heard_of now read rest stream (Err OutOfMemory) is end heard says = absurd heard
 
 told_heard : (question : Question) (before now : LinkTold) (traffic : Traffic) (result : Result (List ℕ) AskFault)
     → before.traffic ≡ Some traffic → IsAsked question before now result → IsHeard result → Heard traffic.rest result
 told_heard question before now traffic result told asked heard =
     let carried = rw told at asked.moved.over.carried in
-    heard_of before now asked.read carried.0 traffic.rest result carried.1 (λ at_end. subst IsAtEnd carried.2 at_end) heard
-    (says_of (request_frame question) before now asked.read asked.written result heard asked.says)
+    heard_of now asked.read carried.0 traffic.rest result carried.1 (λ at_end. subst IsAtEnd carried.2 at_end) heard
+    (says_of (request_frame question) now asked.read asked.written result heard asked.says)
 
 -- the same stream gives the same result, over whichever links
 pub asked_alike : (question other : Question) (before now late later : LinkTold) (traffic more : Traffic) (one two : Result (List ℕ) AskFault)

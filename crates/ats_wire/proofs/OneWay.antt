@@ -123,24 +123,24 @@ cut_once left (body ∷ bodies) (other ∷ others) stream one two (some, good, (
     (omega (arith, later.0), later.1)
 
 -- the end of a connection, by what is still to come at that moment
-ends_stop : (gives : Question → Reply → Type 0) (before now : LinkTold) (traffic : Traffic) (requests left : ℕ) (tail part : List ℕ) (end : ConnectionEnd)
-    → now.traffic ≡ Some traffic → requests + left ≡ 65536 → IsClean end → Ends gives before now requests tail part end → Stops left tail traffic.rest end
-ends_stop gives before now traffic requests left tail part Ended told sum clean (few, _, (none, at_end)) = (omega (arith, sum, few), none, subst IsAtEnd told at_end)
-ends_stop gives before now traffic requests left tail part (CutFrame came) told sum clean (few, _, (long, some, unfinished, at_end)) =
+ends_stop : (gives : Question → Reply → Type 0) (now : LinkTold) (traffic : Traffic) (requests left : ℕ) (tail part : List ℕ) (end : ConnectionEnd)
+    → now.traffic ≡ Some traffic → requests + left ≡ 65536 → IsClean end → Ends gives now requests tail part end → Stops left tail traffic.rest end
+ends_stop gives now traffic requests left tail part Ended told sum clean (few, _, (none, at_end)) = (omega (arith, sum, few), none, subst IsAtEnd told at_end)
+ends_stop gives now traffic requests left tail part (CutFrame came) told sum clean (few, _, (long, some, unfinished, at_end)) =
     (omega (arith, sum, few), long, some, unfinished, subst IsAtEnd told at_end)
-ends_stop gives before now traffic requests left tail part (BadFrame n) told sum clean (few, _, (bad_is, bad)) = (omega (arith, sum, few), bad_is, bad, clean)
-ends_stop gives before now traffic requests left tail part RequestLimit told sum clean (all, none, _) = (omega (arith, sum, all), none)
-ends_stop gives before now traffic requests left tail part ReadFault told sum clean ends = absurd clean
-ends_stop gives before now traffic requests left tail part WriteFault told sum clean ends = absurd clean
+ends_stop gives now traffic requests left tail part (BadFrame n) told sum clean (few, _, (bad_is, bad)) = (omega (arith, sum, few), bad_is, bad, clean)
+ends_stop gives now traffic requests left tail part RequestLimit told sum clean (all, none, _) = (omega (arith, sum, all), none)
+ends_stop gives now traffic requests left tail part ReadFault told sum clean ends = absurd clean
+ends_stop gives now traffic requests left tail part WriteFault told sum clean ends = absurd clean
 
-few_requests : (gives : Question → Reply → Type 0) (before now : LinkTold) (requests : ℕ) (tail part : List ℕ) (end : ConnectionEnd)
-    → Ends gives before now requests tail part end → requests ≤ 65536
-few_requests gives before now requests tail part Ended ends = omega (arith, ends.0)
-few_requests gives before now requests tail part (CutFrame came) ends = omega (arith, ends.0)
-few_requests gives before now requests tail part (BadFrame n) ends = omega (arith, ends.0)
-few_requests gives before now requests tail part RequestLimit ends = omega (arith, ends.0)
-few_requests gives before now requests tail part ReadFault ends = omega (arith, ends.0)
-few_requests gives before now requests tail part WriteFault ends = omega (arith, ends.0)
+few_requests : (gives : Question → Reply → Type 0) (now : LinkTold) (requests : ℕ) (tail part : List ℕ) (end : ConnectionEnd)
+    → Ends gives now requests tail part end → requests ≤ 65536
+few_requests gives now requests tail part Ended ends = omega (arith, ends.0)
+few_requests gives now requests tail part (CutFrame came) ends = omega (arith, ends.0)
+few_requests gives now requests tail part (BadFrame n) ends = omega (arith, ends.0)
+few_requests gives now requests tail part RequestLimit ends = omega (arith, ends.0)
+few_requests gives now requests tail part ReadFault ends = omega (arith, ends.0)
+few_requests gives now requests tail part WriteFault ends = omega (arith, ends.0)
 
 -- whole frames and what follows them
 turns_cut : (gives : Question → Reply → Type 0) (turns : List (List ℕ × Reply)) (left : ℕ) (tail rest stream : List ℕ) (end : ConnectionEnd)
@@ -168,9 +168,9 @@ served_cut : (gives : Question → Reply → Type 0) (before now : LinkTold) (tr
     → (bodies : List (List ℕ)) × (length bodies ≡ served.requests) × Cuts 65536 bodies traffic.rest served.end
 served_cut gives before now traffic served told is clean =
     let carried = rw told at is.moved.over.carried in
-    let few : served.requests ≤ 65536 = few_requests gives before now served.requests is.tail is.part served.end is.ends in
+    let few : served.requests ≤ 65536 = few_requests gives now served.requests is.tail is.part served.end is.ends in
     let left : ℕ = 65536 - served.requests in
-    let stops = ends_stop gives before now (record traffic { read = traffic.read ++ (frames is.turns ++ is.tail); rest = carried.0; written = traffic.written ++ (replies is.turns ++ is.part) })
+    let stops = ends_stop gives now (record traffic { read = traffic.read ++ (frames is.turns ++ is.tail); rest = carried.0; written = traffic.written ++ (replies is.turns ++ is.part) })
     served.requests left is.tail is.part served.end carried.2 (omega (arith, few)) clean is.ends in
     let cuts = turns_cut gives is.turns left is.tail carried.0 traffic.rest served.end is.answered carried.1 stops in (
       map (λ (turn : List ℕ × Reply). turn.0) is.turns,

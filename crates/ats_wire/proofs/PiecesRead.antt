@@ -1,5 +1,5 @@
 -- A proof that is read while it arrives.
-use Rattle.std.proofs.Common.{◌≡◌, ◌≢◌, ℕ, ◌+◌, ◌-◌, ◌≤◌, ◌^◌, List, [], ◌∷◌, ◌++◌, ◌∙◌, length, refl, sym, ap, subst, Bool, false, append_assoc, arith, inl, inr, Result, Ok, Err}
+use Rattle.std.proofs.Common.{true, ◌≡◌, ◌≢◌, ℕ, ◌+◌, ◌-◌, ◌≤◌, ◌^◌, List, [], ◌∷◌, ◌++◌, ◌∙◌, length, refl, sym, ap, subst, Bool, false, append_assoc, arith, inl, inr, Result, Ok, Err}
 use Rattle.std.specs.Prelude.{IfOk, IfErr, if◌then◌else◌}
 use Rattle.std.specs.Result.{is_ok, is_err}
 use Rattle.std.proofs.lemmas.Bool.{true≢false}
@@ -12,13 +12,13 @@ use Rattle.ats_grammar.specs.Grammar.{proof_format}
 use Rattle.ats_grammar.proofs.Public.{fault_stays}
 use Rattle.ats_wire.specs.Moving.{Moves}
 use Rattle.ats_wire.specs.Requests.{Question, framed}
-use Rattle.ats_wire.specs.Asking.{request_frame, IsReplyLength, RestFault}
+use Rattle.ats_wire.specs.Asking.{request_frame, breaks_link, is_broken, IsReplyLength, RestFault}
 use Rattle.ats_wire.specs.Feeding.{IsFed, IsAskedFed, SaysFed}
 use Rattle.ats_wire.specs.declared.asking.AskFault.{AskFault}
 use Rattle.ats_wire.specs.declared.asking.AskFault.TheVariants.{ShortReply, LongReply, BadReply, PeerRefused, ReadFault, WriteFault, OutOfMemory}
 use Rattle.ats_wire.specs.declared.feeding.Fed.{Fed}
 use Rattle.ats_wire.proofs.Replying.{asked, rest_fault}
-use Rattle.ats_wire.proofs.Moved.{moves_then, moves_idle, rose_since}
+use Rattle.ats_wire.proofs.Moved.{moves_then, moves_idle}
 
 -- a fault of a front of the bytes is theirs, if it is not a missing byte
 pub bad_stays : (bytes more : List ℕ) (fault : ShapeFault) → IsBad proof_format bytes fault → fault.kind ≢ Cut → length bytes + length more ≤ 2 ^ 26 → IsBad proof_format (bytes ++ more) fault
@@ -27,27 +27,17 @@ bad_stays bytes more fault (inr first) here few = inr (fault_stays proof_format 
 
 -- the frame was written, and a reply read whose proof was checked while it arrived
 pub asked_fed : (question : Question) (before mid now : LinkTold) (read : List ℕ) (result : Result Fed AskFault)
-    → Moves before mid [] (request_frame question) 0 → Moves mid now read [] 1 → SaysFed mid now read result → IsAskedFed question before now result
+    → Moves before mid [] (request_frame question) 0 false → Moves mid now read [] 1 (is_broken result) → SaysFed now read result → IsAskedFed question before now result
 asked_fed question before mid now read (Ok fed) sent came says = (says.0, asked question before mid now read (Ok says.0) sent came says.1, says.2)
 asked_fed question before mid now read (Err fault) sent came says = asked question before mid now read (Err fault) sent came says
 
--- a fault of what follows some bytes is one since before them
-pub rest_since : (before mid now : LinkTold) (size : ℕ) (came : List ℕ) (fault : AskFault) → before.faults ≤ mid.faults → RestFault mid now size came fault → RestFault before now size came fault
-rest_since before mid now size came (ShortReply got wanted) later fails = fails
-rest_since before mid now size came (LongReply n) later fails = fails
-rest_since before mid now size came (BadReply n kind) later fails = fails
-rest_since before mid now size came (PeerRefused code) later fails = fails
-rest_since before mid now size came ReadFault later (few, rose) = (few, rose_since before.faults mid.faults now.faults later rose)
-rest_since before mid now size came WriteFault later fails = fails
-rest_since before mid now size came OutOfMemory later fails = fails
-
 abbrev HasRead : LinkTold → LinkTold → ℕ → Result Fed AskFault → Type 0
-HasRead mid now size (Ok fed) = (bytes : List ℕ) × (length bytes ≡ size) × Moves mid now bytes [] 0 × IsFed fed bytes
-HasRead mid now size (Err fault) = (came : List ℕ) × Moves mid now came [] 1 × RestFault mid now size came fault
+HasRead mid now size (Ok fed) = (bytes : List ℕ) × (length bytes ≡ size) × Moves mid now bytes [] 0 false × IsFed fed bytes
+HasRead mid now size (Err fault) = (came : List ℕ) × Moves mid now came [] 1 (breaks_link fault) × RestFault now size came fault
 
 -- what was read of a proof's reply, its head first
-read_said : (before mid now : LinkTold) (n : ℕ) (result : Result Fed AskFault) → IsReplyLength n → Moves before mid (to_be_bytes w32 n ++ 0 ∷ []) [] 0 → HasRead mid now (n - 1) result
-    → (read : List ℕ) × Moves before now read [] 1 × SaysFed before now read result
+read_said : (before mid now : LinkTold) (n : ℕ) (result : Result Fed AskFault) → IsReplyLength n → Moves before mid (to_be_bytes w32 n ++ 0 ∷ []) [] 0 false → HasRead mid now (n - 1) result
+    → (read : List ℕ) × Moves before now read [] 1 (is_broken result) × SaysFed now read result
 read_said before mid now n (Ok fed) good head (bytes, long, moved, is) =
     let start = to_be_bytes w32 n ++ 0 ∷ [] in
     let whole : start ++ bytes ≡ framed (0 ∷ bytes) = append_assoc (to_be_bytes w32 n) (0 ∷ []) bytes
@@ -55,16 +45,16 @@ read_said before mid now n (Ok fed) good head (bytes, long, moved, is) =
     (start ++ bytes, moves_idle before now (start ++ bytes) [] (moves_then before mid now start [] bytes [] 0 head moved), (bytes, (whole, omega (arith, long, good.1)), is))
 read_said before mid now n (Err fault) good head (came, moved, fails) =
     let start = to_be_bytes w32 n ++ 0 ∷ [] in
-    (start ++ came, moves_then before mid now start [] came [] 1 head moved, rest_fault before mid now n 0 came fault head.later good (inl refl) fails)
+    (start ++ came, moves_then before mid now start [] came [] 1 head moved, rest_fault now n 0 came fault good (inl refl) fails)
 
-pub proof_said : (before mid now : LinkTold) (n kind : ℕ) (result : Result Fed AskFault) → kind ≡ 0 → IsReplyLength n → Moves before mid (to_be_bytes w32 n ++ kind ∷ []) [] 0
-    → IfOk result (λ fed. (bytes : List ℕ) × (length bytes ≡ n - 1) × Moves mid now bytes [] 0 × IsFed fed bytes)
-    → IfErr result (λ fault. (came : List ℕ) × Moves mid now came [] 1 × RestFault mid now (n - 1) came fault)
-    → (read : List ℕ) × Moves before now read [] 1 × SaysFed before now read result
+pub proof_said : (before mid now : LinkTold) (n kind : ℕ) (result : Result Fed AskFault) → kind ≡ 0 → IsReplyLength n → Moves before mid (to_be_bytes w32 n ++ kind ∷ []) [] 0 false
+    → IfOk result (λ fed. (bytes : List ℕ) × (length bytes ≡ n - 1) × Moves mid now bytes [] 0 false × IsFed fed bytes)
+    → IfErr result (λ fault. (came : List ℕ) × Moves mid now came [] 1 (breaks_link fault) × RestFault now (n - 1) came fault)
+    → (read : List ℕ) × Moves before now read [] 1 (is_broken result) × SaysFed now read result
 proof_said before mid now n kind (Ok fed) none good head ok err =
-    read_said before mid now n (Ok fed) good (subst (λ (k : ℕ). Moves before mid (to_be_bytes w32 n ++ k ∷ []) [] 0) none head) ok
+    read_said before mid now n (Ok fed) good (subst (λ (k : ℕ). Moves before mid (to_be_bytes w32 n ++ k ∷ []) [] 0 false) none head) ok
 proof_said before mid now n kind (Err fault) none good head ok err =
-    read_said before mid now n (Err fault) good (subst (λ (k : ℕ). Moves before mid (to_be_bytes w32 n ++ k ∷ []) [] 0) none head) err
+    read_said before mid now n (Err fault) good (subst (λ (k : ℕ). Moves before mid (to_be_bytes w32 n ++ k ∷ []) [] 0 false) none head) err
 
 -- an extension that did not fail
 pub extended : {E : Type 0} (result : Result (Unit {0}) E) (failed : Bool) (now long short : List ℕ) → failed ≡ is_err result → failed ≡ false → now ≡ (if is_ok result then long else short) → now ≡ long

@@ -1,7 +1,6 @@
 -- One request over a link, and what its reply says.
-use Rattle.std.specs.Prelude.{◌≡◌, ◌⊎◌, ◌<◌, ◌≤◌, ◌+◌, ◌^◌, ℕ, List, [], ◌∷◌, ◌++◌, length, take, Result, Ok, Err}
+use Rattle.std.specs.Prelude.{◌≡◌, ◌⊎◌, ◌<◌, ◌≤◌, ◌+◌, ◌^◌, ℕ, Bool, true, false, List, [], ◌∷◌, ◌++◌, length, take, Result, Ok, Err}
 use Rattle.std.specs.Int.{to_be_bytes, w32}
-use Rattle.ats_base.specs.Outside.{Rose}
 use Rattle.ats_base.specs.Links.{LinkTold, IsAtEnd}
 use Rattle.ats_wire.specs.Requests.{Question, framed, request_body}
 use Rattle.ats_wire.specs.Moving.{Moves}
@@ -35,47 +34,58 @@ IsBegun read wanted =
 
 -- What was read if there is no proof, by the fault that is returned. Nothing is read after a whole reply, a length that
 -- is too long, or a kind that is wrong.
-abbrev pub ReplyFault : LinkTold → LinkTold → List ℕ → AskFault → Type 0
-ReplyFault before now read (ShortReply got wanted) = (got ≡ length read) × IsBegun read wanted × IsAtEnd now.traffic
-ReplyFault before now read (LongReply n) = (read ≡ to_be_bytes w32 n) × (2 ^ 26 + 1 < n)
-ReplyFault before now read (BadReply n kind) =
+abbrev pub ReplyFault : LinkTold → List ℕ → AskFault → Type 0
+ReplyFault now read (ShortReply got wanted) = (got ≡ length read) × IsBegun read wanted × IsAtEnd now.traffic
+ReplyFault now read (LongReply n) = (read ≡ to_be_bytes w32 n) × (2 ^ 26 + 1 < n)
+ReplyFault now read (BadReply n kind) =
     ((n ≡ 0) × (kind ≡ 0) × (read ≡ to_be_bytes w32 0))
     ⊎ (IsReplyLength n × (IsKind n kind → ⊥) × (read ≡ to_be_bytes w32 n ++ kind ∷ []))
-ReplyFault before now read (PeerRefused code) = read ≡ framed (1 ∷ code ∷ [])
-ReplyFault before now read ReadFault = ((wanted : ℕ) × IsBegun read wanted) × Rose before.faults now.faults
-ReplyFault before now read WriteFault = ⊥
-ReplyFault before now read OutOfMemory = ((wanted : ℕ) × IsBegun read wanted) ⊎ ((body : List ℕ) × (read ≡ framed body))
+ReplyFault now read (PeerRefused code) = read ≡ framed (1 ∷ code ∷ [])
+ReplyFault now read ReadFault = (wanted : ℕ) × IsBegun read wanted
+ReplyFault now read WriteFault = ⊥
+ReplyFault now read OutOfMemory = ((wanted : ℕ) × IsBegun read wanted) ⊎ ((body : List ℕ) × (read ≡ framed body))
 
 -- what was read, by the result: a whole reply with these bytes of a proof, or a fault
-abbrev pub Says : LinkTold → LinkTold → List ℕ → Result (List ℕ) AskFault → Type 0
-Says before now read (Ok bytes) = (read ≡ framed (0 ∷ bytes)) × (length bytes ≤ 2 ^ 26)
-Says before now read (Err fault) = ReplyFault before now read fault
+abbrev pub Says : LinkTold → List ℕ → Result (List ℕ) AskFault → Type 0
+Says now read (Ok bytes) = (read ≡ framed (0 ∷ bytes)) × (length bytes ≤ 2 ^ 26)
+Says now read (Err fault) = ReplyFault now read fault
 
 -- What was written and read, by the result: either the request's whole frame and then a reply; or a part of the frame,
 -- and nothing was read; or nothing at all, because memory ran out.
-abbrev pub Exchanges : (frame : List ℕ) → LinkTold → LinkTold
+abbrev pub Exchanges : (frame : List ℕ) → LinkTold
     → (read written : List ℕ) → Result (List ℕ) AskFault → Type 0
-Exchanges frame before now read written (Err WriteFault) =
-    (read ≡ []) × Rose before.faults now.faults × ((n : ℕ) × (n < length frame) × (written ≡ take n frame))
-Exchanges frame before now read written (Err OutOfMemory) =
-    ((read ≡ []) × (written ≡ [])) ⊎ ((written ≡ frame) × ReplyFault before now read OutOfMemory)
-Exchanges frame before now read written result = (written ≡ frame) × Says before now read result
+Exchanges frame now read written (Err WriteFault) =
+    (read ≡ []) × ((n : ℕ) × (n < length frame) × (written ≡ take n frame))
+Exchanges frame now read written (Err OutOfMemory) =
+    ((read ≡ []) × (written ≡ [])) ⊎ ((written ≡ frame) × ReplyFault now read OutOfMemory)
+Exchanges frame now read written result = (written ≡ frame) × Says now read result
+
+-- the fault is the link's
+abbrev pub breaks_link : AskFault → Bool
+breaks_link ReadFault = true
+breaks_link WriteFault = true
+breaks_link _ = false
+
+-- the question ended by a fault of the link
+abbrev pub is_broken : {T : Type 0} → Result T AskFault → Bool
+is_broken (Ok _) = false
+is_broken (Err fault) = breaks_link fault
 
 -- one question was asked over the link, with this result
 pub record IsAsked (question : Question) (before now : LinkTold) (result : Result (List ℕ) AskFault) : Type 0 where
   pub read : List ℕ
   pub written : List ℕ
-  pub moved : Moves before now read written 1
-  pub says : Exchanges (request_frame question) before now read written result
+  pub moved : Moves before now read written 1 (is_broken result)
+  pub says : Exchanges (request_frame question) now read written result
 
 -- What was read after the head of a reply, if it was not all of `size` bytes, by the fault that is returned; the head
 -- has 5 bytes. Out of memory may also be returned after all bytes.
-abbrev pub RestFault : LinkTold → LinkTold → (size : ℕ) → List ℕ → AskFault → Type 0
-RestFault before now size came (ShortReply got wanted) = (length came < size) × (got ≡ length came + 5)
+abbrev pub RestFault : LinkTold → (size : ℕ) → List ℕ → AskFault → Type 0
+RestFault now size came (ShortReply got wanted) = (length came < size) × (got ≡ length came + 5)
     × (wanted ≡ size + 5) × IsAtEnd now.traffic
-RestFault before now size came ReadFault = (length came < size) × Rose before.faults now.faults
-RestFault before now size came OutOfMemory = length came ≤ size
-RestFault before now size came fault = ⊥
+RestFault now size came ReadFault = length came < size
+RestFault now size came OutOfMemory = length came ≤ size
+RestFault now size came fault = ⊥
 
 -- a result that what the peer sent decided, not a fault or lack of memory; a length has 4 bytes
 abbrev pub IsHeard : Result (List ℕ) AskFault → Type 0

@@ -1,8 +1,7 @@
 -- A whole connection: the frames that were read, the replies that were written, and how it ended.
-use Rattle.std.specs.Prelude.{◌≡◌, ◌⊎◌, ◌<◌, ◌≤◌, ◌^◌, ℕ, List, [], ◌++◌, length, take}
+use Rattle.std.specs.Prelude.{◌≡◌, ◌⊎◌, ◌<◌, ◌≤◌, ◌^◌, ℕ, Bool, true, false, List, [], ◌++◌, length, take}
 use Rattle.std.specs.Int.{to_be_bytes, w32}
 use Rattle.std.specs.List.{All, flat_map}
-use Rattle.ats_base.specs.Outside.{Rose}
 use Rattle.ats_base.specs.Links.{LinkTold, IsAtEnd}
 use Rattle.ats_wire.specs.Requests.{Question, framed}
 use Rattle.ats_wire.specs.Replies.{Answers, reply_bytes}
@@ -23,7 +22,7 @@ pub record IsAnswered (gives : Question → Reply → Type 0) (turn : List ℕ �
 
 -- a reply to this body was written whole
 abbrev pub IsReplied : (Question → Reply → Type 0) → LinkTold → LinkTold → List ℕ → Type 0
-IsReplied gives before now body = (reply : Reply) × Answers gives body reply × Moves before now [] (reply_bytes reply) 0
+IsReplied gives before now body = (reply : Reply) × Answers gives body reply × Moves before now [] (reply_bytes reply) 0 false
 
 -- a fault cut off the reply to this body before it was written whole
 abbrev pub IsCutReply : (Question → Reply → Type 0) → LinkTold → LinkTold → List ℕ → Type 0
@@ -43,26 +42,34 @@ IsUnfinished tail = (length tail < 4)
     ⊎ ((n : ℕ) × (body : List ℕ) × IsFrameLength n × (length body < n) × (tail ≡ to_be_bytes w32 n ++ body))
 
 -- How reading ends after whole frames: what was read there, and what the link reports at that moment.
-abbrev pub EndsReading : LinkTold → LinkTold → List ℕ → ConnectionEnd → Type 0
-EndsReading before now tail Ended = (tail ≡ []) × IsAtEnd now.traffic
-EndsReading before now tail (CutFrame left) = (left ≡ length tail) × (0 < left)
+abbrev pub EndsReading : LinkTold → List ℕ → ConnectionEnd → Type 0
+EndsReading now tail Ended = (tail ≡ []) × IsAtEnd now.traffic
+EndsReading now tail (CutFrame left) = (left ≡ length tail) × (0 < left)
     × IsUnfinished tail × IsAtEnd now.traffic
-EndsReading before now tail (BadFrame n) = (tail ≡ to_be_bytes w32 n) × ((n < 6) ⊎ (4096 < n))
-EndsReading before now tail RequestLimit = ⊥
-EndsReading before now tail ReadFault = IsUnfinished tail × Rose before.faults now.faults
-EndsReading before now tail WriteFault = ⊥
+EndsReading now tail (BadFrame n) = (tail ≡ to_be_bytes w32 n) × ((n < 6) ⊎ (4096 < n))
+EndsReading now tail RequestLimit = ⊥
+EndsReading now tail ReadFault = IsUnfinished tail
+EndsReading now tail WriteFault = ⊥
 
 -- How a connection ends after `requests` whole replies: `tail` was read after their frames, and `part` written after
 -- the replies. At the limit nothing more was read; every other end is before the limit. A write fault leaves the front
 -- of one more reply.
-abbrev pub Ends : (Question → Reply → Type 0) → LinkTold → LinkTold
+abbrev pub Ends : (Question → Reply → Type 0) → LinkTold
     → (requests : ℕ) → (tail part : List ℕ) → ConnectionEnd → Type 0
-Ends gives before now requests tail part RequestLimit = (requests ≡ 65536) × (tail ≡ []) × (part ≡ [])
-Ends gives before now requests tail part WriteFault =
-    (requests < 65536) × Rose before.faults now.faults
-    × ((body : List ℕ) × (reply : Reply) × IsAnswered gives (body, reply) × (tail ≡ framed body)
+Ends gives now requests tail part RequestLimit = (requests ≡ 65536) × (tail ≡ []) × (part ≡ [])
+Ends gives now requests tail part WriteFault =
+    (requests < 65536) × ((body : List ℕ) × (reply : Reply) × IsAnswered gives (body, reply) × (tail ≡ framed body)
     × (n : ℕ) × (n < length (reply_bytes reply)) × (part ≡ take n (reply_bytes reply)))
-Ends gives before now requests tail part end = (requests < 65536) × (part ≡ []) × EndsReading before now tail end
+Ends gives now requests tail part end = (requests < 65536) × (part ≡ []) × EndsReading now tail end
+
+-- the connection ended by a fault of the link
+abbrev pub is_fault : ConnectionEnd → Bool
+is_fault Ended = false
+is_fault (CutFrame left) = false
+is_fault (BadFrame n) = false
+is_fault RequestLimit = false
+is_fault ReadFault = true
+is_fault WriteFault = true
 
 -- A connection was served: whole frames were read and answered, each by one whole reply, in order, and the count is
 -- theirs; then it ended.
@@ -72,8 +79,8 @@ pub record IsServed (gives : Question → Reply → Type 0) (before now : LinkTo
   pub part : List ℕ
   pub answered : All (IsAnswered gives) turns
   pub count : served.requests ≡ length turns
-  pub moved : Moves before now (frames turns ++ tail) (replies turns ++ part) 1
-  pub ends : Ends gives before now served.requests tail part served.end
+  pub moved : Moves before now (frames turns ++ tail) (replies turns ++ part) 1 (is_fault served.end)
+  pub ends : Ends gives now served.requests tail part served.end
 
 -- an end without a fault; a length has 4 bytes
 abbrev pub IsClean : ConnectionEnd → Type 0

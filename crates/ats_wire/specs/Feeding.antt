@@ -21,6 +21,6 @@ IsAskedFed question before now (Ok fed) = (bytes : List ℕ) × IsAsked question
 IsAskedFed question before now (Err fault) = IsAsked question before now (Err fault)
 
 -- what was read: either a whole reply with bytes that have this verdict, or a fault
-abbrev pub SaysFed : LinkTold → LinkTold → List ℕ → Result Fed AskFault → Type 0
-SaysFed before now read (Ok fed) = (bytes : List ℕ) × Says before now read (Ok bytes) × IsFed fed bytes
-SaysFed before now read (Err fault) = Says before now read (Err fault)
+abbrev pub SaysFed : LinkTold → List ℕ → Result Fed AskFault → Type 0
+SaysFed now read (Ok fed) = (bytes : List ℕ) × Says now read (Ok bytes) × IsFed fed bytes
+SaysFed now read (Err fault) = Says now read (Err fault)

@@ -1,10 +1,10 @@
 //! Asks one question over a link.
 
-ghost use Rattle.std.specs.Prelude.{◌≡◌, ◌≤◌, ◌+◌, ◌^◌, ◌++◌, ◌∷◌, [], ℕ, List, length, IfOk, IfErr, OnOk, IsTrue, ◌↔◌, Err};
+ghost use Rattle.std.specs.Prelude.{◌≡◌, ◌≤◌, ◌+◌, ◌^◌, ◌++◌, ◌∷◌, [], ℕ, List, length, IfOk, IfErr, OnOk, IsTrue, ◌↔◌, false, Err};
 ghost use Rattle.std.specs.Int.{to_be_bytes, w32};
 ghost use Rattle.ats_wire.specs.Requests.{framed, request_body};
 ghost use Rattle.ats_wire.specs.Moving.{Moves};
-ghost use Rattle.ats_wire.specs.Asking.{IsAsked, Says, ReplyFault, RestFault, IsReplyLength, IsKind};
+ghost use Rattle.ats_wire.specs.Asking.{IsAsked, Says, breaks_link, is_broken, ReplyFault, RestFault, IsReplyLength, IsKind};
 
 use crate::receiving::{Filling, fill};
 use crate::request::{VERSION, byte_of};
@@ -75,9 +75,9 @@ fn is_kind(length: u32, kind: u8) -> bool
 // The length and the kind of a reply.
 pub(crate) fn read_head<L: Link>(link: &mut L) -> Result<(u32, u8), AskFault>
     ensures ok { IfOk result (λ head. IsReplyLength head.0 × IsKind head.0 head.1
-        × Moves (L.told link.old) (L.told link.new) (to_be_bytes w32 head.0 ++ head.1 ∷ []) [] 0) }
-    ensures err { IfErr result (λ fault. (read : List ℕ) × Moves (L.told link.old) (L.told link.new) read [] 1
-        × ReplyFault (L.told link.old) (L.told link.new) read fault) }
+        × Moves (L.told link.old) (L.told link.new) (to_be_bytes w32 head.0 ++ head.1 ∷ []) [] 0 false) }
+    ensures err { IfErr result (λ fault. (read : List ℕ) × Moves (L.told link.old) (L.told link.new) read [] 1 (breaks_link fault)
+        × ReplyFault (L.told link.new) read fault) }
 {
     let mut head = [0; 4];
     match fill(link, &mut head) {
@@ -118,9 +118,9 @@ pub(crate) fn read_head<L: Link>(link: &mut L) -> Result<(u32, u8), AskFault>
 // The `size` bytes after a reply's head. Memory grows as they arrive, so a peer that announces many and sends few costs
 // little.
 pub(crate) fn read_rest<L: Link>(alloc: Global, link: &mut L, size: u32) -> Result<Bytes, AskFault>
-    ensures ok { IfOk result (λ bytes. (length bytes ≡ size) × Moves (L.told link.old) (L.told link.new) bytes [] 0) }
-    ensures err { IfErr result (λ fault. (came : List ℕ) × Moves (L.told link.old) (L.told link.new) came [] 1
-        × RestFault (L.told link.old) (L.told link.new) size came fault) }
+    ensures ok { IfOk result (λ bytes. (length bytes ≡ size) × Moves (L.told link.old) (L.told link.new) bytes [] 0 false) }
+    ensures err { IfErr result (λ fault. (came : List ℕ) × Moves (L.told link.old) (L.told link.new) came [] 1 (breaks_link fault)
+        × RestFault (L.told link.new) size came fault) }
 {
     let mut bytes = Bytes::new(alloc);
     let mut piece = [0; PIECE];
@@ -145,8 +145,8 @@ pub(crate) fn read_rest<L: Link>(alloc: Global, link: &mut L, size: u32) -> Resu
 
 // A reply, up to its last byte.
 fn read_reply<L: Link>(alloc: Global, link: &mut L) -> Result<Bytes, AskFault>
-    ensures { (read : List ℕ) × Moves (L.told link.old) (L.told link.new) read [] 1
-        × Says (L.told link.old) (L.told link.new) read result }
+    ensures { (read : List ℕ) × Moves (L.told link.old) (L.told link.new) read [] 1 (is_broken result)
+        × Says (L.told link.new) read result }
 {
     let (length, kind) = match read_head(link) {
         Ok(head) => head,
@@ -169,7 +169,7 @@ pub(crate) fn send_request<L: Link>(
 ) -> Result<(), AskFault>
     requires { length query.now ≤ 4000 }
     ensures ok { OnOk result (Moves (L.told link.old) (L.told link.new) []
-        (framed (request_body algorithm top query.now)) 0) }
+        (framed (request_body algorithm top query.now)) 0 false) }
     ensures err { IfErr result (λ fault. IsAsked (record { algorithm = algorithm; top = top; query = query.now })
         (L.told link.old) (L.told link.new) (Err fault)) }
 {

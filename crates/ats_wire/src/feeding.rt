@@ -1,8 +1,8 @@
 //! A question whose proof is checked while it arrives, so that nothing of a bad one is kept.
 
-ghost use Rattle.std.specs.Prelude.{◌≡◌, ◌≤◌, ◌+◌, ◌^◌, ◌++◌, [], ℕ, List, length, IfOk, IfErr, OnOk};
+ghost use Rattle.std.specs.Prelude.{◌≡◌, ◌≤◌, ◌+◌, ◌^◌, ◌++◌, [], ℕ, List, length, false, IfOk, IfErr, OnOk};
 ghost use Rattle.ats_wire.specs.Moving.{Moves};
-ghost use Rattle.ats_wire.specs.Asking.{RestFault};
+ghost use Rattle.ats_wire.specs.Asking.{RestFault, breaks_link, is_broken};
 ghost use Rattle.ats_wire.specs.Feeding.{IsFed, IsAskedFed, SaysFed};
 
 use crate::asking::{AskFault, HEAD, PIECE, read_head, read_rest, send_request};
@@ -26,10 +26,10 @@ pub enum Fed {
 fn pass_rest<L: Link>(link: &mut L, size: u32, read: u32) -> Result<(), AskFault>
     requires { read ≤ size }
     ensures ok { OnOk result ((came : List ℕ) × (read + length came ≡ size)
-        × Moves (L.told link.old) (L.told link.new) came [] 0) }
-    ensures err { IfErr result (λ fault. (came : List ℕ) × Moves (L.told link.old) (L.told link.new) came [] 1
+        × Moves (L.told link.old) (L.told link.new) came [] 0 false) }
+    ensures err { IfErr result (λ fault. (came : List ℕ) × Moves (L.told link.old) (L.told link.new) came [] 1 (breaks_link fault)
         × ((front : List ℕ) → length front ≡ read
-        → RestFault (L.told link.old) (L.told link.new) size (front ++ came) fault)) }
+        → RestFault (L.told link.new) size (front ++ came) fault)) }
 {
     let mut done = read;
     let mut piece = [0; PIECE];
@@ -54,9 +54,9 @@ fn pass_rest<L: Link>(link: &mut L, size: u32, read: u32) -> Result<(), AskFault
 fn read_proof<L: Link>(alloc: Global, link: &mut L, size: u32) -> Result<Fed, AskFault>
     requires { size ≤ 2 ^ 26 }
     ensures ok { IfOk result (λ fed. (bytes : List ℕ) × (length bytes ≡ size)
-        × Moves (L.told link.old) (L.told link.new) bytes [] 0 × IsFed fed bytes) }
-    ensures err { IfErr result (λ fault. (came : List ℕ) × Moves (L.told link.old) (L.told link.new) came [] 1
-        × RestFault (L.told link.old) (L.told link.new) size came fault) }
+        × Moves (L.told link.old) (L.told link.new) bytes [] 0 false × IsFed fed bytes) }
+    ensures err { IfErr result (λ fault. (came : List ℕ) × Moves (L.told link.old) (L.told link.new) came [] 1 (breaks_link fault)
+        × RestFault (L.told link.new) size came fault) }
 {
     let Ok(mut feeder) = Feeder::new(u64::from(size)) else {
         unreachable!();
@@ -94,8 +94,8 @@ fn read_proof<L: Link>(alloc: Global, link: &mut L, size: u32) -> Result<Fed, As
 
 // A reply, up to its last byte.
 fn read_reply<L: Link>(alloc: Global, link: &mut L) -> Result<Fed, AskFault>
-    ensures { (read : List ℕ) × Moves (L.told link.old) (L.told link.new) read [] 1
-        × SaysFed (L.told link.old) (L.told link.new) read result }
+    ensures { (read : List ℕ) × Moves (L.told link.old) (L.told link.new) read [] 1 (is_broken result)
+        × SaysFed (L.told link.new) read result }
 {
     let (length, kind) = match read_head(link) {
         Ok(head) => head,

@@ -1,6 +1,6 @@
 //! Sends frames over a link.
 
-ghost use Rattle.std.specs.Prelude.{◌≡◌, ◌≤◌, ◌+◌, ◌^◌, ◌∷◌, ◌++◌, [], ℕ, List, length, take, OnOk, OnErr};
+ghost use Rattle.std.specs.Prelude.{◌≡◌, ◌≤◌, ◌+◌, ◌^◌, ◌∷◌, ◌++◌, [], ℕ, false, List, length, take, OnOk, OnErr};
 ghost use Rattle.std.specs.Int.{to_be_bytes, w32};
 ghost use Rattle.ats_wire.specs.Requests.{framed};
 ghost use Rattle.ats_wire.specs.Replies.{IsShort, reply_bytes};
@@ -16,7 +16,7 @@ const HEAD: usize = 5;
 
 /// Sends all bytes.
 pub(crate) fn send<L: Link>(link: &mut L, bytes: &[u8]) -> Result<(), Failed>
-    ensures all { OnOk result (Moves (L.told link.old) (L.told link.new) [] bytes.now 0) }
+    ensures all { OnOk result (Moves (L.told link.old) (L.told link.new) [] bytes.now 0 false) }
     ensures part { OnErr result (IsCutOff (L.told link.old) (L.told link.new) bytes.now) }
 {
     send_all(link, bytes)
@@ -46,7 +46,7 @@ fn pack(room: &mut [u8], kind: u8, bytes: &[u8]) -> usize
 fn send_frame<L: Link>(link: &mut L, room: &mut [u8], kind: u8, bytes: &[u8]) -> Result<(), Failed>
     requires room { length room.old ≡ 4096 }
     requires short { length bytes.now ≤ 2 ^ 26 }
-    ensures all { OnOk result (Moves (L.told link.old) (L.told link.new) [] (framed (kind ∷ bytes.now)) 0) }
+    ensures all { OnOk result (Moves (L.told link.old) (L.told link.new) [] (framed (kind ∷ bytes.now)) 0 false) }
     ensures part { OnErr result (IsCutOff (L.told link.old) (L.told link.new) (framed (kind ∷ bytes.now))) }
 {
     let front = pack(room, kind, bytes);
@@ -62,7 +62,7 @@ pub(crate) fn send_reply<L: Link>(
 ) -> Result<(), Failed>
     requires room { length room.old ≡ 4096 }
     requires short { IsShort reply.now }
-    ensures all { OnOk result (Moves (L.told link.old) (L.told link.new) [] (reply_bytes reply.now) 0) }
+    ensures all { OnOk result (Moves (L.told link.old) (L.told link.new) [] (reply_bytes reply.now) 0 false) }
     ensures part { OnErr result (IsCutOff (L.told link.old) (L.told link.new) (reply_bytes reply.now)) }
 {
     match reply {

@@ -1,10 +1,10 @@
 //! One connection, from its first frame to its end.
 
-ghost use Rattle.std.specs.Prelude.{◌≡◌, ◌≤◌, ◌<◌, ◌^◌, ◌↔◌, ◌∷◌, [], ℕ, List, length, take, OnOk, OnErr, IfOk, IfErr, MatchResult};
+ghost use Rattle.std.specs.Prelude.{◌≡◌, ◌≤◌, ◌<◌, ◌^◌, ◌↔◌, ◌∷◌, [], ℕ, false, List, length, take, OnOk, OnErr, IfOk, IfErr, MatchResult};
 ghost use Rattle.ats_wire.specs.Requests.{Question, framed};
 ghost use Rattle.ats_wire.specs.Replies.{Answers, IsShort, reply_bytes};
 ghost use Rattle.ats_wire.specs.Moving.{Moves};
-ghost use Rattle.ats_wire.specs.Connections.{IsFrameLength, EndsReading, IsReplied, IsCutReply, IsServed};
+ghost use Rattle.ats_wire.specs.Connections.{IsFrameLength, is_fault, EndsReading, IsReplied, IsCutReply, IsServed};
 ghost use Rattle.ats_wire.specs.declared.reply.Reply.{Reply};
 
 use crate::receiving::{Filling, fill};
@@ -47,10 +47,10 @@ pub struct Served {
 fn read_frame<L: Link>(link: &mut L, room: &mut [u8]) -> Result<usize, ConnectionEnd>
     requires { length room.old ≡ 4096 }
     ensures frame { IfOk result (λ n. IsFrameLength n
-        × Moves (L.told link.old) (L.told link.new) (framed (take n room.new)) [] 0) }
+        × Moves (L.told link.old) (L.told link.new) (framed (take n room.new)) [] 0 false) }
     ensures end { IfErr result (λ end. (tail : List ℕ)
-        × Moves (L.told link.old) (L.told link.new) tail [] 1
-        × EndsReading (L.told link.old) (L.told link.new) tail end) }
+        × Moves (L.told link.old) (L.told link.new) tail [] 1 (is_fault end)
+        × EndsReading (L.told link.new) tail end) }
 {
     let mut head = [0; 4];
     match fill(link, &mut head) {

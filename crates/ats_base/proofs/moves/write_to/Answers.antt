@@ -1,4 +1,4 @@
-use Rattle.std.proofs.Common.{ℕ, ap, ◌≤◌, ◌-◌, length, drop, arith, take_all, length-take, length-drop}
+use Rattle.std.proofs.Common.{ℕ, ap, ◌∙◌, ◌≤◌, ◌-◌, length, drop, arith, take_all, length-take, length-drop}
 use Rattle.ats_base.proofs.Exchanges.{wrote_more}
 use Rattle.ats_base.proofs.moves.write_to.Goals as goal
 
@@ -11,5 +11,5 @@ writes-preserved g c =
       written = wrote_more _ _ _ _ _ _ _ c.writes.invariant.written (take_all _ _ all) c.in_ok-count.ensures.bytes;
       turns = omega (arith, c.in_ok-count.ensures.counted, c.in_ok-count.ensures.some.1, c.writes.invariant.turns, c.writes-test.true, length-drop c.writes.done bytes);
       none = λ empty. absurd (omega (arith, ap length empty, c.writes-test.true));
-      later = omega (arith, c.in_ok-count.ensures.cause.later);
+      kept = c.in_ok-count.ensures.cause.kept ∙ c.writes.invariant.kept;
     }

@@ -6,15 +6,15 @@ use Rattle.ats_top.proofs.Readings.{audit_index, audit_read}
 use Rattle.ats_top.proofs.auditing.audit.Goals as goal
 
 pub returns-in_err-loaded-clause-serves : goal.returns-in_err-loaded-clause-serves
-returns-in_err-loaded-clause-serves g c = audit_index _ _ _ c.index.ensures.reads
+returns-in_err-loaded-clause-serves g c = audit_index _ _ _ _ c.index.ensures.reads
 
 pub returns-in-Err-clause-serves : goal.returns-in-Err-clause-serves
 returns-in-Err-clause-serves g c =
-    audit_read _ _ (g.S.Shelf.told c.index.new.shelf) g.H.HashKind.hash _ _ c.in_ok-loaded.ensures.ok c.in_ok-loaded.ensures.reads c.proof.ensures.reads
+    audit_read g.H.HashKind.hash _ _ (g.S.Shelf.told c.index.new.shelf) _ _ c.in_ok-loaded.ensures.ok c.in_ok-loaded.ensures.reads c.proof.ensures.reads
 
 pub returns-clause-serves : goal.returns-clause-serves
 returns-clause-serves g c =
-    audit_read _ _ (g.S.Shelf.told c.index.new.shelf) g.H.HashKind.hash _ _ c.in_ok-loaded.ensures.ok c.in_ok-loaded.ensures.reads c.in-Ok.ensures.reads
+    audit_read g.H.HashKind.hash _ _ (g.S.Shelf.told c.index.new.shelf) _ _ c.in_ok-loaded.ensures.ok c.in_ok-loaded.ensures.reads c.in-Ok.ensures.reads
 
 pub returns-in-Err-clause-stop : goal.returns-in-Err-clause-stop
 returns-in-Err-clause-stop g c =
@@ -22,7 +22,7 @@ returns-in-Err-clause-stop g c =
     proof_stops g.H.HashKind.hash (g.S.Shelf.told c.args.shelf.now) (g.S.Shelf.told c.index.new.shelf) (g.S.Shelf.told c.proof.new.shelf)
     (record { index = c.args.index.now; r = c.args.r; query = c.args.query.now; proof = c.args.proof.now })
     asks c.in_ok-loaded.ensures.reads.files c.proof.ensures.reads.files c.in_ok-loaded.loaded c.in_ok-loaded.ensures.ok
-    c.in_ok-loaded.ensures.reads.later c.in-Err.stop c.in-Err.ensures.stop
+    c.in_ok-loaded.ensures.count c.in-Err.stop c.in-Err.ensures.stop
 
 pub returns-clause-ok : goal.returns-clause-ok
 returns-clause-ok g c =

@@ -7,7 +7,7 @@ use Rattle.ats_top.proofs.Unstored.{never_stored, done_status, other_stop}
 use Rattle.ats_top.proofs.commands.perform.Goals as goal
 
 pub returns-in-Some-clause-serves : goal.returns-in-Some-clause-serves
-returns-in-Some-clause-serves g c = inr (_, serving_said _ _ c.in-Some.ensures, serve_read _ _ _ c.serve.ensures.reads)
+returns-in-Some-clause-serves g c = inr (_, serving_said _ _ c.in-Some.ensures, serve_read _ _ _ _ c.serve.ensures.reads)
 
 pub returns-in-Some-clause-ended : goal.returns-in-Some-clause-ended
 returns-in-Some-clause-ended g c =
@@ -24,8 +24,8 @@ returns-in-Some-clause-opened g c = elim c.serve.ensures.opened [
 
 pub returns-in-Some-clause-unstored : goal.returns-in-Some-clause-unstored
 returns-in-Some-clause-unstored g c not_done not_shelf not_failed =
-    never_stored (g.S.Shelf.told c.args.shelf.now) (g.S.Shelf.told c.serve.new.shelf) (map string_bytes c.args.words.now) _ (serving_said _ _ c.in-Some.ensures) refl
-    (serve_read _ _ _ c.serve.ensures.reads)
+    never_stored g.H.HashKind.hash (g.S.Shelf.told c.args.shelf.now) (g.S.Shelf.told c.serve.new.shelf) (map string_bytes c.args.words.now) _ (serving_said _ _ c.in-Some.ensures) refl
+    (serve_read _ _ _ _ c.serve.ensures.reads)
 
 pub returns-in-Ok-clause-ended : goal.returns-in-Ok-clause-ended
 returns-in-Ok-clause-ended g c = record {

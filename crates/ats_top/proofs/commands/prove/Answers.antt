@@ -38,7 +38,7 @@ returns-clause-stop g c =
     let within = c.in_ok-rows.ensures.within in
     let asks : AsksRanking c.args.r c.args.query.now = record { rows = record { some = within.0; few = within.1 }; query = c.in_ok-asked.ensures.ok.has } in
     let failed = c.in-Err.ensures.cause.failed in
-    let later = c.in_ok-loaded.ensures.reads.later in
+    let calm = c.in_ok-loaded.ensures.count in
     let proof : IsProofFor g.H.HashKind.hash (g.S.Shelf.told c.args.shelf.now).files
     (record { index = c.args.index.now; algorithm = c.args.algorithm; r = c.args.r; query = c.args.query.now; proof = c.args.proof.now }) _ = record {
       archive = _;
@@ -48,7 +48,7 @@ returns-clause-stop g c =
       proved = rw c.in_ok-rows.ensures.ok at c.in_ok-bytes.ensures.proof;
       short = c.in_ok-bytes.ensures.short;
     } in
-    (inl (asks, omega (arith, failed, later)), proof_part _ _ _ _ _ _ asks proof c.in_ok-loaded.ensures.reads.files (rw c.as_slice.ensures at c.in-Err.ensures.err))
+    (inl (asks, rw (← calm) failed), proof_part _ _ _ _ _ _ asks proof c.in_ok-loaded.ensures.reads.files (rw c.as_slice.ensures at c.in-Err.ensures.err))
 
 pub returns-in_err-bytes-clause-stop : goal.returns-in_err-bytes-clause-stop
 returns-in_err-bytes-clause-stop g c =
@@ -64,31 +64,31 @@ returns-in_err-bytes-clause-stop g c =
     c.in_err-bytes.field-0.0 (rw c.in_ok-rows.ensures.ok at c.in_err-bytes.ensures.stop))
 
 pub returns-in_err-loaded-clause-serves : goal.returns-in_err-loaded-clause-serves
-returns-in_err-loaded-clause-serves g c = prove_read _ _ _ c.index.ensures.reads
+returns-in_err-loaded-clause-serves g c = prove_read _ _ _ _ c.index.ensures.reads
 
 pub returns-in_err-bytes-clause-serves : goal.returns-in_err-bytes-clause-serves
-returns-in_err-bytes-clause-serves g c = prove_read _ _ _ c.in_ok-loaded.ensures.reads
+returns-in_err-bytes-clause-serves g c = prove_read _ _ _ _ c.in_ok-loaded.ensures.reads
 
 pub returns-in-Ok-clause-serves : goal.returns-in-Ok-clause-serves
 returns-in-Ok-clause-serves g c =
-    prove_stored _ _ (g.S.Shelf.told c.index.new.shelf) g.H.HashKind.hash _ _ c.in_ok-loaded.ensures.ok c.in_ok-loaded.ensures.reads c.in-Ok.ensures.asked c.in-Ok.ensures.cause.later
+    prove_stored g.H.HashKind.hash _ _ (g.S.Shelf.told c.index.new.shelf) _ _ c.in_ok-loaded.ensures.ok c.in_ok-loaded.ensures.reads c.in-Ok.ensures.asked c.in-Ok.ensures.cause.later
 
 pub returns-clause-serves : goal.returns-clause-serves
 returns-clause-serves g c =
-    prove_stored _ _ (g.S.Shelf.told c.index.new.shelf) g.H.HashKind.hash _ _ c.in_ok-loaded.ensures.ok c.in_ok-loaded.ensures.reads c.in-Err.ensures.asked c.in-Err.ensures.cause.later
+    prove_stored g.H.HashKind.hash _ _ (g.S.Shelf.told c.index.new.shelf) _ _ c.in_ok-loaded.ensures.ok c.in_ok-loaded.ensures.reads c.in-Err.ensures.asked c.in-Err.ensures.cause.later
 
 pub returns-in_err-loaded-clause-unstored : goal.returns-in_err-loaded-clause-unstored
 returns-in_err-loaded-clause-unstored g c = if_unstored c.from_residual-in_err-loaded.result _
-    (prove_alone _ _ (record { index = c.args.index.now; algorithm = c.args.algorithm; r = c.args.r; query = c.args.query.now; proof = c.args.proof.now }) c.index.ensures.reads)
+    (prove_alone g.H.HashKind.hash _ _ (record { index = c.args.index.now; algorithm = c.args.algorithm; r = c.args.r; query = c.args.query.now; proof = c.args.proof.now }) c.index.ensures.reads)
 
 pub returns-in_err-bytes-clause-unstored : goal.returns-in_err-bytes-clause-unstored
 returns-in_err-bytes-clause-unstored g c = if_unstored c.from_residual-in_err-bytes.result _
-    (prove_alone _ _ (record { index = c.args.index.now; algorithm = c.args.algorithm; r = c.args.r; query = c.args.query.now; proof = c.args.proof.now }) c.in_ok-loaded.ensures.reads)
+    (prove_alone g.H.HashKind.hash _ _ (record { index = c.args.index.now; algorithm = c.args.algorithm; r = c.args.r; query = c.args.query.now; proof = c.args.proof.now }) c.in_ok-loaded.ensures.reads)
 
 pub returns-in_err-rows-clause-unstored : goal.returns-in_err-rows-clause-unstored
 returns-in_err-rows-clause-unstored g c = if_unstored c.from_residual.result _
-    (alone_none (g.S.Shelf.told c.args.shelf.now) (Prove (record { index = c.args.index.now; algorithm = c.args.algorithm; r = c.args.r; query = c.args.query.now; proof = c.args.proof.now })))
+    (alone_none g.H.HashKind.hash (g.S.Shelf.told c.args.shelf.now) (Prove (record { index = c.args.index.now; algorithm = c.args.algorithm; r = c.args.r; query = c.args.query.now; proof = c.args.proof.now })))
 
 pub returns-in_err-asked-clause-unstored : goal.returns-in_err-asked-clause-unstored
 returns-in_err-asked-clause-unstored g c = if_unstored c.from_residual-in_err-asked.result _
-    (alone_none (g.S.Shelf.told c.args.shelf.now) (Prove (record { index = c.args.index.now; algorithm = c.args.algorithm; r = c.args.r; query = c.args.query.now; proof = c.args.proof.now })))
+    (alone_none g.H.HashKind.hash (g.S.Shelf.told c.args.shelf.now) (Prove (record { index = c.args.index.now; algorithm = c.args.algorithm; r = c.args.r; query = c.args.query.now; proof = c.args.proof.now })))

@@ -9,4 +9,4 @@ returns-clause-ran g c =
     let before : Outside = record { shelf = g.S.Shelf.told c.args.shelf.now; sink = g.K.Sink.told c.args.out.now; caller = g.C.Caller.told c.args.caller.now; door = g.D.Door.told c.args.door.now } in
     let now : Outside = record { shelf = g.S.Shelf.told c.perform.new.shelf; sink = g.K.Sink.told c.perform.new.out; caller = g.C.Caller.told c.perform.new.caller; door = g.D.Door.told c.perform.new.door } in
     concluded.ran g.H.HashKind.hash (map string_bytes c.args.words.now) before now c.perform.result
-    done.ended done.serves (λ said. ap g.S.Shelf.told (done.unread said)) done.called done.opened done.sink_later done.unstored
+    done.ended (concluded.counts g.H.HashKind.hash (map string_bytes c.args.words.now) before now c.perform.result done.ended done.shelf_count done.caller_count done.door_count) done.serves (λ said. ap g.S.Shelf.told (done.unread said)) done.called done.opened done.sink_later done.unstored

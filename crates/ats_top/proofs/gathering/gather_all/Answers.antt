@@ -45,7 +45,7 @@ loop-entry-preserved g c =
     let i : ℕ = c.loop-entry.entry-index in
     rw c.in_ok-push.ensures.items (so_far_more (g.S.Shelf.told c.args.shelf.now) (g.S.Shelf.told c.loop-entry.shelf) (g.S.Shelf.told c.gather_one.new.shelf) c.args.entries.now i
     c.entry-item.result c.loop-entry-test.true c.entry-item.is c.loop-entry.proofs.items c.loop-entry.total c.loop-entry.invariant c.gather_one.ensures.reads
-    c.in_ok-proof.proof c.in_ok-proof.ensures.ok _ (ap (λ (bytes : List ℕ). c.loop-entry.total + length bytes) c.bytes.ensures) (omega (arith, c.if-total-gt-PROOFS_LIMIT.false)))
+    c.in_ok-proof.proof c.in_ok-proof.ensures.ok c.in_ok-proof.ensures.count _ (ap (λ (bytes : List ℕ). c.loop-entry.total + length bytes) c.bytes.ensures) (omega (arith, c.if-total-gt-PROOFS_LIMIT.false)))
 
 pub returns-clause-reads : goal.returns-clause-reads
 returns-clause-reads g c =

@@ -19,6 +19,7 @@ returns-then-is_err g c files name has =
           broken = c.listen.ensures.broken;
           cause = err_part c.listen.result failed c.listen.ensures.cause.failed;
           later = c.listen.ensures.cause.later;
+          last = c.listen.ensures.last ∙ failed;
         };
         printed = refl;
       }),
@@ -32,12 +33,12 @@ returns-then-is_err-2 g c files name has =
     let listened : Listened c.args.address.now (g.D.Door.told c.args.door.now) opened = record {
       content = ok_part c.listen.result (sym c.is_err.ensures.value ∙ c.if-is_err.false) c.listen.ensures.ok;
       broken = c.listen.ensures.broken;
-      later = c.listen.ensures.cause.later;
+      kept = ok_part c.listen.result (sym c.is_err.ensures.value ∙ c.if-is_err.false) c.listen.ensures.cause.kept;
     } in (
       serving_text [],
       failed_as (g.K.Sink.told c.args.out.now) (g.K.Sink.told c.write_all.new.sink) _ _ c.as_bytes.ensures.value
           (err_part c.write_all.result failed c.write_all.ensures.part) (err_part c.write_all.result failed c.write_all.ensures.cause.failed)
-          c.write_all.ensures.cause.later,
+          c.write_all.ensures.cause.later (err_part c.write_all.result failed c.write_all.ensures.last),
       record {
         sessions = [];
         served = served_of g.H.HashKind.hash files words c.args.index.now has (g.D.Door.told c.args.door.now) opened listened opened [] (had_none _ _) (omega arith);
@@ -53,9 +54,9 @@ returns g c files name has =
     let listened : Listened c.args.address.now (g.D.Door.told c.args.door.now) opened = record {
       content = ok_part c.listen.result (sym c.is_err.ensures.value ∙ c.if-is_err.false) c.listen.ensures.ok;
       broken = c.listen.ensures.broken;
-      later = c.listen.ensures.cause.later;
+      kept = ok_part c.listen.result (sym c.is_err.ensures.value ∙ c.if-is_err.false) c.listen.ensures.cause.kept;
     } in
     attends g.H.HashKind.hash files words c.args.index.now has (g.D.Door.told c.args.door.now) opened listened
     (g.K.Sink.told c.args.out.now) (g.K.Sink.told c.write_all.new.sink) _ c.serve_links.result
     (took_as (g.K.Sink.told c.args.out.now) (g.K.Sink.told c.write_all.new.sink) _ _ c.as_bytes.ensures.value
-    (ok_part c.write_all.result done c.write_all.ensures.all) c.write_all.ensures.cause.later) c.serve_links.ensures
+    (ok_part c.write_all.result done c.write_all.ensures.all) (ok_part c.write_all.result done c.write_all.ensures.cause.kept)) c.serve_links.ensures

@@ -18,7 +18,7 @@ returns-clause-ended g c said caller is =
     served g.H.HashKind.hash said _ is caller (g.S.Shelf.told c.args.shelf.now) (g.S.Shelf.told c.index.new.shelf) c.in-Ok.ensures.reads.files
     (g.K.Sink.told c.args.out.now) (g.K.Sink.told c.attend-outcome.new.out) (g.K.Sink.told c.print_outcome.new.out)
     (g.D.Door.told c.args.door.now) (g.D.Door.told c.attend-outcome.new.door) c.attend-outcome.result _
-    (c.attend-outcome.ensures _ _ c.in-Ok.ensures.ok) c.print_outcome.ensures.prints c.print_outcome.ensures.later
+    (c.attend-outcome.ensures _ _ c.in-Ok.ensures.ok) c.print_outcome.ensures.prints
 
 pub returns-clause-opened : goal.returns-clause-opened
 returns-clause-opened g c =

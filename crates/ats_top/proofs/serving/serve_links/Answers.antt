@@ -1,5 +1,5 @@
 use Rattle.std.proofs.Common.{◌≡◌, ◌+◌, ◌∙◌, ◌++◌, ◌∷◌, Bool, [], refl, sym, ap, arith, add-zero, cond}
-use Rattle.ats_top.specs.Serving.{is_fault}
+use Rattle.ats_wire.specs.Connections.{is_fault}
 use Rattle.ats_top.proofs.Sessions.{had_none, took_none}
 use Rattle.ats_top.proofs.Attending.{one_more, untold}
 use Rattle.ats_top.proofs.serving.serve_links.Goals as goal

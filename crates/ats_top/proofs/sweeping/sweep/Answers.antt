@@ -21,11 +21,11 @@ returns-in_err-loaded-clause-same g c =
 
 pub returns-in_err-loaded-clause-serves : goal.returns-in_err-loaded-clause-serves
 returns-in_err-loaded-clause-serves g c =
-    sweep_index _ _ _ c.index.ensures.reads
+    sweep_index _ _ _ _ c.index.ensures.reads
 
 pub returns-in-Err-clause-stop : goal.returns-in-Err-clause-stop
 returns-in-Err-clause-stop g c =
-    list_stops g.H.HashKind.hash (g.S.Shelf.told c.args.shelf.now) (g.S.Shelf.told c.list.new.shelf) (record { index = c.args.index.now; list = c.args.list.now }) (c.list.ensures.reads.files ∙ c.index.ensures.reads.files) c.in_ok-loaded.loaded c.in_ok-loaded.ensures.ok (g.S.Shelf.told c.index.new.shelf) c.index.ensures.reads.files c.index.ensures.reads.later c.in-Err.stop c.in-Err.ensures.stop
+    list_stops g.H.HashKind.hash (g.S.Shelf.told c.args.shelf.now) (g.S.Shelf.told c.list.new.shelf) (record { index = c.args.index.now; list = c.args.list.now }) (c.list.ensures.reads.files ∙ c.index.ensures.reads.files) c.in_ok-loaded.loaded c.in_ok-loaded.ensures.ok (g.S.Shelf.told c.index.new.shelf) c.index.ensures.reads.files c.in_ok-loaded.ensures.count c.in-Err.stop c.in-Err.ensures.stop
 
 pub returns-in-Err-clause-same : goal.returns-in-Err-clause-same
 returns-in-Err-clause-same g c =
@@ -33,7 +33,7 @@ returns-in-Err-clause-same g c =
 
 pub returns-in-Err-clause-serves : goal.returns-in-Err-clause-serves
 returns-in-Err-clause-serves g c =
-    sweep_list _ _ (g.S.Shelf.told c.index.new.shelf) g.H.HashKind.hash _ _ c.in_ok-loaded.ensures.ok c.index.ensures.reads c.list.ensures.reads
+    sweep_list g.H.HashKind.hash _ _ (g.S.Shelf.told c.index.new.shelf) _ _ c.in_ok-loaded.ensures.ok c.index.ensures.reads c.list.ensures.reads
 
 pub returns-clause-ok : goal.returns-clause-ok
 returns-clause-ok g c =
@@ -44,6 +44,7 @@ returns-clause-ok g c =
           (subst (λ (bytes : List ℕ). IsFile (g.S.Shelf.told c.index.new.shelf).files c.args.list.now (2 ^ 20) bytes) (sym c.as_slice.ensures) c.in-Ok.ensures.ok);
       same = c.index.ensures.reads.files;
       files = c.list.ensures.reads.files ∙ c.index.ensures.reads.files;
+      calm = c.in-Ok.ensures.count ∙ c.in_ok-loaded.ensures.count;
       index_read = c.index.ensures.reads;
       list_read = c.list.ensures.reads;
     } in
@@ -58,6 +59,7 @@ returns-clause-stop g c =
           (subst (λ (bytes : List ℕ). IsFile (g.S.Shelf.told c.index.new.shelf).files c.args.list.now (2 ^ 20) bytes) (sym c.as_slice.ensures) c.in-Ok.ensures.ok);
       same = c.index.ensures.reads.files;
       files = c.list.ensures.reads.files ∙ c.index.ensures.reads.files;
+      calm = c.in-Ok.ensures.count ∙ c.in_ok-loaded.ensures.count;
       index_read = c.index.ensures.reads;
       list_read = c.list.ensures.reads;
     } in
@@ -72,6 +74,7 @@ returns-clause-serves g c =
           (subst (λ (bytes : List ℕ). IsFile (g.S.Shelf.told c.index.new.shelf).files c.args.list.now (2 ^ 20) bytes) (sym c.as_slice.ensures) c.in-Ok.ensures.ok);
       same = c.index.ensures.reads.files;
       files = c.list.ensures.reads.files ∙ c.index.ensures.reads.files;
+      calm = c.in-Ok.ensures.count ∙ c.in_ok-loaded.ensures.count;
       index_read = c.index.ensures.reads;
       list_read = c.list.ensures.reads;
     } in

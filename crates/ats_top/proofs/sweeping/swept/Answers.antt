@@ -26,7 +26,7 @@ returns-in_err-entries-clause-stop g c before words are =
 
 pub returns-in_err-entries-clause-serves : goal.returns-in_err-entries-clause-serves
 returns-in_err-entries-clause-serves g c before words are =
-    sweep_list before (g.S.Shelf.told c.args.shelf.now) are.first g.H.HashKind.hash words c.args.index.now are.index are.index_read are.list_read
+    sweep_list g.H.HashKind.hash before (g.S.Shelf.told c.args.shelf.now) are.first words c.args.index.now are.index are.index_read are.list_read
 
 pub returns-in_err-proofs-clause-stop : goal.returns-in_err-proofs-clause-stop
 returns-in_err-proofs-clause-stop g c before words are =
@@ -34,7 +34,7 @@ returns-in_err-proofs-clause-stop g c before words are =
     let told = err_from_is_err_and c.from_residual-in_err-proofs.result c.from_residual-in_err-proofs.ensures.1 in
     passed_on (FilesStop g.H.HashKind.hash before (g.S.Shelf.told c.gather_all.new.shelf) (Sweep words)) _ told.0 _ told.1 told.2
     (gather_stops g.H.HashKind.hash before (g.S.Shelf.told c.gather_all.new.shelf) words (c.gather_all.ensures.reads.files ∙ are.files) c.args.index.now are.index c.args.list.now are.file c.in_ok-entries.entries.items c.in_ok-entries.ensures.ok c.in_ok-entries.ensures.some c.in_ok-entries.ensures.few
-    (g.S.Shelf.told c.args.shelf.now) are.files (omega (arith, are.index_read.later, are.list_read.later)) c.in_err-proofs.field-0.0 stops)
+    (g.S.Shelf.told c.args.shelf.now) are.files are.calm c.in_err-proofs.field-0.0 stops)
 
 pub returns-in_err-proofs-clause-same : goal.returns-in_err-proofs-clause-same
 returns-in_err-proofs-clause-same g c = c.gather_all.ensures.reads.files

@@ -15,5 +15,5 @@ returns-in-Err-read_rest g c =
     let now = g.L.Link.told c.read_rest.new.link in (
       (to_be_bytes w32 n ++ kind ∷ []) ++ rest.0,
       moves_then before mid now (to_be_bytes w32 n ++ kind ∷ []) [] rest.0 [] 1 head.2 rest.1,
-      rest_fault before mid now n kind rest.0 c.in-Err-read_rest.fault head.2.later head.0 head.1 rest.2,
+      rest_fault now n kind rest.0 c.in-Err-read_rest.fault head.0 head.1 rest.2,
     )

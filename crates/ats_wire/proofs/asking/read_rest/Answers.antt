@@ -1,7 +1,7 @@
 use Rattle.std.proofs.Common.{◌≤◌, ◌-◌, ◌++◌, ℕ, List, [], length, take, refl, arith, length-append}
 use Rattle.std.proofs.lemmas.Grind.{common_steps}
 use Rattle.std.proofs.lemmas.List.{length-take-le}
-use Rattle.ats_wire.proofs.Moved.{moves_then, moves_none, moves_idle, rose_since}
+use Rattle.ats_wire.proofs.Moved.{moves_then, moves_none, moves_idle}
 use Rattle.ats_wire.proofs.asking.read_rest.Goals as goal
 
 pub pieces-init : goal.pieces-init
@@ -29,8 +29,8 @@ returns-in-Broken-clause-err g c =
     let came_is = length-take-le filled.0 buf (omega (arith, filled.1)) in
     let long = length-append bytes (take filled.0 buf) in (
       bytes ++ take filled.0 buf,
-      moves_then (g.L.Link.told c.args.link.now) (g.L.Link.told c.pieces.link) (g.L.Link.told c.fill.new.link) bytes [] (take filled.0 buf) [] 1 c.pieces.invariant.moved filled.3,
-      (omega (arith, long, came_is, room, filled.1), rose_since _ _ _ c.pieces.invariant.moved.later filled.2),
+      moves_then (g.L.Link.told c.args.link.now) (g.L.Link.told c.pieces.link) (g.L.Link.told c.fill.new.link) bytes [] (take filled.0 buf) [] 1 c.pieces.invariant.moved filled.2,
+      omega (arith, long, came_is, room, filled.1),
     )
 
 pub returns-then-is_err-clause-err : goal.returns-then-is_err-clause-err

@@ -1,7 +1,7 @@
 use Rattle.std.proofs.Common.{◌≡◌, ◌≤◌, ◌-◌, ◌++◌, ℕ, List, [], length, take, arith, length-append}
 use Rattle.std.proofs.lemmas.Grind.{common_steps}
 use Rattle.std.proofs.lemmas.List.{length-take-le}
-use Rattle.ats_wire.proofs.Moved.{moves_then, rose_since}
+use Rattle.ats_wire.proofs.Moved.{moves_then}
 use Rattle.ats_wire.proofs.feeding.pass_rest.Goals as goal
 
 pub returns-in-Ended-clause-err : goal.returns-in-Ended-clause-err
@@ -34,10 +34,10 @@ returns-in-Broken-clause-err g c =
     let came_is = length-take-le filled.0 buf (omega (arith, filled.1)) in
     let long = length-append inv.1.0 came in (
       inv.1.0 ++ came,
-      moves_then (g.L.Link.told c.args.link.now) (g.L.Link.told c.pieces.link) (g.L.Link.told c.fill.new.link) inv.1.0 [] came [] 1 inv.1.2 filled.3,
+      moves_then (g.L.Link.told c.args.link.now) (g.L.Link.told c.pieces.link) (g.L.Link.told c.fill.new.link) inv.1.0 [] came [] 1 inv.1.2 filled.2,
       λ front first.
           let all = length-append front (inv.1.0 ++ came) in
-          (omega (arith, all, first, long, came_is, room, filled.1, inv.1.1), rose_since _ _ _ inv.1.2.later filled.2),
+          omega (arith, all, first, long, came_is, room, filled.1, inv.1.1),
     )
 
 pub pieces-preserved : goal.pieces-preserved

@@ -1,8 +1,8 @@
-use Rattle.std.proofs.Common.{◌≡◌, ◌≤◌, ◌-◌, ◌++◌, ◌∙◌, ℕ, List, [], length, take, drop, arith, length-append}
+use Rattle.std.proofs.Common.{false, ◌≡◌, ◌≤◌, ◌-◌, ◌++◌, ◌∙◌, ℕ, List, [], length, take, drop, arith, length-append}
 use Rattle.std.proofs.lemmas.Grind.{common_steps}
 use Rattle.std.proofs.lemmas.List.{length-take-le, take_at}
-use Rattle.ats_wire.proofs.Moved.{moves_then, moves_none, moves_idle, rose_since}
-use Rattle.ats_wire.proofs.PiecesRead.{bad_stays, rest_since, extended}
+use Rattle.ats_wire.proofs.Moved.{moves_then, moves_none, moves_idle}
+use Rattle.ats_wire.proofs.PiecesRead.{bad_stays, extended}
 use Rattle.ats_wire.proofs.feeding.read_proof.Goals as goal
 use Rattle.ats_wire.proofs.feeding.read_proof.Goals.{in-Ok-pass_rest, in-Err-pass_rest}
 
@@ -37,8 +37,8 @@ returns-in-Broken-clause-err g c =
     let came_is = length-take-le filled.0 buf (omega (arith, filled.1)) in
     let long = length-append bytes (take filled.0 buf) in (
       bytes ++ take filled.0 buf,
-      moves_then (g.L.Link.told c.args.link.now) (g.L.Link.told c.pieces.link) (g.L.Link.told c.fill.new.link) bytes [] (take filled.0 buf) [] 1 c.pieces.invariant.moved filled.3,
-      (omega (arith, long, came_is, room, filled.1), rose_since _ _ _ c.pieces.invariant.moved.later filled.2),
+      moves_then (g.L.Link.told c.args.link.now) (g.L.Link.told c.pieces.link) (g.L.Link.told c.fill.new.link) bytes [] (take filled.0 buf) [] 1 c.pieces.invariant.moved filled.2,
+      omega (arith, long, came_is, room, filled.1),
     )
 
 pub returns-in-Err-clause-ok : goal.returns-in-Err-clause-ok
@@ -80,8 +80,7 @@ returns-in-Err-clause-err g c =
           rw w.result-is (
             (bytes ++ buf) ++ rest.0,
             moves_then before mid now (bytes ++ buf) [] rest.0 [] 1 first rest.1,
-            rest_since before mid now c.args.size ((bytes ++ buf) ++ rest.0) w.in-Err-pass_rest.fault first.later
-                (rest.2 (bytes ++ buf) (omega (arith, length-append bytes buf, room, c.len-in-Err.ensures))),
+            rest.2 (bytes ++ buf) (omega (arith, length-append bytes buf, room, c.len-in-Err.ensures)),
           )
     ]
 

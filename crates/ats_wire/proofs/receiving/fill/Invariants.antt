@@ -1,4 +1,4 @@
-use Rattle.std.proofs.Common.{ℕ, get_or, ◌<◌, length, [], ◌-◌, ◌≤◌, take}
+use Rattle.std.proofs.Common.{false, ℕ, get_or, ◌<◌, length, [], ◌-◌, ◌≤◌, take}
 use Rattle.ats_wire.specs.Moving.{Moves}
 use Rattle.ats_wire.proofs.receiving.fill.Given as goal
 
@@ -7,7 +7,7 @@ abbrev pub invariant-reads : goal.invariant-reads
 invariant-reads g l = record {
   few : l.done ≤ length l.buf;
   small : (i : ℕ) → get_or l.buf i 0 < 256;
-  moved : Moves (g.L.Link.told l.fn.link) (g.L.Link.told l.link) (take l.done l.buf) [] 0;
+  moved : Moves (g.L.Link.told l.fn.link) (g.L.Link.told l.link) (take l.done l.buf) [] 0 false;
 }
 
 abbrev pub decreases-reads : goal.decreases-reads

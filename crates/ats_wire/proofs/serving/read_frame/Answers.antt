@@ -1,8 +1,8 @@
-use Rattle.std.proofs.Common.{◌≡◌, ◌∙◌, inl, inr, length, sym, ap, arith}
+use Rattle.std.proofs.Common.{false, true, ◌≡◌, ◌∙◌, inl, inr, length, sym, ap, arith}
 use Rattle.std.specs.Int.{to_be_bytes, w32}
 use Rattle.std.proofs.lemmas.Grind.{common_steps}
 use Rattle.ats_wire.proofs.Framing.{whole_frame, unfinished}
-use Rattle.ats_wire.proofs.Moved.{moves_idle, rose_since}
+use Rattle.ats_wire.proofs.Moved.{moves_idle}
 use Rattle.ats_wire.proofs.Numbers.{number_4}
 use Rattle.ats_wire.proofs.serving.read_frame.Goals as goal
 use Rattle.ats_wire.proofs.serving.read_frame.Goals.{then-length-lt-MIN_FRAME-via-then-length-lt-MIN_FRAME, then-length-lt-MIN_FRAME-via-else-length-lt-MIN_FRAME+then-length-gt-MAX_FRAME}
@@ -56,5 +56,5 @@ returns-in-Broken-fill-clause-end g c =
     let long : length body ≡ n = grind (arith, common_steps, c.fill-2.auto.buf, c.requires, c.if-length-gt-MAX_FRAME.false) in
     let filled = c.in-Broken-fill.ensures.fills in
     let cut = unfinished (g.L.Link.told c.args.link.now) (g.L.Link.told c.fill.new.link) (g.L.Link.told c.fill-2.new.link) head body n filled.0
-    c.in-Whole.ensures.fills filled.3 number c.fill.auto.buf (c.if-length-lt-MIN_FRAME.false, c.if-length-gt-MAX_FRAME.false) long filled.1 in
-    (cut.0, cut.1, (cut.2, rose_since _ _ _ c.in-Whole.ensures.fills.later filled.2))
+    c.in-Whole.ensures.fills filled.2 number c.fill.auto.buf (c.if-length-lt-MIN_FRAME.false, c.if-length-gt-MAX_FRAME.false) long filled.1 in
+    (cut.0, cut.1, cut.2)

@@ -1,4 +1,4 @@
-use Rattle.std.proofs.Common.{◌≡◌, ◌∙◌, ℕ, List, [], length, take, sym, arith, length-take-le}
+use Rattle.std.proofs.Common.{false, true, ◌≡◌, ◌∙◌, ℕ, List, [], length, take, sym, arith, length-take-le}
 use Rattle.ats_wire.proofs.Moved.{moves_then}
 use Rattle.ats_wire.proofs.Turns.{err_part, ok_part, answers_same, ends_reading, one_more, cut_turn}
 use Rattle.std.proofs.Common.{subst}
@@ -21,7 +21,7 @@ returns-in-Err-clause-served g c =
       answered = so_far.2;
       count = so_far.1;
       moved = moves_then before mid now _ _ _ _ 1 so_far.3 end.1;
-      ends = ends_reading gives before mid now c.turns.requests end.0 c.in-Err.end c.turns-test.true so_far.3.later end.2;
+      ends = ends_reading gives now c.turns.requests end.0 c.in-Err.end c.turns-test.true end.2;
     }
 
 pub returns-then-is_err-clause-served : goal.returns-then-is_err-clause-served

@@ -1,4 +1,4 @@
-use Rattle.std.proofs.Common.{◌≡◌, ◌≤◌, ◌-◌, ◌↔◌, ℕ, List, length}
+use Rattle.std.proofs.Common.{false, ◌≡◌, ◌≤◌, ◌-◌, ◌↔◌, ℕ, List, length}
 use Rattle.std.specs.List.{All}
 use Rattle.ats_wire.specs.Requests.{Question}
 use Rattle.ats_wire.specs.Moving.{Moves}
@@ -12,7 +12,7 @@ invariant-turns g l = record {
   few : l.requests ≤ 65536;
   same : (question : Question) (reply : Reply) → (g.A.Answerer.gives l.answerer question reply ↔ g.A.Answerer.gives l.fn.answerer question reply);
   answered : (turns : List (List ℕ × Reply)) × (l.requests ≡ length turns) × All (IsAnswered (g.A.Answerer.gives l.fn.answerer)) turns
-      × Moves (g.L.Link.told l.fn.link) (g.L.Link.told l.link) (frames turns) (replies turns) 0;
+      × Moves (g.L.Link.told l.fn.link) (g.L.Link.told l.link) (frames turns) (replies turns) 0 false;
 }
 
 abbrev pub decreases-turns : goal.decreases-turns
