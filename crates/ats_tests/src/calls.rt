@@ -4,16 +4,16 @@ ghost use Rattle.std.specs.Prelude.{◌≤◌, ◌^◌};
 
 use crate::foxes::foxes;
 use ats_base::{Bytes, Link, MemLink};
-use ats_bound::{Bracket, choose};
+use ats_bound::{Bracket, Brackets, Cut, Picks, choose};
 use ats_doctree::DocTerms;
 use ats_hash::{Hash32, HashKind, Sha};
-use ats_impact::Top;
+use ats_impact::{Row, Rows, Top};
 use ats_index::Index;
 use ats_lists::Lists;
 use ats_proof::Algorithm;
 use ats_prover::{ProveFault, prove, prove_within};
 use ats_terms::{Query, QueryFault};
-use ats_tree::Leaves;
+use ats_tree::{Digests, Leaves};
 use ats_wire::{AskFault, ask_once};
 use std::alloc::Global;
 use std::test::Fail;
@@ -22,6 +22,39 @@ fn pushes_a_byte(alloc: Global) -> Result<bool, Fail> {
     let mut bytes = Bytes::of(alloc, b"fo")?;
     bytes.push(b'x')?;
     Ok(bytes.as_slice() == b"fox".as_slice())
+}
+
+fn pushes_a_row_and_a_digest(alloc: Global) -> Result<bool, Fail> {
+    let (row, digest) = (
+        Row {
+            doc: 1,
+            lower: 2,
+            upper: 3,
+        },
+        [7; 32],
+    );
+    let (mut rows, mut digests) = (Rows::new(alloc), Digests::new(alloc));
+    rows.push(row)?;
+    digests.push(digest)?;
+    Ok(rows.as_slice() == [row].as_slice() && digests.as_slice() == [digest].as_slice())
+}
+
+fn pushes_bounds(alloc: Global) -> Result<bool, Fail> {
+    let bracket = Bracket {
+        doc: 1,
+        lo: 2,
+        hi: 3,
+    };
+    let mut brackets = Brackets::new(alloc);
+    brackets.push(bracket)?;
+    let (mut picks, mut cut) = (Picks::new(alloc), Cut::new(alloc));
+    picks.push(4)?;
+    cut.push(5)?;
+    Ok(
+        brackets.as_slice() == [bracket].as_slice()
+            && picks.as_slice() == [4].as_slice()
+            && cut.as_slice() == [5].as_slice(),
+    )
 }
 
 // "red" is the last of four terms.
@@ -69,6 +102,8 @@ fn asks_once(alloc: Global) -> Result<bool, Fail> {
 #[test]
 fn memory_is_there(rt: HostRuntime) -> Result<(), Fail> {
     assert!(rt; pushes_a_byte(rt.alloc())?);
+    assert!(rt; pushes_a_row_and_a_digest(rt.alloc())?);
+    assert!(rt; pushes_bounds(rt.alloc())?);
     assert!(rt; lists_terms(rt.alloc())?);
     assert!(rt; has_terms_of_a_document(rt.alloc())?);
     assert!(rt; chooses_the_best(rt.alloc())?);
@@ -105,13 +140,21 @@ pub(crate) fn query_of(alloc: Global, text: &str) -> Result<Query, QueryFault> {
     Query::read(alloc, text)
 }
 
-// Whether the proof has this many bytes, and is refused within 364.
-fn fits<H: Hash32>(alloc: Global, algorithm: Algorithm, length: u64) -> Result<bool, Fail> {
+// Whether the proof has this many bytes, is returned within this limit, and is refused within one byte less.
+fn fits<H: Hash32>(alloc: Global, algorithm: Algorithm, length: u64) -> Result<bool, Fail>
+    requires some { 1 ≤ length }
+    requires few { length ≤ 2 ^ 26 }
+{
     let index = Index::<H>::build_plain(alloc, foxes(alloc)?)?;
     let (query, top) = (query_of(alloc, "red hen")?, Top::new(1)?);
     let whole = proof_of(alloc, &index, &query, top, algorithm)?;
-    let less = proof_within(alloc, &index, &query, top, algorithm, 364).err();
-    Ok(whole.len() as u64 == length && less == Some(ProveFault::ProofTooLong { length }))
+    let same = proof_within(alloc, &index, &query, top, algorithm, length)?;
+    let less = proof_within(alloc, &index, &query, top, algorithm, length - 1).err();
+    Ok(
+        whole.len() as u64 == length
+            && same.as_slice() == whole.as_slice()
+            && less == Some(ProveFault::ProofTooLong { length }),
+    )
 }
 
 #[test]

@@ -1,5 +1,5 @@
 -- The calls on a shelf, from those for one file.
-use Rattle.std.proofs.Common.{◌≡◌, ◌≤◌, ◌^◌, ◌++◌, ◌∷◌, ℕ, List, [], Option, Some, None, refl, sym, ap, subst, ◌∙◌, inl, inr, arith, append-nil}
+use Rattle.std.proofs.Common.{◌≡◌, ◌≤◌, ◌^◌, ◌++◌, ◌∷◌, ℕ, List, [], Option, Some, None, refl, sym, subst, inl, inr, arith, append-nil}
 use Rattle.ats_base.specs.Outside.{IsMissing, ShelfTold, Ask, Asked, ReadsAtMostOnce, StoresOnce}
 use Rattle.ats_base.proofs.Public.{asked_none, asked_then, asked_as}
 use Rattle.ats_commit.specs.Archive.{Archive}
