@@ -36,7 +36,7 @@ def checks_below(process):
             parent = int((folder / "stat").read_text().rsplit(")", 1)[1].split()[1])
         except (OSError, ValueError, IndexError):
             continue
-        if parent == process and len(words) > 1 and words[1] == "check":
+        if parent == process and words[1:2] == ["check"] and "--crate-name" in words:
             yield words
 
 
