@@ -2,9 +2,9 @@
 """Makes the files of this folder, and the copies that the gate plays: `vectors/make.py [PROGRAM]`, where PROGRAM is
 `./ats` at the top unless it is said.
 
-Every root, proof and printed line comes from the program. What this script makes itself are the changes of honest
-proofs, and the few trees that no archive has; the program then says what it thinks of them. README.md explains the
-files. Python's standard library is all that is needed.
+Roots and honest proofs come from the program. The changes of honest proofs, and the trees that no archive has, are
+made here. What is wanted of all of them is what `client.py` says, and where the program says anything else, nothing is
+written. README.md explains the files. Python's standard library is all that is needed.
 """
 import copy
 import hashlib
@@ -14,6 +14,8 @@ import sys
 import tempfile
 from dataclasses import dataclass, field
 from pathlib import Path
+
+import client
 
 HERE = Path(__file__).resolve().parent
 TOP = HERE.parent
@@ -59,7 +61,14 @@ class Program:
         """The status and the lines."""
         (self.folder / 'proof').write_bytes(proof)
         status, text = self.run('verify', root, str(r), query, 'proof')
-        return {'status': status, 'lines': text.splitlines()}
+        return agreed((root, r, query), {'status': status, 'lines': text.splitlines()}, client.verify(root, r, query, proof))
+
+
+def agreed(about, told, wanted):
+    """What the second client says, which must be what the program says."""
+    if told != wanted:
+        raise SystemExit(f'{about}: the program says {told}, and the second client {wanted}')
+    return wanted
 
 
 # Trees
@@ -455,6 +464,9 @@ WORDS = [
     'a' * 64, 'a' * 65, '\u00df' * 32, '\u00df' * 33, '\u0130' * 22, '\u4e00' + 'b' * 63,
     'a\u200d\U0001f600', '\u24b6\u200d\u24c2', '  \u0345', '\n\u0345', '\u0345\u0345', '\U0001f1e6\U0001f1e7\u0345',
     "\u05d0'", '\u05d0\' \u05d0"', "a\u0308'b", '\uff41 \U00010428',
+    "1'2", '1;2', '1:2', 'a,b', 'a;b', 'a_.b', 'a._b', 'a.1', 'a..b', '1..2', "a'\u0308b",
+    '\U0001f1e6\U0001f1e7\U0001f1e8\U0001f1e9\u0345', '\U0001f1e6\U0001f1e7\u0345\U0001f1e8\U0001f1e9',
+    '\U0001f1e6\u0345\U0001f1e7\U0001f1e8\U0001f1e9', 'a\u200d#', ' \u0345 \u0345',
 ]
 
 
@@ -462,7 +474,8 @@ def terms_of(program, text):
     """The terms of a text with their counts, which stand in the index of the text alone."""
     archive = Archive(program.build([text])[0])
     impacts = {1 + 22000 * count // (10 * count + 12): count for count in range(1, 50)}
-    return [[term.decode(), impacts[entries[0][1]]] for term, entries in sorted(archive.lists.items())]
+    told = [(term, impacts[entries[0][1]]) for term, entries in sorted(archive.lists.items())]
+    return [[term.decode(), count] for term, count in agreed(text, told, client.terms(text))]
 
 
 # Numbers: documents, documents that have the term, how often each of these has it, and other words there
@@ -471,6 +484,9 @@ NUMBERS = [
     (1, 1, 1, 0), (2, 1, 1, 0), (3, 1, 1, 1), (3, 2, 1, 2), (5, 2, 3, 1), (36, 5, 2, 10), (100, 100, 3, 7),
     (1000, 1, 1, 0), (1000, 10, 4, 60), (5000, 40, 1, 200), (65536, 1, 1, 0), (65536, 2, 7, 900), (65536, 65536, 1, 0),
     (1, 1, 100000, 0),
+    # at each threshold of idf, and below it; 1722 is that of 5 of 36 above
+    (5, 5, 1, 0), (96, 44, 1, 0), (46, 39, 1, 0), (21, 18, 1, 0), (23, 18, 1, 0), (34, 13, 1, 0), (28, 20, 1, 0),
+    (40, 14, 1, 0), (26, 17, 1, 0), (36, 1, 1, 0), (57, 34, 1, 0), (99, 54, 1, 0), (10, 1, 1, 0),
 ]
 
 
@@ -481,10 +497,10 @@ def told_numbers(program, documents, having, count, others):
     impact = Archive(index).lists[b'x'][0][1]
     score = int(program.rank(1, 'x').split()[2])
     length = count + others
-    return {
-        'N': documents, 'f': having, 'idf': score // impact, 'c': count, 'len': length,
-        'T': having * length + documents - having, 'impact': impact, 'score': score,
-    }
+    terms = having * length + documents - having
+    idf = client.idf(documents, having)
+    agreed((documents, having), (impact, score), (client.impact(count, length, terms, documents), idf * impact))
+    return {'N': documents, 'f': having, 'idf': idf, 'c': count, 'len': length, 'T': terms, 'impact': impact, 'score': score}
 
 
 # What is refused by its numbers alone: R, the query, and the length of the proof
@@ -822,6 +838,9 @@ BOTH = [
     (BEE, 'list: places 0, 99, 0', all_of(with_entry(0, 0, 0), with_entry(0, 1, 99), with_entry(0, 2, 0))),
     (WITH_ABSENT, 'list: the number of a term counts absent ones', with_entry(0, 0, 2, 1)),
     (WITH_ABSENT, 'list: an entry names no met document, behind an absent term', with_entry(0, 0, 99)),
+    (WITH_ABSENT, 'list: a digest too many, after an absent term', digests_of(LISTS(0), ADD)),
+    (WITH_ABSENT, 'list: more entries than the list has, after an absent term',
+     lambda proof, archive: proof.prefixes[0].entries.append((0, 1))),
     (WITH_ABSENT, 'list: a document twice', lambda proof, archive: entry(
         1, proof.prefixes[1].entries[0][0])(proof, 1)),
     # the met documents
@@ -881,6 +900,10 @@ TRA_ALONE = [
     (FOXES, 'terms: another digest', digests_of(TERMS(1), BEND)),
     (FOXES, 'terms: another impact', section_with(1, 0, 2, 897)),
     (FOXES, 'terms: another term', section_with(2, 0, 1, b'heN')),
+    (CAT_DOG, 'terms: a digest too many, of document 2, which is met first', digests_of(TERMS(0), ADD)),
+    (CAT_DOG, 'terms: another impact, of document 5, which is met last', section_with(3, 1, 2, 897)),
+    (CAT_DOG, 'terms slot: a present term is told absent, of document 4', section_with(2, 0, 0, 0, 'slots')),
+    (CAT_DOG, 'terms slot: no such leaf, of document 5', section_with(3, 1, 1, 2, 'slots')),
     (FOXES, 'terms slot: an absent term behind its neighbours', section_with(0, 0, 1, 1, 'slots')),
     (FOXES, 'terms slot: an absent term is told present', section_with(0, 0, 0, 1, 'slots')),
     (FOXES, 'terms slot: a present term is told absent', section_with(0, 1, 0, 0, 'slots')),
@@ -969,7 +992,8 @@ class Made:
     def list_root(self, count, entries, digests=()):
         """Shows the first entries of a list, pairs of a document and an impact, and answers its root."""
         proof = self.proof
-        proof.prefixes.append(Prefix([(proof.met.index(each), impact) for each, impact in entries], list(digests)))
+        places = {document: at for at, document in enumerate(proof.met)}
+        proof.prefixes.append(Prefix([(places[each], impact) for each, impact in entries], list(digests)))
         shown = [(at, list_leaf(*each)) for at, each in enumerate(entries)]
         return rebuilt(count, shown, list(digests)) if count else NOTHING
 
@@ -1008,9 +1032,9 @@ def two_lists(fronts, rows):
     return made
 
 
-def random_access(documents, entries, counts, sections, digests, rows=(0,)):
+def random_access(documents, entries, counts, sections, digests, rows=(0,), term=b'x'):
     """The same by random access: each met document has so many leaves of terms, and this section."""
-    made = one_list(documents, len(entries), entries, rows=rows)
+    made = one_list(documents, len(entries), entries, rows=rows, term=term)
     leaves = []
     for count, section in zip(counts, sections):
         shown = [(leaf[0], terms_leaf(*leaf[1:])) for leaf in section.leaves]
@@ -1052,6 +1076,13 @@ def made_proofs():
     yield 'a met document far above the number of documents', one_list(1, 1, [(2**32 - 1, 5)]), 1, 'x'
     yield 'more entries than documents', one_list(2, 3, [(0, 7), (1, 6), (2, 5)]), 1, 'x'
     yield 'the greatest number of entries', one_list(2, 2**32 - 1, [(0, 7)], digests(32)), 1, 'x'
+    yield 'entries of 2^31 documents, which is above what 32 bits hold of 2 f + 1', one_list(
+        2, 2**31, [(0, 7)], digests(31)), 1, 'x'
+    yield 'more entries than documents, cut after as many as there are documents', one_list(
+        2, 3, [(0, 7), (1, 6)], digests(1)), 1, 'x'
+    yield 'more entries than documents, cut after as many as there are documents, and the threshold counts', one_list(
+        2, 3, [(0, 7), (1, 6)], digests(1), rows=(0, 1)), 3, 'x'
+    yield 'a term of 64 bytes', one_list(5, 1, [(0, 5)], term=b'x' * 64), 1, 'x' * 64
     yield 'impacts that rise', one_list(5, 2, [(0, 5), (1, 9)], rows=(1, 0)), 2, 'x'
     yield 'impacts that rise, and not all are shown', one_list(5, 4, [(0, 5), (1, 9)], digests(1), rows=(1,)), 1, 'x'
     yield 'an impact of 0', one_list(5, 1, [(0, 0)]), 1, 'x'
@@ -1079,6 +1110,8 @@ def made_proofs():
         WHOLE, [1, 2, 0]), 3, 'hen red'
     yield 'random access: a met document at the number of documents', random_access(
         1, [(1, 5)], [3], [has(5)], digests(1)), 1, 'x'
+    yield 'random access: a term of 64 bytes', random_access(
+        5, [(1, 5)], [3], [Section([(1, b'x' * 64, 5)], [OTHER, OTHER], [(1, 0)])], digests(3), term=b'x' * 64), 1, 'x' * 64
     yield 'random access: the list and the document tell two impacts', random_access(
         5, [(1, 5)], [3], [has(9)], digests(3)), 1, 'x'
     yield 'random access: the document has not the term of its list', random_access(
@@ -1097,6 +1130,296 @@ def made_answers(program):
         root = root_of_header(made.proof.header.data())
         answer = program.verify(root, r, query, data)
         told.append({'about': about, 'root': root, 'r': r, 'query': query, **answer, 'proof': data.hex()})
+    return told
+
+
+# Long bytes, in parts: bytes and how many times over; or also the number that stands in front of them the first time
+
+# Fields that stand in one piece with those before them.
+GOING_ON = {
+    'entry: impact', 'documents leaf: root of its terms', 'terms leaf: position', 'terms leaf: length of the term',
+    'terms leaf: term', 'terms leaf: impact', 'terms: number of digests', 'terms slot: kind', 'terms slot: index',
+}
+LEAST = 64  # times over, or else each piece stands as it is
+
+
+def pieces(proof):
+    """The bytes of a proof, cut where some may come again, each with the name of its first field."""
+    whole = []
+    for name, data in proof.fields():
+        if name in GOING_ON:
+            whole[-1] = (whole[-1][0], whole[-1][1] + data)
+        else:
+            whole.append((name, data))
+    return whole
+
+
+def is_next(before, piece):
+    """Whether the first 4 bytes are a number that is greater by 1, and the others are equal."""
+    (name, old), (other, new) = before, piece
+    is_greater = len(new) >= 4 and int.from_bytes(new[:4], 'big') == int.from_bytes(old[:4], 'big') + 1
+    return name == other and is_greater and old[4:] == new[4:]
+
+
+def run_length(whole, at, goes_on):
+    """How many pieces from this one on go on with the one before."""
+    end = at + 1
+    while end < len(whole) and goes_on(whole[end - 1], whole[end]):
+        end += 1
+    return end - at
+
+
+def in_parts(whole):
+    """These pieces in parts. What comes only once stands in one part with its neighbours."""
+    parts, at, once = [], 0, b''
+    while at < len(whole):
+        data = whole[at][1]
+        equal, rising = run_length(whole, at, lambda before, piece: before == piece), run_length(whole, at, is_next)
+        times = max(equal, rising)
+        if times < LEAST:
+            once, at = once + data, at + 1
+            continue
+        parts += [[once.hex(), 1]] if once else []
+        parts.append([data.hex(), times] if equal == times else [data[4:].hex(), times, int.from_bytes(data[:4], 'big')])
+        at, once = at + times, b''
+    return parts + ([[once.hex(), 1]] if once else [])
+
+
+def bytes_in_parts(data):
+    """Bytes in parts, of which one that comes many times over is one."""
+    return in_parts([('byte', data[at:at + 1]) for at in range(len(data))])
+
+
+def expanded(parts):
+    whole = []
+    for data, times, *start in parts:
+        data = bytes.fromhex(data)
+        whole += [number(start[0] + at, 4) + data for at in range(times)] if start else [data] * times
+    return b''.join(whole)
+
+
+# Proofs at the greatest numbers that may stand in one
+
+ALL = 65536
+
+
+def everything_met(rows):
+    """A list of all entries that a proof may show, whose documents tie."""
+    return one_list(ALL, ALL, [(document, 5) for document in range(ALL)], rows=rows)
+
+
+def everything_looked_up(rows):
+    """The same by random access, where each document has this one term and no sentinels."""
+    one = Section([(0, b'x', 5)], [], [(1, 0)])
+    return random_access(ALL, [(document, 5) for document in range(ALL)], [1] * ALL, [one] * ALL, [], rows)
+
+
+def too_many_documents_digests():
+    made = random_access(5, [(1, 5)], [1], [Section([(0, b'x', 5)], [], [(1, 0)])], [OTHER] * 3)
+    made.proof.document_digests = [OTHER] * ALL
+    return made
+
+
+def absent_terms(count):
+    """So many absent terms, each between two leaves of its own, far from one another in the greatest dictionary."""
+    made, size = Made(5, terms=count, slots=[(0, 2 * at) for at in range(count)], rows=[]), 16777218
+    leaves = [(size // count * at + side, f'a{at:02}{end}'.encode(), 1, OTHER)
+              for at in range(count) for side, end in ((1, 'a'), (2, 'c'))]
+    made.dictionary(size, leaves, [OTHER] * len(elided_places(size, [leaf[0] for leaf in leaves])))
+    return made
+
+
+def elided_places(count, shown, start=0):
+    """The maximal subtrees without a shown position, each as its first position and its size."""
+    if not any(start <= at < start + count for at in shown):
+        return [(start, count)]
+    if count == 1:
+        return []
+    middle = split(count)
+    return elided_places(middle, shown, start) + elided_places(count - middle, shown, start + middle)
+
+
+def many_terms():
+    """A document of the greatest number of leaves, of which as many are shown as may be, far from one another."""
+    size = 2**32 - 1
+    leaves = [(size // 64 * at + 1, f'x{at:02}'.encode(), at) for at in range(64)]
+    section = Section(leaves, [OTHER] * len(elided_places(size, [leaf[0] for leaf in leaves])), [(1, 63)])
+    return random_access(5, [(1, 5)], [size], [section], [OTHER] * 3, term=b'x63')
+
+
+def many_documents():
+    """Documents far from one another, by random access."""
+    met = list(range(3, ALL, ALL // 64))
+    one = Section([(0, b'x', 5)], [], [(1, 0)])
+    digests = [OTHER] * len(elided_places(ALL, met))
+    return random_access(ALL, [(document, 5) for document in met], [1] * 64, [one] * 64, digests, range(64))
+
+
+def large_proofs():
+    absent = ' '.join(f'a{at:02}b' for at in range(32))
+    yield 'the greatest numbers of entries, of met documents, and of rows', everything_met(range(1000)), 1000, 'x'
+    yield 'the same, and one row too few', everything_met(range(999)), 1000, 'x'
+    yield 'random access: the greatest numbers of entries and of met documents', everything_looked_up([ALL - 1]), 1, 'x'
+    yield 'random access: the greatest number of digests of the documents', too_many_documents_digests(), 1, 'x'
+    yield '64 leaves of the dictionary, and more than 255 digests', absent_terms(32), 1, absent
+    yield 'random access: 64 leaves of the terms of a document, and more than 255 digests', many_terms(), 1, 'x63'
+    yield 'random access: more than 255 digests of the documents', many_documents(), 64, 'x'
+
+
+def large(program):
+    told = []
+    for about, made, r, query in large_proofs():
+        data, parts = made.proof.data(), in_parts(pieces(made.proof))
+        agreed(about, expanded(parts), data)
+        root = root_of_header(made.proof.header.data())
+        answer = program.verify(root, r, query, data)
+        told.append({'about': about, 'root': root, 'r': r, 'query': query, **answer, 'proof': parts})
+    return told
+
+
+# Frames: what is asked of a server, and what it replies. All is by the second client; the gate asks the program
+
+def reply(data):
+    """The reply that has this proof."""
+    return client.framed(b'\0' + data)
+
+
+def replies(honest):
+    """Replies to the question for one row, by what they are."""
+    yield 'the proof, and a byte after the reply', honest + b'\0'
+    for size in (0, 1, 3):
+        yield f'cut in its length, after {size} bytes', honest[:size]
+    yield 'cut after its length', honest[:4]
+    yield 'cut after its kind', honest[:5]
+    yield 'cut in the proof', honest[:100]
+    yield 'without the last byte', honest[:-1]
+    yield 'a length above the greatest', number(LONGEST + 2, 4)
+    yield 'a length above the greatest, and a kind that there is not', number(LONGEST + 2, 4) + b'\2'
+    yield 'the greatest length in 4 bytes', b'\xff' * 4
+    yield 'the greatest length of a reply, and no more', number(LONGEST + 1, 4)
+    yield 'no body', bytes(4)
+    yield 'no body, and further bytes', bytes(4) + b'\7'
+    yield 'a kind that there is not', number(2, 4) + b'\2\1'
+    yield 'a kind that there is not, and cut after it', number(366, 4) + b'\xff'
+    yield 'a code of no byte', number(1, 4) + b'\1'
+    yield 'a code of two bytes', number(3, 4) + b'\1\1\1'
+    yield 'a code of many bytes, and cut after the kind', number(LONGEST + 1, 4) + b'\1'
+    yield 'cut before the code', number(2, 4) + b'\1'
+    for code in (0, 1, 2, 3, 4, 5, 6, 255):
+        yield f'code {code}', client.framed(bytes([1, code]))
+    yield 'code 2, and further bytes', client.framed(b'\1\2') + honest
+    yield 'a proof of no bytes', client.framed(b'\0')
+    yield 'a proof with a byte more', reply(honest[5:] + b'\0')
+    yield 'a proof without its last byte', reply(honest[5:-1])
+    yield 'a proof with another front', reply(b'B' + honest[6:])
+    yield 'a proof with another front, and cut', reply(b'B' + honest[6:])[:-1]
+
+
+def asked(proofs):
+    """What `ask` writes, what comes, and what it then prints."""
+    told = []
+
+    def tell(about, of, parts, **other):
+        asks = {name: other.get(name, proofs[of][name]) for name in ('root', 'algorithm', 'r', 'query')}
+        answer = client.ask(asks['root'], asks['r'], asks['query'], expanded(parts))
+        request = bytes_in_parts(client.request(asks['algorithm'], asks['r'], asks['query']))
+        told.append({'about': about, **asks, 'request': request, **answer, 'reply': parts})
+
+    for name in (FOXES, FOXES_3, ZEBRA, 'sharp s', 'a term 255 times'):
+        for of in (f'{name} by tnra', f'{name} by tra'):
+            tell(of, of, bytes_in_parts(reply(bytes.fromhex(proofs[of]['proof']))))
+    of = f'{FOXES} by tnra'
+    honest = reply(bytes.fromhex(proofs[of]['proof']))
+    for about, data in replies(honest):
+        tell(about, of, bytes_in_parts(data))
+    tell('the longest reply, of bytes 00', of, [[(number(LONGEST + 1, 4) + b'\0').hex(), 1], ['00' * 1024, LONGEST // 1024]])
+    tell('the proof of the other algorithm', of, bytes_in_parts(honest), algorithm='tra')
+    tell('a query with capital letters and many spaces', of, bytes_in_parts(honest), query='  RED   Hen')
+    tell('a query of 4,000 bytes', of, bytes_in_parts(honest), query='red hen'.ljust(4000))
+    tell('the proof of another archive', of, bytes_in_parts(honest), root=NOTHING.hex())
+    tell('the proof for one row', of, bytes_in_parts(honest), r=2)
+    tell('the proof for one row, and 1,000 are asked for', of, bytes_in_parts(honest), r=1000)
+    tell('the proof for another query', of, bytes_in_parts(honest), query='hen')
+    return told
+
+
+def asking(algorithm, r, query, version=1, size=None):
+    """A request with any fields."""
+    size = len(query) if size is None else size
+    return client.framed(bytes([version, algorithm]) + number(r, 2) + number(size, 2) + query)
+
+
+def codes():
+    """Requests that get a code, by what is wrong with them."""
+    many, distinct = b'red ' * 256, b' '.join(b'a%d' % at for at in range(33))
+    for version in (0, 2):
+        yield f'version {version}', asking(2, 1, b'red', version)
+    for algorithm in (0, 3):
+        yield f'algorithm {algorithm}', asking(algorithm, 1, b'red')
+    yield 'a length of the query that is too small', asking(2, 1, b'red', size=2)
+    yield 'a length of the query that is too great', asking(2, 1, b'red', size=4)
+    yield 'a query that is no UTF-8', asking(2, 1, b'red \xff')
+    yield 'a query with half a surrogate pair', asking(2, 1, b'\xed\xa0\x80')
+    for r in (0, 1001, 65535):
+        yield f'{r} rows', asking(2, r, b'red')
+    yield 'no query', asking(2, 1, b'')
+    yield 'a query with no term', asking(2, 1, b'...')
+    yield 'a query of 4,001 bytes', asking(2, 1, b'red'.ljust(4001))
+    yield 'a query of 4,001 bytes with no term', asking(2, 1, b' ' * 4001)
+    yield 'a query of 256 words', asking(2, 1, many)
+    yield 'a query of 33 terms', asking(2, 1, distinct)
+    yield 'the longest request', asking(2, 1, b'red'.ljust(4090))
+    yield 'two: no rows, and a query that is no UTF-8', asking(2, 0, b'\xff')
+    yield 'two: no rows, and no algorithm', asking(3, 0, b'red')
+    yield 'two: no rows, and a query with no term', asking(2, 0, b'...')
+    yield 'two: no rows, and a query of 4,001 bytes', asking(2, 0, b'red'.ljust(4001))
+    yield 'two: a query of 4,001 bytes, and of 33 terms', asking(2, 1, distinct.ljust(4001))
+
+
+def links(first):
+    """What comes over a link, by how it ends; the first request is honest."""
+    code = asking(2, 1, b'...')
+    yield 'nothing', []
+    yield 'two requests', bytes_in_parts(first + first)
+    yield 'a request that gets a code, and another one', bytes_in_parts(code + first)
+    for size in (1, 3, 4, 6, len(first) - 1):
+        yield f'a request that is cut after {size} bytes', bytes_in_parts(first[:size])
+    yield 'a request, and another one that is cut', bytes_in_parts(first + first[:9])
+    for size in (0, 5, 4097, 2**32 - 1):
+        yield f'a request of {size} bytes', bytes_in_parts(number(size, 4))
+    yield 'a request, one of 5 bytes, and another one', bytes_in_parts(first + number(5, 4) + b'abcde' + first)
+    yield '65,536 requests', [[code.hex(), 65536]]
+    yield '65,537 requests', [[code.hex(), 65537]]
+
+
+def served(proofs):
+    """What comes to `serve`, what it replies, and what it then prints."""
+    known = {(each['archive'], each['algorithm'], each['r'], each['query']): bytes.fromhex(each['proof'])
+             for each in proofs.values()}
+    told = []
+
+    def reply_to(archive, body):
+        asks = client.question(body)
+        if isinstance(asks, int):
+            return client.framed(bytes([1, asks]))
+        algorithm, r, query = asks
+        return reply(known[archive, algorithm, r, query.strip()])
+
+    def tell(about, parts, archive='foxes'):
+        bodies, end = client.requests(expanded(parts))
+        ends = [f'connection 1 requests {len(bodies)} {end}']
+        sent = in_parts([('reply', reply_to(archive, body)) for body in bodies])
+        told.append({'about': about, 'archive': archive, 'requests': parts, 'status': 0, 'lines': ['listening', *ends], 'replies': sent})
+
+    for name in (FOXES, ZEBRA, '32 terms', 'sharp s'):
+        for of in (f'{name} by tnra', f'{name} by tra'):
+            each = proofs[of]
+            tell(of, bytes_in_parts(client.request(each['algorithm'], each['r'], each['query'])), each['archive'])
+    tell('a query of 4,000 bytes', bytes_in_parts(client.request('tnra', 1000, 'red'.ljust(4000))))
+    for about, data in codes():
+        tell(about, bytes_in_parts(data))
+    for about, parts in links(client.request('tnra', 1, 'red hen')):
+        tell(about, parts)
     return told
 
 
@@ -1152,6 +1475,9 @@ def main(words):
         save('words.json', [{'text': text, 'terms': terms_of(program, text)} for text in WORDS])
         save('numbers.json', [told_numbers(program, *each) for each in NUMBERS])
         save('inputs.json', [told_input(program, *each) for each in INPUTS])
+        save('large.json', large(program))
+        save('asked.json', asked(proofs))
+        save('served.json', served(proofs))
         save('fields.json', {
             name: [[start, end, label, proofs[name]['proof'][2 * start:2 * end]]
                    for label, start, end in with_places(Reader(bytes.fromhex(proofs[name]['proof'])).proof())]

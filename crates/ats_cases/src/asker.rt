@@ -10,6 +10,13 @@ use std::thread::Threads;
 
 const PROOF: &str = "proof";
 
+const COMES: &str = "comes";
+
+const GOES: &str = "goes";
+
+// The first link, and what is to be written over it.
+const WRITTEN: &str = "1 goes";
+
 /// The shelf, with the indexes that were built so far, and the count.
 #[derive(Drop)]
 pub(crate) struct Asker {
@@ -69,12 +76,41 @@ impl Asker {
         about: &str,
         words: &[&str],
     ) -> Result<Shown, Fault> {
+        self.run(threads, about, words)?;
+        self.stage.take_shown(self.alloc).ok_or(Fault::Unread)
+    }
+
+    fn run(
+        &mut self,
+        threads: &(impl Threads + Sync),
+        about: &str,
+        words: &[&str],
+    ) -> Result<(), Fault> {
         let mut said = Vec::new(self.alloc);
         for word in words {
             said.push(String::from_str(self.alloc, *word)?)?;
         }
-        self.stage.run(threads, self.alloc, about, &said)?;
-        self.stage.take_shown(self.alloc).ok_or(Fault::Unread)
+        self.stage.run(threads, self.alloc, about, &said)
+    }
+
+    /// Runs a command over one link. The program is to say what the entry does, and to write what goes.
+    pub(crate) fn talk(
+        &mut self,
+        threads: &(impl Threads + Sync),
+        words: &[&str],
+        comes: &[u8],
+        goes: &[u8],
+        entry: &Value,
+    ) -> Result<(), Fault> {
+        self.put(COMES, comes)?;
+        self.put(GOES, goes)?;
+        self.stage.add_link(self.alloc, COMES)?;
+        self.run(threads, text(entry, "about")?, words)?;
+        let is_written = self.stage.wrote(WRITTEN)?;
+        let mut shown = self.stage.take_shown(self.alloc).ok_or(Fault::Unread)?;
+        shown.note_fit(is_written);
+        want_answer(&mut shown, entry)?;
+        self.count(&shown)
     }
 
     /// What is compared without a command.

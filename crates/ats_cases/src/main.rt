@@ -17,6 +17,7 @@ mod fault;
 mod files;
 mod json;
 mod numbers;
+mod parts;
 mod player;
 mod said;
 mod stage;
@@ -35,12 +36,15 @@ use vectors::{play_listed, play_named};
 
 const NAMED: [&str; 3] = ["archives.json", "proofs.json", "fields.json"];
 
-const LISTED: [&str; 5] = [
+const LISTED: [&str; 8] = [
     "changed.json",
     "made.json",
     "words.json",
     "numbers.json",
     "inputs.json",
+    "large.json",
+    "asked.json",
+    "served.json",
 ];
 
 fn tell(rt: &HostRuntime, tally: &Tally, what: &str) -> Result<bool, Fault> {

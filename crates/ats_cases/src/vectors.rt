@@ -5,6 +5,7 @@ use crate::fault::Fault;
 use crate::files::spliced;
 use crate::json::{bytes, count, items, part, text, whole};
 use crate::numbers::{Numbers, repeated};
+use crate::parts::joined;
 use ats_hash::{Hash32, Sha, Steps};
 use ats_impact::idf;
 use ats_terms::{TermCounts, Terms};
@@ -13,6 +14,8 @@ use std::alloc::Global;
 use std::thread::Threads;
 
 const COLLECTION: &str = "collection";
+
+const ADDRESS: &str = "here";
 
 const NO_ROOT: &str = "0000000000000000000000000000000000000000000000000000000000000000";
 
@@ -48,6 +51,9 @@ pub(crate) fn play_listed(
             "made.json" => play_made(threads, asker, entry)?,
             "words.json" => play_words(asker, entry)?,
             "numbers.json" => play_numbers(threads, asker, entry)?,
+            "large.json" => play_large(threads, asker, entry)?,
+            "asked.json" => play_asked(threads, asker, entry)?,
+            "served.json" => play_served(threads, asker, entry)?,
             _ => play_input(threads, asker, entry)?,
         }
     }
@@ -214,4 +220,60 @@ fn play_input(
     };
     let about = entry.to_string(asker.alloc)?;
     asker.verify(threads, about.as_str(), &question, &proof, entry)
+}
+
+// A proof in parts.
+fn play_large(
+    threads: &(impl Threads + Sync),
+    asker: &mut Asker,
+    entry: &Value,
+) -> Result<(), Fault> {
+    let proof = joined(asker.alloc, part(entry, "proof")?)?;
+    asker.verify(
+        threads,
+        text(entry, "about")?,
+        &Question::of(entry, entry)?,
+        proof.as_slice(),
+        entry,
+    )
+}
+
+// The reply comes to a question, and the request is written.
+fn play_asked(
+    threads: &(impl Threads + Sync),
+    asker: &mut Asker,
+    entry: &Value,
+) -> Result<(), Fault> {
+    let (alloc, question) = (asker.alloc, Question::of(entry, entry)?);
+    let reply = joined(alloc, part(entry, "reply")?)?;
+    let request = joined(alloc, part(entry, "request")?)?;
+    let (algorithm, r) = (text(entry, "algorithm")?, question.r);
+    let r = format!(in alloc; "{r}")?;
+    let words = [
+        "ask",
+        question.root,
+        algorithm,
+        r.as_str(),
+        question.query,
+        ADDRESS,
+    ];
+    asker.talk(threads, &words, reply.as_slice(), request.as_slice(), entry)
+}
+
+// The requests come to a server of the archive, and the replies are written.
+fn play_served(
+    threads: &(impl Threads + Sync),
+    asker: &mut Asker,
+    entry: &Value,
+) -> Result<(), Fault> {
+    let requests = joined(asker.alloc, part(entry, "requests")?)?;
+    let replies = joined(asker.alloc, part(entry, "replies")?)?;
+    let words = ["serve", text(entry, "archive")?, "1", ADDRESS];
+    asker.talk(
+        threads,
+        &words,
+        requests.as_slice(),
+        replies.as_slice(),
+        entry,
+    )
 }

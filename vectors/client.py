@@ -1,0 +1,493 @@
+"""A second client: `verify`, `ask` and the answers of a server, by docs/client.md and docs/formats.md.
+
+`make.py` compares all that the program prints with this, which shares no code with the program. It is written to be
+compared with those pages, step by step. It is no client for other texts, since of Unicode it knows only what the
+vectors need. Python 3.9 and its standard library are all that is needed.
+"""
+import hashlib
+import unicodedata
+from collections import Counter
+from types import SimpleNamespace
+
+LONGEST = 2**26
+LATER = 2**32 - 1
+
+
+class Refused(Exception):
+    """The text of a line after `refused: `, `input: ` or `peer: `."""
+
+
+# Hashes and trees
+
+def digest(data):
+    return hashlib.sha256(data).digest()
+
+
+def rebuilt(count, leaves, digests, misfit):
+    """The root of so many leaves, of which those are shown; each is a position and its bytes."""
+    if any(position >= count for position, _ in leaves):
+        raise Refused(misfit)
+    unused = iter(digests)
+    root = node(0, count, leaves, unused)
+    if root is None or next(unused, None) is not None:
+        raise Refused(misfit)
+    return root
+
+
+def node(start, count, leaves, digests):
+    if not leaves:
+        return next(digests, None)
+    if count == 1:
+        return digest(b'\0' + leaves[0][1])
+    half = 2 ** ((count - 1).bit_length() - 1)
+    at = 0
+    while at < len(leaves) and leaves[at][0] < start + half:
+        at += 1
+    left = node(start, half, leaves[:at], digests)
+    right = node(start + half, count - half, leaves[at:], digests)
+    return None if left is None or right is None else digest(b'\1' + left + right)
+
+
+# The terms of a text
+
+# Characters that came after Unicode 14.0, whose tables Python 3.11 has: all are letters of alphabets.
+FOLDED_LATER = {'\u1c89': '\u1c8a', '\ua7ce': '\ua7cf', '\ua7dd': '\u0277', '\U00016ea0': '\U00016ebb'}
+LETTERS_LATER = set(FOLDED_LATER) | set(FOLDED_LATER.values())
+
+MARKS = {
+    '\r': 'CR', '\n': 'LF', '"': 'Double_Quote', "'": 'Single_Quote', '.': 'MidNumLet', '\u2019': 'MidNumLet',
+    ':': 'MidLetter', '\u00b7': 'MidLetter', '\u05f4': 'MidLetter', ',': 'MidNum', ';': 'MidNum', '\u066b': 'Numeric',
+    '_': 'ExtendNumLet', ' ': 'WSegSpace', '\u200d': 'ZWJ', '\u200b': 'Other',
+}
+PICTOGRAPHS = {'\U0001f44d', '\U0001f600', '\u24c2'}
+WITHOUT_SPACES = ('CJK', 'HIRAGANA', 'THAI')
+
+
+def is_alphabetic(char):
+    return char.isalpha() or unicodedata.category(char) == 'Nl' or '\u24b6' <= char <= '\u24e9' or char == '\u0345' or (
+        char in LETTERS_LATER)
+
+
+def break_class(char):
+    """The Word_Break property of a character, as far as the vectors have such ones."""
+    category, name = unicodedata.category(char), unicodedata.name(char, '')
+    if char in MARKS:
+        return MARKS[char]
+    if '\U0001f1e6' <= char <= '\U0001f1ff':
+        return 'Regional_Indicator'
+    if category in ('Mn', 'Mc', 'Me'):
+        return 'Extend'
+    if category == 'Cf':
+        return 'Format'
+    if category == 'Nd':
+        return 'Numeric'
+    if 'KATAKANA' in name:
+        return 'Katakana'
+    if name.startswith('HEBREW LETTER'):
+        return 'Hebrew_Letter'
+    return 'ALetter' if is_alphabetic(char) and not name.startswith(WITHOUT_SPACES) else 'Other'
+
+
+LETTERS = {'ALetter', 'Hebrew_Letter'}
+IN_LETTERS = {'MidLetter', 'MidNumLet', 'Single_Quote'}
+IN_NUMBERS = {'MidNum', 'MidNumLet', 'Single_Quote'}
+BLANK = {'CR', 'LF'}
+JOINED = {'Extend', 'Format', 'ZWJ'}
+RUN = LETTERS | {'Numeric', 'Katakana', 'ExtendNumLet'}
+
+
+def words(text):
+    """The pieces between the boundaries of UAX #29."""
+    pieces = []
+    for at, char in enumerate(text):
+        if at > 0 and is_joined(text, at):
+            pieces[-1] += char
+        else:
+            pieces.append(char)
+    return pieces
+
+
+def is_joined(text, at):
+    """Whether the rules WB3 to WB999 leave no boundary in front of the character."""
+    before, after = break_class(text[at - 1]), break_class(text[at])
+    if before in BLANK or after in BLANK:
+        return (before, after) == ('CR', 'LF')
+    if before == 'ZWJ' and text[at] in PICTOGRAPHS:
+        return True
+    if before == after == 'WSegSpace' or after in JOINED:
+        return True
+    return is_joined_in_words(past(text, at), [after, *coming(text, at + 1)])
+
+
+def past(text, at):
+    """The classes before this place, the nearest first, without what WB4 joins to the one before it."""
+    classes = []
+    for place in range(at):
+        each = break_class(text[place])
+        if not classes or each not in JOINED or text[place - 1] in '\r\n':
+            classes.insert(0, each)
+    return classes
+
+
+def coming(text, at):
+    """The first class from this place on that WB4 does not join to the one before it."""
+    return [each for each in map(break_class, text[at:]) if each not in JOINED][:1]
+
+
+def is_joined_in_words(left, right):
+    before, after = left[0], right[0]
+    two_before, two_after = (left + ['none'])[1], (right + ['none'])[1]
+    if before in LETTERS | {'Numeric'} and after in LETTERS | {'Numeric'}:
+        return True
+    if before in LETTERS and after in IN_LETTERS and two_after in LETTERS:
+        return True
+    if two_before in LETTERS and before in IN_LETTERS and after in LETTERS:
+        return True
+    if before == 'Hebrew_Letter' and after == 'Single_Quote':
+        return True
+    if before == two_after == 'Hebrew_Letter' and after == 'Double_Quote':
+        return True
+    if two_before == after == 'Hebrew_Letter' and before == 'Double_Quote':
+        return True
+    if before == two_after == 'Numeric' and after in IN_NUMBERS:
+        return True
+    if two_before == after == 'Numeric' and before in IN_NUMBERS:
+        return True
+    if before == after == 'Katakana' or before in RUN and after == 'ExtendNumLet' or before == 'ExtendNumLet' and after in RUN:
+        return True
+    flags = next((at for at, each in enumerate(left) if each != 'Regional_Indicator'), len(left))
+    return after == 'Regional_Indicator' and flags % 2 == 1
+
+
+def terms(text):
+    """Each term with how often it stands in the text, in byte order."""
+    counts = Counter()
+    for word in words(text):
+        if any(is_alphabetic(char) or unicodedata.category(char) in ('Nd', 'Nl', 'No') for char in word):
+            term = ''.join(FOLDED_LATER.get(char, char.casefold()) for char in word).encode()
+            counts.update([term] if len(term) <= 64 else [])
+    return sorted(counts.items())
+
+
+def terms_of_query(r, query):
+    if not 1 <= r <= 1000:
+        raise Refused(f'r {r}')
+    size = len(query.encode())
+    if size > 4000:
+        raise Refused(f'query of {size} bytes')
+    found = terms(query)
+    count = sum(weight for _, weight in found)
+    if not found:
+        raise Refused('query has no term')
+    if count > 255:
+        raise Refused(f'query of {count} words')
+    if len(found) > 32:
+        raise Refused(f'query of {len(found)} terms')
+    return found
+
+
+# The numbers of a term
+
+def idf(documents, having):
+    q = 1024 * (2 * documents + 2) // (2 * having + 1)
+    if q < 1024:
+        return 1
+    e = q.bit_length() - 11
+    return 1 + 8 * e + sum(each <= q >> e for each in (1117, 1218, 1328, 1448, 1579, 1722, 1878))
+
+
+def impact(count, length, terms_of_all, documents):
+    return 1 + 22000 * count * terms_of_all // ((10 * count + 3) * terms_of_all + 9 * length * documents)
+
+
+# Reading the bytes
+
+class Reader:
+    """Reads the fields of a proof. Each is tried whether it is there, and then for its range."""
+
+    def __init__(self, data):
+        self.data, self.at = data, 0
+
+    def take(self, size):
+        if len(self.data) - self.at < size:
+            raise Refused(f'shape cut {self.at}')
+        self.at += size
+        return self.data[self.at - size:self.at]
+
+    def number(self, size, least=0, most=LATER, kind='count'):
+        start = self.at
+        value = int.from_bytes(self.take(size), 'big')
+        if not least <= value <= most:
+            raise Refused(f'shape {kind} {start}')
+        return value
+
+    def digests(self, size, most=LATER):
+        return [self.take(32) for _ in range(self.number(size, 0, most))]
+
+    def term(self):
+        """The term, and its bytes from its length on."""
+        start = self.at
+        term = self.take(self.number(1, 0, 64))
+        return term, self.data[start:self.at]
+
+    def leaves(self, rest):
+        """Leaves with terms: each has a position, a term, what follows it, and the bytes that are hashed."""
+        leaves, least = [], 0
+        for _ in range(self.number(2, 1, 64)):
+            position = self.number(4, least, LATER, 'order')
+            term, data = self.term()
+            values = [self.take(size) for size in rest]
+            leaves.append(SimpleNamespace(position=position, term=term, values=values, data=data + b''.join(values)))
+            least = position + 1
+        return leaves
+
+    def slots(self, count):
+        slots, least = [], 0
+        for _ in range(count):
+            kind = self.number(1, 0, 1)
+            least = self.number(2, least, LATER, 'order')
+            slots.append((kind, least))
+        return slots
+
+    def met(self):
+        met, least = [], 0
+        for _ in range(self.number(4, 0, 65536)):
+            met.append(self.number(4, least, LATER, 'order'))
+            least = met[-1] + 1
+        return met
+
+    def list(self):
+        entries = [(self.number(4), self.number(2)) for _ in range(self.number(4, 1, 65536))]
+        return SimpleNamespace(entries=entries, digests=self.digests(2))
+
+    def section(self, present):
+        leaves = self.leaves([2])
+        return SimpleNamespace(leaves=leaves, digests=self.digests(2), slots=self.slots(present))
+
+    def proof(self):
+        if len(self.data) > LONGEST:
+            raise Refused(f'shape long {LONGEST}')
+        self.number(4, 0x41545350, 0x41545350, 'magic')
+        self.number(1, 1, 1, 'version')
+        proof = SimpleNamespace(is_tra=self.number(1, 1, 2, 'algorithm') == 1)
+        self.number(1, 1, 1, 'version')
+        proof.documents, proof.size = self.number(4, 1, 65536), self.number(4, 2, 16777218)
+        proof.roots = [self.take(32) for _ in range(3)]
+        proof.header = self.data[6:111]
+        proof.terms = self.number(2, 1, 32)
+        proof.dictionary = SimpleNamespace(leaves=self.leaves([4, 32]), digests=self.digests(2), slots=self.slots(proof.terms))
+        present = sum(kind for kind, _ in proof.dictionary.slots)
+        proof.met = self.met()
+        proof.lists = [self.list() for _ in range(present)]
+        if proof.is_tra:
+            proof.document_leaves = [self.take(4) + self.take(32) for _ in proof.met]
+            proof.document_digests = self.digests(4, 65536)
+            proof.sections = [self.section(present) for _ in proof.met]
+        proof.rows = [self.number(4) for _ in range(self.number(2, 0, 1000))]
+        if self.at < len(self.data):
+            raise Refused(f'shape trailing {self.at}')
+        return proof
+
+
+# The check
+
+def shows(section, slot, term):
+    kind, index = slot
+    leaves = section.leaves[index:index + 2]
+    if kind == 1:
+        return leaves != [] and leaves[0].term == term
+    return len(leaves) == 2 and leaves[1].position == leaves[0].position + 1 and leaves[0].term < term < leaves[1].term
+
+
+def check_dictionary(proof, found):
+    if proof.terms != len(found):
+        raise Refused(f'slot-count {proof.terms}')
+    section = proof.dictionary
+    leaves = [(leaf.position, leaf.data) for leaf in section.leaves]
+    if rebuilt(proof.size, leaves, section.digests, 'dict-misfit') != proof.roots[0]:
+        raise Refused('dict-root')
+    for at, (term, _) in enumerate(found):
+        if not shows(section, section.slots[at], term):
+            raise Refused(f'slot-wrong {at}')
+
+
+def check_list(proof, at, shown, leaf):
+    met, named = proof.met, set()
+    for entry, (place, _) in enumerate(shown.entries):
+        if place >= len(met):
+            raise Refused(f'index-out {at} {entry}')
+        if place in named:
+            raise Refused(f'repeated {at} {entry}')
+        named.add(place)
+    leaves = [(entry, met[place].to_bytes(4, 'big') + height.to_bytes(2, 'big'))
+              for entry, (place, height) in enumerate(shown.entries)]
+    count, root = leaf.values
+    if rebuilt(int.from_bytes(count, 'big'), leaves, shown.digests, f'list-misfit {at}') != root:
+        raise Refused(f'list-root {at}')
+    return named
+
+
+def check_lists(proof, present):
+    named = set()
+    for (at, _, _, leaf), shown in zip(present, proof.lists):
+        named |= check_list(proof, at, shown, leaf)
+    for index in range(len(proof.met)):
+        if index not in named:
+            raise Refused(f'unmet {index}')
+
+
+def check_documents(proof, present):
+    if not proof.is_tra:
+        return
+    leaves = list(zip(proof.met, proof.document_leaves))
+    if rebuilt(proof.documents, leaves, proof.document_digests, 'docs-misfit') != proof.roots[1]:
+        raise Refused('docs-root')
+    for document, own, section in zip(proof.met, proof.document_leaves, proof.sections):
+        shown = [(leaf.position, leaf.data) for leaf in section.leaves]
+        if rebuilt(int.from_bytes(own[:4], 'big'), shown, section.digests, f'terms-misfit {document}') != own[4:]:
+            raise Refused(f'terms-root {document}')
+        for (at, term, _, _), slot in zip(present, section.slots):
+            if not shows(section, slot, term):
+                raise Refused(f'term-slot {document} {at}')
+
+
+def check_rows(proof):
+    for row, place in enumerate(proof.rows):
+        if place >= len(proof.met):
+            raise Refused(f'answer-out {row}')
+        if place in proof.rows[:row]:
+            raise Refused(f'answer-repeated {row}')
+
+
+# The answer
+
+def bounds(proof, coefficients, rests):
+    """The two bounds of each met document."""
+    lows, highs = [0] * len(proof.met), [sum(rests)] * len(proof.met)
+    if proof.is_tra:
+        for place, section in enumerate(proof.sections):
+            lows[place] = sum(
+                coefficient * int.from_bytes(section.leaves[index].values[0], 'big')
+                for coefficient, (kind, index) in zip(coefficients, section.slots) if kind == 1)
+        return lows, lows
+    for coefficient, rest, shown in zip(coefficients, rests, proof.lists):
+        for place, height in shown.entries:
+            lows[place] += coefficient * height
+            highs[place] -= rest
+    return lows, [low + high for low, high in zip(lows, highs)]
+
+
+def check_settled(proof, r, lows, highs, threshold):
+    rows, others = proof.rows, set(range(len(proof.met))) - set(proof.rows)
+    is_settled = len(rows) <= r and (len(rows) == r or not others and threshold == 0)
+    is_settled = is_settled and all(highs[row] <= lows[before] for before, row in zip(rows, rows[1:]))
+    if is_settled and rows:
+        last = lows[rows[-1]]
+        is_settled = threshold <= last and all(highs[each] <= last for each in others)
+    if not is_settled:
+        raise Refused('not-settled')
+
+
+def answer(proof, root, r, found):
+    """The rows of an accepted proof."""
+    if digest(b'\2' + proof.header) != root:
+        raise Refused('other-root')
+    check_dictionary(proof, found)
+    slots, leaves = proof.dictionary.slots, proof.dictionary.leaves
+    present = [(at, term, weight, leaves[index])
+               for at, ((term, weight), (kind, index)) in enumerate(zip(found, slots)) if kind == 1]
+    check_lists(proof, present)
+    check_documents(proof, present)
+    check_rows(proof)
+    counts = [int.from_bytes(leaf.values[0], 'big') for _, _, _, leaf in present]
+    coefficients = [weight * idf(proof.documents, count) for (_, _, weight, _), count in zip(present, counts)]
+    rests = [0 if len(shown.entries) == count else coefficient * shown.entries[-1][1]
+             for count, coefficient, shown in zip(counts, coefficients, proof.lists)]
+    lows, highs = bounds(proof, coefficients, rests)
+    check_settled(proof, r, lows, highs, sum(rests))
+    return [f'{rank} {proof.met[row]} {lows[row]} {highs[row]}' for rank, row in enumerate(proof.rows, 1)]
+
+
+def verify(root, r, query, data):
+    """The status and the lines."""
+    try:
+        found = terms_of_query(r, query)
+    except Refused as why:
+        return {'status': 4, 'lines': [f'input: {why}']}
+    try:
+        return {'status': 0, 'lines': answer(Reader(data).proof(), bytes.fromhex(root), r, found)}
+    except Refused as why:
+        return {'status': 1, 'lines': [f'refused: {why}']}
+
+
+# Frames
+
+ALGORITHMS = {'tra': 1, 'tnra': 2}
+
+
+def framed(body):
+    return len(body).to_bytes(4, 'big') + body
+
+
+def request(algorithm, r, query):
+    text = query.encode()
+    return framed(bytes([1, ALGORITHMS[algorithm]]) + r.to_bytes(2, 'big') + len(text).to_bytes(2, 'big') + text)
+
+
+def proof_of_reply(data):
+    """The bytes of the proof that a reply has."""
+    if len(data) < 4:
+        raise Refused(f'short {len(data)} 4')
+    size = int.from_bytes(data[:4], 'big')
+    if size > LONGEST + 1:
+        raise Refused(f'long {size}')
+    if size == 0:
+        raise Refused('bad 0 0')
+    if len(data) > 4 and (data[4] > 1 or data[4] == 1 and size != 2):
+        raise Refused(f'bad {size} {data[4]}')
+    if len(data) < 4 + size:
+        raise Refused(f'short {len(data)} {4 + size}')
+    if data[4] == 1:
+        raise Refused(f'refused {data[5]}')
+    return data[5:4 + size]
+
+
+def ask(root, r, query, data):
+    """The status and the lines of `ask` when these bytes come and then the link ends."""
+    try:
+        proof = proof_of_reply(data)
+    except Refused as why:
+        return {'status': 9, 'lines': [f'peer: {why}']}
+    return verify(root, r, query, proof)
+
+
+def requests(data):
+    """The bodies of the frames that come over a link, and how it ends."""
+    bodies, at = [], 0
+    while at < len(data) and len(bodies) < 65536:
+        size = int.from_bytes(data[at:at + 4], 'big')
+        if len(data) - at >= 4 and not 6 <= size <= 4096:
+            return bodies, 'bad'
+        if len(data) - at < 4 + size or len(data) - at < 4:
+            return bodies, 'cut'
+        bodies.append(data[at + 4:at + 4 + size])
+        at += 4 + size
+    return bodies, 'limit' if len(bodies) == 65536 else 'end'
+
+
+def question(body):
+    """The algorithm, the number of rows and the query of a request; or the code of the reply."""
+    version, algorithm, r, size = body[0], body[1], int.from_bytes(body[2:4], 'big'), int.from_bytes(body[4:6], 'big')
+    try:
+        query = body[6:].decode()
+    except UnicodeDecodeError:
+        return 1
+    if version != 1 or algorithm not in (1, 2) or size != len(body) - 6:
+        return 1
+    if not 1 <= r <= 1000:
+        return 4
+    try:
+        terms_of_query(r, query)
+    except Refused as why:
+        return 2 if str(why) == 'query has no term' else 3
+    return ('tra' if algorithm == 1 else 'tnra'), r, query
