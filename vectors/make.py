@@ -1,10 +1,10 @@
 #!/usr/bin/env python3
 """Makes the files of this folder, and the copies that the gate plays: `vectors/make.py [PROGRAM]`, where PROGRAM is
-`./ats` at the top unless it is said.
+`./ats` at the top if it is not given.
 
 Roots and honest proofs come from the program. The changes of honest proofs, and the trees that no archive has, are
-made here. What is wanted of all of them is what `client.py` says, and where the program says anything else, nothing is
-written. README.md explains the files. Python's standard library is all that is needed.
+made here. The expected results are those of `client.py`, and if the program gives any other, nothing is written.
+README.md explains the files. The script needs only Python's standard library.
 """
 import copy
 import hashlib
@@ -65,7 +65,7 @@ class Program:
 
 
 def agreed(about, told, wanted):
-    """What the second client says, which must be what the program says."""
+    """The result of the second client, which must be that of the program."""
     if told != wanted:
         raise SystemExit(f'{about}: the program says {told}, and the second client {wanted}')
     return wanted
@@ -82,7 +82,7 @@ def number(value, size):
 
 
 def split(count):
-    """The greatest power of two below the count."""
+    """The largest power of two below the count."""
     return 1 << ((count - 1).bit_length() - 1)
 
 
@@ -104,7 +104,7 @@ def elided(leaves, shown, start=0):
 
 
 def rebuilt(count, shown, digests, start=0):
-    """The root of so many leaves, of which some are shown as pairs; the digests are taken from the front."""
+    """The root of `count` leaves, of which some are shown as pairs; the digests are taken from left to right."""
     if not shown:
         return digests.pop(0)
     if count == 1:
@@ -138,7 +138,7 @@ def root_of_header(header):
 # Archives
 
 class Archive:
-    """What the bytes of an index say, with all trees made anew."""
+    """What the bytes of an index say, with all trees made again."""
 
     def __init__(self, index):
         self.index = index
@@ -181,7 +181,7 @@ class Archive:
         return [list_leaf(*entry) for entry in self.lists[term]]
 
     def terms_section(self, document, positions):
-        """Leaves and digests of a document's terms, where these positions are shown."""
+        """Leaves and digests of a document's terms, of which these positions are shown."""
         terms = self.documents[document]
         leaves = [(at, *terms[at]) for at in positions]
         return leaves, elided([terms_leaf(*leaf) for leaf in terms], positions)
@@ -222,7 +222,7 @@ class Section:
 
 @dataclass
 class Proof:
-    """The fields of a proof. A count stands in `counts` by its name only where it is to be told wrong."""
+    """The fields of a proof."""
     algorithm: int
     header: Header
     terms: int
@@ -433,7 +433,7 @@ QUESTIONS = {
 
 
 def honest(program, archives):
-    """Each question by each algorithm, with the proof and the lines that verify prints of it."""
+    """Each question by each algorithm, with the proof and the lines that verify prints for it."""
     proofs = {}
     for name, (archive, r, query) in QUESTIONS.items():
         for algorithm in ('tnra', 'tra'):
@@ -471,7 +471,7 @@ WORDS = [
 
 
 def terms_of(program, text):
-    """The terms of a text with their counts, which stand in the index of the text alone."""
+    """The terms of a text with their counts, read from the index of this one text."""
     archive = Archive(program.build([text])[0])
     impacts = {1 + 22000 * count // (10 * count + 12): count for count in range(1, 50)}
     told = [(term, impacts[entries[0][1]]) for term, entries in sorted(archive.lists.items())]
@@ -491,7 +491,7 @@ NUMBERS = [
 
 
 def told_numbers(program, documents, having, count, others):
-    """What the program tells of a term, by its score and by its entry in the index."""
+    """The score and the impact of a term: the program prints the score, and the impact is in its index."""
     with_term = ' '.join(['x'] * count + ['y'] * others)
     index, _ = program.build([with_term] * having + ['y'] * (documents - having))
     impact = Archive(index).lists[b'x'][0][1]
@@ -503,9 +503,9 @@ def told_numbers(program, documents, having, count, others):
     return {'N': documents, 'f': having, 'idf': idf, 'c': count, 'len': length, 'T': terms, 'impact': impact, 'score': score}
 
 
-# What is refused by its numbers alone: R, the query, and the length of the proof
+# Refused for its numbers: R, the query, and the length of the proof
 
-# The query is the text so many times; the proof is so many zero bytes.
+# R, a text, how often the query repeats it, and the number of zero bytes of the proof.
 INPUTS = [
     (0, 'red', 1, 0), (1001, 'red', 1, 0), (0, '...', 1, 0), (1, '...', 1, 0), (1, '', 1, 0), (1, 'a', 65, 0),
     (1, 'a', 4001, 0), (1, '\u00e9', 2001, 0), (1, 'a ', 256, 0), (1, ' '.join(f'a{i}' for i in range(33)), 1, 0),
@@ -531,7 +531,7 @@ RANGES = {
     'terms leaf: length of the term': (0, 64), 'terms slot: kind': (0, 1), 'number of rows': (0, 1000),
 }
 
-# Fields that stand alike in proofs of both algorithms, and behind which others come.
+# Fields that are the same in proofs of both algorithms, and have others after them.
 COMMON = {
     'magic', 'version', 'algorithm', 'version of the header', 'number of documents', 'number of dictionary leaves',
     'root of the dictionary', 'root of the documents', 'root of the texts', 'number of terms',
@@ -544,18 +544,18 @@ RISING = ['dictionary leaf: position', 'slot: index', 'met document', 'terms lea
 
 
 def cuts(data, places):
-    """The bytes cut in the first field of each name, before its last byte; what both algorithms have, for one."""
+    """The bytes cut in the first field of each name, before its last byte; fields that both algorithms have, once."""
     for name, (_, end) in places.items():
         if data[5] == 1 and name in COMMON:
             continue
         yield f'cut in: {name}', data[:end - 1]
     yield 'no bytes', b''
-    yield 'cut behind the front', data[:6]
+    yield 'cut after the front', data[:6]
     yield 'without the last byte', data[:-1]
 
 
 def cuts_in_second_digests(data):
-    """The bytes cut in the second of the digests that stand together, before its last byte."""
+    """The bytes cut in the second digest of each run of digests, before its last byte."""
     fields = list(with_places(Reader(data).proof()))
     ends = {}
     for (before, _, _), (name, _, end) in zip(fields, fields[1:]):
@@ -576,7 +576,7 @@ def out_of_range(data, places):
 
 
 def not_rising(proof, data):
-    """The second field of each name as great as the first and, where it can be, less; ids and positions must rise."""
+    """The second field of each name equal to the first and, if possible, below it; ids and positions must rise."""
     for name in RISING:
         places = [(start, end) for each, start, end in with_places(proof) if each == name]
         if len(places) < 2:
@@ -585,7 +585,7 @@ def not_rising(proof, data):
         first = int.from_bytes(data[start:end], 'big')
         for value in (first, first - 1):
             if value >= 0:
-                yield f'{name}: {value} behind {first}', data[:other] + number(value, last - other) + data[last:]
+                yield f'{name}: {value} after {first}', data[:other] + number(value, last - other) + data[last:]
 
 
 def shape_changes(data):
@@ -599,12 +599,12 @@ def shape_changes(data):
     yield from not_rising(proof, data)
     yield 'one byte more', data + b'\0'
     yield 'the bytes twice', data + data
-    yield 'the other algorithm is told', data[:5] + number(3 - data[5], 1) + data[6:]
-    yield 'two faults: the first field tells', b'BTSP' + number(2, 1) + data[5:]
+    yield 'the other algorithm is named', data[:5] + number(3 - data[5], 1) + data[6:]
+    yield 'two faults: the one in the first field is reported', b'BTSP' + number(2, 1) + data[5:]
     yield 'a field that is cut is not tried for its range', data[:111] + b'\0'
 
 
-# Changes of parts: refusals by the check, and what is accepted all the same
+# Changes of parts: refusals by the check, and changes that are accepted
 
 def entry(at, place, impact=None):
     """Lets an entry of a list name this place among the met documents, or have this impact too."""
@@ -619,7 +619,7 @@ def with_entry(which, at, place, impact=None):
 
 
 def shown_leaves(positions):
-    """Shows these leaves of the dictionary, with the digests that they need. Slots that are present stay with their terms."""
+    """Shows these leaves of the dictionary, with the digests that they need. Present slots stay with their terms."""
     def change(proof, archive):
         of_slots = [(kind, proof.leaves[index][0]) for kind, index in proof.slots]
         proof.leaves = [(at, *archive.dictionary[at]) for at in positions]
@@ -629,7 +629,7 @@ def shown_leaves(positions):
 
 
 def without_leaf(which):
-    """Shows one leaf of the dictionary less, with the digests that the others need."""
+    """Shows one leaf fewer of the dictionary, with the digests that the others need."""
     def change(proof, archive):
         del proof.leaves[which]
         leaves = [dictionary_leaf(*leaf) for leaf in archive.dictionary]
@@ -638,7 +638,7 @@ def without_leaf(which):
 
 
 def longer_lists(counts):
-    """Shows so many entries of each list, the documents that they name, and rows for the same documents as before."""
+    """Shows these numbers of entries of the lists, the documents that they name, and rows for the same documents."""
     def change(proof, archive):
         terms = [leaf[1] for leaf in (proof.leaves[index] for kind, index in proof.slots if kind)]
         documents = [proof.met[row] for row in proof.rows]
@@ -728,7 +728,7 @@ def section_with(which, at, field_at, value, part='leaves'):
 
 
 def absent(at):
-    """Tells a present term absent, and leaves its list out."""
+    """Calls a present term absent, and leaves its list out."""
     def change(proof, archive):
         which = sum(kind for kind, _ in proof.slots[:at])
         proof.slots[at] = (0, proof.slots[at][1])
@@ -739,7 +739,7 @@ def absent(at):
 
 
 def nothing_met(proof, archive):
-    """Tells that no document is met and none is answered."""
+    """Says that no document is met, and has no row."""
     proof.met, proof.documents, proof.sections, proof.rows = [], [], [], []
     if proof.algorithm == 1:
         proof.document_digests = [tree_root(archive.document_leaves)]
@@ -800,32 +800,32 @@ BOTH = [
     (FOXES, 'slot: another leaf', leaf_with('slots', 0, 1, 1)),
     (FOXES, 'slot: no such leaf', leaf_with('slots', 1, 1, 2)),
     (FOXES, 'slot: both are wrong', all_of(leaf_with('slots', 0, 1, 1), leaf_with('slots', 1, 1, 9))),
-    (FOXES, 'slot: a present term is told absent', absent(0)),
-    (FOXES, 'slot: a present term is told absent at the last leaf', absent(1)),
-    (ZEBRA, 'slot: no leaf behind an absent term', leaf_with('slots', 0, 1, 1)),
+    (FOXES, 'slot: a present term is called absent', absent(0)),
+    (FOXES, 'slot: a present term is called absent at the last leaf', absent(1)),
+    (ZEBRA, 'slot: no leaf after an absent term', leaf_with('slots', 0, 1, 1)),
     (ZEBRA, 'slot: an absent term between leaves that are no neighbours',
      all_of(shown_leaves([3, 4, 5]), without_leaf(1), leaf_with('slots', 0, 1, 0))),
-    (ONE_FOX, 'slot: a present term is told absent between leaves that are no neighbours, and nothing is met',
+    (ONE_FOX, 'slot: a present term is called absent between leaves that are no neighbours, and nothing is met',
      all_of(shown_leaves([1, 2, 3]), absent(0), without_leaf(1), leaf_with('slots', 0, 1, 0), nothing_met)),
-    (FOXES, 'slot: a present term is told absent, before its leaf',
+    (FOXES, 'slot: a present term is called absent, before its leaf',
      all_of(ALL_FOXES, absent(0), leaf_with('slots', 0, 1, 2))),
-    (ONE_FOX, 'slot: a present term is told absent, before its leaf, and nothing is met',
+    (ONE_FOX, 'slot: a present term is called absent, before its leaf, and nothing is met',
      all_of(ALL_FOXES, absent(0), leaf_with('slots', 0, 1, 1), nothing_met)),
-    (ONE_FOX, 'slot: a present term is told absent, at its leaf, and nothing is met',
+    (ONE_FOX, 'slot: a present term is called absent, at its leaf, and nothing is met',
      all_of(ALL_FOXES, absent(0), nothing_met)),
-    (ONE_FOX, 'slot: a present term is told absent between two below it, and nothing is met',
+    (ONE_FOX, 'slot: a present term is called absent between two below it, and nothing is met',
      all_of(ALL_FOXES, absent(0), leaf_with('slots', 0, 1, 0), nothing_met)),
-    (ONE_FOX, 'slot: a present term is told absent between two above it, and nothing is met',
+    (ONE_FOX, 'slot: a present term is called absent between two above it, and nothing is met',
      all_of(ALL_FOXES, absent(0), leaf_with('slots', 0, 1, 3), nothing_met)),
     (ZEBRA, 'slot: an absent term between two below it', all_of(ALL_FOXES, leaf_with('slots', 0, 1, 3))),
     (AAA, 'slot: an absent term between two above it', all_of(ALL_FOXES, leaf_with('slots', 0, 1, 1))),
-    (FOXES, 'slot: index: 2 behind 3', all_of(ALL_FOXES, leaf_with('slots', 1, 1, 2))),
+    (FOXES, 'slot: index: 2 after 3', all_of(ALL_FOXES, leaf_with('slots', 1, 1, 2))),
     (FOXES, 'slot: index: 257, which ends in the right byte', leaf_with('slots', 1, 1, 257)),
     (FOXES, 'slot: index: 65535', leaf_with('slots', 1, 1, 65535)),
     (ZEBRA, 'slot: index of an absent term: 65535', leaf_with('slots', 0, 1, 65535)),
     # the lists
     (FOXES, 'list: an entry names no met document', with_entry(0, 0, 3)),
-    (FOXES, 'list: an entry names no met document by far', with_entry(1, 0, 2**32 - 1)),
+    (FOXES, 'list: an entry names no met document, at the largest place', with_entry(1, 0, 2**32 - 1)),
     (FOXES, 'list: another impact', with_entry(0, 0, 2, 1064)),
     (FOXES, 'list: another document', with_entry(0, 0, 0)),
     (FOXES, 'list: a digest too many', digests_of(LISTS(0), ADD)),
@@ -837,7 +837,7 @@ BOTH = [
     (BEE, 'list: places 0, 0, 99', all_of(with_entry(0, 0, 0), with_entry(0, 1, 0), with_entry(0, 2, 99))),
     (BEE, 'list: places 0, 99, 0', all_of(with_entry(0, 0, 0), with_entry(0, 1, 99), with_entry(0, 2, 0))),
     (WITH_ABSENT, 'list: the number of a term counts absent ones', with_entry(0, 0, 2, 1)),
-    (WITH_ABSENT, 'list: an entry names no met document, behind an absent term', with_entry(0, 0, 99)),
+    (WITH_ABSENT, 'list: an entry names no met document, after an absent term', with_entry(0, 0, 99)),
     (WITH_ABSENT, 'list: a digest too many, after an absent term', digests_of(LISTS(0), ADD)),
     (WITH_ABSENT, 'list: more entries than the list has, after an absent term',
      lambda proof, archive: proof.prefixes[0].entries.append((0, 1))),
@@ -853,15 +853,15 @@ BOTH = [
     (FOXES_3, 'row: places 1, 1, 99', rows(1, 1, 99)),
     (FOXES_3, 'row: places 1, 99, 1', rows(1, 99, 1)),
     # the answer
-    (FOXES, 'answer: two rows where one is asked for', rows(1, 0)),
+    (FOXES, 'answer: two rows when one is asked for', rows(1, 0)),
     (FOXES, 'answer: another document', rows(0)),
     (FOXES, 'answer: no row', rows()),
-    (FOXES_3, 'answer: one row too few, where nothing unseen is left', rows(1, 0)),
+    (FOXES_3, 'answer: one row too few, with nothing left unseen', rows(1, 0)),
     (FOXES_3, 'answer: the first two rows exchanged', rows(0, 1, 2)),
     (FOXES_3, 'answer: the two rows that tie exchanged', rows(1, 2, 0)),
     (TIED, 'answer: rows exchanged', lambda proof, archive: proof.rows.reverse()),
     (TIES, 'answer: no row', rows()),
-    (SILENT, 'answer: a row where nothing is met', rows(0)),
+    (SILENT, 'answer: a row when nothing is met', rows(0)),
     (SAMPLE, 'answer: the last two of three rows exchanged', lambda proof, archive: (
         proof.rows.append(proof.rows.pop(1)))),
     (CAT_DOG, 'answer: a row is left out', lambda proof, archive: proof.rows.pop()),
@@ -902,21 +902,21 @@ TRA_ALONE = [
     (FOXES, 'terms: another term', section_with(2, 0, 1, b'heN')),
     (CAT_DOG, 'terms: a digest too many, of document 2, which is met first', digests_of(TERMS(0), ADD)),
     (CAT_DOG, 'terms: another impact, of document 5, which is met last', section_with(3, 1, 2, 897)),
-    (CAT_DOG, 'terms slot: a present term is told absent, of document 4', section_with(2, 0, 0, 0, 'slots')),
+    (CAT_DOG, 'terms slot: a present term is called absent, of document 4', section_with(2, 0, 0, 0, 'slots')),
     (CAT_DOG, 'terms slot: no such leaf, of document 5', section_with(3, 1, 1, 2, 'slots')),
-    (FOXES, 'terms slot: an absent term behind its neighbours', section_with(0, 0, 1, 1, 'slots')),
-    (FOXES, 'terms slot: an absent term is told present', section_with(0, 0, 0, 1, 'slots')),
-    (FOXES, 'terms slot: a present term is told absent', section_with(0, 1, 0, 0, 'slots')),
+    (FOXES, 'terms slot: an absent term after its neighbours', section_with(0, 0, 1, 1, 'slots')),
+    (FOXES, 'terms slot: an absent term is called present', section_with(0, 0, 0, 1, 'slots')),
+    (FOXES, 'terms slot: a present term is called absent', section_with(0, 1, 0, 0, 'slots')),
     (FOXES, 'terms slot: no such leaf', section_with(1, 1, 1, 7, 'slots')),
     (WITH_ABSENT, 'terms slot: the number of a term counts absent ones', section_with(1, 1, 1, 7, 'slots')),
     (FOXES, 'terms slot: an absent term between two below it', these_terms(0, range(4), [(0, 0), (1, 2)])),
     (FOXES, 'terms slot: an absent term between two above it', these_terms(0, range(4), [(0, 2), (1, 2)])),
-    (FOXES, 'terms slot: a present term is told absent, before its leaf', these_terms(0, range(4), [(0, 1), (0, 1)])),
-    (RED, 'terms slot: a present term is told absent, at its leaf', these_terms(0, range(4), [(0, 2)])),
-    (RED, 'terms slot: a present term is told absent between two below it', these_terms(0, range(4), [(0, 0)])),
-    (RED, 'terms slot: a present term is told absent between leaves that are no neighbours',
+    (FOXES, 'terms slot: a present term is called absent, before its leaf', these_terms(0, range(4), [(0, 1), (0, 1)])),
+    (RED, 'terms slot: a present term is called absent, at its leaf', these_terms(0, range(4), [(0, 2)])),
+    (RED, 'terms slot: a present term is called absent between two below it', these_terms(0, range(4), [(0, 0)])),
+    (RED, 'terms slot: a present term is called absent between leaves that are no neighbours',
      these_terms(0, [1, 3], [(0, 0)])),
-    (FOXES, 'terms slot: index: 0 behind 1', these_terms(0, range(4), [(0, 1), (1, 0)])),
+    (FOXES, 'terms slot: index: 0 after 1', these_terms(0, range(4), [(0, 1), (1, 0)])),
     (FOXES, 'terms slot: index: 257, which ends in the right byte', section_with(1, 1, 1, 257, 'slots')),
     (FOXES, 'terms slot: index: 65535', section_with(1, 1, 1, 65535, 'slots')),
     (EARLY, 'terms: all leaves are shown', more_terms(0)),
@@ -942,14 +942,14 @@ ASKED = [
     (FOXES, 'for two rows', {'r': 2}),
     (FOXES_3, 'for two rows', {'r': 2}),
     (FOXES_3, 'for a thousand rows', {'r': 1000}),
-    (FOXES, 'for a term that weighs twice', {'query': 'red red hen'}),
-    (EARLY, 'for a term that weighs nine times', {'query': 'red' + ' fox' * 9}),
+    (FOXES, 'for a term with weight two', {'query': 'red red hen'}),
+    (EARLY, 'for a term with weight nine', {'query': 'red' + ' fox' * 9}),
     (COURT, 'for two rows', {'r': 2}),
 ]
 
 
 def changed(program, archives, proofs):
-    """Changes of honest proofs, each with what the program prints of it."""
+    """Changes of honest proofs, each with what the program prints for it."""
     told = []
 
     def tell(of, about, changes, **asked):
@@ -982,7 +982,7 @@ def changed(program, archives, proofs):
 # Trees that no archive has: what the check does not ask
 
 class Made:
-    """A dictionary, documents and lists at will, and the proof that shows of them what is said."""
+    """Any dictionary, documents and lists, and a proof that shows chosen parts of them."""
 
     def __init__(self, documents, **parts):
         self.proof = Proof(2, Header(1, documents, 0, [NOTHING, NOTHING, NOTHING]), 1, [], [], [], [], [], rows=[0])
@@ -990,7 +990,7 @@ class Made:
             setattr(self.proof, name, value)
 
     def list_root(self, count, entries, digests=()):
-        """Shows the first entries of a list, pairs of a document and an impact, and answers its root."""
+        """Shows the first entries of a list, pairs of a document and an impact, and returns its root."""
         proof = self.proof
         places = {document: at for at, document in enumerate(proof.met)}
         proof.prefixes.append(Prefix([(places[each], impact) for each, impact in entries], list(digests)))
@@ -998,7 +998,7 @@ class Made:
         return rebuilt(count, shown, list(digests)) if count else NOTHING
 
     def dictionary(self, count, leaves, digests=()):
-        """Shows leaves of a dictionary of so many: position, term, number of documents, root of the list."""
+        """Shows leaves of a dictionary of `count`: position, term, number of documents, root of the list."""
         proof = self.proof
         proof.leaves, proof.digests, proof.header.leaves = leaves, list(digests), count
         shown = [(leaf[0], dictionary_leaf(*leaf[1:])) for leaf in leaves]
@@ -1021,7 +1021,7 @@ def one_list(documents, count, entries, digests=(), rows=(0,), term=b'x'):
 
 
 def two_lists(fronts, rows):
-    """Four entries of hen and three of red, of which these fronts are shown; the coefficients are 2 and 5."""
+    """Four entries of hen and three of red, of which these prefixes are shown; the coefficients are 2 and 5."""
     made = Made(4, terms=2, met=sorted({each for front in fronts for each, _ in front}), slots=[(1, 0), (1, 1)],
                 rows=list(rows))
     leaves = []
@@ -1033,7 +1033,7 @@ def two_lists(fronts, rows):
 
 
 def random_access(documents, entries, counts, sections, digests, rows=(0,), term=b'x'):
-    """The same by random access: each met document has so many leaves of terms, and this section."""
+    """The same by random access: each met document has this number of leaves of terms, and this section."""
     made = one_list(documents, len(entries), entries, rows=rows, term=term)
     leaves = []
     for count, section in zip(counts, sections):
@@ -1056,14 +1056,14 @@ WHOLE = [(0, 900), (1, 800), (2, 10), (3, 5)], [(2, 300), (1, 200), (0, 50)]
 
 
 def bounds_apart():
-    """What the lower bounds alone, or the upper ones alone, would settle otherwise."""
-    yield 'bounds: a document with no row has its upper one above the last row, and not its lower one', two_lists(
+    """Answers on which a client decides wrongly if it uses only the lower bounds, or only the upper ones."""
+    yield 'bounds: a document with no row has its upper bound above the last row, and not its lower bound', two_lists(
         CUT, [0]), 1, 'hen red'
-    yield 'bounds: the second row has its upper one above the lower one of the first, and not above its upper one', (
+    yield 'bounds: the upper bound of the second row is above the lower bound of the first, and not above its upper bound', (
         two_lists(CUT, [0, 1])), 2, 'hen red'
-    yield 'bounds: the threshold is above the lower one of the last row, and not above its upper one', two_lists(
+    yield 'bounds: the threshold is above the lower bound of the last row, and not above its upper bound', two_lists(
         ([(0, 900), (1, 100)], [(0, 300)]), [0, 1]), 2, 'hen red'
-    yield 'bounds: the threshold is as great as the last row', two_lists(
+    yield 'bounds: the threshold is equal to the bounds of the last row', two_lists(
         ([(0, 900), (1, 100)], [(0, 300), (1, 20)]), [0, 1]), 2, 'hen red'
 
 
@@ -1075,7 +1075,7 @@ def made_proofs():
     yield 'a met document at the number of documents', one_list(1, 1, [(1, 5)]), 1, 'x'
     yield 'a met document far above the number of documents', one_list(1, 1, [(2**32 - 1, 5)]), 1, 'x'
     yield 'more entries than documents', one_list(2, 3, [(0, 7), (1, 6), (2, 5)]), 1, 'x'
-    yield 'the greatest number of entries', one_list(2, 2**32 - 1, [(0, 7)], digests(32)), 1, 'x'
+    yield 'the largest number of entries', one_list(2, 2**32 - 1, [(0, 7)], digests(32)), 1, 'x'
     yield 'entries of 2^31 documents, which is above what 32 bits hold of 2 f + 1', one_list(
         2, 2**31, [(0, 7)], digests(31)), 1, 'x'
     yield 'more entries than documents, cut after as many as there are documents', one_list(
@@ -1086,21 +1086,21 @@ def made_proofs():
     yield 'impacts that rise', one_list(5, 2, [(0, 5), (1, 9)], rows=(1, 0)), 2, 'x'
     yield 'impacts that rise, and not all are shown', one_list(5, 4, [(0, 5), (1, 9)], digests(1), rows=(1,)), 1, 'x'
     yield 'an impact of 0', one_list(5, 1, [(0, 0)]), 1, 'x'
-    yield 'a last shown impact of 0, with entries behind it', one_list(5, 4, [(0, 7), (1, 0)], digests(1), (0, 1)), 9, 'x'
-    yield 'the greatest score', one_list(65536, 1, [(3, 65535)]), 1, 'x ' * 255
-    yield 'the greatest threshold', one_list(65536, 2, [(3, 65535)], digests(1)), 1, 'x ' * 255
+    yield 'a last shown impact of 0, with entries after it', one_list(5, 4, [(0, 7), (1, 0)], digests(1), (0, 1)), 9, 'x'
+    yield 'the largest score', one_list(65536, 1, [(3, 65535)]), 1, 'x ' * 255
+    yield 'the largest threshold', one_list(65536, 2, [(3, 65535)], digests(1)), 1, 'x ' * 255
     yield 'impacts that rise, and the threshold is above the last row', one_list(
         5, 4, [(0, 5), (1, 9)], digests(1), rows=(1, 0)), 2, 'x'
     yield 'terms out of order', whole_dictionary([b'z', b'x', b'a', b'y'], [1, 3]), 1, 'y x'
     yield 'a dictionary with no sentinel', whole_dictionary([b'x', b'y'], [0, 1]), 1, 'x y'
-    yield 'no entries in a list of none', one_list(5, 0, [(0, 5)]), 1, 'x'
+    yield 'an entry in a list of 0 entries', one_list(5, 0, [(0, 5)]), 1, 'x'
     twice = one_list(5, 1, [(0, 5)])
     twice.dictionary(2, [(0, b'x', 9, OTHER), (1, b'x', 1, twice.proof.leaves[0][3])])
     twice.proof.slots = [(1, 1)]
-    yield 'a term that stands twice in the dictionary', twice, 1, 'x'
+    yield 'a term that is in the dictionary twice', twice, 1, 'x'
     largest = one_list(5, 1, [(0, 5)])
     largest.dictionary(16777218, [(16777217, b'x', 1, largest.proof.leaves[0][3])], digests(2))
-    yield 'the greatest dictionary, and its last leaf', largest, 1, 'x'
+    yield 'the largest dictionary, and its last leaf', largest, 1, 'x'
     between = Made(5, slots=[(0, 0)], rows=[])
     between.dictionary(4, [(1, b'w', 1, OTHER), (2, b'z', 1, OTHER)], digests(2))
     yield 'absent between terms that are no sentinels', between, 1, 'x'
@@ -1112,14 +1112,14 @@ def made_proofs():
         1, [(1, 5)], [3], [has(5)], digests(1)), 1, 'x'
     yield 'random access: a term of 64 bytes', random_access(
         5, [(1, 5)], [3], [Section([(1, b'x' * 64, 5)], [OTHER, OTHER], [(1, 0)])], digests(3), term=b'x' * 64), 1, 'x' * 64
-    yield 'random access: the list and the document tell two impacts', random_access(
+    yield 'random access: the list and the document have different impacts', random_access(
         5, [(1, 5)], [3], [has(9)], digests(3)), 1, 'x'
-    yield 'random access: the document has not the term of its list', random_access(
+    yield 'random access: the document does not have the term of its list', random_access(
         5, [(1, 5)], [2], [Section([(0, b'', 0), (1, b'\xff', 0)], [], [(0, 0)])], digests(3)), 1, 'x'
-    yield 'random access: a document of no leaf', random_access(5, [(1, 5)], [0], [has(5)], digests(3)), 1, 'x'
-    yield 'random access: the greatest number of leaves', random_access(
+    yield 'random access: a document with 0 leaves', random_access(5, [(1, 5)], [0], [has(5)], digests(3)), 1, 'x'
+    yield 'random access: the largest number of leaves', random_access(
         5, [(1, 5)], [2**32 - 1], [Section([(0, b'x', 6)], digests(32), [(1, 0)])], digests(3)), 1, 'x'
-    yield 'random access: the greatest score', random_access(
+    yield 'random access: the largest score', random_access(
         65536, [(0, 1)], [1], [Section([(0, b'x', 65535)], [], [(1, 0)])], digests(16)), 1, 'x ' * 255
 
 
@@ -1133,18 +1133,18 @@ def made_answers(program):
     return told
 
 
-# Long bytes, in parts: bytes and how many times over; or also the number that stands in front of them the first time
+# Long bytes, in parts: bytes and how many times over; or also a number that is put before them and counts up
 
-# Fields that stand in one piece with those before them.
+# Fields that are in one piece with those before them.
 GOING_ON = {
     'entry: impact', 'documents leaf: root of its terms', 'terms leaf: position', 'terms leaf: length of the term',
     'terms leaf: term', 'terms leaf: impact', 'terms: number of digests', 'terms slot: kind', 'terms slot: index',
 }
-LEAST = 64  # times over, or else each piece stands as it is
+LEAST = 64  # pieces that come fewer times over are kept as they are
 
 
 def pieces(proof):
-    """The bytes of a proof, cut where some may come again, each with the name of its first field."""
+    """The bytes of a proof in pieces that may repeat, each with the name of its first field."""
     whole = []
     for name, data in proof.fields():
         if name in GOING_ON:
@@ -1155,14 +1155,14 @@ def pieces(proof):
 
 
 def is_next(before, piece):
-    """Whether the first 4 bytes are a number that is greater by 1, and the others are equal."""
+    """Whether the first 4 bytes are a number that is larger by 1, and the others are equal."""
     (name, old), (other, new) = before, piece
     is_greater = len(new) >= 4 and int.from_bytes(new[:4], 'big') == int.from_bytes(old[:4], 'big') + 1
     return name == other and is_greater and old[4:] == new[4:]
 
 
 def run_length(whole, at, goes_on):
-    """How many pieces from this one on go on with the one before."""
+    """How many pieces from this one on continue the piece before them."""
     end = at + 1
     while end < len(whole) and goes_on(whole[end - 1], whole[end]):
         end += 1
@@ -1170,7 +1170,7 @@ def run_length(whole, at, goes_on):
 
 
 def in_parts(whole):
-    """These pieces in parts. What comes only once stands in one part with its neighbours."""
+    """These pieces in parts. A piece that comes only once is in one part with its neighbours."""
     parts, at, once = [], 0, b''
     while at < len(whole):
         data = whole[at][1]
@@ -1186,7 +1186,7 @@ def in_parts(whole):
 
 
 def bytes_in_parts(data):
-    """Bytes in parts, of which one that comes many times over is one."""
+    """Bytes in parts: a byte that comes many times over is one part."""
     return in_parts([('byte', data[at:at + 1]) for at in range(len(data))])
 
 
@@ -1198,7 +1198,7 @@ def expanded(parts):
     return b''.join(whole)
 
 
-# Proofs at the greatest numbers that may stand in one
+# Proofs with the largest numbers that a proof may have
 
 ALL = 65536
 
@@ -1209,7 +1209,7 @@ def everything_met(rows):
 
 
 def everything_looked_up(rows):
-    """The same by random access, where each document has this one term and no sentinels."""
+    """The same by random access: each document has this one term and no sentinels."""
     one = Section([(0, b'x', 5)], [], [(1, 0)])
     return random_access(ALL, [(document, 5) for document in range(ALL)], [1] * ALL, [one] * ALL, [], rows)
 
@@ -1221,7 +1221,7 @@ def too_many_documents_digests():
 
 
 def absent_terms(count):
-    """So many absent terms, each between two leaves of its own, far from one another in the greatest dictionary."""
+    """`count` absent terms, each between two leaves of its own, far from one another in the largest dictionary."""
     made, size = Made(5, terms=count, slots=[(0, 2 * at) for at in range(count)], rows=[]), 16777218
     leaves = [(size // count * at + side, f'a{at:02}{end}'.encode(), 1, OTHER)
               for at in range(count) for side, end in ((1, 'a'), (2, 'c'))]
@@ -1240,7 +1240,7 @@ def elided_places(count, shown, start=0):
 
 
 def many_terms():
-    """A document of the greatest number of leaves, of which as many are shown as may be, far from one another."""
+    """A document of the largest number of leaves. As many are shown as a proof may show, far from one another."""
     size = 2**32 - 1
     leaves = [(size // 64 * at + 1, f'x{at:02}'.encode(), at) for at in range(64)]
     section = Section(leaves, [OTHER] * len(elided_places(size, [leaf[0] for leaf in leaves])), [(1, 63)])
@@ -1257,10 +1257,10 @@ def many_documents():
 
 def large_proofs():
     absent = ' '.join(f'a{at:02}b' for at in range(32))
-    yield 'the greatest numbers of entries, of met documents, and of rows', everything_met(range(1000)), 1000, 'x'
+    yield 'the largest numbers of entries, of met documents, and of rows', everything_met(range(1000)), 1000, 'x'
     yield 'the same, and one row too few', everything_met(range(999)), 1000, 'x'
-    yield 'random access: the greatest numbers of entries and of met documents', everything_looked_up([ALL - 1]), 1, 'x'
-    yield 'random access: the greatest number of digests of the documents', too_many_documents_digests(), 1, 'x'
+    yield 'random access: the largest numbers of entries and of met documents', everything_looked_up([ALL - 1]), 1, 'x'
+    yield 'random access: the largest number of digests of the documents', too_many_documents_digests(), 1, 'x'
     yield '64 leaves of the dictionary, and more than 255 digests', absent_terms(32), 1, absent
     yield 'random access: 64 leaves of the terms of a document, and more than 255 digests', many_terms(), 1, 'x63'
     yield 'random access: more than 255 digests of the documents', many_documents(), 64, 'x'
@@ -1277,7 +1277,7 @@ def large(program):
     return told
 
 
-# Frames: what is asked of a server, and what it replies. All is by the second client; the gate asks the program
+# Frames: requests to a server, and its replies. All come from the second client; the gate compares the program
 
 def reply(data):
     """The reply that has this proof."""
@@ -1293,21 +1293,21 @@ def replies(honest):
     yield 'cut after its kind', honest[:5]
     yield 'cut in the proof', honest[:100]
     yield 'without the last byte', honest[:-1]
-    yield 'a length above the greatest', number(LONGEST + 2, 4)
-    yield 'a length above the greatest, and a kind that there is not', number(LONGEST + 2, 4) + b'\2'
-    yield 'the greatest length in 4 bytes', b'\xff' * 4
-    yield 'the greatest length of a reply, and no more', number(LONGEST + 1, 4)
+    yield 'a length above the largest', number(LONGEST + 2, 4)
+    yield 'a length above the largest, and a kind that does not exist', number(LONGEST + 2, 4) + b'\2'
+    yield 'the largest length in 4 bytes', b'\xff' * 4
+    yield 'the largest length of a reply, and no more', number(LONGEST + 1, 4)
     yield 'no body', bytes(4)
-    yield 'no body, and further bytes', bytes(4) + b'\7'
-    yield 'a kind that there is not', number(2, 4) + b'\2\1'
-    yield 'a kind that there is not, and cut after it', number(366, 4) + b'\xff'
+    yield 'no body, and more bytes', bytes(4) + b'\7'
+    yield 'a kind that does not exist', number(2, 4) + b'\2\1'
+    yield 'a kind that does not exist, and cut after it', number(366, 4) + b'\xff'
     yield 'a code of no byte', number(1, 4) + b'\1'
     yield 'a code of two bytes', number(3, 4) + b'\1\1\1'
     yield 'a code of many bytes, and cut after the kind', number(LONGEST + 1, 4) + b'\1'
     yield 'cut before the code', number(2, 4) + b'\1'
     for code in (0, 1, 2, 3, 4, 5, 6, 255):
         yield f'code {code}', client.framed(bytes([1, code]))
-    yield 'code 2, and further bytes', client.framed(b'\1\2') + honest
+    yield 'code 2, and more bytes', client.framed(b'\1\2') + honest
     yield 'a proof of no bytes', client.framed(b'\0')
     yield 'a proof with a byte more', reply(honest[5:] + b'\0')
     yield 'a proof without its last byte', reply(honest[5:-1])
@@ -1316,7 +1316,7 @@ def replies(honest):
 
 
 def asked(proofs):
-    """What `ask` writes, what comes, and what it then prints."""
+    """What `ask` writes, what it reads, and what it then prints."""
     told = []
 
     def tell(about, of, parts, **other):
@@ -1357,7 +1357,7 @@ def codes():
     for algorithm in (0, 3):
         yield f'algorithm {algorithm}', asking(algorithm, 1, b'red')
     yield 'a length of the query that is too small', asking(2, 1, b'red', size=2)
-    yield 'a length of the query that is too great', asking(2, 1, b'red', size=4)
+    yield 'a length of the query that is too large', asking(2, 1, b'red', size=4)
     yield 'a query that is no UTF-8', asking(2, 1, b'red \xff')
     yield 'a query with half a surrogate pair', asking(2, 1, b'\xed\xa0\x80')
     for r in (0, 1001, 65535):
@@ -1377,7 +1377,7 @@ def codes():
 
 
 def links(first):
-    """What comes over a link, by how it ends; the first request is honest."""
+    """What arrives over a link, by how it ends; the first request is honest."""
     code = asking(2, 1, b'...')
     yield 'nothing', []
     yield 'two requests', bytes_in_parts(first + first)
@@ -1393,7 +1393,7 @@ def links(first):
 
 
 def served(proofs):
-    """What comes to `serve`, what it replies, and what it then prints."""
+    """What arrives at `serve`, what it replies, and what it then prints."""
     known = {(each['archive'], each['algorithm'], each['r'], each['query']): bytes.fromhex(each['proof'])
              for each in proofs.values()}
     told = []
@@ -1435,7 +1435,7 @@ DOCUMENTS_ALONE = {'docs-misfit', 'docs-root', 'terms-misfit', 'terms-root', 'te
 
 
 def look_over(told):
-    """Each refusal and each kind of fault must have come, by each algorithm that has it."""
+    """Each refusal and each kind of fault must occur, by each algorithm that has it."""
     for algorithm, wanted in (('tnra', REFUSALS - DOCUMENTS_ALONE), ('tra', REFUSALS)):
         words = [each['lines'][0].split() for each in told if each['of'].endswith(algorithm) and each['status'] == 1]
         missing = (wanted - {line[1] for line in words}) | (SHAPES - {line[2] for line in words if line[1] == 'shape'})
