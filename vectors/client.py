@@ -160,7 +160,7 @@ def is_joined_in_words(left, right):
 
 
 def terms(text):
-    """Each term with how often it stands in the text, in byte order."""
+    """Each term with its count in the text, in byte order."""
     counts = Counter()
     for word in words(text):
         if any(is_alphabetic(char) or unicodedata.category(char) in ('Nd', 'Nl', 'No') for char in word):

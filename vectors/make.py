@@ -3,8 +3,8 @@
 `./ats` at the top if it is not given.
 
 Roots and honest proofs come from the program. The changes of honest proofs, and the trees that no archive has, are
-made here. The expected results are those of `client.py`, and if the program gives any other, nothing is written.
-README.md explains the files. The script needs only Python's standard library.
+made here. The expected results are those of `client.py`. If the program gives any other, this script stops and writes
+no further file. README.md explains the files. The script needs only Python's standard library.
 """
 import copy
 import hashlib
@@ -67,7 +67,7 @@ class Program:
 def agreed(about, told, wanted):
     """The result of the second client, which must be that of the program."""
     if told != wanted:
-        raise SystemExit(f'{about}: the program says {told}, and the second client {wanted}')
+        raise SystemExit(f'{about}: the program prints {told}, and the second client {wanted}')
     return wanted
 
 
@@ -151,7 +151,7 @@ class Archive:
         told = self.take(32).hex()
         self.make_trees()
         if self.root != told:
-            raise SystemExit('the trees of this script have another root than the program tells')
+            raise SystemExit('the root of this script is not the root of the program')
 
     def take(self, size):
         self.at += size
@@ -339,7 +339,7 @@ class Reader:
             proof.sections = [self.section(present) for _ in met]
         proof.rows = [self.number(4) for _ in range(self.number(2))]
         if proof.data() != self.data:
-            raise SystemExit('this script spells a proof in another way than the program')
+            raise SystemExit('this script encodes a proof otherwise than the program')
         return proof
 
     def prefix(self):
@@ -410,7 +410,7 @@ COLLECTIONS = {
 QUESTIONS = {
     'two terms': ('foxes', 1, 'red hen'), 'two terms, two rows': ('foxes', 2, 'red hen'),
     'two terms, three rows': ('foxes', 3, 'RED hen'), 'one term': ('foxes', 5, 'fox'),
-    'absent, behind all': ('foxes', 1, 'zebra'), 'absent, before all': ('foxes', 1, 'aaa'),
+    'absent, after all': ('foxes', 1, 'zebra'), 'absent, before all': ('foxes', 1, 'aaa'),
     'a term twice': ('foxes', 1, 'red hen hen'), 'bounds that differ': ('foxes', 1, 'fox red'),
     'present and absent': ('foxes', 2, 'aaa red hen zebra'), 'more rows than documents': ('foxes', 1000, 'red'),
     'four terms': ('foxes', 2, 'hen blue red fox'), 'a term 255 times': ('foxes', 1, 'red ' * 255),
@@ -774,7 +774,7 @@ ADD = lambda digests: digests.append(OTHER)
 BEND = lambda digests: digests.__setitem__(0, OTHER)
 
 FOXES, FOXES_3, ONE_FOX = 'two terms', 'two terms, three rows', 'one term'
-ZEBRA, AAA = 'absent, behind all', 'absent, before all'
+ZEBRA, AAA = 'absent, after all', 'absent, before all'
 TIES, TIED, BEE, CAT_DOG = 'a tie for one row', 'a tie for two rows', 'a tie of many', 'two rare terms'
 WITH_ABSENT, EARLY, SILENT = 'present and absent', 'bounds that differ', 'no term in the archive'
 COURT, RED, SAMPLE = 'the court', 'more rows than documents', 'the sample'
