@@ -304,7 +304,8 @@ def block(house: House, case: Case, moves: int) -> str:
 
 # The player plays the vectors too, and there are none here.
 NO_VECTORS = [(f"{name}.json", "{}") for name in ("archives", "proofs", "fields")]
-NO_VECTORS += [(f"{name}.json", "[]") for name in ("changed", "made", "words", "numbers", "inputs")]
+LISTED = ("changed", "made", "words", "numbers", "inputs", "large", "asked", "served")
+NO_VECTORS += [(f"{name}.json", "[]") for name in LISTED]
 NO_VECTOR = "0 vectors passed\n"
 
 
