@@ -1,0 +1,45 @@
+-- What a caller is shown, and why nothing is shown otherwise.
+use Rattle.std.specs.Prelude.{◌≡◌, ◌⊎◌, ◌<◌, ◌≤◌, ℕ, List, length, take, drop, map}
+use Rattle.std.specs.Str.{IsUtf8}
+use Rattle.sha2.specs.Sha256.{sha256}
+use Rattle.ats_terms.specs.Query.{IsQueryOf}
+use Rattle.ats_terms.specs.Faults.{IsFirstFault}
+use Rattle.ats_proof.specs.Value.{Proof}
+use Rattle.ats_client.specs.Bytes.{IsAcceptedBytes, IsRejectedBytes}
+use Rattle.ats_client.specs.Headline.{IsTopOrCollides}
+use Rattle.ats_client.specs.Rows.{rows_of}
+use Rattle.ats_reader.specs.declared.fault.Fault.{Fault}
+use Rattle.ats_reader.specs.declared.fault.Fault.TheVariants.{NoText, RowsOut, LittleRoom, NoQuery, Refused, OutOfMemory}
+use Rattle.ats_reader.specs.declared.shown.ShownRow.{ShownRow}
+use Rattle.ats_reader.specs.declared.shown.Verdict.{Verdict}
+use Rattle.ats_reader.specs.Verdicts.{shown_row, with_rows}
+
+-- the query is a text, and the number of rows is within its limits and the room
+pub record IsAsked (text : List ℕ) (r room : ℕ) : Type 0 where
+  pub utf8 : IsUtf8 text
+  pub some : 1 ≤ r
+  pub few : r ≤ 1000
+  pub fits : r ≤ room
+
+-- the bytes spell an accepted proof under the root for the terms of the text, so that for every archive with the root its
+-- rows are right or strings collide; these rows stand at the front of the room, and the rest of it is as it was
+pub record IsAnswer (root text : List ℕ) (r : ℕ) (bytes : List ℕ) (before after : List ShownRow) (verdict : Verdict) : Type 0 where
+  pub asked : IsAsked text r (length before)
+  pub query : List (List ℕ × ℕ)
+  pub terms : IsQueryOf text query
+  pub proof : Proof
+  pub accepted : IsAcceptedBytes sha256 root query r bytes proof
+  pub headline : IsTopOrCollides sha256 root query r proof
+  pub shown : take (length (rows_of query proof)) after ≡ map shown_row (rows_of query proof)
+  pub rest : drop (length (rows_of query proof)) after ≡ drop (length (rows_of query proof)) before
+  pub counted : verdict ≡ with_rows (length (rows_of query proof))
+
+-- why nothing is shown, in the order in which it is found; out of memory needs no cause
+abbrev pub IsFault : List ℕ → List ℕ → ℕ → List ℕ → ℕ → Fault → Type 0
+IsFault root text r bytes room NoText = ¬ IsUtf8 text
+IsFault root text r bytes room (RowsOut told) = IsUtf8 text × (told ≡ r) × ((r ≡ 0) ⊎ (1000 < r))
+IsFault root text r bytes room (LittleRoom told) = IsUtf8 text × (told ≡ room) × (1 ≤ r) × (r ≤ 1000) × (room < r)
+IsFault root text r bytes room (NoQuery fault) = IsAsked text r room × IsFirstFault text fault
+IsFault root text r bytes room (Refused rejection) =
+    IsAsked text r room × (query : List (List ℕ × ℕ)) × IsQueryOf text query × IsRejectedBytes sha256 root query r bytes rejection
+IsFault root text r bytes room OutOfMemory = Unit {0}
