@@ -140,7 +140,8 @@ pub(crate) fn query_of(alloc: Global, text: &str) -> Result<Query, QueryFault> {
     Query::read(alloc, text)
 }
 
-// Whether the proof has this many bytes, is returned within this limit, and is refused within one byte less.
+// Whether the proof has this many bytes, is returned within this limit and within one with room to spare, and is refused
+// within one byte less.
 fn fits<H: Hash32>(alloc: Global, algorithm: Algorithm, length: u64) -> Result<bool, Fail>
     requires some { 1 ≤ length }
     requires few { length ≤ 2 ^ 26 }
@@ -149,10 +150,12 @@ fn fits<H: Hash32>(alloc: Global, algorithm: Algorithm, length: u64) -> Result<b
     let (query, top) = (query_of(alloc, "red hen")?, Top::new(1)?);
     let whole = proof_of(alloc, &index, &query, top, algorithm)?;
     let same = proof_within(alloc, &index, &query, top, algorithm, length)?;
+    let roomy = proof_within(alloc, &index, &query, top, algorithm, 67_108_863)?;
     let less = proof_within(alloc, &index, &query, top, algorithm, length - 1).err();
     Ok(
         whole.len() as u64 == length
             && same.as_slice() == whole.as_slice()
+            && roomy.as_slice() == whole.as_slice()
             && less == Some(ProveFault::ProofTooLong { length }),
     )
 }
