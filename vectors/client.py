@@ -57,7 +57,8 @@ LETTERS_LATER = set(FOLDED_LATER) | set(FOLDED_LATER.values())
 MARKS = {
     '\r': 'CR', '\n': 'LF', '"': 'Double_Quote', "'": 'Single_Quote', '.': 'MidNumLet', '\u2019': 'MidNumLet',
     ':': 'MidLetter', '\u00b7': 'MidLetter', '\u05f4': 'MidLetter', ',': 'MidNum', ';': 'MidNum', '\u066b': 'Numeric',
-    '_': 'ExtendNumLet', ' ': 'WSegSpace', '\u200d': 'ZWJ', '\u200b': 'Other',
+    '_': 'ExtendNumLet', ' ': 'WSegSpace', '\u200d': 'ZWJ', '\u200b': 'Other', '\u000b': 'Newline',
+    '\u0085': 'Newline', '\u2028': 'Newline',
 }
 PICTOGRAPHS = {'\U0001f44d', '\U0001f600', '\u24c2'}
 WITHOUT_SPACES = ('CJK', 'HIRAGANA', 'THAI')
@@ -91,7 +92,7 @@ def break_class(char):
 LETTERS = {'ALetter', 'Hebrew_Letter'}
 IN_LETTERS = {'MidLetter', 'MidNumLet', 'Single_Quote'}
 IN_NUMBERS = {'MidNum', 'MidNumLet', 'Single_Quote'}
-BLANK = {'CR', 'LF'}
+BLANK = {'CR', 'LF', 'Newline'}
 JOINED = {'Extend', 'Format', 'ZWJ'}
 RUN = LETTERS | {'Numeric', 'Katakana', 'ExtendNumLet'}
 
@@ -124,7 +125,7 @@ def past(text, at):
     classes = []
     for place in range(at):
         each = break_class(text[place])
-        if not classes or each not in JOINED or text[place - 1] in '\r\n':
+        if not classes or each not in JOINED or break_class(text[place - 1]) in BLANK:
             classes.insert(0, each)
     return classes
 

@@ -412,7 +412,9 @@ QUESTIONS = {
     'two terms, three rows': ('foxes', 3, 'RED hen'), 'one term': ('foxes', 5, 'fox'),
     'absent, after all': ('foxes', 1, 'zebra'), 'absent, before all': ('foxes', 1, 'aaa'),
     'a term twice': ('foxes', 1, 'red hen hen'), 'bounds that differ': ('foxes', 1, 'fox red'),
-    'present and absent': ('foxes', 2, 'aaa red hen zebra'), 'more rows than documents': ('foxes', 1000, 'red'),
+    'present and absent': ('foxes', 2, 'aaa red hen zebra'),
+    'an absent term, then two of other weights': ('foxes', 2, 'aaa red red hen'),
+    'an absent term twice, then two': ('foxes', 2, 'aaa aaa red hen'), 'more rows than documents': ('foxes', 1000, 'red'),
     'four terms': ('foxes', 2, 'hen blue red fox'), 'a term 255 times': ('foxes', 1, 'red ' * 255),
     '32 terms': ('foxes', 1, 'red ' + ' '.join(f'a{i}' for i in range(31))),
     'no term in the archive': ('silent', 1, 'red'), 'folded': ('street', 1, 'STRASSE'),
@@ -467,6 +469,8 @@ WORDS = [
     "1'2", '1;2', '1:2', 'a,b', 'a;b', 'a_.b', 'a._b', 'a.1', 'a..b', '1..2', "a'\u0308b",
     '\U0001f1e6\U0001f1e7\U0001f1e8\U0001f1e9\u0345', '\U0001f1e6\U0001f1e7\u0345\U0001f1e8\U0001f1e9',
     '\U0001f1e6\u0345\U0001f1e7\U0001f1e8\U0001f1e9', 'a\u200d#', ' \u0345 \u0345',
+    '1_2', '_1', '1_', '\u30bf_\u30bf', '_\u30bf', '\u30bf_', 'a\u30bf \u30bfa', '\u05d0"a a"\u05d0',
+    '\u000b\u0345', '\u0085\u0345', '\u2028\u0345', '\r\u0345', '\n\u0308a', 'a\u200d\u0308\U0001f600',
 ]
 
 
@@ -588,6 +592,13 @@ def not_rising(proof, data):
                 yield f'{name}: {value} after {first}', data[:other] + number(value, last - other) + data[last:]
 
 
+def kind_before_index(proof, data):
+    """The second slot has a kind out of range and an index below the one before it: the kind comes first."""
+    first, second = [start for name, start, _ in with_places(proof) if name == 'slot: kind']
+    new = data[:first + 1] + number(1, 2) + data[first + 3:second] + number(2, 1) + number(0, 2) + data[second + 3:]
+    yield 'a slot has a bad kind, and an index below the one before it', new
+
+
 def shape_changes(data):
     proof = Reader(data).proof()
     places = {}
@@ -597,6 +608,7 @@ def shape_changes(data):
     yield from cuts(data, places)
     yield from out_of_range(data, places)
     yield from not_rising(proof, data)
+    yield from kind_before_index(proof, data)
     yield 'one byte more', data + b'\0'
     yield 'the bytes twice', data + data
     yield 'the other algorithm is named', data[:5] + number(3 - data[5], 1) + data[6:]
@@ -1098,6 +1110,10 @@ def made_proofs():
     twice.dictionary(2, [(0, b'x', 9, OTHER), (1, b'x', 1, twice.proof.leaves[0][3])])
     twice.proof.slots = [(1, 1)]
     yield 'a term that is in the dictionary twice', twice, 1, 'x'
+    before = one_list(5, 1, [(0, 5)])
+    before.dictionary(2, [(0, b'x', 1, before.proof.leaves[0][3]), (1, b'x', 9, OTHER)])
+    before.proof.slots = [(1, 0)]
+    yield 'a term that is in the dictionary twice, and the slot has the first of the two', before, 1, 'x'
     largest = one_list(5, 1, [(0, 5)])
     largest.dictionary(16777218, [(16777217, b'x', 1, largest.proof.leaves[0][3])], digests(2))
     yield 'the largest dictionary, and its last leaf', largest, 1, 'x'
