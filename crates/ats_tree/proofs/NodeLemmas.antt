@@ -137,7 +137,7 @@ theirs-node H h l r ds left right =
           (All-append Short _ _ (deeper false _ (left (take (need l) ds))) (deeper true _ (right (drop (need l) ds)))))
     ]
 
-theirs-within : (H : List ℕ → List ℕ) (h : ℕ) (os : List (Option (List ℕ))) (ds : List (List ℕ))
+pub theirs-within : (H : List ℕ → List ℕ) (h : ℕ) (os : List (Option (List ℕ))) (ds : List (List ℕ))
     → All (λ s. length s.place ≤ h) (strings H (tree_within h os) ds)
 unfolding tree_within
 theirs-within H zero [] ds = All-nil _

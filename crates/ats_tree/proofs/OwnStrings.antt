@@ -17,7 +17,7 @@ use Rattle.ats_tree.specs.Strings.{below, strings, string_at, node_string, node_
 use Rattle.ats_tree.proofs.Bound.{SameShape, Agrees}
 use Rattle.ats_tree.proofs.LawLemmas.{length-elided, elided-digest, shown-shape, shown-agrees}
 
-elided-strings : (H : List ℕ → List ℕ) (t : Tree (Option (List ℕ))) (u : Tree (List ℕ)) → SameShape t u → Agrees t u
+pub elided-strings : (H : List ℕ → List ℕ) (t : Tree (Option (List ℕ))) (u : Tree (List ℕ)) → SameShape t u → Agrees t u
     → All (IsOurs (string_at H u)) (strings H t (elided_of H t u))
 elided-strings H empty u shape agrees = All-nil (IsOurs (string_at H u))
 elided-strings H (leaf None) u shape agrees = All-nil (IsOurs (string_at H u))

@@ -56,3 +56,31 @@ pub use Rattle.ats_tree.proofs.OwnStrings.{own-strings}
 pub use Rattle.ats_tree.proofs.OwnStrings.{own-shown}
 -- a tree of n leaves has 2n - 1 kept digests if n is at least 1
 pub use Rattle.ats_tree.proofs.KeptLemmas.{length-kept}
+-- places from b on are the same if only the shown leaves from b on are left
+pub use Rattle.ats_tree.proofs.Places.{places-from}
+-- the shown leaves from c on, of those from b on, are those from c on
+pub use Rattle.ats_tree.proofs.Places.{from-from}
+-- of shown leaves that rise, those from b on rise from b
+pub use Rattle.ats_tree.proofs.Places.{rises-from}
+-- all shown leaves are left if they rise from b
+pub use Rattle.ats_tree.proofs.Places.{from-all}
+-- a rebuilt digest of a part binds the leaves shown there, unless the first difference collides
+pub use Rattle.ats_tree.proofs.ShownParts.{ShowsOwn, part-bound}
+-- sources of own strings with the same string at each place give the same first difference
+pub use Rattle.ats_tree.proofs.ShownParts.{difference-alike}
+-- the digest of a list, and a rebuilt digest, has 32 bytes
+pub use Rattle.ats_tree.proofs.ShownParts.{length-mth, length-rebuilt}
+-- the nodes of a part of at most 2^h places are at most h deep
+pub use Rattle.ats_tree.proofs.ShownParts.{part-shallow}
+-- the first places hold leaves, and the others none
+pub use Rattle.ats_tree.proofs.ShownParts.{IsFront}
+-- a part that is all shown needs no digest; one of at most 2^h places with its first ones shown needs at most h
+pub use Rattle.ats_tree.proofs.ShownParts.{full-need, front-need}
+-- a tree that needs no digest has the same digest with any digests
+pub use Rattle.ats_tree.proofs.ShownParts.{digest-full}
+-- the first difference of strings whose places are moved is their first difference with its place moved
+pub use Rattle.ats_tree.proofs.Differences.{moved_difference, difference-moved, both-parts}
+-- a shown leaf is found at its position
+pub use Rattle.ats_tree.proofs.Bound.{own_place}
+-- a path that is cut from a number of its own length is that path
+pub use Rattle.ats_tree.proofs.NodeLemmas.{length-path_of, number_of-below, number_of-path_of, same_path, node-some}
