@@ -10,3 +10,7 @@ mod PartedLemmas
 mod WholeLemmas
 mod Finding
 mod ListedLemmas
+mod Fronts
+mod BlockLemmas
+mod ChainBinding
+mod ChainOutcomes

@@ -3,3 +3,9 @@ pub mod Lists
 pub mod Leaf
 pub mod Gathered
 pub mod Layout
+pub mod Blocks
+pub mod Chain
+pub mod ChainPrefix
+pub mod BlockRoots
+pub mod ChainBound
+pub mod Formats

@@ -19,7 +19,9 @@
 #![tactic(auto)]
 
 mod building;
+mod chain_rebuilding;
 mod entry;
+mod format;
 mod gathering;
 mod key;
 mod laws;
@@ -30,7 +32,9 @@ mod numbering;
 mod term_list;
 
 pub use building::ListsBuilder;
+pub use chain_rebuilding::chain_rebuild;
 pub use entry::Entry;
+pub use format::Format;
 pub use laws::{lists_are_sorted_postings, lists_have_all_documents, vocabulary_has_all_terms};
 pub use leaves::ListLeaves;
 pub use lists::Lists;

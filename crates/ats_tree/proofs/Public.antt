@@ -73,7 +73,7 @@ pub use Rattle.ats_tree.proofs.ShownParts.{length-mth, length-rebuilt}
 -- the nodes of a part of at most 2^h places are at most h deep
 pub use Rattle.ats_tree.proofs.ShownParts.{part-shallow}
 -- the first places hold leaves, and the others none
-pub use Rattle.ats_tree.proofs.ShownParts.{IsFront}
+pub use Rattle.ats_tree.proofs.ShownParts.{IsFront, front-nil}
 -- a part that is all shown needs no digest; one of at most 2^h places with its first ones shown needs at most h
 pub use Rattle.ats_tree.proofs.ShownParts.{full-need, front-need}
 -- a tree that needs no digest has the same digest with any digests

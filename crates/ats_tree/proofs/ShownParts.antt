@@ -95,7 +95,7 @@ IsFront zero os = list_all is_none os ≡ true
 IsFront (suc count) [] = Unit {0}
 IsFront (suc count) (o ∷ os) = (is_none o ≡ false) × IsFront count os
 
-front-nil : (count : ℕ) → IsFront count []
+pub front-nil : (count : ℕ) → IsFront count []
 front-nil zero = refl
 front-nil (suc count) = tt
 

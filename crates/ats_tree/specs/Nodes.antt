@@ -17,3 +17,12 @@ turns_of (by_path path) = number_of path
 -- the lowest `depth` digits of `turns` are the turns from the root, and `turns` has no digit further up
 abbrev pub IsNodeAt : Node → ℕ → ℕ → Type 0
 IsNodeAt (by_path path) depth turns = (path_of depth turns ≡ path) × (turns < 2 ^ depth)
+
+-- the two numbers by which a node is named, or another string that is hashed beside the nodes
+pub record NodeNumbers : Type 0 where
+  pub depth : ℕ
+  pub turns : ℕ
+
+-- the numbers of a node
+abbrev pub numbers_of : Node → NodeNumbers
+numbers_of node = record { depth = depth_of node; turns = turns_of node }
