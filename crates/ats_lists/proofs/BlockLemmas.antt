@@ -1,15 +1,17 @@
 -- The shown blocks of a list: what they need, and their roots.
-use Rattle.std.proofs.Common.{◌≡◌, ℕ, ◌+◌, ◌-◌, ◌*◌, ◌/◌, ◌^◌, ◌<◌, ◌≤◌, List, [], ◌∷◌, ◌++◌, length, map, take, drop, min, refl, sym, ◌∙◌, ap, arith, inl, inr, subst, nat_lt, if◌then◌else◌}
+use Rattle.std.proofs.Common.{◌≡◌, ℕ, zero, suc, ◌+◌, ◌-◌, ◌*◌, ◌/◌, ◌^◌, ◌<◌, ◌≤◌, List, [], ◌∷◌, ◌++◌, length, map, take, drop, min, refl, sym, ◌∙◌, ap, arith, inl, inr, subst, nat_lt, if◌then◌else◌}
 use Rattle.std.specs.Int.{div_ceil}
-use Rattle.std.specs.List.{range_with_len}
+use Rattle.std.specs.List.{range_with_len, sum_by}
+use Rattle.std.proofs.lemmas.List.Sums.{sum_by-append, sum_by-cons}
 use Rattle.std.proofs.lemmas.Bool.{cond-true, cond-false, cases_lt, lt-ltb, le-ltb}
 use Rattle.std.proofs.lemmas.List.{take_all}
 use Rattle.ats_tree.specs.Tree.{tree_of}
 use Rattle.ats_tree.specs.Shown.{Shown, positions_of, places}
 use Rattle.ats_tree.specs.Part.{RisesFrom, shown_from, IsPart}
-use Rattle.ats_tree.specs.Rebuild.{need, digest_with}
+use Rattle.ats_tree.specs.Rebuild.{need, digest_with, inner_nodes}
 use Rattle.ats_tree.proofs.Public.{length-places, full-need, places-from, from-from}
 use Rattle.ats_lists.specs.Blocks.{blocks_in, items_in}
+use Rattle.ats_lists.specs.ChainBound.{chain_inner_nodes}
 use Rattle.ats_lists.specs.BlockRoots.{AreBlockRoots}
 use Rattle.ats_lists.specs.ChainPrefix.{block_tree, block_need, block_root}
 use Rattle.ats_lists.proofs.Fronts.{front-places, front-length, front-gone}
@@ -131,3 +133,46 @@ shown-front k shown is = is ∙ ap (range_with_len 0) (sym (front-length 0 k sho
 pub blocks-div_ceil : (k : ℕ) (shown : List Shown) {b : ℕ} → positions_of shown ≡ range_with_len 0 k → b ≡ div_ceil k 64 → b ≡ blocks_in (length shown)
 blocks-div_ceil k shown is count =
     let size : length shown ≡ k = front-length 0 k shown is in omega arith
+
+-- ---- steps
+
+-- how many nodes with two parts the blocks before block j hash
+abbrev pub inner_before : ℕ → List Shown → ℕ → ℕ
+inner_before f shown j = sum_by (λ i. inner_nodes (block_tree f shown i)) (range_with_len 0 j)
+
+-- numbers from `from` on: one more is added to their sum
+sum-next : (count : ℕ → ℕ) (from n j : ℕ) → from + n ≡ j
+    → sum_by count (range_with_len from (n + 1)) ≡ sum_by count (range_with_len from n) + count j
+sum-next count from n j at =
+    let more : range_with_len from (n + 1) ≡ range_with_len from n ++ j ∷ [] = range-more from n j at
+    in ap (sum_by count) more ∙ sum_by-append count (range_with_len from n) (j ∷ []) ∙ ap (λ m. sum_by count (range_with_len from n) + m) (sum_by-cons count j [] ∙ omega arith)
+  where
+    range-more : (a n j : ℕ) → a + n ≡ j → range_with_len a (n + 1) ≡ range_with_len a n ++ j ∷ []
+    range-more a zero j at = let here : a ≡ j = omega arith in ap (λ i. i ∷ []) here
+    range-more a (suc n) j at =
+        let at' : a + 1 + n ≡ j = omega arith
+        in let size : suc n + 1 ≡ suc (n + 1) = omega arith
+        in rw size (ap (λ is. a ∷ is) (range-more (a + 1) n j at'))
+
+sum-front : (count : ℕ → ℕ) (from n m : ℕ) → n ≤ m → sum_by count (range_with_len from n) ≤ sum_by count (range_with_len from m)
+sum-front count from zero m le = omega arith
+sum-front count from (suc n) zero le = absurd (omega arith)
+sum-front count from (suc n) (suc m) le =
+    let le' : n ≤ m = omega arith
+    in omega (
+      arith,
+      sum-front count (from + 1) n m le',
+      sum_by-cons count from (range_with_len (from + 1) n),
+      sum_by-cons count from (range_with_len (from + 1) m),
+    )
+
+pub inner-next : (f j n : ℕ) (shown shown₁ : List Shown) → shown₁ ≡ shown_from (64 * j) shown → n ≡ items_in f j
+    → inner_before f shown (j + 1) ≡ inner_before f shown j + inner_nodes (tree_of (places (64 * j) n shown₁))
+inner-next f j n shown shown₁ left count =
+    sum-next (λ i. inner_nodes (block_tree f shown i)) 0 j j (omega arith)
+    ∙ ap (λ t. inner_before f shown j + inner_nodes t) (sym (block-left f j n shown shown₁ left count))
+
+pub inner-all : (f j : ℕ) (shown : List Shown) → j ≤ blocks_in (length shown) → inner_before f shown j ≤ chain_inner_nodes f shown
+inner-all f j shown le =
+    let le' : j ≤ blocks_in (length shown) - 0 = omega arith
+    in sum-front (λ i. inner_nodes (block_tree f shown i)) 0 j (blocks_in (length shown) - 0) le'

@@ -1,5 +1,6 @@
 -- What a rebuilt digest of a list in blocks says of each list with that digest, and what rebuilding it takes.
-use Rattle.std.specs.Prelude.{◌≡◌, ℕ, ◌+◌, List, map, length, sum, Option, Some, MatchOption, All, slice_get}
+use Rattle.std.specs.Prelude.{◌≡◌, ℕ, List, length, Option, Some, MatchOption, All, slice_get}
+use Rattle.std.specs.List.{sum_by}
 use Rattle.ats_tree.specs.Shown.{Shown}
 use Rattle.ats_tree.specs.Rebuild.{inner_nodes}
 use Rattle.ats_tree.specs.Nodes.{NodeNumbers}
@@ -23,4 +24,4 @@ IsChainBoundTo H f shown digests leaves =
 
 -- how many nodes with two parts rebuilding hashes, in all shown blocks
 abbrev pub chain_inner_nodes : ℕ → List Shown → ℕ
-chain_inner_nodes f shown = sum (map (λ j. inner_nodes (block_tree f shown j)) (blocks_from (length shown) 0))
+chain_inner_nodes f shown = sum_by (λ j. inner_nodes (block_tree f shown j)) (blocks_from (length shown) 0)

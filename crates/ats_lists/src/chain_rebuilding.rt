@@ -7,7 +7,7 @@ ghost use Rattle.ats_lists.specs.Blocks.{blocks_in};
 ghost use Rattle.ats_lists.specs.BlockRoots.{AreBlockRoots};
 ghost use Rattle.ats_lists.specs.Chain.{chain, chain_digest, no_block};
 ghost use Rattle.ats_lists.specs.ChainPrefix.{block_need, chain_rebuilt};
-ghost use Rattle.ats_lists.specs.ChainBound.{IsChainBoundTo};
+ghost use Rattle.ats_lists.specs.ChainBound.{IsChainBoundTo, chain_inner_nodes};
 
 use ats_hash::{Hash32, Steps};
 use ats_tree::{Revealed, rebuild_part};
@@ -37,6 +37,11 @@ pub fn chain_rebuild<'a, H: Hash32, R: Revealed<'a>>(
     // Nothing is assumed of the hash function.
     ensures bound { IfSome result (λ x. (leaves : List (List ℕ)) → length leaves ≡ f → chain H.hash leaves ≡ x
         → IsChainBoundTo H.hash f (R.shown revealed.old) (R.digests revealed.old) leaves) }
+    // Two for each leaf that is passed, one for each digest, one for a try that finds no digest, one for each node with
+    // two parts, and one for each shown block.
+    ensures cost { steps.new + 2 * length (R.shown revealed.new) + length (R.digests revealed.new)
+        ≤ steps.old + 2 * k + length (R.digests revealed.old) + chain_inner_nodes f (R.shown revealed.old)
+        + blocks_in k + 1 }
     ensures by_items { steps.new ≤ steps.old + 3 * k + 2 * length (R.digests revealed.old) + 1 }
     ensures by_places { steps.new ≤ steps.old + 3 * f + 1 }
 {
@@ -71,7 +76,10 @@ fn rebuild_blocks<'a, H: Hash32, R: Revealed<'a>>(
     ensures whole { IfSome result (λ x. AreBlockRoots H.hash f (R.shown revealed.old) (R.digests revealed.old) roots.new
         (R.shown revealed.new) (R.digests revealed.new)) }
     ensures short { IfNone result (length (R.digests revealed.old) < block_need f (R.shown revealed.old)) }
-    // A block passes fewer items than it may, by the one that its own string takes.
+    ensures cost { steps.new + 2 * length (R.shown revealed.new) + length (R.digests revealed.new)
+        ≤ steps.old + 2 * length (R.shown revealed.old) + length (R.digests revealed.old)
+        + chain_inner_nodes f (R.shown revealed.old) + (if is_some result then 0 else 1) }
+    // Each block leaves one step, which its own string takes.
     ensures by_items { steps.new + 2 * length (R.digests revealed.new) + (if is_some result then blocks_in (length (R.shown revealed.old)) else 0)
         ≤ steps.old + 3 * length (R.shown revealed.old) + 2 * length (R.digests revealed.old)
         + (if is_some result then 0 else 1) }

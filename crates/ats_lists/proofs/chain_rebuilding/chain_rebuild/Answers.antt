@@ -1,6 +1,6 @@
 use Rattle.std.proofs.Common.{rules, ℕ, ◌≡◌, ◌+◌, ◌-◌, ◌*◌, ◌/◌, ◌<◌, ◌≤◌, List, [], length, map, take, drop, Bool, nat_lt, refl, sym, ◌∙◌, ap, arith, min, Some, None, slice_get, if◌then◌else◌, subst}
 use Rattle.std.specs.List.{range_with_len}
-use Rattle.std.proofs.lemmas.List.{length-take-le}
+use Rattle.std.proofs.lemmas.List.{length-take-le, length-drop}
 use Rattle.std.proofs.lemmas.List.FromFn.{length-range_with_len}
 use Rattle.ats_tree.specs.Shown.{Shown, positions_of}
 use Rattle.ats_lists.specs.Blocks.{blocks_in}
@@ -168,3 +168,55 @@ returns-in-None-clause-by_places g c =
     in let count : length c.rebuild_blocks.new.roots ≡ blocks_in (length (g.R.Revealed.shown c.args.revealed.now)) =
     block-count g.H.HashKind.hash c.args.f (g.R.Revealed.shown c.args.revealed.now) (g.R.Revealed.shown c.rebuild_blocks.new.revealed) (g.R.Revealed.digests c.args.revealed.now) (g.R.Revealed.digests c.rebuild_blocks.new.revealed) _ c.in_ok-rebuild_blocks.ensures.whole
     in omega (arith, count, few, c.pass_digest.ensures.cost, c.link_blocks.ensures.cost)
+
+pub returns-then-f-k-clause-cost : goal.returns-then-f-k-clause-cost
+returns-then-f-k-clause-cost g c =
+    let size : length (g.R.Revealed.shown c.args.revealed.now) ≡ c.args.k = front-length 0 c.args.k (g.R.Revealed.shown c.args.revealed.now) c.requires.front
+    in omega arith
+
+pub returns-in_err-rebuild_blocks-clause-cost : goal.returns-in_err-rebuild_blocks-clause-cost
+returns-in_err-rebuild_blocks-clause-cost g c =
+    let size : length (g.R.Revealed.shown c.args.revealed.now) ≡ c.args.k = front-length 0 c.args.k (g.R.Revealed.shown c.args.revealed.now) c.requires.front
+    in omega (arith, c.in_err-rebuild_blocks.ensures.cost)
+
+pub returns-in_err-next-clause-cost : goal.returns-in_err-next-clause-cost
+returns-in_err-next-clause-cost g c =
+    let size : length (g.R.Revealed.shown c.args.revealed.now) ≡ c.args.k = front-length 0 c.args.k (g.R.Revealed.shown c.args.revealed.now) c.requires.front
+    in let leaves : length (g.R.Revealed.shown c.pass_next.new.revealed) ≡ 0 = ap length (c.pass_next.ensures.leaves ∙ c.in_ok-rebuild_blocks.ensures.whole.leaves_left)
+    in let left : length (g.R.Revealed.digests c.pass_next.new.revealed) ≡ length (g.R.Revealed.digests c.rebuild_blocks.new.revealed) - for_next (nat_lt (64 * c.div_ceil-blocks.result) c.args.f) = ap length c.pass_next.ensures.digests ∙ length-drop _ _
+    in omega (arith, c.in_ok-rebuild_blocks.ensures.cost, c.pass_next.ensures.cost, for-next-few (nat_lt (64 * c.div_ceil-blocks.result) c.args.f))
+
+pub returns-in-Some-clause-cost : goal.returns-in-Some-clause-cost
+returns-in-Some-clause-cost g c =
+    let size : length (g.R.Revealed.shown c.args.revealed.now) ≡ c.args.k = front-length 0 c.args.k (g.R.Revealed.shown c.args.revealed.now) c.requires.front
+    in let leaves : length (g.R.Revealed.shown c.pass_next.new.revealed) ≡ 0 = ap length (c.pass_next.ensures.leaves ∙ c.in_ok-rebuild_blocks.ensures.whole.leaves_left)
+    in let left : length (g.R.Revealed.digests c.pass_next.new.revealed) ≡ length (g.R.Revealed.digests c.rebuild_blocks.new.revealed) - for_next (nat_lt (64 * c.div_ceil-blocks.result) c.args.f) = ap length c.pass_next.ensures.digests ∙ length-drop _ _
+    in let leaves' : length (g.R.Revealed.shown c.pass_digest.new.self) ≡ 0 = ap length c.pass_digest.ensures.others ∙ leaves
+    in let left' : length (g.R.Revealed.digests c.pass_digest.new.self) ≡ length (g.R.Revealed.digests c.pass_next.new.revealed) - 1 = ap length c.pass_digest.ensures.passed ∙ length-drop _ _
+    in omega (
+      arith,
+      some-left _ _ c.in-Some.ensures.first,
+      c.in_ok-rebuild_blocks.ensures.cost,
+      c.pass_next.ensures.cost,
+      c.pass_digest.ensures.cost,
+    )
+
+pub returns-in-None-clause-cost : goal.returns-in-None-clause-cost
+returns-in-None-clause-cost g c =
+    let size : length (g.R.Revealed.shown c.args.revealed.now) ≡ c.args.k = front-length 0 c.args.k (g.R.Revealed.shown c.args.revealed.now) c.requires.front
+    in let leaves : length (g.R.Revealed.shown c.pass_next.new.revealed) ≡ 0 = ap length (c.pass_next.ensures.leaves ∙ c.in_ok-rebuild_blocks.ensures.whole.leaves_left)
+    in let left : length (g.R.Revealed.digests c.pass_next.new.revealed) ≡ length (g.R.Revealed.digests c.rebuild_blocks.new.revealed) - for_next (nat_lt (64 * c.div_ceil-blocks.result) c.args.f) = ap length c.pass_next.ensures.digests ∙ length-drop _ _
+    in let leaves' : length (g.R.Revealed.shown c.pass_digest.new.self) ≡ 0 = ap length c.pass_digest.ensures.others ∙ leaves
+    in let left' : length (g.R.Revealed.digests c.pass_digest.new.self) ≡ length (g.R.Revealed.digests c.pass_next.new.revealed) - 1 = ap length c.pass_digest.ensures.passed ∙ length-drop _ _
+    in let count : length c.rebuild_blocks.new.roots ≡ blocks_in (length (g.R.Revealed.shown c.args.revealed.now)) =
+    block-count g.H.HashKind.hash c.args.f (g.R.Revealed.shown c.args.revealed.now) (g.R.Revealed.shown c.rebuild_blocks.new.revealed) (g.R.Revealed.digests c.args.revealed.now) (g.R.Revealed.digests c.rebuild_blocks.new.revealed) _ c.in_ok-rebuild_blocks.ensures.whole
+    in let there : for_next (nat_lt (64 * c.div_ceil-blocks.result) c.args.f) ≤ length (g.R.Revealed.digests c.rebuild_blocks.new.revealed) = next-there (g.R.Revealed.digests c.rebuild_blocks.new.revealed) c.in_ok-next.next (nat_lt (64 * c.div_ceil-blocks.result) c.args.f) c.in_ok-next.ensures.value
+    in omega (
+      arith,
+      count,
+      there,
+      c.in_ok-rebuild_blocks.ensures.cost,
+      c.pass_next.ensures.cost,
+      c.pass_digest.ensures.cost,
+      c.link_blocks.ensures.cost,
+    )

@@ -7,7 +7,7 @@ use Rattle.ats_tree.specs.Part.{RisesFrom, shown_from}
 use Rattle.ats_lists.specs.Blocks.{blocks_in, items_in}
 use Rattle.ats_lists.specs.ChainPrefix.{block_root}
 use Rattle.ats_lists.proofs.Fronts.{front-rises}
-use Rattle.ats_lists.proofs.BlockLemmas.{taken-none, next-root, IsNextRoot, next-short, all-roots}
+use Rattle.ats_lists.proofs.BlockLemmas.{taken-none, next-root, IsNextRoot, next-short, all-roots, inner-next, inner-all, inner_before}
 use Rattle.ats_lists.proofs.chain_rebuilding.rebuild_blocks.Goals as goal
 
 pub loop-j-init : goal.loop-j-init
@@ -21,6 +21,7 @@ loop-j-init g c =
       enough = omega arith;
       size = refl;
       right = refl;
+      cost = omega arith;
       by_items = omega arith;
       by_places = omega arith;
     }
@@ -37,6 +38,16 @@ returns-in_err-roots-clause-short g c =
     in rw c.from_residual.ensures
     (next-short c.args.f c.loop-j.j c.min.result _ _ _ _ c.requires.front less c.min.ensures c.loop-j.invariant.leaves_left
     c.loop-j.invariant.digests_left c.in_err-roots.ensures.short)
+
+pub returns-in_err-roots-clause-cost : goal.returns-in_err-roots-clause-cost
+returns-in_err-roots-clause-cost g c =
+    let le : c.loop-j.j + 1 ≤ blocks_in (length (g.R.Revealed.shown c.args.revealed.now)) = omega arith
+    in rw c.from_residual.ensures (omega (
+      arith,
+      c.in_err-roots.ensures.cost,
+      inner-next c.args.f c.loop-j.j c.min.result (g.R.Revealed.shown c.args.revealed.now) _ c.loop-j.invariant.leaves_left c.min.ensures,
+      inner-all c.args.f (c.loop-j.j + 1) (g.R.Revealed.shown c.args.revealed.now) le,
+    ))
 
 pub returns-in_err-roots-clause-by_items : goal.returns-in_err-roots-clause-by_items
 returns-in_err-roots-clause-by_items g c = rw c.from_residual.ensures (omega (arith, c.in_err-roots.ensures.by_items))
@@ -58,6 +69,11 @@ loop-j-preserved g c =
       enough = next.enough;
       size = length-set _ _ _ ∙ c.loop-j.invariant.size;
       right = take_more_set _ _ _ inside ∙ rw (c.loop-j.invariant.right, next.value) (sym (map-range_with_len_more _ 0 c.loop-j.j c.loop-j.j (omega arith)));
+      cost = omega (
+        arith,
+        c.in_ok-roots.ensures.cost,
+        inner-next c.args.f c.loop-j.j c.min.result (g.R.Revealed.shown c.args.revealed.now) _ c.loop-j.invariant.leaves_left c.min.ensures,
+      );
       by_items = omega (arith, c.in_ok-roots.ensures.by_items);
       by_places = omega (arith, c.rebuild_part.ensures.by_places);
     }
@@ -68,3 +84,8 @@ returns-clause-whole g c =
     in let size : length c.loop-j.roots ≡ c.loop-j.j = omega arith
     in all-roots g.H.HashKind.hash c.args.f c.loop-j.j _ _ _ _ _ c.requires.front end size
     c.loop-j.invariant.leaves_left c.loop-j.invariant.digests_left c.loop-j.invariant.enough c.loop-j.invariant.right
+
+pub returns-clause-cost : goal.returns-clause-cost
+returns-clause-cost g c =
+    let le : c.loop-j.j ≤ blocks_in (length (g.R.Revealed.shown c.args.revealed.now)) = omega arith
+    in omega (arith, inner-all c.args.f c.loop-j.j (g.R.Revealed.shown c.args.revealed.now) le)

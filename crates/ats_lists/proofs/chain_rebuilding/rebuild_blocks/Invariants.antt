@@ -2,7 +2,7 @@ use Rattle.std.proofs.Common.{◌≡◌, ℕ, ◌+◌, ◌*◌, ◌≤◌, List,
 use Rattle.std.specs.List.{range_with_len}
 use Rattle.ats_tree.specs.Part.{shown_from}
 use Rattle.ats_lists.specs.ChainPrefix.{block_root}
-use Rattle.ats_lists.proofs.BlockLemmas.{taken}
+use Rattle.ats_lists.proofs.BlockLemmas.{taken, inner_before}
 use Rattle.ats_lists.proofs.chain_rebuilding.rebuild_blocks.Given as goal
 
 abbrev pub invariant-loop-j : goal.invariant-loop-j
@@ -14,6 +14,9 @@ invariant-loop-j g l = record {
   size : length l.roots ≡ length l.fn.roots;
   right : take l.j l.roots
       ≡ map (block_root g.H.HashKind.hash l.fn.f (g.R.Revealed.shown l.fn.revealed) (g.R.Revealed.digests l.fn.revealed)) (range_with_len 0 l.j);
+  cost : l.steps + 2 * length (g.R.Revealed.shown l.revealed) + length (g.R.Revealed.digests l.revealed)
+      ≤ l.fn.steps + 2 * length (g.R.Revealed.shown l.fn.revealed) + length (g.R.Revealed.digests l.fn.revealed)
+      + inner_before l.fn.f (g.R.Revealed.shown l.fn.revealed) l.j;
   by_items : l.steps + 3 * length (g.R.Revealed.shown l.revealed) + 2 * length (g.R.Revealed.digests l.revealed) + l.j
       ≤ l.fn.steps + 3 * length (g.R.Revealed.shown l.fn.revealed) + 2 * length (g.R.Revealed.digests l.fn.revealed);
   by_places : l.steps + l.j ≤ l.fn.steps + 3 * min l.fn.f (64 * l.j);
