@@ -158,7 +158,7 @@ below-part path turn (s ∷ ss) =
     (ap by_path (sym (append_assoc path (turn ∷ []) s.place))) (below-part path turn ss)
 
 -- a tree has no string past the digests that it needs
-strings-take : (H : List ℕ → List ℕ) (t : Tree (Option (List ℕ))) (m : ℕ) (ds : List (List ℕ)) → need t ≤ m
+pub strings-take : (H : List ℕ → List ℕ) (t : Tree (Option (List ℕ))) (m : ℕ) (ds : List (List ℕ)) → need t ≤ m
     → strings H t (take m ds) ≡ strings H t ds
 strings-take H empty m ds enough = refl
 strings-take H (leaf None) m ds enough = refl

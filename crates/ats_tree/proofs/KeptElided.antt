@@ -207,7 +207,7 @@ part-blank ds from n shown =
     (ap₂ (λ (h : ℕ) (xs : List (Option (List ℕ))). tree_within h xs) size (blank-places shown from n) ∙ within-blank (length os) os)
     ∙ places-blank 0 (tree_of os))
 
-place-of : (items : List (List ℕ)) (ps : List ℕ) → positions_of (shown_with items ps) ≡ ps
+pub place-of : (items : List (List ℕ)) (ps : List ℕ) → positions_of (shown_with items ps) ≡ ps
 place-of items [] = refl
 place-of items (p ∷ ps) = ap (λ (more : List ℕ). p ∷ more) (place-of items ps)
 

@@ -84,3 +84,11 @@ pub use Rattle.ats_tree.proofs.Differences.{moved_difference, difference-moved, 
 pub use Rattle.ats_tree.proofs.Bound.{own_place}
 -- a path that is cut from a number of its own length is that path
 pub use Rattle.ats_tree.proofs.NodeLemmas.{length-path_of, number_of-below, number_of-path_of, same_path, node-some}
+-- the tree of a part has the shape of the tree of as many leaves
+pub use Rattle.ats_tree.proofs.ShownParts.{part-shape}
+-- with its elided digests first, a tree has the digest and the strings of the tree whose leaves it shows
+pub use Rattle.ats_tree.proofs.ShownParts.{elided-first, elided-first-own}
+-- leaves of a list that are shown in a part agree with the leaves there, and it needs as many digests as are elided
+pub use Rattle.ats_tree.proofs.ShownParts.{part-own, part-elided}
+-- the positions of the shown leaves at given positions
+pub use Rattle.ats_tree.proofs.KeptElided.{place-of}

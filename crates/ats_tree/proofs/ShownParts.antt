@@ -1,6 +1,6 @@
 -- A part of a tree on its own: what a digest that is rebuilt for it says, and what it needs if its first leaves are
 -- shown.
-use Rattle.std.proofs.Common.{◌≡◌, ℕ, zero, suc, ◌+◌, ◌-◌, ◌^◌, ◌<◌, ◌≤◌, List, [], ◌∷◌, ◌++◌, length, take, drop, map, Bool, true, false, ◌&&◌, refl, sym, ◌∙◌, ap, arith, inl, inr, Option, Some, None, subst, MatchOption, All, IsSome}
+use Rattle.std.proofs.Common.{◌≡◌, ℕ, zero, suc, ◌+◌, ◌-◌, ◌^◌, ◌<◌, ◌≤◌, List, [], ◌∷◌, ◌++◌, length, take, drop, map, Bool, true, false, ◌&&◌, refl, sym, ◌∙◌, ap, arith, inl, inr, Option, Some, None, subst, MatchOption, All, IsSome, IfSome, get_or}
 use Rattle.std.specs.List.{slice_get, list_all}
 use Rattle.std.specs.Option.{is_none}
 use Rattle.std.proofs.Math.Nat.{two-pow-succ}
@@ -11,6 +11,7 @@ use Rattle.std.proofs.lemmas.List.Elements.{All-head, All-tail, recursion_from_A
 use Rattle.ats_tree.specs.Tree.{Tree, empty, leaf, node, tree_within, tree_of, digest_of, mth}
 use Rattle.ats_tree.specs.Shown.{Shown, shown_at, places}
 use Rattle.ats_tree.specs.Rebuild.{is_bare, need, digest_with}
+use Rattle.ats_tree.specs.Elided.{shown_with, elided_of}
 use Rattle.ats_tree.specs.Paths.{Path}
 use Rattle.ats_tree.specs.Differences.{Hashed, first_difference, IsOurs}
 use Rattle.ats_tree.specs.Strings.{strings, string_at}
@@ -18,8 +19,11 @@ use Rattle.ats_tree.proofs.Trees.{below_power, within-cut, within-suc, of-within
 use Rattle.ats_tree.proofs.Places.{length-places}
 use Rattle.ats_tree.proofs.Parts.{digest_with-take}
 use Rattle.ats_tree.proofs.Differences.{Collides}
-use Rattle.ats_tree.proofs.Bound.{SameShape, shape-within, Agrees, Fits, Sized, fits-within, fits-at, on_none, Bound, bound-tree, length-digest_of, length-digest_with}
+use Rattle.ats_tree.proofs.Bound.{SameShape, shape-within, Agrees, Fits, Sized, fits-within, fits-at, on_none, Bound, bound-tree, length-digest_of, length-digest_with, there-tree}
 use Rattle.ats_tree.proofs.NodeLemmas.{theirs-within}
+use Rattle.ats_tree.proofs.LawLemmas.{length-elided, elided-digest, agrees-within, fits-shown}
+use Rattle.ats_tree.proofs.OwnStrings.{elided-strings}
+use Rattle.ats_tree.proofs.Clashes.{strings-take}
 
 -- ---- the digest of a part
 
@@ -215,3 +219,44 @@ front-need h count os some short front =
 pub digest-full : (H : List ℕ → List ℕ) (t : Tree (Option (List ℕ))) (ds es : List (List ℕ)) → need t ≡ 0 → digest_with H t ds ≡ digest_with H t es
 digest-full H t ds es none =
     let le : need t ≤ 0 = omega arith in sym (digest_with-take H t 0 ds le) ∙ digest_with-take H t 0 es le
+
+-- ---- parts with the digests that they need, and others after these
+
+-- with its elided digests first, a tree has the digest of the tree whose leaves it shows
+pub elided-first : (H : List ℕ → List ℕ) (t : Tree (Option (List ℕ))) (u : Tree (List ℕ)) (es : List (List ℕ)) → SameShape t u → Agrees t u
+    → take (need t) es ≡ elided_of H t u → digest_with H t es ≡ digest_of H u
+elided-first H t u es shape agrees is =
+    let le : need t ≤ need t = omega arith
+    in sym (digest_with-take H t (need t) es le) ∙ ap (digest_with H t) is ∙ elided-digest H t u shape agrees
+
+own-there : (o : Option (List ℕ)) (text : List ℕ) → IfSome o (λ own. own ≡ text) → IsSome o → o ≡ Some text
+own-there None text own there = absurd (cc)
+own-there (Some own) text same there = ap Some same
+
+-- and its strings are those of that tree
+pub elided-first-own : (H : List ℕ → List ℕ) (t : Tree (Option (List ℕ))) (u : Tree (List ℕ)) (es : List (List ℕ)) → SameShape t u → Agrees t u
+    → take (need t) es ≡ elided_of H t u → All (λ s. string_at H u s.place ≡ Some s.text) (strings H t es)
+elided-first-own H t u es shape agrees is =
+    let le : need t ≤ need t = omega arith
+    in let Own : List (Hashed Path) → Type 0 = All (λ s. string_at H u s.place ≡ Some s.text)
+    in let ss : List (Hashed Path) = strings H t (elided_of H t u)
+    in let own : All (IsOurs (string_at H u)) ss = elided-strings H t u shape agrees
+    in let there : All (λ s. IsSome (string_at H u s.place)) ss = there-tree H t u (elided_of H t u) shape
+    in subst Own (ap (strings H t) (sym is) ∙ strings-take H t (need t) es le)
+    (λ k d less. own-there (string_at H u (get_or ss k d).place) (get_or ss k d).text (own k d less) (there k d less))
+
+-- leaves of a list that are shown in a part agree with the leaves there
+pub part-own : (leaves ys : List (List ℕ)) (ps : List ℕ) (from n : ℕ) → length ys ≡ n
+    → ((i : ℕ) → i < length ys → get_or ys i [] ≡ get_or leaves (from + i) [])
+    → Agrees (tree_of (places from n (shown_with leaves ps))) (tree_of ys)
+part-own leaves ys ps from n len same =
+    let os : List (Option (List ℕ)) = places from n (shown_with leaves ps)
+    in let size : length os ≡ length ys = omega (arith, length-places from n (shown_with leaves ps))
+    in let by_n : length os ≤ 2 ^ n = omega (arith, below_power n)
+    in let by_n' : length ys ≤ 2 ^ n = omega (arith, below_power n)
+    in rw (of-within n os by_n, of-within n ys by_n') (agrees-within n os ys size (fits-shown leaves ps from n ys same))
+
+-- the elided digests of a part are as many as it needs
+pub part-elided : (H : List ℕ → List ℕ) (from n : ℕ) (shown : List Shown) (ys : List (List ℕ)) → length ys ≡ n
+    → length (elided_of H (tree_of (places from n shown)) (tree_of ys)) ≡ need (tree_of (places from n shown))
+part-elided H from n shown ys len = length-elided H (tree_of (places from n shown)) (tree_of ys) (part-shape from n shown ys len)
