@@ -8,7 +8,7 @@ use Rattle.ats_tree.specs.Shown.{Shown}
 use Rattle.ats_lists.specs.Blocks.{blocks_in}
 use Rattle.ats_lists.specs.BlockRoots.{AreBlockRoots}
 use Rattle.ats_lists.specs.Chain.{no_block, chain_digest}
-use Rattle.ats_lists.specs.ChainPrefix.{block_need, block_root, has_next, chain_need, next_digest, chain_rebuilt}
+use Rattle.ats_lists.specs.ChainPrefix.{block_need, block_root, has_next, chain_need, next_digest, shown_from, chain_rebuilt}
 
 -- how many digests the next block takes
 abbrev pub for_next : Bool → ℕ
@@ -64,6 +64,11 @@ none-left H f shown shown₁ ds ds₁ ds₂ roots follows is same left some =
 
 -- ---- the digest
 
+pub chain-rebuilt : (H : List ℕ → List ℕ) (f : ℕ) (shown : List Shown) (ds : List (List ℕ)) → 1 ≤ length shown → length shown ≤ f
+    → length ds ≡ chain_need f shown → chain_rebuilt H f shown ds ≡ Some (shown_from H f shown ds 0)
+chain-rebuilt H f shown ds some within exact =
+    cond-true _ _ _ (and_from _ _ (and_from _ _ (le-leb 1 (length shown) some) (le-leb (length shown) f within)) (eq-eqb _ _ exact))
+
 -- the digest of the next block was there if one follows
 pub next-there : (ds₁ : List (List ℕ)) (next : List ℕ) (follows : Bool) → Some next ≡ (if follows then slice_get ds₁ 0 else Some no_block)
     → for_next follows ≤ length ds₁
@@ -91,9 +96,8 @@ chain-some H f shown shown₁ ds ds₁ ds₂ roots follows next x some within is
     in let needs : chain_need f shown ≡ block_need f shown + for_next follows = need-for f shown follows same
     in let gone : length ds₂ ≡ 0 = nothing_at ds₂ none
     in let exact : length ds ≡ chain_need f shown = omega (arith, is.enough)
-    in let meets : (nat_le 1 (length shown) && nat_le (length shown) f && nat_eq (length ds) (chain_need f shown)) ≡ true =
-    and_from _ _ (and_from _ _ (le-leb 1 (length shown) some) (le-leb (length shown) f within)) (eq-eqb _ _ exact)
-    in ap Some (value ∙ rw (is.value, next-is f shown ds ds₁ next follows is.digests_left same passed) refl) ∙ sym (cond-true _ _ _ meets)
+    in ap Some (value ∙ rw (is.value, next-is f shown ds ds₁ next follows is.digests_left same passed) refl)
+    ∙ sym (chain-rebuilt H f shown ds some within exact)
 
 -- no digest is left
 pub none-gone : (ds ds' : List (List ℕ)) → None ≡ slice_get ds 0 → ds' ≡ drop 1 ds → ds' ≡ []

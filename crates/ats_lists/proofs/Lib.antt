@@ -14,3 +14,4 @@ mod Fronts
 mod BlockLemmas
 mod ChainBinding
 mod ChainOutcomes
+mod ChainLaws

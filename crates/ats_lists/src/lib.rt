@@ -19,6 +19,7 @@
 #![tactic(auto)]
 
 mod building;
+mod chain_laws;
 mod chain_rebuilding;
 mod entry;
 mod format;
@@ -32,6 +33,7 @@ mod numbering;
 mod term_list;
 
 pub use building::ListsBuilder;
+pub use chain_laws::{chain_of_strings, chain_strings_have_numbers, first_leaves_suffice};
 pub use chain_rebuilding::chain_rebuild;
 pub use entry::Entry;
 pub use format::Format;
