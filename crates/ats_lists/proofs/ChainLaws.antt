@@ -1,8 +1,9 @@
 -- The laws of lists in blocks: how a list is cut, and what its own first leaves give.
-use Rattle.std.proofs.Common.{◌≡◌, ℕ, zero, suc, ◌+◌, ◌-◌, ◌*◌, ◌/◌, ◌^◌, ◌<◌, ◌≤◌, List, [], ◌∷◌, ◌++◌, length, map, take, drop, min, replicate, Bool, true, false, refl, sym, ◌∙◌, ap, ap₂, arith, inl, inr, Option, Some, None, subst, All, IsSome, get_or, nat_lt, if◌then◌else◌}
+use Rattle.std.proofs.Common.{◌≡◌, ℕ, zero, suc, ◌+◌, ◌-◌, ◌*◌, ◌/◌, ◌^◌, ◌<◌, ◌≤◌, List, [], ◌∷◌, ◌++◌, length, map, take, drop, min, replicate, Bool, true, false, refl, sym, ◌∙◌, ap, ap₂, arith, inl, inr, Option, Some, None, subst, All, IsSome, get_or, nat_lt, nat_eq, ◌%◌, if◌then◌else◌}
 use Rattle.std.specs.List.{range_with_len, flat_map}
 use Rattle.std.specs.Option.{is_none}
-use Rattle.std.proofs.lemmas.Bool.{cond-true, cond-false, cases_lt, cases_Bool, eq-eqb, ne_eqb, ltb-false}
+use Rattle.std.proofs.Math.Nat.{mod-eq_of_lt}
+use Rattle.std.proofs.lemmas.Bool.{cond-true, cond-false, cases_lt, cases_Bool, eq-eqb, ne_eqb, eqb-true, ltb-false, lt-ltb, le-ltb}
 use Rattle.std.proofs.lemmas.List.{length-take, length-drop, length-append, length-map, take_all, take_at, drop_at, drop-drop, drop_all, get_or-take, get_or-drop, get_or_at}
 use Rattle.std.proofs.lemmas.List.Elements.{All-append, All-map, All-nil, All-cons}
 use Rattle.std.proofs.lemmas.List.FromFn.{length-range_with_len}
@@ -10,13 +11,13 @@ use Rattle.ats_tree.specs.Tree.{Tree, tree_of, mth}
 use Rattle.ats_tree.specs.Shown.{Shown, positions_of, shown_at, places}
 use Rattle.ats_tree.specs.Rebuild.{need, digest_with, tree_of_places}
 use Rattle.ats_tree.specs.Elided.{shown_with, elided_of, elided_digests}
-use Rattle.ats_tree.specs.Nodes.{NodeNumbers}
-use Rattle.ats_tree.specs.Paths.{Path}
+use Rattle.ats_tree.specs.Nodes.{NodeNumbers, by_path}
+use Rattle.ats_tree.specs.Paths.{Path, path_of, number_of}
 use Rattle.ats_tree.specs.Strings.{strings, string_at}
 use Rattle.ats_tree.specs.Differences.{Hashed, moved}
-use Rattle.ats_tree.proofs.Public.{length-places, part-shape, part-own, part-elided, part-shallow, elided-first, elided-first-own, front-need, place-of}
+use Rattle.ats_tree.proofs.Public.{length-places, part-shape, part-own, part-elided, part-shallow, elided-first, elided-first-own, front-need, place-of, string-none, node-ours, length-path_of, number_of-path_of}
 use Rattle.ats_lists.specs.Blocks.{blocks_in, items_in, block, blocks_from}
-use Rattle.ats_lists.specs.Chain.{link, no_block, chain_digest, chain_from, chain, chain_link, chain_string, chain_elided}
+use Rattle.ats_lists.specs.Chain.{link, no_block, chain_digest, chain_from, chain, chain_link, chain_string, chain_elided, IsAtBlock}
 use Rattle.ats_lists.specs.ChainPrefix.{block_tree, last_shown, block_need, block_root, has_next, chain_need, next_digest, shown_from, chain_rebuilt, tree_strings, block_strings, chain_strings}
 use Rattle.ats_lists.proofs.Fronts.{front-length, front-places, front-past}
 use Rattle.ats_lists.proofs.BlockLemmas.{IsShownFront, shown-front, full-block}
@@ -340,3 +341,48 @@ first-own H ds k some within =
     in let count : 0 + blocks_in k ≡ blocks_in k = omega arith
     in let Own : ℕ → Type 0 = λ n. All (λ s. own_at H ds s.place ≡ Some s.text) (strings_from H (length ds) (first_shown ds k) (chain_elided H ds k) 0 n)
     in subst Own (sym size) (first-own-from H ds k some within (blocks_in k) 0 count)
+
+-- ---- where strings stand
+
+not_some : (o : Option (List ℕ)) → o ≡ None → IsSome o → ⊥
+not_some None none there = absurd (cc)
+not_some (Some x) none there = absurd (cc)
+
+-- a block with a string has a leaf
+block-there : (H : List ℕ → List ℕ) (ds : List (List ℕ)) (j : ℕ) (path : Path) → IsSome (string_at H (tree_of (block ds j)) path) → j < blocks_in (length ds)
+block-there H ds j path there =
+    elim (cases_lt j (blocks_in (length ds))) [
+      | inl less ↦ less
+      | inr past ↦
+          let none : length (block ds j) ≡ 0 = omega (arith, length-take 64 (drop (64 * j) ds), length-drop (64 * j) ds)
+          in absurd (not_some _ (string-none H (block ds j) path none) there)
+    ]
+
+pub strings-only : (H : List ℕ → List ℕ) (ds : List (List ℕ)) (depth turns : ℕ) → IsSome (chain_string H ds depth turns)
+    → (j : ℕ) × (j < blocks_in (length ds)) × IsAtBlock j depth turns
+strings-only H ds zero turns there =
+    let There : Option (List ℕ) → Type 0 = λ o. IsSome o
+    in elim (cases_Bool (nat_eq (turns % 64) 0)) [
+      | inl even ↦
+          let there' : IsSome (chain_link H ds (turns / 64)) = subst There (cond-true _ _ _ even) there
+          in let none : turns % 64 ≡ 0 = eqb-true (turns % 64) 0 even
+          in elim (cases_lt (turns / 64) (blocks_in (length ds))) [
+            | inl less ↦ (turns / 64, less, omega arith)
+            | inr past ↦ absurd (not_some _ (cond-false _ _ _ (le-ltb (turns / 64) (blocks_in (length ds)) past)) there')
+          ]
+      | inr odd ↦ absurd (not_some _ (cond-false _ _ _ odd) there)
+    ]
+strings-only H ds (suc depth) turns there =
+    let There : Option (List ℕ) → Type 0 = λ o. IsSome o
+    in let path : Path = path_of depth (turns % 64)
+    in let j : ℕ = turns / 64
+    in elim (cases_lt (turns % 64) (2 ^ depth)) [
+      | inl low ↦
+          let there' : IsSome (string_at H (tree_of (block ds j)) path) = subst There (cond-true _ _ _ (lt-ltb (turns % 64) (2 ^ depth) low)) there
+          in let few : length (block ds j) ≤ 2 ^ 6 = omega (arith, length-take 64 (drop (64 * j) ds))
+          in let size : length path ≡ depth = length-path_of depth (turns % 64)
+          in let shallow : length path ≤ 6 = node-ours H 6 (block ds j) (by_path path) few there'
+          in let number : number_of path ≡ turns % 64 = number_of-path_of depth (turns % 64) ∙ mod-eq_of_lt low
+          in (j, block-there H ds j path there', (path, size, omega arith, omega arith))
+      | inr high ↦ absurd (not_some _ (cond-false _ _ _ (le-ltb (turns % 64) (2 ^ depth) high)) there)
+    ]

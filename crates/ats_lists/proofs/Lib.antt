@@ -15,3 +15,4 @@ mod BlockLemmas
 mod ChainBinding
 mod ChainOutcomes
 mod ChainLaws
+mod FormatLemmas

@@ -1,9 +1,9 @@
 -- Lists of byte strings as chains of blocks: their digest, and the strings that are hashed for it. The string of a block
 -- contains the root of the block's tree and the digest of the next block.
-use Rattle.std.specs.Prelude.{ℕ, zero, suc, ◌+◌, ◌-◌, ◌*◌, ◌/◌, ◌%◌, ◌^◌, List, [], ◌∷◌, ◌++◌, map, length, replicate, ◌&&◌, nat_eq, nat_lt, if◌then◌else◌, Option, Some, None}
+use Rattle.std.specs.Prelude.{◌≡◌, ◌≤◌, ℕ, zero, suc, ◌+◌, ◌-◌, ◌*◌, ◌/◌, ◌%◌, ◌^◌, List, [], ◌∷◌, ◌++◌, map, length, replicate, ◌&&◌, nat_eq, nat_lt, if◌then◌else◌, Option, Some, None}
 use Rattle.std.specs.List.{flat_map, range_with_len}
 use Rattle.ats_tree.specs.Tree.{mth, tree_of}
-use Rattle.ats_tree.specs.Paths.{path_of}
+use Rattle.ats_tree.specs.Paths.{Path, path_of, number_of}
 use Rattle.ats_tree.specs.Strings.{string_at}
 use Rattle.ats_tree.specs.Elided.{elided_digests}
 use Rattle.ats_tree.specs.Kept.{kept_digests}
@@ -46,6 +46,11 @@ chain_string H leaves (suc depth) turns =
     if nat_lt (turns % 64) (2 ^ depth)
     then string_at H (tree_of (block leaves (turns / 64))) (path_of depth (turns % 64))
     else None
+
+-- these are the numbers of the string of block j, or of one of the nodes that its tree can have
+abbrev pub IsAtBlock : ℕ → ℕ → ℕ → Type 0
+IsAtBlock j zero turns = turns ≡ 64 * j
+IsAtBlock j (suc depth) turns = (path : Path) × (length path ≡ depth) × (depth ≤ 6) × (turns ≡ 64 * j + number_of path)
 
 -- the digests that the first `count` leaves of a list need: those of the last block of which some leaf is shown, and
 -- that of the next block, if there is one

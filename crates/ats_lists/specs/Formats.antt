@@ -1,7 +1,7 @@
 -- How a list stands in trees, by its format: its root, its strings, and what its first entries give.
-use Rattle.std.specs.Prelude.{ℕ, List, map, Option}
+use Rattle.std.specs.Prelude.{◌≡◌, ℕ, List, map, Option, Some, MatchOption, All, slice_get}
 use Rattle.std.specs.List.{range_with_len}
-use Rattle.ats_tree.specs.Differences.{Hashed, moved}
+use Rattle.ats_tree.specs.Differences.{Hashed, moved, Difference, first_difference}
 use Rattle.ats_tree.specs.Elided.{elided_digests}
 use Rattle.ats_tree.specs.Nodes.{NodeNumbers, by_path, numbers_of}
 use Rattle.ats_tree.specs.Paths.{path_of}
@@ -40,3 +40,16 @@ prefix_strings H Two total shown digests = chain_strings H total shown digests
 abbrev pub prefix_digests : (List ℕ → List ℕ) → Format → List Entry → ℕ → List (List ℕ)
 prefix_digests H One entries count = elided_digests H (map leaf_bytes entries) (range_with_len 0 count)
 prefix_digests H Two entries count = chain_elided H (map leaf_bytes entries) count
+
+-- the first string that is hashed for that root and that differs from the string there of the list
+abbrev pub list_difference : (List ℕ → List ℕ) → Format → ℕ → List Shown → List (List ℕ) → List Entry → Option (Difference NodeNumbers)
+list_difference H format total shown digests entries =
+    first_difference (list_string H format entries) (prefix_strings H format total shown digests)
+
+-- each shown leaf is that of the list at its position, or else the first string that differs from the list's has the
+-- digest of the string there
+abbrev pub IsListBoundTo : (List ℕ → List ℕ) → Format → ℕ → List Shown → List (List ℕ) → List Entry → Type 0
+IsListBoundTo H format total shown digests entries =
+    MatchOption (list_difference H format total shown digests entries)
+    (All (λ s. slice_get (map leaf_bytes entries) s.0 ≡ Some s.1) shown)
+    (λ c. H c.theirs ≡ H c.ours)

@@ -33,7 +33,9 @@ mod numbering;
 mod term_list;
 
 pub use building::ListsBuilder;
-pub use chain_laws::{chain_of_strings, chain_strings_have_numbers, first_leaves_suffice};
+pub use chain_laws::{
+    chain_of_strings, chain_strings_have_numbers, first_leaves_are_bound, first_leaves_suffice,
+};
 pub use chain_rebuilding::chain_rebuild;
 pub use entry::Entry;
 pub use format::Format;
