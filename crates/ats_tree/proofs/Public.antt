@@ -56,6 +56,8 @@ pub use Rattle.ats_tree.proofs.OwnStrings.{own-strings}
 pub use Rattle.ats_tree.proofs.OwnStrings.{own-shown}
 -- a tree of n leaves has 2n - 1 kept digests if n is at least 1
 pub use Rattle.ats_tree.proofs.KeptLemmas.{length-kept}
+-- kept digests have 32 bytes each and the number of a tree's nodes, and the first is that of the tree
+pub use Rattle.ats_tree.proofs.KeptLemmas.{sized-kept, is_node_list, kept-first}
 -- places from b on are the same if only the shown leaves from b on are left
 pub use Rattle.ats_tree.proofs.Places.{places-from}
 -- the shown leaves from c on, of those from b on, are those from c on

@@ -104,13 +104,7 @@ impl Nodes {
             → OnOk result (out.new ≡ out.old ++ elided_digests H leaves positions.now) }
         ensures err { OnErr result (out.new ≡ out.old) }
     {
-        let before = out.len();
-        let n = self.len() / 2 + 1;
-        let outcome = elide_kept(self.digests.as_slice(), 0, n, positions, out);
-        if outcome.is_err() {
-            out.truncate(before);
-        }
-        outcome
+        elide_kept(self.digests.as_slice(), positions, out)
     }
 
     /// Whether what is shown of a tree of `n` leaves is this tree's own, whose leaves these are. It only compares: nothing
@@ -168,7 +162,7 @@ fn places_of_nodes(alloc: Global, n: u32) -> Result<Vec<[u8; 32]>, OutOfMemory>
 
 /// Puts the digests of the tree of the `n` leaves from leaf `from` on in their places: its own first, then those of its
 /// left part, then those of its right part.
-pub(crate) fn keep_part<H: Hash32, L: Leaves>(
+pub fn keep_part<H: Hash32, L: Leaves>(
     leaves: &L,
     from: u32,
     n: u32,
@@ -195,9 +189,33 @@ pub(crate) fn keep_part<H: Hash32, L: Leaves>(
     own[0] = H::digest2(1, &left[0], &right[0], steps);
 }
 
+/// Appends, of the digests of all nodes of a tree, those of the maximal subtrees that hold none of the leaves at
+/// `positions`, from left to right. If there are no positions, that is only the root.
+pub fn elide_kept(
+    digests: &[[u8; 32]],
+    positions: &[u32],
+    out: &mut Digests,
+) -> Result<(), OutOfMemory>
+    requires nodes { IsNodeList digests.now }
+    requires rising { IsStrictlyIncreasing positions.now }
+    requires below { All (λ p. 2 * p + 1 ≤ length digests.now) positions.now }
+    ensures places { OnOk result (out.new ≡ out.old ++ elided_kept digests.now positions.now) }
+    ensures ok { (H : List ℕ → List ℕ) (leaves : List (List ℕ)) → digests.now ≡ kept_digests H leaves
+        → OnOk result (out.new ≡ out.old ++ elided_digests H leaves positions.now) }
+    ensures err { OnErr result (out.new ≡ out.old) }
+{
+    let before = out.len();
+    let n = digests.len() as u32 / 2 + 1;
+    let outcome = elide_kept_part(digests, 0, n, positions, out);
+    if outcome.is_err() {
+        out.truncate(before);
+    }
+    outcome
+}
+
 /// Appends the digests that the positions need of the part of `n` leaves from position `from` on, whose nodes have the
 /// first of these digests: its own first, then those of its left part, then those of its right part.
-fn elide_kept(
+fn elide_kept_part(
     digests: &[[u8; 32]],
     from: u32,
     n: u32,
@@ -220,7 +238,7 @@ fn elide_kept(
         let k = cut_of(n);
         let right = 2 * k as usize;
         let (before, after) = positions.split_at(count_below(positions, from + k));
-        elide_kept(&digests[1..], from, k, before, out)?;
-        elide_kept(&digests[right..], from + k, n - k, after, out)
+        elide_kept_part(&digests[1..], from, k, before, out)?;
+        elide_kept_part(&digests[right..], from + k, n - k, after, out)
     }
 }

@@ -21,7 +21,7 @@ pub trait ShortLeaves: Leaves {
 
 /// The string at the node to which the turns lead from the root of the part of `n` leaves from leaf `from` on, whose
 /// nodes have these digests: its own first, then those of its left part, then those of its right part.
-pub(crate) fn string_of_part<H: HashKind, L: ShortLeaves>(
+pub fn string_of_part<H: HashKind, L: ShortLeaves>(
     digests: &[[u8; 32]],
     leaves: &L,
     from: u32,

@@ -9,11 +9,11 @@ use Rattle.ats_tree.specs.Kept.{elided_part}
 use Rattle.ats_tree.proofs.ElidedLemmas.{front-rises, back-rises}
 use Rattle.ats_tree.proofs.KeptLemmas.{HasSize, front-front}
 use Rattle.ats_tree.proofs.KeptElided.{all-from, kept-none, kept-shown, kept-parts}
-use Rattle.ats_tree.proofs.keeping.+elide_kept.Goals as goal
+use Rattle.ats_tree.proofs.keeping.+elide_kept_part.Goals as goal
 
 -- what the left part requires
-pub elide_kept-requires : goal.elide_kept-requires
-elide_kept-requires t c =
+pub elide_kept_part-requires : goal.elide_kept_part-requires
+elide_kept_part-requires t c =
     let ds : List (List ℕ) = c.args.digests.now
     in let k : ℕ = c.cut_of-k.result
     in let some : 1 ≤ k = omega (arith, c.cut_of-k.ensures.below, c.cut_of-k.ensures.largest)
@@ -25,8 +25,8 @@ elide_kept-requires t c =
     in (omega arith, (some, (part.0, (part.1, (omega arith, rises)))))
 
 -- what the right part requires
-pub elide_kept-requires-else-n-eq1 : goal.elide_kept-requires-else-n-eq1
-elide_kept-requires-else-n-eq1 t c =
+pub elide_kept_part-requires-else-n-eq1 : goal.elide_kept_part-requires-else-n-eq1
+elide_kept_part-requires-else-n-eq1 t c =
     let ds : List (List ℕ) = c.args.digests.now
     in let k : ℕ = c.cut_of-k.result
     in let count : 2 * (c.args.n - k) ≤ length (drop (2 * k) ds) + 1 =
@@ -54,8 +54,8 @@ returns-then-n-eq1-clause-ok t c =
     (sym (append-nil c.args.out.now))
 
 -- two parts
-pub returns-in_ok-elide_kept-clause-ok : goal.returns-in_ok-elide_kept-clause-ok
-returns-in_ok-elide_kept-clause-ok t c =
+pub returns-in_ok-elide_kept_part-clause-ok : goal.returns-in_ok-elide_kept_part-clause-ok
+returns-in_ok-elide_kept_part-clause-ok t c =
     let ps : List ℕ = c.args.positions.now
     in let ds : List (List ℕ) = c.args.digests.now
     in let k : ℕ = c.cut_of-k.result
@@ -70,13 +70,13 @@ returns-in_ok-elide_kept-clause-ok t c =
     rw (c.split_at.ensures.front, c.split_at.ensures.back, all-from 1 ds, all-from (2 * k) ds)
     (kept-parts ds [] c.args.from k c.args.n c.count_below.result ps c.count_below.ensures.value
     c.cut_of-k.ensures.power part c.cut_of-k.ensures.below c.cut_of-k.ensures.largest some c.requires.rising)
-    in let joined : c.elide_kept.new.out ++ right ≡ c.args.out.now ++ whole =
-    ap (λ z. z ++ right) {y = c.args.out.now ++ left} c.in_ok-elide_kept.ensures.ok
+    in let joined : c.elide_kept_part.new.out ++ right ≡ c.args.out.now ++ whole =
+    ap (λ z. z ++ right) {y = c.args.out.now ++ left} c.in_ok-elide_kept_part.ensures.ok
     ∙ append_assoc c.args.out.now left right
     ∙ ap (λ z. c.args.out.now ++ z) (sym both)
-    in let Holds : List (List ℕ) → Type 0 = λ z. OnOk c.elide_kept-else-n-eq1.result (c.elide_kept-else-n-eq1.new.out ≡ z)
-    in subst Holds joined c.elide_kept-else-n-eq1.ensures.ok
+    in let Holds : List (List ℕ) → Type 0 = λ z. OnOk c.elide_kept_part-else-n-eq1.result (c.elide_kept_part-else-n-eq1.new.out ≡ z)
+    in subst Holds joined c.elide_kept_part-else-n-eq1.ensures.ok
 
-pub returns-in_ok-elide_kept-clause-front : goal.returns-in_ok-elide_kept-clause-front
-returns-in_ok-elide_kept-clause-front t c =
-    front-front c.args.out.now c.elide_kept.new.out c.elide_kept-else-n-eq1.new.out c.in_ok-elide_kept.ensures.front c.elide_kept-else-n-eq1.ensures.front
+pub returns-in_ok-elide_kept_part-clause-front : goal.returns-in_ok-elide_kept_part-clause-front
+returns-in_ok-elide_kept_part-clause-front t c =
+    front-front c.args.out.now c.elide_kept_part.new.out c.elide_kept_part-else-n-eq1.new.out c.in_ok-elide_kept_part.ensures.front c.elide_kept_part-else-n-eq1.ensures.front
