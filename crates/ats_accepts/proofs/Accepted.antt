@@ -1,22 +1,14 @@
--- The honest proof over any archive is accepted.
+-- What the bytes of an honest proof spell is accepted.
 use Rattle.std.proofs.Common.{◌≡◌, ◌≤◌, ℕ, List, length, subst, ap, arith}
 use Rattle.ats_dict.specs.declared.header.Header.{Header}
 use Rattle.ats_commit.specs.Archive.{Archive}
 use Rattle.ats_commit.specs.Root.{root_of}
-use Rattle.ats_commit.proofs.Public.{each_archive}
 use Rattle.ats_proof.specs.declared.record.Algorithm.{Algorithm}
-use Rattle.ats_proof.specs.declared.record.Algorithm.TheVariants.{Tra}
 use Rattle.ats_proof.specs.Value.{Proof, IsProof}
 use Rattle.ats_proof.proofs.Public.{in_range, one_value}
 use Rattle.ats_client.specs.Accepts.{Accepts}
-use Rattle.ats_honest.specs.Honest.{IsHonest, IsProved}
+use Rattle.ats_honest.specs.Honest.{IsProved}
 use Rattle.ats_accepts.proofs.AcceptedRows.{honest_accepted}
-
-pub either_accepted : (H : List ℕ → List ℕ) (archive : Archive) (query : List (List ℕ × ℕ)) (r : ℕ) (algorithm : Algorithm) (proof : Proof)
-    → (algorithm ≡ Tra → 1 ≤ length archive.texts) → IsHonest H archive query r algorithm proof → Accepts H (root_of H archive) query r proof
-either_accepted H archive query r algorithm proof =
-    each_archive (λ a. (algorithm ≡ Tra → 1 ≤ length a.texts) → IsHonest H a query r algorithm proof → Accepts H (root_of H a) query r proof)
-    (λ texts. honest_accepted H texts query r algorithm proof) archive
 
 -- a header in bytes has at least one document
 pub has_documents : (H : List ℕ → List ℕ) (archive : Archive) (query : List (List ℕ × ℕ)) (r : ℕ) (algorithm : Algorithm) (bytes : List ℕ)
@@ -31,4 +23,4 @@ pub proved_accepted : (H : List ℕ → List ℕ) (archive : Archive) (query : L
     → IsProved H archive query r algorithm bytes → (proof : Proof) → IsProof bytes proof → Accepts H (root_of H archive) query r proof
 proved_accepted H archive query r algorithm bytes is proof says =
     subst (Accepts H (root_of H archive) query r) (one_value bytes is.proof proof is.spells says)
-    (either_accepted H archive query r algorithm is.proof (λ tra. has_documents H archive query r algorithm bytes is) is.honest)
+    (honest_accepted H archive query r algorithm is.proof (λ tra. has_documents H archive query r algorithm bytes is) is.honest)

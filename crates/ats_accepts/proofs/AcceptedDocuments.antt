@@ -12,9 +12,7 @@ use Rattle.ats_dict.specs.declared.header.Header.{Header}
 use Rattle.ats_doctree.specs.Impacts.{doc_terms, text_terms}
 use Rattle.ats_doctree.specs.Sentinels.{terms_leaves}
 use Rattle.ats_doctree.specs.declared.doc_leaf.DocLeaf.{DocLeaf}
-use Rattle.ats_commit.specs.Archive.{archive_of}
 use Rattle.ats_commit.specs.Ours.{asked_term}
-use Rattle.ats_commit.specs.Root.{header_parts}
 use Rattle.ats_commit.specs.Trees.{documents_leaf, documents_of, leaf_of}
 use Rattle.ats_proof.specs.declared.record.Algorithm.{Algorithm}
 use Rattle.ats_proof.specs.declared.record.Algorithm.TheVariants.{Tra, Tnra}
@@ -58,17 +56,17 @@ module _ (H : List ℕ → List ℕ) (texts : List (List ℕ)) where
       ∙ positions_rebuild H leaves met (omega (arith, size, some)) rise (λ k d inside. omega (arith, low k d inside, size))
 
   module _ (terms : List (List ℕ × ℕ)) where
-    pub honest_tree : (algorithm : Algorithm) (met : List ℕ) (docs : Option Documents) (header : Header) → header ≡ header_parts H (archive_of texts)
+    pub honest_tree : (algorithm : Algorithm) (met : List ℕ) (docs : Option Documents) (header : Header) → header.documents ≡ length texts → header.docs_root ≡ mth H (documents_of H texts)
         → HasDocuments algorithm H texts terms met docs → (algorithm ≡ Tra → 1 ≤ length texts) → IsStrictlyIncreasing met → All (λ doc. doc < length texts) met
         → AreDocsRooted H header met docs
-    honest_tree Tnra met None header own has some rise low = tt
-    honest_tree Tnra met (Some docs) header own has some rise low = absurd (cc)
-    honest_tree Tra met None header own has some rise low = absurd has
-    honest_tree Tra met (Some docs) header own has some rise low =
-        ap (λ (h : Header). rebuilt H h.documents (shown_docs met docs.leaves) docs.digests) own
+    honest_tree Tnra met None header many root has some rise low = tt
+    honest_tree Tnra met (Some docs) header many root has some rise low = absurd (cc)
+    honest_tree Tra met None header many root has some rise low = absurd has
+    honest_tree Tra met (Some docs) header many root has some rise low =
+        ap (λ (n : ℕ). rebuilt H n (shown_docs met docs.leaves) docs.digests) many
         ∙ ap₂ (λ (leaves : List DocLeaf) (digests : List (List ℕ)). rebuilt H (length texts) (shown_docs met leaves) digests) has.leaves has.digests
         ∙ documents_rebuild met (some refl) rise low
-        ∙ ap (λ (h : Header). Some h.docs_root) (sym own)
+        ∙ ap Some (sym root)
 
     -- ---- their terms
 

@@ -8,7 +8,6 @@ use Rattle.std.proofs.lemmas.List.Elements.{All-cons, All-head, All-tail}
 use Rattle.std.proofs.lemmas.List.Folds.{list_any_at}
 use Rattle.ats_impact.specs.Numbers.{idf}
 use Rattle.ats_impact.specs.Rank.{times}
-use Rattle.ats_tree.specs.Tree.{mth}
 use Rattle.ats_tree.specs.Shown.{Shown}
 use Rattle.ats_tree.specs.Rebuild.{rebuilt}
 use Rattle.ats_tree.specs.Elided.{elided_digests, shown_with}
@@ -19,8 +18,8 @@ use Rattle.ats_lists.specs.declared.entry.Entry.{Entry}
 use Rattle.ats_lists.proofs.Public.{list_frequency}
 use Rattle.ats_dict.specs.declared.spot.Spot.{Spot}
 use Rattle.ats_dict.specs.declared.spot.Spot.TheVariants.{At, Between}
-use Rattle.ats_lists.specs.Layout.{whole_lists}
-use Rattle.ats_commit.specs.Archive.{archive_of}
+use Rattle.ats_lists.specs.Layout.{Layout, whole_lists}
+use Rattle.ats_commit.specs.Archive.{Archive, list_root}
 use Rattle.ats_commit.specs.Trees.{dictionary_of}
 use Rattle.ats_bound.specs.Cut.{ShownLane, lane_of as shown_lane, names}
 use Rattle.ats_bound.specs.Settled.{AreDistinct}
@@ -104,40 +103,40 @@ differing_once (x ∷ xs) differ n =
 -- ---- the fronts that a proof shows
 
 -- a present term shows the front of a lane, and its entry in the dictionary has the lane's length and root
-pub record IsFront (H : List ℕ → List ℕ) (documents : ℕ) (met : List ℕ) (lane : WholeLane) (count : ℕ) (term : Presented) : Type 0 where
+pub record IsFront (H : List ℕ → List ℕ) (layout : Layout) (documents : ℕ) (met : List ℕ) (lane : WholeLane) (count : ℕ) (term : Presented) : Type 0 where
   pub weighs : term.weight * idf documents term.entry.f ≡ lane.coefficient
   pub size : term.entry.f ≡ length lane.entries
-  pub root : term.entry.root ≡ mth H (map leaf_bytes lane.entries)
-  pub front : term.prefix ≡ prefix_of H whole_lists met lane.entries count
+  pub root : term.entry.root ≡ list_root H layout lane.entries
+  pub front : term.prefix ≡ prefix_of H layout met lane.entries count
 
 -- the present terms show the fronts of the lanes, as many entries as the cut says
-abbrev pub AreFronts : (List ℕ → List ℕ) → ℕ → List ℕ → List WholeLane → List ℕ → List Presented → Type 0
-AreFronts H documents met [] cut [] = Unit {0}
-AreFronts H documents met [] cut (term ∷ terms) = ⊥
-AreFronts H documents met (lane ∷ lanes) [] terms = ⊥
-AreFronts H documents met (lane ∷ lanes) (count ∷ cut) [] = ⊥
-AreFronts H documents met (lane ∷ lanes) (count ∷ cut) (term ∷ terms) = IsFront H documents met lane count term × AreFronts H documents met lanes cut terms
+abbrev pub AreFronts : (List ℕ → List ℕ) → Layout → ℕ → List ℕ → List WholeLane → List ℕ → List Presented → Type 0
+AreFronts H layout documents met [] cut [] = Unit {0}
+AreFronts H layout documents met [] cut (term ∷ terms) = ⊥
+AreFronts H layout documents met (lane ∷ lanes) [] terms = ⊥
+AreFronts H layout documents met (lane ∷ lanes) (count ∷ cut) [] = ⊥
+AreFronts H layout documents met (lane ∷ lanes) (count ∷ cut) (term ∷ terms) = IsFront H layout documents met lane count term × AreFronts H layout documents met lanes cut terms
 
 -- ---- what a proof shows of the terms
 
 -- the present terms from a number on show the fronts of these lanes
-abbrev pub Show : (List ℕ → List ℕ) → List (List ℕ) → List ℕ → List ℕ → ℕ → List (List ℕ × ℕ) → List Spot → List WholeLane → Type 0
-Show H texts met positions number query spots lanes = (cut : List ℕ) → length cut ≡ length lanes
-    → AreFronts H (length texts) met lanes cut
-    (presented_from (map (shown_entry (dictionary_of H (archive_of texts))) positions) number query (map (slot_of positions) spots) (prefixes H whole_lists met lanes cut))
+abbrev pub Show : (List ℕ → List ℕ) → Archive → List ℕ → List ℕ → ℕ → List (List ℕ × ℕ) → List Spot → List WholeLane → Type 0
+Show H archive met positions number query spots lanes = (cut : List ℕ) → length cut ≡ length lanes
+    → AreFronts H archive.layout (length archive.texts) met lanes cut
+    (presented_from (map (shown_entry (dictionary_of H archive)) positions) number query (map (slot_of positions) spots) (prefixes H archive.layout met lanes cut))
 
-show_none : (H : List ℕ → List ℕ) (texts : List (List ℕ)) (met positions : List ℕ) (number : ℕ) → Show H texts met positions number [] [] []
-show_none H texts met positions number [] same = tt
-show_none H texts met positions number (count ∷ cut) same = absurd (omega (arith, same))
+show_none : (H : List ℕ → List ℕ) (archive : Archive) (met positions : List ℕ) (number : ℕ) → Show H archive met positions number [] [] []
+show_none H archive met positions number [] same = tt
+show_none H archive met positions number (count ∷ cut) same = absurd (omega (arith, same))
 
 -- a present term more
-show_one : (H : List ℕ → List ℕ) (texts : List (List ℕ)) (met positions : List ℕ) (number p : ℕ) (pair : List ℕ × ℕ) (query : List (List ℕ × ℕ)) (spots : List Spot) (lanes : List WholeLane)
-    → IsOwnEntry H texts pair.0 (client.entry_at (map (shown_entry (dictionary_of H (archive_of texts))) positions) (place positions p))
-    → Show H texts met positions (number + 1) query spots lanes → Show H texts met positions number (pair ∷ query) (At p ∷ spots) (lane_of texts pair ∷ lanes)
-show_one H texts met positions number p pair query spots lanes entry rest [] same = absurd (omega (arith, same))
-show_one H texts met positions number p pair query spots lanes entry rest (count ∷ cut) same = (
+show_one : (H : List ℕ → List ℕ) (archive : Archive) (met positions : List ℕ) (number p : ℕ) (pair : List ℕ × ℕ) (query : List (List ℕ × ℕ)) (spots : List Spot) (lanes : List WholeLane)
+    → IsOwnEntry H archive pair.0 (client.entry_at (map (shown_entry (dictionary_of H archive)) positions) (place positions p))
+    → Show H archive met positions (number + 1) query spots lanes → Show H archive met positions number (pair ∷ query) (At p ∷ spots) (lane_of archive.texts pair ∷ lanes)
+show_one H archive met positions number p pair query spots lanes entry rest [] same = absurd (omega (arith, same))
+show_one H archive met positions number p pair query spots lanes entry rest (count ∷ cut) same = (
   record {
-    weighs = ap (λ (f : ℕ). pair.1 * idf (length texts) f) (entry.number ∙ list_frequency texts pair.0);
+    weighs = ap (λ (f : ℕ). pair.1 * idf (length archive.texts) f) (entry.number ∙ list_frequency archive.texts pair.0);
     size = entry.number;
     root = entry.root;
     front = refl;
@@ -145,41 +144,41 @@ show_one H texts met positions number p pair query spots lanes entry rest (count
   rest cut (omega (arith, same)),
 )
 
-pub show_terms : (H : List ℕ → List ℕ) (texts : List (List ℕ)) (met positions : List ℕ) (number : ℕ) (query : List (List ℕ × ℕ)) (spots : List Spot)
-    → IsStrictlyIncreasing positions → AreSpots (dictionary_of H (archive_of texts)) query spots → AreShown spots positions
-    → Show H texts met positions number query spots (lanes_of texts query)
-show_terms H texts met positions number [] [] rise found are = show_none H texts met positions number
-show_terms H texts met positions number [] (spot ∷ spots) rise found are = absurd found
-show_terms H texts met positions number (pair ∷ query) [] rise found are = absurd found
-show_terms H texts met positions number (pair ∷ query) (At p ∷ spots) rise found are =
-    let entry = honest_entry H texts positions pair.0 (At p) rise (shown_first (At p) spots positions are) found.0 refl in
-    subst (Show H texts met positions number (pair ∷ query) (At p ∷ spots)) (sym (with_lane texts pair query (honest_present H texts positions pair (At p) found.0)))
-    (show_one H texts met positions number p pair query spots (lanes_of texts query) entry
-    (show_terms H texts met positions (number + 1) query spots rise found.1 (shown_rest (At p) spots positions are)))
-show_terms H texts met positions number (pair ∷ query) (Between p ∷ spots) rise found are =
-    subst (Show H texts met positions number (pair ∷ query) (Between p ∷ spots)) (sym (with_none texts pair query (honest_present H texts positions pair (Between p) found.0)))
-    (show_terms H texts met positions (number + 1) query spots rise found.1 (shown_rest (Between p) spots positions are))
+pub show_terms : (H : List ℕ → List ℕ) (archive : Archive) (met positions : List ℕ) (number : ℕ) (query : List (List ℕ × ℕ)) (spots : List Spot)
+    → IsStrictlyIncreasing positions → AreSpots (dictionary_of H archive) query spots → AreShown spots positions
+    → Show H archive met positions number query spots (lanes_of archive.texts query)
+show_terms H archive met positions number [] [] rise found are = show_none H archive met positions number
+show_terms H archive met positions number [] (spot ∷ spots) rise found are = absurd found
+show_terms H archive met positions number (pair ∷ query) [] rise found are = absurd found
+show_terms H archive met positions number (pair ∷ query) (At p ∷ spots) rise found are =
+    let entry = honest_entry H archive positions pair.0 (At p) rise (shown_first (At p) spots positions are) found.0 refl in
+    subst (Show H archive met positions number (pair ∷ query) (At p ∷ spots)) (sym (with_lane archive.texts pair query (honest_present H archive positions pair (At p) found.0)))
+    (show_one H archive met positions number p pair query spots (lanes_of archive.texts query) entry
+    (show_terms H archive met positions (number + 1) query spots rise found.1 (shown_rest (At p) spots positions are)))
+show_terms H archive met positions number (pair ∷ query) (Between p ∷ spots) rise found are =
+    subst (Show H archive met positions number (pair ∷ query) (Between p ∷ spots)) (sym (with_none archive.texts pair query (honest_present H archive positions pair (Between p) found.0)))
+    (show_terms H archive met positions (number + 1) query spots rise found.1 (shown_rest (Between p) spots positions are))
 
 -- ---- what they make of the cut
 
-front_lane : (H : List ℕ → List ℕ) (documents : ℕ) (met : List ℕ) (lane : WholeLane) (count : ℕ) (term : Presented) → IsFront H documents met lane count term
+front_lane : (H : List ℕ → List ℕ) (layout : Layout) (documents : ℕ) (met : List ℕ) (lane : WholeLane) (count : ℕ) (term : Presented) → IsFront H layout documents met lane count term
     → All (IsEntryIn met) (take count lane.entries) → client.lane_of documents met term ≡ shown_lane lane.coefficient lane.entries count
-front_lane H documents met lane count term is are =
+front_lane H layout documents met lane count term is are =
     let entries = ap (λ (p : Prefix). map (named met) p.entries) is.front ∙ entries_back met (take count lane.entries) are in
     ap (λ (c : ℕ). let l : ShownLane = record { coefficient = c; total = term.entry.f; shown = map (named met) term.prefix.entries } in l) is.weighs
     ∙ ap₂ (λ (n : ℕ) (es : List Entry). let l : ShownLane = record { coefficient = lane.coefficient; total = n; shown = es } in l) is.size entries
 
 -- the lanes that a check makes of them are those of the cut
-pub front_lanes : (H : List ℕ → List ℕ) (documents : ℕ) (met : List ℕ) (lanes : List WholeLane) (cut : List ℕ) (terms : List Presented) → AreFronts H documents met lanes cut terms
+pub front_lanes : (H : List ℕ → List ℕ) (layout : Layout) (documents : ℕ) (met : List ℕ) (lanes : List WholeLane) (cut : List ℕ) (terms : List Presented) → AreFronts H layout documents met lanes cut terms
     → AreIn met (shown lanes cut) → map (client.lane_of documents met) terms ≡ shown lanes cut
-front_lanes H documents met [] cut [] fronts are = refl
-front_lanes H documents met [] cut (term ∷ terms) fronts are = absurd fronts
-front_lanes H documents met (lane ∷ lanes) [] terms fronts are = absurd fronts
-front_lanes H documents met (lane ∷ lanes) (count ∷ cut) [] fronts are = absurd fronts
-front_lanes H documents met (lane ∷ lanes) (count ∷ cut) (term ∷ terms) fronts are =
+front_lanes H layout documents met [] cut [] fronts are = refl
+front_lanes H layout documents met [] cut (term ∷ terms) fronts are = absurd fronts
+front_lanes H layout documents met (lane ∷ lanes) [] terms fronts are = absurd fronts
+front_lanes H layout documents met (lane ∷ lanes) (count ∷ cut) [] fronts are = absurd fronts
+front_lanes H layout documents met (lane ∷ lanes) (count ∷ cut) (term ∷ terms) fronts are =
     let here : ShownLane = shown_lane lane.coefficient lane.entries count in
-    ap₂ (λ x xs. x ∷ xs) (front_lane H documents met lane count term fronts.0 (first_in met here (shown lanes cut) are))
-    (front_lanes H documents met lanes cut terms fronts.1 (later_in met here (shown lanes cut) are))
+    ap₂ (λ x xs. x ∷ xs) (front_lane H layout documents met lane count term fronts.0 (first_in met here (shown lanes cut) are))
+    (front_lanes H layout documents met lanes cut terms fronts.1 (later_in met here (shown lanes cut) are))
 
 -- ---- the leaves that they show
 
@@ -197,10 +196,10 @@ shown_from met leaves at (e ∷ es) are same =
     ap (λ (k : ℕ). get_or leaves k []) next ∙ same (suc i) d (omega (arith, inside))))
 
 -- its leaves are the first of the list
-pub front_shown : (H : List ℕ → List ℕ) (documents : ℕ) (met : List ℕ) (lane : WholeLane) (count : ℕ) (term : Presented) → IsFront H documents met lane count term
+pub front_shown : (H : List ℕ → List ℕ) (layout : Layout) (documents : ℕ) (met : List ℕ) (lane : WholeLane) (count : ℕ) (term : Presented) → IsFront H layout documents met lane count term
     → count ≤ length lane.entries → All (IsEntryIn met) (take count lane.entries)
     → shown_list 0 met term.prefix.entries ≡ shown_with (map leaf_bytes lane.entries) (range_with_len 0 count)
-front_shown H documents met lane count term is within are =
+front_shown H layout documents met lane count term is within are =
     let es : List Entry = take count lane.entries in
     let leaves : List (List ℕ) = map leaf_bytes lane.entries in
     let many : length es ≡ count = length-take-le count lane.entries within in
@@ -212,14 +211,14 @@ front_shown H documents met lane count term is within are =
     ∙ ap (λ (k : ℕ). shown_with leaves (range_with_len 0 k)) many
 
 -- what a front rebuilds to
-front_root : (H : List ℕ → List ℕ) (documents n : ℕ) (met : List ℕ) (lane : WholeLane) (count : ℕ) (term : Presented) → IsFront H documents met lane count term
-    → IsList n lane.entries → count ≤ length lane.entries → All (IsEntryIn met) (take count lane.entries) → list_digest H whole_lists met term ≡ Some term.entry.root
-front_root H documents n met lane count term is own within are =
+front_root : (H : List ℕ → List ℕ) (layout : Layout) (documents n : ℕ) (met : List ℕ) (lane : WholeLane) (count : ℕ) (term : Presented) → IsFront H layout documents met lane count term
+    → IsList n lane.entries → count ≤ length lane.entries → All (IsEntryIn met) (take count lane.entries) → list_digest H layout met term ≡ Some term.entry.root
+front_root H whole_lists documents n met lane count term is own within are =
     let leaves : List (List ℕ) = map leaf_bytes lane.entries in
     let size : length leaves ≡ length lane.entries = length-map lane.entries leaf_bytes in
     let digests : List (List ℕ) = elided_digests H leaves (range_with_len 0 count) in
     ap (λ (p : Prefix). rebuilt H term.entry.f (shown_list 0 met term.prefix.entries) p.digests) is.front
-    ∙ ap₂ (λ (k : ℕ) (s : List Shown). rebuilt H k s digests) (is.size ∙ sym size) (front_shown H documents met lane count term is within are)
+    ∙ ap₂ (λ (k : ℕ) (s : List Shown). rebuilt H k s digests) (is.size ∙ sym size) (front_shown H whole_lists documents met lane count term is within are)
     ∙ elided-rebuilds H leaves (range_with_len 0 count) (omega (arith, size, own.some))
     (within-increasing (length leaves) (range_with_len 0 count) (range_rises count) (range_below count (length leaves) (omega (arith, size, within))))
     ∙ ap Some (sym is.root)
@@ -251,23 +250,23 @@ front_names n met entries count own within are =
           own.once i j none less (omega (arith, low, many, within)) (ap (λ (e : Entry). e.doc) (sym first) ∙ docs ∙ ap (λ (e : Entry). e.doc) second));
     }
 
-front_right : (H : List ℕ → List ℕ) (documents n : ℕ) (met : List ℕ) (lane : WholeLane) (count : ℕ) (term : Presented) → IsFront H documents met lane count term
-    → IsList n lane.entries → count ≤ length lane.entries → All (IsEntryIn met) (take count lane.entries) → IsListRight H whole_lists met term
-front_right H documents n met lane count term is own within are = record {
+front_right : (H : List ℕ → List ℕ) (layout : Layout) (documents n : ℕ) (met : List ℕ) (lane : WholeLane) (count : ℕ) (term : Presented) → IsFront H layout documents met lane count term
+    → IsList n lane.entries → count ≤ length lane.entries → All (IsEntryIn met) (take count lane.entries) → IsListRight H layout met term
+front_right H layout documents n met lane count term is own within are = record {
   names = subst (λ (p : Prefix). AreNames (length met) (indexes_of p.entries)) (sym is.front) (front_names n met lane.entries count own within are);
-  root = front_root H documents n met lane count term is own within are;
+  root = front_root H layout documents n met lane count term is own within are;
 }
 
 -- the check accepts them
-pub fronts_right : (H : List ℕ → List ℕ) (documents n : ℕ) (met : List ℕ) (lanes : List WholeLane) (cut : List ℕ) (terms : List Presented) → AreFronts H documents met lanes cut terms
-    → All (HasList n) lanes → IsCut lanes cut → AreIn met (shown lanes cut) → All (IsListRight H whole_lists met) terms
-fronts_right H documents n met [] cut [] fronts lists is are = λ k d inside. absurd (omega (arith, inside))
-fronts_right H documents n met [] cut (term ∷ terms) fronts lists is are = absurd fronts
-fronts_right H documents n met (lane ∷ lanes) [] terms fronts lists is are = absurd fronts
-fronts_right H documents n met (lane ∷ lanes) (count ∷ cut) [] fronts lists is are = absurd fronts
-fronts_right H documents n met (lane ∷ lanes) (count ∷ cut) (term ∷ terms) fronts lists is are =
+pub fronts_right : (H : List ℕ → List ℕ) (layout : Layout) (documents n : ℕ) (met : List ℕ) (lanes : List WholeLane) (cut : List ℕ) (terms : List Presented) → AreFronts H layout documents met lanes cut terms
+    → All (HasList n) lanes → IsCut lanes cut → AreIn met (shown lanes cut) → All (IsListRight H layout met) terms
+fronts_right H layout documents n met [] cut [] fronts lists is are = λ k d inside. absurd (omega (arith, inside))
+fronts_right H layout documents n met [] cut (term ∷ terms) fronts lists is are = absurd fronts
+fronts_right H layout documents n met (lane ∷ lanes) [] terms fronts lists is are = absurd fronts
+fronts_right H layout documents n met (lane ∷ lanes) (count ∷ cut) [] fronts lists is are = absurd fronts
+fronts_right H layout documents n met (lane ∷ lanes) (count ∷ cut) (term ∷ terms) fronts lists is are =
     let here : ShownLane = shown_lane lane.coefficient lane.entries count in
     let within : count ≤ length lane.entries = (is.each 0 lane (omega arith)).1 in
-    All-cons (IsListRight H whole_lists met) term terms
-    (front_right H documents n met lane count term fronts.0 (All-head (HasList n) lane lanes lists) within (first_in met here (shown lanes cut) are))
-    (fronts_right H documents n met lanes cut terms fronts.1 (All-tail (HasList n) lane lanes lists) (tail_cut lane lanes count cut is) (later_in met here (shown lanes cut) are))
+    All-cons (IsListRight H layout met) term terms
+    (front_right H layout documents n met lane count term fronts.0 (All-head (HasList n) lane lanes lists) within (first_in met here (shown lanes cut) are))
+    (fronts_right H layout documents n met lanes cut terms fronts.1 (All-tail (HasList n) lane lanes lists) (tail_cut lane lanes count cut is) (later_in met here (shown lanes cut) are))

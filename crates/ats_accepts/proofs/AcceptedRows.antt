@@ -7,8 +7,8 @@ use Rattle.std.proofs.lemmas.List.{length-map, get_or-map, get_or_default}
 use Rattle.std.proofs.lemmas.List.Elements.{All-head, All-tail}
 use Rattle.std.proofs.lemmas.List.Folds.{Any-from_list_any, list_any_at}
 use Rattle.ats_dict.specs.declared.header.Header.{Header}
-use Rattle.ats_lists.specs.Layout.{whole_lists}
-use Rattle.ats_commit.specs.Archive.{archive_of}
+use Rattle.ats_lists.specs.Layout.{Layout}
+use Rattle.ats_commit.specs.Archive.{Archive}
 use Rattle.ats_proof.specs.declared.record.Slot.{Slot}
 use Rattle.ats_commit.specs.Trees.{dictionary_of}
 use Rattle.ats_bound.specs.declared.bracket.Bracket.{Bracket}
@@ -17,7 +17,7 @@ use Rattle.ats_bound.specs.Settled.{ArePicks, IsSettled}
 use Rattle.ats_bound.specs.Schedule.{Bounding, WholeLane, AreBracketsBy, IsCut, has_bracket, shown}
 use Rattle.ats_bound.proofs.Public.{chosen_are_picks, chosen_is_settled, are_brackets, one_bracketing, scheduled_is_cut, has_contained}
 use Rattle.ats_proof.specs.Value.{Prefix, Proof, ShownEntry}
-use Rattle.ats_client.specs.Groups.{AreAllMet, AreListsRight, AreRowsRight, IsAnswerSettled, brackets_of}
+use Rattle.ats_client.specs.Groups.{AreAllMet, AreListsRight, AreRowsRight, IsListRight, IsAnswerSettled, brackets_of}
 use Rattle.ats_client.specs.Presented.{Presented, presented, presented_from}
 use Rattle.ats_client.specs.Presented as client
 use Rattle.ats_client.specs.Bracketing.{bounds_of}
@@ -80,28 +80,28 @@ proper Tra whole lanes doc = omega arith
 
 -- ---- the parts of an honest proof
 
-module _ (H : List ℕ → List ℕ) (texts : List (List ℕ)) (query : List (List ℕ × ℕ)) (r : ℕ) (algorithm : Algorithm) (proof : Proof)
-    (some : algorithm ≡ Tra → 1 ≤ length texts) (honest : IsHonest H (archive_of texts) query r algorithm proof) where
+module _ (H : List ℕ → List ℕ) (archive : Archive) (query : List (List ℕ × ℕ)) (r : ℕ) (algorithm : Algorithm) (proof : Proof)
+    (some : algorithm ≡ Tra → 1 ≤ length archive.texts) (honest : IsHonest H archive query r algorithm proof) where
   abbrev lanes : List WholeLane
-  lanes = lanes_of texts query
+  lanes = lanes_of archive.texts query
 
   abbrev cut_lanes : List ShownLane
   cut_lanes = shown lanes honest.cut
 
   pub is_cut : IsCut lanes honest.cut
-  is_cut = scheduled_is_cut lanes honest.first.turns honest.cut (λ i d inside. (lanes_have_lists texts query i d inside).some) honest.first.scheduled
+  is_cut = scheduled_is_cut lanes honest.first.turns honest.cut (λ i d inside. (lanes_have_lists archive.texts query i d inside).some) honest.first.scheduled
 
   pub are_in : AreIn proof.met cut_lanes
   are_in = subst (λ (met : List ℕ). AreIn met cut_lanes) (sym honest.met) (named_in cut_lanes honest.brackets honest.bounds)
 
   abbrev dict : List ShownEntry
-  dict = map (shown_entry (dictionary_of H (archive_of texts))) honest.positions
+  dict = map (shown_entry (dictionary_of H archive)) honest.positions
 
   abbrev slots : List Slot
   slots = map (slot_of honest.positions) honest.spots
 
   abbrev fronts : List Prefix
-  fronts = prefixes H whole_lists proof.met lanes honest.cut
+  fronts = prefixes H archive.layout proof.met lanes honest.cut
 
   presented_are : presented query proof ≡ presented_from dict 0 query slots fronts
   presented_are =
@@ -109,22 +109,23 @@ module _ (H : List ℕ → List ℕ) (texts : List (List ℕ)) (query : List (Li
       ∙ ap₂ (λ (s : List Slot) (l : List Prefix). presented_from dict 0 query s l) honest.slots honest.lists
 
   -- the present terms show the fronts of their lists, as many entries as the cut says
-  pub honest_presented : AreFronts H (length texts) proof.met lanes honest.cut (presented query proof)
-  honest_presented = subst (AreFronts H (length texts) proof.met lanes honest.cut) (sym presented_are)
-      (show_terms H texts proof.met honest.positions 0 query honest.spots honest.needed.rise honest.found
+  pub honest_presented : AreFronts H archive.layout (length archive.texts) proof.met lanes honest.cut (presented query proof)
+  honest_presented = subst (AreFronts H archive.layout (length archive.texts) proof.met lanes honest.cut) (sym presented_are)
+      (show_terms H archive proof.met honest.positions 0 query honest.spots honest.needed.rise honest.found
       (needed_shown honest.spots honest.positions honest.needed) honest.cut is_cut.size)
 
-  documents : proof.header.documents ≡ length texts
+  documents : proof.header.documents ≡ length archive.texts
   documents = ap (λ (h : Header). h.documents) honest.header
 
   -- the lanes that a check sees are those of the cut
   pub honest_lanes : client.lanes_of query proof ≡ cut_lanes
   honest_lanes =
       ap (λ (n : ℕ). map (client.lane_of n proof.met) (presented query proof)) documents
-      ∙ front_lanes H (length texts) proof.met lanes honest.cut (presented query proof) honest_presented are_in
+      ∙ front_lanes H archive.layout (length archive.texts) proof.met lanes honest.cut (presented query proof) honest_presented are_in
 
   pub honest_lists : AreListsRight H query proof
-  honest_lists = fronts_right H (length texts) (length texts) proof.met lanes honest.cut (presented query proof) honest_presented (lanes_have_lists texts query) is_cut are_in
+  honest_lists = subst (λ (layout : Layout). All (IsListRight H layout proof.met) (presented query proof)) (sym honest.layout)
+      (fronts_right H archive.layout (length archive.texts) (length archive.texts) proof.met lanes honest.cut (presented query proof) honest_presented (lanes_have_lists archive.texts query) is_cut are_in)
 
   pub honest_met : AreAllMet (client.lanes_of query proof) proof.met
   honest_met = subst (λ (ls : List ShownLane). AreAllMet ls proof.met) (sym honest_lanes)
@@ -133,31 +134,31 @@ module _ (H : List ℕ → List ℕ) (texts : List (List ℕ)) (query : List (Li
   -- ---- the met documents
 
   abbrev terms : List (List ℕ × ℕ)
-  terms = present texts query
+  terms = present archive.texts query
 
   met_increases : IsStrictlyIncreasing proof.met
   met_increases = subst IsStrictlyIncreasing (sym honest.met) (met_rises cut_lanes honest.brackets honest.bounds)
 
-  pub met_low : All (λ doc. doc < length texts) proof.met
-  met_low = subst (All (λ doc. doc < length texts)) (sym honest.met)
-      (met_below (length texts) lanes honest.cut honest.brackets (λ i d inside. (lanes_have_lists texts query i d inside).documents) honest.bounds)
+  pub met_low : All (λ doc. doc < length archive.texts) proof.met
+  met_low = subst (All (λ doc. doc < length archive.texts)) (sym honest.met)
+      (met_below (length archive.texts) lanes honest.cut honest.brackets (λ i d inside. (lanes_have_lists archive.texts query i d inside).documents) honest.bounds)
 
   -- the numbers of the present terms give these terms
   named : map (asked_term query) (present_numbers proof) ≡ map (λ (pair : List ℕ × ℕ). pair.0) terms
   named =
-      let entries = dictionary_of H (archive_of texts) in
+      let entries = dictionary_of H archive in
       ap (λ (s : List Slot). map (asked_term query) (present_from 0 s)) honest.slots
       ∙ numbers_ask (asked_term query) honest.positions 0 query honest.spots (spot_each entries query honest.spots honest.found)
       (λ i d inside.
       let from : 0 + i ≡ i = omega arith in
       ap (asked_term query) from ∙ ap (λ (pair : List ℕ × ℕ). pair.0) (get_or_default query i ([], 0) d inside))
-      ∙ ap (map (λ (pair : List ℕ × ℕ). pair.0)) (standing_present H texts query honest.spots honest.found)
+      ∙ ap (map (λ (pair : List ℕ × ℕ). pair.0)) (standing_present H archive query honest.spots honest.found)
 
   pub tree_accepted : IsDocsTree H proof
-  tree_accepted = honest_tree H texts terms algorithm proof.met proof.docs proof.header honest.header honest.docs some met_increases met_low
+  tree_accepted = honest_tree H archive.texts terms algorithm proof.met proof.docs proof.header documents (ap (λ (h : Header). h.docs_root) honest.header) honest.docs some met_increases met_low
 
   pub documents_accepted : AreDocumentsRight H query proof
-  documents_accepted = honest_documents H texts terms query (present_numbers proof) named algorithm proof.met proof.docs honest.docs
+  documents_accepted = honest_documents H archive.texts terms query (present_numbers proof) named algorithm proof.met proof.docs honest.docs
 
   -- ---- the answer
 
@@ -188,7 +189,7 @@ module _ (H : List ℕ → List ℕ) (texts : List (List ℕ)) (query : List (Li
       let size = length-map honest.brackets (λ (b : Bracket). b.doc) in
       let here : has b.doc (docs_of honest.brackets) ≡ true =
       has_contained b.doc (docs_of honest.brackets) (k, omega (arith, inside, size), get_or-map (λ (b : Bracket). b.doc) honest.brackets k d b.doc inside) in
-      honest_bounds H texts terms algorithm proof.met proof.docs honest.docs met_low cut_lanes b.doc (ap (λ (met : List ℕ). has b.doc met) honest.met ∙ here)
+      honest_bounds H archive.texts terms algorithm proof.met proof.docs honest.docs met_low cut_lanes b.doc (ap (λ (met : List ℕ). has b.doc met) honest.met ∙ here)
 
   pub honest_settled : IsAnswerSettled (bounds_of proof) (client.lanes_of query proof) proof.met proof.answer r
   honest_settled =
@@ -198,7 +199,7 @@ module _ (H : List ℕ → List ℕ) (texts : List (List ℕ)) (query : List (Li
       (subst (λ (bs : List Bracket). IsSettled bs proof.answer (threshold cut_lanes) r) (sym same) settled)
 
   -- all rules hold of it
-  pub honest_accepted : Accepts H (root_of H (archive_of texts)) query r proof
+  pub honest_accepted : Accepts H (root_of H archive) query r proof
   honest_accepted =
-      accepts_each H (root_of H (archive_of texts)) query r proof (honest_opened H texts query r algorithm proof honest) (honest_dictionary H texts query r algorithm proof honest)
-      (honest_slots H texts query r algorithm proof honest) honest_lists honest_met tree_accepted documents_accepted honest_rows honest_settled
+      accepts_each H (root_of H archive) query r proof (honest_opened H archive query r algorithm proof honest) (honest_dictionary H archive query r algorithm proof honest)
+      (honest_slots H archive query r algorithm proof honest) honest_lists honest_met tree_accepted documents_accepted honest_rows honest_settled

@@ -4,12 +4,10 @@ use Rattle.std.specs.List.Sorted.{IsStrictlyIncreasing}
 use Rattle.std.proofs.lemmas.List.{length-map, get_or-map}
 use Rattle.std.proofs.lemmas.List.Sums.{sum_by-cons}
 use Rattle.std.proofs.lemmas.Simd.{map-map}
-use Rattle.ats_tree.specs.Tree.{mth}
 use Rattle.ats_tree.specs.Shown.{Shown}
 use Rattle.ats_tree.specs.Rebuild.{rebuilt}
 use Rattle.ats_tree.specs.Elided.{shown_with}
 use Rattle.ats_impact.specs.Score.{frequency}
-use Rattle.ats_lists.specs.Leaf.{leaf_bytes}
 use Rattle.ats_lists.specs.Lists.{list, lists_of}
 use Rattle.ats_lists.specs.declared.entry.Entry.{Entry}
 use Rattle.ats_dict.specs.declared.header.Header.{Header}
@@ -19,8 +17,8 @@ use Rattle.ats_dict.specs.Entry.{DictEntry}
 use Rattle.ats_dict.specs.Dictionary.{dict_leaves, entry_at, low, term_at}
 use Rattle.ats_dict.specs.Found.{IsSpot, StandsAt}
 use Rattle.ats_dict.proofs.Public.{entry_at-suc, get_or-dict_leaves, length-dict_leaves}
-use Rattle.ats_lists.specs.Layout.{whole_lists}
-use Rattle.ats_commit.specs.Archive.{archive_of}
+use Rattle.ats_lists.specs.Layout.{Layout}
+use Rattle.ats_commit.specs.Archive.{Archive, list_root}
 use Rattle.ats_commit.specs.Trees.{dict_entry, dictionary_of}
 use Rattle.ats_commit.specs.Ours.{asked_term}
 use Rattle.ats_commit.specs.Root.{header_root, root_of}
@@ -42,21 +40,21 @@ use Rattle.ats_accepts.proofs.ShownTrees.{leaves_shown, positions_rebuild}
 use Rattle.ats_accepts.proofs.AcceptedSlots.{IsShown, LiesBy, leaf_at, slots_show}
 
 -- the header is the archive's, and each term has a slot
-pub honest_opened : (H : List ℕ → List ℕ) (texts : List (List ℕ)) (query : List (List ℕ × ℕ)) (r : ℕ) (algorithm : Algorithm) (proof : Proof)
-    → IsHonest H (archive_of texts) query r algorithm proof → IsOpened H (root_of H (archive_of texts)) query proof
-honest_opened H texts query r algorithm proof honest = record {
-  commits = ap (header_root H whole_lists) honest.header;
-  slots = ap (λ (all : List Slot). length all) honest.slots ∙ length-map honest.spots (slot_of honest.positions) ∙ spot_each (dictionary_of H (archive_of texts)) query honest.spots honest.found;
+pub honest_opened : (H : List ℕ → List ℕ) (archive : Archive) (query : List (List ℕ × ℕ)) (r : ℕ) (algorithm : Algorithm) (proof : Proof)
+    → IsHonest H archive query r algorithm proof → IsOpened H (root_of H archive) query proof
+honest_opened H archive query r algorithm proof honest = record {
+  commits = ap₂ (λ (layout : Layout) (h : Header). header_root H layout h) honest.layout honest.header;
+  slots = ap (λ (all : List Slot). length all) honest.slots ∙ length-map honest.spots (slot_of honest.positions) ∙ spot_each (dictionary_of H archive) query honest.spots honest.found;
 }
 
 -- ---- the dictionary
 
 -- its leaves are those at the needed positions
-pub dictionary_shown : (H : List ℕ → List ℕ) (texts : List (List ℕ)) (query : List (List ℕ × ℕ)) (r : ℕ) (algorithm : Algorithm) (proof : Proof)
-    → (honest : IsHonest H (archive_of texts) query r algorithm proof)
-    → map runs.shown_entry proof.dict ≡ shown_with (dict_leaves (dictionary_of H (archive_of texts))) honest.positions
-dictionary_shown H texts query r algorithm proof honest =
-    let entries = dictionary_of H (archive_of texts) in
+pub dictionary_shown : (H : List ℕ → List ℕ) (archive : Archive) (query : List (List ℕ × ℕ)) (r : ℕ) (algorithm : Algorithm) (proof : Proof)
+    → (honest : IsHonest H archive query r algorithm proof)
+    → map runs.shown_entry proof.dict ≡ shown_with (dict_leaves (dictionary_of H archive)) honest.positions
+dictionary_shown H archive query r algorithm proof honest =
+    let entries = dictionary_of H archive in
     let positions = honest.positions in
     let size = length-dict_leaves entries in
     let below = positions_below entries query honest.spots positions honest.found honest.needed in
@@ -66,16 +64,16 @@ dictionary_shown H texts query r algorithm proof honest =
     (λ p inside. ap (λ (bytes : List ℕ). let leaf : Shown = (p, bytes) in leaf) (sym (get_or-dict_leaves entries p (omega (arith, inside, size)))))
     (λ k d inside. omega (arith, below k d inside, size))
 
-pub honest_dictionary : (H : List ℕ → List ℕ) (texts : List (List ℕ)) (query : List (List ℕ × ℕ)) (r : ℕ) (algorithm : Algorithm) (proof : Proof)
-    → IsHonest H (archive_of texts) query r algorithm proof → IsDictionary H proof
-honest_dictionary H texts query r algorithm proof honest =
-    let entries = dictionary_of H (archive_of texts) in
+pub honest_dictionary : (H : List ℕ → List ℕ) (archive : Archive) (query : List (List ℕ × ℕ)) (r : ℕ) (algorithm : Algorithm) (proof : Proof)
+    → IsHonest H archive query r algorithm proof → IsDictionary H proof
+honest_dictionary H archive query r algorithm proof honest =
+    let entries = dictionary_of H archive in
     let leaves = dict_leaves entries in
     let positions = honest.positions in
     let size = length-dict_leaves entries in
     let below = positions_below entries query honest.spots positions honest.found honest.needed in
     ap₂ (λ n (shown : List Shown). rebuilt H n shown proof.dict_digests) (ap (λ (h : Header). h.dict_leaves) honest.header)
-    (dictionary_shown H texts query r algorithm proof honest)
+    (dictionary_shown H archive query r algorithm proof honest)
     ∙ ap (λ (digests : List (List ℕ)). rebuilt H (length leaves) (shown_with leaves positions) digests) honest.dict_digests
     ∙ positions_rebuild H leaves positions (omega (arith, size)) honest.needed.rise (λ k d inside. omega (arith, below k d inside, size))
     ∙ ap (λ (h : Header). Some h.dict_root) (sym honest.header)
@@ -86,10 +84,10 @@ entry_lies : (entries : List DictEntry) (term : List ℕ) (spot : Spot) → IsSp
 entry_lies entries term (At p) is = is.same
 entry_lies entries term (Between p) is = (is.above, is.below)
 
-pub honest_slots : (H : List ℕ → List ℕ) (texts : List (List ℕ)) (query : List (List ℕ × ℕ)) (r : ℕ) (algorithm : Algorithm) (proof : Proof)
-    → IsHonest H (archive_of texts) query r algorithm proof → AreSlotsRight query proof
-honest_slots H texts query r algorithm proof honest i inside =
-    let entries = dictionary_of H (archive_of texts) in
+pub honest_slots : (H : List ℕ → List ℕ) (archive : Archive) (query : List (List ℕ × ℕ)) (r : ℕ) (algorithm : Algorithm) (proof : Proof)
+    → IsHonest H archive query r algorithm proof → AreSlotsRight query proof
+honest_slots H archive query r algorithm proof honest i inside =
+    let entries = dictionary_of H archive in
     let term = asked_term query i in
     let made : ℕ → slots.Shown = leaf_at (term_at entries) in
     let leaves : dict_terms proof.dict ≡ map made honest.positions = ap dict_terms honest.dict ∙ map-map slots.entry_shown (shown_entry entries) honest.positions in
@@ -100,24 +98,24 @@ honest_slots H texts query r algorithm proof honest i inside =
 -- ---- the entries of present terms
 
 -- the entry is that of a term's list
-pub record IsOwnEntry (H : List ℕ → List ℕ) (texts : List (List ℕ)) (term : List ℕ) (entry : DictEntry) : Type 0 where
+pub record IsOwnEntry (H : List ℕ → List ℕ) (archive : Archive) (term : List ℕ) (entry : DictEntry) : Type 0 where
   pub same : entry.term ≡ term
-  pub number : entry.f ≡ length (list texts term)
-  pub root : entry.root ≡ mth H (map leaf_bytes (list texts term))
+  pub number : entry.f ≡ length (list archive.texts term)
+  pub root : entry.root ≡ list_root H archive.layout (list archive.texts term)
 
-own_entry : (H : List ℕ → List ℕ) (texts : List (List ℕ)) (term : List ℕ) (p : ℕ) → StandsAt (dictionary_of H (archive_of texts)) term p → IsOwnEntry H texts term (entry_at (dictionary_of H (archive_of texts)) p)
-own_entry H texts term zero is = absurd (omega (arith, is.some))
-own_entry H texts term (suc p) is =
-    let entries = dictionary_of H (archive_of texts) in
-    let stands = standing_term H (archive_of texts) term p ([], []) is in
-    let own = get_or (lists_of texts) p ([], []) in
-    let entry : entry_at entries (suc p) ≡ dict_entry H whole_lists own =
-    entry_at-suc entries p low (omega (arith, stands.0, length-map (lists_of texts) (dict_entry H whole_lists))) ∙ get_or-map (dict_entry H whole_lists) (lists_of texts) p ([], []) low stands.0 in
-    let all : own.1 ≡ list texts term = list_at texts p ([], []) stands.0 ∙ ap (list texts) stands.1 in
+own_entry : (H : List ℕ → List ℕ) (archive : Archive) (term : List ℕ) (p : ℕ) → StandsAt (dictionary_of H archive) term p → IsOwnEntry H archive term (entry_at (dictionary_of H archive) p)
+own_entry H archive term zero is = absurd (omega (arith, is.some))
+own_entry H archive term (suc p) is =
+    let entries = dictionary_of H archive in
+    let stands = standing_term H archive term p ([], []) is in
+    let own = get_or (lists_of archive.texts) p ([], []) in
+    let entry : entry_at entries (suc p) ≡ dict_entry H archive.layout own =
+    entry_at-suc entries p low (omega (arith, stands.0, length-map (lists_of archive.texts) (dict_entry H archive.layout))) ∙ get_or-map (dict_entry H archive.layout) (lists_of archive.texts) p ([], []) low stands.0 in
+    let all : own.1 ≡ list archive.texts term = list_at archive.texts p ([], []) stands.0 ∙ ap (list archive.texts) stands.1 in
     record {
       same = is.same;
       number = ap (λ (e : DictEntry). e.f) entry ∙ ap (λ (es : List Entry). length es) all;
-      root = ap (λ (e : DictEntry). e.root) entry ∙ ap (λ (es : List Entry). mth H (map leaf_bytes es)) all;
+      root = ap (λ (e : DictEntry). e.root) entry ∙ ap (λ (es : List Entry). list_root H archive.layout es) all;
     }
 
 -- the check finds the dictionary's entry at a shown position
@@ -128,23 +126,23 @@ shown_entry_at entries positions p rise stands =
     ∙ made_at_place (entry_at entries) positions p low rise stands
 
 -- the check reads for each term whose slot says that it is present the entry of its list
-pub honest_entry : (H : List ℕ → List ℕ) (texts : List (List ℕ)) (positions : List ℕ) (term : List ℕ) (spot : Spot) → IsStrictlyIncreasing positions → IsShown spot positions
-    → IsSpot (dictionary_of H (archive_of texts)) term spot → (slot_of positions spot).present ≡ true
-    → IsOwnEntry H texts term (presented.entry_at (map (shown_entry (dictionary_of H (archive_of texts))) positions) (slot_of positions spot).index)
-honest_entry H texts positions term (At p) rise shown is present =
-    let entry = shown_entry_at (dictionary_of H (archive_of texts)) positions p rise (shown p (has_contained p (p ∷ []) (0, omega arith, refl))) in
-    subst (λ (e : DictEntry). IsOwnEntry H texts term e) (sym entry) (own_entry H texts term p is)
-honest_entry H texts positions term (Between p) rise shown is present = absurd (cc)
+pub honest_entry : (H : List ℕ → List ℕ) (archive : Archive) (positions : List ℕ) (term : List ℕ) (spot : Spot) → IsStrictlyIncreasing positions → IsShown spot positions
+    → IsSpot (dictionary_of H archive) term spot → (slot_of positions spot).present ≡ true
+    → IsOwnEntry H archive term (presented.entry_at (map (shown_entry (dictionary_of H archive)) positions) (slot_of positions spot).index)
+honest_entry H archive positions term (At p) rise shown is present =
+    let entry = shown_entry_at (dictionary_of H archive) positions p rise (shown p (has_contained p (p ∷ []) (0, omega arith, refl))) in
+    subst (λ (e : DictEntry). IsOwnEntry H archive term e) (sym entry) (own_entry H archive term p is)
+honest_entry H archive positions term (Between p) rise shown is present = absurd (cc)
 
 -- and a slot says so for the terms that some text has
-pub honest_present : (H : List ℕ → List ℕ) (texts : List (List ℕ)) (positions : List ℕ) (pair : List ℕ × ℕ) (spot : Spot) → IsSpot (dictionary_of H (archive_of texts)) pair.0 spot
-    → nat_lt 0 (frequency pair.0 texts) ≡ (slot_of positions spot).present
-honest_present H texts positions pair spot is =
+pub honest_present : (H : List ℕ → List ℕ) (archive : Archive) (positions : List ℕ) (pair : List ℕ × ℕ) (spot : Spot) → IsSpot (dictionary_of H archive) pair.0 spot
+    → nat_lt 0 (frequency pair.0 archive.texts) ≡ (slot_of positions spot).present
+honest_present H archive positions pair spot is =
     let slot = slot_of positions spot in
-    let one = lanes_each H texts (pair ∷ []) positions (spot ∷ []) (is, tt) in
-    same_test (nat_lt 0 (frequency pair.0 texts)) slot.present (omega (arith, one, sum_by-cons kind_of_slot slot []))
+    let one = lanes_each H archive (pair ∷ []) positions (spot ∷ []) (is, tt) in
+    same_test (nat_lt 0 (frequency pair.0 archive.texts)) slot.present (omega (arith, one, sum_by-cons kind_of_slot slot []))
   where
-    same_test : (a b : Bool) → length (map (lane_of texts) (cond a (pair ∷ []) [])) ≡ cond b 1 0 → a ≡ b
+    same_test : (a b : Bool) → length (map (lane_of archive.texts) (cond a (pair ∷ []) [])) ≡ cond b 1 0 → a ≡ b
     same_test true true same = refl
     same_test false false same = refl
     same_test true false same = absurd (omega (arith, same))

@@ -1,5 +1,5 @@
 -- The strings that are hashed from an honest proof are the archive's own.
-use Rattle.std.proofs.Common.{◌≡◌, ◌+◌, ◌<◌, ◌≤◌, ℕ, suc, Bool, cond, List, [], ◌∷◌, ◌++◌, length, map, take, drop, get_or, Option, None, Some, IfSome, refl, sym, ap, subst, ◌∙◌, arith}
+use Rattle.std.proofs.Common.{◌≡◌, ◌+◌, ◌<◌, ◌≤◌, ℕ, suc, Bool, cond, List, [], ◌∷◌, ◌++◌, length, map, take, drop, get_or, Option, None, Some, IfSome, refl, sym, ap, ap₂, subst, ◌∙◌, arith}
 use Rattle.std.specs.List.{All, flat_map, range_with_len}
 use Rattle.std.proofs.lemmas.Bool.{lt-ltb}
 use Rattle.std.proofs.lemmas.List.{length-map, get_or_default}
@@ -22,18 +22,18 @@ use Rattle.ats_dict.specs.declared.spot.Spot.TheVariants.{At, Between}
 use Rattle.ats_doctree.specs.Impacts.{doc_terms}
 use Rattle.ats_doctree.specs.Sentinels.{terms_leaves}
 use Rattle.ats_doctree.specs.declared.doc_leaf.DocLeaf.{DocLeaf}
-use Rattle.ats_lists.specs.Layout.{whole_lists}
-use Rattle.ats_commit.specs.Archive.{Archive, archive_of}
+use Rattle.ats_lists.specs.Layout.{Layout, whole_lists}
+use Rattle.ats_commit.specs.Archive.{Archive}
 use Rattle.ats_commit.specs.Ours.{TreePlace, asked_term, ours}
+use Rattle.ats_commit.specs.Prefixes.{list_string}
 use Rattle.ats_commit.specs.Root.{header_string}
 use Rattle.ats_commit.specs.Trees.{dictionary_of, documents_of}
-use Rattle.ats_commit.proofs.Public.{each_archive}
 use Rattle.ats_proof.specs.declared.record.Algorithm.{Algorithm}
 use Rattle.ats_proof.specs.declared.record.Slot.{Slot}
 use Rattle.ats_proof.specs.declared.record.Algorithm.TheVariants.{Tra, Tnra}
 use Rattle.ats_bound.specs.Cut.{ShownLane, lane_of as shown_lane}
 use Rattle.ats_bound.specs.Schedule.{WholeLane, IsCut, shown}
-use Rattle.ats_proof.specs.Value.{Prefix, Proof, IsProof, Documents, ShownEntry, TermsSection}
+use Rattle.ats_proof.specs.Value.{Prefix, Proof, IsProof, Documents, ShownEntry, TermsSection, layout_of}
 use Rattle.ats_proof.specs.Runs.{shown_docs, shown_list, shown_term}
 use Rattle.ats_proof.specs.Runs as runs
 use Rattle.ats_proof.proofs.Public.{one_value}
@@ -70,23 +70,23 @@ AreNumbered texts query (lane ∷ lanes) [] = ⊥
 AreNumbered texts query (lane ∷ lanes) (term ∷ terms) =
     (lane.entries ≡ list texts (asked_term query term.number)) × AreNumbered texts query lanes terms
 
-module _ (H : List ℕ → List ℕ) (texts : List (List ℕ)) (asked : List (List ℕ × ℕ)) (positions : List ℕ) (dict : List ShownEntry) where
+module _ (H : List ℕ → List ℕ) (archive : Archive) (asked : List (List ℕ × ℕ)) (positions : List ℕ) (dict : List ShownEntry) where
   -- the present terms from a number on
   abbrev Numbers : ℕ → List (List ℕ × ℕ) → List Spot → List Prefix → List WholeLane → Type 0
-  Numbers number query spots lists lanes = AreNumbered texts asked lanes (presented_from dict number query (map (slot_of positions) spots) lists)
+  Numbers number query spots lists lanes = AreNumbered archive.texts asked lanes (presented_from dict number query (map (slot_of positions) spots) lists)
 
   pub numbered : (number : ℕ) (query : List (List ℕ × ℕ)) (spots : List Spot) (lists : List Prefix)
       → ((i : ℕ) (d : List ℕ × ℕ) → i < length query → asked_term asked (number + i) ≡ (get_or query i d).0)
-      → AreSpots (dictionary_of H (archive_of texts)) query spots → Numbers number query spots lists (lanes_of texts query)
+      → AreSpots (dictionary_of H archive) query spots → Numbers number query spots lists (lanes_of archive.texts query)
   numbered number [] [] lists asks found = tt
   numbered number [] (spot ∷ spots) lists asks found = absurd found
   numbered number (pair ∷ query) [] lists asks found = absurd found
   numbered number (pair ∷ query) (At p ∷ spots) lists asks found =
       let none : number ≡ number + 0 = omega arith in
-      subst (Numbers number (pair ∷ query) (At p ∷ spots) lists) (sym (with_lane texts pair query (honest_present H texts positions pair (At p) found.0)))
-      (ap (list texts) (sym (ap (asked_term asked) none ∙ asks 0 pair (omega arith))), numbered (number + 1) query spots (drop 1 lists) (asks_later asked number pair query asks) found.1)
+      subst (Numbers number (pair ∷ query) (At p ∷ spots) lists) (sym (with_lane archive.texts pair query (honest_present H archive positions pair (At p) found.0)))
+      (ap (list archive.texts) (sym (ap (asked_term asked) none ∙ asks 0 pair (omega arith))), numbered (number + 1) query spots (drop 1 lists) (asks_later asked number pair query asks) found.1)
   numbered number (pair ∷ query) (Between p ∷ spots) lists asks found =
-      subst (Numbers number (pair ∷ query) (Between p ∷ spots) lists) (sym (with_none texts pair query (honest_present H texts positions pair (Between p) found.0)))
+      subst (Numbers number (pair ∷ query) (Between p ∷ spots) lists) (sym (with_none archive.texts pair query (honest_present H archive positions pair (Between p) found.0)))
       (numbered (number + 1) query spots lists (asks_later asked number pair query asks) found.1)
 
 -- ---- the strings of one tree
@@ -109,21 +109,21 @@ tree_own H archive query tree leaves same n shown digests positions size at need
 
 -- ---- the lists
 
-module _ (H : List ℕ → List ℕ) (texts : List (List ℕ)) (query : List (List ℕ × ℕ)) where
+module _ (H : List ℕ → List ℕ) (archive : Archive) (query : List (List ℕ × ℕ)) where
   abbrev Own : Hashed TreePlace → Type 0
-  Own = IsOurs (ours H (archive_of texts) query)
+  Own = IsOurs (ours H archive query)
 
-  front_own : (documents : ℕ) (met : List ℕ) (lane : WholeLane) (count : ℕ) (term : Presented) → IsFront H documents met lane count term
-      → lane.entries ≡ list texts (asked_term query term.number) → count ≤ length lane.entries → All (IsEntryIn met) (take count lane.entries)
-      → All Own (list_strings H whole_lists met term)
-  front_own documents met lane count term is named within are =
+  front_own : (layout : Layout) → layout ≡ archive.layout → (documents : ℕ) (met : List ℕ) (lane : WholeLane) (count : ℕ) (term : Presented) → IsFront H layout documents met lane count term
+      → lane.entries ≡ list archive.texts (asked_term query term.number) → count ≤ length lane.entries → All (IsEntryIn met) (take count lane.entries)
+      → All Own (list_strings H layout met term)
+  front_own whole_lists same documents met lane count term is named within are =
       let leaves : List (List ℕ) = map leaf_bytes lane.entries in
-      tree_own H (archive_of texts) query (ListOf term.number) leaves (λ node. ap (λ (es : List Entry). node_string H (map leaf_bytes es) node) (sym named))
+      tree_own H archive query (ListOf term.number) leaves (λ node. ap₂ (λ (layout : Layout) (es : List Entry). list_string H layout es node) (sym same) (sym named))
       term.entry.f (shown_list 0 met term.prefix.entries) term.prefix.digests (range_with_len 0 count)
-      (is.size ∙ sym (length-map lane.entries leaf_bytes)) (front_shown H documents met lane count term is within are) (ap (λ (p : Prefix). p.digests) is.front)
+      (is.size ∙ sym (length-map lane.entries leaf_bytes)) (front_shown H whole_lists documents met lane count term is within are) (ap (λ (p : Prefix). p.digests) is.front)
 
-  fronts_own : (documents : ℕ) (met : List ℕ) (lanes : List WholeLane) (cut : List ℕ) (terms : List Presented) → AreFronts H documents met lanes cut terms
-      → AreNumbered texts query lanes terms → IsCut lanes cut → AreIn met (shown lanes cut) → All Own (flat_map (list_strings H whole_lists met) terms)
+  fronts_own : (documents : ℕ) (met : List ℕ) (lanes : List WholeLane) (cut : List ℕ) (terms : List Presented) → AreFronts H archive.layout documents met lanes cut terms
+      → AreNumbered archive.texts query lanes terms → IsCut lanes cut → AreIn met (shown lanes cut) → All Own (flat_map (list_strings H archive.layout met) terms)
   fronts_own documents met [] cut [] fronts named is are = All-nil Own
   fronts_own documents met [] cut (term ∷ terms) fronts named is are = absurd fronts
   fronts_own documents met (lane ∷ lanes) [] terms fronts named is are = absurd fronts
@@ -131,32 +131,32 @@ module _ (H : List ℕ → List ℕ) (texts : List (List ℕ)) (query : List (Li
   fronts_own documents met (lane ∷ lanes) (count ∷ cut) (term ∷ terms) fronts named is are =
       let here : ShownLane = shown_lane lane.coefficient lane.entries count in
       let within : count ≤ length lane.entries = (is.each 0 lane (omega arith)).1 in
-      All-append Own (list_strings H whole_lists met term) (flat_map (list_strings H whole_lists met) terms)
-      (front_own documents met lane count term fronts.0 named.0 within (first_in met here (shown lanes cut) are))
+      All-append Own (list_strings H archive.layout met term) (flat_map (list_strings H archive.layout met) terms)
+      (front_own archive.layout refl documents met lane count term fronts.0 named.0 within (first_in met here (shown lanes cut) are))
       (fronts_own documents met lanes cut terms fronts.1 named.1 (tail_cut lane lanes count cut is) (later_in met here (shown lanes cut) are))
 
   -- ---- the met documents
 
-  section_own : (terms : List (List ℕ × ℕ)) (doc : ℕ) (section : TermsSection) → doc < length texts → IsHonestSection H (doc_terms texts doc) terms section
-      → All Own (terms_strings H (record { doc = doc; leaf = document_leaf H texts doc; section = section }))
+  section_own : (terms : List (List ℕ × ℕ)) (doc : ℕ) (section : TermsSection) → doc < length archive.texts → IsHonestSection H (doc_terms archive.texts doc) terms section
+      → All Own (terms_strings H (record { doc = doc; leaf = document_leaf H archive.texts doc; section = section }))
   section_own terms doc section low honest =
-      let leaves : List (List ℕ) = terms_leaves (doc_terms texts doc) in
-      tree_own H (archive_of texts) query (Terms doc) leaves
-      (λ node. ap (λ (b : Bool). node_string H (cond b leaves []) node) (lt-ltb doc (length texts) low))
-      (length leaves) (map shown_term section.leaves) section.digests honest.positions refl (section_shown H (doc_terms texts doc) terms section honest) honest.digests
+      let leaves : List (List ℕ) = terms_leaves (doc_terms archive.texts doc) in
+      tree_own H archive query (Terms doc) leaves
+      (λ node. ap (λ (b : Bool). node_string H (cond b leaves []) node) (lt-ltb doc (length archive.texts) low))
+      (length leaves) (map shown_term section.leaves) section.digests honest.positions refl (section_shown H (doc_terms archive.texts doc) terms section honest) honest.digests
 
-  sections_own : (terms : List (List ℕ × ℕ)) (met : List ℕ) (sections : List TermsSection) → AreHonestSections H texts terms met sections
-      → All (λ doc. doc < length texts) met → All Own (flat_map (terms_strings H) (documents_from met (map (document_leaf H texts) met) sections))
+  sections_own : (terms : List (List ℕ × ℕ)) (met : List ℕ) (sections : List TermsSection) → AreHonestSections H archive.texts terms met sections
+      → All (λ doc. doc < length archive.texts) met → All Own (flat_map (terms_strings H) (documents_from met (map (document_leaf H archive.texts) met) sections))
   sections_own terms [] sections are low = All-nil Own
   sections_own terms (doc ∷ met) [] are low = absurd are
   sections_own terms (doc ∷ met) (section ∷ sections) are low =
-      let Low : ℕ → Type 0 = λ (d : ℕ). d < length texts in
-      All-append Own (terms_strings H (record { doc = doc; leaf = document_leaf H texts doc; section = section }))
-      (flat_map (terms_strings H) (documents_from met (map (document_leaf H texts) met) sections))
+      let Low : ℕ → Type 0 = λ (d : ℕ). d < length archive.texts in
+      All-append Own (terms_strings H (record { doc = doc; leaf = document_leaf H archive.texts doc; section = section }))
+      (flat_map (terms_strings H) (documents_from met (map (document_leaf H archive.texts) met) sections))
       (section_own terms doc section (All-head Low doc met low) are.0) (sections_own terms met sections are.1 (All-tail Low doc met low))
 
   documents_own : (terms : List (List ℕ × ℕ)) (algorithm : Algorithm) (met : List ℕ) (docs : Option Documents) (header : Header)
-      → header.documents ≡ length texts → HasDocuments algorithm H texts terms met docs → All (λ doc. doc < length texts) met
+      → header.documents ≡ length archive.texts → HasDocuments algorithm H archive.texts terms met docs → All (λ doc. doc < length archive.texts) met
       → All Own (documents_strings H header met docs)
   documents_own terms Tnra met None header own has low = All-nil Own
   documents_own terms Tnra met (Some docs) header own has low = absurd (cc)
@@ -164,23 +164,24 @@ module _ (H : List ℕ → List ℕ) (texts : List (List ℕ)) (query : List (Li
   documents_own terms Tra met (Some docs) header own has low =
       All-append Own (strings_in H DocumentsTree header.documents (shown_docs met docs.leaves) docs.digests)
       (flat_map (terms_strings H) (documents_from met docs.leaves docs.sections))
-      (tree_own H (archive_of texts) query DocumentsTree (documents_of H texts) (λ node. refl) header.documents (shown_docs met docs.leaves) docs.digests met
-      (own ∙ sym (documents_each H texts)) (ap (shown_docs met) has.leaves ∙ documents_shown H texts met low) has.digests)
+      (tree_own H archive query DocumentsTree (documents_of H archive.texts) (λ node. refl) header.documents (shown_docs met docs.leaves) docs.digests met
+      (own ∙ sym (documents_each H archive.texts)) (ap (shown_docs met) has.leaves ∙ documents_shown H archive.texts met low) has.digests)
       (subst (λ (leaves : List DocLeaf). All Own (flat_map (terms_strings H) (documents_from met leaves docs.sections))) (sym has.leaves)
       (sections_own terms met docs.sections has.sections low))
 
   -- ---- the whole proof
 
-  module _ (r : ℕ) (algorithm : Algorithm) (proof : Proof) (some : algorithm ≡ Tra → 1 ≤ length texts) (honest : IsHonest H (archive_of texts) query r algorithm proof) where
-    lists_own : All Own (flat_map (list_strings H whole_lists proof.met) (presented query proof))
+  module _ (r : ℕ) (algorithm : Algorithm) (proof : Proof) (some : algorithm ≡ Tra → 1 ≤ length archive.texts) (honest : IsHonest H archive query r algorithm proof) where
+    lists_own : All Own (flat_map (list_strings H (layout_of proof) proof.met) (presented query proof))
     lists_own =
-        fronts_own (length texts) proof.met (lanes_of texts query) honest.cut (presented query proof) (honest_presented H texts query r algorithm proof some honest)
-        names (is_cut H texts query r algorithm proof some honest) (are_in H texts query r algorithm proof some honest)
+        subst (λ (layout : Layout). All Own (flat_map (list_strings H layout proof.met) (presented query proof))) (sym honest.layout)
+        (fronts_own (length archive.texts) proof.met (lanes_of archive.texts query) honest.cut (presented query proof) (honest_presented H archive query r algorithm proof some honest)
+        names (is_cut H archive query r algorithm proof some honest) (are_in H archive query r algorithm proof some honest))
       where
-        names : AreNumbered texts query (lanes_of texts query) (presented query proof)
+        names : AreNumbered archive.texts query (lanes_of archive.texts query) (presented query proof)
         names =
-            subst (λ (slots : List Slot). AreNumbered texts query (lanes_of texts query) (presented_from proof.dict 0 query slots proof.lists)) (sym honest.slots)
-            (numbered H texts query honest.positions proof.dict 0 query honest.spots proof.lists
+            subst (λ (slots : List Slot). AreNumbered archive.texts query (lanes_of archive.texts query) (presented_from proof.dict 0 query slots proof.lists)) (sym honest.slots)
+            (numbered H archive query honest.positions proof.dict 0 query honest.spots proof.lists
             (λ i d inside.
             let from : 0 + i ≡ i = omega arith in
             ap (asked_term query) from ∙ ap (λ (pair : List ℕ × ℕ). pair.0) (get_or_default query i ([], 0) d inside))
@@ -188,29 +189,23 @@ module _ (H : List ℕ → List ℕ) (texts : List (List ℕ)) (query : List (Li
 
     dictionary_own : All Own (strings_in H Dictionary proof.header.dict_leaves (map runs.shown_entry proof.dict) proof.dict_digests)
     dictionary_own =
-        tree_own H (archive_of texts) query Dictionary (dict_leaves (dictionary_of H (archive_of texts))) (λ node. refl)
+        tree_own H archive query Dictionary (dict_leaves (dictionary_of H archive)) (λ node. refl)
         proof.header.dict_leaves (map runs.shown_entry proof.dict) proof.dict_digests honest.positions
-        (ap (λ (h : Header). h.dict_leaves) honest.header) (dictionary_shown H texts query r algorithm proof honest) honest.dict_digests
+        (ap (λ (h : Header). h.dict_leaves) honest.header) (dictionary_shown H archive query r algorithm proof honest) honest.dict_digests
 
-    pub strings_own : All Own (strings_of H query proof)
-    strings_own =
-        let header : Hashed TreePlace = hashed_header whole_lists proof.header in
+    pub honest_own : All Own (strings_of H query proof)
+    honest_own =
+        let header : Hashed TreePlace = hashed_header (layout_of proof) proof.header in
         let dictionary : List (Hashed TreePlace) = strings_in H Dictionary proof.header.dict_leaves (map runs.shown_entry proof.dict) proof.dict_digests in
-        let lists : List (Hashed TreePlace) = flat_map (list_strings H whole_lists proof.met) (presented query proof) in
+        let lists : List (Hashed TreePlace) = flat_map (list_strings H (layout_of proof) proof.met) (presented query proof) in
         let documents : List (Hashed TreePlace) = documents_strings H proof.header proof.met proof.docs in
-        All-cons Own header (dictionary ++ (lists ++ documents)) (ap (header_string whole_lists) (sym honest.header))
+        All-cons Own header (dictionary ++ (lists ++ documents)) (ap₂ (λ (layout : Layout) (h : Header). header_string layout h) (sym honest.layout) (sym honest.header))
         (All-append Own dictionary (lists ++ documents) dictionary_own
         (All-append Own lists documents lists_own
-        (documents_own (present texts query) algorithm proof.met proof.docs proof.header (ap (λ (h : Header). h.documents) honest.header) honest.docs
-        (met_low H texts query r algorithm proof some honest))))
+        (documents_own (present archive.texts query) algorithm proof.met proof.docs proof.header (ap (λ (h : Header). h.documents) honest.header) honest.docs
+        (met_low H archive query r algorithm proof some honest))))
 
--- ---- over any archive
-
-pub honest_own : (H : List ℕ → List ℕ) (archive : Archive) (query : List (List ℕ × ℕ)) (r : ℕ) (algorithm : Algorithm) (proof : Proof)
-    → (algorithm ≡ Tra → 1 ≤ length archive.texts) → IsHonest H archive query r algorithm proof → All (IsOurs (ours H archive query)) (strings_of H query proof)
-honest_own H archive query r algorithm proof =
-    each_archive (λ a. (algorithm ≡ Tra → 1 ≤ length a.texts) → IsHonest H a query r algorithm proof → All (IsOurs (ours H a query)) (strings_of H query proof))
-    (λ texts some honest. strings_own H texts query r algorithm proof some honest) archive
+-- ---- no clash
 
 pub honest_unclashing : (H : List ℕ → List ℕ) (archive : Archive) (query : List (List ℕ × ℕ)) (r : ℕ) (algorithm : Algorithm) (proof : Proof)
     → (algorithm ≡ Tra → 1 ≤ length archive.texts) → IsHonest H archive query r algorithm proof → extract H archive query proof ≡ None

@@ -12,8 +12,6 @@ pub use Rattle.ats_commit.proofs.DictionaryLemmas.{dictionary_terms}
 pub use Rattle.ats_commit.proofs.HeaderLemmas.{header_in_range}
 -- texts in UTF-8 within the limits of a collection have at most 2^24 term occurrences
 pub use Rattle.ats_commit.proofs.TermLemmas.{few_within}
--- what holds of the archive of any texts in the index layout holds of each archive
-pub use Rattle.ats_commit.proofs.Layouts.{each_archive}
 -- two layouts are always equal, as there is only one layout
 pub use Rattle.ats_commit.proofs.Layouts.{same_layout}
 -- shown leaves that rebuild a list's root are the list's own, or the first difference is a collision

@@ -1,4 +1,4 @@
--- Each query over a collection has an honest proof by each algorithm.
+-- Each query over an archive has an honest proof by each algorithm.
 use Rattle.std.proofs.Common.{◌≡◌, ◌<◌, ◌≤◌, ℕ, Bool, nat_eq, nat_lt, List, [], ◌∷◌, length, map, get_or, Option, Some, None, refl, sym, subst, arith}
 use Rattle.std.specs.List.{All, dedup, flat_map}
 use Rattle.std.specs.Ordering.{is_lt, nat_cmp}
@@ -14,29 +14,26 @@ use Rattle.ats_impact.specs.Score.{frequency}
 use Rattle.ats_lists.specs.Lists.{IsList, list}
 use Rattle.ats_lists.proofs.Public.{list_frequency}
 use Rattle.ats_tree.specs.Elided.{elided_digests}
-use Rattle.ats_dict.specs.Dictionary.{dict_leaves}
 use Rattle.ats_dict.specs.declared.spot.Spot.{Spot}
 use Rattle.ats_doctree.specs.Impacts.{doc_terms}
 use Rattle.ats_doctree.specs.Sentinels.{terms_leaves}
-use Rattle.ats_lists.specs.Layout.{whole_lists}
-use Rattle.ats_commit.specs.Archive.{archive_of}
+use Rattle.ats_commit.specs.Archive.{Archive}
 use Rattle.ats_commit.specs.Own.{AreTexts}
-use Rattle.ats_commit.specs.Root.{header_parts}
-use Rattle.ats_commit.specs.Trees.{dictionary_of, documents_of}
-use Rattle.ats_bound.specs.declared.bracket.Bracket.{Bracket}
+use Rattle.ats_commit.specs.Trees.{documents_of}
 use Rattle.ats_bound.specs.Narrow.{AreNarrow}
 use Rattle.ats_bound.specs.Schedule.{AreWholeLanes, IsWholeLane, WholeLane, shown}
 use Rattle.ats_bound.proofs.Public.{brackets_are_narrow, first_settled_exists, looked_up_are_narrow, brackets_exist, chosen_exists, sorts}
 use Rattle.ats_proof.specs.declared.record.Algorithm.{Algorithm}
 use Rattle.ats_proof.specs.declared.record.Algorithm.TheVariants.{Tra, Tnra}
 use Rattle.ats_proof.specs.Value.{Documents, Proof, TermsSection}
-use Rattle.ats_honest.specs.Terms.{AreNeeded, needs, shown_entry, slot_of}
+use Rattle.ats_honest.specs.Terms.{AreNeeded, needs, slot_of}
 use Rattle.ats_honest.specs.Lanes.{bounding, impacts_of, lane_of, lanes_of, present}
 use Rattle.ats_honest.specs.Documents.{AreHonestSections, HasDocuments, IsHonestSection, document_leaf, shown_term}
-use Rattle.ats_honest.specs.Honest.{IsHonest, prefixes}
+use Rattle.ats_honest.specs.Honest.{IsHonest}
 use Rattle.ats_honest.proofs.Needed.{are_needed}
 use Rattle.ats_honest.proofs.Present.{few_idf, lanes_few, lanes_have_lists, some_idf}
 use Rattle.ats_honest.proofs.Standing.{HasTerm, entry_spots, item_spots}
+use Rattle.ats_honest.proofs.Whole.{docs_of, layout_is, proof_of}
 
 -- the positions that spots need can be put in order
 needed_exist : (spots : List Spot) → (positions : List ℕ) × AreNeeded spots positions
@@ -134,30 +131,19 @@ documents_exist Tra H texts terms met all =
 
 -- ---- all together
 
-pub honest_exists : (H : List ℕ → List ℕ) (texts : List (List ℕ)) (query : List (List ℕ × ℕ)) (r : ℕ) (algorithm : Algorithm) → AreTexts texts → IsQuery query
-    → (proof : Proof) × IsHonest H (archive_of texts) query r algorithm proof
-honest_exists H texts query r algorithm are is =
-    let entries = dictionary_of H (archive_of texts) in
-    let lanes : List WholeLane = lanes_of texts query in
-    let terms : List (List ℕ × ℕ) = present texts query in
-    let has : List ℕ × ℕ → Bool = λ (pair : List ℕ × ℕ). nat_lt 0 (frequency pair.0 texts) in
-    let spots = entry_spots H texts query is.terms in
+pub honest_exists : (H : List ℕ → List ℕ) (archive : Archive) (query : List (List ℕ × ℕ)) (r : ℕ) (algorithm : Algorithm) → AreTexts archive.texts → IsQuery query
+    → (proof : Proof) × IsHonest H archive query r algorithm proof
+honest_exists H archive query r algorithm are is =
+    let lanes : List WholeLane = lanes_of archive.texts query in
+    let terms : List (List ℕ × ℕ) = present archive.texts query in
+    let has : List ℕ × ℕ → Bool = λ (pair : List ℕ × ℕ). nat_lt 0 (frequency pair.0 archive.texts) in
+    let spots = entry_spots H archive query is.terms in
     let positions = needed_exist spots.0 in
-    let ending = first_settled_exists (bounding algorithm lanes) lanes r (narrow algorithm lanes) (lanes_are_whole texts query are.within.few is) in
+    let ending = first_settled_exists (bounding algorithm lanes) lanes r (narrow algorithm lanes) (lanes_are_whole archive.texts query are.within.few is) in
     let made = brackets_exist (bounding algorithm lanes) (shown lanes ending.0) (λ doc. (narrow algorithm lanes (shown lanes ending.0) doc).of) in
-    let met : List ℕ = map (λ (b : Bracket). b.doc) made.0 in
-    let docs = documents_exist algorithm H texts terms met (All-filter has HasTerm query is.terms) in
+    let docs = documents_exist algorithm H archive.texts terms (docs_of made.0) (All-filter has HasTerm query is.terms) in
     let answer = chosen_exists made.0 r in
-    let proof : Proof = record {
-      header = header_parts H (archive_of texts);
-      dict = map (shown_entry entries) positions.0;
-      dict_digests = elided_digests H (dict_leaves entries) positions.0;
-      slots = map (slot_of positions.0) spots.0;
-      met = met;
-      lists = prefixes H whole_lists met lanes ending.0;
-      docs = docs.0;
-      answer = answer.0;
-    } in (
+    let proof : Proof = proof_of H archive query spots.0 positions.0 ending.0 made.0 docs.0 answer.0 in (
       proof,
       record {
         spots = spots.0;
@@ -168,7 +154,7 @@ honest_exists H texts query r algorithm are is =
         first = ending.1;
         brackets = made.0;
         bounds = made.1;
-        layout = refl;
+        layout = layout_is archive proof;
         header = refl;
         dict = refl;
         dict_digests = refl;

@@ -6,22 +6,22 @@ use Rattle.std.proofs.lemmas.List.FromFn.{length-range_with_len, get_or-range_wi
 use Rattle.std.proofs.lemmas.List.Elements.{All-take}
 use Rattle.ats_lists.specs.declared.entry.Entry.{Entry}
 use Rattle.ats_lists.specs.Lists.{IsList}
-use Rattle.ats_lists.specs.Layout.{whole_lists}
+use Rattle.ats_lists.specs.Layout.{Layout}
 use Rattle.ats_bound.specs.Schedule.{WholeLane}
 use Rattle.ats_proof.specs.Value.{Prefix}
 use Rattle.ats_honest.specs.Honest.{prefix_of, prefixes}
 
-pub prefix_each : (H : List ℕ → List ℕ) (met : List ℕ) (lanes : List WholeLane) (cut : List ℕ) → length cut ≡ length lanes → length (prefixes H whole_lists met lanes cut) ≡ length lanes
-prefix_each H met [] cut same = refl
-prefix_each H met (lane ∷ lanes) [] same = absurd (omega (arith, same))
-prefix_each H met (lane ∷ lanes) (count ∷ cut) same = ap suc (prefix_each H met lanes cut (omega (arith, same)))
+pub prefix_each : (H : List ℕ → List ℕ) (layout : Layout) (met : List ℕ) (lanes : List WholeLane) (cut : List ℕ) → length cut ≡ length lanes → length (prefixes H layout met lanes cut) ≡ length lanes
+prefix_each H layout met [] cut same = refl
+prefix_each H layout met (lane ∷ lanes) [] same = absurd (omega (arith, same))
+prefix_each H layout met (lane ∷ lanes) (count ∷ cut) same = ap suc (prefix_each H layout met lanes cut (omega (arith, same)))
 
-pub prefix_at : (H : List ℕ → List ℕ) (met : List ℕ) (lanes : List WholeLane) (cut : List ℕ) (i : ℕ) (d : Prefix) (e : WholeLane) → length cut ≡ length lanes → i < length lanes
-    → get_or (prefixes H whole_lists met lanes cut) i d ≡ prefix_of H whole_lists met (get_or lanes i e).entries (get_or cut i 0)
-prefix_at H met [] cut i d e same inside = absurd (omega (arith, inside))
-prefix_at H met (lane ∷ lanes) [] i d e same inside = absurd (omega (arith, same))
-prefix_at H met (lane ∷ lanes) (count ∷ cut) zero d e same inside = refl
-prefix_at H met (lane ∷ lanes) (count ∷ cut) (suc i) d e same inside = prefix_at H met lanes cut i d e (omega (arith, same)) (omega (arith, inside))
+pub prefix_at : (H : List ℕ → List ℕ) (layout : Layout) (met : List ℕ) (lanes : List WholeLane) (cut : List ℕ) (i : ℕ) (d : Prefix) (e : WholeLane) → length cut ≡ length lanes → i < length lanes
+    → get_or (prefixes H layout met lanes cut) i d ≡ prefix_of H layout met (get_or lanes i e).entries (get_or cut i 0)
+prefix_at H layout met [] cut i d e same inside = absurd (omega (arith, inside))
+prefix_at H layout met (lane ∷ lanes) [] i d e same inside = absurd (omega (arith, same))
+prefix_at H layout met (lane ∷ lanes) (count ∷ cut) zero d e same inside = refl
+prefix_at H layout met (lane ∷ lanes) (count ∷ cut) (suc i) d e same inside = prefix_at H layout met lanes cut i d e (omega (arith, same)) (omega (arith, inside))
 
 -- the first numbers rise
 pub range_rises : (n : ℕ) → IsStrictlyIncreasing (range_with_len 0 n)

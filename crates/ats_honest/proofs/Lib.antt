@@ -22,4 +22,3 @@ mod Standing
 mod Exists
 mod LookedUp
 mod Lookups
-mod Archives

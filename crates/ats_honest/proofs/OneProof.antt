@@ -15,8 +15,7 @@ use Rattle.ats_dict.specs.Entry.{DictEntry}
 use Rattle.ats_dict.specs.Dictionary.{IsBelow, byte_cmp, dict_leaves, low, term_at}
 use Rattle.ats_dict.specs.Found.{IsSpot, LiesBetween, StandsAt}
 use Rattle.ats_dict.proofs.Public.{entry_at-suc}
-use Rattle.ats_lists.specs.Layout.{whole_lists}
-use Rattle.ats_commit.specs.Archive.{archive_of}
+use Rattle.ats_commit.specs.Archive.{Archive}
 use Rattle.ats_commit.specs.Trees.{dictionary_of}
 use Rattle.ats_commit.proofs.Public.{dictionary_terms}
 use Rattle.ats_bound.specs.declared.bracket.Bracket.{Bracket}
@@ -54,15 +53,15 @@ one_spots is one (pair ∷ terms) (s ∷ ss) (t ∷ ts) first second =
     ap₂ (λ (x : Spot) (xs : List Spot). x ∷ xs) (one pair.0 s t first.0 second.0) (one_spots is one terms ss ts first.1 second.1)
 
 -- the terms of a dictionary rise
-module _ (H : List ℕ → List ℕ) (texts : List (List ℕ)) where
+module _ (H : List ℕ → List ℕ) (archive : Archive) where
   abbrev entries : List DictEntry
-  entries = dictionary_of H (archive_of texts)
+  entries = dictionary_of H archive
 
   pub entries_rise : (i j : ℕ) → i < j → j < length entries → IsBelow (get_or entries i low).term (get_or entries j low).term
   entries_rise i j less inside =
       let term : DictEntry → List ℕ = λ e. e.term in
       let size : length (map term entries) ≡ length entries = length-map entries term in
-      let rises : IsStrictlySortedBy byte_cmp (map term entries) = subst (IsStrictlySortedBy byte_cmp) (sym (dictionary_terms H (archive_of texts))) (vocabulary_rises texts) in
+      let rises : IsStrictlySortedBy byte_cmp (map term entries) = subst (IsStrictlySortedBy byte_cmp) (sym (dictionary_terms H archive)) (vocabulary_rises archive.texts) in
       let below : byte_cmp (get_or (map term entries) i []) (get_or (map term entries) j []) ≡ Less =
       Less-from_sorted byte_cmp (map term entries) i j [] rises less (omega (arith, size, inside)) in
       rw (get_or-map term entries i low [] (omega (arith, less, inside)), get_or-map term entries j low [] inside) at below
@@ -166,13 +165,13 @@ one_documents Tra H texts terms met (Some a) (Some b) x y =
 
 -- ---- all together
 
-pub one_proof : (H : List ℕ → List ℕ) (texts : List (List ℕ)) (query : List (List ℕ × ℕ)) (r : ℕ) (algorithm : Algorithm) (a b : Proof)
-    → IsHonest H (archive_of texts) query r algorithm a → IsHonest H (archive_of texts) query r algorithm b → a ≡ b
-one_proof H texts query r algorithm a b x y =
-    let entries : List DictEntry = dictionary_of H (archive_of texts) in
-    let lanes : List WholeLane = lanes_of texts query in
+pub one_proof : (H : List ℕ → List ℕ) (archive : Archive) (query : List (List ℕ × ℕ)) (r : ℕ) (algorithm : Algorithm) (a b : Proof)
+    → IsHonest H archive query r algorithm a → IsHonest H archive query r algorithm b → a ≡ b
+one_proof H archive query r algorithm a b x y =
+    let entries : List DictEntry = dictionary_of H archive in
+    let lanes : List WholeLane = lanes_of archive.texts query in
     let by : Bounding = bounding algorithm lanes in
-    let spots : x.spots ≡ y.spots = one_spots (IsSpot entries) (one_spot H texts) query x.spots y.spots x.found y.found in
+    let spots : x.spots ≡ y.spots = one_spots (IsSpot entries) (one_spot H archive) query x.spots y.spots x.found y.found in
     let positions : x.positions ≡ y.positions =
     one_needed y.spots x.positions y.positions (subst (λ (ss : List Spot). AreNeeded ss x.positions) spots x.needed) y.needed in
     let cut : x.cut ≡ y.cut = one_first_settled by lanes r x.cut y.cut x.first y.first in
@@ -185,9 +184,9 @@ one_proof H texts query r algorithm a b x y =
     let digests : a.dict_digests ≡ b.dict_digests = x.dict_digests ∙ ap (elided_digests H (dict_leaves entries)) positions ∙ sym y.dict_digests in
     let slots : a.slots ≡ b.slots = x.slots ∙ ap₂ (λ (ps : List ℕ) (ss : List Spot). map (slot_of ps) ss) positions spots ∙ sym y.slots in
     let met : a.met ≡ b.met = x.met ∙ ap (λ (bs : List Bracket). map (λ (b : Bracket). b.doc) bs) brackets ∙ sym y.met in
-    let lists : a.lists ≡ b.lists = x.lists ∙ ap₂ (λ (ids c : List ℕ). prefixes H whole_lists ids lanes c) met cut ∙ sym y.lists in
+    let lists : a.lists ≡ b.lists = x.lists ∙ ap₂ (λ (ids c : List ℕ). prefixes H archive.layout ids lanes c) met cut ∙ sym y.lists in
     let docs : a.docs ≡ b.docs =
-    one_documents algorithm H texts (present texts query) b.met a.docs b.docs (subst (λ (ids : List ℕ). HasDocuments algorithm H texts (present texts query) ids a.docs) met x.docs) y.docs in
+    one_documents algorithm H archive.texts (present archive.texts query) b.met a.docs b.docs (subst (λ (ids : List ℕ). HasDocuments algorithm H archive.texts (present archive.texts query) ids a.docs) met x.docs) y.docs in
     λ i. record {
       header = header i;
       dict = dict i;

@@ -1,4 +1,4 @@
--- The entries of the dictionary of texts are short, and few.
+-- The entries of the dictionary of an archive are short, and few.
 use Rattle.std.proofs.Common.{◌≡◌, ◌<◌, ◌≤◌, ◌^◌, ◌∙◌, ◌&&◌, ℕ, Bool, true, cond, nat_lt, nat_le, List, [], ◌∷◌, length, map, get_or, sym, ap, subst, arith, inl, inr}
 use Rattle.std.specs.List.{All, flat_map}
 use Rattle.std.specs.Str.{bytes_eq}
@@ -14,12 +14,14 @@ use Rattle.ats_terms.specs.Terms.{folded, is_term, occurrences, terms}
 use Rattle.ats_terms.proofs.Public.{counted_counts, weight_at}
 use Rattle.ats_impact.specs.Score.{count}
 use Rattle.ats_tree.specs.Tree.{tree_of}
+use Rattle.ats_lists.specs.Layout.{Layout, whole_lists}
 use Rattle.ats_lists.specs.Leaf.{leaf_bytes}
 use Rattle.ats_lists.specs.Lists.{list, vocabulary}
+use Rattle.ats_lists.specs.declared.entry.Entry.{Entry}
 use Rattle.ats_lists.proofs.Public.{vocabulary_few}
 use Rattle.ats_dict.specs.Entry.{DictEntry}
 use Rattle.ats_dict.proofs.Public.{length-dict_leaves}
-use Rattle.ats_commit.specs.Archive.{archive_of}
+use Rattle.ats_commit.specs.Archive.{Archive, list_root}
 use Rattle.ats_commit.specs.Own.{AreTexts}
 use Rattle.ats_commit.specs.Trees.{dictionary_of}
 use Rattle.ats_commit.proofs.Public.{dictionary_count, dictionary_numbers, dictionary_roots, dictionary_terms, few_within}
@@ -61,20 +63,24 @@ vocabulary_short texts k d inside =
     let occurs : 0 < occurrences term all = omega (arith, own.some k ([], 0) here, weight_at pairs k ([], 0) own.rises here, own.weights term) in
     subst IsShortTerm (sym (get_or-map (λ (pair : List ℕ × ℕ). pair.0) pairs k ([], 0) d here)) (occurs_has IsShortTerm term all (terms_short texts) occurs)
 
+-- the root of a list is a digest
+root_sized : (H : List ℕ → List ℕ) → ((bytes : List ℕ) → length (H bytes) ≡ 32) → (layout : Layout) (entries : List Entry) → length (list_root H layout entries) ≡ 32
+root_sized H sized whole_lists entries = digest_sized H sized (tree_of (map leaf_bytes entries))
+
 -- what holds for a leaf holds for each entry
-pub own_leaves : (H : List ℕ → List ℕ) → ((bytes : List ℕ) → length (H bytes) ≡ 32) → (texts : List (List ℕ)) → length texts ≤ 65536 → All IsLeaf (dictionary_of H (archive_of texts))
-own_leaves H sized texts few k d inside =
-    let entries : List DictEntry = dictionary_of H (archive_of texts) in
+pub own_leaves : (H : List ℕ → List ℕ) → ((bytes : List ℕ) → length (H bytes) ≡ 32) → (archive : Archive) → length archive.texts ≤ 65536 → All IsLeaf (dictionary_of H archive)
+own_leaves H sized archive few k d inside =
+    let entries : List DictEntry = dictionary_of H archive in
     let entry : DictEntry = get_or entries k d in
     let term : DictEntry → List ℕ = λ (e : DictEntry). e.term in
-    let same : get_or (vocabulary texts) k [] ≡ entry.term = ap (λ (words : List (List ℕ)). get_or words k []) (sym (dictionary_terms H (archive_of texts))) ∙ get_or-map term entries k d [] inside in
-    let among : k < length (vocabulary texts) = omega (arith, inside, length-map entries term, ap (λ (words : List (List ℕ)). length words) (dictionary_terms H (archive_of texts))) in
+    let same : get_or (vocabulary archive.texts) k [] ≡ entry.term = ap (λ (words : List (List ℕ)). get_or words k []) (sym (dictionary_terms H archive)) ∙ get_or-map term entries k d [] inside in
+    let among : k < length (vocabulary archive.texts) = omega (arith, inside, length-map entries term, ap (λ (words : List (List ℕ)). length words) (dictionary_terms H archive)) in
     record {
-      short = subst IsShortTerm same (vocabulary_short texts k [] among);
-      number = omega (arith, dictionary_numbers H (archive_of texts) k d inside, count_by-le-length (λ (text : List ℕ). nat_lt 0 (count entry.term text)) texts, few);
-      root = ap (λ (root : List ℕ). length root) (dictionary_roots H (archive_of texts) k d inside) ∙ digest_sized H sized (tree_of (map leaf_bytes (list texts entry.term)));
+      short = subst IsShortTerm same (vocabulary_short archive.texts k [] among);
+      number = omega (arith, dictionary_numbers H archive k d inside, count_by-le-length (λ (text : List ℕ). nat_lt 0 (count entry.term text)) archive.texts, few);
+      root = ap (λ (root : List ℕ). length root) (dictionary_roots H archive k d inside) ∙ root_sized H sized archive.layout (list archive.texts entry.term);
     }
 
-pub own_few : (H : List ℕ → List ℕ) (texts : List (List ℕ)) → AreTexts texts → length (dictionary_of H (archive_of texts)) ≤ 2 ^ 24
-own_few H texts are =
-    omega (arith, length-dict_leaves (dictionary_of H (archive_of texts)), dictionary_count H (archive_of texts), vocabulary_few texts, few_within texts are.utf8 are.within)
+pub own_few : (H : List ℕ → List ℕ) (archive : Archive) → AreTexts archive.texts → length (dictionary_of H archive) ≤ 2 ^ 24
+own_few H archive are =
+    omega (arith, length-dict_leaves (dictionary_of H archive), dictionary_count H archive, vocabulary_few archive.texts, few_within archive.texts are.utf8 are.within)

@@ -23,7 +23,7 @@ use Rattle.ats_terms.proofs.Public.{none_of}
 use Rattle.ats_dict.specs.Dictionary.{low, high, entry_at}
 use Rattle.ats_dict.specs.Found.{StandsAt, LiesBetween}
 use Rattle.ats_dict.proofs.Public.{entry_at-suc}
-use Rattle.ats_commit.specs.Archive.{Archive, archive_of}
+use Rattle.ats_commit.specs.Archive.{Archive}
 use Rattle.ats_commit.specs.Trees.{dict_entry, dictionary_of}
 use Rattle.ats_commit.proofs.Public.{dictionary_terms}
 use Rattle.ats_bound.specs.Schedule.{WholeLane, IsWholeLane}
@@ -59,13 +59,13 @@ standing_term H archive term p d is =
     (inside, ap (λ (e : DictEntry). e.term) (sym entry) ∙ is.same)
 
 -- and some text has it
-pub present_term : (H : List ℕ → List ℕ) (texts : List (List ℕ)) (term : List ℕ) (p : ℕ) → StandsAt (dictionary_of H (archive_of texts)) term (suc p) → nat_lt 0 (frequency term texts) ≡ true
-present_term H texts term p is =
-    let entries = dictionary_of H (archive_of texts) in
+pub present_term : (H : List ℕ → List ℕ) (archive : Archive) (term : List ℕ) (p : ℕ) → StandsAt (dictionary_of H archive) term (suc p) → nat_lt 0 (frequency term archive.texts) ≡ true
+present_term H archive term p is =
+    let entries = dictionary_of H archive in
     let terms : List (List ℕ) = map (λ (e : DictEntry). e.term) entries in
     let inside : p < length entries = omega (arith, is.within) in
     let at : get_or terms p [] ≡ term = get_or-map (λ (e : DictEntry). e.term) entries p low [] inside ∙ ap (λ (e : DictEntry). e.term) (sym (entry_at-suc entries p low inside)) ∙ is.same in
-    ap (nat_lt 0) (sym (postings_frequency term texts)) ∙ sym (vocabulary_has texts term) ∙ ap (list_any (bytes_eq term)) (sym (dictionary_terms H (archive_of texts)))
+    ap (nat_lt 0) (sym (postings_frequency term archive.texts)) ∙ sym (vocabulary_has archive.texts term) ∙ ap (list_any (bytes_eq term)) (sym (dictionary_terms H archive))
     ∙ list_any_at (bytes_eq term) terms p [] (omega (arith, inside, length-map entries (λ (e : DictEntry). e.term))) ((bytes_eq-Decides term (get_or terms p [])).1 (sym at))
 
 -- each list is that of its term

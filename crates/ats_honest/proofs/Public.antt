@@ -114,9 +114,9 @@ pub use Rattle.ats_honest.proofs.Whole.{lanes_each}
 pub use Rattle.ats_honest.proofs.Whole.{lists_each}
 -- the fields of a proof built from the right parts are in the grammar's order
 pub use Rattle.ats_honest.proofs.Whole.{proof_comes}
--- the proof for texts and a query made of spots, leaf positions, a cut, brackets, documents and picks
+-- the proof over an archive made of spots, leaf positions, a cut, brackets, documents and picks
 pub use Rattle.ats_honest.proofs.Whole.{proof_of}
--- an honest TNRA proof over texts for at most 32 query terms and 1000 rows has at most 2^26 bytes
+-- an honest TNRA proof for at most 32 query terms and 1000 rows has at most 2^26 bytes
 pub use Rattle.ats_honest.proofs.Short.{honest_short}
 -- if a term is at a leaf of a document's terms, its list gives the document the leaf's impact
 pub use Rattle.ats_honest.proofs.LookedUp.{looked_up_at}
@@ -129,6 +129,4 @@ pub use Rattle.ats_honest.proofs.Lookups.{looked_up_out}
 -- the impact looked up by a number past the last term is 0
 pub use Rattle.ats_honest.proofs.Lookups.{looked_up_past}
 -- two honest proofs for one archive, query, row limit and algorithm are equal
-pub use Rattle.ats_honest.proofs.Archives.{archive_one}
--- an honest TNRA proof for at most 32 query terms and 1000 rows has at most 2^26 bytes
-pub use Rattle.ats_honest.proofs.Archives.{archive_short}
+pub use Rattle.ats_honest.proofs.OneProof.{one_proof}

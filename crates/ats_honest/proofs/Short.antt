@@ -18,8 +18,8 @@ use Rattle.ats_dict.specs.Entry.{DictEntry}
 use Rattle.ats_dict.specs.Header.{IsHeader}
 use Rattle.ats_dict.specs.declared.header.Header.{Header}
 use Rattle.ats_dict.proofs.Public.{length-dict_leaves}
-use Rattle.ats_lists.specs.Layout.{whole_lists}
-use Rattle.ats_commit.specs.Archive.{archive_of}
+use Rattle.ats_lists.specs.Layout.{Layout, whole_lists}
+use Rattle.ats_commit.specs.Archive.{Archive}
 use Rattle.ats_commit.specs.Own.{AreTexts}
 use Rattle.ats_commit.specs.Trees.{dictionary_of}
 use Rattle.ats_commit.proofs.Public.{header_in_range, few_within}
@@ -168,9 +168,9 @@ prefixes_size (p ∷ ps) all =
       size-append (prefix_fields p) (flat_map prefix_fields ps),
     )
 
-short_prefix : (H : List ℕ → List ℕ) → ((bytes : List ℕ) → length (H bytes) ≡ 32) → (met : List ℕ) (entries : List Entry) (count : ℕ) → IsList 65536 entries
-    → 1 ≤ count → count ≤ length entries → IsShort (prefix_of H whole_lists met entries count)
-short_prefix H sized met entries count is some within =
+short_prefix : (H : List ℕ → List ℕ) → ((bytes : List ℕ) → length (H bytes) ≡ 32) → (layout : Layout) (met : List ℕ) (entries : List Entry) (count : ℕ) → IsList 65536 entries
+    → 1 ≤ count → count ≤ length entries → IsShort (prefix_of H layout met entries count)
+short_prefix H sized whole_lists met entries count is some within =
     let shown = length-map (take count entries) (placed met) in
     let took = length-take-le count entries within in
     let leaves : List (List ℕ) = map leaf_bytes entries in
@@ -179,16 +179,16 @@ short_prefix H sized met entries count is some within =
       short = omega (arith, shown, took, front_few H leaves count (omega (arith, all, is.few)) some (omega (arith, all, within)));
     }
 
-short_prefixes : (H : List ℕ → List ℕ) → ((bytes : List ℕ) → length (H bytes) ≡ 32) → (met : List ℕ) (lanes : List WholeLane) (cut : List ℕ)
+short_prefixes : (H : List ℕ → List ℕ) → ((bytes : List ℕ) → length (H bytes) ≡ 32) → (layout : Layout) (met : List ℕ) (lanes : List WholeLane) (cut : List ℕ)
     → All (λ (lane : WholeLane). IsList 65536 lane.entries) lanes → ((i : ℕ) (d : WholeLane) → i < length lanes → (1 ≤ get_or cut i 0) × (get_or cut i 0 ≤ length (get_or lanes i d).entries))
-    → All IsShort (prefixes H whole_lists met lanes cut)
-short_prefixes H sized met [] cut lists is k d inside = absurd (omega (arith, inside))
-short_prefixes H sized met (lane ∷ lanes) [] lists is k d inside = absurd (omega (arith, inside))
-short_prefixes H sized met (lane ∷ lanes) (count ∷ cut) lists is zero d inside =
+    → All IsShort (prefixes H layout met lanes cut)
+short_prefixes H sized layout met [] cut lists is k d inside = absurd (omega (arith, inside))
+short_prefixes H sized layout met (lane ∷ lanes) [] lists is k d inside = absurd (omega (arith, inside))
+short_prefixes H sized layout met (lane ∷ lanes) (count ∷ cut) lists is zero d inside =
     let first = is 0 lane (omega arith) in
-    short_prefix H sized met lane.entries count (All-head (λ (l : WholeLane). IsList 65536 l.entries) lane lanes lists) first.0 first.1
-short_prefixes H sized met (lane ∷ lanes) (count ∷ cut) lists is (suc k) d inside =
-    short_prefixes H sized met lanes cut (All-tail (λ (l : WholeLane). IsList 65536 l.entries) lane lanes lists) (λ i e less. is (suc i) e (omega (arith, less))) k d (omega (arith, inside))
+    short_prefix H sized layout met lane.entries count (All-head (λ (l : WholeLane). IsList 65536 l.entries) lane lanes lists) first.0 first.1
+short_prefixes H sized layout met (lane ∷ lanes) (count ∷ cut) lists is (suc k) d inside =
+    short_prefixes H sized layout met lanes cut (All-tail (λ (l : WholeLane). IsList 65536 l.entries) lane lanes lists) (λ i e less. is (suc i) e (omega (arith, less))) k d (omega (arith, inside))
 
 -- ---- the whole
 
@@ -250,13 +250,13 @@ few_short proof is =
 
 -- ---- an honest proof
 
-module _ (H : List ℕ → List ℕ) (sized : (bytes : List ℕ) → length (H bytes) ≡ 32) (texts : List (List ℕ)) (query : List (List ℕ × ℕ)) (r : ℕ) (proof : Proof)
-    (are : AreTexts texts) (few : length query ≤ 32) (rows : r ≤ 1000) (honest : IsHonest H (archive_of texts) query r Tnra proof) where
+module _ (H : List ℕ → List ℕ) (sized : (bytes : List ℕ) → length (H bytes) ≡ 32) (archive : Archive) (query : List (List ℕ × ℕ)) (r : ℕ) (proof : Proof)
+    (are : AreTexts archive.texts) (few : length query ≤ 32) (rows : r ≤ 1000) (honest : IsHonest H archive query r Tnra proof) where
   abbrev entries : List DictEntry
-  entries = dictionary_of H (archive_of texts)
+  entries = dictionary_of H archive
 
   abbrev lanes : List WholeLane
-  lanes = lanes_of texts query
+  lanes = lanes_of archive.texts query
 
   terms : length honest.spots ≡ length query
   terms = spot_each entries query honest.spots honest.found
@@ -266,19 +266,19 @@ module _ (H : List ℕ → List ℕ) (sized : (bytes : List ℕ) → length (H b
 
   small : All IsSmall proof.dict
   small = subst (All IsSmall) (sym honest.dict) (All-map IsSmall (shown_entry entries) honest.positions (λ k d inside.
-      leaf_among entries (get_or honest.positions k d) (own_leaves H sized texts are.within.few)
+      leaf_among entries (get_or honest.positions k d) (own_leaves H sized archive are.within.few)
       (positions_below entries query honest.spots honest.positions honest.found honest.needed k d inside)))
 
   others : AreDigests proof.dict_digests
   others = subst AreDigests (sym honest.dict_digests) (
       let leaves : List (List ℕ) = dict_leaves entries in
       record {
-        few = omega (arith, dictionary_few H leaves honest.positions (omega (arith, length-dict_leaves entries, own_few H texts are)) positions);
+        few = omega (arith, dictionary_few H leaves honest.positions (omega (arith, length-dict_leaves entries, own_few H archive are)) positions);
         each = elided_sized H sized (tree_of_places (length leaves) (shown_with leaves honest.positions)) (tree_of leaves);
       })
 
   lists : All (HasList 65536) lanes
-  lists = lists_within texts query are.within.few
+  lists = lists_within archive.texts query are.within.few
 
   is_cut : IsCut lanes honest.cut
   is_cut = scheduled_is_cut lanes honest.first.turns honest.cut (λ i d inside. (lists i d inside).some) honest.first.scheduled
@@ -293,14 +293,14 @@ module _ (H : List ℕ → List ℕ) (sized : (bytes : List ℕ) → length (H b
   has_few : HasFew proof
   has_few = record {
     front = subst (λ (h : Header). IsHeader h.documents h.dict_leaves h.dict_root h.docs_root h.texts_root) (sym honest.header)
-        (header_in_range H sized (archive_of texts) are.within (few_within texts are.utf8 are.within));
+        (header_in_range H sized archive are.within (few_within archive.texts are.utf8 are.within));
     entries = small;
     leaves = omega (arith, ap (λ (es : List ShownEntry). length es) honest.dict, length-map honest.positions (shown_entry entries), positions);
     others = others;
     terms = omega (arith, ap (λ (slots : List Slot). length slots) honest.slots, length-map honest.spots (slot_of honest.positions), terms, few);
     met = met;
-    lists = subst (All IsShort) (sym honest.lists) (short_prefixes H sized proof.met lanes honest.cut lists is_cut.each);
-    fronts = omega (arith, ap (λ (ps : List Prefix). length ps) honest.lists, prefix_each H proof.met lanes honest.cut is_cut.size, lanes_few texts query, few);
+    lists = subst (All IsShort) (sym honest.lists) (short_prefixes H sized archive.layout proof.met lanes honest.cut lists is_cut.each);
+    fronts = omega (arith, ap (λ (ps : List Prefix). length ps) honest.lists, prefix_each H archive.layout proof.met lanes honest.cut is_cut.size, lanes_few archive.texts query, few);
     alone = honest.docs;
     rows = omega (arith, ap (λ (picks : List ℕ). length picks) honest.answer.first, length-take r honest.answer.all, rows);
   }

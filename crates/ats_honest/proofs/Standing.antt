@@ -13,7 +13,7 @@ use Rattle.ats_dict.proofs.Public.{entry_at-last, entry_at-suc}
 use Rattle.ats_doctree.specs.Impacts.{doc_terms}
 use Rattle.ats_doctree.specs.Sentinels as tree
 use Rattle.ats_doctree.proofs.Public.{doc_terms_rise, item_at-last, item_at-suc}
-use Rattle.ats_commit.specs.Archive.{archive_of}
+use Rattle.ats_commit.specs.Archive.{Archive}
 use Rattle.ats_commit.specs.Trees.{dictionary_of}
 use Rattle.ats_commit.proofs.Public.{none_between}
 use Rattle.ats_honest.specs.Terms.{HaveSpots}
@@ -21,10 +21,10 @@ use Rattle.ats_honest.specs.Documents.{IsTermSpot}
 use Rattle.ats_honest.proofs.OneProof.{entries_rise}
 use Rattle.ats_honest.proofs.Positions.{found}
 
--- a term has a spot in the dictionary of texts
-entry_spot : (H : List ℕ → List ℕ) (texts : List (List ℕ)) (term : List ℕ) → IsTerm term → (spot : Spot) × IsSpot (dictionary_of H (archive_of texts)) term spot
-entry_spot H texts term is =
-    let entries : List DictEntry = dictionary_of H (archive_of texts) in
+-- a term has a spot in the dictionary of an archive
+entry_spot : (H : List ℕ → List ℕ) (archive : Archive) (term : List ℕ) → IsTerm term → (spot : Spot) × IsSpot (dictionary_of H archive) term spot
+entry_spot H archive term is =
+    let entries : List DictEntry = dictionary_of H archive in
     let n : ℕ = length entries in
     let past : term_at entries (n + 1) ≡ 255 ∷ [] = ap (λ (e : DictEntry). e.term) (entry_at-last entries (n + 1) refl) in
     let last : IsBelow term (term_at entries (n + 1)) = subst (IsBelow term) (sym past) (high_above term is.some is.front) in
@@ -37,7 +37,7 @@ entry_spot H texts term is =
           above = lies.1.above;
           below = lies.1.below;
           absent = nowhere low high entries (λ (e : DictEntry). e.term) term
-              (none_between low entries (entry_at entries) (λ i inside. entry_at-suc entries i low inside) (λ (e : DictEntry). e.term) (entries_rise H texts) lies.0 term lies.1.within lies.1.above lies.1.below);
+              (none_between low entries (entry_at entries) (λ i inside. entry_at-suc entries i low inside) (λ (e : DictEntry). e.term) (entries_rise H archive) lies.0 term lies.1.within lies.1.above lies.1.below);
         },
       )
     ]
@@ -76,9 +76,9 @@ have_spots is each (pair ∷ terms) all =
     (here.0 ∷ later.0, (here.1, later.1))
 
 -- terms have spots in the dictionary
-pub entry_spots : (H : List ℕ → List ℕ) (texts : List (List ℕ)) (terms : List (List ℕ × ℕ)) → All HasTerm terms
-    → (spots : List Spot) × HaveSpots (IsSpot (dictionary_of H (archive_of texts))) terms spots
-entry_spots H texts terms all = have_spots (IsSpot (dictionary_of H (archive_of texts))) (entry_spot H texts) terms all
+pub entry_spots : (H : List ℕ → List ℕ) (archive : Archive) (terms : List (List ℕ × ℕ)) → All HasTerm terms
+    → (spots : List Spot) × HaveSpots (IsSpot (dictionary_of H archive)) terms spots
+entry_spots H archive terms all = have_spots (IsSpot (dictionary_of H archive)) (entry_spot H archive) terms all
 
 -- and in each document
 pub item_spots : (texts : List (List ℕ)) (doc : ℕ) (terms : List (List ℕ × ℕ)) → All HasTerm terms

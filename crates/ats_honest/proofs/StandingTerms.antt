@@ -6,7 +6,7 @@ use Rattle.std.specs.declared.cmp.Ordering.TheVariants.{Less}
 use Rattle.ats_impact.specs.Score.{frequency}
 use Rattle.ats_dict.specs.declared.spot.Spot.{Spot}
 use Rattle.ats_dict.specs.declared.spot.Spot.TheVariants.{At, Between}
-use Rattle.ats_commit.specs.Archive.{archive_of}
+use Rattle.ats_commit.specs.Archive.{Archive}
 use Rattle.ats_commit.specs.Trees.{dictionary_of}
 use Rattle.ats_honest.specs.Terms.{AreSpots}
 use Rattle.ats_honest.specs.Present.{standing}
@@ -60,14 +60,14 @@ standing_rises (pair ∷ query) (Between p ∷ spots) rises = standing_rises que
 abbrev has_list : List (List ℕ) → List ℕ × ℕ → Bool
 has_list texts pair = nat_lt 0 (frequency pair.0 texts)
 
-pub standing_present : (H : List ℕ → List ℕ) (texts : List (List ℕ)) (query : List (List ℕ × ℕ)) (spots : List Spot) → AreSpots (dictionary_of H (archive_of texts)) query spots → standing query spots ≡ present texts query
-standing_present H texts [] [] are = refl
-standing_present H texts [] (s ∷ spots) are = absurd are
-standing_present H texts (pair ∷ query) [] are = absurd are
-standing_present H texts (pair ∷ query) (At zero ∷ spots) are = absurd (omega (arith, are.0.some))
-standing_present H texts (pair ∷ query) (At (suc p) ∷ spots) are =
-    ap (λ (xs : List (List ℕ × ℕ)). pair ∷ xs) (standing_present H texts query spots are.1)
-    ∙ ap (λ b. cond b (pair ∷ present texts query) (present texts query)) (sym (present_term H texts pair.0 p are.0))
-standing_present H texts (pair ∷ query) (Between p ∷ spots) are =
-    standing_present H texts query spots are.1
-    ∙ ap (λ n. cond (nat_lt 0 n) (pair ∷ present texts query) (present texts query)) (sym (absent_term H (archive_of texts) pair.0 p are.0))
+pub standing_present : (H : List ℕ → List ℕ) (archive : Archive) (query : List (List ℕ × ℕ)) (spots : List Spot) → AreSpots (dictionary_of H archive) query spots → standing query spots ≡ present archive.texts query
+standing_present H archive [] [] are = refl
+standing_present H archive [] (s ∷ spots) are = absurd are
+standing_present H archive (pair ∷ query) [] are = absurd are
+standing_present H archive (pair ∷ query) (At zero ∷ spots) are = absurd (omega (arith, are.0.some))
+standing_present H archive (pair ∷ query) (At (suc p) ∷ spots) are =
+    ap (λ (xs : List (List ℕ × ℕ)). pair ∷ xs) (standing_present H archive query spots are.1)
+    ∙ ap (λ b. cond b (pair ∷ present archive.texts query) (present archive.texts query)) (sym (present_term H archive pair.0 p are.0))
+standing_present H archive (pair ∷ query) (Between p ∷ spots) are =
+    standing_present H archive query spots are.1
+    ∙ ap (λ n. cond (nat_lt 0 n) (pair ∷ present archive.texts query) (present archive.texts query)) (sym (absent_term H archive pair.0 p are.0))

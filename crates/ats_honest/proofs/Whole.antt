@@ -19,9 +19,9 @@ use Rattle.ats_dict.specs.Header.{IsHeader}
 use Rattle.ats_dict.specs.declared.spot.Spot.{Spot}
 use Rattle.ats_dict.specs.declared.spot.Spot.TheVariants.{At, Between}
 use Rattle.ats_dict.proofs.Public.{length-dict_leaves}
-use Rattle.ats_lists.specs.Layout.{whole_lists}
-use Rattle.ats_commit.specs.Archive.{Archive, archive_of}
-use Rattle.ats_commit.proofs.Public.{each_archive}
+use Rattle.ats_lists.specs.Layout.{Layout, whole_lists}
+use Rattle.ats_commit.specs.Archive.{Archive}
+use Rattle.ats_commit.proofs.Public.{same_layout}
 use Rattle.ats_commit.specs.Root.{header_parts}
 use Rattle.ats_commit.specs.Trees.{dictionary_of}
 use Rattle.ats_bound.specs.declared.bracket.Bracket.{Bracket}
@@ -32,7 +32,7 @@ use Rattle.ats_grammar.specs.Table.{End}
 use Rattle.ats_grammar.specs.Front.{Come}
 use Rattle.ats_grammar.specs.Grammar as grammar
 use Rattle.ats_proof.specs.declared.record.Algorithm.{Algorithm}
-use Rattle.ats_proof.specs.Value.{Documents, Proof, AreDocumentsOf, fields_of, kind_of_slot, present_in}
+use Rattle.ats_proof.specs.Value.{Documents, Proof, AreDocumentsOf, fields_of, layout_of, kind_of_slot, present_in}
 use Rattle.ats_honest.specs.Order.{AreInOrder}
 use Rattle.ats_honest.specs.Terms.{AreSpots, AreNeeded, shown_entry, slot_of}
 use Rattle.ats_honest.specs.Documents.{HasDocuments}
@@ -52,36 +52,36 @@ use Rattle.ats_honest.proofs.Ranges.{elided_sized, good_entries, good_ids, good_
 abbrev has_list : List (List ℕ) → List ℕ × ℕ → Bool
 has_list texts pair = nat_lt 0 (frequency pair.0 texts)
 
-kind_tells : (H : List ℕ → List ℕ) (texts : List (List ℕ)) (pair : List ℕ × ℕ) (positions : List ℕ) (spot : Spot) → AreSpots (dictionary_of H (archive_of texts)) (pair ∷ []) (spot ∷ [])
-    → cond (has_list texts pair) 1 0 ≡ kind_of_slot (slot_of positions spot)
-kind_tells H texts pair positions (At zero) are = absurd (omega (arith, are.0.some))
-kind_tells H texts pair positions (At (suc p)) are = ap (λ b. cond b 1 0) (present_term H texts pair.0 p are.0)
-kind_tells H texts pair positions (Between p) are = ap (λ n. cond (nat_lt 0 n) 1 0) (absent_term H (archive_of texts) pair.0 p are.0)
+kind_tells : (H : List ℕ → List ℕ) (archive : Archive) (pair : List ℕ × ℕ) (positions : List ℕ) (spot : Spot) → AreSpots (dictionary_of H archive) (pair ∷ []) (spot ∷ [])
+    → cond (has_list archive.texts pair) 1 0 ≡ kind_of_slot (slot_of positions spot)
+kind_tells H archive pair positions (At zero) are = absurd (omega (arith, are.0.some))
+kind_tells H archive pair positions (At (suc p)) are = ap (λ b. cond b 1 0) (present_term H archive pair.0 p are.0)
+kind_tells H archive pair positions (Between p) are = ap (λ n. cond (nat_lt 0 n) 1 0) (absent_term H archive pair.0 p are.0)
 
-count_present : (H : List ℕ → List ℕ) (texts : List (List ℕ)) (query : List (List ℕ × ℕ)) (positions : List ℕ) (spots : List Spot) → AreSpots (dictionary_of H (archive_of texts)) query spots
-    → count_by (has_list texts) query ≡ present_in (map (slot_of positions) spots)
-count_present H texts [] positions [] are = refl
-count_present H texts [] positions (s ∷ spots) are = absurd are
-count_present H texts (pair ∷ query) positions [] are = absurd are
-count_present H texts (pair ∷ query) positions (s ∷ spots) are =
+count_present : (H : List ℕ → List ℕ) (archive : Archive) (query : List (List ℕ × ℕ)) (positions : List ℕ) (spots : List Spot) → AreSpots (dictionary_of H archive) query spots
+    → count_by (has_list archive.texts) query ≡ present_in (map (slot_of positions) spots)
+count_present H archive [] positions [] are = refl
+count_present H archive [] positions (s ∷ spots) are = absurd are
+count_present H archive (pair ∷ query) positions [] are = absurd are
+count_present H archive (pair ∷ query) positions (s ∷ spots) are =
     omega (
       arith,
-      sum_by-cons (λ p. cond (has_list texts p) 1 0) pair query,
+      sum_by-cons (λ p. cond (has_list archive.texts p) 1 0) pair query,
       sum_by-cons kind_of_slot (slot_of positions s) (map (slot_of positions) spots),
-      kind_tells H texts pair positions s (are.0, tt),
-      count_present H texts query positions spots are.1,
+      kind_tells H archive pair positions s (are.0, tt),
+      count_present H archive query positions spots are.1,
     )
 
-pub lanes_each : (H : List ℕ → List ℕ) (texts : List (List ℕ)) (query : List (List ℕ × ℕ)) (positions : List ℕ) (spots : List Spot) → AreSpots (dictionary_of H (archive_of texts)) query spots
-    → length (lanes_of texts query) ≡ present_in (map (slot_of positions) spots)
-lanes_each H texts query positions spots are =
-    length-map (present texts query) (lane_of texts) ∙ length-filter (has_list texts) query ∙ count_present H texts query positions spots are
+pub lanes_each : (H : List ℕ → List ℕ) (archive : Archive) (query : List (List ℕ × ℕ)) (positions : List ℕ) (spots : List Spot) → AreSpots (dictionary_of H archive) query spots
+    → length (lanes_of archive.texts query) ≡ present_in (map (slot_of positions) spots)
+lanes_each H archive query positions spots are =
+    length-map (present archive.texts query) (lane_of archive.texts) ∙ length-filter (has_list archive.texts) query ∙ count_present H archive query positions spots are
 
 -- ---- prefixes
 
-good_prefix : (H : List ℕ → List ℕ) → ((bytes : List ℕ) → length (H bytes) ≡ 32) → (met : List ℕ) (entries : List Entry) (count : ℕ) → length met ≤ 65536 → IsList 65536 entries
-    → 1 ≤ count → count ≤ length entries → IsGoodPrefix (prefix_of H whole_lists met entries count)
-good_prefix H sized met entries count few is some within =
+good_prefix : (H : List ℕ → List ℕ) → ((bytes : List ℕ) → length (H bytes) ≡ 32) → (layout : Layout) (met : List ℕ) (entries : List Entry) (count : ℕ) → length met ≤ 65536 → IsList 65536 entries
+    → 1 ≤ count → count ≤ length entries → IsGoodPrefix (prefix_of H layout met entries count)
+good_prefix H sized whole_lists met entries count few is some within =
     let size = length-map (take count entries) (placed met) in
     let took = length-take-le count entries within in
     let leaves : List (List ℕ) = map leaf_bytes entries in
@@ -101,16 +101,16 @@ good_prefix H sized met entries count few is some within =
       };
     }
 
-good_prefixes : (H : List ℕ → List ℕ) → ((bytes : List ℕ) → length (H bytes) ≡ 32) → (met : List ℕ) (lanes : List WholeLane) (cut : List ℕ) → length met ≤ 65536
+good_prefixes : (H : List ℕ → List ℕ) → ((bytes : List ℕ) → length (H bytes) ≡ 32) → (layout : Layout) (met : List ℕ) (lanes : List WholeLane) (cut : List ℕ) → length met ≤ 65536
     → All (λ (lane : WholeLane). IsList 65536 lane.entries) lanes → ((i : ℕ) (d : WholeLane) → i < length lanes → (1 ≤ get_or cut i 0) × (get_or cut i 0 ≤ length (get_or lanes i d).entries))
-    → All IsGoodPrefix (prefixes H whole_lists met lanes cut)
-good_prefixes H sized met [] cut few lists is k d inside = absurd (omega (arith, inside))
-good_prefixes H sized met (lane ∷ lanes) [] few lists is k d inside = absurd (omega (arith, inside))
-good_prefixes H sized met (lane ∷ lanes) (count ∷ cut) few lists is zero d inside =
+    → All IsGoodPrefix (prefixes H layout met lanes cut)
+good_prefixes H sized layout met [] cut few lists is k d inside = absurd (omega (arith, inside))
+good_prefixes H sized layout met (lane ∷ lanes) [] few lists is k d inside = absurd (omega (arith, inside))
+good_prefixes H sized layout met (lane ∷ lanes) (count ∷ cut) few lists is zero d inside =
     let first = is 0 lane (omega arith) in
-    good_prefix H sized met lane.entries count few (All-head (λ (l : WholeLane). IsList 65536 l.entries) lane lanes lists) first.0 first.1
-good_prefixes H sized met (lane ∷ lanes) (count ∷ cut) few lists is (suc k) d inside =
-    good_prefixes H sized met lanes cut few (All-tail (λ (l : WholeLane). IsList 65536 l.entries) lane lanes lists) (λ i e less. is (suc i) e (omega (arith, less))) k d (omega (arith, inside))
+    good_prefix H sized layout met lane.entries count few (All-head (λ (l : WholeLane). IsList 65536 l.entries) lane lanes lists) first.0 first.1
+good_prefixes H sized layout met (lane ∷ lanes) (count ∷ cut) few lists is (suc k) d inside =
+    good_prefixes H sized layout met lanes cut few (All-tail (λ (l : WholeLane). IsList 65536 l.entries) lane lanes lists) (λ i e less. is (suc i) e (omega (arith, less))) k d (omega (arith, inside))
 
 -- ---- rows
 
@@ -125,41 +125,45 @@ small_rows brackets r picks few is = subst (All (λ n. n ≤ 0xffff_ffff)) (sym 
 -- ---- all together
 
 -- what a walk and the dictionary give to a proof
-pub record HasParts (H : List ℕ → List ℕ) (texts : List (List ℕ)) (query : List (List ℕ × ℕ)) (r : ℕ) (algorithm : Algorithm) (spots : List Spot) (positions cut : List ℕ) (brackets : List Bracket) (docs : Option Documents) (picks : List ℕ) : Type 0 where
+pub record HasParts (H : List ℕ → List ℕ) (archive : Archive) (query : List (List ℕ × ℕ)) (r : ℕ) (algorithm : Algorithm) (spots : List Spot) (positions cut : List ℕ) (brackets : List Bracket) (docs : Option Documents) (picks : List ℕ) : Type 0 where
   pub sized : (bytes : List ℕ) → length (H bytes) ≡ 32
-  pub dictionary : IsDictionary (dictionary_of H (archive_of texts))
-  pub front : IsHeader (header_parts H (archive_of texts)).documents (header_parts H (archive_of texts)).dict_leaves (header_parts H (archive_of texts)).dict_root (header_parts H (archive_of texts)).docs_root (header_parts H (archive_of texts)).texts_root
+  pub dictionary : IsDictionary (dictionary_of H archive)
+  pub front : IsHeader (header_parts H archive).documents (header_parts H archive).dict_leaves (header_parts H archive).dict_root (header_parts H archive).docs_root (header_parts H archive).texts_root
   pub is_query : IsQuery query
-  pub found : AreSpots (dictionary_of H (archive_of texts)) query spots
+  pub found : AreSpots (dictionary_of H archive) query spots
   pub needed : AreNeeded spots positions
   pub positions_few : length positions ≤ 64
-  pub whole : AreWholeLanes (lanes_of texts query)
-  pub lists : All (λ (lane : WholeLane). IsList 65536 lane.entries) (lanes_of texts query)
-  pub first : IsFirstSettledBy (bounding algorithm (lanes_of texts query)) (lanes_of texts query) r cut
-  pub bounds : AreBracketsBy (bounding algorithm (lanes_of texts query)) (shown (lanes_of texts query) cut) brackets
-  pub documents : HasDocuments algorithm H texts (present texts query) (map (λ (b : Bracket). b.doc) brackets) docs
-  pub documents_come : AreInOrder (length (map (λ (b : Bracket). b.doc) brackets)) (length (present texts query)) docs
+  pub whole : AreWholeLanes (lanes_of archive.texts query)
+  pub lists : All (λ (lane : WholeLane). IsList 65536 lane.entries) (lanes_of archive.texts query)
+  pub first : IsFirstSettledBy (bounding algorithm (lanes_of archive.texts query)) (lanes_of archive.texts query) r cut
+  pub bounds : AreBracketsBy (bounding algorithm (lanes_of archive.texts query)) (shown (lanes_of archive.texts query) cut) brackets
+  pub documents : HasDocuments algorithm H archive.texts (present archive.texts query) (map (λ (b : Bracket). b.doc) brackets) docs
+  pub documents_come : AreInOrder (length (map (λ (b : Bracket). b.doc) brackets)) (length (present archive.texts query)) docs
   pub chosen : IsChosen brackets r picks
   pub rows : length picks ≤ 1000
 
 abbrev pub docs_of : List Bracket → List ℕ
 docs_of brackets = map (λ (b : Bracket). b.doc) brackets
 
-abbrev pub proof_of : (List ℕ → List ℕ) → List (List ℕ) → List (List ℕ × ℕ) → List Spot → List ℕ → List ℕ → List Bracket → Option Documents → List ℕ → Proof
-proof_of H texts query spots positions cut brackets docs picks = record {
-  header = header_parts H (archive_of texts);
-  dict = map (shown_entry (dictionary_of H (archive_of texts))) positions;
-  dict_digests = elided_digests H (dict_leaves (dictionary_of H (archive_of texts))) positions;
+abbrev pub proof_of : (List ℕ → List ℕ) → Archive → List (List ℕ × ℕ) → List Spot → List ℕ → List ℕ → List Bracket → Option Documents → List ℕ → Proof
+proof_of H archive query spots positions cut brackets docs picks = record {
+  header = header_parts H archive;
+  dict = map (shown_entry (dictionary_of H archive)) positions;
+  dict_digests = elided_digests H (dict_leaves (dictionary_of H archive)) positions;
   slots = map (slot_of positions) spots;
   met = docs_of brackets;
-  lists = prefixes H whole_lists (docs_of brackets) (lanes_of texts query) cut;
+  lists = prefixes H archive.layout (docs_of brackets) (lanes_of archive.texts query) cut;
   docs = docs;
   answer = picks;
 }
 
-pub is_honest : (H : List ℕ → List ℕ) (texts : List (List ℕ)) (query : List (List ℕ × ℕ)) (r : ℕ) (algorithm : Algorithm) (spots : List Spot) (positions cut : List ℕ) (brackets : List Bracket) (docs : Option Documents) (picks : List ℕ)
-    → HasParts H texts query r algorithm spots positions cut brackets docs picks → IsHonest H (archive_of texts) query r algorithm (proof_of H texts query spots positions cut brackets docs picks)
-is_honest H texts query r algorithm spots positions cut brackets docs picks parts = record {
+-- the layout of a proof is that of any archive, as there is one
+pub layout_is : (archive : Archive) (proof : Proof) → layout_of proof ≡ archive.layout
+layout_is archive proof = same_layout (layout_of proof) archive.layout
+
+pub is_honest : (H : List ℕ → List ℕ) (archive : Archive) (query : List (List ℕ × ℕ)) (r : ℕ) (algorithm : Algorithm) (spots : List Spot) (positions cut : List ℕ) (brackets : List Bracket) (docs : Option Documents) (picks : List ℕ)
+    → HasParts H archive query r algorithm spots positions cut brackets docs picks → IsHonest H archive query r algorithm (proof_of H archive query spots positions cut brackets docs picks)
+is_honest H archive query r algorithm spots positions cut brackets docs picks parts = record {
   spots = spots;
   found = parts.found;
   positions = positions;
@@ -168,7 +172,7 @@ is_honest H texts query r algorithm spots positions cut brackets docs picks part
   first = parts.first;
   brackets = brackets;
   bounds = parts.bounds;
-  layout = refl;
+  layout = layout_is archive (proof_of H archive query spots positions cut brackets docs picks);
   header = refl;
   dict = refl;
   dict_digests = refl;
@@ -179,17 +183,17 @@ is_honest H texts query r algorithm spots positions cut brackets docs picks part
   answer = parts.chosen;
 }
 
-pub lists_each : (H : List ℕ → List ℕ) (texts : List (List ℕ)) (query : List (List ℕ × ℕ)) (r : ℕ) (algorithm : Algorithm) (spots : List Spot) (positions cut : List ℕ) (brackets : List Bracket) (docs : Option Documents) (picks : List ℕ)
-    → HasParts H texts query r algorithm spots positions cut brackets docs picks → length (prefixes H whole_lists (docs_of brackets) (lanes_of texts query) cut) ≡ present_in (map (slot_of positions) spots)
-lists_each H texts query r algorithm spots positions cut brackets docs picks parts =
-    let is_cut = scheduled_is_cut (lanes_of texts query) parts.first.turns cut (have_entries (lanes_of texts query) parts.whole) parts.first.scheduled in
-    prefix_each H (docs_of brackets) (lanes_of texts query) cut is_cut.size ∙ lanes_each H texts query positions spots parts.found
+pub lists_each : (H : List ℕ → List ℕ) (archive : Archive) (query : List (List ℕ × ℕ)) (r : ℕ) (algorithm : Algorithm) (spots : List Spot) (positions cut : List ℕ) (brackets : List Bracket) (docs : Option Documents) (picks : List ℕ)
+    → HasParts H archive query r algorithm spots positions cut brackets docs picks → length (prefixes H archive.layout (docs_of brackets) (lanes_of archive.texts query) cut) ≡ present_in (map (slot_of positions) spots)
+lists_each H archive query r algorithm spots positions cut brackets docs picks parts =
+    let is_cut = scheduled_is_cut (lanes_of archive.texts query) parts.first.turns cut (have_entries (lanes_of archive.texts query) parts.whole) parts.first.scheduled in
+    prefix_each H archive.layout (docs_of brackets) (lanes_of archive.texts query) cut is_cut.size ∙ lanes_each H archive query positions spots parts.found
 
-is_in_range : (H : List ℕ → List ℕ) (texts : List (List ℕ)) (query : List (List ℕ × ℕ)) (r : ℕ) (algorithm : Algorithm) (spots : List Spot) (positions cut : List ℕ) (brackets : List Bracket) (docs : Option Documents) (picks : List ℕ)
-    → HasParts H texts query r algorithm spots positions cut brackets docs picks → IsInRange (proof_of H texts query spots positions cut brackets docs picks)
-is_in_range H texts query r algorithm spots positions cut brackets docs picks parts =
-    let entries = dictionary_of H (archive_of texts) in
-    let lanes = lanes_of texts query in
+is_in_range : (H : List ℕ → List ℕ) (archive : Archive) (query : List (List ℕ × ℕ)) (r : ℕ) (algorithm : Algorithm) (spots : List Spot) (positions cut : List ℕ) (brackets : List Bracket) (docs : Option Documents) (picks : List ℕ)
+    → HasParts H archive query r algorithm spots positions cut brackets docs picks → IsInRange (proof_of H archive query spots positions cut brackets docs picks)
+is_in_range H archive query r algorithm spots positions cut brackets docs picks parts =
+    let entries = dictionary_of H archive in
+    let lanes = lanes_of archive.texts query in
     let leaves = dict_leaves entries in
     let ids = docs_of brackets in
     let is_cut = scheduled_is_cut lanes parts.first.turns cut (have_entries lanes parts.whole) parts.first.scheduled in
@@ -209,30 +213,25 @@ is_in_range H texts query r algorithm spots positions cut brackets docs picks pa
       };
       places = good_slots entries positions query spots parts.dictionary parts.positions_few parts.is_query.rises parts.found;
       ids = (few, good_ids ids 0 rises (λ k d less. omega arith) below);
-      prefix_each = lists_each H texts query r algorithm spots positions cut brackets docs picks parts;
-      fronts = good_prefixes H parts.sized ids lanes cut few parts.lists is_cut.each;
+      prefix_each = lists_each H archive query r algorithm spots positions cut brackets docs picks parts;
+      fronts = good_prefixes H parts.sized archive.layout ids lanes cut few parts.lists is_cut.each;
       rows = (parts.rows, small_rows brackets r picks (omega (arith, few, length-map brackets (λ (b : Bracket). b.doc))) parts.chosen);
-      documents = subst (λ (n : ℕ). AreInOrder (length ids) n docs) (sym (prefix_each H ids lanes cut is_cut.size ∙ length-map (present texts query) (lane_of texts))) parts.documents_come;
+      documents = subst (λ (n : ℕ). AreInOrder (length ids) n docs) (sym (prefix_each H archive.layout ids lanes cut is_cut.size ∙ length-map (present archive.texts query) (lane_of archive.texts))) parts.documents_come;
     }
 
 -- its fields are in the grammar's order
-pub proof_comes : (H : List ℕ → List ℕ) (texts : List (List ℕ)) (query : List (List ℕ × ℕ)) (r : ℕ) (algorithm : Algorithm) (spots : List Spot) (positions cut : List ℕ) (brackets : List Bracket) (docs : Option Documents) (picks : List ℕ)
-    → HasParts H texts query r algorithm spots positions cut brackets docs picks → Come (fields_of (proof_of H texts query spots positions cut brackets docs picks)) grammar.proof End
-proof_comes H texts query r algorithm spots positions cut brackets docs picks parts =
-    come_proof (proof_of H texts query spots positions cut brackets docs picks) (is_in_range H texts query r algorithm spots positions cut brackets docs picks parts)
+pub proof_comes : (H : List ℕ → List ℕ) (archive : Archive) (query : List (List ℕ × ℕ)) (r : ℕ) (algorithm : Algorithm) (spots : List Spot) (positions cut : List ℕ) (brackets : List Bracket) (docs : Option Documents) (picks : List ℕ)
+    → HasParts H archive query r algorithm spots positions cut brackets docs picks → Come (fields_of (proof_of H archive query spots positions cut brackets docs picks)) grammar.proof End
+proof_comes H archive query r algorithm spots positions cut brackets docs picks parts =
+    come_proof (proof_of H archive query spots positions cut brackets docs picks) (is_in_range H archive query r algorithm spots positions cut brackets docs picks parts)
 
 -- ---- any honest proof
 
 -- a leaf and a section for each met document, and a slot in each for each present term
-documents_spelled : (H : List ℕ → List ℕ) (texts : List (List ℕ)) (query : List (List ℕ × ℕ)) (r : ℕ) (algorithm : Algorithm) (proof : Proof)
-    → IsHonest H (archive_of texts) query r algorithm proof → AreDocumentsOf proof proof.docs
-documents_spelled H texts query r algorithm proof honest =
-    let terms : List (List ℕ × ℕ) = present texts query in
-    let each : length terms ≡ present_in proof.slots = sym (length-map terms (lane_of texts))
-    ∙ lanes_each H texts query honest.positions honest.spots honest.found ∙ sym (ap present_in honest.slots) in
-    are_documents H texts terms algorithm proof proof.docs honest.docs each
-
 pub documents_are : (H : List ℕ → List ℕ) (archive : Archive) (query : List (List ℕ × ℕ)) (r : ℕ) (algorithm : Algorithm) (proof : Proof)
     → IsHonest H archive query r algorithm proof → AreDocumentsOf proof proof.docs
-documents_are H archive query r algorithm proof =
-    each_archive (λ a. IsHonest H a query r algorithm proof → AreDocumentsOf proof proof.docs) (λ texts. documents_spelled H texts query r algorithm proof) archive
+documents_are H archive query r algorithm proof honest =
+    let terms : List (List ℕ × ℕ) = present archive.texts query in
+    let each : length terms ≡ present_in proof.slots = sym (length-map terms (lane_of archive.texts))
+    ∙ lanes_each H archive query honest.positions honest.spots honest.found ∙ sym (ap present_in honest.slots) in
+    are_documents H archive.texts terms algorithm proof proof.docs honest.docs each

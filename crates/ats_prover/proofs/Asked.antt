@@ -5,11 +5,9 @@ use Rattle.ats_tree.specs.Elided.{elided_digests}
 use Rattle.ats_dict.specs.Dictionary.{dict_leaves}
 use Rattle.ats_dict.specs.declared.header.Header.{Header}
 use Rattle.ats_dict.specs.declared.spot.Spot.{Spot}
-use Rattle.ats_lists.specs.Layout.{whole_lists}
-use Rattle.ats_commit.specs.Archive.{Archive, archive_of}
+use Rattle.ats_commit.specs.Archive.{Archive}
 use Rattle.ats_commit.specs.Root.{header_parts}
 use Rattle.ats_commit.specs.Trees.{dictionary_of}
-use Rattle.ats_commit.proofs.Public.{each_archive}
 use Rattle.ats_bound.specs.declared.bracket.Bracket.{Bracket}
 use Rattle.ats_proof.specs.Records.{front_record}
 use Rattle.ats_proof.specs.Written.{Written, after, writing}
@@ -27,28 +25,28 @@ use Rattle.ats_prover.proofs.Putting.{put_all}
 use Rattle.ats_prover.proofs.Records.{IsKindOf, front_is}
 
 -- the parts of the honest proof were appended, one after another
-pub written : (H : List ℕ → List ℕ) (texts : List (List ℕ)) (query : List (List ℕ × ℕ)) (r : ℕ) (algorithm : Algorithm) (spots : List Spot) (positions cut : List ℕ) (brackets : List Bracket) (docs : Option Documents) (picks : List ℕ) (w x y z : Written)
-    → HasParts H texts query r algorithm spots positions cut brackets docs picks
-    → x ≡ put w (front_fields docs ++ header_fields (header_parts H (archive_of texts)) ++ spelled 2 (length (map (slot_of positions) spots)) ∷ [])
-    → y ≡ put x (counted 2 entry_fields (map (shown_entry (dictionary_of H (archive_of texts))) positions) ++ counted 2 digest_fields (elided_digests H (dict_leaves (dictionary_of H (archive_of texts))) positions)
+pub written : (H : List ℕ → List ℕ) (archive : Archive) (query : List (List ℕ × ℕ)) (r : ℕ) (algorithm : Algorithm) (spots : List Spot) (positions cut : List ℕ) (brackets : List Bracket) (docs : Option Documents) (picks : List ℕ) (w x y z : Written)
+    → HasParts H archive query r algorithm spots positions cut brackets docs picks
+    → x ≡ put w (front_fields docs ++ header_fields (header_parts H archive) ++ spelled 2 (length (map (slot_of positions) spots)) ∷ [])
+    → y ≡ put x (counted 2 entry_fields (map (shown_entry (dictionary_of H archive)) positions) ++ counted 2 digest_fields (elided_digests H (dict_leaves (dictionary_of H archive)) positions)
     ++ flat_map slot_fields (map (slot_of positions) spots))
-    → z ≡ put y (counted 4 id_fields (docs_of brackets) ++ flat_map prefix_fields (prefixes H whole_lists (docs_of brackets) (lanes_of texts query) cut) ++ documents_fields docs ++ counted 2 id_fields picks)
-    → (algorithm ≡ Tnra → length_of (proof_of H texts query spots positions cut brackets docs picks) ≤ 2 ^ 26)
-    → IsWritten H (archive_of texts) query r algorithm w z
-written H texts query r algorithm spots positions cut brackets docs picks w x y z parts front terms walk short =
-    let proof = proof_of H texts query spots positions cut brackets docs picks in
-    let a : List (List ℕ) = front_fields docs ++ header_fields (header_parts H (archive_of texts)) ++ spelled 2 (length (map (slot_of positions) spots)) ∷ [] in
-    let b : List (List ℕ) = counted 2 entry_fields (map (shown_entry (dictionary_of H (archive_of texts))) positions) in
-    let c : List (List ℕ) = counted 2 digest_fields (elided_digests H (dict_leaves (dictionary_of H (archive_of texts))) positions) in
+    → z ≡ put y (counted 4 id_fields (docs_of brackets) ++ flat_map prefix_fields (prefixes H archive.layout (docs_of brackets) (lanes_of archive.texts query) cut) ++ documents_fields docs ++ counted 2 id_fields picks)
+    → (algorithm ≡ Tnra → length_of (proof_of H archive query spots positions cut brackets docs picks) ≤ 2 ^ 26)
+    → IsWritten H archive query r algorithm w z
+written H archive query r algorithm spots positions cut brackets docs picks w x y z parts front terms walk short =
+    let proof = proof_of H archive query spots positions cut brackets docs picks in
+    let a : List (List ℕ) = front_fields docs ++ header_fields (header_parts H archive) ++ spelled 2 (length (map (slot_of positions) spots)) ∷ [] in
+    let b : List (List ℕ) = counted 2 entry_fields (map (shown_entry (dictionary_of H archive)) positions) in
+    let c : List (List ℕ) = counted 2 digest_fields (elided_digests H (dict_leaves (dictionary_of H archive)) positions) in
     let d : List (List ℕ) = flat_map slot_fields (map (slot_of positions) spots) in
     let e : List (List ℕ) = counted 4 id_fields (docs_of brackets) in
-    let f : List (List ℕ) = flat_map prefix_fields (prefixes H whole_lists (docs_of brackets) (lanes_of texts query) cut) in
+    let f : List (List ℕ) = flat_map prefix_fields (prefixes H archive.layout (docs_of brackets) (lanes_of archive.texts query) cut) in
     let g : List (List ℕ) = documents_fields docs in
     let h : List (List ℕ) = counted 2 id_fields picks in record {
       proof = proof;
-      honest = is_honest H texts query r algorithm spots positions cut brackets docs picks parts;
-      come = proof_comes H texts query r algorithm spots positions cut brackets docs picks parts;
-      prefix_each = lists_each H texts query r algorithm spots positions cut brackets docs picks parts;
+      honest = is_honest H archive query r algorithm spots positions cut brackets docs picks parts;
+      come = proof_comes H archive query r algorithm spots positions cut brackets docs picks parts;
+      prefix_each = lists_each H archive query r algorithm spots positions cut brackets docs picks parts;
       asked = walk ∙ ap (λ (v : Written). put v (e ++ f ++ g ++ h)) (terms ∙ ap (λ (v : Written). put v (b ++ c ++ d)) front) ∙ put_all w a b c d e f g h;
       short = short;
     }
@@ -65,10 +63,6 @@ pub front_put : (algorithm : Algorithm) (docs : Option Documents) (h own : Heade
     → after w (front_record algorithm h n) ≡ put w (front_fields docs ++ header_fields own ++ spelled 2 m ∷ [])
 front_put algorithm docs h own n m w kind header number documents leaves few =
     ap (after w) (ap₂ (λ (x : Header) (k : ℕ). front_record algorithm x k) header number ∙ front_is algorithm docs own m kind documents leaves few)
-
--- an index is built in the one layout
-pub as_built : (archive : Archive) → archive ≡ archive_of archive.texts
-as_built archive = each_archive (λ a. a ≡ archive_of a.texts) (λ texts. refl) archive
 
 -- ---- what a finished writer gives
 

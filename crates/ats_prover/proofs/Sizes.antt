@@ -6,7 +6,7 @@ use Rattle.ats_proof.specs.declared.record.Algorithm.{Algorithm}
 use Rattle.ats_proof.specs.Value.{Proof}
 use Rattle.ats_honest.specs.Honest.{IsHonest, length_of}
 use Rattle.ats_prover.specs.Writing.{IsWritten}
-use Rattle.ats_honest.proofs.Public.{archive_one}
+use Rattle.ats_honest.proofs.Public.{one_proof}
 use Rattle.ats_prover.proofs.Asked.{AreJoined, all_asked}
 
 -- `size` bytes were appended, under this limit
@@ -18,7 +18,7 @@ pub is_asked : AreJoined → (H : List ℕ → List ℕ) (archive : Archive) (qu
     → (proof : Proof) → IsHonest H archive query r algorithm proof → IsAsked limit (length_of proof) w
 is_asked joined H archive query r algorithm limit w is proof honest =
     let asked = all_asked joined H archive query r algorithm limit w is in record {
-      all = ap (λ (v : Written). v.asked) asked ∙ ap length_of (archive_one H archive query r algorithm is.proof proof is.honest honest);
+      all = ap (λ (v : Written). v.asked) asked ∙ ap length_of (one_proof H archive query r algorithm is.proof proof is.honest honest);
       under = ap (λ (v : Written). v.limit) asked;
     }
 

@@ -1,7 +1,6 @@
 -- Fields that are appended to a writer.
 use Rattle.std.specs.Prelude.{◌≡◌, ◌≤◌, ◌^◌, ◌++◌, ℕ, List, [], length, Option}
 use Rattle.std.specs.List.{All, concat, flat_map}
-use Rattle.ats_lists.specs.Layout.{whole_lists}
 use Rattle.ats_commit.specs.Archive.{Archive}
 use Rattle.ats_bound.specs.Schedule.{WholeLane}
 use Rattle.ats_proof.specs.Written.{Written, after}
@@ -50,16 +49,16 @@ pub record AreDocumentsWritten (algorithm : Algorithm) (H : List ℕ → List �
 pub record IsWalkWritten
     (algorithm : Algorithm)
     (H : List ℕ → List ℕ)
-    (texts : List (List ℕ))
+    (archive : Archive)
     (terms : List (List ℕ × ℕ))
     (lanes : List WholeLane)
     (met cut picks : List ℕ)
     (before now : Written)
     : Type 0 where
   pub docs : Option Documents
-  pub honest : HasDocuments algorithm H texts terms met docs
+  pub honest : HasDocuments algorithm H archive.texts terms met docs
   pub come : AreInOrder (length met) (length terms) docs
-  pub asked : now ≡ put before (counted 4 id_fields met ++ flat_map prefix_fields (prefixes H whole_lists met lanes cut) ++ documents_fields docs ++ counted 2 id_fields picks)
+  pub asked : now ≡ put before (counted 4 id_fields met ++ flat_map prefix_fields (prefixes H archive.layout met lanes cut) ++ documents_fields docs ++ counted 2 id_fields picks)
 
 -- all fields of the honest proof were appended, in the grammar's order
 pub record IsWritten (H : List ℕ → List ℕ) (archive : Archive) (query : List (List ℕ × ℕ)) (r : ℕ) (algorithm : Algorithm) (before now : Written) : Type 0 where

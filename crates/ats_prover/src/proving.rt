@@ -60,7 +60,7 @@ fn write_walk<H: HashKind>(
     requires rows { length walk.now.picks ≤ 1000 }
     requires room { writer.old.asked ≤ 2 ^ 55 }
     ensures { OnOk result
-        (IsWalkWritten algorithm H.hash index.now.texts present.now (whole_lanes lanes.now)
+        (IsWalkWritten algorithm H.hash index.now present.now (whole_lanes lanes.now)
         (map (λ (b : Bounds). b.doc) walk.now.brackets) walk.now.cut walk.now.picks writer.old writer.new) }
 {
     let met = documents(alloc, walk.brackets.as_slice())?;

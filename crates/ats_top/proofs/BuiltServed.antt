@@ -9,7 +9,7 @@ use Rattle.ats_commit.specs.Archive.{Archive}
 use Rattle.ats_index.specs.Spelling.{IsSpelling}
 use Rattle.ats_index.proofs.Public.{index_size}
 use Rattle.ats_honest.specs.Honest.{IsHonest, IsProved}
-use Rattle.ats_honest.proofs.Public.{archive_short}
+use Rattle.ats_honest.proofs.Public.{honest_short}
 use Rattle.ats_top.specs.Words.{ProveWords, Command, Prove, Root, algorithm_of, command_of, number_of, root_words, prove_words}
 use Rattle.ats_top.specs.Read.{Files, IsTold, HasIndex}
 use Rattle.ats_top.specs.Refusals.{IsRowCount, AsksRanking}
@@ -35,7 +35,7 @@ module _ (H : List ℕ → List ℕ) (sized : (m : List ℕ) → length (H m) �
       let spelling = long.index.spelling in
       let few : length long.query ≤ 32 = omega (arith, ap (λ (query : List (List ℕ × ℕ)). length query) long.asked.same, long.asked.has.distinct) in
       let honest = subst (λ (a : Algorithm). IsHonest H long.archive long.query words.r a long.long.proof) walk long.long.honest in
-      let short = archive_short H sized long.archive long.query words.r long.long.proof (record { utf8 = spelling.utf8; within = spelling.within }) few asks.rows.few honest in
+      let short = honest_short H sized long.archive long.query words.r long.long.proof (record { utf8 = spelling.utf8; within = spelling.within }) few asks.rows.few honest in
       omega (arith, short, long.long.bytes_are, long.long.beyond)
 
   module _ (archive : Archive) (bytes : List ℕ) (name : List ℕ) (spelling : IsSpelling H bytes archive) (held : Holds files name bytes) where

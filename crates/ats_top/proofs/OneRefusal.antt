@@ -18,7 +18,7 @@ use Rattle.ats_index.specs.LoadFaults.{IsLoadFault}
 use Rattle.ats_index.specs.declared.load.LoadFault.TheVariants as index
 use Rattle.ats_index.proofs.Public.{one_archive, one_place}
 use Rattle.ats_honest.specs.Honest.{IsHonest, IsTooLong, length_of}
-use Rattle.ats_honest.proofs.Public.{archive_one}
+use Rattle.ats_honest.proofs.Public.{one_proof}
 use Rattle.ats_top.specs.Input.{AreJsonTexts, IsFirstJsonFault}
 use Rattle.ats_top.specs.declared.input.JsonFault.{JsonFault}
 use Rattle.ats_top.specs.declared.input.JsonFault.TheVariants as json
@@ -194,7 +194,7 @@ module _ (H : List ℕ → List ℕ) (files : Files) (told : IsTold files) (word
       let query : is.query ≡ also.query = is.asked.same ∙ sym also.asked.same in
       let honest : IsHonest H also.archive also.query words.r words.algorithm is.long.proof = subst (λ (t : Archive). IsHonest H t also.query words.r words.algorithm is.long.proof) archives
       (subst (λ (q : List (List ℕ × ℕ)). IsHonest H is.archive q words.r words.algorithm is.long.proof) query is.long.honest) in
-      let one : is.long.proof ≡ also.long.proof = archive_one H also.archive also.query words.r words.algorithm is.long.proof also.long.proof honest also.long.honest in
+      let one : is.long.proof ≡ also.long.proof = one_proof H also.archive also.query words.r words.algorithm is.long.proof also.long.proof honest also.long.honest in
       is.long.bytes_are ∙ ap length_of one ∙ sym also.long.bytes_are
 
   abbrev ProvingCause : InputRefusal → Type 0
@@ -246,7 +246,7 @@ module _ (H : List ℕ → List ℕ) (number : ℕ) where
       let query : q ≡ s = (subst (λ (j : ℕ). IsQueryOf (trial_query number j) q) here own).same ∙ sym theirs.same in
       let honest : IsHonest H (trial_archive number) s 10 n is.proof = subst (λ (by : Algorithm). IsHonest H (trial_archive number) s 10 by is.proof) alike
       (subst (λ (asked : List (List ℕ × ℕ)). IsHonest H (trial_archive number) asked 10 m is.proof) query is.honest) in
-      let one = archive_one H (trial_archive number) s 10 n is.proof also.proof honest also.honest in
+      let one = one_proof H (trial_archive number) s 10 n is.proof also.proof honest also.honest in
       is.bytes_are ∙ ap length_of one ∙ sym also.bytes_are
 
   one_too_long : (a b : ℕ) → IsTrialTooLong H number a → IsTrialTooLong H number b → a ≡ b

@@ -18,7 +18,7 @@ use Rattle.ats_index.specs.Spelling.{IsSpelling}
 use Rattle.ats_index.proofs.Public.{one_archive}
 use Rattle.ats_proof.specs.Value.{Proof, IsProof, fields_of}
 use Rattle.ats_honest.specs.Honest.{IsHonest, IsTooLong, length_of}
-use Rattle.ats_honest.proofs.Public.{archive_one}
+use Rattle.ats_honest.proofs.Public.{one_proof}
 use Rattle.ats_top.specs.Input.{AreJsonTexts}
 use Rattle.ats_top.specs.declared.input.JsonFault.{JsonFault}
 use Rattle.ats_top.specs.declared.input.JsonFault.TheVariants as json
@@ -131,7 +131,7 @@ tried_short H number algorithm i proof is query bytes own long =
     let same : is.query ≡ query = is.asked.same ∙ sym own.same in
     let honest : IsHonest H (trial_archive number) query 10 algorithm proof =
     subst (λ (q : List (List ℕ × ℕ)). IsHonest H (trial_archive number) q 10 algorithm proof) same is.tried.honest in
-    let one : proof ≡ long.proof = archive_one H (trial_archive number) query 10 algorithm proof long.proof honest long.honest in
+    let one : proof ≡ long.proof = one_proof H (trial_archive number) query 10 algorithm proof long.proof honest long.honest in
     omega (arith, is.tried.short, ap length_of one, long.bytes_are, long.beyond)
 
 proof_at : (H : List ℕ → List ℕ) (number : ℕ) (algorithm : Algorithm) (proofs : List Proof) → AreTrialProofs H number algorithm proofs
@@ -189,7 +189,7 @@ too_long_kept H files words bytes size told stored long =
     let query : stored.query ≡ long.query = stored.asked.same ∙ sym long.asked.same in
     let honest : IsHonest H long.archive long.query words.r words.algorithm stored.proved.proof = subst (λ (t : Archive). IsHonest H t long.query words.r words.algorithm stored.proved.proof) archives
     (subst (λ (q : List (List ℕ × ℕ)). IsHonest H stored.archive q words.r words.algorithm stored.proved.proof) query stored.proved.honest) in
-    let one : stored.proved.proof ≡ long.long.proof = archive_one H long.archive long.query words.r words.algorithm stored.proved.proof long.long.proof honest long.long.honest in
+    let one : stored.proved.proof ≡ long.long.proof = one_proof H long.archive long.query words.r words.algorithm stored.proved.proof long.long.proof honest long.long.honest in
     omega (arith, stored.short, spelled_size bytes stored.proved.proof stored.proved.spells, ap length_of one, long.long.bytes_are, long.long.beyond)
 
 proof_kept : (H : List ℕ → List ℕ) (before now : Files) (words : ProveWords) (text : List ℕ) → IsTold before → IsProofStored H before now words text
