@@ -1,0 +1,88 @@
+// Plays the vectors for proofs with page.wasm, and those of `ask` with ask.mjs: in a page that page/test serves, or in Node:
+// node --experimental-wasm-memory64 page/play.mjs page/out
+import { readReply, request } from './ask.mjs';
+import { bytesOf, checker, compile, linesOf } from './check.mjs';
+
+const FILES = ['proofs', 'changed', 'made', 'inputs', 'large', 'asked'];
+
+function changed(proof, changes) {
+  for (const [start, end, digits] of changes) {
+    proof = Uint8Array.from([...proof.slice(0, start), ...bytesOf(digits), ...proof.slice(end)]);
+  }
+  return proof;
+}
+
+// The bytes of parts, as vectors/README.md says.
+function joined(parts) {
+  const pieces = parts.flatMap(([digits, times = 1, first]) => {
+    const piece = bytesOf(digits), front = first === undefined ? 0 : 4, out = new Uint8Array((front + piece.length) * times);
+    for (let i = 0; i < times; i++) {
+      const at = i * (front + piece.length);
+      if (front) new DataView(out.buffer).setUint32(at, first + i);
+      out.set(piece, at + front);
+    }
+    return [out];
+  });
+  const out = new Uint8Array(pieces.reduce((sum, it) => sum + it.length, 0));
+  pieces.reduce((at, it) => (out.set(it, at), at + it.length), 0);
+  return out;
+}
+
+/** Each vector: file, what it is about, the proof, root, query, r, and the status and lines that are wanted. */
+function* cases(files) {
+  const whole = (file, about, it) => ({ file, about, ...it, proof: bytesOf(it.proof) });
+  for (const [about, it] of Object.entries(files.proofs)) yield whole('proofs', about, it);
+  for (const it of files.changed) {
+    const of = files.proofs[it.of];
+    yield { ...of, ...it, file: 'changed', about: `${it.of}: ${it.about}`, proof: changed(bytesOf(of.proof), it.changes) };
+  }
+  for (const it of files.made) yield whole('made', it.about, it);
+  for (const it of files.inputs) {
+    const made = { proof: new Uint8Array(it.zeros), root: '00'.repeat(32), query: it.text.repeat(it.times) };
+    yield { ...it, ...made, file: 'inputs', about: it.lines[0] };
+  }
+  for (const it of files.large) yield { ...it, file: 'large', proof: joined(it.proof) };
+}
+
+/** Plays all vectors. Returns the numbers that passed, by file, and what failed. */
+export async function play(module, files) {
+  const it = await checker(module), passed = {}, failed = [], times = [];
+  for (const { file, about, proof, root, query, r, status, lines } of cases(files)) {
+    const got = it.check(proof, bytesOf(root), query, r);
+    if (got.status === status && same(linesOf(got), lines)) passed[file] = (passed[file] ?? 0) + 1;
+    else failed.push(`${file}: ${about}: status ${got.status} ${linesOf(got)[0]}`);
+    if (proof.length >= 100000) times.push({ about, bytes: proof.length, ms: got.ms });
+  }
+  for (const { about, request: wanted, reply, root, algorithm, r, query, status, lines } of files.asked) {
+    const bytes = request(algorithm, r, query), got = await answerTo(it, joined(reply), bytesOf(root), query, r);
+    if (same(bytes, joined(wanted)) && got.status === status && same(got.lines, lines)) passed.asked = (passed.asked ?? 0) + 1;
+    else failed.push(`asked: ${about}: status ${got.status} ${got.lines[0]}`);
+  }
+  return { passed, failed, times };
+}
+
+const same = (a, b) => JSON.stringify([...a]) === JSON.stringify([...b]);
+
+// What comes of a reply, as the page has it.
+async function answerTo(it, reply, root, query, r) {
+  const { proof, line } = await readReply(new Response(reply).body.getReader());
+  if (line) return { status: 9, lines: [line] };
+  const got = it.check(proof, root, query, r);
+  return { status: got.status, lines: linesOf(got) };
+}
+
+async function inPage() {
+  const json = async name => [name, await (await fetch(`vectors/${name}.json`)).json()];
+  const module = await compile(await (await fetch('page.wasm')).arrayBuffer());
+  return play(module, Object.fromEntries(await Promise.all(FILES.map(json))));
+}
+
+async function inNode(folder) {
+  const { readFileSync } = await import('node:fs');
+  const module = await compile(readFileSync(`${folder}/page.wasm`));
+  const read = name => [name, JSON.parse(readFileSync(new URL(`../vectors/${name}.json`, import.meta.url), 'utf8'))];
+  return play(module, Object.fromEntries(FILES.map(read)));
+}
+
+if (typeof document === 'undefined') console.log(JSON.stringify(await inNode(process.argv[2])));
+else document.title = JSON.stringify(await inPage().catch(fault => ({ fault: String(fault) })));
