@@ -12,6 +12,7 @@ use Rattle.ats_tree.specs.Shown.{Shown}
 use Rattle.ats_tree.specs.Rebuild.{rebuilt}
 use Rattle.ats_tree.specs.Elided.{elided_digests, shown_with}
 use Rattle.ats_tree.proofs.Public.{within-increasing, elided-rebuilds}
+use Rattle.ats_lists.specs.Formats.{list_root}
 use Rattle.ats_lists.specs.Leaf.{leaf_bytes}
 use Rattle.ats_lists.specs.Lists.{IsList}
 use Rattle.ats_lists.specs.declared.entry.Entry.{Entry}
@@ -19,7 +20,7 @@ use Rattle.ats_lists.proofs.Public.{list_frequency}
 use Rattle.ats_dict.specs.declared.spot.Spot.{Spot}
 use Rattle.ats_dict.specs.declared.spot.Spot.TheVariants.{At, Between}
 use Rattle.ats_lists.specs.Layout.{Layout, whole_lists}
-use Rattle.ats_commit.specs.Archive.{Archive, list_root}
+use Rattle.ats_commit.specs.Archive.{Archive, format_of}
 use Rattle.ats_commit.specs.Trees.{dictionary_of}
 use Rattle.ats_bound.specs.Cut.{ShownLane, lane_of as shown_lane, names}
 use Rattle.ats_bound.specs.Settled.{AreDistinct}
@@ -106,7 +107,7 @@ differing_once (x ∷ xs) differ n =
 pub record IsFront (H : List ℕ → List ℕ) (layout : Layout) (documents : ℕ) (met : List ℕ) (lane : WholeLane) (count : ℕ) (term : Presented) : Type 0 where
   pub weighs : term.weight * idf documents term.entry.f ≡ lane.coefficient
   pub size : term.entry.f ≡ length lane.entries
-  pub root : term.entry.root ≡ list_root H layout lane.entries
+  pub root : term.entry.root ≡ list_root H (format_of layout) lane.entries
   pub front : term.prefix ≡ prefix_of H layout met lane.entries count
 
 -- the present terms show the fronts of the lanes, as many entries as the cut says

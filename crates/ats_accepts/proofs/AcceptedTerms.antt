@@ -8,6 +8,7 @@ use Rattle.ats_tree.specs.Shown.{Shown}
 use Rattle.ats_tree.specs.Rebuild.{rebuilt}
 use Rattle.ats_tree.specs.Elided.{shown_with}
 use Rattle.ats_impact.specs.Score.{frequency}
+use Rattle.ats_lists.specs.Formats.{list_root}
 use Rattle.ats_lists.specs.Lists.{list, lists_of}
 use Rattle.ats_lists.specs.declared.entry.Entry.{Entry}
 use Rattle.ats_dict.specs.declared.header.Header.{Header}
@@ -18,7 +19,7 @@ use Rattle.ats_dict.specs.Dictionary.{dict_leaves, entry_at, low, term_at}
 use Rattle.ats_dict.specs.Found.{IsSpot, StandsAt}
 use Rattle.ats_dict.proofs.Public.{entry_at-suc, get_or-dict_leaves, length-dict_leaves}
 use Rattle.ats_lists.specs.Layout.{Layout}
-use Rattle.ats_commit.specs.Archive.{Archive, list_root}
+use Rattle.ats_commit.specs.Archive.{Archive, format_of}
 use Rattle.ats_commit.specs.Trees.{dict_entry, dictionary_of}
 use Rattle.ats_commit.specs.Ours.{asked_term}
 use Rattle.ats_commit.specs.Root.{header_root, root_of}
@@ -101,7 +102,7 @@ honest_slots H archive query r algorithm proof honest i inside =
 pub record IsOwnEntry (H : List ℕ → List ℕ) (archive : Archive) (term : List ℕ) (entry : DictEntry) : Type 0 where
   pub same : entry.term ≡ term
   pub number : entry.f ≡ length (list archive.texts term)
-  pub root : entry.root ≡ list_root H archive.layout (list archive.texts term)
+  pub root : entry.root ≡ list_root H (format_of archive.layout) (list archive.texts term)
 
 own_entry : (H : List ℕ → List ℕ) (archive : Archive) (term : List ℕ) (p : ℕ) → StandsAt (dictionary_of H archive) term p → IsOwnEntry H archive term (entry_at (dictionary_of H archive) p)
 own_entry H archive term zero is = absurd (omega (arith, is.some))
@@ -115,7 +116,7 @@ own_entry H archive term (suc p) is =
     record {
       same = is.same;
       number = ap (λ (e : DictEntry). e.f) entry ∙ ap (λ (es : List Entry). length es) all;
-      root = ap (λ (e : DictEntry). e.root) entry ∙ ap (λ (es : List Entry). list_root H archive.layout es) all;
+      root = ap (λ (e : DictEntry). e.root) entry ∙ ap (λ (es : List Entry). list_root H (format_of archive.layout) es) all;
     }
 
 -- the check finds the dictionary's entry at a shown position

@@ -6,12 +6,14 @@ use Rattle.std.proofs.lemmas.List.{length-map, get_or_default}
 use Rattle.std.proofs.lemmas.List.Elements.{All-nil, All-cons, All-append, All-head, All-map, All-tail}
 use Rattle.ats_tree.specs.Differences.{Hashed, moved, IsOurs}
 use Rattle.ats_tree.specs.Elided.{elided_digests, shown_with}
-use Rattle.ats_tree.specs.Nodes.{Node}
+use Rattle.ats_tree.specs.Nodes.{Node, NodeNumbers, by_path, numbers_of}
+use Rattle.ats_tree.specs.Paths.{path_of}
 use Rattle.ats_tree.specs.Shown.{Shown}
 use Rattle.ats_tree.specs.Strings.{node_string, node_strings}
+use Rattle.ats_tree.specs.declared.hashed.Place.{Place}
 use Rattle.ats_tree.specs.declared.hashed.Tree.{Tree}
 use Rattle.ats_tree.specs.declared.hashed.Tree.TheVariants.{Dictionary, List as ListOf, Documents as DocumentsTree, Terms}
-use Rattle.ats_tree.proofs.Public.{own-none, own-strings}
+use Rattle.ats_tree.proofs.Public.{numbers-lead, own-none, own-strings}
 use Rattle.ats_lists.specs.Leaf.{leaf_bytes}
 use Rattle.ats_lists.specs.Lists.{list}
 use Rattle.ats_lists.specs.declared.entry.Entry.{Entry}
@@ -22,10 +24,11 @@ use Rattle.ats_dict.specs.declared.spot.Spot.TheVariants.{At, Between}
 use Rattle.ats_doctree.specs.Impacts.{doc_terms}
 use Rattle.ats_doctree.specs.Sentinels.{terms_leaves}
 use Rattle.ats_doctree.specs.declared.doc_leaf.DocLeaf.{DocLeaf}
+use Rattle.ats_lists.specs.Formats.{list_string}
 use Rattle.ats_lists.specs.Layout.{Layout, whole_lists}
-use Rattle.ats_commit.specs.Archive.{Archive}
-use Rattle.ats_commit.specs.Ours.{TreePlace, asked_term, ours}
-use Rattle.ats_commit.specs.Prefixes.{list_string}
+use Rattle.ats_commit.specs.Archive.{Archive, format_of}
+use Rattle.ats_commit.specs.Ours.{asked_term, ours}
+use Rattle.ats_commit.specs.Places.{in_tree}
 use Rattle.ats_commit.specs.Root.{header_string}
 use Rattle.ats_commit.specs.Trees.{dictionary_of, documents_of}
 use Rattle.ats_proof.specs.declared.record.Algorithm.{Algorithm}
@@ -39,7 +42,7 @@ use Rattle.ats_proof.specs.Runs as runs
 use Rattle.ats_proof.proofs.Public.{one_value}
 use Rattle.ats_client.specs.Documents.{documents_from}
 use Rattle.ats_client.specs.Presented.{Presented, presented, presented_from}
-use Rattle.ats_client.specs.Strings.{hashed_header, in_tree, strings_in, list_strings, terms_strings, documents_strings, strings_of, extract}
+use Rattle.ats_client.specs.Strings.{hashed_header, strings_in, list_strings, terms_strings, documents_strings, strings_of, extract}
 use Rattle.ats_honest.specs.Documents.{AreHonestSections, HasDocuments, IsHonestSection, document_leaf}
 use Rattle.ats_honest.specs.Honest.{IsHonest, IsProved}
 use Rattle.ats_honest.specs.Lanes.{lanes_of, present}
@@ -93,24 +96,28 @@ module _ (H : List ℕ → List ℕ) (archive : Archive) (asked : List (List ℕ
 
 -- what is shown at some positions of a tree of the archive, with the digests that they need, has the archive's strings
 tree_own : (H : List ℕ → List ℕ) (archive : Archive) (query : List (List ℕ × ℕ)) (tree : Tree) (leaves : List (List ℕ))
-    → ((node : Node) → ours H archive query (in_tree tree node) ≡ node_string H leaves node)
+    → ((at : NodeNumbers) → ours H archive query (in_tree tree at) ≡ node_string H leaves (by_path (path_of at.depth at.turns)))
     → (n : ℕ) (shown : List Shown) (digests : List (List ℕ)) (positions : List ℕ)
     → n ≡ length leaves → shown ≡ shown_with leaves positions → digests ≡ elided_digests H leaves positions
     → All (IsOurs (ours H archive query)) (strings_in H tree n shown digests)
 tree_own H archive query tree leaves same n shown digests positions size at needed =
-    let Own : Hashed TreePlace → Type 0 = IsOurs (ours H archive query) in
+    let Own : Hashed Place → Type 0 = IsOurs (ours H archive query) in
     let whole : List (Hashed Node) = node_strings H (length leaves) (shown_with leaves positions) (elided_digests H leaves positions) in
     let own = own-strings H leaves positions in
     subst (λ (k : ℕ). All Own (strings_in H tree k shown digests)) (sym size)
     (subst (λ (s : List Shown). All Own (strings_in H tree (length leaves) s digests)) (sym at)
     (subst (λ (ds : List (List ℕ)). All Own (strings_in H tree (length leaves) (shown_with leaves positions) ds)) (sym needed)
-    (All-map Own (moved (in_tree tree)) whole (λ k d inside.
-    subst (λ (o : Option (List ℕ)). IfSome o (λ (mine : List ℕ). mine ≡ (get_or whole k d).text)) (sym (same (get_or whole k d).place)) (own k d inside)))))
+    (All-map Own (moved (in_tree tree)) (map (moved numbers_of) whole)
+    (All-map (λ (s : Hashed NodeNumbers). Own (moved (in_tree tree) s)) (moved numbers_of) whole (λ k d inside.
+    let s : Hashed Node = get_or whole k d in
+    let there : ours H archive query (in_tree tree (numbers_of s.place)) ≡ node_string H leaves s.place =
+    same (numbers_of s.place) ∙ ap (node_string H leaves) (numbers-lead s.place) in
+    subst (λ (o : Option (List ℕ)). IfSome o (λ (mine : List ℕ). mine ≡ s.text)) (sym there) (own k d inside))))))
 
 -- ---- the lists
 
 module _ (H : List ℕ → List ℕ) (archive : Archive) (query : List (List ℕ × ℕ)) where
-  abbrev Own : Hashed TreePlace → Type 0
+  abbrev Own : Hashed Place → Type 0
   Own = IsOurs (ours H archive query)
 
   front_own : (layout : Layout) → layout ≡ archive.layout → (documents : ℕ) (met : List ℕ) (lane : WholeLane) (count : ℕ) (term : Presented) → IsFront H layout documents met lane count term
@@ -118,7 +125,8 @@ module _ (H : List ℕ → List ℕ) (archive : Archive) (query : List (List ℕ
       → All Own (list_strings H layout met term)
   front_own whole_lists same documents met lane count term is named within are =
       let leaves : List (List ℕ) = map leaf_bytes lane.entries in
-      tree_own H archive query (ListOf term.number) leaves (λ node. ap₂ (λ (layout : Layout) (es : List Entry). list_string H layout es node) (sym same) (sym named))
+      tree_own H archive query (ListOf term.number) leaves
+      (λ at. ap₂ (λ (layout : Layout) (es : List Entry). list_string H (format_of layout) es (record { depth = at.depth; turns = at.turns })) (sym same) (sym named))
       term.entry.f (shown_list 0 met term.prefix.entries) term.prefix.digests (range_with_len 0 count)
       (is.size ∙ sym (length-map lane.entries leaf_bytes)) (front_shown H whole_lists documents met lane count term is within are) (ap (λ (p : Prefix). p.digests) is.front)
 
@@ -142,7 +150,7 @@ module _ (H : List ℕ → List ℕ) (archive : Archive) (query : List (List ℕ
   section_own terms doc section low honest =
       let leaves : List (List ℕ) = terms_leaves (doc_terms archive.texts doc) in
       tree_own H archive query (Terms doc) leaves
-      (λ node. ap (λ (b : Bool). node_string H (cond b leaves []) node) (lt-ltb doc (length archive.texts) low))
+      (λ at. ap (λ (b : Bool). node_string H (cond b leaves []) (by_path (path_of at.depth at.turns))) (lt-ltb doc (length archive.texts) low))
       (length leaves) (map shown_term section.leaves) section.digests honest.positions refl (section_shown H (doc_terms archive.texts doc) terms section honest) honest.digests
 
   sections_own : (terms : List (List ℕ × ℕ)) (met : List ℕ) (sections : List TermsSection) → AreHonestSections H archive.texts terms met sections
@@ -164,7 +172,7 @@ module _ (H : List ℕ → List ℕ) (archive : Archive) (query : List (List ℕ
   documents_own terms Tra met (Some docs) header own has low =
       All-append Own (strings_in H DocumentsTree header.documents (shown_docs met docs.leaves) docs.digests)
       (flat_map (terms_strings H) (documents_from met docs.leaves docs.sections))
-      (tree_own H archive query DocumentsTree (documents_of H archive.texts) (λ node. refl) header.documents (shown_docs met docs.leaves) docs.digests met
+      (tree_own H archive query DocumentsTree (documents_of H archive.texts) (λ at. refl) header.documents (shown_docs met docs.leaves) docs.digests met
       (own ∙ sym (documents_each H archive.texts)) (ap (shown_docs met) has.leaves ∙ documents_shown H archive.texts met low) has.digests)
       (subst (λ (leaves : List DocLeaf). All Own (flat_map (terms_strings H) (documents_from met leaves docs.sections))) (sym has.leaves)
       (sections_own terms met docs.sections has.sections low))
@@ -189,16 +197,16 @@ module _ (H : List ℕ → List ℕ) (archive : Archive) (query : List (List ℕ
 
     dictionary_own : All Own (strings_in H Dictionary proof.header.dict_leaves (map runs.shown_entry proof.dict) proof.dict_digests)
     dictionary_own =
-        tree_own H archive query Dictionary (dict_leaves (dictionary_of H archive)) (λ node. refl)
+        tree_own H archive query Dictionary (dict_leaves (dictionary_of H archive)) (λ at. refl)
         proof.header.dict_leaves (map runs.shown_entry proof.dict) proof.dict_digests honest.positions
         (ap (λ (h : Header). h.dict_leaves) honest.header) (dictionary_shown H archive query r algorithm proof honest) honest.dict_digests
 
     pub honest_own : All Own (strings_of H query proof)
     honest_own =
-        let header : Hashed TreePlace = hashed_header (layout_of proof) proof.header in
-        let dictionary : List (Hashed TreePlace) = strings_in H Dictionary proof.header.dict_leaves (map runs.shown_entry proof.dict) proof.dict_digests in
-        let lists : List (Hashed TreePlace) = flat_map (list_strings H (layout_of proof) proof.met) (presented query proof) in
-        let documents : List (Hashed TreePlace) = documents_strings H proof.header proof.met proof.docs in
+        let header : Hashed Place = hashed_header (layout_of proof) proof.header in
+        let dictionary : List (Hashed Place) = strings_in H Dictionary proof.header.dict_leaves (map runs.shown_entry proof.dict) proof.dict_digests in
+        let lists : List (Hashed Place) = flat_map (list_strings H (layout_of proof) proof.met) (presented query proof) in
+        let documents : List (Hashed Place) = documents_strings H proof.header proof.met proof.docs in
         All-cons Own header (dictionary ++ (lists ++ documents)) (ap₂ (λ (layout : Layout) (h : Header). header_string layout h) (sym honest.layout) (sym honest.header))
         (All-append Own dictionary (lists ++ documents) dictionary_own
         (All-append Own lists documents lists_own

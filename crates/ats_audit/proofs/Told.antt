@@ -5,9 +5,10 @@ use Rattle.std.proofs.lemmas.Bool.{cases_Bool, cond-true, cond-false}
 use Rattle.std.proofs.lemmas.Slice.Eq.{bytes_eq-Decides}
 use Rattle.ats_terms.specs.Query.{IsQuery}
 use Rattle.ats_tree.specs.Differences.{Hashed, Difference, collision_or, first_collision}
+use Rattle.ats_tree.specs.declared.hashed.Place.{Place}
 use Rattle.ats_commit.specs.Archive.{Archive}
 use Rattle.ats_commit.specs.Own.{AreTexts}
-use Rattle.ats_commit.specs.Ours.{TreePlace, ours}
+use Rattle.ats_commit.specs.Ours.{ours}
 use Rattle.ats_commit.specs.Root.{root_of}
 use Rattle.ats_proof.specs.Value.{Proof}
 use Rattle.ats_proof.proofs.Public.{in_range, one_value}
@@ -51,15 +52,15 @@ first-collides : {P : Type 0} (H : List ℕ → List ℕ) (own : P → Option (L
 first-collides H own [] = tt
 first-collides H own (s ∷ rest) = or-collides H (own s.place) s (first_collision H own rest) (first-collides H own rest)
 
-pub extract-collides : (H : List ℕ → List ℕ) (archive : Archive) (query : List (List ℕ × ℕ)) (proof : Proof) (c : Difference TreePlace)
+pub extract-collides : (H : List ℕ → List ℕ) (archive : Archive) (query : List (List ℕ × ℕ)) (proof : Proof) (c : Difference Place)
     → extract H archive query proof ≡ Some c → Collides H c
 extract-collides H archive query proof c is =
-    let Goal : Option (Difference TreePlace) → Type 0 = λ found. IfSome found (Collides H)
+    let Goal : Option (Difference Place) → Type 0 = λ found. IfSome found (Collides H)
     in subst Goal is (first-collides H (ours H archive query) (strings_of H query proof))
 
 -- ---- the verdict on an accepted proof
 
-none_some : (o : Option (Difference TreePlace)) → o ≡ None → IsSome o → ⊥
+none_some : (o : Option (Difference Place)) → o ≡ None → IsSome o → ⊥
 none_some None is some = absurd (cc)
 none_some (Some c) is some = absurd (cc)
 
@@ -71,7 +72,7 @@ module _ (H : List ℕ → List ℕ) (archive : Archive) (query : List (List ℕ
   tells (Right rows) found =
       let same : proof ≡ found.proof = one_value bytes proof found.proof accepted.says found.accepted.says
       in none_some (extract H archive query found.proof) found.none (subst (λ (p : Proof). IsSome (extract H archive query p)) same some)
-  tells (Collision place ours theirs) found = extract-collides H archive query found.0.proof _ found.0.found
+  tells (Collision place ours theirs) found = extract-collides H archive query found.proof _ found.found
 
 pub told : (H : List ℕ → List ℕ) → ((m : List ℕ) → length (H m) ≡ 32) → (root : List ℕ) (query : List (List ℕ × ℕ)) (r : ℕ) (bytes : List ℕ) (proof : Proof) → IsQuery query
     → IsAcceptedBytes H root query r bytes proof → IsTopOrTold H root query r bytes proof

@@ -1,11 +1,10 @@
 -- What an audit of bytes against an archive finds.
-use Rattle.std.specs.Prelude.{◌≡◌, ◌≢◌, ◌⊎◌, ◌<◌, ◌^◌, ℕ, List, None, Some}
+use Rattle.std.specs.Prelude.{◌≡◌, ◌≢◌, ◌⊎◌, ℕ, List, None, Some}
 use Rattle.ats_impact.specs.declared.rank.Row.{Row}
 use Rattle.ats_tree.specs.Differences.{Difference}
+use Rattle.ats_tree.specs.declared.hashed.Place.{Place}
 use Rattle.ats_commit.specs.Archive.{Archive}
 use Rattle.ats_commit.specs.Own.{AreTexts}
-use Rattle.ats_commit.specs.Ours.{TreePlace}
-use Rattle.ats_commit.specs.Places.{tree_place}
 use Rattle.ats_commit.specs.Root.{root_of}
 use Rattle.ats_proof.specs.Value.{Proof}
 use Rattle.ats_client.specs.Bytes.{IsAcceptedBytes, IsRejectedBytes}
@@ -26,18 +25,18 @@ pub record IsFoundRight (H : List ℕ → List ℕ) (archive : Archive) (query :
   pub right : AreRight archive.texts query r rows
 
 -- the bytes spell a proof that is accepted under the archive's root, and this is its first collision with the archive
-pub record IsFoundCollision (H : List ℕ → List ℕ) (archive : Archive) (query : List (List ℕ × ℕ)) (r : ℕ) (bytes : List ℕ) (collision : Difference TreePlace) : Type 0 where
+pub record IsFoundCollision (H : List ℕ → List ℕ) (archive : Archive) (query : List (List ℕ × ℕ)) (r : ℕ) (bytes : List ℕ) (collision : Difference Place) : Type 0 where
   pub proof : Proof
   pub accepted : IsAcceptedBytes H (root_of H archive) query r bytes proof
   pub found : extract H archive query proof ≡ Some collision
 
--- the verdict on the bytes against the archive; the turns of a place have no digit above its depth
+-- the verdict on the bytes against the archive
 abbrev pub IsVerdict : (List ℕ → List ℕ) → Archive → List (List ℕ × ℕ) → ℕ → List ℕ → Verdict → Type 0
 IsVerdict H archive query r bytes (BadShape fault) = IsRejectedBytes H (root_of H archive) query r bytes (Shape fault)
 IsVerdict H archive query r bytes (Refused refusal) = IsRejectedBytes H (root_of H archive) query r bytes (Check refusal)
 IsVerdict H archive query r bytes (Right rows) = IsFoundRight H archive query r bytes rows
 IsVerdict H archive query r bytes (Collision place ours theirs) =
-    IsFoundCollision H archive query r bytes (record { place = tree_place place; ours = ours; theirs = theirs }) × (place.turns < 2 ^ place.depth)
+    IsFoundCollision H archive query r bytes (record { place = place; ours = ours; theirs = theirs })
 
 -- the verdict contains two different strings with equal digests
 abbrev pub TellsCollision : (List ℕ → List ℕ) → Verdict → Type 0

@@ -9,12 +9,14 @@ use Rattle.std.proofs.lemmas.Simd.{map-map}
 use Rattle.ats_terms.specs.Terms.{IsTerm}
 use Rattle.ats_terms.specs.Query.{IsQuery}
 use Rattle.ats_tree.specs.Differences.{Hashed, first_difference}
-use Rattle.ats_tree.specs.Nodes.{Node}
+use Rattle.ats_tree.specs.Nodes.{NodeNumbers}
 use Rattle.ats_tree.specs.Shown.{Shown}
 use Rattle.ats_tree.specs.Strings.{node_string, node_strings}
 use Rattle.ats_tree.specs.Part.{RisesFrom}
+use Rattle.ats_tree.specs.declared.hashed.Place.{Place}
 use Rattle.ats_tree.specs.declared.hashed.Tree.TheVariants.{Dictionary, List as ListOf}
-use Rattle.ats_tree.proofs.Public.{bound_to, difference-collides, rises-increasing}
+use Rattle.ats_tree.proofs.Public.{bound_to, difference-collides, numbers-lead, rises-increasing}
+use Rattle.ats_lists.specs.Formats.{list_root, list_string, prefix_strings}
 use Rattle.ats_lists.specs.Lists.{list}
 use Rattle.ats_lists.specs.declared.entry.Entry.{Entry}
 use Rattle.ats_dict.specs.Dictionary.{dict_leaves}
@@ -22,12 +24,12 @@ use Rattle.ats_dict.specs.Entry.{DictEntry, dict_leaf_bytes}
 use Rattle.ats_dict.specs.Header.{header_bytes, IsHeader}
 use Rattle.ats_dict.specs.declared.header.Header.{Header}
 use Rattle.ats_lists.specs.Layout.{Layout}
-use Rattle.ats_commit.specs.Archive.{Archive, header_tag, list_root}
-use Rattle.ats_commit.specs.Prefixes.{list_string, prefix_strings}
+use Rattle.ats_commit.specs.Archive.{Archive, format_of, header_tag}
 use Rattle.ats_commit.specs.Trees.{dictionary_of}
 use Rattle.ats_commit.specs.Root.{header_of, header_root, root_of}
 use Rattle.ats_commit.specs.Own.{AreTexts, IsHeaderOf, IsEntryOf}
-use Rattle.ats_commit.specs.Ours.{TreePlace, asked_term, ours}
+use Rattle.ats_commit.specs.Ours.{asked_term, ours}
+use Rattle.ats_commit.specs.Places.{in_tree}
 use Rattle.ats_commit.proofs.Public.{same_layout, own_header, leaf_tells_entry, prefix-binds}
 use Rattle.ats_proof.specs.Value.{ShownEntry, Proof, layout_of, present_in}
 use Rattle.ats_proof.specs.Ranges.{AreDigests, IsShownInRange, IsInRange}
@@ -38,7 +40,7 @@ use Rattle.ats_client.specs.Slots as slots
 use Rattle.ats_client.specs.Strings.{hashed_header, strings_in, list_strings, documents_strings, strings_of, extract, AreLeavesOf, IsOwnList, AreOwnDocuments, IsOwn, IsBound}
 use Rattle.ats_client.specs.Rooted.{AreRooted}
 use Rattle.ats_client.proofs.DescentDocuments.{all-documents-bind}
-use Rattle.ats_client.proofs.DescentTrees.{Binds, binds-both, binds-weaker, binds-one, binds-all, tree-binds}
+use Rattle.ats_client.proofs.DescentTrees.{Binds, binds-both, binds-weaker, binds-one, binds-all, binds-moved, tree-binds}
 use Rattle.ats_client.proofs.HeadlineTerms.{HoldsPresent, each_presented}
 use Rattle.ats_client.proofs.Leaves.{leaf_own, present_leaf}
 use Rattle.ats_client.proofs.Presents.{at_place, entry_there}
@@ -86,7 +88,7 @@ dictionary-binds H sized archive query proof range right header =
     in let leaves : List (List ℕ) = dict_leaves (dictionary_of H archive)
     in let rises : RisesFrom 0 shown = rises-increasing shown (subst IsStrictlyIncreasing (sym (map-map (λ (s : Shown). s.0) shown_entry proof.dict)) range.terms.rises)
     in tree-binds H Dictionary (ours H archive query) (node_string H leaves) (node_strings H proof.header.dict_leaves shown proof.dict_digests)
-    (AreLeavesOf leaves shown) (λ node. refl)
+    (AreLeavesOf leaves shown) (λ node. ap (node_string H leaves) (numbers-lead node))
     (bound_to H sized proof.header.dict_leaves shown proof.dict_digests proof.header.dict_root rises range.terms.sized right leaves
     (sym header.leaves) (sym header.dictionary))
 
@@ -120,17 +122,17 @@ pub list-binds : (H : List ℕ → List ℕ) → ((m : List ℕ) → length (H m
 list-binds H sized archive query layout met one same digests rooted own =
     let entries : List Entry = list archive.texts (asked_term query one.number)
     in let shown : List Shown = shown_list 0 met one.prefix.entries
-    in let hashed : List (Hashed Node) = prefix_strings H layout one.entry.f shown one.prefix.digests
+    in let hashed : List (Hashed NodeNumbers) = prefix_strings H (format_of layout) one.entry.f shown one.prefix.digests
     in let Shows : Type 0 = IsOwnList archive.texts query met one
     in let size : length entries ≡ one.entry.f = subst (λ term. length (list archive.texts term) ≡ one.entry.f) same (sym own.number)
     in let layouts : archive.layout ≡ layout = same_layout archive.layout layout
-    in let root : list_root H layout entries ≡ one.entry.root =
-    subst (λ term. list_root H layout (list archive.texts term) ≡ one.entry.root) same
-    (subst (λ l. list_root H l (list archive.texts one.entry.term) ≡ one.entry.root) layouts (sym own.root))
-    in let bound : Binds H (list_string H layout entries) hashed Shows =
+    in let root : list_root H (format_of layout) entries ≡ one.entry.root =
+    subst (λ term. list_root H (format_of layout) (list archive.texts term) ≡ one.entry.root) same
+    (subst (λ l. list_root H (format_of l) (list archive.texts one.entry.term) ≡ one.entry.root) layouts (sym own.root))
+    in let bound : Binds H (list_string H (format_of layout) entries) hashed Shows =
     prefix-binds H sized layout entries one.entry.f shown one.prefix.digests one.entry.root (rises-list 0 met one.prefix.entries) digests rooted size root
-    in tree-binds H (ListOf one.number) (ours H archive query) (list_string H archive.layout entries) hashed Shows (λ node. refl)
-    (subst (λ l. Binds H (list_string H l entries) hashed Shows) (sym layouts) bound)
+    in binds-moved H (in_tree (ListOf one.number)) (ours H archive query) hashed Shows
+    (subst (λ l. Binds H (list_string H (format_of l) entries) hashed Shows) (sym layouts) bound)
 
 -- ---- all lists
 
@@ -181,12 +183,12 @@ lists-bind H sized archive query proof are range asked rooted own =
 pub whole-binds : (H : List ℕ → List ℕ) → ((m : List ℕ) → length (H m) ≡ 32) → (archive : Archive) (query : List (List ℕ × ℕ)) (proof : Proof) → AreTexts archive.texts
     → IsQuery query → IsInRange proof → present_in proof.slots ≡ length proof.lists → AreRooted H (root_of H archive) query proof → IsBound H archive query proof
 whole-binds H sized archive query proof are is range size rooted =
-    let own : TreePlace → Option (List ℕ) = ours H archive query
+    let own : Place → Option (List ℕ) = ours H archive query
     in let layout : Layout = layout_of proof
-    in let top : List (Hashed TreePlace) = hashed_header layout proof.header ∷ []
-    in let terms : List (Hashed TreePlace) = strings_in H Dictionary proof.header.dict_leaves (map shown_entry proof.dict) proof.dict_digests
-    in let fronts : List (Hashed TreePlace) = flat_map (list_strings H layout proof.met) (presented query proof)
-    in let documents : List (Hashed TreePlace) = documents_strings H proof.header proof.met proof.docs
+    in let top : List (Hashed Place) = hashed_header layout proof.header ∷ []
+    in let terms : List (Hashed Place) = strings_in H Dictionary proof.header.dict_leaves (map shown_entry proof.dict) proof.dict_digests
+    in let fronts : List (Hashed Place) = flat_map (list_strings H layout proof.met) (presented query proof)
+    in let documents : List (Hashed Place) = documents_strings H proof.header proof.met proof.docs
     in let Numbers : Type 0 = IsHeaderOf H archive proof.header
     in let Terms : Type 0 = AreLeavesOf (dict_leaves (dictionary_of H archive)) (map shown_entry proof.dict)
     in let Fronts : Type 0 = All (IsOwnList archive.texts query proof.met) (presented query proof)

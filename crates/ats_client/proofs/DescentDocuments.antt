@@ -1,6 +1,6 @@
 -- The descent into what is shown of the met documents: from the header to the documents tree, and from there to the terms of
 -- each document.
-use Rattle.std.proofs.Common.{◌≡◌, ◌∙◌, ◌+◌, ◌<◌, ◌≤◌, ℕ, List, [], ◌∷◌, ◌++◌, length, map, nat_lt, true, slice_get, Option, Some, None, refl, sym, ap, subst, arith}
+use Rattle.std.proofs.Common.{◌≡◌, ◌∙◌, ◌+◌, ◌<◌, ◌≤◌, ℕ, List, [], ◌∷◌, ◌++◌, length, map, nat_lt, true, slice_get, Option, Some, None, refl, sym, ap, ap₂, subst, arith}
 use Rattle.std.specs.List.{All, flat_map}
 use Rattle.std.specs.List.Sorted.{IsStrictlyIncreasing}
 use Rattle.std.specs.Option.{ForSome}
@@ -9,12 +9,14 @@ use Rattle.std.proofs.lemmas.Bool.Decides.{nat_tests}
 use Rattle.std.proofs.lemmas.List.{length-map}
 use Rattle.std.proofs.lemmas.List.Elements.{All-nil, All-cons, All-head, All-tail}
 use Rattle.std.proofs.lemmas.Simd.{map-map}
+use Rattle.ats_tree.specs.Nodes.{Node}
 use Rattle.ats_tree.specs.Shown.{Shown}
 use Rattle.ats_tree.specs.Strings.{node_string, node_strings}
 use Rattle.ats_tree.specs.Part.{RisesFrom}
 use Rattle.ats_tree.specs.Differences.{Hashed}
+use Rattle.ats_tree.specs.declared.hashed.Place.{Place}
 use Rattle.ats_tree.specs.declared.hashed.Tree.TheVariants.{Documents as DocumentsTree, Terms}
-use Rattle.ats_tree.proofs.Public.{bound_to, rises-increasing}
+use Rattle.ats_tree.proofs.Public.{bound_to, numbers-lead, rises-increasing}
 use Rattle.ats_dict.specs.declared.header.Header.{Header}
 use Rattle.ats_doctree.specs.DocumentLeaf.{doc_leaf_bytes}
 use Rattle.ats_doctree.specs.Impacts.{doc_terms, text_terms}
@@ -23,7 +25,7 @@ use Rattle.ats_doctree.specs.declared.doc_leaf.DocLeaf.{DocLeaf}
 use Rattle.ats_commit.specs.Archive.{Archive}
 use Rattle.ats_commit.specs.Trees.{documents_of, documents_leaf}
 use Rattle.ats_commit.specs.Own.{AreTexts, IsHeaderOf, IsDocumentOf}
-use Rattle.ats_commit.specs.Ours.{TreePlace, ours}
+use Rattle.ats_commit.specs.Ours.{ours}
 use Rattle.ats_commit.proofs.Public.{leaf_tells_document}
 use Rattle.ats_proof.specs.Value.{TermsSection, Documents}
 use Rattle.ats_proof.specs.Ranges.{AreDigests, IsSectionInRange, IsDocLeafInRange, AreDocumentsInRange}
@@ -57,7 +59,7 @@ documents-bind H sized archive query header met docs rises digests rooted is =
     in let leaves : List (List ℕ) = documents_of H archive.texts
     in let size : length leaves ≡ header.documents = length-map archive.texts (λ text. documents_leaf H (terms_leaves (text_terms archive.texts text))) ∙ sym is.number
     in tree-binds H DocumentsTree (ours H archive query) (node_string H leaves) (node_strings H header.documents shown docs.digests)
-    (AreLeavesOf leaves shown) (λ node. refl)
+    (AreLeavesOf leaves shown) (λ node. ap (node_string H leaves) (numbers-lead node))
     (bound_to H sized header.documents shown docs.digests header.docs_root (all-rise met docs.leaves rises) digests rooted leaves size (sym is.all))
 
 -- ---- the terms of one document
@@ -73,7 +75,7 @@ terms-bind H sized archive query one is range rooted =
     in let inside : nat_lt one.doc (length archive.texts) ≡ true = grind (arith, nat_tests)
     in let rises : RisesFrom 0 shown = rises-increasing shown (subst IsStrictlyIncreasing (sym (map-map (λ (s : Shown). s.0) shown_term one.section.leaves)) range.rises)
     in tree-binds H (Terms one.doc) (ours H archive query) (node_string H leaves) (node_strings H one.leaf.leaves shown one.section.digests)
-    (AreLeavesOf leaves shown) (λ node. ap (λ (l : List (List ℕ)). node_string H l node) (cond-true (nat_lt one.doc (length archive.texts)) leaves [] inside))
+    (AreLeavesOf leaves shown) (λ node. ap₂ (λ (l : List (List ℕ)) (n : Node). node_string H l n) (cond-true (nat_lt one.doc (length archive.texts)) leaves [] inside) (numbers-lead node))
     (bound_to H sized one.leaf.leaves shown one.section.digests one.leaf.root rises range.sized rooted leaves (sym is.leaves) (sym is.root))
 
 -- ---- all met documents
@@ -111,10 +113,10 @@ pub all-documents-bind : (H : List ℕ → List ℕ) → ((m : List ℕ) → len
     → IsHeaderOf H archive header → Binds H (ours H archive query) (documents_strings H header met docs) (ForSome docs (AreOwnDocuments H archive.texts met))
 all-documents-bind H sized archive query header met None are rises range rooted trees is = λ docs some. absurd (cc)
 all-documents-bind H sized archive query header met (Some docs) are rises range rooted trees is =
-    let own : TreePlace → Option (List ℕ) = ours H archive query
-    in let top : List (Hashed TreePlace) = strings_in H DocumentsTree header.documents (shown_docs met docs.leaves) docs.digests
+    let own : Place → Option (List ℕ) = ours H archive query
+    in let top : List (Hashed Place) = strings_in H DocumentsTree header.documents (shown_docs met docs.leaves) docs.digests
     in let ones : List MetDocument = documents_from met docs.leaves docs.sections
-    in let below : List (Hashed TreePlace) = flat_map (terms_strings H) ones
+    in let below : List (Hashed Place) = flat_map (terms_strings H) ones
     in let Leaves : Type 0 = AreLeavesOf (documents_of H archive.texts) (shown_docs met docs.leaves)
     in let Each : Type 0 = All (IsOwnDocument archive.texts) ones
     in let ranges : AreDocumentsInRange docs = range docs refl

@@ -6,11 +6,12 @@ use Rattle.std.proofs.lemmas.Bool.{cond-true, cond-false, cases_Bool}
 use Rattle.std.proofs.lemmas.List.Elements.{All-nil, All-cons, All-head, All-tail}
 use Rattle.std.proofs.lemmas.Slice.Eq.{bytes_eq-Decides}
 use Rattle.ats_tree.specs.Differences.{Hashed, moved, Difference, difference_or, first_difference}
-use Rattle.ats_tree.specs.Nodes.{Node}
+use Rattle.ats_tree.specs.Nodes.{Node, numbers_of}
+use Rattle.ats_tree.specs.declared.hashed.Place.{Place}
 use Rattle.ats_tree.specs.declared.hashed.Tree.{Tree}
 use Rattle.ats_tree.proofs.Public.{or_else, difference-append, known-moved, Collides}
-use Rattle.ats_commit.specs.Ours.{TreePlace}
-use Rattle.ats_client.specs.Strings.{in_tree}
+use Rattle.ats_commit.specs.Places.{in_tree}
+use Rattle.ats_commit.proofs.Public.{known-by-numbers}
 
 -- A holds, or the first of the strings that differs from ours has an equal digest
 abbrev pub Binds : {P : Type 0} → (List ℕ → List ℕ) → (P → Option (List ℕ)) → List (Hashed P) → Type 0 → Type 0
@@ -70,7 +71,8 @@ binds-all {P} {X} H ours f B (x ∷ xs) each =
     (binds-both H ours (f x) (flat_map f xs) (B x) (All B xs) (All-head One x xs each) (λ known. binds-all H ours f B xs (All-tail One x xs each)))
 
 -- the strings of one tree show what they show among the strings there
-pub tree-binds : (H : List ℕ → List ℕ) (tree : Tree) (own : TreePlace → Option (List ℕ)) (there : Node → Option (List ℕ)) (ss : List (Hashed Node)) (A : Type 0)
-    → ((node : Node) → own (in_tree tree node) ≡ there node) → Binds H there ss A → Binds H own (map (moved (in_tree tree)) ss) A
+pub tree-binds : (H : List ℕ → List ℕ) (tree : Tree) (own : Place → Option (List ℕ)) (there : Node → Option (List ℕ)) (ss : List (Hashed Node)) (A : Type 0)
+    → ((node : Node) → own (in_tree tree (numbers_of node)) ≡ there node) → Binds H there ss A
+    → Binds H own (map (moved (in_tree tree)) (map (moved numbers_of) ss)) A
 tree-binds H tree own there ss A same bound =
-    binds-moved H (in_tree tree) own ss A (subst (λ (f : Node → Option (List ℕ)). Binds H f ss A) (λ i node. sym (same node) i) bound)
+    binds-moved H (in_tree tree) own (map (moved numbers_of) ss) A (known-by-numbers H A (λ at. own (in_tree tree at)) there ss same bound)

@@ -9,8 +9,9 @@ use Rattle.ats_lists.specs.Layout.{Layout}
 use Rattle.ats_commit.specs.Archive.{Archive}
 use Rattle.ats_commit.specs.Own.{AreTexts}
 use Rattle.ats_commit.specs.Root.{root_of}
-use Rattle.ats_commit.specs.Ours.{TreePlace, ours}
+use Rattle.ats_commit.specs.Ours.{ours}
 use Rattle.ats_tree.specs.Differences.{Difference, first_difference}
+use Rattle.ats_tree.specs.declared.hashed.Place.{Place}
 use Rattle.ats_bound.specs.Ranked.{AreScores, cut_of}
 use Rattle.ats_proof.specs.Value.{Proof, AreDocumentsOf, layout_of, present_in}
 use Rattle.ats_proof.specs.Ranges.{IsInRange}
@@ -57,7 +58,7 @@ own_rows_right H archive query r root proof are asked range size parts accepts o
     (All-weaker (IsListRight H layout met) (NamesMet met) (λ one right. right.names) terms lists)
     (kept.met H root query r proof accepts) (kept.rows H root query r proof accepts) (kept.settled H root query r proof accepts)
 
-holds_or_some : (P : Type 0) (Q : Difference TreePlace → Type 0) (difference : Option (Difference TreePlace)) → MatchOption difference P Q → P ⊎ IsSome difference
+holds_or_some : (P : Type 0) (Q : Difference Place → Type 0) (difference : Option (Difference Place)) → MatchOption difference P Q → P ⊎ IsSome difference
 holds_or_some P Q None holds = inl holds
 holds_or_some P Q (Some c) holds = inr refl
 
@@ -70,5 +71,5 @@ top_or_collides H sized root query r proof asked range size parts accepts archiv
     let found : extract H archive query proof ≡ first_difference (ours H archive query) (strings_of H query proof) = whole-extracts H archive query proof bound in
     elim (holds_or_some (IsOwn H archive query proof) (λ c. H c.theirs ≡ H c.ours) (first_difference (ours H archive query) (strings_of H query proof)) bound) [
       | inl own ↦ inl (own_rows_right H archive query r root proof are asked range size parts accepts own)
-      | inr some ↦ inr (subst (λ (difference : Option (Difference TreePlace)). IsSome difference) (sym found) some)
+      | inr some ↦ inr (subst (λ (difference : Option (Difference Place)). IsSome difference) (sym found) some)
     ]

@@ -1,24 +1,27 @@
 -- The first collision of a proof's strings from those of its sections, and what holds for the sections of a proof that
 -- rebuilds.
-use Rattle.std.proofs.Common.{◌≡◌, ◌≢◌, ◌<◌, ◌≤◌, ◌+◌, ◌∙◌, ℕ, List, [], ◌∷◌, ◌++◌, length, map, drop, Bool, true, false, Option, Some, None, slice_get, refl, sym, ap, ap₂, subst, arith, IfSome}
+use Rattle.std.proofs.Common.{◌≡◌, ◌≢◌, ◌<◌, ◌≤◌, ◌+◌, ◌^◌, ◌∙◌, ℕ, zero, suc, List, [], ◌∷◌, ◌++◌, length, map, drop, Bool, true, false, Option, Some, None, slice_get, refl, sym, ap, ap₂, subst, arith, IfSome}
 use Rattle.std.specs.List.{All, flat_map}
 use Rattle.std.specs.Option.{option_map, option_or, IsSome}
 use Rattle.std.specs.Int.{to_be_bytes, w16, w32}
 use Rattle.std.proofs.lemmas.List.{length-append}
+use Rattle.std.proofs.lemmas.Simd.{map-map}
 use Rattle.std.proofs.lemmas.List.Elements.{All-nil, All-cons, All-head, All-tail, All-map, All-weaker}
 use Rattle.ats_tree.specs.Differences.{Hashed, moved, Difference, collision_or, first_collision}
-use Rattle.ats_tree.specs.Nodes.{Node, by_path}
-use Rattle.ats_tree.specs.Paths.{Path}
+use Rattle.ats_tree.specs.Nodes.{Node, NodeNumbers, by_path, numbers_of}
+use Rattle.ats_tree.specs.Paths.{Path, path_of}
 use Rattle.ats_tree.specs.Rebuild.{rebuilt}
 use Rattle.ats_tree.specs.Shown as tree
 use Rattle.ats_tree.specs.Strings.{string_at, node_string, node_strings}
 use Rattle.ats_tree.specs.Tree as trees
 use Rattle.ats_tree.specs.Clashes as nodes
 use Rattle.ats_tree.specs.declared.clashing.Clash as found
+use Rattle.ats_tree.specs.declared.hashed.Place.{Place}
 use Rattle.ats_tree.specs.declared.hashed.Tree.{Tree}
 use Rattle.ats_tree.specs.declared.hashed.Tree.TheVariants.{Header, Dictionary, List as ListOf, Documents as DocumentsTree, Terms}
-use Rattle.ats_tree.proofs.Public.{collision-append, collision-moved, collides-is, collides-not}
+use Rattle.ats_tree.proofs.Public.{collision-append, collision-moved, collides-is, collides-not, numbers-back}
 use Rattle.ats_lists.specs.declared.entry.Entry.{Entry}
+use Rattle.ats_lists.specs.Formats.{list_string}
 use Rattle.ats_lists.specs.Leaf.{leaf_bytes}
 use Rattle.ats_dict.specs.Entry.{dict_leaf_bytes}
 use Rattle.ats_dict.specs.declared.header.Header.{Header as Numbers}
@@ -26,16 +29,15 @@ use Rattle.ats_doctree.specs.declared.doc_leaf.DocLeaf.{DocLeaf}
 use Rattle.ats_doctree.specs.DocumentLeaf.{doc_leaf_bytes}
 use Rattle.ats_doctree.specs.Sentinels as terms
 use Rattle.ats_lists.specs.Layout.{Layout, whole_lists}
-use Rattle.ats_commit.specs.Archive.{Archive}
-use Rattle.ats_commit.specs.Ours.{TreePlace, own_leaves, own_header, own_string, ours}
-use Rattle.ats_commit.specs.Places.{IsOfQuery}
-use Rattle.ats_commit.specs.Prefixes.{list_string}
+use Rattle.ats_commit.specs.Archive.{Archive, format_of}
+use Rattle.ats_commit.specs.Ours.{own_leaves, own_header, own_string, ours}
+use Rattle.ats_commit.specs.Places.{in_tree, numbers_at, IsOfQuery}
 use Rattle.ats_proof.specs.Value.{ShownEntry, ShownTerm, TermsSection, Documents, Proof, layout_of}
 use Rattle.ats_proof.specs.Ranges.{IsShownInRange, IsTermInRange, IsDocLeafInRange}
 use Rattle.ats_proof.specs.Runs.{shown_entry, shown_term, shown_docs, shown_list, named}
 use Rattle.ats_client.specs.Documents.{MetDocument, documents_from, AreDocsRooted, IsTermsTree}
 use Rattle.ats_client.specs.Presented.{presented}
-use Rattle.ats_client.specs.Strings.{hashed_header, in_tree, strings_in, list_strings, terms_strings, documents_strings, extract}
+use Rattle.ats_client.specs.Strings.{hashed_header, strings_in, list_strings, terms_strings, documents_strings, extract}
 
 -- ---- strings of an archive's own have a tag
 
@@ -53,22 +55,22 @@ string-tagged H (trees.node l r) (true ∷ path) = string-tagged H r path
 node-tagged : (H : List ℕ → List ℕ) (leaves : List (List ℕ)) (node : Node) → IsTagged (node_string H leaves node)
 node-tagged H leaves (by_path path) = string-tagged H (trees.tree_of leaves) path
 
-list-tagged : (H : List ℕ → List ℕ) (layout : Layout) (entries : List Entry) (node : Node) → IsTagged (list_string H layout entries node)
-list-tagged H whole_lists entries node = node-tagged H (map leaf_bytes entries) node
+list-tagged : (H : List ℕ → List ℕ) (layout : Layout) (entries : List Entry) (at : NodeNumbers) → IsTagged (list_string H (format_of layout) entries at)
+list-tagged H whole_lists entries at = node-tagged H (map leaf_bytes entries) (by_path (path_of at.depth at.turns))
 
-header-tagged : (H : List ℕ → List ℕ) (archive : Archive) (node : Node) → IsTagged (own_header H archive node)
-header-tagged H archive (by_path []) = omega arith
-header-tagged H archive (by_path (turn ∷ path)) = tt
+header-tagged : (H : List ℕ → List ℕ) (archive : Archive) (depth : ℕ) → IsTagged (own_header H archive depth)
+header-tagged H archive zero = omega arith
+header-tagged H archive (suc depth) = tt
 
-own-tagged : (H : List ℕ → List ℕ) (archive : Archive) (query : List (List ℕ × ℕ)) (tree : Tree) (node : Node) → IsTagged (own_string H archive query tree node)
-own-tagged H archive query Header node = header-tagged H archive node
-own-tagged H archive query Dictionary node = node-tagged H (own_leaves H archive query Dictionary) node
-own-tagged H archive query (ListOf term) node = list-tagged H archive.layout _ node
-own-tagged H archive query DocumentsTree node = node-tagged H (own_leaves H archive query DocumentsTree) node
-own-tagged H archive query (Terms doc) node = node-tagged H (own_leaves H archive query (Terms doc)) node
+own-tagged : (H : List ℕ → List ℕ) (archive : Archive) (query : List (List ℕ × ℕ)) (tree : Tree) (at : NodeNumbers) → IsTagged (own_string H archive query tree at)
+own-tagged H archive query Header at = header-tagged H archive at.depth
+own-tagged H archive query Dictionary at = node-tagged H (own_leaves H archive query Dictionary) (by_path (path_of at.depth at.turns))
+own-tagged H archive query (ListOf term) at = list-tagged H archive.layout _ at
+own-tagged H archive query DocumentsTree at = node-tagged H (own_leaves H archive query DocumentsTree) (by_path (path_of at.depth at.turns))
+own-tagged H archive query (Terms doc) at = node-tagged H (own_leaves H archive query (Terms doc)) (by_path (path_of at.depth at.turns))
 
-pub ours-tagged : (H : List ℕ → List ℕ) (archive : Archive) (query : List (List ℕ × ℕ)) (place : TreePlace) → IsTagged (ours H archive query place)
-ours-tagged H archive query place = own-tagged H archive query place.tree place.node
+pub ours-tagged : (H : List ℕ → List ℕ) (archive : Archive) (query : List (List ℕ × ℕ)) (place : Place) → IsTagged (ours H archive query place)
+ours-tagged H archive query place = own-tagged H archive query place.tree (numbers_at place)
 
 -- ---- which trees a query has
 
@@ -98,49 +100,60 @@ rebuilds_by H n n' shown shown' ds ds' root is_n is_shown is_ds is =
     some_is (rebuilt H n shown ds) root (ap (λ k. rebuilt H k shown ds) is_n ∙ ap₂ (λ a b. rebuilt H n' a b) is_shown is_ds ∙ is)
 
 -- the collision that is found in one tree, as one of the whole proof
-abbrev pub placed_in : Tree → Difference Node → Difference TreePlace
-placed_in tree c = record { place = in_tree tree c.place; ours = c.ours; theirs = c.theirs }
+abbrev pub placed_in : Tree → Difference Node → Difference Place
+placed_in tree c = record { place = in_tree tree (numbers_of c.place); ours = c.ours; theirs = c.theirs }
 
-pub in_one_tree : (H : List ℕ → List ℕ) (own : TreePlace → Option (List ℕ)) (tree : Tree) (ss : List (Hashed Node)) (found : Option (Difference Node))
-    → found ≡ first_collision H (λ node. own (in_tree tree node)) ss
-    → option_map (placed_in tree) found ≡ first_collision H own (map (moved (in_tree tree)) ss)
-in_one_tree H own tree ss found is = ap (option_map (placed_in tree)) is ∙ sym (collision-moved H (in_tree tree) own ss)
+pub in_one_tree : (H : List ℕ → List ℕ) (own : Place → Option (List ℕ)) (tree : Tree) (ss : List (Hashed Node)) (found : Option (Difference Node))
+    → found ≡ first_collision H (λ node. own (in_tree tree (numbers_of node))) ss
+    → option_map (placed_in tree) found ≡ first_collision H own (map (moved (in_tree tree)) (map (moved numbers_of) ss))
+in_one_tree H own tree ss found is =
+    ap (option_map (placed_in tree)) is
+    ∙ sym (collision-moved H (λ node. in_tree tree (numbers_of node)) own ss)
+    ∙ sym (ap (first_collision H own) (map-map (moved (in_tree tree)) (moved numbers_of) ss))
+
+-- the place of a clash, by the numbers that it has
+pub clash_placed : (tree : Tree) (clash : found.Clash) → clash.turns < 2 ^ clash.depth
+    → Some (let c : Difference Place = record { place = record { tree = tree; depth = clash.depth; turns = clash.turns }; ours = clash.ours; theirs = clash.theirs } in c)
+    ≡ Some (placed_in tree (nodes.difference_of clash))
+clash_placed tree clash inside =
+    ap (λ (at : NodeNumbers). Some (let c : Difference Place = record { place = in_tree tree at; ours = clash.ours; theirs = clash.theirs } in c))
+    (sym (numbers-back clash.depth clash.turns inside))
 
 -- ---- the header
 
-pub header_found : (H : List ℕ → List ℕ) (place : TreePlace) (o : Option (List ℕ)) (own text theirs : List ℕ) → Some own ≡ o → theirs ≡ text
+pub header_found : (H : List ℕ → List ℕ) (place : Place) (o : Option (List ℕ)) (own text theirs : List ℕ) → Some own ≡ o → theirs ≡ text
     → (own ≢ theirs) × (H own ≡ H theirs)
-    → Some (let c : Difference TreePlace = record { place = place; ours = own; theirs = theirs } in c)
-    ≡ collision_or H o (let s : Hashed TreePlace = record { place = place; text = text } in s) None
+    → Some (let c : Difference Place = record { place = place; ours = own; theirs = theirs } in c)
+    ≡ collision_or H o (let s : Hashed Place = record { place = place; text = text } in s) None
 header_found H place o own text theirs there same both =
-    collides-is H own (let s : Hashed TreePlace = record { place = place; text = theirs } in s) None both.0 both.1
-    ∙ ap₂ (λ (p : Option (List ℕ)) (t : List ℕ). collision_or H p (let s : Hashed TreePlace = record { place = place; text = t } in s) None) there same
+    collides-is H own (let s : Hashed Place = record { place = place; text = theirs } in s) None both.0 both.1
+    ∙ ap₂ (λ (p : Option (List ℕ)) (t : List ℕ). collision_or H p (let s : Hashed Place = record { place = place; text = t } in s) None) there same
 
-pub header_not : (H : List ℕ → List ℕ) (place : TreePlace) (o : Option (List ℕ)) (own text theirs : List ℕ) → Some own ≡ o → theirs ≡ text
+pub header_not : (H : List ℕ → List ℕ) (place : Place) (o : Option (List ℕ)) (own text theirs : List ℕ) → Some own ≡ o → theirs ≡ text
     → ((own ≢ theirs) × (H own ≡ H theirs) → ⊥)
-    → None ≡ collision_or H o (let s : Hashed TreePlace = record { place = place; text = text } in s) None
+    → None ≡ collision_or H o (let s : Hashed Place = record { place = place; text = text } in s) None
 header_not H place o own text theirs there same none =
-    collides-not H own (let s : Hashed TreePlace = record { place = place; text = theirs } in s) None none
-    ∙ ap₂ (λ (p : Option (List ℕ)) (t : List ℕ). collision_or H p (let s : Hashed TreePlace = record { place = place; text = t } in s) None) there same
+    collides-not H own (let s : Hashed Place = record { place = place; text = theirs } in s) None none
+    ∙ ap₂ (λ (p : Option (List ℕ)) (t : List ℕ). collision_or H p (let s : Hashed Place = record { place = place; text = t } in s) None) there same
 
-pub header_absent : (H : List ℕ → List ℕ) (o : Option (List ℕ)) (s : Hashed TreePlace) → None ≡ o → None ≡ collision_or H o s None
+pub header_absent : (H : List ℕ → List ℕ) (o : Option (List ℕ)) (s : Hashed Place) → None ≡ o → None ≡ collision_or H o s None
 header_absent H o s none = ap (λ (p : Option (List ℕ)). collision_or H p s None) none
 
 -- ---- the whole proof
 
 pub extract-parts : (H : List ℕ → List ℕ) (archive : Archive) (query : List (List ℕ × ℕ)) (proof : Proof)
-    (header dictionary lists documents : Option (Difference TreePlace))
+    (header dictionary lists documents : Option (Difference Place))
     → header ≡ first_collision H (ours H archive query) (hashed_header (layout_of proof) proof.header ∷ [])
     → dictionary ≡ first_collision H (ours H archive query) (strings_in H Dictionary proof.header.dict_leaves (map shown_entry proof.dict) proof.dict_digests)
     → lists ≡ first_collision H (ours H archive query) (flat_map (list_strings H (layout_of proof) proof.met) (presented query proof))
     → documents ≡ first_collision H (ours H archive query) (documents_strings H proof.header proof.met proof.docs)
     → option_or header (option_or dictionary (option_or lists documents)) ≡ extract H archive query proof
 extract-parts H archive query proof header dictionary lists documents in_header in_dictionary in_lists in_documents =
-    let own : TreePlace → Option (List ℕ) = ours H archive query
-    in let a : List (Hashed TreePlace) = hashed_header (layout_of proof) proof.header ∷ []
-    in let b : List (Hashed TreePlace) = strings_in H Dictionary proof.header.dict_leaves (map shown_entry proof.dict) proof.dict_digests
-    in let c : List (Hashed TreePlace) = flat_map (list_strings H (layout_of proof) proof.met) (presented query proof)
-    in let d : List (Hashed TreePlace) = documents_strings H proof.header proof.met proof.docs
+    let own : Place → Option (List ℕ) = ours H archive query
+    in let a : List (Hashed Place) = hashed_header (layout_of proof) proof.header ∷ []
+    in let b : List (Hashed Place) = strings_in H Dictionary proof.header.dict_leaves (map shown_entry proof.dict) proof.dict_digests
+    in let c : List (Hashed Place) = flat_map (list_strings H (layout_of proof) proof.met) (presented query proof)
+    in let d : List (Hashed Place) = documents_strings H proof.header proof.met proof.docs
     in ap₂ option_or in_header (ap₂ option_or in_dictionary (ap₂ option_or in_lists in_documents))
     ∙ sym (
     collision-append H own a (b ++ (c ++ d))
@@ -197,19 +210,19 @@ list-short at met (e ∷ entries) =
 -- ---- the parts that are left to be looked through
 
 -- strings whose first part has no collision
-pub none_first : (H : List ℕ → List ℕ) (own : TreePlace → Option (List ℕ)) (a b : List (Hashed TreePlace)) → None ≡ first_collision H own a
+pub none_first : (H : List ℕ → List ℕ) (own : Place → Option (List ℕ)) (a b : List (Hashed Place)) → None ≡ first_collision H own a
     → first_collision H own (a ++ b) ≡ first_collision H own b
 none_first H own a b none = collision-append H own a b ∙ ap (λ c. option_or c (first_collision H own b)) (sym none)
 
 -- strings whose first part has one
-pub one_first : (H : List ℕ → List ℕ) (own : TreePlace → Option (List ℕ)) (a b : List (Hashed TreePlace)) (c : Difference TreePlace) → Some c ≡ first_collision H own a
+pub one_first : (H : List ℕ → List ℕ) (own : Place → Option (List ℕ)) (a b : List (Hashed Place)) (c : Difference Place) → Some c ≡ first_collision H own a
     → Some c ≡ first_collision H own (a ++ b)
 one_first H own a b c one = sym (collision-append H own a b ∙ ap (λ d. option_or d (first_collision H own b)) (sym one))
 
 -- of parts one after another
-module _ {X : Type 0} (H : List ℕ → List ℕ) (own : TreePlace → Option (List ℕ)) (f : X → List (Hashed TreePlace)) where
+module _ {X : Type 0} (H : List ℕ → List ℕ) (own : Place → Option (List ℕ)) (f : X → List (Hashed Place)) where
   -- the first one has a collision
-  pub found_here : (xs : List X) (x : X) (rest : List X) (c : Difference TreePlace) → xs ≡ x ∷ rest → Some c ≡ first_collision H own (f x)
+  pub found_here : (xs : List X) (x : X) (rest : List X) (c : Difference Place) → xs ≡ x ∷ rest → Some c ≡ first_collision H own (f x)
       → Some c ≡ first_collision H own (flat_map f xs)
   found_here xs x rest c is one = one_first H own (f x) (flat_map f rest) c one ∙ ap (λ (ys : List X). first_collision H own (flat_map f ys)) (sym is)
 
@@ -225,12 +238,12 @@ later_all P (x ∷ xs) all = All-tail P x xs all
 
 -- ---- the met documents, if they are shown
 
-module _ (H : List ℕ → List ℕ) (own : TreePlace → Option (List ℕ)) (header : Numbers) (met : List ℕ) (shown : Option Documents) (docs : Documents) (n : ℕ)
+module _ (H : List ℕ → List ℕ) (own : Place → Option (List ℕ)) (header : Numbers) (met : List ℕ) (shown : Option Documents) (docs : Documents) (n : ℕ)
     (leaves : List tree.Shown) (ds : List (List ℕ)) (is : shown ≡ Some docs) (is_n : n ≡ header.documents) (is_leaves : leaves ≡ shown_docs met docs.leaves) (is_ds : ds ≡ docs.digests) where
-  abbrev top : List (Hashed TreePlace)
+  abbrev top : List (Hashed Place)
   top = strings_in H DocumentsTree header.documents (shown_docs met docs.leaves) docs.digests
 
-  abbrev below : List (Hashed TreePlace)
+  abbrev below : List (Hashed Place)
   below = flat_map (terms_strings H) (documents_from met docs.leaves docs.sections)
 
   top_is : strings_in H DocumentsTree n leaves ds ≡ top
@@ -239,11 +252,11 @@ module _ (H : List ℕ → List ℕ) (own : TreePlace → Option (List ℕ)) (he
   whole_is : top ++ below ≡ documents_strings H header met shown
   whole_is = ap (documents_strings H header met) (sym is)
 
-  pub documents_found : (c : Difference TreePlace) → Some c ≡ first_collision H own (strings_in H DocumentsTree n leaves ds)
+  pub documents_found : (c : Difference Place) → Some c ≡ first_collision H own (strings_in H DocumentsTree n leaves ds)
       → Some c ≡ first_collision H own (documents_strings H header met shown)
   documents_found c one = one_first H own top below c (one ∙ ap (first_collision H own) top_is) ∙ ap (first_collision H own) whole_is
 
-  pub documents_later : (later : Option (Difference TreePlace)) → None ≡ first_collision H own (strings_in H DocumentsTree n leaves ds)
+  pub documents_later : (later : Option (Difference Place)) → None ≡ first_collision H own (strings_in H DocumentsTree n leaves ds)
       → later ≡ first_collision H own below → later ≡ first_collision H own (documents_strings H header met shown)
   documents_later later none found =
       found ∙ sym (none_first H own top below (none ∙ ap (first_collision H own) top_is)) ∙ ap (first_collision H own) whole_is

@@ -3,9 +3,10 @@ use Rattle.std.specs.Prelude.{◌≡◌, ◌≢◌, ◌<◌, ◌∷◌, ℕ, Lis
 use Rattle.std.specs.List.{All}
 use Rattle.ats_tree.specs.Rebuild.{rebuilt}
 use Rattle.ats_lists.specs.declared.entry.Entry.{Entry}
+use Rattle.ats_lists.specs.Formats.{prefix_root}
 use Rattle.ats_lists.specs.Layout.{Layout}
 use Rattle.ats_commit.specs.Ours.{asked_term}
-use Rattle.ats_commit.specs.Prefixes.{prefix_root}
+use Rattle.ats_commit.specs.Archive.{format_of}
 use Rattle.ats_commit.specs.Root.{header_root}
 use Rattle.ats_proof.specs.declared.record.Slot.{Slot}
 use Rattle.ats_bound.specs.declared.bracket.Bracket.{Bracket}
@@ -86,7 +87,8 @@ indexes_of entries = map (λ (entry : Entry). entry.doc) entries
 
 -- the digest that the prefix of a present term rebuilds to, in a list of the length that its dictionary entry gives
 abbrev pub list_digest : (List ℕ → List ℕ) → Layout → List ℕ → Presented → Option (List ℕ)
-list_digest H layout met term = prefix_root H layout term.entry.f (shown_list 0 met term.prefix.entries) term.prefix.digests
+list_digest H layout met term =
+    prefix_root H (format_of layout) term.entry.f (shown_list 0 met term.prefix.entries) term.prefix.digests
 
 -- that digest is the root of the list in the dictionary
 abbrev pub IsListRooted : (List ℕ → List ℕ) → Layout → List ℕ → Presented → Type 0

@@ -1,9 +1,8 @@
 -- When the sections of a proof rebuild, and the two strings that a clash has.
-use Rattle.std.specs.Prelude.{◌≡◌, ◌<◌, ◌^◌, ℕ, List, length}
+use Rattle.std.specs.Prelude.{◌≡◌, ℕ, List, length}
 use Rattle.std.specs.List.{All}
 use Rattle.ats_tree.specs.Differences.{Difference}
-use Rattle.ats_commit.specs.Ours.{TreePlace}
-use Rattle.ats_commit.specs.Places.{tree_place}
+use Rattle.ats_tree.specs.declared.hashed.Place.{Place}
 use Rattle.ats_proof.specs.Value.{Proof}
 use Rattle.ats_client.specs.Documents.{IsDocsTree, IsTermsTree, met_documents}
 use Rattle.ats_client.specs.Groups.{IsDictionary, AreSlotsRight, AreListsRight}
@@ -21,9 +20,5 @@ pub record AreRebuilt (H : List ℕ → List ℕ) (query : List (List ℕ × ℕ
   pub terms : All (IsTermsTree H) (met_documents proof)
 
 -- the two strings at one place that a clash has
-abbrev pub difference_of : Clash → Difference TreePlace
-difference_of clash = record { place = tree_place clash.place; ours = clash.ours; theirs = clash.theirs }
-
--- there are no turns beyond the depth of the place
-abbrev pub HasPlace : Clash → Type 0
-HasPlace clash = clash.place.turns < 2 ^ clash.place.depth
+abbrev pub difference_of : Clash → Difference Place
+difference_of clash = record { place = clash.place; ours = clash.ours; theirs = clash.theirs }

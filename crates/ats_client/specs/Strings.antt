@@ -3,11 +3,13 @@ use Rattle.std.specs.Prelude.{◌≡◌, ℕ, List, [], ◌∷◌, ◌++◌, map
 use Rattle.std.specs.List.{All, flat_map}
 use Rattle.std.specs.Option.{ForSome}
 use Rattle.ats_tree.specs.Differences.{Hashed, moved, Difference, first_difference, first_collision}
-use Rattle.ats_tree.specs.Nodes.{Node, by_path}
+use Rattle.ats_tree.specs.Nodes.{numbers_of}
 use Rattle.ats_tree.specs.Shown.{Shown}
 use Rattle.ats_tree.specs.Strings.{node_strings}
+use Rattle.ats_tree.specs.declared.hashed.Place.{Place}
 use Rattle.ats_tree.specs.declared.hashed.Tree.{Tree}
 use Rattle.ats_tree.specs.declared.hashed.Tree.TheVariants.{Header, Dictionary, List as ListOf, Documents as DocumentsTree, Terms}
+use Rattle.ats_lists.specs.Formats.{prefix_strings}
 use Rattle.ats_lists.specs.Leaf.{leaf_bytes}
 use Rattle.ats_lists.specs.Lists.{list}
 use Rattle.ats_dict.specs.Dictionary.{dict_leaves}
@@ -15,11 +17,11 @@ use Rattle.ats_dict.specs.declared.header.Header.{Header as Numbers}
 use Rattle.ats_doctree.specs.Impacts.{doc_terms}
 use Rattle.ats_doctree.specs.Sentinels.{terms_leaves}
 use Rattle.ats_lists.specs.Layout.{Layout}
-use Rattle.ats_commit.specs.Archive.{Archive}
-use Rattle.ats_commit.specs.Prefixes.{prefix_strings}
+use Rattle.ats_commit.specs.Archive.{Archive, format_of}
 use Rattle.ats_commit.specs.Trees.{dictionary_of, documents_of}
 use Rattle.ats_commit.specs.Root.{header_string}
-use Rattle.ats_commit.specs.Ours.{TreePlace, asked_term, ours}
+use Rattle.ats_commit.specs.Ours.{asked_term, ours}
+use Rattle.ats_commit.specs.Places.{in_tree}
 use Rattle.ats_commit.specs.Own.{IsHeaderOf}
 use Rattle.ats_proof.specs.Value.{Documents, Proof, layout_of}
 use Rattle.ats_proof.specs.Runs.{shown_entry, shown_list, shown_docs, shown_term}
@@ -27,31 +29,29 @@ use Rattle.ats_client.specs.Presented.{Presented, presented}
 use Rattle.ats_client.specs.Documents.{MetDocument, documents_from}
 
 -- the string of a header, with its place
-abbrev pub hashed_header : Layout → Numbers → Hashed TreePlace
+abbrev pub hashed_header : Layout → Numbers → Hashed Place
 hashed_header layout header = record {
-  place = record { tree = Header; node = by_path [] };
+  place = record { tree = Header; depth = 0; turns = 0 };
   text = header_string layout header;
 }
 
--- a node as a place of this tree
-abbrev pub in_tree : Tree → Node → TreePlace
-in_tree tree node = record { tree = tree; node = node }
-
 -- the strings of one tree of `leaves` leaves, in pre-order
-abbrev pub strings_in : (List ℕ → List ℕ) → Tree → ℕ → List Shown → List (List ℕ) → List (Hashed TreePlace)
-strings_in H tree leaves shown digests = map (moved (in_tree tree)) (node_strings H leaves shown digests)
+abbrev pub strings_in : (List ℕ → List ℕ) → Tree → ℕ → List Shown → List (List ℕ) → List (Hashed Place)
+strings_in H tree leaves shown digests =
+    map (moved (in_tree tree)) (map (moved numbers_of) (node_strings H leaves shown digests))
 
 -- the strings of the shown front of a present term's list
-abbrev pub list_strings : (List ℕ → List ℕ) → Layout → List ℕ → Presented → List (Hashed TreePlace)
+abbrev pub list_strings : (List ℕ → List ℕ) → Layout → List ℕ → Presented → List (Hashed Place)
 list_strings H layout met one =
-    map (moved (in_tree (ListOf one.number))) (prefix_strings H layout one.entry.f (shown_list 0 met one.prefix.entries) one.prefix.digests)
+    map (moved (in_tree (ListOf one.number)))
+    (prefix_strings H (format_of layout) one.entry.f (shown_list 0 met one.prefix.entries) one.prefix.digests)
 
 -- the strings of what is shown of a met document's terms
-abbrev pub terms_strings : (List ℕ → List ℕ) → MetDocument → List (Hashed TreePlace)
+abbrev pub terms_strings : (List ℕ → List ℕ) → MetDocument → List (Hashed Place)
 terms_strings H one = strings_in H (Terms one.doc) one.leaf.leaves (map shown_term one.section.leaves) one.section.digests
 
 -- the strings of what is shown of the met documents: those of the documents tree, then those of each one's terms
-abbrev pub documents_strings : (List ℕ → List ℕ) → Numbers → List ℕ → Option Documents → List (Hashed TreePlace)
+abbrev pub documents_strings : (List ℕ → List ℕ) → Numbers → List ℕ → Option Documents → List (Hashed Place)
 documents_strings H header met None = []
 documents_strings H header met (Some docs) =
     strings_in H DocumentsTree header.documents (shown_docs met docs.leaves) docs.digests
@@ -59,7 +59,7 @@ documents_strings H header met (Some docs) =
 
 -- the strings of a proof: the header's, then those of the dictionary, then those of each list in the order of terms, then
 -- those of the met documents, if the proof shows them
-abbrev pub strings_of : (List ℕ → List ℕ) → List (List ℕ × ℕ) → Proof → List (Hashed TreePlace)
+abbrev pub strings_of : (List ℕ → List ℕ) → List (List ℕ × ℕ) → Proof → List (Hashed Place)
 strings_of H query proof =
     hashed_header (layout_of proof) proof.header
     ∷ strings_in H Dictionary proof.header.dict_leaves (map shown_entry proof.dict) proof.dict_digests
@@ -67,7 +67,7 @@ strings_of H query proof =
     ++ documents_strings H proof.header proof.met proof.docs)
 
 -- the first of them that differs from the archive's own at its place and has an equal digest
-abbrev pub extract : (List ℕ → List ℕ) → Archive → List (List ℕ × ℕ) → Proof → Option (Difference TreePlace)
+abbrev pub extract : (List ℕ → List ℕ) → Archive → List (List ℕ × ℕ) → Proof → Option (Difference Place)
 extract H archive query proof = first_collision H (ours H archive query) (strings_of H query proof)
 
 -- the shown leaves are those of a list of byte strings at their positions

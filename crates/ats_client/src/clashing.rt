@@ -1,6 +1,6 @@
 //! The first string of a proof that differs from an archive's own there and has the same digest.
 
-ghost use Rattle.std.specs.Prelude.{◌≡◌, ℕ, ◌+◌, ◌*◌, ◌^◌, ◌<◌, ◌≤◌, List, [], ◌∷◌, length, map, All, IsSome, IfSome, IfOk, option_map};
+ghost use Rattle.std.specs.Prelude.{◌≡◌, ℕ, ◌+◌, ◌*◌, ◌^◌, ◌<◌, ◌≤◌, List, [], ◌∷◌, length, map, All, IsSome, IfOk, option_map};
 ghost use Rattle.std.specs.List.{flat_map};
 ghost use Rattle.ats_tree.specs.Differences.{first_collision};
 ghost use Rattle.ats_tree.specs.Rebuild.{rebuilt};
@@ -14,7 +14,7 @@ ghost use Rattle.ats_client.specs.Documents.{IsDocsTree, IsTermsTree, documents_
 ghost use Rattle.ats_client.specs.Groups.{IsDictionary, AreSlotsRight, IsListRight, AreListsRight};
 ghost use Rattle.ats_client.specs.Lists.{presented_of};
 ghost use Rattle.ats_client.specs.Presented.{presented};
-ghost use Rattle.ats_client.specs.Sections.{AreRebuilt, difference_of, HasPlace};
+ghost use Rattle.ats_client.specs.Sections.{AreRebuilt, difference_of};
 ghost use Rattle.ats_client.specs.SeenTerms.{document_of};
 ghost use Rattle.ats_client.specs.Strings.{hashed_header, strings_in, list_strings, terms_strings, documents_strings, extract};
 
@@ -35,7 +35,7 @@ use std::marker::PhantomData;
 /// Two different strings with equal digests at one place: the archive's own, and the one that the proof hashes there.
 #[derive(Clone, Copy, Debug, PartialEq, Eq)]
 pub struct Clash {
-    /// The tree, and the turns from its root. Digits of the turns above the depth are 0.
+    /// The tree, and the depth and turns of the string there.
     pub place: Place,
     /// The archive's own string.
     pub ours: HashedString,
@@ -53,9 +53,8 @@ pub fn first_clash<'a, H: Hash32, O: OwnStrings<H>>(
     proof: &ProofView<'a>,
 ) -> Result<Option<Clash>, OutOfMemory>
     requires { AreRebuilt H.hash query.now proof.now }
-    ensures clash { IfOk result
+    ensures { IfOk result
         (λ clash. option_map difference_of clash ≡ extract H.hash (O.archive own.now) query.now proof.now) }
-    ensures place { IfOk result (λ clash. IfSome clash HasPlace) }
 {
     let mut steps = Steps::new(alloc);
     Ok(in_proof::<H, O>(own, query, proof, &mut steps))
@@ -70,8 +69,7 @@ fn in_proof<'a, H: Hash32, O: OwnStrings<H>>(
 ) -> Option<Clash>
     requires rebuilt { AreRebuilt H.hash query.now proof.now }
     requires room { steps.old ≤ 2 ^ 32 }
-    ensures clash { option_map difference_of result ≡ extract H.hash (O.archive own.now) query.now proof.now }
-    ensures place { IfSome result HasPlace }
+    ensures { option_map difference_of result ≡ extract H.hash (O.archive own.now) query.now proof.now }
 {
     if let Some(clash) = header::<H, O>(own, query, proof, steps) {
         return Some(clash);
@@ -96,7 +94,6 @@ fn header<'a, H: Hash32, O: OwnStrings<H>>(
     ensures clash { option_map difference_of result
         ≡ first_collision H.hash (ours H.hash (O.archive own.now) query.now)
         (hashed_header (layout_of proof.now) proof.now.header ∷ []) }
-    ensures place { IfSome result HasPlace }
     ensures cost { steps.new ≤ steps.old + 2 }
 {
     let place = Place {
@@ -133,7 +130,6 @@ fn in_tree<'a, H: Hash32, O: OwnStrings<H>, R: Revealed<'a> + Copy>(
     ensures clash { option_map difference_of result
         ≡ first_collision H.hash (ours H.hash (O.archive own.now) query.now)
         (strings_in H.hash tree leaves (R.shown revealed.old) (R.digests revealed.old)) }
-    ensures place { IfSome result HasPlace }
     ensures cost { steps.new ≤ steps.old + 2 ^ 35 }
 {
     let mut taken = Taken {
@@ -176,7 +172,6 @@ fn dictionary<'a, H: Hash32, O: OwnStrings<H>>(
     ensures clash { option_map difference_of result ≡ first_collision H.hash (ours H.hash (O.archive own.now) query.now)
         (strings_in H.hash Tree.Dictionary proof.now.header.dict_leaves
         (map shown_entry proof.now.dict) proof.now.dict_digests) }
-    ensures place { IfSome result HasPlace }
     ensures cost { steps.new ≤ steps.old + 2 ^ 35 }
 {
     proof.is_spelled();
@@ -200,7 +195,6 @@ fn list<'a, H: Hash32, O: OwnStrings<H>>(
     requires room { steps.old ≤ 2 ^ 63 }
     ensures clash { option_map difference_of result ≡ first_collision H.hash (ours H.hash (O.archive own.now) query.now)
         (list_strings H.hash (layout_of proof.now) proof.now.met (presented_of one.now)) }
-    ensures place { IfSome result HasPlace }
     ensures cost { steps.new ≤ steps.old + 2 ^ 35 }
 {
     let tree = Tree::List {
@@ -223,7 +217,6 @@ fn lists<'a, H: Hash32, O: OwnStrings<H>>(
     requires room { steps.old ≤ 2 ^ 62 }
     ensures clash { option_map difference_of result ≡ first_collision H.hash (ours H.hash (O.archive own.now) query.now)
         (flat_map (list_strings H.hash (layout_of proof.now) proof.now.met) (presented query.now proof.now)) }
-    ensures place { IfSome result HasPlace }
     ensures cost { steps.new ≤ steps.old + 2 ^ 41 }
 {
     proof.is_spelled();
@@ -249,9 +242,8 @@ fn documents<'a, H: Hash32, O: OwnStrings<H>>(
     requires tree { IsDocsTree H.hash proof.now }
     requires terms { All (IsTermsTree H.hash) (met_documents proof.now) }
     requires room { steps.old ≤ 2 ^ 62 }
-    ensures clash { option_map difference_of result ≡ first_collision H.hash (ours H.hash (O.archive own.now) query.now)
+    ensures { option_map difference_of result ≡ first_collision H.hash (ours H.hash (O.archive own.now) query.now)
         (documents_strings H.hash proof.now.header proof.now.met proof.now.docs) }
-    ensures place { IfSome result HasPlace }
 {
     proof.is_spelled();
     let docs = proof.docs()?;
@@ -283,10 +275,9 @@ fn each<'a, H: Hash32, O: OwnStrings<H>>(
     requires right { All (IsTermsTree H.hash)
         (documents_from proof.now.met (documents_of docs).leaves (documents_of docs).sections) }
     requires room { steps.old ≤ 2 ^ 62 + 2 ^ 50 }
-    ensures clash { option_map difference_of result ≡ first_collision H.hash (ours H.hash (O.archive own.now) query.now)
+    ensures { option_map difference_of result ≡ first_collision H.hash (ours H.hash (O.archive own.now) query.now)
         (flat_map (terms_strings H.hash)
         (documents_from proof.now.met (documents_of docs.entry).leaves (documents_of docs.entry).sections)) }
-    ensures place { IfSome result HasPlace }
 {
     proof.is_spelled();
     let mut left = docs;
@@ -314,7 +305,6 @@ fn terms<'a, H: Hash32, O: OwnStrings<H>>(
     ensures clash { option_map difference_of result
         ≡ first_collision H.hash (ours H.hash (O.archive own.now) query.now)
         (terms_strings H.hash (document_of doc.now)) }
-    ensures place { IfSome result HasPlace }
     ensures cost { steps.new ≤ steps.old + 2 ^ 35 }
 {
     let tree = Tree::Terms { doc: doc.doc() };

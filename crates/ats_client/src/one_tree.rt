@@ -20,10 +20,11 @@ pub(crate) struct OneTree<'r, H, O> {
 }
 
 impl<H: Hash32, O: OwnStrings<H>> OwnNodes for OneTree<'_, H, O> {
-    ghost use Rattle.ats_client.specs.Strings.{in_tree};
+    ghost use Rattle.ats_tree.specs.Nodes.{numbers_of};
     ghost use Rattle.ats_commit.specs.Ours.{ours};
+    ghost use Rattle.ats_commit.specs.Places.{in_tree};
 
-    ghost ours = { λ s node. ours H.hash (O.archive s.own.now) s.query.now (in_tree s.tree node) };
+    ghost ours = { λ s node. ours H.hash (O.archive s.own.now) s.query.now (in_tree s.tree (numbers_of node)) };
 
     fn at(&self, depth: u8, turns: u32) -> Option<HashedString> {
         let place = Place {

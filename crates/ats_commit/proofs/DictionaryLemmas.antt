@@ -4,6 +4,7 @@ use Rattle.std.specs.List.{All}
 use Rattle.std.proofs.lemmas.List.{length-map}
 use Rattle.std.proofs.lemmas.List.Elements.{All-map}
 use Rattle.ats_impact.specs.Score.{frequency}
+use Rattle.ats_lists.specs.Formats.{list_root}
 use Rattle.ats_lists.specs.Lists.{list, vocabulary, lists_of}
 use Rattle.ats_lists.specs.declared.entry.Entry.{Entry}
 use Rattle.ats_lists.proofs.Public.{list_frequency}
@@ -11,7 +12,7 @@ use Rattle.ats_dict.specs.Entry.{DictEntry}
 use Rattle.ats_dict.specs.Dictionary.{dict_leaves}
 use Rattle.ats_dict.proofs.Public.{length-dict_leaves}
 use Rattle.ats_lists.specs.Layout.{Layout}
-use Rattle.ats_commit.specs.Archive.{Archive, list_root}
+use Rattle.ats_commit.specs.Archive.{Archive, format_of}
 use Rattle.ats_commit.specs.Trees.{dict_entry, dictionary_of}
 
 terms_made : (H : List ℕ → List ℕ) (layout : Layout) (made : List ℕ → List Entry) (words : List (List ℕ))
@@ -35,8 +36,8 @@ each_entry H archive P holds =
 pub dictionary_numbers : (H : List ℕ → List ℕ) (archive : Archive) → All (λ e. e.f ≡ frequency e.term archive.texts) (dictionary_of H archive)
 dictionary_numbers H archive = each_entry H archive (λ e. e.f ≡ frequency e.term archive.texts) (list_frequency archive.texts)
 
-pub dictionary_roots : (H : List ℕ → List ℕ) (archive : Archive) → All (λ e. e.root ≡ list_root H archive.layout (list archive.texts e.term)) (dictionary_of H archive)
-dictionary_roots H archive = each_entry H archive (λ e. e.root ≡ list_root H archive.layout (list archive.texts e.term)) (λ term. refl)
+pub dictionary_roots : (H : List ℕ → List ℕ) (archive : Archive) → All (λ e. e.root ≡ list_root H (format_of archive.layout) (list archive.texts e.term)) (dictionary_of H archive)
+dictionary_roots H archive = each_entry H archive (λ e. e.root ≡ list_root H (format_of archive.layout) (list archive.texts e.term)) (λ term. refl)
 
 -- a leaf for each term, and two sentinels
 pub dictionary_count : (H : List ℕ → List ℕ) (archive : Archive) → length (dict_leaves (dictionary_of H archive)) ≡ length (vocabulary archive.texts) + 2

@@ -14,6 +14,8 @@ pub use Rattle.ats_commit.proofs.HeaderLemmas.{header_in_range}
 pub use Rattle.ats_commit.proofs.TermLemmas.{few_within}
 -- two layouts are always equal, as there is only one layout
 pub use Rattle.ats_commit.proofs.Layouts.{same_layout}
+-- what is known of a tree's strings, unless the first difference collides, is known of them by their numbers
+pub use Rattle.ats_commit.proofs.PrefixLemmas.{known-by-numbers}
 -- shown leaves that rebuild a list's root are the list's own, or the first difference is a collision
 pub use Rattle.ats_commit.proofs.PrefixLemmas.{prefix-binds}
 -- a header in range with the bytes of the archive's header has the archive's numbers and roots

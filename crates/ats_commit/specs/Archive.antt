@@ -1,9 +1,8 @@
 -- What a root commits to.
-use Rattle.std.specs.Prelude.{ℕ, List, map}
-use Rattle.ats_tree.specs.Tree.{mth}
+use Rattle.std.specs.Prelude.{ℕ, List}
 use Rattle.ats_lists.specs.Layout.{Layout, whole_lists}
-use Rattle.ats_lists.specs.Leaf.{leaf_bytes}
-use Rattle.ats_lists.specs.declared.entry.Entry.{Entry}
+use Rattle.ats_lists.specs.declared.format.Format.{Format}
+use Rattle.ats_lists.specs.declared.format.Format.TheVariants.{One}
 
 -- the texts of a collection, and the layout of their trees
 pub record Archive : Type 0 where
@@ -14,10 +13,10 @@ pub record Archive : Type 0 where
 abbrev pub archive_of : List (List ℕ) → Archive
 archive_of texts = record { texts = texts; layout = whole_lists }
 
+-- the format of the lists
+abbrev pub format_of : Layout → Format
+format_of whole_lists = One
+
 -- the byte before the header when the root is hashed
 abbrev pub header_tag : Layout → ℕ
 header_tag whole_lists = 2
-
--- the root of a list
-abbrev pub list_root : (List ℕ → List ℕ) → Layout → List Entry → List ℕ
-list_root H whole_lists entries = mth H (map leaf_bytes entries)

@@ -1,5 +1,4 @@
 pub mod Archive
-pub mod Prefixes
 pub mod Trees
 pub mod Root
 pub mod Ours

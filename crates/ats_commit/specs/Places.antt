@@ -1,15 +1,17 @@
--- Places in the trees of an archive, as code names them.
+-- Places in the trees of an archive.
 use Rattle.std.specs.Prelude.{ℕ, ◌<◌, List, length, ⊤}
-use Rattle.ats_tree.specs.Nodes.{by_path}
-use Rattle.ats_tree.specs.Paths.{path_of}
+use Rattle.ats_tree.specs.Nodes.{NodeNumbers}
 use Rattle.ats_tree.specs.declared.hashed.Place.{Place}
 use Rattle.ats_tree.specs.declared.hashed.Tree.{Tree}
 use Rattle.ats_tree.specs.declared.hashed.Tree.TheVariants.{Header, Dictionary, List as ListOf, Documents, Terms}
-use Rattle.ats_commit.specs.Ours.{TreePlace}
 
--- the tree of the place, and the node to which its turns lead
-abbrev pub tree_place : Place → TreePlace
-tree_place place = record { tree = place.tree; node = by_path (path_of place.depth place.turns) }
+-- the place in a tree that these two numbers name
+abbrev pub in_tree : Tree → NodeNumbers → Place
+in_tree tree at = record { tree = tree; depth = at.depth; turns = at.turns }
+
+-- the two numbers that name a place in its tree
+abbrev pub numbers_at : Place → NodeNumbers
+numbers_at place = record { depth = place.depth; turns = place.turns }
 
 -- if the tree is that of a list, it is of one of the query's terms
 abbrev pub IsOfQuery : List (List ℕ × ℕ) → Tree → Type 0

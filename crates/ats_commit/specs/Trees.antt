@@ -1,6 +1,7 @@
 -- The trees of an archive, each as the list of its leaves, under a hash function H.
 use Rattle.std.specs.Prelude.{◌<◌, ◌≤◌, ◌^◌, ℕ, List, length, map}
 use Rattle.ats_tree.specs.Tree.{mth}
+use Rattle.ats_lists.specs.Formats.{list_root}
 use Rattle.ats_lists.specs.Lists.{lists_of}
 use Rattle.ats_lists.specs.declared.entry.Entry.{Entry}
 use Rattle.ats_dict.specs.Entry.{DictEntry}
@@ -9,11 +10,11 @@ use Rattle.ats_doctree.specs.Impacts.{text_terms}
 use Rattle.ats_doctree.specs.Sentinels.{terms_leaves}
 use Rattle.ats_doctree.specs.declared.doc_leaf.DocLeaf.{DocLeaf}
 use Rattle.ats_lists.specs.Layout.{Layout}
-use Rattle.ats_commit.specs.Archive.{Archive, list_root}
+use Rattle.ats_commit.specs.Archive.{Archive, format_of}
 
 -- the entry of a term's list: the term, how many entries the list has, and its root
 abbrev pub dict_entry : (List ℕ → List ℕ) → Layout → List ℕ × List Entry → DictEntry
-dict_entry H layout list = record { term = list.0; f = length list.1; root = list_root H layout list.1 }
+dict_entry H layout list = record { term = list.0; f = length list.1; root = list_root H (format_of layout) list.1 }
 
 -- the entries of the dictionary, one for each list
 abbrev pub dictionary_of : (List ℕ → List ℕ) → Archive → List DictEntry

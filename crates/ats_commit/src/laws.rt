@@ -9,11 +9,13 @@ ghost use Rattle.ats_tree.specs.Differences.{first_difference};
 ghost use Rattle.ats_tree.specs.Part.{RisesFrom};
 ghost use Rattle.ats_tree.specs.Shown.{Shown};
 ghost use Rattle.ats_tree.specs.Tree.{mth};
-ghost use Rattle.ats_tree.specs.Nodes.{Node, by_path, depth_of};
+ghost use Rattle.ats_tree.specs.Nodes.{NodeNumbers};
+ghost use Rattle.ats_tree.specs.declared.hashed.Place.{Place};
 ghost use Rattle.ats_tree.specs.declared.hashed.Tree.TheVariants.{Header as HeaderTree, List as ListTree, Terms as TermsTree};
 ghost use Rattle.ats_terms.specs.Terms.{IsTerm};
 ghost use Rattle.ats_impact.specs.Limits.{AreWithin};
 ghost use Rattle.ats_impact.specs.Score.{count, frequency, total_terms};
+ghost use Rattle.ats_lists.specs.Formats.{list_root, list_string, prefix_root, prefix_strings};
 ghost use Rattle.ats_lists.specs.Leaf.{leaf_bytes};
 ghost use Rattle.ats_lists.specs.Lists.{list, vocabulary};
 ghost use Rattle.ats_lists.specs.declared.entry.Entry.{Entry};
@@ -26,11 +28,11 @@ ghost use Rattle.ats_dict.specs.declared.header.Header.{Header};
 ghost use Rattle.ats_dict.specs.Entry.{DictEntry, dict_leaf_bytes};
 ghost use Rattle.ats_dict.specs.Dictionary.{IsBelow, dict_leaves};
 ghost use Rattle.ats_lists.specs.Layout.{Layout, whole_lists};
-ghost use Rattle.ats_commit.specs.Archive.{Archive, header_tag, list_root};
-ghost use Rattle.ats_commit.specs.Prefixes.{list_string, prefix_root, prefix_strings};
+ghost use Rattle.ats_commit.specs.Archive.{Archive, format_of, header_tag};
+ghost use Rattle.ats_commit.specs.Places.{in_tree};
 ghost use Rattle.ats_commit.specs.Trees.{dictionary_of, documents_of};
 ghost use Rattle.ats_commit.specs.Root.{header_of, root_of, HasHeaderInRange};
-ghost use Rattle.ats_commit.specs.Ours.{TreePlace, asked_term, own_leaves, ours};
+ghost use Rattle.ats_commit.specs.Ours.{asked_term, own_leaves, ours};
 ghost use Rattle.ats_commit.specs.Own.{AreTexts, AreNeighbours, AreTermNeighbours, IsHeaderOf, IsEntryOf, IsDocumentOf, IsImpactOf};
 
 use ats_hash::HashKind;
@@ -43,9 +45,9 @@ pub fn dictionary_has_all_terms<H: HashKind>()
     ensures numbers { (archive : Archive)
         → All (λ entry. entry.f ≡ frequency entry.term archive.texts) (dictionary_of H.hash archive) }
     ensures roots { (archive : Archive)
-        → All (λ entry. entry.root ≡ list_root H.hash archive.layout (list archive.texts entry.term))
+        → All (λ entry. entry.root ≡ list_root H.hash (format_of archive.layout) (list archive.texts entry.term))
         (dictionary_of H.hash archive) }
-    ensures whole { (entries : List Entry) → list_root H.hash whole_lists entries
+    ensures whole { (entries : List Entry) → list_root H.hash (format_of whole_lists) entries
         ≡ mth H.hash (map leaf_bytes entries) }
 {}
 
@@ -129,27 +131,28 @@ pub fn own_leaves_tell_documents<H: HashKind>()
 pub fn list_prefixes_are_bound<H: HashKind>()
     ensures { (layout : Layout) (entries : List Entry) (shown : List Shown) (digests : List (List ℕ))
         → RisesFrom 0 shown → All (λ d. length d ≡ 32) digests
-        → prefix_root H.hash layout (length entries) shown digests ≡ Some (list_root H.hash layout entries)
-        → MatchOption (first_difference
-        (list_string H.hash layout entries) (prefix_strings H.hash layout (length entries) shown digests))
+        → prefix_root H.hash (format_of layout) (length entries) shown digests
+        ≡ Some (list_root H.hash (format_of layout) entries)
+        → MatchOption (first_difference (list_string H.hash (format_of layout) entries)
+        (prefix_strings H.hash (format_of layout) (length entries) shown digests))
         (All (λ s. slice_get (map leaf_bytes entries) s.0 ≡ Some s.1) shown)
         (λ c. H.hash c.theirs ≡ H.hash c.ours) }
 {}
 
-/// The header's string is at the node with no turns. No tree has a string past its leaves: with at most 2^h leaves a
-/// node has at most `h` turns. There is no string in the list of a term that no text has, nor in the tree of a document
-/// past the last.
+/// The header's string is at depth 0. No tree has a string past its leaves: with at most 2^h leaves the depth of a
+/// string is at most `h`. There is no string in the list of a term that no text has, nor in the tree of a document past
+/// the last.
 pub fn own_strings_stand_in_trees<H: HashKind>()
-    ensures header { (archive : Archive) (query : List (List ℕ × ℕ))
-        → ours H.hash archive query (record { tree = HeaderTree; node = by_path [] })
+    ensures header { (archive : Archive) (query : List (List ℕ × ℕ)) (turns : ℕ)
+        → ours H.hash archive query (record { tree = HeaderTree; depth = 0; turns = turns })
         ≡ Some (header_tag archive.layout ∷ header_of H.hash archive) }
-    ensures within { (archive : Archive) (query : List (List ℕ × ℕ)) (place : TreePlace) (h : ℕ)
+    ensures within { (archive : Archive) (query : List (List ℕ × ℕ)) (place : Place) (h : ℕ)
         → length (own_leaves H.hash archive query place.tree) ≤ 2 ^ h → IsSome (ours H.hash archive query place)
-        → depth_of place.node ≤ h }
-    ensures lists { (archive : Archive) (query : List (List ℕ × ℕ)) (number : ℕ) (node : Node)
+        → place.depth ≤ h }
+    ensures lists { (archive : Archive) (query : List (List ℕ × ℕ)) (number : ℕ) (at : NodeNumbers)
         → frequency (asked_term query number) archive.texts ≡ 0
-        → ours H.hash archive query (record { tree = ListTree number; node = node }) ≡ None }
-    ensures documents { (archive : Archive) (query : List (List ℕ × ℕ)) (doc : ℕ) (node : Node)
+        → ours H.hash archive query (in_tree (ListTree number) at) ≡ None }
+    ensures documents { (archive : Archive) (query : List (List ℕ × ℕ)) (doc : ℕ) (at : NodeNumbers)
         → length archive.texts ≤ doc
-        → ours H.hash archive query (record { tree = TermsTree doc; node = node }) ≡ None }
+        → ours H.hash archive query (in_tree (TermsTree doc) at) ≡ None }
 {}

@@ -14,6 +14,7 @@ use Rattle.ats_terms.specs.Terms.{folded, is_term, occurrences, terms}
 use Rattle.ats_terms.proofs.Public.{counted_counts, weight_at}
 use Rattle.ats_impact.specs.Score.{count}
 use Rattle.ats_tree.specs.Tree.{tree_of}
+use Rattle.ats_lists.specs.Formats.{list_root}
 use Rattle.ats_lists.specs.Layout.{Layout, whole_lists}
 use Rattle.ats_lists.specs.Leaf.{leaf_bytes}
 use Rattle.ats_lists.specs.Lists.{list, vocabulary}
@@ -21,7 +22,7 @@ use Rattle.ats_lists.specs.declared.entry.Entry.{Entry}
 use Rattle.ats_lists.proofs.Public.{vocabulary_few}
 use Rattle.ats_dict.specs.Entry.{DictEntry}
 use Rattle.ats_dict.proofs.Public.{length-dict_leaves}
-use Rattle.ats_commit.specs.Archive.{Archive, list_root}
+use Rattle.ats_commit.specs.Archive.{Archive, format_of}
 use Rattle.ats_commit.specs.Own.{AreTexts}
 use Rattle.ats_commit.specs.Trees.{dictionary_of}
 use Rattle.ats_commit.proofs.Public.{dictionary_count, dictionary_numbers, dictionary_roots, dictionary_terms, few_within}
@@ -64,7 +65,7 @@ vocabulary_short texts k d inside =
     subst IsShortTerm (sym (get_or-map (λ (pair : List ℕ × ℕ). pair.0) pairs k ([], 0) d here)) (occurs_has IsShortTerm term all (terms_short texts) occurs)
 
 -- the root of a list is a digest
-root_sized : (H : List ℕ → List ℕ) → ((bytes : List ℕ) → length (H bytes) ≡ 32) → (layout : Layout) (entries : List Entry) → length (list_root H layout entries) ≡ 32
+root_sized : (H : List ℕ → List ℕ) → ((bytes : List ℕ) → length (H bytes) ≡ 32) → (layout : Layout) (entries : List Entry) → length (list_root H (format_of layout) entries) ≡ 32
 root_sized H sized whole_lists entries = digest_sized H sized (tree_of (map leaf_bytes entries))
 
 -- what holds for a leaf holds for each entry

@@ -5,9 +5,9 @@ use Rattle.ats_tree.specs.Elided.{elided_digests}
 use Rattle.ats_lists.specs.declared.entry.Entry.{Entry}
 use Rattle.ats_dict.specs.declared.spot.Spot.{Spot}
 use Rattle.ats_dict.specs.Dictionary.{dict_leaves}
+use Rattle.ats_lists.specs.Formats.{prefix_digests}
 use Rattle.ats_lists.specs.Layout.{Layout}
-use Rattle.ats_commit.specs.Archive.{Archive}
-use Rattle.ats_commit.specs.Prefixes.{prefix_digests}
+use Rattle.ats_commit.specs.Archive.{Archive, format_of}
 use Rattle.ats_commit.specs.Root.{header_parts}
 use Rattle.ats_commit.specs.Trees.{dictionary_of}
 use Rattle.ats_bound.specs.declared.bracket.Bracket.{Bracket}
@@ -23,11 +23,11 @@ use Rattle.ats_honest.specs.Documents.{HasDocuments}
 abbrev pub placed : List ℕ → Entry → Entry
 placed met entry = record { doc = place met entry.doc; impact = entry.impact }
 
--- the first `count` entries of a list, and the digests that the list's layout needs besides
+-- the first `count` entries of a list, and the digests that the list's format needs besides
 abbrev pub prefix_of : (List ℕ → List ℕ) → Layout → List ℕ → List Entry → ℕ → Prefix
 prefix_of H layout met entries count = record {
   entries = map (placed met) (take count entries);
-  digests = prefix_digests H layout entries count;
+  digests = prefix_digests H (format_of layout) entries count;
 }
 
 -- of each list the first entries, as many as the cut says

@@ -8,12 +8,13 @@ use Rattle.std.proofs.lemmas.Map.Keys.{Less-from_sorted}
 use Rattle.std.proofs.lemmas.Option.{slice_get-get_or}
 use Rattle.ats_tree.specs.Kept.{kept_digests}
 use Rattle.ats_terms.specs.Query.{byte_cmp}
+use Rattle.ats_lists.specs.Formats.{list_root}
 use Rattle.ats_lists.specs.Leaf.{leaf_bytes}
 use Rattle.ats_lists.specs.declared.entry.Entry.{Entry}
 use Rattle.ats_dict.specs.Dictionary.{IsBelow, IsAboveLast}
 use Rattle.ats_dict.specs.Entry.{DictEntry}
 use Rattle.ats_lists.specs.Layout.{Layout}
-use Rattle.ats_commit.specs.Archive.{list_root}
+use Rattle.ats_commit.specs.Archive.{format_of}
 use Rattle.ats_commit.specs.Trees.{dict_entry}
 use Rattle.ats_index.specs.Kept.{all_list_digests}
 
@@ -43,7 +44,7 @@ module _ (H : List ℕ → List ℕ) (layout : Layout) (lists : List (List ℕ �
 
   -- the entries with that of the next list
   pub next_entry : (term : List ℕ) (entries : List Entry) (root : List ℕ) → term ≡ (get_or lists i ([], [])).0 → entries ≡ (get_or lists i ([], [])).1
-      → root ≡ list_root H layout entries
+      → root ≡ list_root H (format_of layout) entries
       → map (dict_entry H layout) (take i lists) ++ record { term = term; f = length entries; root = root } ∷ [] ≡ map (dict_entry H layout) (take (i + 1) lists)
   next_entry term entries root is_term are_entries is_root =
       let one : DictEntry = record { term = term; f = length entries; root = root } in

@@ -1,20 +1,22 @@
 -- The strings of the list that is found under a term.
 use Rattle.std.proofs.Common.{◌≡◌, ◌<◌, ℕ, List, [], length, map, get_or, None, refl, sym, ap, ◌∙◌}
 use Rattle.std.specs.List.{All}
-use Rattle.ats_tree.specs.Nodes.{Node, by_path}
+use Rattle.ats_tree.specs.Nodes.{NodeNumbers, by_path}
+use Rattle.ats_tree.specs.Paths.{path_of}
 use Rattle.ats_tree.specs.Strings.{node_string}
 use Rattle.ats_tree.proofs.Public.{string-none}
+use Rattle.ats_lists.specs.Formats.{list_string}
 use Rattle.ats_lists.specs.Leaf.{leaf_bytes}
 use Rattle.ats_lists.specs.Lists.{list, lists_of}
 use Rattle.ats_lists.specs.declared.entry.Entry.{Entry}
 use Rattle.ats_lists.proofs.Public.{listed, unlisted}
 use Rattle.ats_lists.specs.Layout.{Layout, whole_lists}
-use Rattle.ats_commit.specs.Archive.{Archive}
-use Rattle.ats_commit.specs.Prefixes.{list_string}
+use Rattle.ats_commit.specs.Archive.{Archive, format_of}
 
 module _ (H : List ℕ → List ℕ) (archive : Archive) (term : List ℕ) where
-  whole : (layout : Layout) (entries : List Entry) (node : Node) → list_string H layout entries node ≡ node_string H (map leaf_bytes entries) node
-  whole whole_lists entries node = refl
+  whole : (layout : Layout) (entries : List Entry) (at : NodeNumbers)
+      → list_string H (format_of layout) entries at ≡ node_string H (map leaf_bytes entries) (by_path (path_of at.depth at.turns))
+  whole whole_lists entries at = refl
 
   -- the entries that are found under a term
   pub entries_found : (i : ℕ) (entries : List Entry) → i < length (lists_of archive.texts)
@@ -23,20 +25,21 @@ module _ (H : List ℕ → List ℕ) (archive : Archive) (term : List ℕ) where
   entries_found i entries inside same is = is ∙ listed archive.texts term i ([], []) inside same
 
   -- the strings of their tree
-  pub list_found : (i : ℕ) (entries : List Entry) (node : Node) → i < length (lists_of archive.texts)
+  pub list_found : (i : ℕ) (entries : List Entry) (at : NodeNumbers) → i < length (lists_of archive.texts)
       → (get_or (lists_of archive.texts) i ([], [])).0 ≡ term → entries ≡ (get_or (lists_of archive.texts) i ([], [])).1
-      → node_string H (map leaf_bytes entries) node ≡ list_string H archive.layout (list archive.texts term) node
-  list_found i entries node inside same is =
-      ap (λ (all : List Entry). node_string H (map leaf_bytes all) node) (entries_found i entries inside same is)
-      ∙ sym (whole archive.layout (list archive.texts term) node)
+      → node_string H (map leaf_bytes entries) (by_path (path_of at.depth at.turns))
+      ≡ list_string H (format_of archive.layout) (list archive.texts term) at
+  list_found i entries at inside same is =
+      ap (λ (all : List Entry). node_string H (map leaf_bytes all) (by_path (path_of at.depth at.turns))) (entries_found i entries inside same is)
+      ∙ sym (whole archive.layout (list archive.texts term) at)
 
   -- a term under which there is none has no entries
   pub entries_absent : All (λ l. l.0 ≡ term → ⊥) (lists_of archive.texts) → length (map leaf_bytes (list archive.texts term)) ≡ 0
   entries_absent none = ap (λ (all : List Entry). length (map leaf_bytes all)) (unlisted archive.texts term none)
 
   -- nor a string
-  pub list_absent : (node : Node) → All (λ l. l.0 ≡ term → ⊥) (lists_of archive.texts)
-      → list_string H archive.layout (list archive.texts term) node ≡ None
-  list_absent (by_path path) none =
-      ap (λ (all : List Entry). list_string H archive.layout all (by_path path)) (unlisted archive.texts term none)
-      ∙ whole archive.layout [] (by_path path) ∙ string-none H [] path refl
+  pub list_absent : (at : NodeNumbers) → All (λ l. l.0 ≡ term → ⊥) (lists_of archive.texts)
+      → list_string H (format_of archive.layout) (list archive.texts term) at ≡ None
+  list_absent at none =
+      ap (λ (all : List Entry). list_string H (format_of archive.layout) all at) (unlisted archive.texts term none)
+      ∙ whole archive.layout [] at ∙ string-none H [] (path_of at.depth at.turns) refl

@@ -3,9 +3,10 @@
 ghost use Rattle.std.specs.Prelude.{◌≡◌, ◌<◌, [], length, map, slice_index_or, IfOk};
 ghost use Rattle.ats_tree.specs.Kept.{kept_digests};
 ghost use Rattle.ats_dict.specs.Dictionary.{dict_leaves};
+ghost use Rattle.ats_lists.specs.Formats.{list_root};
 ghost use Rattle.ats_lists.specs.Layout.{whole_lists};
 ghost use Rattle.ats_lists.specs.Leaf.{leaf_bytes};
-ghost use Rattle.ats_commit.specs.Archive.{list_root};
+ghost use Rattle.ats_lists.specs.declared.format.Format.TheVariants.{One};
 ghost use Rattle.ats_commit.specs.Trees.{dict_entry};
 ghost use Rattle.ats_index.specs.Kept.{all_list_digests};
 
@@ -45,7 +46,7 @@ pub(crate) fn nodes_of_lists<H: Hash32>(
 // The root of a list, which is the first of its nodes.
 fn root_of<H: HashKind>(entries: &[Entry], nodes: &Nodes) -> [u8; 32]
     requires { nodes.now ≡ kept_digests H.hash (map leaf_bytes entries.now) }
-    ensures { result ≡ list_root H.hash whole_lists entries.now }
+    ensures { result ≡ list_root H.hash One entries.now }
 {
     nodes.root()
 }

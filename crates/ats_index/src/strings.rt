@@ -1,15 +1,14 @@
 //! The strings of an index's own trees, by their places.
 
 ghost use Rattle.std.specs.Prelude.{◌≡◌, ◌↔◌, ◌^◌, ◌≤◌, [], length, map, All, IsTrue};
-ghost use Rattle.ats_tree.specs.Nodes.{by_path};
 ghost use Rattle.ats_tree.specs.OwnShown.{IsOwnShown};
-ghost use Rattle.ats_tree.specs.Paths.{path_of};
 ghost use Rattle.ats_tree.specs.declared.hashed.Tree.TheVariants.{Header as HeaderTree, Documents as DocumentsTree, Terms as TermsTree};
+ghost use Rattle.ats_lists.specs.Formats.{list_string};
 ghost use Rattle.ats_lists.specs.Leaf.{leaf_bytes};
 ghost use Rattle.ats_lists.specs.Lists.{list};
-ghost use Rattle.ats_commit.specs.Prefixes.{list_string};
+ghost use Rattle.ats_commit.specs.Archive.{format_of};
 ghost use Rattle.ats_commit.specs.Ours.{own_leaves, own_string, ours};
-ghost use Rattle.ats_commit.specs.Places.{tree_place, IsOfQuery};
+ghost use Rattle.ats_commit.specs.Places.{numbers_at, IsOfQuery};
 ghost use Rattle.ats_commit.specs.Trees.{documents_of};
 
 use crate::index::Index;
@@ -20,12 +19,12 @@ use ats_terms::Query;
 use ats_tree::{HashedString, Place, ShownTree, Tree};
 
 impl<H: Hash32> Index<H> {
-    /// The string at a place in the archive's own trees. There is none if the path leaves the tree, if no text has the
+    /// The string at a place in the archive's own trees. There is none if the turns leave the tree, if no text has the
     /// term, or if the document's number is past the last. It allocates nothing.
     pub fn hashed_string(&self, place: &Place, query: &Query) -> Option<HashedString>
         requires shallow { place.now.depth ≤ 32 }
         requires asked { IsOfQuery query.now place.now.tree }
-        ensures { result ≡ ours H.hash self.now query.now (tree_place place.now) }
+        ensures { result ≡ ours H.hash self.now query.now place.now }
     {
         match place.tree {
             Tree::Header => self.header_string(place),
@@ -42,8 +41,7 @@ impl<H: Hash32> Index<H> {
 
     // The header is one string.
     fn header_string(&self, place: &Place) -> Option<HashedString>
-        ensures { result ≡ own_string H.hash self.now [] HeaderTree
-            (by_path (path_of place.now.depth place.now.turns)) }
+        ensures { result ≡ own_string H.hash self.now [] HeaderTree (numbers_at place.now) }
     {
         if place.depth > 0 {
             return None;
@@ -54,8 +52,8 @@ impl<H: Hash32> Index<H> {
     // A string of the tree of a term's list.
     fn list_string(&self, term: &[u8], place: &Place) -> Option<HashedString>
         requires { place.now.depth ≤ 32 }
-        ensures { result ≡ list_string H.hash self.now.layout (list self.now.texts term.now)
-            (by_path (path_of place.now.depth place.now.turns)) }
+        ensures { result ≡ list_string H.hash (format_of self.now.layout) (list self.now.texts term.now)
+            (numbers_at place.now) }
     {
         let lists = self.lists();
         match lists.find(term) {
@@ -73,8 +71,7 @@ impl<H: Hash32> Index<H> {
     // A string of the tree of all documents.
     fn documents_string(&self, place: &Place) -> Option<HashedString>
         requires { place.now.depth ≤ 32 }
-        ensures { result ≡ own_string H.hash self.now [] DocumentsTree
-            (by_path (path_of place.now.depth place.now.turns)) }
+        ensures { result ≡ own_string H.hash self.now [] DocumentsTree (numbers_at place.now) }
     {
         let leaves = DocLeaves {
             leaves: self.doc_leaves(),
@@ -86,8 +83,7 @@ impl<H: Hash32> Index<H> {
     // A string of the tree of a document's terms.
     fn terms_string(&self, doc: u32, place: &Place) -> Option<HashedString>
         requires { place.now.depth ≤ 32 }
-        ensures { result ≡ own_string H.hash self.now [] (TermsTree doc)
-            (by_path (path_of place.now.depth place.now.turns)) }
+        ensures { result ≡ own_string H.hash self.now [] (TermsTree doc) (numbers_at place.now) }
     {
         if doc >= self.collection().documents() {
             return None;

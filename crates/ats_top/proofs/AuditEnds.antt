@@ -5,8 +5,8 @@ use Rattle.ats_base.specs.Outside.{IsMissing, ShelfTold}
 use Rattle.ats_terms.specs.Query.{IsQueryOf}
 use Rattle.ats_impact.specs.declared.rank.Row.{Row}
 use Rattle.ats_tree.specs.Differences.{Difference}
+use Rattle.ats_tree.specs.declared.hashed.Place.{Place}
 use Rattle.ats_commit.specs.Archive.{Archive}
-use Rattle.ats_commit.specs.Ours.{TreePlace}
 use Rattle.ats_proof.specs.Value.{IsProof}
 use Rattle.ats_proof.proofs.Public.{one_value}
 use Rattle.ats_client.specs.Headline.{AreRight}
@@ -92,7 +92,7 @@ module _ (H : List ℕ → List ℕ) (before mid now : ShelfTold) (words : Audit
     verdict_stop (Peer fault) stops = absurd stops
     verdict_stop (Faults count) stops = absurd stops
     verdict_stop (Swept lines collides) stops = absurd stops
-    verdict_stop (Collision place ours theirs) (found, turns) =
+    verdict_stop (Collision place ours theirs) found =
         let two = extract-collides H archive query found.proof _ found.found in (
           record {
             collision = (
@@ -109,7 +109,6 @@ module _ (H : List ℕ → List ℕ) (before mid now : ShelfTold) (words : Audit
                 is = found.found;
               },
             );
-            turns = turns;
             differ = two.0;
             equal = two.1;
           },
@@ -147,7 +146,7 @@ module _ (H : List ℕ → List ℕ) (before mid now : ShelfTold) (words : Audit
 -- ---- what a collision excludes
 
 -- reported files are audited in one way
-pub one_audited : (H : List ℕ → List ℕ) (files : Files) (words : AuditWords) (a b : Option (Difference TreePlace)) → IsTold files
+pub one_audited : (H : List ℕ → List ℕ) (files : Files) (words : AuditWords) (a b : Option (Difference Place)) → IsTold files
     → IsAudited H files words a → IsAudited H files words b → a ≡ b
 one_audited H files words a b told x y =
     let archives : x.archive ≡ y.archive = told_archive H files words.index x.archive y.archive told x.index y.index in
@@ -157,27 +156,27 @@ one_audited H files words a b told x y =
     let alike : extract H x.archive x.query x.proof ≡ extract H y.archive y.query y.proof = cc in
     sym x.is ∙ alike ∙ y.is
 
-pub other_found : (collision : Difference TreePlace) → None ≡ Some collision → ⊥
+pub other_found : (collision : Difference Place) → None ≡ Some collision → ⊥
 other_found collision is = cc
 
 module _ (H : List ℕ → List ℕ) where
   -- what was audited has the form that the command reads
-  pub collision_input : (files : Files) (command : Command) (collision : Difference TreePlace) → HasCollision H files command collision → HasInput H files command
+  pub collision_input : (files : Files) (command : Command) (collision : Difference Place) → HasCollision H files command collision → HasInput H files command
   collision_input files (Audit words) collision (asks, is) = (asks, (Some collision, is))
   collision_input files other collision has = absurd has
 
-  pub collision_kept : (files : Files) (command : Command) (collision : Difference TreePlace) → IsTold files → HasCollision H files command collision
+  pub collision_kept : (files : Files) (command : Command) (collision : Difference Place) → IsTold files → HasCollision H files command collision
       → (refusal : InputRefusal) → IsRefused H files command refusal → ⊥
   collision_kept files (Audit words) collision told (asks, is) refusal refused =
       ranking_kept words.r words.query (IsIndexRefused H files words.index) asks (index_kept H files words.index is.archive told is.index) refusal refused
   collision_kept files other collision told has refusal refused = has
 
-  pub collision_unserved : (files : Files) (command : Command) (collision : Difference TreePlace) → IsTold files → HasCollision H files command collision
+  pub collision_unserved : (files : Files) (command : Command) (collision : Difference Place) → IsTold files → HasCollision H files command collision
       → IsServed H files command → ⊥
   collision_unserved files (Audit words) collision told (asks, is) (_, none) = other_found collision (one_audited H files words None (Some collision) told none is)
   collision_unserved files other collision told has served = has
 
-  pub collision_undone : (before now : Outside) (command : Command) (text : List ℕ) (collision : Difference TreePlace) → IsTold before.shelf.files
+  pub collision_undone : (before now : Outside) (command : Command) (text : List ℕ) (collision : Difference Place) → IsTold before.shelf.files
       → HasCollision H before.shelf.files command collision → IsDone H before now command text → ⊥
   collision_undone before now (Audit words) text collision told (asks, is) (right, same) =
       other_found collision (one_audited H before.shelf.files words None (Some collision) told right.audited is)

@@ -2,7 +2,7 @@
 use Rattle.std.proofs.Common.{◌≡◌, ◌≢◌, ◌⊎◌, ◌≤◌, ◌∙◌, ℕ, Bool, true, false, List, length, string_bytes, String, Global, Some, None, IsSome, refl, sym, ap, subst, inl, inr, arith, take_all, if◌then◌else◌}
 use Rattle.ats_base.specs.Outside.{Rose, ShelfTold, Asked, Puts}
 use Rattle.ats_tree.specs.Differences.{Difference}
-use Rattle.ats_commit.specs.Ours.{TreePlace}
+use Rattle.ats_tree.specs.declared.hashed.Place.{Place}
 use Rattle.ats_client.specs.declared.fault.Rejection.{Rejection}
 use Rattle.ats_top.specs.Words.{SweepWords, TrialWords, Command, Rank, Build, Root, Prove, Verify, Ask, Serve, Audit, Sweep, Trial, command_of}
 use Rattle.ats_top.specs.Stops.{End, Done, Stopped, Unprinted, status_of, status_of_stop, text_of}
@@ -234,7 +234,7 @@ module _ (H : List ℕ → List ℕ) (said : List (List ℕ)) (before now : Outs
     rejected_stop told rejection cause text stop (inr links) = absurd (links_rejected H before now command text stop links rejection cause)
 
     -- no other run reports a proof that has a collision
-    collided_stop : IsTold before.shelf.files → (collision : Difference TreePlace) → HasCollision H before.shelf.files command collision → (text : List ℕ) (stop : Stop)
+    collided_stop : IsTold before.shelf.files → (collision : Difference Place) → HasCollision H before.shelf.files command collision → (text : List ℕ) (stop : Stop)
         → IsStopped H before now command text stop → Comes 5 (status_of_stop stop)
     collided_stop told collision has text Usage (inl stops) = absurd stops.1
     collided_stop told collision has text Shelf (inl stops) =
@@ -303,7 +303,7 @@ module _ (H : List ℕ → List ℕ) (said : List (List ℕ)) (before now : Outs
   rejected_end told (command, is, (rejection, cause)) = by_end (Comes 1) command is
       (λ text done. absurd (input_kept H before.shelf.files command told (done_input H before now command text done) rejection cause)) (rejected_stop command told rejection cause)
 
-  collided_end : IsTold before.shelf.files → Said said (λ command. (collision : Difference TreePlace) × HasCollision H before.shelf.files command collision)
+  collided_end : IsTold before.shelf.files → Said said (λ command. (collision : Difference Place) × HasCollision H before.shelf.files command collision)
       → (end : End) → IsPrinted end → Ends H before now said end → Comes 5 (status_of end)
   collided_end told (command, is, (collision, has)) = by_end (Comes 5) command is
       (λ text done. absurd (collision_undone H before now command text collision told has done)) (collided_stop command told collision has)

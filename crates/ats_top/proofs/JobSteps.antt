@@ -88,7 +88,7 @@ module _ (H : List ℕ → List ℕ) (files : Files) (index : List ℕ) (archive
       is.answer,
       is.right,
     )
-    whole_is (verdict.Collision place ours theirs) (found, turns) =
+    whole_is (verdict.Collision place ours theirs) found =
         let two = extract-collides H archive query found.proof _ found.found in (
           record {
             archive = archive;

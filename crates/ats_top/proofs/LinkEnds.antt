@@ -3,7 +3,7 @@ use Rattle.std.proofs.Common.{◌≡◌, ◌⊎◌, ℕ, List, IsSome, refl, inl
 use Rattle.ats_base.specs.Outside.{Rose}
 use Rattle.ats_base.specs.Links.{CallerTold}
 use Rattle.ats_tree.specs.Differences.{Difference}
-use Rattle.ats_commit.specs.Ours.{TreePlace}
+use Rattle.ats_tree.specs.declared.hashed.Place.{Place}
 use Rattle.ats_client.specs.declared.fault.Rejection.{Rejection}
 use Rattle.ats_top.specs.Words.{Command, Rank, Build, Root, Prove, Verify, Ask, AskWords, Serve, Audit, Sweep, Trial}
 use Rattle.ats_top.specs.Outside.{Outside}
@@ -67,7 +67,7 @@ module _ (H : List ℕ → List ℕ) (before now : Outside) where
   links_rejected (Trial words) text stop links rejection cause = links
 
   pub links_collided : (command : Command) (text : List ℕ) (stop : Stop) → LinksStop H before now command text stop
-      → (collision : Difference TreePlace) → HasCollision H before.shelf.files command collision → ⊥
+      → (collision : Difference Place) → HasCollision H before.shelf.files command collision → ⊥
   links_collided (Audit words) text stop links collision has = links
   links_collided other text stop links collision has = has
 

@@ -1,7 +1,7 @@
 -- What a sweep that finds that not all is right excludes.
 use Rattle.std.proofs.Common.{◌≡◌, ◌∙◌, ℕ, Bool, true, false, List, refl, sym, arith, if◌then◌else◌}
 use Rattle.ats_tree.specs.Differences.{Difference}
-use Rattle.ats_commit.specs.Ours.{TreePlace}
+use Rattle.ats_tree.specs.declared.hashed.Place.{Place}
 use Rattle.ats_client.specs.declared.fault.Rejection.{Rejection}
 use Rattle.ats_top.specs.Words.{Command, Sweep}
 use Rattle.ats_top.specs.Read.{Files, IsTold}
@@ -42,7 +42,7 @@ module _ (H : List ℕ → List ℕ) (files : Files) where
   swept_unrejected other text collides swept rejection rejected = swept
 
   pub swept_uncollided : (command : Command) (text : List ℕ) (collides : Bool) → SweepStops H files command text collides
-      → (collision : Difference TreePlace) → HasCollision H files command collision → ⊥
+      → (collision : Difference Place) → HasCollision H files command collision → ⊥
   swept_uncollided (Sweep words) text collides swept collision has = has
   swept_uncollided other text collides swept collision has = swept
 

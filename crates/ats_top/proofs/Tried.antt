@@ -97,7 +97,7 @@ audited_right H archive query algorithm bytes proof (Refused refusal) is says fo
     absurd (accepted_kept H (root_of H archive) query 10 bytes proof (Check refusal)
     (record { says = says; accepts = proved_accepted H archive query 10 algorithm bytes is proof says }) found)
 audited_right H archive query algorithm bytes proof (Right rows) is says found = refl
-audited_right H archive query algorithm bytes proof (Collision place ours theirs) is says (found, turns) =
+audited_right H archive query algorithm bytes proof (Collision place ours theirs) is says found =
     absurd (none_found (extract H archive query found.proof) _ (proved_unclashing H archive query 10 algorithm bytes is found.proof found.accepted.says) found.found)
 
 -- ---- the tally

@@ -1,11 +1,9 @@
 -- What `audit` finds of a proof, against the archive of an index.
-use Rattle.std.specs.Prelude.{◌≡◌, ◌≢◌, ◌<◌, ◌^◌, ℕ, List, Option, Some, None}
+use Rattle.std.specs.Prelude.{◌≡◌, ◌≢◌, ◌^◌, ℕ, List, Option, Some, None}
 use Rattle.ats_terms.specs.Query.{IsQueryOf}
 use Rattle.ats_tree.specs.Differences.{Difference}
 use Rattle.ats_tree.specs.declared.hashed.Place.{Place}
 use Rattle.ats_commit.specs.Archive.{Archive}
-use Rattle.ats_commit.specs.Ours.{TreePlace}
-use Rattle.ats_commit.specs.Places.{tree_place}
 use Rattle.ats_commit.specs.Root.{root_of}
 use Rattle.ats_proof.specs.Value.{Proof}
 use Rattle.ats_client.specs.Bytes.{IsAcceptedBytes, IsRejectedBytes}
@@ -23,7 +21,7 @@ use Rattle.ats_top.specs.declared.stops.Stop.TheVariants.{Rejected, Memory, Coll
 -- The first named file is the index of an archive, and the bytes of the second are accepted as a proof under its root.
 -- This is the first collision of the proof with the archive, or there is none.
 pub record IsAudited (H : List ℕ → List ℕ) (files : Files) (words : AuditWords)
-    (found : Option (Difference TreePlace)) : Type 0 where
+    (found : Option (Difference Place)) : Type 0 where
   pub archive : Archive
   pub index : HasIndex H files words.index archive
   pub query : List (List ℕ × ℕ)
@@ -42,17 +40,15 @@ pub record IsAuditedRight (H : List ℕ → List ℕ) (files : Files) (words : A
   pub printed : text ≡ lines (rows_of audited.query audited.proof)
 
 -- the words are within the limits, and the proof has this first collision with the archive
-abbrev pub HasCollision : (List ℕ → List ℕ) → Files → Command → Difference TreePlace → Type 0
+abbrev pub HasCollision : (List ℕ → List ℕ) → Files → Command → Difference Place → Type 0
 HasCollision H files (Audit words) collision = AsksRanking words.r words.query
     × IsAudited H files words (Some collision)
 HasCollision H files _ collision = ⊥
 
--- the collision is at this place, whose turns have no digit above its depth, and its two strings differ and have the
--- same digest
+-- the collision is at this place, and its two strings differ and have the same digest
 pub record CollidesAt (H : List ℕ → List ℕ) (files : Files) (command : Command)
     (place : Place) (ours theirs : List ℕ) : Type 0 where
-  pub collision : HasCollision H files command (record { place = tree_place place; ours = ours; theirs = theirs })
-  pub turns : place.turns < 2 ^ place.depth
+  pub collision : HasCollision H files command (record { place = place; ours = ours; theirs = theirs })
   pub differ : ours ≢ theirs
   pub equal : H ours ≡ H theirs
 
@@ -60,7 +56,6 @@ pub record CollidesAt (H : List ℕ → List ℕ) (files : Files) (command : Com
 abbrev pub VerdictStop : (List ℕ → List ℕ) → Archive → List (List ℕ × ℕ) → ℕ → List ℕ → Stop → Type 0
 VerdictStop H archive query r bytes (Rejected rejection) = IsRejectedBytes H (root_of H archive) query r bytes rejection
 VerdictStop H archive query r bytes (Collision place ours theirs) =
-    IsFoundCollision H archive query r bytes (record { place = tree_place place; ours = ours; theirs = theirs })
-    × (place.turns < 2 ^ place.depth)
+    IsFoundCollision H archive query r bytes (record { place = place; ours = ours; theirs = theirs })
 VerdictStop H archive query r bytes Memory = Unit {0}
 VerdictStop H archive query r bytes _ = ⊥

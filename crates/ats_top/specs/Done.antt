@@ -6,8 +6,8 @@ use Rattle.ats_terms.specs.Query.{IsQueryOf}
 use Rattle.ats_impact.specs.Rank.{IsRanking, IsTop}
 use Rattle.ats_impact.specs.declared.rank.Row.{Row}
 use Rattle.ats_tree.specs.Differences.{Difference}
+use Rattle.ats_tree.specs.declared.hashed.Place.{Place}
 use Rattle.ats_commit.specs.Archive.{Archive, archive_of}
-use Rattle.ats_commit.specs.Ours.{TreePlace}
 use Rattle.ats_commit.specs.Root.{root_of}
 use Rattle.ats_index.specs.Spelling.{IsSpelling}
 use Rattle.ats_client.specs.Headline.{IsTopOrCollides}
@@ -142,7 +142,7 @@ HasInput H files (Verify words) = AsksRanking words.r words.query × IsAccepted 
 HasInput H files (Ask words) = AsksRanking words.r words.query
 HasInput H files (Serve words) = (archive : Archive) × HasIndex H files words.index archive
 HasInput H files (Audit words) = AsksRanking words.r words.query
-    × ((found : Option (Difference TreePlace)) × IsAudited H files words found)
+    × ((found : Option (Difference Place)) × IsAudited H files words found)
 HasInput H files (Sweep words) = (findings : List Finding) × AreFound H files words findings
 HasInput H files (Trial words) = AreQueries words.number 20
 

@@ -4,8 +4,8 @@ use Rattle.std.specs.List.{AllZip, list_any}
 use Rattle.ats_terms.specs.Query.{IsQuery, IsQueryOf}
 use Rattle.ats_impact.specs.declared.rank.Row.{Row}
 use Rattle.ats_tree.specs.Differences.{Difference}
+use Rattle.ats_tree.specs.declared.hashed.Place.{Place}
 use Rattle.ats_commit.specs.Archive.{Archive}
-use Rattle.ats_commit.specs.Ours.{TreePlace}
 use Rattle.ats_proof.specs.declared.record.Algorithm.{Algorithm}
 use Rattle.ats_honest.specs.Honest.{IsProved}
 use Rattle.ats_client.specs.Headline.{AreRight}
@@ -22,7 +22,7 @@ use Rattle.ats_top.specs.Audited.{IsAudited}
 pub data Finding : Type 0 where
   FoundRight : List Row → Finding
   FoundRefused : Rejection → Finding
-  FoundCollision : Difference TreePlace → Finding
+  FoundCollision : Difference Place → Finding
 
 -- What `audit` finds for these words: the rows of the answer, why the proof is refused, or its first collision with the
 -- archive. The rows are right for the archive's texts, and the collision is two different strings with the same digest.

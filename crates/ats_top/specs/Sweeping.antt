@@ -8,7 +8,6 @@ use Rattle.ats_audit.specs.declared.auditing.Verdict.{Verdict}
 use Rattle.ats_audit.specs.declared.auditing.Verdict.TheVariants as verdict
 use Rattle.ats_audit.specs.declared.sweeping.Job.{Job}
 use Rattle.ats_commit.specs.Archive.{Archive}
-use Rattle.ats_commit.specs.Places.{tree_place}
 use Rattle.ats_top.specs.Words.{SweepWords}
 use Rattle.ats_top.specs.Read.{HasIndex, IsFile}
 use Rattle.ats_top.specs.Reading.{Reads, IsGood, ReadsThen, listed_files, StoresAtMostOnce}
@@ -73,7 +72,7 @@ found_by (verdict.BadShape fault) = FoundRefused (Shape fault)
 found_by (verdict.Refused refusal) = FoundRefused (Check refusal)
 found_by (verdict.Right rows) = FoundRight rows
 found_by (verdict.Collision place ours theirs) =
-    FoundCollision (record { place = tree_place place; ours = ours; theirs = theirs })
+    FoundCollision (record { place = place; ours = ours; theirs = theirs })
 
 -- the finding for a proof; if its file is too long, the verdict is ignored
 abbrev pub finding_of : Gathered → Verdict → Finding

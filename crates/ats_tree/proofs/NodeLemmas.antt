@@ -1,5 +1,5 @@
 -- The depth and the turns of nodes.
-use Rattle.std.proofs.Common.{◌≡◌, ℕ, zero, suc, ◌+◌, ◌*◌, ◌/◌, ◌%◌, ◌^◌, ◌<◌, ◌≤◌, List, [], ◌∷◌, length, take, drop, map, Bool, true, false, ◌&&◌, cond, refl, sym, ◌∙◌, ap, arith, inl, inr, Option, Some, None, All, IsSome, nat_eq, subst}
+use Rattle.std.proofs.Common.{◌≡◌, ℕ, zero, suc, ◌+◌, ◌*◌, ◌/◌, ◌%◌, ◌^◌, ◌<◌, ◌≤◌, List, [], ◌∷◌, length, take, drop, map, Bool, true, false, ◌&&◌, cond, refl, sym, ◌∙◌, ap, ap₂, arith, inl, inr, Option, Some, None, All, IsSome, nat_eq, subst}
 use Rattle.std.specs.Int.{bit_at}
 use Rattle.std.proofs.Math.Nat.{two-pow-succ, mod-eq_of_lt, mod-one}
 use Rattle.std.proofs.Math.Arith.{mod-mul}
@@ -8,7 +8,7 @@ use Rattle.std.proofs.lemmas.Nat.{pow_pos}
 use Rattle.std.proofs.lemmas.Nat.Bits.{bit_at-lt}
 use Rattle.std.proofs.lemmas.Bool.{cond-true, cond-false, cases_lt, cases_eq, cases_Bool, eq-eqb, ne_eqb}
 use Rattle.std.proofs.lemmas.List.Elements.{All-append, All-map, All-nil, All-cons}
-use Rattle.ats_tree.specs.Nodes.{Node, by_path, depth_of, turns_of, IsNodeAt}
+use Rattle.ats_tree.specs.Nodes.{Node, by_path, depth_of, turns_of, IsNodeAt, NodeNumbers, numbers_of}
 use Rattle.ats_tree.specs.Paths.{Path, path_of, number_of}
 use Rattle.ats_tree.specs.Tree.{Tree, node, tree_within}
 use Rattle.ats_tree.specs.Shown.{Shown, places}
@@ -91,6 +91,17 @@ node-only (by_path path) depth turns is = (
 
 pub node-fits : (node : Node) → depth_of node ≤ 32 → turns_of node < 2 ^ 32
 node-fits (by_path path) short = let most : 2 ^ length path ≤ 2 ^ 32 = pow_mono short in omega (arith, number_of-below path)
+
+-- a node is where its two numbers lead
+pub numbers-lead : (node : Node) → by_path (path_of (depth_of node) (turns_of node)) ≡ node
+numbers-lead (by_path path) = ap by_path (node-some (by_path path)).0
+
+-- two numbers are those of the node to which they lead, if the turns have no digit above the depth
+pub numbers-back : (depth turns : ℕ) → turns < 2 ^ depth
+    → numbers_of (by_path (path_of depth turns)) ≡ (let at : NodeNumbers = record { depth = depth; turns = turns } in at)
+numbers-back depth turns inside =
+    ap₂ (λ d t. let at : NodeNumbers = record { depth = d; turns = t } in at)
+    (length-path_of depth turns) (number_of-path_of depth turns ∙ mod-eq_of_lt inside)
 
 -- ---- how deep nodes are
 

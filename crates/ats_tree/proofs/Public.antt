@@ -36,6 +36,12 @@ pub use Rattle.ats_tree.proofs.Joined.{same_2}
 pub use Rattle.ats_tree.proofs.Bound.{bound_to}
 -- a node with a string in a tree of at most 2^h leaves is at most h deep
 pub use Rattle.ats_tree.proofs.NodeLemmas.{node-ours}
+-- the path of `depth` turns has length `depth`
+pub use Rattle.ats_tree.proofs.NodeLemmas.{length-path_of}
+-- a node is where its two numbers lead
+pub use Rattle.ats_tree.proofs.NodeLemmas.{numbers-lead}
+-- a depth and turns below 2^depth are the two numbers of the node to which they lead
+pub use Rattle.ats_tree.proofs.NodeLemmas.{numbers-back}
 -- leaves shown at rising positions of a tree and its elided digests rebuild the root
 pub use Rattle.ats_tree.proofs.LawLemmas.{elided-rebuilds}
 -- a tree with no leaf has no string at any path

@@ -33,8 +33,8 @@ in_tree-requires g c κs =
       ),
     )
 
-pub returns-in-Some-clause-clash : goal.returns-in-Some-clause-clash
-returns-in-Some-clause-clash g c =
+pub returns-in-Some : goal.returns-in-Some
+returns-in-Some g c =
     let proof : Proof = c.args.proof.now in
     documents_found g.H.HashKind.hash (ours g.H.HashKind.hash (g.O.OwnStrings.archive c.args.own.now) c.args.query.now) proof.header proof.met proof.docs (documents_of c.in_ok-docs.docs)
     c.header-leaves.result.documents (docs_leaves_of c.revealed-section.result) (digests_of c.revealed-section.result.digests) c.in_ok-docs.ensures.documents
@@ -49,10 +49,10 @@ each-requires-clause-right g c =
     let proof : Proof = c.args.proof.now in
     subst (λ (d : Option Documents). All (IsTermsTree g.H.HashKind.hash) (documents_in proof.met d)) c.in_ok-docs.ensures.documents c.requires.terms
 
-pub returns-clause-clash : goal.returns-clause-clash
-returns-clause-clash g c =
+pub returns : goal.returns
+returns g c =
     let proof : Proof = c.args.proof.now in
     documents_later g.H.HashKind.hash (ours g.H.HashKind.hash (g.O.OwnStrings.archive c.args.own.now) c.args.query.now) proof.header proof.met proof.docs (documents_of c.in_ok-docs.docs)
     c.header-leaves.result.documents (docs_leaves_of c.revealed-section.result) (digests_of c.revealed-section.result.digests) c.in_ok-docs.ensures.documents
     (ap (λ (h : Header). h.documents) c.header-leaves.ensures) (c.revealed-section.ensures.shown ∙ c.in_ok-docs.ensures.whole) c.revealed-section.ensures.digests
-    (option_map difference_of c.each.result) c.in_default.ensures.clash c.each.ensures.clash
+    (option_map difference_of c.each.result) c.in_default.ensures.clash c.each.ensures

@@ -31,8 +31,8 @@ terms-requires-clause-right g c =
     (front_document ids leaves sections (doc_of c.in-Some.doc) (leaf_of c.in-Some.doc) (section_of c.in-Some.doc) c.in-Some.ensures.doc c.in-Some.ensures.leaf c.in-Some.ensures.section)
     c.loop-index.invariant.right)
 
-pub returns-in-Some-terms-clause-clash : goal.returns-in-Some-terms-clause-clash
-returns-in-Some-terms-clause-clash g c =
+pub returns-in-Some-terms : goal.returns-in-Some-terms
+returns-in-Some-terms g c =
     let H = g.H.HashKind.hash in
     let ids : List ℕ = ids_of c.loop-index.left in
     let leaves : List DocLeaf = doc_leaves_of c.loop-index.left in

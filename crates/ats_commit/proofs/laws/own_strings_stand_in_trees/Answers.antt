@@ -1,11 +1,14 @@
+use Rattle.ats_tree.specs.declared.hashed.Tree.TheVariants.{List as ListTree, Terms as TermsTree}
+use Rattle.ats_commit.specs.Places.{in_tree, numbers_at}
 use Rattle.ats_commit.proofs.OwnPlaces.{own_within, none_in_list, none_past}
 use Rattle.ats_commit.proofs.laws.own_strings_stand_in_trees.Goals as goal
 
 pub returns-clause-within : goal.returns-clause-within
-returns-clause-within g c archive query place h few there = own_within g.H.HashKind.hash archive query place.tree place.node h few there
+returns-clause-within g c archive query place h few there =
+    own_within g.H.HashKind.hash archive query place.tree (numbers_at place) h few there
 
 pub returns-clause-lists : goal.returns-clause-lists
-returns-clause-lists g c archive query number node none = none_in_list g.H.HashKind.hash archive query number node none
+returns-clause-lists g c archive query number at none = none_in_list g.H.HashKind.hash archive query number (numbers_at (in_tree (ListTree number) at)) none
 
 pub returns-clause-documents : goal.returns-clause-documents
-returns-clause-documents g c archive query doc node past = none_past g.H.HashKind.hash archive query doc node past
+returns-clause-documents g c archive query doc at past = none_past g.H.HashKind.hash archive query doc (numbers_at (in_tree (TermsTree doc) at)) past
