@@ -1,5 +1,5 @@
 -- The shown blocks of a list: what they need, and their roots.
-use Rattle.std.proofs.Common.{◌≡◌, ℕ, zero, suc, ◌+◌, ◌-◌, ◌*◌, ◌/◌, ◌^◌, ◌<◌, ◌≤◌, List, [], ◌∷◌, ◌++◌, length, map, take, drop, min, refl, sym, ◌∙◌, ap, arith, inl, inr, subst, nat_lt, if◌then◌else◌}
+use Rattle.std.proofs.Common.{◌≡◌, ℕ, zero, suc, ◌+◌, ◌-◌, ◌*◌, ◌<◌, ◌≤◌, List, [], ◌∷◌, ◌++◌, length, map, take, drop, refl, sym, ◌∙◌, ap, arith, inl, inr, nat_lt, if◌then◌else◌}
 use Rattle.std.specs.Int.{div_ceil}
 use Rattle.std.specs.List.{range_with_len, sum_by}
 use Rattle.std.proofs.lemmas.List.Sums.{sum_by-append, sum_by-cons}
@@ -7,8 +7,8 @@ use Rattle.std.proofs.lemmas.Bool.{cond-true, cond-false, cases_lt, lt-ltb, le-l
 use Rattle.std.proofs.lemmas.List.{take_all}
 use Rattle.ats_tree.specs.Tree.{tree_of}
 use Rattle.ats_tree.specs.Shown.{Shown, positions_of, places}
-use Rattle.ats_tree.specs.Part.{RisesFrom, shown_from, IsPart}
-use Rattle.ats_tree.specs.Rebuild.{need, digest_with, inner_nodes}
+use Rattle.ats_tree.specs.Part.{shown_from, IsPart}
+use Rattle.ats_tree.specs.Rebuild.{need, inner_nodes}
 use Rattle.ats_tree.proofs.Public.{length-places, full-need, places-from, from-from}
 use Rattle.ats_lists.specs.Blocks.{blocks_in, items_in}
 use Rattle.ats_lists.specs.ChainBound.{chain_inner_nodes}

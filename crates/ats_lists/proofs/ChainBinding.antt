@@ -1,25 +1,23 @@
 -- A rebuilt digest of a list in blocks binds the shown leaves to each list with that digest, unless there is a collision.
-use Rattle.std.proofs.Common.{◌≡◌, ℕ, zero, suc, ◌+◌, ◌-◌, ◌*◌, ◌/◌, ◌%◌, ◌^◌, ◌<◌, ◌≤◌, List, [], ◌∷◌, ◌++◌, length, map, take, drop, min, Bool, true, false, ◌&&◌, refl, sym, ◌∙◌, ap, arith, inl, inr, Option, Some, None, subst, MatchOption, All, get_or, slice_get, nat_lt, nat_le, nat_eq}
+use Rattle.std.proofs.Common.{◌≡◌, ℕ, zero, suc, ◌+◌, ◌-◌, ◌*◌, ◌/◌, ◌%◌, ◌^◌, ◌<◌, ◌≤◌, List, [], ◌∷◌, ◌++◌, length, map, drop, Bool, true, ◌&&◌, sym, ◌∙◌, ap, arith, inl, inr, Option, Some, None, subst, MatchOption, All, get_or, slice_get, nat_le, nat_eq}
 use Rattle.std.specs.List.{range_with_len, flat_map}
-use Rattle.std.specs.Option.{is_none}
 use Rattle.std.specs.Str.{bytes_eq}
 use Rattle.std.proofs.lemmas.Bool.{cond-true, cond-false, cases_lt, cases_Bool, and_parts, lt-ltb, eq-eqb, leb-true, eqb-true}
 use Rattle.std.proofs.Math.Pow.{pow_mono}
-use Rattle.std.proofs.lemmas.List.{length-take, length-drop, append_assoc, get_or-take, get_or-drop}
-use Rattle.std.proofs.lemmas.List.Elements.{All-cons}
+use Rattle.std.proofs.lemmas.List.{length-take, length-drop, get_or-take, get_or-drop}
 use Rattle.std.proofs.lemmas.Option.{get_or_from_slice_get, slice_get_within, slice_get-get_or}
 use Rattle.std.proofs.lemmas.Slice.Eq.{bytes_eq-Decides}
 use Rattle.ats_tree.specs.Tree.{tree_of, mth}
-use Rattle.ats_tree.specs.Shown.{Shown, positions_of, shown_at, places}
-use Rattle.ats_tree.specs.Rebuild.{need, digest_with}
+use Rattle.ats_tree.specs.Shown.{Shown, shown_at}
+use Rattle.ats_tree.specs.Rebuild.{need}
 use Rattle.ats_tree.specs.Nodes.{NodeNumbers, by_path}
-use Rattle.ats_tree.specs.Paths.{Path, path_of, number_of}
+use Rattle.ats_tree.specs.Paths.{Path, number_of}
 use Rattle.ats_tree.specs.Strings.{strings, string_at}
-use Rattle.ats_tree.specs.Differences.{Hashed, moved, Difference, difference_or, first_difference}
-use Rattle.ats_tree.proofs.Public.{length-places, part-bound, ShowsOwn, difference-alike, difference-append, length-mth, length-rebuilt, part-shallow, known-moved, or_else, Collides, own_place, node-some, number_of-below, parted, first_and_rest}
-use Rattle.ats_lists.specs.Blocks.{blocks_in, items_in, block, blocks_from}
-use Rattle.ats_lists.specs.Chain.{link, no_block, chain_digest, chain_from, chain, chain_link, chain_string}
-use Rattle.ats_lists.specs.ChainPrefix.{block_tree, block_need, block_root, has_next, chain_need, next_digest, shown_from, chain_rebuilt, tree_strings, block_strings, chain_strings}
+use Rattle.ats_tree.specs.Differences.{Hashed, Difference, difference_or, first_difference}
+use Rattle.ats_tree.proofs.Public.{part-bound, ShowsOwn, difference-alike, difference-append, length-mth, length-rebuilt, part-shallow, known-moved, or_else, Collides, own_place, node-some, number_of-below, parted, first_and_rest}
+use Rattle.ats_lists.specs.Blocks.{blocks_in, items_in, block}
+use Rattle.ats_lists.specs.Chain.{link, no_block, chain_digest, chain_from, chain, chain_string}
+use Rattle.ats_lists.specs.ChainPrefix.{block_tree, block_need, block_root, chain_need, next_digest, shown_from, chain_rebuilt, tree_strings, block_strings, chain_strings}
 use Rattle.ats_lists.specs.ChainBound.{IsChainBoundTo}
 use Rattle.ats_lists.proofs.Fronts.{front-rises, front-past}
 use Rattle.ats_lists.proofs.BlockLemmas.{IsShownFront, full-block}
@@ -192,13 +190,13 @@ chain-bound H sized f shown ds leaves is len (suc m) j end same =
     (own-more f j shown leaves within)
     (known-first H (A × B) (own_at H leaves) s own (first_difference (own_at H leaves) (tree ++ later)) (link-own H leaves j less') digest
     (λ equal.
-      let parts : (mth H (block leaves j) ≡ root) × (chain_from H leaves (j + 1) ≡ next) =
-      parted (mth H (block leaves j)) root (chain_from H leaves (j + 1)) next size
-      (first_and_rest 3 3 (mth H (block leaves j) ++ chain_from H leaves (j + 1)) (root ++ next) equal).1
-      in subst Goal (sym (difference-append (own_at H leaves) tree later))
-      (known-both H A B (first_difference (own_at H leaves) tree) (first_difference (own_at H leaves) later)
-      (block-bound H sized f j shown ds leaves is len less (sym parts.0))
-      (chain-bound H sized f shown ds leaves is len m (j + 1) end' (sym parts.1)))))
+    let parts : (mth H (block leaves j) ≡ root) × (chain_from H leaves (j + 1) ≡ next) =
+    parted (mth H (block leaves j)) root (chain_from H leaves (j + 1)) next size
+    (first_and_rest 3 3 (mth H (block leaves j) ++ chain_from H leaves (j + 1)) (root ++ next) equal).1
+    in subst Goal (sym (difference-append (own_at H leaves) tree later))
+    (known-both H A B (first_difference (own_at H leaves) tree) (first_difference (own_at H leaves) later)
+    (block-bound H sized f j shown ds leaves is len less (sym parts.0))
+    (chain-bound H sized f shown ds leaves is len m (j + 1) end' (sym parts.1)))))
 
 -- ---- the theorem
 

@@ -1,26 +1,25 @@
 -- The laws of lists in blocks: how a list is cut, and what its own first leaves give.
-use Rattle.std.proofs.Common.{◌≡◌, ℕ, zero, suc, ◌+◌, ◌-◌, ◌*◌, ◌/◌, ◌^◌, ◌<◌, ◌≤◌, List, [], ◌∷◌, ◌++◌, length, map, take, drop, min, replicate, Bool, true, false, refl, sym, ◌∙◌, ap, ap₂, arith, inl, inr, Option, Some, None, subst, All, IsSome, get_or, nat_lt, nat_eq, ◌%◌, if◌then◌else◌}
-use Rattle.std.specs.List.{range_with_len, flat_map}
-use Rattle.std.specs.Option.{is_none}
+use Rattle.std.proofs.Common.{◌≡◌, ℕ, zero, suc, ◌+◌, ◌-◌, ◌*◌, ◌/◌, ◌^◌, ◌<◌, ◌≤◌, List, [], ◌∷◌, ◌++◌, length, map, take, drop, replicate, Bool, true, false, refl, sym, ◌∙◌, ap, ap₂, arith, inl, inr, Option, Some, None, subst, All, IsSome, get_or, nat_lt, nat_eq, ◌%◌, if◌then◌else◌}
+use Rattle.std.specs.List.{range_with_len}
 use Rattle.std.proofs.Math.Nat.{mod-eq_of_lt}
 use Rattle.std.proofs.lemmas.Bool.{cond-true, cond-false, cases_lt, cases_Bool, eq-eqb, ne_eqb, eqb-true, ltb-false, lt-ltb, le-ltb}
-use Rattle.std.proofs.lemmas.List.{length-take, length-drop, length-append, length-map, take_all, take_at, drop_at, drop-drop, drop_all, get_or-take, get_or-drop, get_or_at}
+use Rattle.std.proofs.lemmas.List.{length-take, length-drop, length-append, length-map, take_all, take_at, drop-drop, get_or-take, get_or-drop, get_or_at}
 use Rattle.std.proofs.lemmas.List.Elements.{All-append, All-map, All-nil, All-cons}
 use Rattle.std.proofs.lemmas.List.FromFn.{length-range_with_len}
 use Rattle.ats_tree.specs.Tree.{Tree, tree_of, mth}
 use Rattle.ats_tree.specs.Shown.{Shown, positions_of, shown_at, places}
-use Rattle.ats_tree.specs.Rebuild.{need, digest_with, tree_of_places}
+use Rattle.ats_tree.specs.Rebuild.{need}
 use Rattle.ats_tree.specs.Elided.{shown_with, elided_of, elided_digests}
 use Rattle.ats_tree.specs.Nodes.{NodeNumbers, by_path}
 use Rattle.ats_tree.specs.Paths.{Path, path_of, number_of}
 use Rattle.ats_tree.specs.Strings.{strings, string_at}
 use Rattle.ats_tree.specs.Differences.{Hashed, moved}
 use Rattle.ats_tree.proofs.Public.{length-places, part-shape, part-own, part-elided, part-shallow, elided-first, elided-first-own, front-need, place-of, string-none, node-ours, length-path_of, number_of-path_of}
-use Rattle.ats_lists.specs.Blocks.{blocks_in, items_in, block, blocks_from}
+use Rattle.ats_lists.specs.Blocks.{blocks_in, items_in, block}
 use Rattle.ats_lists.specs.Chain.{link, no_block, chain_digest, chain_from, chain, chain_link, chain_string, chain_elided, IsAtBlock}
-use Rattle.ats_lists.specs.ChainPrefix.{block_tree, last_shown, block_need, block_root, has_next, chain_need, next_digest, shown_from, chain_rebuilt, tree_strings, block_strings, chain_strings}
-use Rattle.ats_lists.proofs.Fronts.{front-length, front-places, front-past}
-use Rattle.ats_lists.proofs.BlockLemmas.{IsShownFront, shown-front, full-block}
+use Rattle.ats_lists.specs.ChainPrefix.{block_tree, block_need, block_root, has_next, chain_need, next_digest, shown_from, chain_rebuilt, tree_strings, chain_strings}
+use Rattle.ats_lists.proofs.Fronts.{front-places, front-past}
+use Rattle.ats_lists.proofs.BlockLemmas.{shown-front, full-block}
 use Rattle.ats_lists.proofs.ChainBinding.{own_at, in_block, node-own, link-own, length-block, shown_from-step, chain_from-step, strings_from}
 use Rattle.ats_lists.proofs.ChainOutcomes.{chain-rebuilt}
 
@@ -113,22 +112,22 @@ last-places ds k j r at within few =
     let size : items_in (length ds) j ≡ length (block ds j) = sym (length-block (length ds) j ds refl)
     in ap (λ n. places (64 * j) n (first_shown ds k)) size
     ∙ places-alike (64 * j) 0 (length (block ds j)) (first_shown ds k) (first_shown (block ds j) r) (λ i less.
-      let plain : 0 + i ≡ i = omega arith
-      in elim (cases_lt i r) [
-        | inl shows ↦
-            let low : 0 ≤ 64 * j + i = omega arith
-            in let high : 64 * j + i < 0 + k = omega arith
-            in let low' : 0 ≤ i = omega arith
-            in let high' : i < 0 + r = omega arith
-            in shown_at-inside ds 0 k (64 * j + i) low high
-            ∙ ap Some (sym (block-places ds j i less))
-            ∙ sym (ap (shown_at (first_shown (block ds j) r)) plain ∙ shown_at-inside (block ds j) 0 r i low' high')
-        | inr hides ↦
-            let past : 0 + k ≤ 64 * j + i = omega arith
-            in let past' : 0 + r ≤ 0 + i = omega arith
-            in front-past 0 k (64 * j + i) (first_shown ds k) (first-front ds k) past
-            ∙ sym (front-past 0 r (0 + i) (first_shown (block ds j) r) (first-front (block ds j) r) past')
-      ])
+    let plain : 0 + i ≡ i = omega arith
+    in elim (cases_lt i r) [
+      | inl shows ↦
+          let low : 0 ≤ 64 * j + i = omega arith
+          in let high : 64 * j + i < 0 + k = omega arith
+          in let low' : 0 ≤ i = omega arith
+          in let high' : i < 0 + r = omega arith
+          in shown_at-inside ds 0 k (64 * j + i) low high
+          ∙ ap Some (sym (block-places ds j i less))
+          ∙ sym (ap (shown_at (first_shown (block ds j) r)) plain ∙ shown_at-inside (block ds j) 0 r i low' high')
+      | inr hides ↦
+          let past : 0 + k ≤ 64 * j + i = omega arith
+          in let past' : 0 + r ≤ 0 + i = omega arith
+          in front-past 0 k (64 * j + i) (first_shown ds k) (first-front ds k) past
+          ∙ sym (front-past 0 r (0 + i) (first_shown (block ds j) r) (first-front (block ds j) r) past')
+    ])
 
 -- ---- what the first k leaves of a list need
 

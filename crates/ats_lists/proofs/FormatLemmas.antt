@@ -1,9 +1,9 @@
 -- What is shown of a list is bound to it, in either format.
-use Rattle.std.proofs.Common.{◌≡◌, ℕ, List, length, map, refl, sym, ◌∙◌, ap, Option, Some, subst, MatchOption, All, slice_get, get_or}
+use Rattle.std.proofs.Common.{◌≡◌, ℕ, List, length, map, refl, sym, ap, Option, Some, subst, MatchOption, All, slice_get, get_or}
 use Rattle.std.proofs.lemmas.List.{length-map}
 use Rattle.ats_tree.specs.Tree.{tree_of}
 use Rattle.ats_tree.specs.Shown.{Shown}
-use Rattle.ats_tree.specs.Nodes.{Node, by_path, NodeNumbers, numbers_of}
+use Rattle.ats_tree.specs.Nodes.{Node, by_path, numbers_of}
 use Rattle.ats_tree.specs.Strings.{string_at, node_string, node_strings}
 use Rattle.ats_tree.specs.Differences.{Hashed, Difference, first_difference}
 use Rattle.ats_tree.proofs.Public.{bound_to, known-moved, difference-alike, node-some, Collides}

@@ -1,5 +1,5 @@
 -- Lists cut into blocks of 64.
-use Rattle.std.specs.Prelude.{ℕ, ◌+◌, ◌-◌, ◌*◌, ◌/◌, List, map, length, take, drop, min}
+use Rattle.std.specs.Prelude.{ℕ, ◌+◌, ◌-◌, ◌*◌, ◌/◌, List, take, drop, min}
 use Rattle.std.specs.List.{range_with_len}
 
 -- how many blocks n items fill

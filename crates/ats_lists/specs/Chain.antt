@@ -1,12 +1,11 @@
 -- Lists of byte strings as chains of blocks: their digest, and the strings that are hashed for it. The string of a block
 -- contains the root of the block's tree and the digest of the next block.
-use Rattle.std.specs.Prelude.{◌≡◌, ◌≤◌, ℕ, zero, suc, ◌+◌, ◌-◌, ◌*◌, ◌/◌, ◌%◌, ◌^◌, List, [], ◌∷◌, ◌++◌, map, length, replicate, ◌&&◌, nat_eq, nat_lt, if◌then◌else◌, Option, Some, None}
-use Rattle.std.specs.List.{flat_map, range_with_len}
+use Rattle.std.specs.Prelude.{◌≡◌, ◌≤◌, ℕ, zero, suc, ◌+◌, ◌-◌, ◌*◌, ◌/◌, ◌%◌, ◌^◌, List, [], ◌∷◌, ◌++◌, map, length, replicate, nat_eq, nat_lt, if◌then◌else◌, Option, Some, None}
+use Rattle.std.specs.List.{range_with_len}
 use Rattle.ats_tree.specs.Tree.{mth, tree_of}
 use Rattle.ats_tree.specs.Paths.{Path, path_of, number_of}
 use Rattle.ats_tree.specs.Strings.{string_at}
 use Rattle.ats_tree.specs.Elided.{elided_digests}
-use Rattle.ats_tree.specs.Kept.{kept_digests}
 use Rattle.ats_lists.specs.Blocks.{blocks_in, block, blocks_from}
 
 -- the string of a block with this root, if `next` is the digest of the next block

@@ -1,12 +1,12 @@
 -- What the first leaves of a list in blocks give: its digest, with the digests of the rest, and the strings that are
 -- hashed for it. The leaves that are shown have the positions 0, 1, 2 and so on.
-use Rattle.std.specs.Prelude.{ℕ, ◌+◌, ◌-◌, ◌*◌, List, [], ◌∷◌, ◌++◌, map, length, Bool, ◌&&◌, nat_eq, nat_le, nat_lt, if◌then◌else◌, slice_index_or, Option, Some, None}
+use Rattle.std.specs.Prelude.{ℕ, ◌+◌, ◌-◌, ◌*◌, List, [], ◌∷◌, map, length, Bool, ◌&&◌, nat_eq, nat_le, nat_lt, if◌then◌else◌, slice_index_or, Option, Some, None}
 use Rattle.std.specs.List.{flat_map}
 use Rattle.ats_tree.specs.Tree.{Tree, tree_of}
 use Rattle.ats_tree.specs.Shown.{Shown, places}
 use Rattle.ats_tree.specs.Rebuild.{need, digest_with}
 use Rattle.ats_tree.specs.Nodes.{NodeNumbers}
-use Rattle.ats_tree.specs.Paths.{Path, number_of}
+use Rattle.ats_tree.specs.Paths.{number_of}
 use Rattle.ats_tree.specs.Strings.{strings}
 use Rattle.ats_tree.specs.Differences.{Hashed, moved}
 use Rattle.ats_lists.specs.Blocks.{blocks_in, items_in, blocks_from}

@@ -1,13 +1,10 @@
-use Rattle.std.proofs.Common.{rules, ℕ, ◌≡◌, ◌+◌, ◌-◌, ◌*◌, ◌/◌, ◌<◌, ◌≤◌, List, [], length, map, take, drop, Bool, nat_lt, refl, sym, ◌∙◌, ap, arith, min, Some, None, slice_get, if◌then◌else◌, subst}
-use Rattle.std.specs.List.{range_with_len}
+use Rattle.std.proofs.Common.{◌≡◌, ◌+◌, ◌-◌, ◌*◌, ◌<◌, ◌≤◌, length, nat_lt, refl, sym, ◌∙◌, ap, arith, Some}
 use Rattle.std.proofs.lemmas.List.{length-take-le, length-drop}
-use Rattle.std.proofs.lemmas.List.FromFn.{length-range_with_len}
-use Rattle.ats_tree.specs.Shown.{Shown, positions_of}
 use Rattle.ats_lists.specs.Blocks.{blocks_in}
-use Rattle.ats_lists.specs.ChainPrefix.{has_next, chain_rebuilt, chain_need}
+use Rattle.ats_lists.specs.ChainPrefix.{has_next, chain_rebuilt}
 use Rattle.ats_lists.proofs.Fronts.{front-length}
-use Rattle.ats_lists.proofs.BlockLemmas.{IsShownFront, blocks-div_ceil, shown-front}
-use Rattle.ats_lists.proofs.ChainOutcomes.{chain-none, none-short, none-next, none-left, chain-some, none-gone, next-there, some-left, steps-by_places, for-next-few, for_next, none-long, block-count}
+use Rattle.ats_lists.proofs.BlockLemmas.{blocks-div_ceil, shown-front}
+use Rattle.ats_lists.proofs.ChainOutcomes.{none-short, none-next, none-left, chain-some, none-gone, next-there, some-left, steps-by_places, for-next-few, for_next, none-long, block-count}
 use Rattle.ats_lists.proofs.ChainBinding.{chain-bound_to}
 use Rattle.ats_lists.proofs.chain_rebuilding.chain_rebuild.Goals as goal
 

@@ -1,4 +1,4 @@
-use Rattle.std.proofs.Common.{◌≡◌, ℕ, ◌+◌, ◌≤◌, List, length, drop}
+use Rattle.std.proofs.Common.{◌≡◌, ◌+◌, ◌≤◌, length, drop}
 use Rattle.ats_lists.specs.Chain.{chain_digest}
 use Rattle.ats_lists.proofs.chain_rebuilding.link_blocks.Given as goal
 

@@ -1,13 +1,11 @@
-use Rattle.std.proofs.Common.{ℕ, ◌≡◌, ◌+◌, ◌-◌, ◌*◌, ◌<◌, ◌≤◌, List, [], length, map, take, drop, refl, sym, ◌∙◌, ap, arith, min, slice_set}
-use Rattle.std.specs.List.{range_with_len}
+use Rattle.std.proofs.Common.{◌≡◌, ◌+◌, ◌*◌, ◌<◌, ◌≤◌, length, drop, refl, sym, ◌∙◌, ap, arith}
 use Rattle.std.proofs.lemmas.List.{length-set, take_more_set}
 use Rattle.std.proofs.lemmas.List.FromFn.{map-range_with_len_more}
 use Rattle.ats_tree.proofs.Public.{from-all, rises-from}
-use Rattle.ats_tree.specs.Part.{RisesFrom, shown_from}
-use Rattle.ats_lists.specs.Blocks.{blocks_in, items_in}
-use Rattle.ats_lists.specs.ChainPrefix.{block_root}
+use Rattle.ats_tree.specs.Part.{RisesFrom}
+use Rattle.ats_lists.specs.Blocks.{blocks_in}
 use Rattle.ats_lists.proofs.Fronts.{front-rises}
-use Rattle.ats_lists.proofs.BlockLemmas.{taken-none, next-root, IsNextRoot, next-short, all-roots, inner-next, inner-all, inner_before}
+use Rattle.ats_lists.proofs.BlockLemmas.{taken-none, next-root, IsNextRoot, next-short, all-roots, inner-next, inner-all}
 use Rattle.ats_lists.proofs.chain_rebuilding.rebuild_blocks.Goals as goal
 
 pub loop-j-init : goal.loop-j-init

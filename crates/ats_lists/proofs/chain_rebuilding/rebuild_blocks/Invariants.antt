@@ -1,4 +1,4 @@
-use Rattle.std.proofs.Common.{◌≡◌, ℕ, ◌+◌, ◌*◌, ◌≤◌, List, length, take, drop, map, min}
+use Rattle.std.proofs.Common.{◌≡◌, ◌+◌, ◌*◌, ◌≤◌, length, take, drop, map, min}
 use Rattle.std.specs.List.{range_with_len}
 use Rattle.ats_tree.specs.Part.{shown_from}
 use Rattle.ats_lists.specs.ChainPrefix.{block_root}
