@@ -8,6 +8,12 @@
 //! terms. A term is found exactly if it has a list. The bytes of each leaf are fixed. How postings are gathered,
 //! sorted and kept may change freely.
 //!
+//! A list is hashed as one tree, or in blocks of 64 entries ([`Format`]). [`chain_rebuild`] returns the digest of a list
+//! in blocks from its first leaves and the digests of the rest, exactly if these fit, in a bounded number of steps and
+//! without memory. What is rebuilt is bound to each list with that digest: either each shown leaf is the list's, or the
+//! first string that differs from the list's has the digest of the string there. The laws say in plain sentences what
+//! the definitions mean.
+//!
 //! ```
 //! // collection: the texts "red fox", "red red hen" and "blue hen"
 //! let lists = Lists::of(alloc, &collection)?;

@@ -1,11 +1,11 @@
 -- A part of a tree on its own: what a digest that is rebuilt for it says, and what it needs if its first leaves are
 -- shown.
-use Rattle.std.proofs.Common.{◌≡◌, ℕ, zero, suc, ◌+◌, ◌-◌, ◌^◌, ◌<◌, ◌≤◌, List, [], ◌∷◌, ◌++◌, length, take, drop, map, Bool, true, false, ◌&&◌, refl, sym, ◌∙◌, ap, arith, inl, inr, Option, Some, None, subst, MatchOption, All, IsSome, IfSome, get_or}
+use Rattle.std.proofs.Common.{◌≡◌, ℕ, zero, suc, ◌+◌, ◌-◌, ◌^◌, ◌<◌, ◌≤◌, List, [], ◌∷◌, length, take, drop, true, false, ◌&&◌, refl, sym, ◌∙◌, ap, arith, inl, inr, Option, Some, None, subst, MatchOption, All, IsSome, IfSome, get_or}
 use Rattle.std.specs.List.{slice_get, list_all}
 use Rattle.std.specs.Option.{is_none}
 use Rattle.std.proofs.Math.Nat.{two-pow-succ}
 use Rattle.std.proofs.lemmas.Nat.{pow_pos}
-use Rattle.std.proofs.lemmas.Bool.{cond-true, cond-false, cases_lt, cases_Bool, and_left, and_parts, and_from}
+use Rattle.std.proofs.lemmas.Bool.{cond-true, cond-false, cases_lt, and_left, and_parts, and_from}
 use Rattle.std.proofs.lemmas.List.{length-take, length-drop}
 use Rattle.std.proofs.lemmas.List.Elements.{All-head, All-tail, recursion_from_All}
 use Rattle.ats_tree.specs.Tree.{Tree, empty, leaf, node, tree_within, tree_of, digest_of, mth}
@@ -19,7 +19,7 @@ use Rattle.ats_tree.proofs.Trees.{below_power, within-cut, within-suc, of-within
 use Rattle.ats_tree.proofs.Places.{length-places}
 use Rattle.ats_tree.proofs.Parts.{digest_with-take}
 use Rattle.ats_tree.proofs.Differences.{Collides}
-use Rattle.ats_tree.proofs.Bound.{SameShape, shape-within, Agrees, Fits, Sized, fits-within, fits-at, on_none, Bound, bound-tree, length-digest_of, length-digest_with, there-tree}
+use Rattle.ats_tree.proofs.Bound.{SameShape, shape-within, Agrees, fits-within, fits-at, on_none, Bound, bound-tree, length-digest_of, length-digest_with, there-tree}
 use Rattle.ats_tree.proofs.NodeLemmas.{theirs-within}
 use Rattle.ats_tree.proofs.LawLemmas.{length-elided, elided-digest, agrees-within, fits-shown}
 use Rattle.ats_tree.proofs.OwnStrings.{elided-strings}
