@@ -16,3 +16,4 @@ mod ChainBinding
 mod ChainOutcomes
 mod ChainLaws
 mod FormatLemmas
+mod KeptChains

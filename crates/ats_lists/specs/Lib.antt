@@ -9,3 +9,4 @@ pub mod ChainPrefix
 pub mod BlockRoots
 pub mod ChainBound
 pub mod Formats
+pub mod KeptChain

@@ -13,7 +13,7 @@ use ats_hash::{Hash32, Steps};
 use ats_tree::{Revealed, rebuild_part};
 
 /// How many leaves a block has, if it is not the last one.
-const BLOCK: u32 = 64;
+pub(crate) const BLOCK: u32 = 64;
 
 /// The most blocks of which a leaf is shown.
 const BLOCKS: usize = 1024;

@@ -25,6 +25,7 @@
 #![tactic(auto)]
 
 mod building;
+mod chain_keeping;
 mod chain_laws;
 mod chain_rebuilding;
 mod entry;
@@ -39,6 +40,7 @@ mod numbering;
 mod term_list;
 
 pub use building::ListsBuilder;
+pub use chain_keeping::Chain;
 pub use chain_laws::{
     chain_of_strings, chain_strings_have_numbers, first_leaves_are_bound, first_leaves_suffice,
 };

@@ -23,3 +23,9 @@ impl From<ats_terms::OutOfMemory> for OutOfMemory {
         OutOfMemory
     }
 }
+
+impl From<ats_tree::OutOfMemory> for OutOfMemory {
+    fn from(_: ats_tree::OutOfMemory) -> Self {
+        OutOfMemory
+    }
+}
