@@ -1,5 +1,5 @@
 -- The first collision of strings one after another, and that of a part of a tree from those of its two parts.
-use Rattle.std.proofs.Common.{◌≡◌, ◌≢◌, ℕ, suc, ◌+◌, ◌-◌, ◌*◌, ◌^◌, ◌<◌, ◌≤◌, List, [], ◌∷◌, ◌++◌, length, take, drop, map, Bool, true, false, not, ◌||◌, ◌&&◌, cond, refl, sym, ◌∙◌, ap, ap₂, arith, inl, inr, Option, Some, None, subst, All, IsTrue, ◌↔◌, append_assoc}
+use Rattle.std.proofs.Common.{◌≡◌, ◌≢◌, ℕ, suc, ◌+◌, ◌-◌, ◌*◌, ◌^◌, ◌<◌, ◌≤◌, List, [], ◌∷◌, ◌++◌, length, take, drop, map, Bool, true, false, not, ◌||◌, ◌&&◌, cond, refl, sym, ◌∙◌, ap, ap₂, arith, inl, inr, ◌⊎◌, Option, Some, None, subst, All, IsTrue, ◌↔◌, append_assoc}
 use Rattle.std.specs.List.{slice_index_or}
 use Rattle.std.specs.Option.{option_map, option_or, IsSome}
 use Rattle.std.specs.Str.{bytes_eq}
@@ -8,7 +8,7 @@ use Rattle.std.proofs.Math.Pow.{pow_mono}
 use Rattle.std.proofs.Math.Seq.{take-length}
 use Rattle.std.proofs.lemmas.Bool.{cond-true, cond-false, cases_lt, cases_Bool, or_left}
 use Rattle.std.proofs.lemmas.List.{length-append, length-drop, take-take, drop-take, append-nil, map-append}
-use Rattle.std.proofs.lemmas.List.Elements.{All-head}
+use Rattle.std.proofs.lemmas.List.Elements.{All-head, All-tail}
 use Rattle.std.proofs.lemmas.Slice.Eq.{bytes_eq-Decides}
 use Rattle.ats_tree.specs.Tree.{Tree, empty, leaf, node, tree_of, IsPowerOfTwo}
 use Rattle.ats_tree.specs.Shown.{Shown, places, first_position, first_leaf}
@@ -28,7 +28,7 @@ use Rattle.ats_tree.proofs.Trees.{bare-of}
 
 -- ---- the first collision of strings one after another
 
-collision_or-or : {P : Type 0} (H : List ℕ → List ℕ) (o : Option (List ℕ)) (s : Hashed P) (a b : Option (Difference P))
+pub collision_or-or : {P : Type 0} (H : List ℕ → List ℕ) (o : Option (List ℕ)) (s : Hashed P) (a b : Option (Difference P))
     → collision_or H o s (option_or a b) ≡ option_or (collision_or H o s a) b
 collision_or-or H None s a b = refl
 collision_or-or H (Some own) s a b =
@@ -44,6 +44,36 @@ collision-append H ours [] b = refl
 collision-append H ours (s ∷ a) b =
     ap (collision_or H (ours s.place) s) (collision-append H ours a b)
     ∙ collision_or-or H (ours s.place) s (first_collision H ours a) (first_collision H ours b)
+
+-- two sources of our strings with the same string at each place
+pub collision-alike : {P : Type 0} (H : List ℕ → List ℕ) (ours others : P → Option (List ℕ)) (ss : List (Hashed P))
+    → All (λ s. ours s.place ≡ others s.place) ss → first_collision H ours ss ≡ first_collision H others ss
+collision-alike H ours others [] same = refl
+collision-alike {P} H ours others (s ∷ rest) same =
+    let Same : Hashed P → Type 0 = λ t. ours t.place ≡ others t.place
+    in rw (All-head Same s rest same, collision-alike H ours others rest (All-tail Same s rest same)) refl
+
+collision_or-own : {P : Type 0} (H : List ℕ → List ℕ) (o : Option (List ℕ)) (s : Hashed P) (later : Option (Difference P)) (c : Difference P)
+    → collision_or H o s later ≡ Some c → ((o ≡ Some c.ours) × (s.place ≡ c.place)) ⊎ (later ≡ Some c)
+collision_or-own H None s later c is = inr is
+collision_or-own {P} H (Some own) s later c is =
+    elim (cases_Bool (bytes_eq own s.text || not (bytes_eq (H own) (H s.text)))) [
+      | inl same ↦ inr (sym (cond-true _ _ _ same) ∙ is)
+      | inr other ↦ inl (here (sym (cond-false _ _ _ other) ∙ is))
+    ]
+  where
+    here : Some (let d : Difference P = record { place = s.place; ours = own; theirs = s.text } in d) ≡ Some c → (Some own ≡ Some c.ours) × (s.place ≡ c.place)
+    here e = (cc, cc)
+
+-- a collision is with our string at its place
+pub collision-own : {P : Type 0} (H : List ℕ → List ℕ) (ours : P → Option (List ℕ)) (ss : List (Hashed P)) (c : Difference P)
+    → first_collision H ours ss ≡ Some c → ours c.place ≡ Some c.ours
+collision-own H ours [] c is = absurd (cc)
+collision-own H ours (s ∷ rest) c is =
+    elim (collision_or-own H (ours s.place) s (first_collision H ours rest) c is) [
+      | inl here ↦ ap ours (sym here.1) ∙ here.0
+      | inr later ↦ collision-own H ours rest c later
+    ]
 
 -- the same difference, its place seen from elsewhere
 abbrev pub moved_collision : {P Q : Type 0} → (P → Q) → Difference P → Difference Q

@@ -53,7 +53,13 @@ pub use Rattle.ats_tree.proofs.Clashes.{collides-not}
 -- the first collision of two joined runs of strings is that of the first run, else of the second
 pub use Rattle.ats_tree.proofs.Clashes.{collision-append}
 -- the first collision of strings with moved places is their first collision with its place moved
-pub use Rattle.ats_tree.proofs.Clashes.{collision-moved}
+pub use Rattle.ats_tree.proofs.Clashes.{moved_collision, collision-moved}
+-- a string before others, of which the first collision is that of some of them, else another one
+pub use Rattle.ats_tree.proofs.Clashes.{collision_or-or}
+-- sources of own strings with the same string at each place give the same first collision
+pub use Rattle.ats_tree.proofs.Clashes.{collision-alike}
+-- a collision is with our own string at its place
+pub use Rattle.ats_tree.proofs.Clashes.{collision-own}
 -- strings that do not differ from our own at their places have no collision
 pub use Rattle.ats_tree.proofs.OwnStrings.{own-none}
 -- the strings hashed in rebuilding from a tree's own leaves and elided digests are the tree's own

@@ -1,14 +1,14 @@
 //! The first collision: a string that rebuilding a tree hashes, different from our string there, with the same digest.
 
-ghost use Rattle.std.specs.Prelude.{◌≡◌, ℕ, ◌+◌, ◌*◌, ◌^◌, ◌<◌, ◌≤◌, ◌≢◌, ◌↔◌, List, ◌∷◌, ◌++◌, length, All, Option, IsTrue, IsSome, IfSome, option_map};
+ghost use Rattle.std.specs.Prelude.{◌≡◌, ℕ, ◌+◌, ◌*◌, ◌^◌, ◌<◌, ◌≤◌, ◌≢◌, ◌↔◌, List, ◌∷◌, ◌++◌, length, map, All, Option, IsTrue, IsSome, IfSome, option_map};
 ghost use Rattle.ats_tree.specs.Clashes.{difference_of, part_strings, IsPlaced};
-ghost use Rattle.ats_tree.specs.Differences.{collision_or, first_collision};
+ghost use Rattle.ats_tree.specs.Differences.{moved, collision_or, first_collision};
 ghost use Rattle.ats_tree.specs.Nodes.{Node, by_path};
 ghost use Rattle.ats_tree.specs.Part.{RisesFrom, IsPart};
 ghost use Rattle.ats_tree.specs.Paths.{path_of};
 ghost use Rattle.ats_tree.specs.Rebuild.{need, rebuilt};
 ghost use Rattle.ats_tree.specs.Shown.{places};
-ghost use Rattle.ats_tree.specs.Strings.{node_strings};
+ghost use Rattle.ats_tree.specs.Strings.{strings, node_strings};
 ghost use Rattle.ats_tree.specs.Tree.{tree_of};
 
 use crate::cut::cut_of;
@@ -33,10 +33,11 @@ pub struct Clash {
 }
 
 /// The digest of a part of a tree, and the first clash in it.
-#[derive(Clone, Copy)]
-struct Compared {
-    digest: [u8; 32],
-    clash: Option<Clash>,
+#[derive(Clone, Copy, Debug, PartialEq, Eq)]
+pub struct ComparedPart {
+    pub digest: [u8; 32],
+    /// Its depth and its turns lead from the root of the part.
+    pub clash: Option<Clash>,
 }
 
 /// The first clash between our own strings and those that rebuilding the tree of `n` leaves hashes, in pre-order: a
@@ -57,19 +58,44 @@ pub fn first_clash<'a, H: Hash32, R: Revealed<'a>, O: OwnNodes>(
     ensures cost { steps.new ≤ steps.old + 5 * n }
 {
     let _first = revealed.position();
+    first_clash_in_part::<H, R, O>(0, n, revealed, own, steps).clash
+}
+
+/// The first clash in the tree of the `n` places from position `from` on, as [`first_clash`] finds it, with the digest
+/// of this tree. It takes the leaves shown there and the digests that they need; what comes after them is left.
+pub fn first_clash_in_part<'a, H: Hash32, R: Revealed<'a>, O: OwnNodes>(
+    from: u32,
+    n: u32,
+    revealed: &mut R,
+    own: &O,
+    steps: &mut Steps,
+) -> ComparedPart
+    requires some { 1 ≤ n }
+    requires ends { from + n < 2 ^ 32 }
+    requires rising { RisesFrom from (R.shown revealed.old) }
+    requires enough { need (tree_of (places from n (R.shown revealed.old))) ≤ length (R.digests revealed.old) }
+    requires short { All (λ s. length s.1 ≤ 127) (R.shown revealed.old) }
+    requires room { steps.old + 5 * n < 2 ^ 64 }
+    ensures whole { IsPart H.hash from n (R.shown revealed.old) (R.digests revealed.old)
+        result.digest (R.shown revealed.new) (R.digests revealed.new) }
+    ensures clash { option_map difference_of result.clash ≡ first_collision H.hash (O.ours own.now)
+        (map (moved by_path) (strings H.hash (tree_of (places from n (R.shown revealed.old))) (R.digests revealed.old))) }
+    ensures place { IfSome result.clash (λ c. c.turns < 2 ^ c.depth) }
+    ensures cost { steps.new + 2 ≤ steps.old + 5 * n }
+{
     let mut lent = Lent {
         revealed,
         lends: PhantomData,
     };
-    let compared = part::<H, _, O>(0, n, 0, 0, &mut lent, own, steps);
+    let compared = part::<H, _, O>(from, n, 0, 0, &mut lent, own, steps);
     let Lent {
-        revealed: _,
+        revealed: _back,
         lends: _,
     } = lent;
-    compared.clash
+    compared
 }
 
-/// The same for the `n` leaves from position `from` on, with their digest. The turns lead to the root of this part.
+/// The same for a part of such a tree, to whose root the turns lead. So do the turns of the clash.
 fn part<H: Hash32, F: Feed, O: OwnNodes>(
     from: u32,
     n: u32,
@@ -78,7 +104,7 @@ fn part<H: Hash32, F: Feed, O: OwnNodes>(
     feed: &mut F,
     own: &O,
     steps: &mut Steps,
-) -> Compared
+) -> ComparedPart
     requires some { 1 ≤ n }
     requires ends { from + n < 2 ^ 32 }
     requires placed { IsPlaced n depth turns }
@@ -100,7 +126,7 @@ fn part<H: Hash32, F: Feed, O: OwnNodes>(
                 let theirs = feed.first_string();
                 let digest = feed.take_leaf::<H>(steps);
                 let clash = clash_or::<H, O>(own, depth, turns, theirs, &digest, None, steps);
-                Compared { digest, clash }
+                ComparedPart { digest, clash }
             } else {
                 let k = cut_of(n);
                 let left = part::<H, F, O>(from, k, depth + 1, 2 * turns, feed, own, steps);
@@ -117,14 +143,14 @@ fn part<H: Hash32, F: Feed, O: OwnNodes>(
                 let digest = H::digest2(1, &left.digest, &right.digest, steps);
                 let later = left.clash.or(right.clash);
                 let clash = clash_or::<H, O>(own, depth, turns, theirs, &digest, later, steps);
-                Compared { digest, clash }
+                ComparedPart { digest, clash }
             }
         }
         _ => {
             let Some(digest) = feed.take_digest(steps) else {
                 unreachable!()
             };
-            Compared {
+            ComparedPart {
                 digest,
                 clash: None,
             }
