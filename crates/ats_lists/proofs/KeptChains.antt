@@ -1,7 +1,9 @@
 -- The digests of a list in blocks, as they stand in one run, and as they are seen.
-use Rattle.std.proofs.Common.{◌≡◌, ℕ, zero, suc, ◌+◌, ◌-◌, ◌*◌, ◌/◌, ◌%◌, ◌<◌, ◌≤◌, List, [], ◌∷◌, ◌++◌, length, map, take, drop, get_or, min, refl, sym, ◌∙◌, ap, ap₂, arith, inl, inr, Result, Ok, Err, OnErr}
+use Rattle.std.proofs.Common.{◌≡◌, ℕ, zero, suc, ◌+◌, ◌-◌, ◌*◌, ◌/◌, ◌%◌, ◌^◌, ◌<◌, ◌≤◌, List, [], ◌∷◌, ◌++◌, length, map, take, drop, get_or, min, refl, sym, ◌∙◌, ap, ap₂, arith, inl, inr, Result, Ok, Err, OnErr, Option, Some, None, subst, nat_eq, nat_lt}
 use Rattle.std.specs.List.{range_with_len}
-use Rattle.std.proofs.lemmas.Bool.{cases_lt}
+use Rattle.std.proofs.Math.Nat.{lt-div-mul-add, div-eq_of_lt}
+use Rattle.std.proofs.lemmas.Nat.{pow_pos}
+use Rattle.std.proofs.lemmas.Bool.{cases_lt, cases_Bool, cond-true, cond-false, lt-ltb, le-ltb, eq-eqb, ne_eqb}
 use Rattle.std.specs.List.{All}
 use Rattle.std.proofs.lemmas.List.{append-nil, drop-drop, drop-take, take-take, get_or-take, get_or-drop, take_all, take_at, drop_at, drop_all, length-take, length-drop}
 use Rattle.std.proofs.lemmas.List.Elements.{All-cons}
@@ -10,10 +12,12 @@ use borrow.Rule.Slice.PartMut.{put_mid, post_of}
 use Rattle.std.proofs.lemmas.List.FromFn.{get_or-map-range_with_len, get_or-range_with_len, length-range_with_len}
 use Rattle.std.specs.List.Sorted.{IsStrictlyIncreasing}
 use Rattle.ats_tree.specs.Kept.{kept_digests}
-use Rattle.ats_tree.specs.Tree.{mth}
-use Rattle.ats_tree.proofs.Public.{length-kept, sized-kept}
+use Rattle.ats_tree.specs.Tree.{mth, tree_of}
+use Rattle.ats_tree.specs.Paths.{path_of}
+use Rattle.ats_tree.specs.Strings.{string_at}
+use Rattle.ats_tree.proofs.Public.{length-kept, sized-kept, string-none}
 use Rattle.ats_lists.specs.Blocks.{blocks_in, items_in, block, blocks_from}
-use Rattle.ats_lists.specs.Chain.{link, no_block, chain_digest, chain_from}
+use Rattle.ats_lists.specs.Chain.{link, no_block, chain_digest, chain_from, chain_link, chain_string}
 use Rattle.ats_lists.specs.KeptChain.{ChainDigests, kept_chain, digests_in, chain_in, IsChainRun}
 use Rattle.ats_lists.proofs.ChainBinding.{chain_from-step}
 
@@ -234,3 +238,55 @@ is-run H sized leaves run some few size right = record { sized = each; some = om
         in let within : k % 128 < length (block_digests H leaves (k / 128)) =
         omega (arith, length-digests H leaves (k / 128) inside)
         in ap length here ∙ sized-block H sized leaves (k / 128) inside (k % 128) d within
+
+-- ---- the strings at two numbers
+
+-- none past the last block
+pub string-past : (H : List ℕ → List ℕ) (leaves : List (List ℕ)) (depth turns : ℕ) → length leaves ≤ 64 * (turns / 64)
+    → chain_string H leaves depth turns ≡ None
+string-past H leaves zero turns past =
+    let none : chain_link H leaves (turns / 64) ≡ None = cond-false _ _ _ (le-ltb (turns / 64) (blocks_in (length leaves)) (omega arith))
+    in elim (cases_Bool (nat_eq (turns % 64) 0)) [
+      | inl is ↦ cond-true _ _ _ is ∙ none
+      | inr not ↦ cond-false _ _ _ not
+    ]
+string-past H leaves (suc depth) turns past =
+    let empty : length (block leaves (turns / 64)) ≡ 0 = omega (arith, length-block leaves (turns / 64))
+    in elim (cases_Bool (nat_lt (turns % 64) (2 ^ depth))) [
+      | inl is ↦ cond-true _ _ _ is ∙ string-none H (block leaves (turns / 64)) (path_of depth (turns % 64)) empty
+      | inr not ↦ cond-false _ _ _ not
+    ]
+
+-- that of a block
+pub string-block : (H : List ℕ → List ℕ) (leaves : List (List ℕ)) (depth turns : ℕ) → depth ≡ 0 → turns % 64 ≡ 0
+    → turns / 64 < blocks_in (length leaves)
+    → chain_string H leaves depth turns ≡ Some (link (mth H (block leaves (turns / 64))) (chain_from H leaves (turns / 64 + 1)))
+string-block H leaves depth turns root first less =
+    ap (λ d. chain_string H leaves d turns) root
+    ∙ cond-true _ _ _ (eq-eqb (turns % 64) 0 first)
+    ∙ cond-true _ _ _ (lt-ltb (turns / 64) (blocks_in (length leaves)) less)
+
+pub string-between : (H : List ℕ → List ℕ) (leaves : List (List ℕ)) (depth turns : ℕ) → depth ≡ 0 → (turns % 64 ≡ 0 → ⊥)
+    → chain_string H leaves depth turns ≡ None
+string-between H leaves depth turns root other =
+    ap (λ d. chain_string H leaves d turns) root ∙ cond-false _ _ _ (ne_eqb (turns % 64) 0 other)
+
+-- that of a node
+pub string-inside : (H : List ℕ → List ℕ) (leaves : List (List ℕ)) (depth further turns : ℕ) → depth ≡ suc further
+    → (turns % 64) / 2 ^ further ≡ 0
+    → chain_string H leaves depth turns ≡ string_at H (tree_of (block leaves (turns / 64))) (path_of further (turns % 64))
+string-inside H leaves depth further turns deep none =
+    let some : 0 < 2 ^ further = pow_pos further
+    in let high : turns % 64 < (turns % 64) / 2 ^ further * 2 ^ further + 2 ^ further = lt-div-mul-add some
+    in let P : ℕ → Type 0 = λ q. turns % 64 < q * 2 ^ further + 2 ^ further
+    in let low : turns % 64 < 0 * 2 ^ further + 2 ^ further = subst P none high
+    in let less : turns % 64 < 2 ^ further = omega arith
+    in ap (λ d. chain_string H leaves d turns) deep ∙ cond-true _ _ _ (lt-ltb (turns % 64) (2 ^ further) less)
+
+pub string-outside : (H : List ℕ → List ℕ) (leaves : List (List ℕ)) (depth further turns : ℕ) → depth ≡ suc further
+    → ((turns % 64) / 2 ^ further ≡ 0 → ⊥) → chain_string H leaves depth turns ≡ None
+string-outside H leaves depth further turns deep other =
+    elim (cases_lt (turns % 64) (2 ^ further)) [
+      | inl less ↦ absurd (other (div-eq_of_lt less))
+      | inr past ↦ ap (λ d. chain_string H leaves d turns) deep ∙ cond-false _ _ _ (le-ltb (turns % 64) (2 ^ further) past)
+    ]

@@ -4,7 +4,9 @@ ghost use Rattle.std.specs.Prelude.{◌≡◌, ℕ, ◌+◌, ◌*◌, ◌^◌, �
 ghost use Rattle.std.specs.List.{range_with_len};
 ghost use Rattle.ats_tree.specs.Elided.{elided_digests};
 ghost use Rattle.ats_tree.specs.Kept.{kept_digests, IsNodeList};
-ghost use Rattle.ats_tree.specs.Tree.{mth};
+ghost use Rattle.ats_tree.specs.Paths.{path_of};
+ghost use Rattle.ats_tree.specs.Strings.{string_at};
+ghost use Rattle.ats_tree.specs.Tree.{mth, tree_of};
 ghost use Rattle.ats_lists.specs.Blocks.{blocks_in, items_in, block};
 ghost use Rattle.ats_lists.specs.Chain.{link, no_block, chain, chain_from, chain_string, chain_elided};
 ghost use Rattle.ats_lists.specs.KeptChain.{ChainDigests, kept_chain, digests_in, chain_in, IsChainRun};
@@ -14,8 +16,8 @@ use crate::chain_rebuilding::BLOCK;
 use crate::entry::Entry;
 use crate::leaves::ListLeaves;
 use crate::memory::OutOfMemory;
-use ats_hash::{Hash32, Steps};
-use ats_tree::{Digests, Leaves, elide_kept, keep_part};
+use ats_hash::{Hash32, HashKind, Steps};
+use ats_tree::{Digests, HashedString, Leaves, elide_kept, keep_part, string_of_part};
 use std::alloc::Global;
 use std::marker::Model;
 
@@ -89,6 +91,76 @@ impl Chain {
             out.truncate(before);
         }
         outcome
+    }
+
+    /// The string that is hashed for the list and has these two numbers, if there is one. Block j has its own string at
+    /// depth 0 and `turns` 64 j. The node of its tree with depth d and turns p has depth 1 + d and `turns` 64 j + p. It
+    /// allocates nothing and hashes nothing.
+    pub fn string_at<H: HashKind>(
+        &self,
+        entries: &[Entry],
+        depth: u8,
+        turns: u32,
+    ) -> Option<HashedString>
+        requires kept { self.now ≡ kept_chain H.hash (map leaf_bytes entries.now) }
+        requires shallow { depth ≤ 32 }
+        ensures { result ≡ chain_string H.hash (map leaf_bytes entries.now) depth turns }
+    {
+        let j = turns / BLOCK;
+        let place = turns % BLOCK;
+        if BLOCK * j >= self.len() {
+            return None;
+        }
+        if depth == 0 {
+            return if place == 0 {
+                Some(self.block_string(j))
+            } else {
+                None
+            };
+        }
+        let further = depth - 1;
+        let rest = place >> further;
+        if rest == 0 {
+            self.node_string::<H>(entries, j, further, place)
+        } else {
+            None
+        }
+    }
+
+    // The string of block `j`.
+    fn block_string(&self, j: u32) -> HashedString
+        requires { j < blocks_in self.now.entries }
+        ensures { (H : List ℕ → List ℕ) (leaves : List (List ℕ)) → self.now ≡ kept_chain H leaves
+            → result ≡ link (mth H (block leaves j)) (chain_from H leaves (j + 1)) }
+    {
+        let nodes = self.nodes(j);
+        let next = DIGESTS * (j as usize + 1);
+        if next < self.digests.len() {
+            HashedString::tagged(3, &nodes[0], &self.digests[next])
+        } else {
+            HashedString::tagged(3, &nodes[0], &[0; 32])
+        }
+    }
+
+    // The string at the node to which the turns lead from the root of the tree of block `j`.
+    fn node_string<H: HashKind>(
+        &self,
+        entries: &[Entry],
+        j: u32,
+        depth: u8,
+        turns: u32,
+    ) -> Option<HashedString>
+        requires inside { j < blocks_in self.now.entries }
+        requires kept { self.now ≡ kept_chain H.hash (map leaf_bytes entries.now) }
+        requires shallow { depth ≤ 32 }
+        ensures { result ≡ string_at H.hash (tree_of (block (map leaf_bytes entries.now) j)) (path_of depth turns) }
+    {
+        // There are at most 65,536 entries.
+        let _ = &self.digests;
+        let leaves = ListLeaves { entries };
+        let start = BLOCK * j;
+        let n = BLOCK.min(self.len() - start);
+        string_of_part::<H, ListLeaves>(self.nodes(j), &leaves, start, n, depth, turns)
     }
 
     // The digests of all nodes of the tree of block `j`.
