@@ -10,3 +10,4 @@ pub mod BlockRoots
 pub mod ChainBound
 pub mod Formats
 pub mod KeptChain
+pub mod KeptList
