@@ -1,5 +1,5 @@
 -- The digests of a list in blocks, as they stand in one run, and as they are seen.
-use Rattle.std.proofs.Common.{◌≡◌, ℕ, zero, suc, ◌+◌, ◌-◌, ◌*◌, ◌/◌, ◌%◌, ◌^◌, ◌<◌, ◌≤◌, List, [], ◌∷◌, ◌++◌, length, map, take, drop, get_or, min, refl, sym, ◌∙◌, ap, ap₂, arith, inl, inr, Result, Ok, Err, OnErr, Option, Some, None, subst, nat_eq, nat_lt}
+use Rattle.std.proofs.Common.{◌≡◌, ℕ, zero, suc, ◌+◌, ◌-◌, ◌*◌, ◌/◌, ◌%◌, ◌^◌, ◌<◌, ◌≤◌, List, [], ◌∷◌, ◌++◌, length, map, take, drop, get_or, min, refl, sym, ◌∙◌, ap, ap₂, arith, inl, inr, Result, Ok, Err, OnErr, Some, None, subst, nat_eq, nat_lt}
 use Rattle.std.specs.List.{range_with_len}
 use Rattle.std.proofs.Math.Nat.{lt-div-mul-add, div-eq_of_lt}
 use Rattle.std.proofs.lemmas.Nat.{pow_pos}
@@ -111,6 +111,14 @@ pub take-range : (a n k : ℕ) → k ≤ n → take k (range_with_len a n) ≡ r
 take-range a n zero few = refl
 take-range a zero (suc k) few = absurd (omega arith)
 take-range a (suc n) (suc k) few = ap (λ (rest : List ℕ). a ∷ rest) (take-range (a + 1) n k (omega arith))
+
+-- one number more
+pub range-more : (a n j : ℕ) → a + n ≡ j → range_with_len a (n + 1) ≡ range_with_len a n ++ j ∷ []
+range-more a zero j at = let here : a ≡ j = omega arith in ap (λ (i : ℕ). i ∷ []) here
+range-more a (suc n) j at =
+    let at' : a + 1 + n ≡ j = omega arith
+    in let size : suc n + 1 ≡ suc (n + 1) = omega arith
+    in rw size (ap (λ (rest : List ℕ). a ∷ rest) (range-more (a + 1) n j at'))
 
 pub range-rises : (n : ℕ) → IsStrictlyIncreasing (range_with_len 0 n)
 range-rises n k inside =

@@ -21,5 +21,5 @@ format_of (Blocks digests) = Two
 
 -- how many entries the list has
 abbrev pub entries_of : ListDigests → ℕ
-entries_of (Tree digests) = length digests / 2 + 1
+entries_of (Tree digests) = (length digests + 1) / 2
 entries_of (Blocks digests) = digests.entries

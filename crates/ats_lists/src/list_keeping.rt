@@ -62,6 +62,24 @@ impl ListDigests {
         }
     }
 
+    /// Appends the digests that the first `k` entries need, without those entries, from left to right.
+    pub fn front(&self, alloc: Global, k: u32, out: &mut Digests) -> Result<(), OutOfMemory>
+        requires some { 1 ≤ k }
+        requires within { k ≤ entries_of self.now }
+        ensures ok { (H : List ℕ → List ℕ) (format : Format) (entries : List Entry) → self.now ≡ kept_list H format entries
+            → OnOk result (out.new ≡ out.old ++ prefix_digests H format entries k) }
+        ensures err { OnErr result (out.new ≡ out.old) }
+    {
+        match self {
+            ListDigests::Tree(nodes) => {
+                let positions = first_numbers(alloc, k)?;
+                nodes.elided(&positions, out)?;
+                Ok(())
+            }
+            ListDigests::Blocks(chain) => chain.elided(k, out),
+        }
+    }
+
     /// The string that is hashed for the list and has these two numbers, if there is one. It allocates nothing and hashes
     /// nothing.
     pub fn string_at<H: HashKind>(
@@ -82,4 +100,15 @@ impl ListDigests {
             ListDigests::Blocks(chain) => chain.string_at::<H>(entries, depth, turns),
         }
     }
+}
+
+// The numbers below `count`.
+fn first_numbers(alloc: Global, count: u32) -> Result<Vec<u32>, OutOfMemory>
+    ensures { IfOk result (λ numbers. numbers.items ≡ range_with_len 0 count) }
+{
+    let mut numbers = Vec::with_capacity(alloc, count as usize)?;
+    for i in 0..count {
+        numbers.push(i)?;
+    }
+    Ok(numbers)
 }

@@ -1,4 +1,4 @@
-use Rattle.std.proofs.Common.{◌≡◌, ℕ, ◌+◌, ◌-◌, ◌*◌, ◌<◌, ◌≤◌, List, ◌∷◌, length, ◌∙◌, ap, ap₂, arith}
+use Rattle.std.proofs.Common.{◌≡◌, ℕ, ◌+◌, ◌-◌, ◌*◌, ◌<◌, List, ◌∷◌, length, ◌∙◌, ap, ap₂, arith}
 use Rattle.ats_tree.specs.Kept.{kept_digests}
 use Rattle.ats_lists.specs.Blocks.{blocks_in, items_in}
 use Rattle.ats_lists.specs.Chain.{chain_from}

@@ -1,4 +1,4 @@
-use Rattle.std.proofs.Common.{◌≡◌, ℕ, ◌+◌, ◌*◌, ◌<◌, ◌≤◌, List, length, min}
+use Rattle.std.proofs.Common.{◌≡◌, ℕ, ◌+◌, ◌*◌, ◌<◌, ◌≤◌, length, min}
 use Rattle.ats_lists.specs.Blocks.{blocks_in}
 use Rattle.ats_lists.specs.Chain.{chain_from}
 use Rattle.ats_lists.specs.KeptChain.{digests_in}

@@ -1,5 +1,4 @@
-use Rattle.std.proofs.Common.{◌≡◌, ℕ, ◌+◌, ◌*◌, ◌/◌, ◌<◌, ◌≤◌, List, ◌∷◌, ◌++◌, length, refl, sym, ◌∙◌, ap, ap₂, arith}
-use Rattle.ats_tree.specs.Tree.{mth}
+use Rattle.std.proofs.Common.{◌≡◌, ℕ, ◌+◌, ◌*◌, ◌/◌, ◌<◌, ◌≤◌, List, ◌∷◌, ◌++◌, length, refl, sym, ◌∙◌, ap₂, arith}
 use Rattle.ats_tree.proofs.Public.{kept-first}
 use Rattle.ats_lists.specs.Blocks.{blocks_in, block}
 use Rattle.ats_lists.specs.KeptChain.{kept_chain, chain_in}

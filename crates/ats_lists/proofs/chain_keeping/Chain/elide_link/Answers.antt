@@ -1,7 +1,7 @@
-use Rattle.std.proofs.Common.{◌≡◌, ℕ, ◌+◌, ◌*◌, ◌/◌, ◌<◌, List, [], ◌∷◌, ◌++◌, length, ◌∙◌, ap, sym, arith}
+use Rattle.std.proofs.Common.{◌≡◌, ℕ, ◌*◌, ◌/◌, ◌<◌, List, [], ◌∷◌, ◌++◌, length, ◌∙◌, ap, sym, arith}
 use Rattle.std.proofs.lemmas.Bool.{cond-true, lt-ltb}
 use Rattle.ats_lists.specs.KeptChain.{kept_chain, chain_in}
-use Rattle.ats_lists.proofs.KeptChains.{entries-seen, first-seen, front-more}
+use Rattle.ats_lists.proofs.KeptChains.{entries-seen, first-seen}
 use Rattle.ats_lists.proofs.chain_keeping.Chain.elide_link.Goals as goal
 
 pub returns-in_ok-push-clause-ok : goal.returns-in_ok-push-clause-ok

@@ -1,4 +1,4 @@
-use Rattle.std.proofs.Common.{◌≡◌, ℕ, ◌+◌, ◌-◌, ◌*◌, List, [], ◌∷◌, ◌++◌, length, take, nat_lt, if◌then◌else◌, ◌∙◌, ap, subst, arith, append_assoc, OnOk}
+use Rattle.std.proofs.Common.{◌≡◌, ℕ, ◌-◌, ◌*◌, List, [], ◌∷◌, ◌++◌, length, take, nat_lt, if◌then◌else◌, ◌∙◌, ap, subst, arith, append_assoc, OnOk}
 use Rattle.std.specs.List.{range_with_len}
 use Rattle.ats_tree.specs.Elided.{elided_digests}
 use Rattle.ats_lists.specs.Blocks.{blocks_in, block}

@@ -1,10 +1,10 @@
-use Rattle.std.proofs.Common.{◌≡◌, ℕ, ◌+◌, ◌*◌, ◌/◌, ◌<◌, ◌≤◌, List, length, map, take, drop, sym, ◌∙◌, ap, arith}
+use Rattle.std.proofs.Common.{◌≡◌, ℕ, ◌/◌, List, length, map, sym, ◌∙◌, ap, arith}
 use Rattle.std.proofs.lemmas.List.{length-map}
 use Rattle.ats_tree.specs.Kept.{kept_digests}
 use Rattle.ats_tree.specs.Paths.{path_of}
 use Rattle.ats_tree.specs.Strings.{string_at}
 use Rattle.ats_tree.specs.Tree.{tree_of}
-use Rattle.ats_lists.specs.Blocks.{blocks_in, items_in, block}
+use Rattle.ats_lists.specs.Blocks.{items_in}
 use Rattle.ats_lists.specs.KeptChain.{ChainDigests}
 use Rattle.ats_lists.specs.Leaf.{leaf_bytes}
 use Rattle.ats_lists.proofs.KeptChains.{block-leaves}

@@ -1,4 +1,4 @@
-use Rattle.std.proofs.Common.{◌≡◌, ℕ, ◌+◌, ◌-◌, ◌*◌, ◌/◌, ◌<◌, List, length, take, drop, min, ◌∙◌, ap, arith}
+use Rattle.std.proofs.Common.{◌≡◌, ℕ, ◌+◌, ◌-◌, ◌*◌, ◌/◌, ◌<◌, List, length, take, drop, ◌∙◌, ap, arith}
 use Rattle.ats_lists.specs.Blocks.{blocks_in}
 use Rattle.ats_lists.specs.KeptChain.{ChainDigests, kept_chain, chain_in}
 use Rattle.ats_lists.proofs.KeptChains.{entries-seen, nodes-there, nodes-seen}

@@ -1,4 +1,4 @@
-use Rattle.std.proofs.Common.{◌≡◌, ℕ, ◌+◌, ◌*◌, ◌<◌, ◌≤◌, List, length, arith, sym, ◌∙◌}
+use Rattle.std.proofs.Common.{arith, ◌∙◌}
 use Rattle.ats_lists.proofs.KeptChains.{first-seen}
 use Rattle.ats_lists.proofs.chain_keeping.Chain.root.Goals as goal
 
