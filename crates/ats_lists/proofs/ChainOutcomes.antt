@@ -1,6 +1,6 @@
 -- What rebuilding a list in blocks returns, by what is left after its shown blocks.
-use Rattle.std.proofs.Common.{◌≡◌, ℕ, ◌+◌, ◌-◌, ◌*◌, ◌<◌, ◌≤◌, List, [], ◌∷◌, length, drop, min, Bool, true, false, ◌&&◌, refl, sym, ◌∙◌, ap, arith, inl, inr, Some, None, slice_get, get_or, nat_lt, nat_le, nat_eq, if◌then◌else◌}
-use Rattle.std.proofs.lemmas.Bool.{cond-true, cond-false, cases_Bool, and_parts, and_from, le-leb, eq-eqb, leb-true, eqb-true, ltb-true}
+use Rattle.std.proofs.Common.{◌≡◌, ℕ, zero, ◌+◌, ◌-◌, ◌*◌, ◌<◌, ◌≤◌, List, [], ◌∷◌, length, map, drop, min, Bool, true, false, ◌&&◌, refl, sym, ◌∙◌, ap, arith, inl, inr, Option, Some, None, IsSome, slice_get, get_or, nat_lt, nat_le, nat_eq, if◌then◌else◌}
+use Rattle.std.proofs.lemmas.Bool.{cond-true, cond-false, cases_Bool, and_parts, and_from, le-leb, eq-eqb, leb-true, eqb-true, ltb-true, ltb-false}
 use Rattle.std.proofs.lemmas.List.{length-drop, get_or-drop}
 use Rattle.std.proofs.lemmas.List.FromFn.{length-map-range_with_len}
 use Rattle.std.proofs.lemmas.Option.{get_or_from_slice_get, slice_get_within}
@@ -75,7 +75,8 @@ pub next-there : (ds₁ : List (List ℕ)) (next : List ℕ) (follows : Bool) �
 next-there ds₁ next false is = omega arith
 next-there ds₁ next true is = omega (arith, slice_get_within ds₁ 0 next (sym is))
 
-next-is : (f : ℕ) (shown : List Shown) (ds ds₁ : List (List ℕ)) (next : List ℕ) (follows : Bool) → ds₁ ≡ drop (block_need f shown) ds
+-- the digest of the next block is the first one left
+pub next-is : (f : ℕ) (shown : List Shown) (ds ds₁ : List (List ℕ)) (next : List ℕ) (follows : Bool) → ds₁ ≡ drop (block_need f shown) ds
     → follows ≡ has_next f shown → Some next ≡ (if follows then slice_get ds₁ 0 else Some no_block) → next ≡ next_digest f shown ds
 next-is f shown ds ds₁ next false left same is = let e : next ≡ no_block = cc in e ∙ sym (cond-false _ _ _ (sym same))
 next-is f shown ds ds₁ next true left same is =
@@ -129,3 +130,30 @@ pub block-count : (H : List ℕ → List ℕ) (f : ℕ) (shown shown₁ : List S
     → AreBlockRoots H f shown ds roots shown₁ ds₁ → length roots ≡ blocks_in (length shown)
 block-count H f shown shown₁ ds ds₁ roots is =
     ap length is.value ∙ length-map-range_with_len (block_root H f shown ds) 0 (blocks_in (length shown) - 0) ∙ omega arith
+
+-- nothing that is rebuilt is missing
+pub not-none : (o : Option (List ℕ)) → o ≡ None → IsSome o → ⊥
+not-none None none some = absurd (cc)
+not-none (Some x) none some = absurd (cc)
+
+-- what is rebuilt is of at least one and at most f leaves, with the digests that they need
+pub chain-fits : (H : List ℕ → List ℕ) (f : ℕ) (shown : List Shown) (ds : List (List ℕ)) → IsSome (chain_rebuilt H f shown ds)
+    → (1 ≤ length shown) × (length shown ≤ f) × (length ds ≡ chain_need f shown)
+chain-fits H f shown ds some =
+    let test : Bool = nat_le 1 (length shown) && nat_le (length shown) f && nat_eq (length ds) (chain_need f shown)
+    in elim (cases_Bool test) [
+      | inl meets ↦
+          let outer : ((nat_le 1 (length shown) && nat_le (length shown) f) ≡ true) × (nat_eq (length ds) (chain_need f shown) ≡ true) =
+          and_parts _ _ meets
+          in let inner : (nat_le 1 (length shown) ≡ true) × (nat_le (length shown) f ≡ true) = and_parts _ _ outer.0
+          in (leb-true 1 (length shown) inner.0, leb-true (length shown) f inner.1, eqb-true _ _ outer.1)
+      | inr fails ↦ absurd (not-none (chain_rebuilt H f shown ds) (cond-false test _ _ fails) some)
+    ]
+
+-- b blocks take 5 steps for each of their places at most, their own strings included, and a block that follows has a
+-- place
+pub search-steps : (f b before blocks_done now : ℕ) (follows : Bool) → follows ≡ nat_lt (64 * b) f
+    → blocks_done + 2 * b ≤ before + 5 * min f (64 * b) → now ≡ blocks_done + for_next follows → now + 2 * b ≤ before + 5 * f
+search-steps f b before blocks_done now false same few is = omega arith
+search-steps f b before blocks_done now true same few is =
+    let more : 64 * b < f = ltb-true (64 * b) f (sym same) in omega arith

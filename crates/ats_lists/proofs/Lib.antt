@@ -15,5 +15,6 @@ mod BlockLemmas
 mod ChainBinding
 mod ChainOutcomes
 mod ChainLaws
+mod ChainClashes
 mod FormatLemmas
 mod KeptChains

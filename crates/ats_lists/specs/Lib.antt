@@ -8,6 +8,7 @@ pub mod Chain
 pub mod ChainPrefix
 pub mod BlockRoots
 pub mod ChainBound
+pub mod ChainClash
 pub mod Formats
 pub mod KeptChain
 pub mod KeptList

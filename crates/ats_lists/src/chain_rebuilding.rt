@@ -16,7 +16,7 @@ use ats_tree::{Revealed, rebuild_part};
 pub(crate) const BLOCK: u32 = 64;
 
 /// The most blocks of which a leaf is shown.
-const BLOCKS: usize = 1024;
+pub(crate) const BLOCKS: usize = 1024;
 
 /// The digest of a list of `f` leaves in blocks, from its first `k` leaves and the digests of `revealed`. There is none
 /// if `f` is less than `k`, or if the digests are not as many as are needed.
@@ -94,7 +94,7 @@ fn rebuild_blocks<'a, H: Hash32, R: Revealed<'a>>(
 }
 
 /// The digest of the block after the shown ones: the first digest left, or 32 zero bytes if no block follows.
-fn pass_next<'a, R: Revealed<'a>>(
+pub(crate) fn pass_next<'a, R: Revealed<'a>>(
     follows: bool,
     revealed: &mut R,
     steps: &mut Steps,

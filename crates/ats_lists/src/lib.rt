@@ -11,8 +11,11 @@
 //! A list is hashed as one tree, or in blocks of 64 entries ([`Format`]). [`chain_rebuild`] returns the digest of a list
 //! in blocks from its first leaves and the digests of the rest, exactly if these fit, in a bounded number of steps and
 //! without memory. What is rebuilt is bound to each list with that digest: either each shown leaf is the list's, or the
-//! first string that differs from the list's has the digest of the string there. The laws say in plain sentences what
-//! the definitions mean.
+//! first string that differs from the list's has the digest of the string there. Whoever has a list of their own
+//! ([`OwnList`]) finds by [`chain_first_clash`] the place where such a string is hashed. [`Chain`] keeps the digests of a
+//! list in blocks, and [`ListDigests`] those of a list in either format: they return the root, the digests that the first
+//! entries need, and the string that is hashed at a place, without hashing. The laws say in plain sentences what the
+//! definitions mean.
 //!
 //! ```
 //! // collection: the texts "red fox", "red red hen" and "blue hen"
@@ -25,6 +28,7 @@
 #![tactic(auto)]
 
 mod building;
+mod chain_clashing;
 mod chain_keeping;
 mod chain_laws;
 mod chain_rebuilding;
@@ -38,9 +42,11 @@ mod list_keeping;
 mod lists;
 mod memory;
 mod numbering;
+mod own_list;
 mod term_list;
 
 pub use building::ListsBuilder;
+pub use chain_clashing::chain_first_clash;
 pub use chain_keeping::Chain;
 pub use chain_laws::{
     chain_of_strings, chain_strings_have_numbers, first_leaves_are_bound, first_leaves_suffice,
@@ -53,3 +59,4 @@ pub use leaves::ListLeaves;
 pub use list_keeping::ListDigests;
 pub use lists::Lists;
 pub use memory::OutOfMemory;
+pub use own_list::OwnList;

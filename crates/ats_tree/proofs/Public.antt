@@ -76,6 +76,8 @@ pub use Rattle.ats_tree.proofs.Places.{places-from}
 pub use Rattle.ats_tree.proofs.Places.{from-from}
 -- of shown leaves that rise, those from b on rise from b
 pub use Rattle.ats_tree.proofs.Places.{rises-from}
+-- what holds of all shown leaves holds of those from b on
+pub use Rattle.ats_tree.proofs.Places.{All-from}
 -- all shown leaves are left if they rise from b
 pub use Rattle.ats_tree.proofs.Places.{from-all}
 -- a rebuilt digest of a part binds the leaves shown there, unless the first difference collides
