@@ -15,6 +15,8 @@ mod building;
 #[cfg(test)]
 mod calls;
 #[cfg(test)]
+mod chains;
+#[cfg(test)]
 mod digests;
 #[cfg(test)]
 mod foxes;

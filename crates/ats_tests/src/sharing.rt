@@ -39,6 +39,8 @@ fn types_cross_threads() {
     cross::<ats_doctree::Spot>();
     cross::<ats_doctree::DocLeaf>();
     cross::<ats_lists::OutOfMemory>();
+    cross::<ats_lists::Chain>();
+    cross::<ats_lists::Format>();
     cross::<ats_lists::Entry>();
     cross::<ats_lists::ListsBuilder<'static>>();
     cross::<ats_lists::Lists>();
