@@ -16,15 +16,14 @@ use Rattle.ats_wire.specs.declared.feeding.Fed.{Fed}
 use Rattle.ats_wire.specs.declared.feeding.Fed.TheVariants.{Whole, Refused}
 use Rattle.ats_top.specs.Words.{AskWords}
 use Rattle.ats_top.specs.Print.{lines}
-use Rattle.ats_top.specs.Conversation.{Converses, ConversesFed, reply_fault}
+use Rattle.ats_top.specs.RejectionLines.{line_of_rejection}
+use Rattle.ats_top.specs.Conversation.{Converses, ConversesFed}
 use Rattle.ats_top.specs.Asked.{question_of, IsReplied, IsReplyAccepted, IsReplyRejected, IsReplyFault, IsAnswered, AskStop, Decides}
 use Rattle.ats_top.specs.Refusals.{AsksRanking, IsRankingRefused}
 use Rattle.ats_top.specs.ReadStops.{BytesStop}
 use Rattle.ats_top.specs.Stops.{status_of_stop}
-use Rattle.ats_top.specs.declared.stops.InputRefusal.{InputRefusal}
-use Rattle.ats_top.specs.declared.stops.PeerFault.{PeerFault}
 use Rattle.ats_top.specs.declared.stops.Stop.{Stop}
-use Rattle.ats_top.specs.declared.stops.Stop.TheVariants.{Usage, Shelf, Input, Rejected, Memory, Link, Peer, Faults, Collision, Swept}
+use Rattle.ats_top.specs.declared.stops.Stop.TheVariants.{Usage, Shelf, Input, Rejected, Memory, Link, Peer, Faults, Collision}
 use Rattle.ats_top.proofs.Refused.{ranking_kept}
 use Rattle.ats_top.proofs.Conversing.{one_reply}
 
@@ -49,22 +48,21 @@ module _ (H : List ℕ → List ℕ) (before now : CallerTold) (words : AskWords
   }
 
   pub refused_stops : (query : List (List ℕ × ℕ)) (fed : Fed) (fault : ShapeFault) → fed ≡ Refused fault → AsksRanking words.r words.query → IsQueryOf words.query query
-      → ConversesFed words.address (question_of words) before now fed → AskStop H before now words (Rejected (Shape fault))
+      → ConversesFed words.address (question_of words) before now fed → AskStop H before now words (Rejected (line_of_rejection (Shape fault)))
   refused_stops query fed fault is asks asked brought =
-      refused_reply query fault asks asked (subst (ConversesFed words.address (question_of words) before now) is brought)
+      (Shape fault, refused_reply query fault asks asked (subst (ConversesFed words.address (question_of words) before now) is brought), refl)
 
   module _ (query : List (List ℕ × ℕ)) (bytes : List ℕ) (replied : IsReplied before now words query bytes) where
     bytes_stop : (stop : Stop) → BytesStop H words.root query words.r bytes stop → AskStop H before now words stop
     bytes_stop Usage stops = absurd stops
     bytes_stop Shelf stops = absurd stops
-    bytes_stop (Input refusal) stops = absurd stops
-    bytes_stop (Rejected rejection) stops = record { query = query; bytes = bytes; replied = replied; rejected = stops }
+    bytes_stop (Input line) stops = absurd stops
+    bytes_stop (Rejected line) (rejection, bad, printed) = (rejection, record { query = query; bytes = bytes; replied = replied; rejected = bad }, printed)
     bytes_stop Memory stops = tt
     bytes_stop Link stops = absurd stops
-    bytes_stop (Peer fault) stops = absurd stops
+    bytes_stop (Peer line) stops = absurd stops
     bytes_stop (Faults count) stops = absurd stops
-    bytes_stop (Collision place ours theirs) stops = absurd stops
-    bytes_stop (Swept lines collides) stops = absurd stops
+    bytes_stop (Collision lines) stops = absurd stops
 
     -- bytes that were refused
     pub bytes_stops : {T : Type 0} (result : Result T Stop) → IfErr result (BytesStop H words.root query words.r bytes)
@@ -93,22 +91,21 @@ module _ (H : List ℕ → List ℕ) (before now : CallerTold) (words : AskWords
   decided_asks k (inr (inr (is, (fault, faulty)))) = faulty.asks
 
   -- and its input is not refused
-  pub asked_refused : AsksRanking words.r words.query → (refusal : InputRefusal) → IsRankingRefused words.r words.query (λ other. ⊥) refusal → ⊥
-  asked_refused asks refusal refused = ranking_kept words.r words.query (λ other. ⊥) asks (λ other never. never) refusal refused
+  pub asked_refused : AsksRanking words.r words.query → (line : List ℕ) → IsRankingRefused words.r words.query (λ other. ⊥) line → ⊥
+  asked_refused asks line refused = ranking_kept words.r words.query (λ other. ⊥) asks (λ other never. never) line refused
 
   -- a refused input is no question
-  pub refused_asks : (refusal : InputRefusal) → IsRankingRefused words.r words.query (λ other. ⊥) refusal → (stop : Stop) → AskStop H before now words stop
+  pub refused_asks : (line : List ℕ) → IsRankingRefused words.r words.query (λ other. ⊥) line → (stop : Stop) → AskStop H before now words stop
       → (status_of_stop stop ≡ 4) ⊎ (status_of_stop stop ≡ 6)
-  refused_asks refusal cause Usage stops = absurd stops
-  refused_asks refusal cause Shelf stops = absurd stops
-  refused_asks refusal cause (Input found) stops = inl refl
-  refused_asks refusal cause (Rejected rejection) stops = absurd (asked_refused stops.replied.asks refusal cause)
-  refused_asks refusal cause Memory stops = inr refl
-  refused_asks refusal cause Link stops = absurd (asked_refused stops.0 refusal cause)
-  refused_asks refusal cause (Peer fault) stops = absurd (asked_refused stops.asks refusal cause)
-  refused_asks refusal cause (Faults count) stops = absurd stops
-  refused_asks refusal cause (Collision place ours theirs) stops = absurd stops
-  refused_asks refusal cause (Swept lines collides) stops = absurd stops
+  refused_asks line cause Usage stops = absurd stops
+  refused_asks line cause Shelf stops = absurd stops
+  refused_asks line cause (Input other) stops = inl refl
+  refused_asks line cause (Rejected other) stops = absurd (asked_refused stops.1.replied.asks line cause)
+  refused_asks line cause Memory stops = inr refl
+  refused_asks line cause Link stops = absurd (asked_refused stops.0 line cause)
+  refused_asks line cause (Peer other) stops = absurd (asked_refused stops.asks line cause)
+  refused_asks line cause (Faults count) stops = absurd stops
+  refused_asks line cause (Collision lines) stops = absurd stops
 
   module _ (tells : IsSome before.content) where
     same_bytes : (query other : List (List ℕ × ℕ)) (bytes more : List ℕ) → IsReplied before now words query bytes → IsReplied before now words other more → bytes ≡ more
@@ -124,9 +121,9 @@ module _ (H : List ℕ → List ℕ) (before now : CallerTold) (words : AskWords
         accepted_kept H words.root also.query words.r also.bytes is.proof rejection accepted also.rejected
 
     -- a reply with a proof has no fault
-    replied_fault : (query : List (List ℕ × ℕ)) (bytes : List ℕ) → IsReplied before now words query bytes → (fault : PeerFault) → IsReplyFault before now words fault → ⊥
-    replied_fault query bytes is fault also =
-        let same = one_reply words.address words.address (question_of words) (question_of words) before now (Ok bytes) (Err (reply_fault fault)) tells
+    replied_fault : (query : List (List ℕ × ℕ)) (bytes : List ℕ) → IsReplied before now words query bytes → (line : List ℕ) → IsReplyFault before now words line → ⊥
+    replied_fault query bytes is line also =
+        let same = one_reply words.address words.address (question_of words) (question_of words) before now (Ok bytes) (Err also.heard.fault) tells
         is.conversation also.heard.conversation tt also.heard.heard in cc
 
     -- the status that is decided, or out of memory, or a fault of the link
@@ -143,7 +140,7 @@ module _ (H : List ℕ → List ℕ) (before now : CallerTold) (words : AskWords
     rejected_decides k (inr (inl (is, rejected))) rejection also = inl (sym is)
     rejected_decides k (inr (inr (is, (fault, faulty)))) rejection also = absurd (replied_fault also.query also.bytes also.replied fault faulty)
 
-    fault_decides : (k : ℕ) → Decides H before now words k → (fault : PeerFault) → IsReplyFault before now words fault → Comes k 9
+    fault_decides : (k : ℕ) → Decides H before now words k → (line : List ℕ) → IsReplyFault before now words line → Comes k 9
     fault_decides k (inl (is, accepted)) fault also = absurd (replied_fault accepted.query accepted.bytes accepted.replied fault also)
     fault_decides k (inr (inl (is, (rejection, rejected)))) fault also = absurd (replied_fault rejected.query rejected.bytes rejected.replied fault also)
     fault_decides k (inr (inr (is, faulty))) fault also = inl (sym is)
@@ -151,15 +148,14 @@ module _ (H : List ℕ → List ℕ) (before now : CallerTold) (words : AskWords
     pub stop_decides : (k : ℕ) → Decides H before now words k → (stop : Stop) → AskStop H before now words stop → Comes k (status_of_stop stop)
     stop_decides k decides Usage stops = absurd stops
     stop_decides k decides Shelf stops = absurd stops
-    stop_decides k decides (Input refusal) stops =
-        absurd (asked_refused (decided_asks k decides) refusal stops)
-    stop_decides k decides (Rejected rejection) stops = rejected_decides k decides rejection stops
+    stop_decides k decides (Input line) stops =
+        absurd (asked_refused (decided_asks k decides) line stops)
+    stop_decides k decides (Rejected line) stops = rejected_decides k decides stops.0 stops.1
     stop_decides k decides Memory stops = inr (inl refl)
     stop_decides k decides Link stops = inr (inr (refl, stops.1.rose))
-    stop_decides k decides (Peer fault) stops = fault_decides k decides fault stops
+    stop_decides k decides (Peer line) stops = fault_decides k decides line stops
     stop_decides k decides (Faults count) stops = absurd stops
-    stop_decides k decides (Collision place ours theirs) stops = absurd stops
-    stop_decides k decides (Swept lines collides) stops = absurd stops
+    stop_decides k decides (Collision lines) stops = absurd stops
 
     -- a status that a reply may decide is no other
     comes_one : (k status : ℕ) → (status ≡ 0) ⊎ ((status ≡ 1) ⊎ (status ≡ 9)) → Comes k status → k ≡ status

@@ -23,10 +23,8 @@ use Rattle.ats_top.specs.Audited.{IsAudited, IsAuditedRight, HasCollision, Verdi
 use Rattle.ats_top.specs.Outside.{Outside}
 use Rattle.ats_top.specs.Done.{IsDone, HasInput, IsServed}
 use Rattle.ats_top.specs.Run.{FilesStop}
-use Rattle.ats_top.specs.declared.stops.InputRefusal.{InputRefusal}
-use Rattle.ats_top.specs.declared.stops.InputRefusal.TheVariants.{FileTooLong, BadIndex}
 use Rattle.ats_top.specs.declared.stops.Stop.{Stop}
-use Rattle.ats_top.specs.declared.stops.Stop.TheVariants.{Usage, Shelf, Input, Rejected, Memory, Link, Peer, Faults, Collision, Swept}
+use Rattle.ats_top.specs.declared.stops.Stop.TheVariants.{Usage, Shelf, Input, Rejected, Memory, Link, Peer, Faults, Collision}
 use Rattle.ats_top.proofs.ToldFiles.{one_file, index_kept}
 use Rattle.ats_top.proofs.Refused.{ranking_kept}
 use Rattle.ats_top.proofs.Rejecting.{told_archive}
@@ -38,24 +36,18 @@ passed_on {X} P result told stop is same cause = subst (λ (r : Result X Stop). 
 -- ---- the steps
 
 module _ (H : List ℕ → List ℕ) (before now : ShelfTold) (words : AuditWords) (asks : AsksRanking words.r words.query) (same : now.files ≡ before.files) where
-  index_refused : (refusal : InputRefusal) → IsIndexRefused H before.files words.index refusal → IsRefused H before.files (Audit words) refusal
-  index_refused (FileTooLong limit) refused = (asks, refused)
-  index_refused (BadIndex at) refused = (asks, refused)
-  index_refused _ refused = absurd refused
-
   -- an index that was not loaded
   pub index_stops : (stop : Stop) → IndexStop H before now words.index stop → FilesStop H before now (Audit words) stop
   index_stops Usage stops = absurd stops
   index_stops Shelf (inl rose) = (inl (asks, rose), inl same)
   index_stops Shelf (inr missing) = (inr (asks, inl missing), inl same)
-  index_stops (Input refusal) stops = (index_refused refusal stops, same)
-  index_stops (Rejected rejection) stops = absurd stops
+  index_stops (Input line) stops = (inr (inr (asks, stops)), same)
+  index_stops (Rejected lines) stops = absurd stops
   index_stops Memory stops = same
   index_stops Link stops = absurd stops
-  index_stops (Peer fault) stops = absurd stops
+  index_stops (Peer line) stops = absurd stops
   index_stops (Faults count) stops = absurd stops
-  index_stops (Collision place ours theirs) stops = absurd stops
-  index_stops (Swept lines collides) stops = absurd stops
+  index_stops (Collision lines) stops = absurd stops
 
 module _ (H : List ℕ → List ℕ) (before mid now : ShelfTold) (words : AuditWords) (asks : AsksRanking words.r words.query) (was : mid.files ≡ before.files) (same : now.files ≡ mid.files)
     (archive : Archive) (index : HasIndex H before.files words.index archive) where
@@ -67,15 +59,14 @@ module _ (H : List ℕ → List ℕ) (before mid now : ShelfTold) (words : Audit
   proof_stops calm Usage stops = absurd stops
   proof_stops calm Shelf (inl rose) = (inl (asks, rw (← calm) rose), inl kept)
   proof_stops calm Shelf (inr missing) = (inr (asks, inr ((archive, index), subst (λ (files : Files). IsMissing files words.proof) was missing)), inl kept)
-  proof_stops calm (Input refusal) stops = absurd stops
-  proof_stops calm (Rejected rejection) stops =
-      ((asks, (archive, index, inl (subst (λ (files : Files). IsLongFile files words.proof rejection) was stops))), kept)
+  proof_stops calm (Input line) stops = absurd stops
+  proof_stops calm (Rejected line) (rejection, long, printed) =
+      (inl (rejection, (asks, (archive, index, inl (subst (λ (files : Files). IsLongFile files words.proof rejection) was long))), printed), kept)
   proof_stops calm Memory stops = kept
   proof_stops calm Link stops = absurd stops
-  proof_stops calm (Peer fault) stops = absurd stops
+  proof_stops calm (Peer line) stops = absurd stops
   proof_stops calm (Faults count) stops = absurd stops
-  proof_stops calm (Collision place ours theirs) stops = absurd stops
-  proof_stops calm (Swept lines collides) stops = absurd stops
+  proof_stops calm (Collision lines) stops = absurd stops
 
   module _ (query : List (List ℕ × ℕ)) (bytes : List ℕ) (asked : IsQueryOf words.query query) (gathered : IsFile mid.files words.proof (2 ^ 26) bytes) where
     file : IsFile before.files words.proof (2 ^ 26) bytes
@@ -84,34 +75,41 @@ module _ (H : List ℕ → List ℕ) (before mid now : ShelfTold) (words : Audit
     verdict_stop : (stop : Stop) → VerdictStop H archive query words.r bytes stop → FilesStop H before now (Audit words) stop
     verdict_stop Usage stops = absurd stops
     verdict_stop Shelf stops = absurd stops
-    verdict_stop (Input refusal) stops = absurd stops
-    verdict_stop (Rejected rejection) stops =
-        ((asks, (archive, index, inr (record { query = query; asked = asked; bytes = bytes; file = file; rejected = stops }))), kept)
+    verdict_stop (Input line) stops = absurd stops
+    verdict_stop (Rejected line) (rejection, bad, printed) = (
+      inl (rejection, (asks, (archive, index, inr (record { query = query; asked = asked; bytes = bytes; file = file; rejected = bad }))), printed),
+      kept,
+    )
     verdict_stop Memory stops = kept
     verdict_stop Link stops = absurd stops
-    verdict_stop (Peer fault) stops = absurd stops
+    verdict_stop (Peer line) stops = absurd stops
     verdict_stop (Faults count) stops = absurd stops
-    verdict_stop (Swept lines collides) stops = absurd stops
-    verdict_stop (Collision place ours theirs) found =
-        let two = extract-collides H archive query found.proof _ found.found in (
-          record {
-            collision = (
-              asks,
-              record {
-                archive = archive;
-                index = index;
-                query = query;
-                asked = asked;
-                bytes = bytes;
-                file = file;
-                proof = found.proof;
-                accepted = found.accepted;
-                is = found.found;
-              },
-            );
-            differ = two.0;
-            equal = two.1;
-          },
+    verdict_stop (Collision lines) is =
+        let two = extract-collides H archive query is.found.proof _ is.found.found in (
+          inl (record {
+            place = is.place;
+            ours = is.ours;
+            theirs = is.theirs;
+            collides = record {
+              collision = (
+                asks,
+                record {
+                  archive = archive;
+                  index = index;
+                  query = query;
+                  asked = asked;
+                  bytes = bytes;
+                  file = file;
+                  proof = is.found.proof;
+                  accepted = is.found.accepted;
+                  is = is.found.found;
+                },
+              );
+              differ = two.0;
+              equal = two.1;
+            };
+            printed = is.printed;
+          }),
           kept,
         )
 
@@ -166,10 +164,10 @@ module _ (H : List ℕ → List ℕ) where
   collision_input files other collision has = absurd has
 
   pub collision_kept : (files : Files) (command : Command) (collision : Difference Place) → IsTold files → HasCollision H files command collision
-      → (refusal : InputRefusal) → IsRefused H files command refusal → ⊥
-  collision_kept files (Audit words) collision told (asks, is) refusal refused =
-      ranking_kept words.r words.query (IsIndexRefused H files words.index) asks (index_kept H files words.index is.archive told is.index) refusal refused
-  collision_kept files other collision told has refusal refused = has
+      → (line : List ℕ) → IsRefused H files command line → ⊥
+  collision_kept files (Audit words) collision told (asks, is) line refused =
+      ranking_kept words.r words.query (IsIndexRefused H files words.index) asks (index_kept H files words.index is.archive told is.index) line refused
+  collision_kept files other collision told has line refused = has
 
   pub collision_unserved : (files : Files) (command : Command) (collision : Difference Place) → IsTold files → HasCollision H files command collision
       → IsServed H files command → ⊥

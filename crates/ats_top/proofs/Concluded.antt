@@ -1,5 +1,5 @@
 -- What follows from how a command ended and what it printed.
-use Rattle.std.proofs.Common.{◌≡◌, ◌≢◌, ◌⊎◌, ◌≤◌, ◌∙◌, ℕ, Bool, true, false, List, length, string_bytes, String, Global, Some, None, IsSome, refl, sym, ap, subst, inl, inr, arith, take_all, if◌then◌else◌}
+use Rattle.std.proofs.Common.{◌≡◌, ◌≢◌, ◌⊎◌, ◌≤◌, ◌∙◌, ℕ, List, length, Some, None, IsSome, refl, sym, ap, subst, inl, inr, arith, take_all}
 use Rattle.ats_base.specs.Outside.{Rose, ShelfTold, Asked, Puts}
 use Rattle.ats_tree.specs.Differences.{Difference}
 use Rattle.ats_tree.specs.declared.hashed.Place.{Place}
@@ -19,15 +19,14 @@ use Rattle.ats_top.specs.Trial.{IsTrialRefused}
 use Rattle.ats_top.specs.Run.{Said, HasShelfCause, IsStopped, Ends, Ended, IsStatus, SinkFailed, DoorFailed, LinkFailed, Failed, HasTried, Ran}
 use Rattle.ats_top.specs.Serving.{Took}
 use Rattle.ats_top.specs.Counts.{CountsFaults}
-use Rattle.ats_top.specs.declared.stops.InputRefusal.{InputRefusal}
 use Rattle.ats_top.specs.declared.stops.Stop.{Stop}
-use Rattle.ats_top.specs.declared.stops.Stop.TheVariants.{Usage, Shelf, Input, Rejected, Memory, Link, Peer, Faults, Collision, Swept}
+use Rattle.ats_top.specs.declared.stops.Stop.TheVariants.{Usage, Shelf, Input, Rejected, Memory, Link, Peer, Faults, Collision}
 use Rattle.ats_top.proofs.Refused.{served_kept, done_kept, missing_kept, input_there, served_input, trial_asks, trial_kept, trial_done_kept}
 use Rattle.ats_top.proofs.LinkEnds.{links_there, links_refused, links_rejected, links_collided, links_served, links_files, unprinted_files, replied_stop, replied_done}
 use Rattle.ats_top.proofs.Rejecting.{input_kept, rejected_there, rejected_kept}
 use Rattle.ats_top.proofs.SweepKept.{found_kept}
 use Rattle.ats_top.proofs.OneSweep.{one_sweep_status}
-use Rattle.ats_top.proofs.SweepEnds.{never_right, swept_input, swept_kept, swept_unrejected, swept_uncollided, swept_unserved}
+use Rattle.ats_top.proofs.SweepEnds.{swept_input, swept_kept, swept_unrejected, swept_uncollided, swept_unserved}
 use Rattle.ats_top.proofs.AuditEnds.{collision_input, collision_kept, collision_unserved, collision_undone}
 
 -- the words of a command are one
@@ -41,29 +40,26 @@ no_command said command none some = let both = sym none ∙ some in cc
 never_done : (stop : Stop) → status_of_stop stop ≢ 0
 never_done Usage = omega arith
 never_done Shelf = omega arith
-never_done (Input refusal) = omega arith
-never_done (Rejected rejection) = omega arith
+never_done (Input line) = omega arith
+never_done (Rejected lines) = omega arith
 never_done Memory = omega arith
 never_done Link = omega arith
-never_done (Peer fault) = omega arith
+never_done (Peer line) = omega arith
 never_done (Faults count) = omega arith
-never_done (Collision place ours theirs) = omega arith
-never_done (Swept lines collides) = never_right collides
+never_done (Collision lines) = omega arith
 
 -- each end has a status
 has_status : (end : End) → IsStatus (status_of end)
 has_status (Done text) = inl refl
-has_status (Stopped text (Rejected rejection)) = inr (inl refl)
+has_status (Stopped text (Rejected lines)) = inr (inl refl)
 has_status (Stopped text Usage) = inr (inr (inl refl))
 has_status (Stopped text Shelf) = inr (inr (inr (inl refl)))
-has_status (Stopped text (Input refusal)) = inr (inr (inr (inr (inl refl))))
-has_status (Stopped text (Collision place ours theirs)) = inr (inr (inr (inr (inr (inl refl)))))
-has_status (Stopped text (Swept lines false)) = inr (inl refl)
-has_status (Stopped text (Swept lines true)) = inr (inr (inr (inr (inr (inl refl)))))
+has_status (Stopped text (Input line)) = inr (inr (inr (inr (inl refl))))
+has_status (Stopped text (Collision lines)) = inr (inr (inr (inr (inr (inl refl)))))
 has_status (Stopped text Memory) = inr (inr (inr (inr (inr (inr (inl refl))))))
 has_status (Unprinted text) = inr (inr (inr (inr (inr (inr (inr (inl refl)))))))
 has_status (Stopped text Link) = inr (inr (inr (inr (inr (inr (inr (inr (inl refl))))))))
-has_status (Stopped text (Peer fault)) = inr (inr (inr (inr (inr (inr (inr (inr (inr (inl refl)))))))))
+has_status (Stopped text (Peer line)) = inr (inr (inr (inr (inr (inr (inr (inr (inr (inl refl)))))))))
 has_status (Stopped text (Faults count)) = inr (inr (inr (inr (inr (inr (inr (inr (inr (inr refl)))))))))
 
 -- an end whose text may all be printed
@@ -142,14 +138,13 @@ module _ (H : List ℕ → List ℕ) (said : List (List ℕ)) (before now : Outs
   unsaid_end none (Done text) printed ends = absurd (no_command said ends.0 none ends.1)
   unsaid_end none (Stopped text Usage) printed ends = refl
   unsaid_end none (Stopped text Shelf) printed ends = absurd (no_command said ends.0 none ends.1)
-  unsaid_end none (Stopped text (Input refusal)) printed ends = absurd (no_command said ends.0 none ends.1)
-  unsaid_end none (Stopped text (Rejected rejection)) printed ends = absurd (no_command said ends.0 none ends.1)
+  unsaid_end none (Stopped text (Input line)) printed ends = absurd (no_command said ends.0 none ends.1)
+  unsaid_end none (Stopped text (Rejected lines)) printed ends = absurd (no_command said ends.0 none ends.1)
   unsaid_end none (Stopped text Memory) printed ends = absurd (no_command said ends.0 none ends.1)
   unsaid_end none (Stopped text Link) printed ends = absurd (no_command said ends.0 none ends.1)
-  unsaid_end none (Stopped text (Peer fault)) printed ends = absurd (no_command said ends.0 none ends.1)
+  unsaid_end none (Stopped text (Peer line)) printed ends = absurd (no_command said ends.0 none ends.1)
   unsaid_end none (Stopped text (Faults count)) printed ends = absurd (no_command said ends.0 none ends.1)
-  unsaid_end none (Stopped text (Collision place ours theirs)) printed ends = absurd (no_command said ends.0 none ends.1)
-  unsaid_end none (Stopped text (Swept lines collides)) printed ends = absurd (no_command said ends.0 none ends.1)
+  unsaid_end none (Stopped text (Collision lines)) printed ends = absurd (no_command said ends.0 none ends.1)
 
   -- what the status is of what the command of the words did, and of why it stopped, it is of their end
   module _ (P : ℕ → Type 0) (command : Command) (is : command_of said ≡ Some command)
@@ -163,14 +158,13 @@ module _ (H : List ℕ → List ℕ) (said : List (List ℕ)) (before now : Outs
     by_end (Done text) printed ends = done text (its (λ c. IsDone H before now c text) command ends is)
     by_end (Stopped text Usage) printed (empty, none, same) = absurd (no_command said command none is)
     by_end (Stopped text Shelf) printed ends = stop_end text Shelf ends
-    by_end (Stopped text (Input refusal)) printed ends = stop_end text (Input refusal) ends
-    by_end (Stopped text (Rejected rejection)) printed ends = stop_end text (Rejected rejection) ends
+    by_end (Stopped text (Input line)) printed ends = stop_end text (Input line) ends
+    by_end (Stopped text (Rejected lines)) printed ends = stop_end text (Rejected lines) ends
     by_end (Stopped text Memory) printed ends = stop_end text Memory ends
     by_end (Stopped text Link) printed ends = stop_end text Link ends
-    by_end (Stopped text (Peer fault)) printed ends = stop_end text (Peer fault) ends
+    by_end (Stopped text (Peer line)) printed ends = stop_end text (Peer line) ends
     by_end (Stopped text (Faults count)) printed ends = stop_end text (Faults count) ends
-    by_end (Stopped text (Collision place ours theirs)) printed ends = stop_end text (Collision place ours theirs) ends
-    by_end (Stopped text (Swept lines collides)) printed ends = stop_end text (Swept lines collides) ends
+    by_end (Stopped text (Collision lines)) printed ends = stop_end text (Collision lines) ends
 
   -- of the command of these words
   module _ (command : Command) where
@@ -179,16 +173,19 @@ module _ (H : List ℕ → List ℕ) (said : List (List ℕ)) (before now : Outs
         → (status_of_stop stop ≡ 3) ⊎ (status_of_stop stop ≡ 6)
     missing_stop lacks text Usage (inl stops) = absurd stops.1
     missing_stop lacks text Shelf (inl stops) = inl refl
-    missing_stop lacks text (Input refusal) (inl stops) = absurd (missing_kept H before.shelf.files command lacks refusal stops.1.0)
-    missing_stop lacks text (Rejected rejection) (inl stops) = absurd (rejected_there H before.shelf.files command lacks rejection stops.1.0)
+    missing_stop lacks text (Input line) (inl stops) = absurd (missing_kept H before.shelf.files command lacks line stops.1.0)
+    missing_stop lacks text (Rejected lines) (inl stops) = elim stops.1.0 [
+      | inl is ↦ absurd (rejected_there H before.shelf.files command lacks is.0 is.1)
+      | inr swept ↦ absurd (input_there H before.shelf.files command (swept_input H before.shelf.files command 1 lines swept) lacks)
+    ]
     missing_stop lacks text Memory (inl stops) = inr refl
     missing_stop lacks text Link (inl stops) = absurd stops.1
-    missing_stop lacks text (Peer fault) (inl stops) = absurd stops.1
+    missing_stop lacks text (Peer line) (inl stops) = absurd stops.1
     missing_stop lacks text (Faults count) (inl stops) = absurd stops.1
-    missing_stop lacks text (Collision place ours theirs) (inl stops) =
-        absurd (input_there H before.shelf.files command (collision_input H before.shelf.files command _ stops.1.0.collision) lacks)
-    missing_stop lacks text (Swept lines collides) (inl stops) =
-        absurd (input_there H before.shelf.files command (swept_input H before.shelf.files command (string_bytes lines) collides stops.1.0) lacks)
+    missing_stop lacks text (Collision lines) (inl stops) = elim stops.1.0 [
+      | inl is ↦ absurd (input_there H before.shelf.files command (collision_input H before.shelf.files command _ is.collides.collision) lacks)
+      | inr swept ↦ absurd (input_there H before.shelf.files command (swept_input H before.shelf.files command 5 lines swept) lacks)
+    ]
     missing_stop lacks text stop (inr links) = absurd (links_there H before now command text stop links lacks)
 
     -- a fault of the shelf, if no file is missing
@@ -197,21 +194,24 @@ module _ (H : List ℕ → List ℕ) (said : List (List ℕ)) (before now : Outs
     shelf_stop k there (inr lacks) = absurd (there lacks)
 
     -- a refused input is served by no run
-    refused_stop : IsTold before.shelf.files → (refusal : InputRefusal) → IsRefused H before.shelf.files command refusal → (text : List ℕ) (stop : Stop) → IsStopped H before now command text stop
+    refused_stop : IsTold before.shelf.files → (line : List ℕ) → IsRefused H before.shelf.files command line → (text : List ℕ) (stop : Stop) → IsStopped H before now command text stop
         → Comes 4 (status_of_stop stop)
-    refused_stop told refusal cause text Usage (inl stops) = absurd stops.1
-    refused_stop told refusal cause text Shelf (inl stops) = shelf_stop 4 (λ lacks. missing_kept H before.shelf.files command lacks refusal cause) stops.1.0
-    refused_stop told refusal cause text (Input found) (inl stops) = inl refl
-    refused_stop told refusal cause text (Rejected rejection) (inl stops) = absurd (rejected_kept H before.shelf.files command rejection told stops.1.0 refusal cause)
-    refused_stop told refusal cause text Memory (inl stops) = inr (inl refl)
-    refused_stop told refusal cause text Link (inl stops) = absurd stops.1
-    refused_stop told refusal cause text (Peer fault) (inl stops) = absurd stops.1
-    refused_stop told refusal cause text (Faults count) (inl stops) = absurd stops.1
-    refused_stop told refusal cause text (Collision place ours theirs) (inl stops) =
-        absurd (collision_kept H before.shelf.files command _ told stops.1.0.collision refusal cause)
-    refused_stop told refusal cause text (Swept lines collides) (inl stops) =
-        absurd (swept_kept H before.shelf.files command (string_bytes lines) collides told stops.1.0 refusal cause)
-    refused_stop told refusal cause text stop (inr links) = elim (links_refused H before now command text stop told links refusal cause) [
+    refused_stop told line cause text Usage (inl stops) = absurd stops.1
+    refused_stop told line cause text Shelf (inl stops) = shelf_stop 4 (λ lacks. missing_kept H before.shelf.files command lacks line cause) stops.1.0
+    refused_stop told line cause text (Input other) (inl stops) = inl refl
+    refused_stop told line cause text (Rejected lines) (inl stops) = elim stops.1.0 [
+      | inl is ↦ absurd (rejected_kept H before.shelf.files command is.0 told is.1 line cause)
+      | inr swept ↦ absurd (swept_kept H before.shelf.files command 1 lines told swept line cause)
+    ]
+    refused_stop told line cause text Memory (inl stops) = inr (inl refl)
+    refused_stop told line cause text Link (inl stops) = absurd stops.1
+    refused_stop told line cause text (Peer other) (inl stops) = absurd stops.1
+    refused_stop told line cause text (Faults count) (inl stops) = absurd stops.1
+    refused_stop told line cause text (Collision lines) (inl stops) = elim stops.1.0 [
+      | inl is ↦ absurd (collision_kept H before.shelf.files command _ told is.collides.collision line cause)
+      | inr swept ↦ absurd (swept_kept H before.shelf.files command 5 lines told swept line cause)
+    ]
+    refused_stop told line cause text stop (inr links) = elim (links_refused H before now command text stop told links line cause) [
       | inl is ↦ inl is
       | inr memory ↦ inr (inl memory)
     ]
@@ -221,16 +221,16 @@ module _ (H : List ℕ → List ℕ) (said : List (List ℕ)) (before now : Outs
         → Comes 1 (status_of_stop stop)
     rejected_stop told rejection cause text Usage (inl stops) = absurd stops.1
     rejected_stop told rejection cause text Shelf (inl stops) = shelf_stop 1 (λ lacks. rejected_there H before.shelf.files command lacks rejection cause) stops.1.0
-    rejected_stop told rejection cause text (Input refusal) (inl stops) = absurd (rejected_kept H before.shelf.files command rejection told cause refusal stops.1.0)
-    rejected_stop told rejection cause text (Rejected found) (inl stops) = inl refl
+    rejected_stop told rejection cause text (Input line) (inl stops) = absurd (rejected_kept H before.shelf.files command rejection told cause line stops.1.0)
+    rejected_stop told rejection cause text (Rejected lines) (inl stops) = inl refl
     rejected_stop told rejection cause text Memory (inl stops) = inr (inl refl)
     rejected_stop told rejection cause text Link (inl stops) = absurd stops.1
-    rejected_stop told rejection cause text (Peer fault) (inl stops) = absurd stops.1
+    rejected_stop told rejection cause text (Peer line) (inl stops) = absurd stops.1
     rejected_stop told rejection cause text (Faults count) (inl stops) = absurd stops.1
-    rejected_stop told rejection cause text (Collision place ours theirs) (inl stops) =
-        absurd (input_kept H before.shelf.files command told (collision_input H before.shelf.files command _ stops.1.0.collision) rejection cause)
-    rejected_stop told rejection cause text (Swept lines collides) (inl stops) =
-        absurd (swept_unrejected H before.shelf.files command (string_bytes lines) collides stops.1.0 rejection cause)
+    rejected_stop told rejection cause text (Collision lines) (inl stops) = elim stops.1.0 [
+      | inl is ↦ absurd (input_kept H before.shelf.files command told (collision_input H before.shelf.files command _ is.collides.collision) rejection cause)
+      | inr swept ↦ absurd (swept_unrejected H before.shelf.files command 5 lines swept rejection cause)
+    ]
     rejected_stop told rejection cause text stop (inr links) = absurd (links_rejected H before now command text stop links rejection cause)
 
     -- no other run reports a proof that has a collision
@@ -239,16 +239,16 @@ module _ (H : List ℕ → List ℕ) (said : List (List ℕ)) (before now : Outs
     collided_stop told collision has text Usage (inl stops) = absurd stops.1
     collided_stop told collision has text Shelf (inl stops) =
         shelf_stop 5 (input_there H before.shelf.files command (collision_input H before.shelf.files command collision has)) stops.1.0
-    collided_stop told collision has text (Input refusal) (inl stops) = absurd (collision_kept H before.shelf.files command collision told has refusal stops.1.0)
-    collided_stop told collision has text (Rejected rejection) (inl stops) =
-        absurd (input_kept H before.shelf.files command told (collision_input H before.shelf.files command collision has) rejection stops.1.0)
+    collided_stop told collision has text (Input line) (inl stops) = absurd (collision_kept H before.shelf.files command collision told has line stops.1.0)
+    collided_stop told collision has text (Rejected lines) (inl stops) = elim stops.1.0 [
+      | inl is ↦ absurd (input_kept H before.shelf.files command told (collision_input H before.shelf.files command collision has) is.0 is.1)
+      | inr swept ↦ absurd (swept_uncollided H before.shelf.files command 1 lines swept collision has)
+    ]
     collided_stop told collision has text Memory (inl stops) = inr (inl refl)
     collided_stop told collision has text Link (inl stops) = absurd stops.1
-    collided_stop told collision has text (Peer fault) (inl stops) = absurd stops.1
+    collided_stop told collision has text (Peer line) (inl stops) = absurd stops.1
     collided_stop told collision has text (Faults count) (inl stops) = absurd stops.1
-    collided_stop told collision has text (Collision place ours theirs) (inl stops) = inl refl
-    collided_stop told collision has text (Swept lines collides) (inl stops) =
-        absurd (swept_uncollided H before.shelf.files command (string_bytes lines) collides stops.1.0 collision has)
+    collided_stop told collision has text (Collision lines) (inl stops) = inl refl
     collided_stop told collision has text stop (inr links) = absurd (links_collided H before now command text stop links collision has)
 
     -- what is within the limits is done, unless memory runs out or the shelf or the door fails
@@ -257,16 +257,19 @@ module _ (H : List ℕ → List ℕ) (said : List (List ℕ)) (before now : Outs
     served_stop told served text Usage (inl stops) = absurd stops.1
     served_stop told served text Shelf (inl stops) =
         inr (shelf_stop 0 (input_there H before.shelf.files command (served_input H before.shelf.files command served)) stops.1.0)
-    served_stop told served text (Input refusal) (inl stops) = absurd (served_kept H before.shelf.files command told served refusal stops.1.0)
-    served_stop told served text (Rejected rejection) (inl stops) =
-        absurd (input_kept H before.shelf.files command told (served_input H before.shelf.files command served) rejection stops.1.0)
+    served_stop told served text (Input line) (inl stops) = absurd (served_kept H before.shelf.files command told served line stops.1.0)
+    served_stop told served text (Rejected lines) (inl stops) = elim stops.1.0 [
+      | inl is ↦ absurd (input_kept H before.shelf.files command told (served_input H before.shelf.files command served) is.0 is.1)
+      | inr swept ↦ absurd (swept_unserved H before.shelf.files command 1 lines (omega arith) told swept served)
+    ]
     served_stop told served text Memory (inl stops) = inr (inr (inl refl))
     served_stop told served text Link (inl stops) = absurd stops.1
-    served_stop told served text (Peer fault) (inl stops) = absurd stops.1
+    served_stop told served text (Peer line) (inl stops) = absurd stops.1
     served_stop told served text (Faults count) (inl stops) = absurd stops.1
-    served_stop told served text (Collision place ours theirs) (inl stops) = absurd (collision_unserved H before.shelf.files command _ told stops.1.0.collision served)
-    served_stop told served text (Swept lines collides) (inl stops) =
-        absurd (swept_unserved H before.shelf.files command (string_bytes lines) collides told stops.1.0 served)
+    served_stop told served text (Collision lines) (inl stops) = elim stops.1.0 [
+      | inl is ↦ absurd (collision_unserved H before.shelf.files command _ told is.collides.collision served)
+      | inr swept ↦ absurd (swept_unserved H before.shelf.files command 5 lines (omega arith) told swept served)
+    ]
     served_stop told served text stop (inr links) = elim (links_served H before now command text stop links served) [
       | inl memory ↦ inr (inr (inl memory))
       | inr door ↦ inl door
@@ -278,14 +281,13 @@ module _ (H : List ℕ → List ℕ) (said : List (List ℕ)) (before now : Outs
     files_stop : (text : List ℕ) (stop : Stop) → IsStopped H before now command text stop → FilesNow
     files_stop text Usage (inl stops) = absurd stops.1
     files_stop text Shelf (inl stops) = stops.1.1
-    files_stop text (Input refusal) (inl stops) = inl stops.1.1
-    files_stop text (Rejected rejection) (inl stops) = inl stops.1.1
+    files_stop text (Input line) (inl stops) = inl stops.1.1
+    files_stop text (Rejected lines) (inl stops) = inl stops.1.1
     files_stop text Memory (inl stops) = inl stops.1
     files_stop text Link (inl stops) = absurd stops.1
-    files_stop text (Peer fault) (inl stops) = absurd stops.1
+    files_stop text (Peer line) (inl stops) = absurd stops.1
     files_stop text (Faults count) (inl stops) = absurd stops.1
-    files_stop text (Collision place ours theirs) (inl stops) = inl stops.1.1
-    files_stop text (Swept lines collides) (inl stops) = inl stops.1.1
+    files_stop text (Collision lines) (inl stops) = inl stops.1.1
     files_stop text stop (inr links) = inl (links_files H before now command text stop links)
 
   missing_end : Said said (λ command. LacksFile H before.shelf.files command) → (end : End) → IsPrinted end → Ends H before now said end
@@ -293,10 +295,10 @@ module _ (H : List ℕ → List ℕ) (said : List (List ℕ)) (before now : Outs
   missing_end (command, is, lacks) = by_end (λ status. (status ≡ 3) ⊎ (status ≡ 6)) command is
       (λ text done. absurd (input_there H before.shelf.files command (done_input H before now command text done) lacks)) (missing_stop command lacks)
 
-  refused_end : IsTold before.shelf.files → Said said (λ command. (refusal : InputRefusal) × IsRefused H before.shelf.files command refusal)
+  refused_end : IsTold before.shelf.files → Said said (λ command. (line : List ℕ) × IsRefused H before.shelf.files command line)
       → (end : End) → IsPrinted end → Ends H before now said end → Comes 4 (status_of end)
-  refused_end told (command, is, (refusal, cause)) = by_end (Comes 4) command is
-      (λ text done. absurd (done_kept H before now command text told done refusal cause)) (refused_stop command told refusal cause)
+  refused_end told (command, is, (line, cause)) = by_end (Comes 4) command is
+      (λ text done. absurd (done_kept H before now command text told done line cause)) (refused_stop command told line cause)
 
   rejected_end : IsTold before.shelf.files → Said said (λ command. (rejection : Rejection) × IsRejected H before.shelf.files command rejection)
       → (end : End) → IsPrinted end → Ends H before now said end → Comes 1 (status_of end)
@@ -313,18 +315,17 @@ module _ (H : List ℕ → List ℕ) (said : List (List ℕ)) (before now : Outs
   served_end told (command, is, served) = by_end IsServedBy command is (λ text done. inr (inl refl)) (served_stop command told served)
 
   -- a trial is done, or is refused, or runs out of memory
-  module _ (words : TrialWords) (P : ℕ → Type 0) (refused : (refusal : InputRefusal) → IsTrialRefused H words.number refusal → P 4) (memory : P 6) where
+  module _ (words : TrialWords) (P : ℕ → Type 0) (refused : (line : List ℕ) → IsTrialRefused H words.number line → P 4) (memory : P 6) where
     trial_stop : (text : List ℕ) (stop : Stop) → IsStopped H before now (Trial words) text stop → P (status_of_stop stop)
     trial_stop text Usage (inl stops) = absurd stops.1
     trial_stop text Shelf (inl stops) = elim stops.1.0 [ inl rose ↦ absurd rose.0 | inr lacks ↦ absurd lacks ]
-    trial_stop text (Input refusal) (inl stops) = refused refusal stops.1.0
-    trial_stop text (Rejected rejection) (inl stops) = absurd stops.1.0
+    trial_stop text (Input line) (inl stops) = refused line stops.1.0
+    trial_stop text (Rejected lines) (inl stops) = elim stops.1.0 [ inl is ↦ absurd is.1 | inr swept ↦ absurd swept ]
     trial_stop text Memory (inl stops) = memory
     trial_stop text Link (inl stops) = absurd stops.1
-    trial_stop text (Peer fault) (inl stops) = absurd stops.1
+    trial_stop text (Peer line) (inl stops) = absurd stops.1
     trial_stop text (Faults count) (inl stops) = absurd stops.1
-    trial_stop text (Collision place ours theirs) (inl stops) = absurd stops.1.0.collision
-    trial_stop text (Swept lines collides) (inl stops) = absurd stops.1.0
+    trial_stop text (Collision lines) (inl stops) = elim stops.1.0 [ inl is ↦ absurd is.collides.collision | inr swept ↦ absurd swept ]
     trial_stop text stop (inr links) = absurd links
 
     trial_end : command_of said ≡ Some (Trial words) → ((text : List ℕ) → IsDone H before now (Trial words) text → P 0)
@@ -339,23 +340,17 @@ module _ (H : List ℕ → List ℕ) (said : List (List ℕ)) (before now : Outs
     sweeps : (text : List ℕ) (status : ℕ) → IsSwept H before.shelf.files words status text → Sweeps status
     sweeps text status swept = inl (sym swept.comes ∙ one_sweep_status H before.shelf.files words swept.findings findings told swept.found found)
 
-    -- the status of not all being right
-    sweeps_so : (text : List ℕ) (lines : String Global) (collides : Bool) → IsSwept H before.shelf.files words (if collides then 5 else 1) text
-        → Sweeps (status_of_stop (Swept lines collides))
-    sweeps_so text lines collides swept = sweeps text (if collides then 5 else 1) swept
-
     sweep_stop : (text : List ℕ) (stop : Stop) → IsStopped H before now (Sweep words) text stop → Sweeps (status_of_stop stop)
     sweep_stop text Usage (inl stops) = absurd stops.1
     sweep_stop text Shelf (inl stops) =
         shelf_stop (Sweep words) (status_of_findings findings) (λ lacks. input_there H before.shelf.files (Sweep words) (findings, found) lacks) stops.1.0
-    sweep_stop text (Input refusal) (inl stops) = absurd (found_kept H before.shelf.files words findings told found refusal stops.1.0)
-    sweep_stop text (Rejected rejection) (inl stops) = absurd stops.1.0
+    sweep_stop text (Input line) (inl stops) = absurd (found_kept H before.shelf.files words findings told found line stops.1.0)
+    sweep_stop text (Rejected lines) (inl stops) = elim stops.1.0 [ inl is ↦ absurd is.1 | inr swept ↦ sweeps lines 1 swept ]
     sweep_stop text Memory (inl stops) = inr (inl refl)
     sweep_stop text Link (inl stops) = absurd stops.1
-    sweep_stop text (Peer fault) (inl stops) = absurd stops.1
+    sweep_stop text (Peer line) (inl stops) = absurd stops.1
     sweep_stop text (Faults count) (inl stops) = absurd stops.1
-    sweep_stop text (Collision place ours theirs) (inl stops) = absurd stops.1.0.collision
-    sweep_stop text (Swept lines collides) (inl stops) = sweeps_so (string_bytes lines) lines collides stops.1.0
+    sweep_stop text (Collision lines) (inl stops) = elim stops.1.0 [ inl is ↦ absurd is.collides.collision | inr swept ↦ sweeps lines 5 swept ]
     sweep_stop text stop (inr links) = absurd links
 
     sweep_end : command_of said ≡ Some (Sweep words) → (end : End) → IsPrinted end → Ends H before now said end → Sweeps (status_of end)
@@ -383,14 +378,13 @@ module _ (H : List ℕ → List ℕ) (said : List (List ℕ)) (before now : Outs
   files_end (Done text) ends = or_said ends.0 ends.1 (done_changes H before now ends.0 text ends.2)
   files_end (Stopped text Usage) (empty, none, same) = inl same
   files_end (Stopped text Shelf) ends = stop_files text Shelf ends
-  files_end (Stopped text (Input refusal)) ends = stop_files text (Input refusal) ends
-  files_end (Stopped text (Rejected rejection)) ends = stop_files text (Rejected rejection) ends
+  files_end (Stopped text (Input line)) ends = stop_files text (Input line) ends
+  files_end (Stopped text (Rejected lines)) ends = stop_files text (Rejected lines) ends
   files_end (Stopped text Memory) ends = stop_files text Memory ends
   files_end (Stopped text Link) ends = stop_files text Link ends
-  files_end (Stopped text (Peer fault)) ends = stop_files text (Peer fault) ends
+  files_end (Stopped text (Peer line)) ends = stop_files text (Peer line) ends
   files_end (Stopped text (Faults count)) ends = stop_files text (Faults count) ends
-  files_end (Stopped text (Collision place ours theirs)) ends = stop_files text (Collision place ours theirs) ends
-  files_end (Stopped text (Swept lines collides)) ends = stop_files text (Swept lines collides) ends
+  files_end (Stopped text (Collision lines)) ends = stop_files text (Collision lines) ends
   files_end (Unprinted text) ends = inl (unprinted_files H before now ends.0 text ends.2)
 
   abbrev Served : Type 0
@@ -481,11 +475,11 @@ module _ (H : List ℕ → List ℕ) (said : List (List ℕ)) (before now : Outs
 
     tried : Ended H said before now result → (words : TrialWords) → command_of said ≡ Some (Trial words) → HasTried H words.number before now result
     tried ended words is = record {
-      status = with_three (tells Tries ended (trial_end words Tries (λ refusal cause. inr (inl refl)) (inr (inr refl)) is (λ text done. inl refl)));
+      status = with_three (tells Tries ended (trial_end words Tries (λ line cause. inr (inl refl)) (inr (inr refl)) is (λ text done. inl refl)));
       complete = λ served. with_sink 0 6 (tells (λ status. (status ≡ 0) ⊎ (status ≡ 6)) ended (trial_end words (λ status. (status ≡ 0) ⊎ (status ≡ 6))
-          (λ refusal cause. absurd (trial_kept H words.number served refusal cause)) (inr refl) is (λ text done. inl refl)));
-      refused = λ refusal cause. with_sink 4 6 (tells (λ status. (status ≡ 4) ⊎ (status ≡ 6)) ended (trial_end words (λ status. (status ≡ 4) ⊎ (status ≡ 6))
-          (λ other also. inl refl) (inr refl) is (λ text done. absurd (trial_done_kept H words.number text done.0 refusal cause))));
+          (λ line cause. absurd (trial_kept H words.number served line cause)) (inr refl) is (λ text done. inl refl)));
+      refused = λ line cause. with_sink 4 6 (tells (λ status. (status ≡ 4) ⊎ (status ≡ 6)) ended (trial_end words (λ status. (status ≡ 4) ⊎ (status ≡ 6))
+          (λ other also. inl refl) (inr refl) is (λ text done. absurd (trial_done_kept H words.number text done.0 line cause))));
     }
 
     status : Ended H said before now result → IsStatus result
@@ -523,7 +517,7 @@ module _ (H : List ℕ → List ℕ) (said : List (List ℕ)) (before now : Outs
       done = done ended;
       unsaid = λ none. tells (λ status. status ≡ 2) ended (unsaid_end none);
       missing = λ lacks. with_sink 3 6 (tells (λ status. (status ≡ 3) ⊎ (status ≡ 6)) ended (missing_end lacks));
-      refused = λ told refusal. with_faults 4 (tells (Comes 4) ended (refused_end told refusal));
+      refused = λ told line. with_faults 4 (tells (Comes 4) ended (refused_end told line));
       rejected = λ told rejection. with_faults 1 (tells (Comes 1) ended (rejected_end told rejection));
       collided = λ told collision. with_faults 5 (tells (Comes 5) ended (collided_end told collision));
       complete = λ told asks. with_door (tells IsServedBy ended (served_end told asks));

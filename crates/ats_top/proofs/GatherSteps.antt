@@ -7,11 +7,12 @@ use Rattle.ats_base.proofs.Public.{asked_none, asked_then, asked_as}
 use Rattle.ats_top.specs.Read.{Files}
 use Rattle.ats_top.specs.Reading.{AsListed, IsGood, ReadsThen, listed_files, StoresAtMostOnce, Reads}
 use Rattle.ats_top.specs.Gathered.{IsGathered, AreGathered, PassesLimit, size, total}
+use Rattle.ats_top.specs.Stops.{line_of_long_proofs}
 use Rattle.ats_top.specs.Sweeping.{entry_names, MissingStop, GatheringStop, ReadsProofs}
 use Rattle.ats_top.specs.declared.gathering.Gathered.{Gathered}
 use Rattle.ats_top.specs.declared.listing.Entry.{Entry}
 use Rattle.ats_top.specs.declared.stops.Stop.{Stop}
-use Rattle.ats_top.specs.declared.stops.Stop.TheVariants.{Usage, Shelf, Input, Rejected, Memory, Link, Peer, Faults, Collision, Swept}
+use Rattle.ats_top.specs.declared.stops.Stop.TheVariants.{Usage, Shelf, Input, Rejected, Memory, Link, Peer, Faults, Collision}
 
 -- ---- names
 
@@ -116,14 +117,13 @@ module _ (before mid now : ShelfTold) (entries : List Entry) (i : ℕ) (entry : 
     gathered = gathered_first;
     missing = subst (λ (files : Files). IsMissing files entry.proof.now) so_far.files missing;
   })
-  stops_at (Input refusal) stops = absurd stops
-  stops_at (Rejected rejection) stops = absurd stops
+  stops_at (Input line) stops = absurd stops
+  stops_at (Rejected lines) stops = absurd stops
   stops_at Memory stops = tt
   stops_at Link stops = absurd stops
-  stops_at (Peer fault) stops = absurd stops
+  stops_at (Peer line) stops = absurd stops
   stops_at (Faults count) stops = absurd stops
-  stops_at (Collision place ours theirs) stops = absurd stops
-  stops_at (Swept lines collides) stops = absurd stops
+  stops_at (Collision lines) stops = absurd stops
 
   module _ (proof : Gathered) (gathered : IsGathered mid.files entry.proof.now proof) where
     gathered_last : IsGathered before.files entry.proof.now proof
@@ -176,6 +176,11 @@ module _ (before mid now : ShelfTold) (entries : List Entry) (i : ℕ) (entry : 
       where
         next : suc i ≡ i + 1
         next = omega arith
+
+-- so gathering stops
+pub passes_stop : (before now : ShelfTold) (names : List (List ℕ)) (bytes : ℕ) (stop : Stop) → stop ≡ Input (line_of_long_proofs bytes)
+    → PassesLimit before.files names bytes → GatheringStop before now names stop
+passes_stop before now names bytes stop is passes = subst (GatheringStop before now names) (sym is) (bytes, passes, refl)
 
 take_all_entries : (entries : List Entry) (i : ℕ) → length entries ≤ i → take i entries ≡ entries
 take_all_entries [] zero past = refl

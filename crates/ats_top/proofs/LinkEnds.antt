@@ -16,9 +16,8 @@ use Rattle.ats_top.specs.Audited.{HasCollision}
 use Rattle.ats_top.specs.Done.{IsDone, IsServed}
 use Rattle.ats_top.specs.Stops.{HasLine, status_of_stop}
 use Rattle.ats_top.specs.Run.{LinksStop, IsStopped, IsUnprinted, DoorFailed}
-use Rattle.ats_top.specs.declared.stops.InputRefusal.{InputRefusal}
 use Rattle.ats_top.specs.declared.stops.Stop.{Stop}
-use Rattle.ats_top.specs.declared.stops.Stop.TheVariants.{Usage, Shelf, Input, Rejected, Memory, Link, Peer, Faults, Collision, Swept}
+use Rattle.ats_top.specs.declared.stops.Stop.TheVariants.{Usage, Shelf, Input, Rejected, Memory, Link, Peer, Faults, Collision}
 use Rattle.ats_top.proofs.Refused.{served_kept, input_there}
 use Rattle.ats_top.proofs.Linked.{serving_index, serving_status, serving_line}
 use Rattle.ats_top.proofs.AskEnds as asking
@@ -40,18 +39,18 @@ module _ (H : List ℕ → List ℕ) (before now : Outside) where
   links_there (Trial words) text stop links lacks = links
 
   pub links_refused : (command : Command) (text : List ℕ) (stop : Stop) → IsTold before.shelf.files → LinksStop H before now command text stop
-      → (refusal : InputRefusal) → IsRefused H before.shelf.files command refusal → (status_of_stop stop ≡ 4) ⊎ (status_of_stop stop ≡ 6)
-  links_refused (Rank words) text stop told links refusal cause = absurd links
-  links_refused (Build words) text stop told links refusal cause = absurd links
-  links_refused (Root words) text stop told links refusal cause = absurd links
-  links_refused (Prove words) text stop told links refusal cause = absurd links
-  links_refused (Verify words) text stop told links refusal cause = absurd links
-  links_refused (Ask words) text stop told links refusal cause = refused_asks H before.caller now.caller words refusal cause stop links.1
-  links_refused (Serve words) text stop told links refusal cause =
-      absurd (served_kept H before.shelf.files (Serve words) told (serving_index H before.shelf.files words before.door now.door text stop links.0) refusal cause)
-  links_refused (Audit words) text stop told links refusal cause = absurd links
-  links_refused (Sweep words) text stop told links refusal cause = absurd links
-  links_refused (Trial words) text stop told links refusal cause = absurd links
+      → (line : List ℕ) → IsRefused H before.shelf.files command line → (status_of_stop stop ≡ 4) ⊎ (status_of_stop stop ≡ 6)
+  links_refused (Rank words) text stop told links line cause = absurd links
+  links_refused (Build words) text stop told links line cause = absurd links
+  links_refused (Root words) text stop told links line cause = absurd links
+  links_refused (Prove words) text stop told links line cause = absurd links
+  links_refused (Verify words) text stop told links line cause = absurd links
+  links_refused (Ask words) text stop told links line cause = refused_asks H before.caller now.caller words line cause stop links.1
+  links_refused (Serve words) text stop told links line cause =
+      absurd (served_kept H before.shelf.files (Serve words) told (serving_index H before.shelf.files words before.door now.door text stop links.0) line cause)
+  links_refused (Audit words) text stop told links line cause = absurd links
+  links_refused (Sweep words) text stop told links line cause = absurd links
+  links_refused (Trial words) text stop told links line cause = absurd links
 
   pub links_rejected : (command : Command) (text : List ℕ) (stop : Stop) → LinksStop H before now command text stop
       → (rejection : Rejection) → IsRejected H before.shelf.files command rejection → ⊥
@@ -132,15 +131,14 @@ module _ (H : List ℕ → List ℕ) (before now : Outside) where
         → Replies (status_of_stop stop)
     ask_stop words decides text Usage (inl stops) = absurd stops.1
     ask_stop words decides text Shelf (inl stops) = elim stops.1.0 [ inl rose ↦ absurd rose.0 | inr lacks ↦ absurd lacks ]
-    ask_stop words decides text (Input refusal) (inl stops) =
-        absurd (asked_refused H before.caller now.caller words (decided_asks H before.caller now.caller words k decides) refusal stops.1.0)
-    ask_stop words decides text (Rejected rejection) (inl stops) = absurd stops.1.0
+    ask_stop words decides text (Input line) (inl stops) =
+        absurd (asked_refused H before.caller now.caller words (decided_asks H before.caller now.caller words k decides) line stops.1.0)
+    ask_stop words decides text (Rejected lines) (inl stops) = elim stops.1.0 [ inl is ↦ absurd is.1 | inr swept ↦ absurd swept ]
     ask_stop words decides text Memory (inl stops) = inr (inl refl)
     ask_stop words decides text Link (inl stops) = absurd stops.1
-    ask_stop words decides text (Peer fault) (inl stops) = absurd stops.1
+    ask_stop words decides text (Peer line) (inl stops) = absurd stops.1
     ask_stop words decides text (Faults count) (inl stops) = absurd stops.1
-    ask_stop words decides text (Collision place ours theirs) (inl stops) = absurd stops.1.0.collision
-    ask_stop words decides text (Swept lines collides) (inl stops) = absurd stops.1.0
+    ask_stop words decides text (Collision lines) (inl stops) = elim stops.1.0 [ inl is ↦ absurd is.collides.collision | inr swept ↦ absurd swept ]
     ask_stop words decides text stop (inr links) = stop_decides H before.caller now.caller words tells k decides stop links.1
 
     pub replied_stop : (command : Command) → ReplyDecides H before.caller now.caller command k → (text : List ℕ) (stop : Stop) → IsStopped H before now command text stop

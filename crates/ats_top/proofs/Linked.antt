@@ -9,7 +9,7 @@ use Rattle.ats_top.specs.Answering.{gives}
 use Rattle.ats_top.specs.Served.{AreAllServed, ServingStop}
 use Rattle.ats_top.specs.Run.{HasRisen, DoorFailed}
 use Rattle.ats_top.specs.declared.stops.Stop.{Stop}
-use Rattle.ats_top.specs.declared.stops.Stop.TheVariants.{Usage, Shelf, Input, Rejected, Memory, Link, Peer, Faults, Collision, Swept}
+use Rattle.ats_top.specs.declared.stops.Stop.TheVariants.{Usage, Shelf, Input, Rejected, Memory, Link, Peer, Faults, Collision}
 use Rattle.ats_top.proofs.Opened.{faults_rise}
 
 module _ (H : List ℕ → List ℕ) (files : Files) (words : ServeWords) (before now : DoorTold) (text : List ℕ) where
@@ -21,11 +21,10 @@ module _ (H : List ℕ → List ℕ) (files : Files) (words : ServeWords) (befor
   serving_index Memory unmade = (unmade.served.archive, unmade.served.index)
   serving_index Usage stops = absurd stops
   serving_index Shelf stops = absurd stops
-  serving_index (Input refusal) stops = absurd stops
-  serving_index (Rejected rejection) stops = absurd stops
-  serving_index (Peer fault) stops = absurd stops
-  serving_index (Collision place ours theirs) stops = absurd stops
-  serving_index (Swept lines collides) stops = absurd stops
+  serving_index (Input line) stops = absurd stops
+  serving_index (Rejected lines) stops = absurd stops
+  serving_index (Peer line) stops = absurd stops
+  serving_index (Collision lines) stops = absurd stops
 
   -- if links ended by a fault, the door's count of broken links rose
   broken_rose : (count : ℕ) → 0 < count → AreAllServed H files words before now count text → HasRisen before.broken now.broken
@@ -43,11 +42,10 @@ module _ (H : List ℕ → List ℕ) (files : Files) (words : ServeWords) (befor
   serving_status Memory unmade = inl refl
   serving_status Usage stops = absurd stops
   serving_status Shelf stops = absurd stops
-  serving_status (Input refusal) stops = absurd stops
-  serving_status (Rejected rejection) stops = absurd stops
-  serving_status (Peer fault) stops = absurd stops
-  serving_status (Collision place ours theirs) stops = absurd stops
-  serving_status (Swept lines collides) stops = absurd stops
+  serving_status (Input line) stops = absurd stops
+  serving_status (Rejected lines) stops = absurd stops
+  serving_status (Peer line) stops = absurd stops
+  serving_status (Collision lines) stops = absurd stops
 
   -- if memory for the line of a stop runs out, the stop is out of memory
   pub serving_line : (stop : Stop) → HasLine stop → ServingStop H files words before now text stop → ServingStop H files words before now text Memory
@@ -57,8 +55,7 @@ module _ (H : List ℕ → List ℕ) (files : Files) (words : ServeWords) (befor
   serving_line Memory has stops = absurd has
   serving_line Usage has stops = absurd has
   serving_line Shelf has stops = absurd has
-  serving_line (Input refusal) has stops = absurd stops
-  serving_line (Rejected rejection) has stops = absurd stops
-  serving_line (Peer fault) has stops = absurd stops
-  serving_line (Collision place ours theirs) has stops = absurd stops
-  serving_line (Swept lines collides) has stops = absurd stops
+  serving_line (Input line) has stops = absurd stops
+  serving_line (Rejected lines) has stops = absurd stops
+  serving_line (Peer line) has stops = absurd stops
+  serving_line (Collision lines) has stops = absurd stops

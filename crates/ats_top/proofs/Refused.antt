@@ -27,11 +27,9 @@ use Rattle.ats_top.specs.Read.{Files, IsTold, HasCollection}
 use Rattle.ats_top.specs.Refusals.{IsRowCount, AsksRanking, Asks, LacksFile, IsJsonRefused, AreTextsRefused, IsCollectionRefused, IsIndexRefused, IsProvingRefused, IsRankingRefused, IsRefused}
 use Rattle.ats_top.specs.Proved.{IsProofFor, IsProofTooLong}
 use Rattle.ats_top.specs.Trial.{trial_archive, IsTrialProof, AreTrialProofs, IsTrial, AreQueries, IsTrialQueryRefused, IsTrialTooLong, IsTrialRefused, IsTrialServed}
-use Rattle.ats_top.specs.Stops.{stop_of_query}
+use Rattle.ats_top.specs.Stops.{stop_of_query, stop_of_json, stop_of_collection}
 use Rattle.ats_top.specs.Outside.{Outside}
 use Rattle.ats_top.specs.Done.{IsProofStored, IsDone, HasInput, IsServed}
-use Rattle.ats_top.specs.declared.stops.InputRefusal.{InputRefusal}
-use Rattle.ats_top.specs.declared.stops.InputRefusal.TheVariants.{ROut, QueryTooLong, NoTerm, TooManyWords, TooManyTerms, FileTooLong, NotJson, NotArray, BadItem, NoDocuments, TooManyDocuments, TextTooLong, AllTooLong, ProofTooLong}
 use Rattle.ats_top.specs.declared.stops.Stop.TheVariants.{Input}
 use Rattle.ats_top.proofs.ToldFiles.{not_longer, one_file, missing_longer, missing_file, missing_told, index_kept, index_missing}
 use Rattle.ats_top.proofs.SweepKept.{found_kept, found_there, lacking_kept}
@@ -63,66 +61,71 @@ no_collection_fault texts (collection.TextTooLong doc) within fault free = omega
 no_collection_fault texts (collection.AllTooLong bytes) within fault free = omega (arith, within.small, fault.3, fault.4)
 no_collection_fault texts collection.OutOfMemory within fault free = free
 
-module _ (files : Files) (told : IsTold files) (name : List ℕ) (texts : List (List ℕ)) (has : HasCollection files name texts) where
-  json_kept : (fault : JsonFault) → IsJsonRefused files name fault → IsJsonRefusal fault → ⊥
-  json_kept fault refused free =
-      let same = one_file files name has.bytes refused.0 (2 ^ 26) (2 ^ 26) told has.file refused.1 in
-      no_json_fault refused.0 texts fault (subst (λ b. AreJsonTexts b texts) same has.collection.json) refused.2 free
+-- a fault that stops as a refused input is not out of memory
+pub query_refusal : (fault : QueryFault) (line : List ℕ) → stop_of_query fault ≡ Input line → IsQueryRefusal fault
+query_refusal query.OutOfMemory line is = absurd (cc)
+query_refusal (query.TooLong bytes) line is = tt
+query_refusal query.NoTerm line is = tt
+query_refusal (query.TooManyWords count) line is = tt
+query_refusal (query.TooManyTerms distinct) line is = tt
 
-  texts_kept : (fault : CollectionFault) → AreTextsRefused files name fault → IsCollectionRefusal fault → ⊥
-  texts_kept fault (bytes, others, file, are, is) free =
-      let same = one_file files name has.bytes bytes (2 ^ 26) (2 ^ 26) told has.file file in
-      let alike : texts ≡ others = same_texts bytes texts others (subst (λ b. AreJsonTexts b texts) same has.collection.json) are in
-      no_collection_fault others fault (subst AreWithin alike has.collection.within) is free
+pub json_refusal : (fault : JsonFault) (line : List ℕ) → stop_of_json fault ≡ Input line → IsJsonRefusal fault
+json_refusal json.OutOfMemory line is = absurd (cc)
+json_refusal json.NotJson line is = tt
+json_refusal json.NotArray line is = tt
+json_refusal (json.BadItem doc) line is = tt
+
+pub collection_refusal : (fault : CollectionFault) (line : List ℕ) → stop_of_collection fault ≡ Input line → IsCollectionRefusal fault
+collection_refusal collection.OutOfMemory line is = absurd (cc)
+collection_refusal collection.NoDocuments line is = tt
+collection_refusal (collection.TooMany n) line is = tt
+collection_refusal (collection.TextTooLong doc) line is = tt
+collection_refusal (collection.AllTooLong bytes) line is = tt
+
+module _ (files : Files) (told : IsTold files) (name : List ℕ) (texts : List (List ℕ)) (has : HasCollection files name texts) where
+  json_kept : (line : List ℕ) → IsJsonRefused files name line → ⊥
+  json_kept line refused =
+      let same = one_file files name has.bytes refused.bytes (2 ^ 26) (2 ^ 26) told has.file refused.file in
+      no_json_fault refused.bytes texts refused.fault (subst (λ b. AreJsonTexts b texts) same has.collection.json) refused.first
+      (json_refusal refused.fault line refused.same)
+
+  texts_kept : (line : List ℕ) → AreTextsRefused files name line → ⊥
+  texts_kept line refused =
+      let same = one_file files name has.bytes refused.bytes (2 ^ 26) (2 ^ 26) told has.file refused.file in
+      let alike : texts ≡ refused.texts = same_texts refused.bytes texts refused.texts (subst (λ b. AreJsonTexts b texts) same has.collection.json) refused.json in
+      no_collection_fault refused.texts refused.fault (subst AreWithin alike has.collection.within) refused.first
+      (collection_refusal refused.fault line refused.same)
 
   -- a collection is not refused
-  collection_kept : (refusal : InputRefusal) → IsCollectionRefused files name refusal → ⊥
-  collection_kept (FileTooLong limit) refused =
-      not_longer files name has.bytes (2 ^ 26) told has.file (subst (IsLonger files name) refused.0 refused.1)
-  collection_kept NotJson refused = json_kept json.NotJson refused tt
-  collection_kept NotArray refused = json_kept json.NotArray refused tt
-  collection_kept (BadItem doc) refused = json_kept (json.BadItem doc) refused tt
-  collection_kept NoDocuments refused = texts_kept collection.NoDocuments refused tt
-  collection_kept (TooManyDocuments n) refused = texts_kept (collection.TooMany n) refused tt
-  collection_kept (TextTooLong doc) refused = texts_kept (collection.TextTooLong doc) refused tt
-  collection_kept (AllTooLong bytes) refused = texts_kept (collection.AllTooLong bytes) refused tt
-  collection_kept _ refused = refused
+  collection_kept : (line : List ℕ) → IsCollectionRefused files name line → ⊥
+  collection_kept line (inl long) = not_longer files name has.bytes (2 ^ 26) told has.file long.0
+  collection_kept line (inr (inl refused)) = json_kept line refused
+  collection_kept line (inr (inr refused)) = texts_kept line refused
 
 -- rows and a query within the limits are not refused, nor what is checked after them, if that is not
-pub ranking_kept : (r : ℕ) (text : List ℕ) (later : InputRefusal → Type 0) → AsksRanking r text → ((refusal : InputRefusal) → later refusal → ⊥)
-    → (refusal : InputRefusal) → IsRankingRefused r text later refusal → ⊥
-ranking_kept r text later asks kept (ROut out) refused = refused.1 (subst IsRowCount (sym refused.0) asks.rows)
-ranking_kept r text later asks kept (QueryTooLong bytes) refused = no_query_fault text (query.TooLong bytes) asks.query refused.1 tt
-ranking_kept r text later asks kept NoTerm refused = no_query_fault text query.NoTerm asks.query refused.1 tt
-ranking_kept r text later asks kept (TooManyWords count) refused = no_query_fault text (query.TooManyWords count) asks.query refused.1 tt
-ranking_kept r text later asks kept (TooManyTerms distinct) refused = no_query_fault text (query.TooManyTerms distinct) asks.query refused.1 tt
-ranking_kept r text later asks kept other refused = kept other refused.1
+pub ranking_kept : (r : ℕ) (text : List ℕ) (later : List ℕ → Type 0) → AsksRanking r text → ((line : List ℕ) → later line → ⊥)
+    → (line : List ℕ) → IsRankingRefused r text later line → ⊥
+ranking_kept r text later asks kept line (inl out) = out.0 asks.rows
+ranking_kept r text later asks kept line (inr (inl (rows, (fault, first, same)))) = no_query_fault text fault asks.query first (query_refusal fault line same)
+ranking_kept r text later asks kept line (inr (inr refused)) = kept line refused.1
 
 -- nothing is refused of `prove` but its rows and its query, if the index is not refused, nor the proof's length
-proving_kept : (H : List ℕ → List ℕ) (files : Files) (words : ProveWords) → ((refusal : InputRefusal) → IsIndexRefused H files words.index refusal → ⊥)
-    → ((size : ℕ) → IsProofTooLong H files words size → ⊥) → (refusal : InputRefusal) → IsProvingRefused H files words refusal → ⊥
-proving_kept H files words kept fits (ProofTooLong size) refused = fits size refused
-proving_kept H files words kept fits other refused = kept other refused
+proving_kept : (H : List ℕ → List ℕ) (files : Files) (words : ProveWords) → ((line : List ℕ) → IsIndexRefused H files words.index line → ⊥)
+    → ((size : ℕ) → IsProofTooLong H files words size → ⊥) → (line : List ℕ) → IsProvingRefused H files words line → ⊥
+proving_kept H files words kept fits line (inl refused) = kept line refused
+proving_kept H files words kept fits line (inr long) = fits long.0 long.1
 
 -- ---- the trial
 
--- a fault of a query that is an input's refusal is not out of memory
-pub query_refusal : (fault : QueryFault) (refusal : InputRefusal) → stop_of_query fault ≡ Input refusal → IsQueryRefusal fault
-query_refusal query.OutOfMemory refusal is = absurd (cc)
-query_refusal (query.TooLong bytes) refusal is = tt
-query_refusal query.NoTerm refusal is = tt
-query_refusal (query.TooManyWords count) refusal is = tt
-query_refusal (query.TooManyTerms distinct) refusal is = tt
-
 -- texts that are queries are not refused
-pub trial_query_kept : (number : ℕ) → AreQueries number 20 → (refusal : InputRefusal) → IsTrialQueryRefused number refusal → ⊥
-trial_query_kept number asks refusal refused =
-    no_query_fault (trial_query number refused.i) refused.fault (asks refused.i refused.inside) refused.first (query_refusal refused.fault refusal refused.same)
+pub trial_query_kept : (number : ℕ) → AreQueries number 20 → (line : List ℕ) → IsTrialQueryRefused number line → ⊥
+trial_query_kept number asks line refused =
+    no_query_fault (trial_query number refused.i) refused.fault (asks refused.i refused.inside) refused.first (query_refusal refused.fault line refused.same)
 
 -- nor is a trial of such texts, if no proof is too long
-pub trial_kept : (H : List ℕ → List ℕ) (number : ℕ) → IsTrialServed H number → (refusal : InputRefusal) → IsTrialRefused H number refusal → ⊥
-trial_kept H number (asks, fits) (ProofTooLong bytes) refused = fits bytes refused
-trial_kept H number (asks, fits) other refused = trial_query_kept number asks other refused
+pub trial_kept : (H : List ℕ → List ℕ) (number : ℕ) → IsTrialServed H number → (line : List ℕ) → IsTrialRefused H number line → ⊥
+trial_kept H number (asks, fits) line (inl refused) = trial_query_kept number asks line refused
+trial_kept H number (asks, fits) line (inr long) = fits long.0 long.1
 
 -- there is only one honest proof, so if it was tried it is not too long
 pub tried_short : (H : List ℕ → List ℕ) (number : ℕ) (algorithm : Algorithm) (i : ℕ) (proof : Proof) → IsTrialProof H number algorithm i proof
@@ -154,26 +157,26 @@ module _ (H : List ℕ → List ℕ) (number : ℕ) (text : List ℕ) (tried : I
       tried_short H number long.algorithm long.i found.0 found.1 long.query bytes long.own long.long
 
   -- and are not refused
-  pub trial_done_kept : (refusal : InputRefusal) → IsTrialRefused H number refusal → ⊥
-  trial_done_kept refusal refused = trial_kept H number (trial_asks, trial_fits) refusal refused
+  pub trial_done_kept : (line : List ℕ) → IsTrialRefused H number line → ⊥
+  trial_done_kept line refused = trial_kept H number (trial_asks, trial_fits) line refused
 
 -- what is served is not refused, if the files are reported
 pub served_kept : (H : List ℕ → List ℕ) (files : Files) (command : Command) → IsTold files → IsServed H files command
-    → (refusal : InputRefusal) → IsRefused H files command refusal → ⊥
-served_kept H files (Rank words) told (asks, (texts, has)) refusal refused =
-    ranking_kept words.r words.query (IsCollectionRefused files words.collection) asks (collection_kept files told words.collection texts has) refusal refused
-served_kept H files (Build words) told (texts, has) refusal refused = collection_kept files told words.collection texts has refusal refused
-served_kept H files (Root words) told (archive, has) refusal refused = index_kept H files words.index archive told has refusal refused
-served_kept H files (Prove words) told ((asks, (archive, has)), fits) refusal refused =
+    → (line : List ℕ) → IsRefused H files command line → ⊥
+served_kept H files (Rank words) told (asks, (texts, has)) line refused =
+    ranking_kept words.r words.query (IsCollectionRefused files words.collection) asks (collection_kept files told words.collection texts has) line refused
+served_kept H files (Build words) told (texts, has) line refused = collection_kept files told words.collection texts has line refused
+served_kept H files (Root words) told (archive, has) line refused = index_kept H files words.index archive told has line refused
+served_kept H files (Prove words) told ((asks, (archive, has)), fits) line refused =
     ranking_kept words.r words.query (IsProvingRefused H files words) asks
-    (proving_kept H files words (index_kept H files words.index archive told has) fits) refusal refused
-served_kept H files (Ask words) told served refusal refused = absurd served
-served_kept H files (Serve words) told (archive, has) refusal refused = index_kept H files words.index archive told has refusal refused
-served_kept H files (Audit words) told (asks, is) refusal refused =
-    ranking_kept words.r words.query (IsIndexRefused H files words.index) asks (index_kept H files words.index is.archive told is.index) refusal refused
-served_kept H files (Sweep words) told (findings, found, right) refusal refused = found_kept H files words findings told found refusal refused
-served_kept H files (Trial words) told served refusal refused = trial_kept H words.number served refusal refused
-served_kept H files (Verify words) told (asks, has) refusal refused = ranking_kept words.r words.query (λ other. ⊥) asks (λ other never. never) refusal refused
+    (proving_kept H files words (index_kept H files words.index archive told has) fits) line refused
+served_kept H files (Ask words) told served line refused = absurd served
+served_kept H files (Serve words) told (archive, has) line refused = index_kept H files words.index archive told has line refused
+served_kept H files (Audit words) told (asks, is) line refused =
+    ranking_kept words.r words.query (IsIndexRefused H files words.index) asks (index_kept H files words.index is.archive told is.index) line refused
+served_kept H files (Sweep words) told (findings, found, right) line refused = found_kept H files words findings told found line refused
+served_kept H files (Trial words) told served line refused = trial_kept H words.number served line refused
+served_kept H files (Verify words) told (asks, has) line refused = ranking_kept words.r words.query (λ other. ⊥) asks (λ other never. never) line refused
 
 -- bytes that spell a proof are as many as its fields have
 spelled_size : (bytes : List ℕ) (proof : Proof) → IsProof bytes proof → length bytes ≡ length_of proof
@@ -193,45 +196,39 @@ too_long_kept H files words bytes size told stored long =
     omega (arith, stored.short, spelled_size bytes stored.proved.proof stored.proved.spells, ap length_of one, long.long.bytes_are, long.long.beyond)
 
 proof_kept : (H : List ℕ → List ℕ) (before now : Files) (words : ProveWords) (text : List ℕ) → IsTold before → IsProofStored H before now words text
-    → (refusal : InputRefusal) → IsProvingRefused H before words refusal → ⊥
-proof_kept H before now words text told done (ProofTooLong size) refused = too_long_kept H before words done.bytes size told done.proof refused
-proof_kept H before now words text told done other refused = index_kept H before words.index done.proof.archive told done.proof.index other refused
+    → (line : List ℕ) → IsProvingRefused H before words line → ⊥
+proof_kept H before now words text told done line (inl refused) = index_kept H before words.index done.proof.archive told done.proof.index line refused
+proof_kept H before now words text told done line (inr long) = too_long_kept H before words done.bytes long.0 told done.proof long.1
 
 -- what is done is not refused, if the files are reported
 pub done_kept : (H : List ℕ → List ℕ) (before now : Outside) (command : Command) (text : List ℕ) → IsTold before.shelf.files → IsDone H before now command text
-    → (refusal : InputRefusal) → IsRefused H before.shelf.files command refusal → ⊥
-done_kept H before now (Rank words) text told (ranked, same) refusal refused =
-    served_kept H before.shelf.files (Rank words) told (ranked.asks, (ranked.texts, ranked.collection)) refusal refused
-done_kept H before now (Build words) text told built refusal refused =
-    served_kept H before.shelf.files (Build words) told (built.texts, built.collection) refusal refused
-done_kept H before now (Root words) text told (rooted, same) refusal refused =
-    served_kept H before.shelf.files (Root words) told (rooted.archive, rooted.index) refusal refused
-done_kept H before now (Prove words) text told done refusal refused =
+    → (line : List ℕ) → IsRefused H before.shelf.files command line → ⊥
+done_kept H before now (Rank words) text told (ranked, same) line refused =
+    served_kept H before.shelf.files (Rank words) told (ranked.asks, (ranked.texts, ranked.collection)) line refused
+done_kept H before now (Build words) text told built line refused =
+    served_kept H before.shelf.files (Build words) told (built.texts, built.collection) line refused
+done_kept H before now (Root words) text told (rooted, same) line refused =
+    served_kept H before.shelf.files (Root words) told (rooted.archive, rooted.index) line refused
+done_kept H before now (Prove words) text told done line refused =
     ranking_kept words.r words.query (IsProvingRefused H before.shelf.files words) done.asks
-    (proof_kept H before.shelf.files now.shelf.files words text told done) refusal refused
-done_kept H before now (Ask words) text told (answered, same) refusal refused =
-    ranking_kept words.r words.query (λ other. ⊥) answered.accepted.replied.asks (λ other never. never) refusal refused
-done_kept H before now (Serve words) text told (all, same) refusal refused =
-    served_kept H before.shelf.files (Serve words) told (all.served.archive, all.served.index) refusal refused
-done_kept H before now (Audit words) text told (right, same) refusal refused =
-    served_kept H before.shelf.files (Audit words) told (right.asks, right.audited) refusal refused
-done_kept H before now (Sweep words) text told (swept, same) refusal refused =
-    found_kept H before.shelf.files words swept.findings told swept.found refusal refused
-done_kept H before now (Trial words) text told (tried, same) refusal refused = trial_done_kept H words.number text tried refusal refused
-done_kept H before now (Verify words) text told (verified, same) refusal refused =
-    ranking_kept words.r words.query (λ other. ⊥) verified.asks (λ other never. never) refusal refused
+    (proof_kept H before.shelf.files now.shelf.files words text told done) line refused
+done_kept H before now (Ask words) text told (answered, same) line refused =
+    ranking_kept words.r words.query (λ other. ⊥) answered.accepted.replied.asks (λ other never. never) line refused
+done_kept H before now (Serve words) text told (all, same) line refused =
+    served_kept H before.shelf.files (Serve words) told (all.served.archive, all.served.index) line refused
+done_kept H before now (Audit words) text told (right, same) line refused =
+    served_kept H before.shelf.files (Audit words) told (right.asks, right.audited) line refused
+done_kept H before now (Sweep words) text told (swept, same) line refused =
+    found_kept H before.shelf.files words swept.findings told swept.found line refused
+done_kept H before now (Trial words) text told (tried, same) line refused = trial_done_kept H words.number text tried line refused
+done_kept H before now (Verify words) text told (verified, same) line refused =
+    ranking_kept words.r words.query (λ other. ⊥) verified.asks (λ other never. never) line refused
 
 module _ (files : Files) (name : List ℕ) (missing : IsMissing files name) where
-  collection_missing : (refusal : InputRefusal) → IsCollectionRefused files name refusal → ⊥
-  collection_missing (FileTooLong limit) refused = missing_longer files name limit missing refused.1
-  collection_missing NotJson refused = missing_file files name refused.0 (2 ^ 26) missing refused.1
-  collection_missing NotArray refused = missing_file files name refused.0 (2 ^ 26) missing refused.1
-  collection_missing (BadItem doc) refused = missing_file files name refused.0 (2 ^ 26) missing refused.1
-  collection_missing NoDocuments (bytes, texts, file, are, is) = missing_file files name bytes (2 ^ 26) missing file
-  collection_missing (TooManyDocuments n) (bytes, texts, file, are, is) = missing_file files name bytes (2 ^ 26) missing file
-  collection_missing (TextTooLong doc) (bytes, texts, file, are, is) = missing_file files name bytes (2 ^ 26) missing file
-  collection_missing (AllTooLong total) (bytes, texts, file, are, is) = missing_file files name bytes (2 ^ 26) missing file
-  collection_missing _ refused = refused
+  collection_missing : (line : List ℕ) → IsCollectionRefused files name line → ⊥
+  collection_missing line (inl long) = missing_longer files name (2 ^ 26) missing long.0
+  collection_missing line (inr (inl refused)) = missing_file files name refused.bytes (2 ^ 26) missing refused.file
+  collection_missing line (inr (inr refused)) = missing_file files name refused.bytes (2 ^ 26) missing refused.file
 
 -- if a file is missing, the words are within the limits
 pub lacks_asks : (H : List ℕ → List ℕ) (files : Files) (command : Command) → LacksFile H files command → Asks command
@@ -248,25 +245,25 @@ lacks_asks H files (Trial words) lacks = absurd lacks
 
 -- and nothing is refused
 pub missing_kept : (H : List ℕ → List ℕ) (files : Files) (command : Command) → LacksFile H files command
-    → (refusal : InputRefusal) → IsRefused H files command refusal → ⊥
-missing_kept H files (Rank words) (asks, missing) refusal refused =
-    ranking_kept words.r words.query (IsCollectionRefused files words.collection) asks (collection_missing files words.collection missing) refusal refused
-missing_kept H files (Build words) missing refusal refused = collection_missing files words.collection missing refusal refused
-missing_kept H files (Root words) missing refusal refused = index_missing files words.index missing H refusal refused
-missing_kept H files (Prove words) (asks, missing) refusal refused =
+    → (line : List ℕ) → IsRefused H files command line → ⊥
+missing_kept H files (Rank words) (asks, missing) line refused =
+    ranking_kept words.r words.query (IsCollectionRefused files words.collection) asks (collection_missing files words.collection missing) line refused
+missing_kept H files (Build words) missing line refused = collection_missing files words.collection missing line refused
+missing_kept H files (Root words) missing line refused = index_missing files words.index missing H line refused
+missing_kept H files (Prove words) (asks, missing) line refused =
     ranking_kept words.r words.query (IsProvingRefused H files words) asks
     (proving_kept H files words (index_missing files words.index missing H)
-    (λ size long. missing_file files words.index long.index.bytes (2 ^ 29) missing long.index.file)) refusal refused
-missing_kept H files (Ask words) lacks refusal refused = absurd lacks
-missing_kept H files (Serve words) missing refusal refused = index_missing files words.index missing H refusal refused
-missing_kept H files (Audit words) (asks, inl missing) refusal refused =
-    ranking_kept words.r words.query (IsIndexRefused H files words.index) asks (index_missing files words.index missing H) refusal refused
-missing_kept H files (Audit words) (asks, inr ((archive, has), missing)) refusal refused =
+    (λ size long. missing_file files words.index long.index.bytes (2 ^ 29) missing long.index.file)) line refused
+missing_kept H files (Ask words) lacks line refused = absurd lacks
+missing_kept H files (Serve words) missing line refused = index_missing files words.index missing H line refused
+missing_kept H files (Audit words) (asks, inl missing) line refused =
+    ranking_kept words.r words.query (IsIndexRefused H files words.index) asks (index_missing files words.index missing H) line refused
+missing_kept H files (Audit words) (asks, inr ((archive, has), missing)) line refused =
     ranking_kept words.r words.query (IsIndexRefused H files words.index) asks
-    (index_kept H files words.index archive (missing_told files words.proof missing) has) refusal refused
-missing_kept H files (Sweep words) lacks refusal refused = lacking_kept H files words lacks refusal refused
-missing_kept H files (Trial words) lacks refusal refused = absurd lacks
-missing_kept H files (Verify words) (asks, missing) refusal refused = ranking_kept words.r words.query (λ other. ⊥) asks (λ other never. never) refusal refused
+    (index_kept H files words.index archive (missing_told files words.proof missing) has) line refused
+missing_kept H files (Sweep words) lacks line refused = lacking_kept H files words lacks line refused
+missing_kept H files (Trial words) lacks line refused = absurd lacks
+missing_kept H files (Verify words) (asks, missing) line refused = ranking_kept words.r words.query (λ other. ⊥) asks (λ other never. never) line refused
 
 -- a file of the form that the command reads is there
 pub input_there : (H : List ℕ → List ℕ) (files : Files) (command : Command) → HasInput H files command → LacksFile H files command → ⊥

@@ -15,7 +15,6 @@ use Rattle.ats_top.specs.Verified.{IsAccepted}
 use Rattle.ats_top.specs.Refusals.{LacksFile, IsIndexRefused, IsRefused}
 use Rattle.ats_top.specs.Rejected.{IsProofRejected, IsRejected}
 use Rattle.ats_top.specs.Done.{HasInput}
-use Rattle.ats_top.specs.declared.stops.InputRefusal.{InputRefusal}
 use Rattle.ats_top.proofs.ToldFiles.{not_longer, one_file, missing_longer, missing_file, index_kept}
 use Rattle.ats_top.proofs.Refused.{ranking_kept}
 
@@ -77,16 +76,16 @@ rejected_there H files (Verify words) lacks rejection rejected = proof_missing H
 
 -- what is rejected is not refused
 pub rejected_kept : (H : List ℕ → List ℕ) (files : Files) (command : Command) (rejection : Rejection) → IsTold files → IsRejected H files command rejection
-    → (refusal : InputRefusal) → IsRefused H files command refusal → ⊥
-rejected_kept H files (Rank words) rejection told rejected refusal refused = rejected
-rejected_kept H files (Build words) rejection told rejected refusal refused = rejected
-rejected_kept H files (Root words) rejection told rejected refusal refused = rejected
-rejected_kept H files (Prove words) rejection told rejected refusal refused = rejected
-rejected_kept H files (Ask words) rejection told rejected refusal refused = rejected
-rejected_kept H files (Serve words) rejection told rejected refusal refused = rejected
-rejected_kept H files (Audit words) rejection told (asks, (archive, has, rejected)) refusal refused =
-    ranking_kept words.r words.query (IsIndexRefused H files words.index) asks (index_kept H files words.index archive told has) refusal refused
-rejected_kept H files (Sweep words) rejection told rejected refusal refused = rejected
-rejected_kept H files (Trial words) rejection told rejected refusal refused = rejected
-rejected_kept H files (Verify words) rejection told rejected refusal refused =
-    ranking_kept words.r words.query (λ other. ⊥) rejected.0 (λ other never. never) refusal refused
+    → (line : List ℕ) → IsRefused H files command line → ⊥
+rejected_kept H files (Rank words) rejection told rejected line refused = rejected
+rejected_kept H files (Build words) rejection told rejected line refused = rejected
+rejected_kept H files (Root words) rejection told rejected line refused = rejected
+rejected_kept H files (Prove words) rejection told rejected line refused = rejected
+rejected_kept H files (Ask words) rejection told rejected line refused = rejected
+rejected_kept H files (Serve words) rejection told rejected line refused = rejected
+rejected_kept H files (Audit words) rejection told (asks, (archive, has, rejected)) line refused =
+    ranking_kept words.r words.query (IsIndexRefused H files words.index) asks (index_kept H files words.index archive told has) line refused
+rejected_kept H files (Sweep words) rejection told rejected line refused = rejected
+rejected_kept H files (Trial words) rejection told rejected line refused = rejected
+rejected_kept H files (Verify words) rejection told rejected line refused =
+    ranking_kept words.r words.query (λ other. ⊥) rejected.0 (λ other never. never) line refused

@@ -1,5 +1,5 @@
 -- The lines of all proofs, one after another, and the status that they give.
-use Rattle.std.proofs.Common.{◌≡◌, ◌++◌, ◌∷◌, ◌||◌, ◌<◌, ◌≤◌, ◌+◌, ℕ, zero, suc, Bool, true, false, List, [], length, drop, get_or, string_bytes, refl, sym, ap, ◌∙◌, arith, append-nil, append_assoc, if◌then◌else◌}
+use Rattle.std.proofs.Common.{◌≡◌, ◌++◌, ◌∷◌, ◌||◌, ◌<◌, ◌≤◌, ◌+◌, ℕ, zero, suc, Bool, true, false, List, [], length, drop, get_or, refl, sym, ap, ◌∙◌, arith, append-nil, append_assoc}
 use Rattle.std.specs.List.{list_any}
 use Rattle.ats_audit.specs.declared.auditing.Verdict.{Verdict}
 use Rattle.ats_top.specs.Findings.{Finding, is_refused, is_collision, status_of_findings, line_of_finding, finding_lines, lines_of_findings}
@@ -35,13 +35,13 @@ or_none false = refl
 
 -- a report of the first findings, with what is left
 pub record IsReportSoFar (proofs : List Gathered) (verdicts : List Verdict) (i : ℕ) (report : Report) : Type 0 where
-  pub lines : string_bytes report.lines ++ finding_lines (i + 1) (drop i (findings_of proofs verdicts)) ≡ lines_of_findings (findings_of proofs verdicts)
+  pub lines : report.lines.items ++ finding_lines (i + 1) (drop i (findings_of proofs verdicts)) ≡ lines_of_findings (findings_of proofs verdicts)
   pub refused : (report.refused || list_any is_refused (drop i (findings_of proofs verdicts))) ≡ list_any is_refused (findings_of proofs verdicts)
   pub collides : (report.collides || list_any is_collision (drop i (findings_of proofs verdicts))) ≡ list_any is_collision (findings_of proofs verdicts)
 
 -- one more finding
 pub record IsAdded (before now : Report) (number : ℕ) (finding : Finding) : Type 0 where
-  pub lines : string_bytes now.lines ≡ string_bytes before.lines ++ line_of_finding number finding
+  pub lines : now.lines.items ≡ before.lines.items ++ line_of_finding number finding
   pub refused : now.refused ≡ (before.refused || is_refused finding)
   pub collides : now.collides ≡ (before.collides || is_collision finding)
 
@@ -56,8 +56,8 @@ module _ (proofs : List Gathered) (verdicts : List Verdict) (same : length verdi
       ∙ ap (λ (n : ℕ). finding_of proof found ∷ drop n (findings_of proofs verdicts)) next in
       record {
         lines = ap (λ (text : List ℕ). text ++ finding_lines ((i + 1) + 1) rest) added.lines
-            ∙ append_assoc (string_bytes before.lines) (line_of_finding (i + 1) (finding_of proof found)) (finding_lines ((i + 1) + 1) rest)
-            ∙ ap (λ (fs : List Finding). string_bytes before.lines ++ finding_lines (i + 1) fs) (sym left)
+            ∙ append_assoc before.lines.items (line_of_finding (i + 1) (finding_of proof found)) (finding_lines ((i + 1) + 1) rest)
+            ∙ ap (λ (fs : List Finding). before.lines.items ++ finding_lines (i + 1) fs) (sym left)
             ∙ so_far.lines;
         refused = ap (λ (b : Bool). b || list_any is_refused rest) added.refused
             ∙ or_same before.refused (is_refused (finding_of proof found)) (list_any is_refused rest)
@@ -73,8 +73,8 @@ module _ (proofs : List Gathered) (verdicts : List Verdict) (same : length verdi
   report_whole past report so_far =
       let none = none_left proofs verdicts i same past in
       record {
-        lines = sym (append-nil (string_bytes report.lines))
-            ∙ ap (λ (fs : List Finding). string_bytes report.lines ++ finding_lines (i + 1) fs) (sym none)
+        lines = sym (append-nil report.lines.items)
+            ∙ ap (λ (fs : List Finding). report.lines.items ++ finding_lines (i + 1) fs) (sym none)
             ∙ so_far.lines;
         refused = sym (or_none report.refused) ∙ ap (λ (fs : List Finding). report.refused || list_any is_refused fs) (sym none) ∙ so_far.refused;
         collides = sym (or_none report.collides) ∙ ap (λ (fs : List Finding). report.collides || list_any is_collision fs) (sym none) ∙ so_far.collides;
@@ -82,15 +82,12 @@ module _ (proofs : List Gathered) (verdicts : List Verdict) (same : length verdi
 
 -- ---- the status
 
-status_by : (collides refused : Bool) → (collides || refused) ≡ true
-    → ◌≡◌ {A = ℕ} (if collides then 5 else if refused then 1 else 0) (if collides then 5 else 1)
-status_by true refused is = refl
-status_by false true is = refl
-status_by false false is = absurd (cc)
-
 module _ (proofs : List Gathered) (verdicts : List Verdict) (report : Report) (is : IsReport proofs verdicts report) where
   pub right_status : report.collides ≡ false → report.refused ≡ false → status_of_findings (findings_of proofs verdicts) ≡ 0
   right_status collides refused = rw (sym is.collides ∙ collides, sym is.refused ∙ refused) refl
 
-  pub stop_status : (report.collides || report.refused) ≡ true → status_of_findings (findings_of proofs verdicts) ≡ (if report.collides then 5 else 1)
-  stop_status some = rw (sym is.collides, sym is.refused) (status_by report.collides report.refused some)
+  pub refused_status : report.collides ≡ false → report.refused ≡ true → status_of_findings (findings_of proofs verdicts) ≡ 1
+  refused_status collides refused = rw (sym is.collides ∙ collides, sym is.refused ∙ refused) refl
+
+  pub collision_status : report.collides ≡ true → status_of_findings (findings_of proofs verdicts) ≡ 5
+  collision_status collides = rw (sym is.collides ∙ collides) refl

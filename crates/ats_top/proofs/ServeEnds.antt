@@ -47,15 +47,14 @@ module _ (H : List ℕ → List ℕ) (said : List (List ℕ)) (words : ServeWord
   index_stop : (why : Stop) → IndexStop H shelf later words.index why → FilesStop H shelf later (Serve words) why
   index_stop stop.Shelf (inl rose) = (inl (tt, rose), inl same)
   index_stop stop.Shelf (inr missing) = (inr missing, inl same)
-  index_stop (stop.Input refusal) refused = (refused, same)
+  index_stop (stop.Input line) refused = (refused, same)
   index_stop stop.Memory free = same
   index_stop stop.Usage stops = absurd stops
-  index_stop (stop.Rejected rejection) stops = absurd stops
+  index_stop (stop.Rejected lines) stops = absurd stops
   index_stop stop.Link stops = absurd stops
-  index_stop (stop.Peer fault) stops = absurd stops
+  index_stop (stop.Peer line) stops = absurd stops
   index_stop (stop.Faults count) stops = absurd stops
-  index_stop (stop.Collision place ours theirs) stops = absurd stops
-  index_stop (stop.Swept lines collides) stops = absurd stops
+  index_stop (stop.Collision lines) stops = absurd stops
 
   -- the index was not loaded
   pub unloaded : (why : Stop) (sink now : SinkTold) (door : DoorTold) (result : ℕ) → IndexStop H shelf later words.index why → PrintsStop sink now why result

@@ -15,7 +15,7 @@ use Rattle.ats_top.specs.Serving.{Took}
 use Rattle.ats_top.proofs.LinkEnds.{links_memory}
 use Rattle.ats_top.specs.Run.{FilesStop, Ends, Prints, PrintsStop, Ended}
 use Rattle.ats_top.specs.declared.stops.Stop.{Stop}
-use Rattle.ats_top.specs.declared.stops.Stop.TheVariants.{Usage, Shelf, Input, Rejected, Memory, Link, Peer, Faults, Collision, Swept}
+use Rattle.ats_top.specs.declared.stops.Stop.TheVariants.{Usage, Shelf, Input, Rejected, Memory, Link, Peer, Faults, Collision}
 use Rattle.ats_top.proofs.Sessions.{took_then, failed_then}
 
 -- what all objects but the sink report, before and after a command of these words
@@ -34,14 +34,13 @@ module _ (H : List ℕ → List ℕ) (shelf later_shelf : ShelfTold) (caller lat
   pub files_end : (stop : Stop) → FilesStop H shelf later_shelf command stop → EndsSo (Stopped [] stop)
   files_end Usage stops = absurd stops
   files_end Shelf stops = λ was now. (command, is, inl (refl, stops, refl))
-  files_end (Input refusal) stops = λ was now. (command, is, inl (refl, stops, refl))
-  files_end (Rejected rejection) stops = λ was now. (command, is, inl (refl, stops, refl))
+  files_end (Input line) stops = λ was now. (command, is, inl (refl, stops, refl))
+  files_end (Rejected lines) stops = λ was now. (command, is, inl (refl, stops, refl))
   files_end Memory stops = λ was now. (command, is, inl (refl, stops, refl))
   files_end Link stops = absurd stops
-  files_end (Peer fault) stops = absurd stops
+  files_end (Peer line) stops = absurd stops
   files_end (Faults count) stops = absurd stops
-  files_end (Collision place ours theirs) stops = λ was now. (command, is, inl (refl, stops, refl))
-  files_end (Swept lines collides) stops = λ was now. (command, is, inl (refl, stops, refl))
+  files_end (Collision lines) stops = λ was now. (command, is, inl (refl, stops, refl))
 
   -- a command that stopped by its words or files
   pub files_ends : {T : Type 0} (result : Result T Stop) → IfErr result (FilesStop H shelf later_shelf command)
@@ -63,14 +62,13 @@ module _ (H : List ℕ → List ℕ) (shelf : ShelfTold) (caller later : CallerT
       → Ends H (record { shelf = shelf; sink = was; caller = caller; door = door }) (record { shelf = shelf; sink = now; caller = later; door = door }) said (Stopped [] stop)
   ask_end Usage stops was now = absurd stops
   ask_end Shelf stops was now = absurd stops
-  ask_end (Input refusal) stops was now = (Ask words, is, inr (refl, stops, refl))
-  ask_end (Rejected rejection) stops was now = (Ask words, is, inr (refl, stops, refl))
+  ask_end (Input line) stops was now = (Ask words, is, inr (refl, stops, refl))
+  ask_end (Rejected lines) stops was now = (Ask words, is, inr (refl, stops, refl))
   ask_end Memory stops was now = (Ask words, is, inr (refl, stops, refl))
   ask_end Link stops was now = (Ask words, is, inr (refl, stops, refl))
-  ask_end (Peer fault) stops was now = (Ask words, is, inr (refl, stops, refl))
+  ask_end (Peer line) stops was now = (Ask words, is, inr (refl, stops, refl))
   ask_end (Faults count) stops was now = absurd stops
-  ask_end (Collision place ours theirs) stops was now = absurd stops
-  ask_end (Swept lines collides) stops was now = absurd stops
+  ask_end (Collision lines) stops was now = absurd stops
 
   pub ask_ends : {X : Type 0} (result : Result X Stop) → IfErr result (AskStop H caller later words)
       → IfErr result (λ stop. (was now : SinkTold)
@@ -89,15 +87,14 @@ rank_stop : (H : List ℕ → List ℕ) (before now : ShelfTold) (words : RankWo
     → RankingStop before now words.collection words.r words.query (IsCollectionRefused before.files words.collection) stop → FilesStop H before now (Rank words) stop
 rank_stop H before now words Shelf same (asks, inl rose) = (inl (asks, rose), inl same)
 rank_stop H before now words Shelf same (asks, inr missing) = (inr (asks, missing), inl same)
-rank_stop H before now words (Input refusal) same stops = (stops, same)
+rank_stop H before now words (Input line) same stops = (stops, same)
 rank_stop H before now words Memory same stops = same
 rank_stop H before now words Usage same stops = absurd stops
-rank_stop H before now words (Rejected rejection) same stops = absurd stops
+rank_stop H before now words (Rejected lines) same stops = absurd stops
 rank_stop H before now words Link same stops = absurd stops
-rank_stop H before now words (Peer fault) same stops = absurd stops
+rank_stop H before now words (Peer line) same stops = absurd stops
 rank_stop H before now words (Faults count) same stops = absurd stops
-rank_stop H before now words (Collision place ours theirs) same stops = absurd stops
-rank_stop H before now words (Swept lines collides) same stops = absurd stops
+rank_stop H before now words (Collision lines) same stops = absurd stops
 
 pub rank_stops : {T : Type 0} (H : List ℕ → List ℕ) (before now : ShelfTold) (words : RankWords) (result : Result T Stop) → now.files ≡ before.files
     → IfErr result (RankingStop before now words.collection words.r words.query (IsCollectionRefused before.files words.collection))
@@ -107,16 +104,15 @@ rank_stops H before now words (Err stop) same stops = rank_stop H before now wor
 
 -- why a trial stopped is why a command stops that reads no file
 trial_stop : (H : List ℕ → List ℕ) (shelf : ShelfTold) (words : TrialWords) (stop : Stop) → IsTrialStop H words.number stop → FilesStop H shelf shelf (Trial words) stop
-trial_stop H shelf words (Input refusal) stops = (stops, refl)
+trial_stop H shelf words (Input line) stops = (stops, refl)
 trial_stop H shelf words Memory stops = refl
 trial_stop H shelf words Usage stops = absurd stops
 trial_stop H shelf words Shelf stops = absurd stops
-trial_stop H shelf words (Rejected rejection) stops = absurd stops
+trial_stop H shelf words (Rejected lines) stops = absurd stops
 trial_stop H shelf words Link stops = absurd stops
-trial_stop H shelf words (Peer fault) stops = absurd stops
+trial_stop H shelf words (Peer line) stops = absurd stops
 trial_stop H shelf words (Faults count) stops = absurd stops
-trial_stop H shelf words (Collision place ours theirs) stops = absurd stops
-trial_stop H shelf words (Swept lines collides) stops = absurd stops
+trial_stop H shelf words (Collision lines) stops = absurd stops
 
 pub trial_ends : {T : Type 0} (H : List ℕ → List ℕ) (shelf : ShelfTold) (words : TrialWords) (result : Result T Stop) → IfErr result (IsTrialStop H words.number)
     → IfErr result (FilesStop H shelf shelf (Trial words))
@@ -128,19 +124,18 @@ module _ (H : List ℕ → List ℕ) (said : List (List ℕ)) (before now : Outs
   pub no_line : (text : List ℕ) (stop : Stop) → HasLine stop → Ends H before now said (Stopped text stop) → Ends H before now said (Stopped text Memory)
   no_line text Usage has ends = absurd has
   no_line text Shelf has ends = absurd has
-  no_line text (Input refusal) has (command, is, inl stops) = (command, is, inl (stops.0, stops.1.1, stops.2))
-  no_line text (Input refusal) has (command, is, inr links) = (command, is, links_memory H before now command text (Input refusal) has links)
-  no_line text (Rejected rejection) has (command, is, inl stops) = (command, is, inl (stops.0, stops.1.1, stops.2))
-  no_line text (Rejected rejection) has (command, is, inr links) = (command, is, links_memory H before now command text (Rejected rejection) has links)
+  no_line text (Input line) has (command, is, inl stops) = (command, is, inl (stops.0, stops.1.1, stops.2))
+  no_line text (Input line) has (command, is, inr links) = (command, is, links_memory H before now command text (Input line) has links)
+  no_line text (Rejected lines) has (command, is, inl stops) = (command, is, inl (stops.0, stops.1.1, stops.2))
+  no_line text (Rejected lines) has (command, is, inr links) = (command, is, links_memory H before now command text (Rejected lines) has links)
   no_line text Memory has ends = absurd has
   no_line text Link has ends = absurd has
-  no_line text (Peer fault) has (command, is, inl stops) = absurd stops.1
-  no_line text (Peer fault) has (command, is, inr links) = (command, is, links_memory H before now command text (Peer fault) has links)
+  no_line text (Peer line) has (command, is, inl stops) = absurd stops.1
+  no_line text (Peer line) has (command, is, inr links) = (command, is, links_memory H before now command text (Peer line) has links)
   no_line text (Faults count) has (command, is, inl stops) = absurd stops.1
   no_line text (Faults count) has (command, is, inr links) = (command, is, links_memory H before now command text (Faults count) has links)
-  no_line text (Collision place ours theirs) has (command, is, inl stops) = (command, is, inl (stops.0, stops.1.1, stops.2))
-  no_line text (Collision place ours theirs) has (command, is, inr links) = (command, is, links_memory H before now command text (Collision place ours theirs) has links)
-  no_line text (Swept lines collides) has ends = absurd has
+  no_line text (Collision lines) has (command, is, inl stops) = (command, is, inl (stops.0, stops.1.1, stops.2))
+  no_line text (Collision lines) has (command, is, inr links) = (command, is, links_memory H before now command text (Collision lines) has links)
 
   -- a command that stopped before it printed, and whose stop was then printed
   pub stop_ended : (stop : Stop) (result : ℕ) → Ends H before now said (Stopped [] stop) → PrintsStop before.sink now.sink stop result → Ended H said before now result

@@ -1,5 +1,5 @@
 -- How `sweep` ends, from the results of its steps.
-use Rattle.std.proofs.Common.{◌≡◌, ◌||◌, ◌∙◌, ◌≤◌, ◌^◌, ℕ, true, false, List, [], None, length, String, Global, string_bytes, Result, Ok, Err, refl, sym, subst, inl, inr, arith, if◌then◌else◌}
+use Rattle.std.proofs.Common.{◌≡◌, ◌∙◌, ◌≤◌, ◌^◌, ℕ, false, List, [], None, length, Vec, Global, Result, Ok, Err, sym, subst, inl, inr, arith}
 use Rattle.std.specs.Prelude.{IfOk, IfErr}
 use Rattle.std.specs.List.{AllZip}
 use Rattle.ats_base.specs.Outside.{IsMissing, IsLonger, ShelfTold, Asked}
@@ -15,18 +15,16 @@ use Rattle.ats_top.specs.Reading.{Reads, Serves, IsGood, ReadsThen, listed_files
 use Rattle.ats_top.specs.Listed.{Listed, lines_of, IsList, IsEntry, names_of}
 use Rattle.ats_top.specs.Gathered.{AreGathered, LacksProof, PassesLimit}
 use Rattle.ats_top.specs.Findings.{AreFound, IsSwept, status_of_findings}
-use Rattle.ats_top.specs.Sweeping.{ListStop, GatheringStop, ReadsProofs, AreJobs, entry_names, findings_of, IsReport}
+use Rattle.ats_top.specs.Sweeping.{ListStop, GatheringStop, ReadsProofs, AreJobs, entry_names, findings_of, IsReport, ConclusionStop}
 use Rattle.ats_top.specs.Run.{FilesStop}
 use Rattle.ats_top.specs.declared.gathering.Gathered.{Gathered}
 use Rattle.ats_top.specs.declared.listing.Entry.{Entry}
 use Rattle.ats_top.specs.declared.sweeping.Report.{Report}
-use Rattle.ats_top.specs.declared.stops.InputRefusal.{InputRefusal}
-use Rattle.ats_top.specs.declared.stops.InputRefusal.TheVariants.{ListLine, ProofsTooLong}
 use Rattle.ats_top.specs.declared.stops.Stop.{Stop}
-use Rattle.ats_top.specs.declared.stops.Stop.TheVariants.{Shelf, Input, Memory, Swept}
+use Rattle.ats_top.specs.declared.stops.Stop.TheVariants.{Usage, Shelf, Input, Rejected, Memory, Link, Peer, Faults, Collision}
 use Rattle.ats_top.proofs.ListEntries.{listed_of, listed_names, list_is}
 use Rattle.ats_top.proofs.JobSteps.{found_each}
-use Rattle.ats_top.proofs.Reports.{right_status, stop_status}
+use Rattle.ats_top.proofs.Reports.{right_status, refused_status, collision_status}
 use Rattle.ats_top.proofs.Readings.{sweep_proofs}
 
 module _ (H : List ℕ → List ℕ) (before now : ShelfTold) (words : SweepWords) (kept : now.files ≡ before.files) where
@@ -34,7 +32,7 @@ module _ (H : List ℕ → List ℕ) (before now : ShelfTold) (words : SweepWord
   pub index_stops : (stop : Stop) → IndexStop H before now words.index stop → FilesStop H before now (Sweep words) stop
   index_stops Shelf (inl rose) = (inl (tt, rose), inl kept)
   index_stops Shelf (inr missing) = (inr (inl missing), inl kept)
-  index_stops (Input refusal) stops = (inl stops, kept)
+  index_stops (Input line) stops = (inl stops, kept)
   index_stops Memory stops = kept
   index_stops _ stops = absurd stops
 
@@ -44,20 +42,16 @@ module _ (H : List ℕ → List ℕ) (before now : ShelfTold) (words : SweepWord
         → FilesStop H before now (Sweep words) stop
     list_stops mid was calm Shelf (inl rose) = (inl (tt, rw (← calm) rose), inl kept)
     list_stops mid was calm Shelf (inr missing) = (inr (inr ((archive, index), inl (subst (λ (files : Files). IsMissing files words.list) was missing))), inl kept)
-    list_stops mid was calm (Input refusal) (is, long) = (
-      inr (
-        (archive, index),
-        subst (λ (r : InputRefusal). IsListRefused before.files words.list r) (sym is) (refl, subst (λ (files : Files). IsLonger files words.list (2 ^ 20)) was long),
-      ),
-      kept,
-    )
+    list_stops mid was calm (Input line) (long, printed) =
+        (inr ((archive, index), inl (subst (λ (files : Files). IsLonger files words.list (2 ^ 20)) was long, printed)), kept)
     list_stops mid was calm Memory stops = kept
     list_stops mid was calm _ stops = absurd stops
 
     -- a line of it that is bad
     pub lines_stops : (bytes : List ℕ) → IsFile before.files words.list (2 ^ 20) bytes → (stop : Stop) → ListStop (lines_of bytes) stop
         → FilesStop H before now (Sweep words) stop
-    lines_stops bytes file (Input (ListLine number)) bad = (inr ((archive, index), (bytes, file, bad)), kept)
+    lines_stops bytes file (Input line) (number, bad, printed) =
+        (inr ((archive, index), inr (inl (record { bytes = bytes; file = file; number = number; bad = bad; same = printed }))), kept)
     lines_stops bytes file Memory stops = kept
     lines_stops bytes file _ stops = absurd stops
 
@@ -87,15 +81,17 @@ module _ (H : List ℕ → List ℕ) (before now : ShelfTold) (words : SweepWord
         )),
         inl kept,
       )
-      gather_stops mid was calm (Input (ProofsTooLong size)) passes = (
+      gather_stops mid was calm (Input line) (size, passes, printed) = (
         inr (
           (archive, index),
-          (
-            listed,
-            list,
-            subst (λ (all : List (List ℕ)). PassesLimit before.files all size) names
-                (subst (λ (files : Files). PassesLimit files (entry_names entries) size) was passes),
-          ),
+          inr (inr (record {
+            listed = listed;
+            list = list;
+            bytes = size;
+            passes = subst (λ (all : List (List ℕ)). PassesLimit before.files all size) names
+                (subst (λ (files : Files). PassesLimit files (entry_names entries) size) was passes);
+            same = printed;
+          })),
         ),
         kept,
       )
@@ -123,22 +119,29 @@ module _ (H : List ℕ → List ℕ) (before now : ShelfTold) (words : SweepWord
         }
 
         module _ (report : Report) (is : IsReport proofs verdicts report) where
-          swept_by : (status : ℕ) → status_of_findings (findings_of proofs verdicts) ≡ status → (text : List ℕ) → text ≡ string_bytes report.lines
+          swept_by : (status : ℕ) → status_of_findings (findings_of proofs verdicts) ≡ status → (text : List ℕ) → text ≡ report.lines.items
               → IsSwept H before.files words status text
           swept_by status comes text printed = record { findings = findings_of proofs verdicts; found = are_found; comes = comes; printed = printed ∙ is.lines }
 
           -- all is right
-          pub swept_right : (result : Result (String Global) Stop)
-              → IfOk result (λ text. (string_bytes text ≡ string_bytes report.lines) × (report.collides ≡ false) × (report.refused ≡ false))
-              → IfOk result (λ text. IsSwept H before.files words 0 (string_bytes text))
-          swept_right (Ok text) (printed, collides, refused) = swept_by 0 (right_status proofs verdicts report is collides refused) (string_bytes text) printed
+          pub swept_right : (result : Result (Vec ℕ Global) Stop)
+              → IfOk result (λ text. (text.items ≡ report.lines.items) × (report.collides ≡ false) × (report.refused ≡ false))
+              → IfOk result (λ text. IsSwept H before.files words 0 text.items)
+          swept_right (Ok text) (printed, collides, refused) = swept_by 0 (right_status proofs verdicts report is collides refused) text.items printed
           swept_right (Err stop) none = tt
 
           -- not all is
-          pub swept_stops : (result : Result (String Global) Stop)
-              → IfErr result (λ stop. (stop ≡ Swept report.lines report.collides) × ((report.collides || report.refused) ≡ true))
-              → IfErr result (FilesStop H before now (Sweep words))
+          swept_stop : (stop : Stop) → ConclusionStop report stop → FilesStop H before now (Sweep words) stop
+          swept_stop (Collision lines) (collides, printed) = (inr (swept_by 5 (collision_status proofs verdicts report is collides) lines printed), kept)
+          swept_stop (Rejected lines) (none, refused, printed) = (inr (swept_by 1 (refused_status proofs verdicts report is none refused) lines printed), kept)
+          swept_stop Usage stops = absurd stops
+          swept_stop Shelf stops = absurd stops
+          swept_stop (Input line) stops = absurd stops
+          swept_stop Memory stops = absurd stops
+          swept_stop Link stops = absurd stops
+          swept_stop (Peer line) stops = absurd stops
+          swept_stop (Faults count) stops = absurd stops
+
+          pub swept_stops : (result : Result (Vec ℕ Global) Stop) → IfErr result (ConclusionStop report) → IfErr result (FilesStop H before now (Sweep words))
           swept_stops (Ok text) none = tt
-          swept_stops (Err stop) (same, some) =
-              subst (FilesStop H before now (Sweep words)) (sym same)
-              (swept_by (if report.collides then 5 else 1) (stop_status proofs verdicts report is some) (string_bytes report.lines) refl, kept)
+          swept_stops (Err stop) stops = swept_stop stop stops

@@ -1,13 +1,16 @@
 -- A reported file has one content, and an index in one is not refused.
-use Rattle.std.proofs.Common.{◌≡◌, ◌∙◌, ◌<◌, ◌≤◌, ◌^◌, ℕ, List, length, Option, Some, None, MatchOption, refl, sym, ap, subst, arith}
+use Rattle.std.proofs.Common.{◌≡◌, ◌∙◌, ◌<◌, ◌≤◌, ◌^◌, ℕ, List, length, Option, Some, None, MatchOption, refl, sym, ap, subst, arith, inl, inr}
 use Rattle.ats_base.specs.Outside.{IsMissing, IsLonger}
 use Rattle.ats_commit.specs.Archive.{Archive}
 use Rattle.ats_index.specs.Spelling.{IsSpelling}
 use Rattle.ats_index.proofs.Public.{no_place}
 use Rattle.ats_top.specs.Read.{Files, IsTold, IsFile, HasIndex}
+use Rattle.ats_index.specs.LoadFaults.{IsLoadFault}
+use Rattle.ats_index.specs.declared.load.LoadFault.{LoadFault}
+use Rattle.ats_index.specs.declared.load.LoadFault.TheVariants as index
+use Rattle.ats_top.specs.Stops.{stop_of_load}
+use Rattle.ats_top.specs.declared.stops.Stop.TheVariants.{Input}
 use Rattle.ats_top.specs.Refusals.{IsIndexRefused}
-use Rattle.ats_top.specs.declared.stops.InputRefusal.{InputRefusal}
-use Rattle.ats_top.specs.declared.stops.InputRefusal.TheVariants.{FileTooLong, BadIndex}
 
 same_some : {X : Type 0} (o : Option X) (x y : X) → o ≡ Some x → o ≡ Some y → x ≡ y
 same_some o x y first second = let both = sym first ∙ second in cc
@@ -44,19 +47,22 @@ pub missing_told : (files : Files) (name : List ℕ) → IsMissing files name �
 missing_told None name missing = absurd missing
 missing_told (Some map) name missing = refl
 
+-- the bytes of an index have no fault but out of memory
+load_kept : (H : List ℕ → List ℕ) (bytes : List ℕ) (archive : Archive) (line : List ℕ) (fault : LoadFault) → IsSpelling H bytes archive → IsLoadFault H bytes fault
+    → stop_of_load fault ≡ Input line → ⊥
+load_kept H bytes archive line (index.BadIndex at) spelling first is = no_place H bytes at archive first spelling
+load_kept H bytes archive line index.OutOfMemory spelling first is = absurd (cc)
+
 -- an index is not refused
 pub index_kept : (H : List ℕ → List ℕ) (files : Files) (name : List ℕ) (archive : Archive) → IsTold files → HasIndex H files name archive
-    → (refusal : InputRefusal) → IsIndexRefused H files name refusal → ⊥
-index_kept H files name archive told has (FileTooLong limit) refused =
-    not_longer files name has.bytes (2 ^ 29) told has.file (subst (IsLonger files name) refused.0 refused.1)
-index_kept H files name archive told has (BadIndex at) (bytes, file, fault) =
-    let same = one_file files name has.bytes bytes (2 ^ 29) (2 ^ 29) told has.file file in
-    no_place H bytes at archive fault (subst (λ b. IsSpelling H b archive) same has.spelling)
-index_kept H files name archive told has _ refused = refused
+    → (line : List ℕ) → IsIndexRefused H files name line → ⊥
+index_kept H files name archive told has line (inl long) = not_longer files name has.bytes (2 ^ 29) told has.file long.0
+index_kept H files name archive told has line (inr refused) =
+    let same = one_file files name has.bytes refused.bytes (2 ^ 29) (2 ^ 29) told has.file refused.file in
+    load_kept H refused.bytes archive line refused.fault (subst (λ b. IsSpelling H b archive) same has.spelling) refused.first refused.same
 
 -- an index that is not there is not refused
 module _ (files : Files) (name : List ℕ) (missing : IsMissing files name) where
-  pub index_missing : (H : List ℕ → List ℕ) (refusal : InputRefusal) → IsIndexRefused H files name refusal → ⊥
-  index_missing H (FileTooLong limit) refused = missing_longer files name limit missing refused.1
-  index_missing H (BadIndex at) (bytes, file, fault) = missing_file files name bytes (2 ^ 29) missing file
-  index_missing H _ refused = refused
+  pub index_missing : (H : List ℕ → List ℕ) (line : List ℕ) → IsIndexRefused H files name line → ⊥
+  index_missing H line (inl long) = missing_longer files name (2 ^ 29) missing long.0
+  index_missing H line (inr refused) = missing_file files name refused.bytes (2 ^ 29) missing refused.file

@@ -1,5 +1,5 @@
 -- The results of the proofs of a trial.
-use Rattle.std.proofs.Common.{◌≡◌, ◌+◌, ◌<◌, ◌≤◌, ◌^◌, ℕ, ◌⊎◌, true, Option, None, List, [], ◌∷◌, ◌++◌, length, drop, get_or, slice_get, sum_by, Some, refl, sym, ap, ap₂, subst, ◌∙◌, arith, inl, inr, zero-add, Result, Ok, Err, IfErr, codes, decimal, String, Global, string_bytes}
+use Rattle.std.proofs.Common.{◌≡◌, ◌+◌, ◌<◌, ◌≤◌, ◌^◌, ℕ, ◌⊎◌, true, Option, None, List, [], ◌∷◌, ◌++◌, length, drop, get_or, slice_get, sum_by, Some, refl, sym, ap, ap₂, subst, ◌∙◌, arith, inl, inr, zero-add, Result, Ok, Err, IfErr, codes, decimal, Vec, Global}
 use Rattle.std.specs.Prelude.{IfOk}
 use Rattle.std.proofs.lemmas.Bool.{cases_Bool, cases_lt, cond-false, cond-true}
 use Rattle.std.proofs.lemmas.List.{length-append, get_or_append_left, get_or_read}
@@ -35,7 +35,6 @@ use Rattle.ats_prover.specs.declared.fault.ProveFault.TheVariants as proof
 use Rattle.ats_top.specs.Stops.{stop_of_query, stop_of_collection, stop_of_proof}
 use Rattle.ats_top.specs.Print.{line_of_root}
 use Rattle.ats_top.specs.Trial.{line_of_proofs, lines_of_trial, shown_entries, trial_archive, tally_of, counted, turn, IsTried, AreTried, AreTriedLines, AreQueries, AreTrialQueries, AreTrialProofs, IsTrial, is_right, IsTryStop, IsTriesStop, IsTrialStop}
-use Rattle.ats_top.specs.declared.stops.InputRefusal.TheVariants.{ROut, QueryTooLong, NoTerm, TooManyWords, TooManyTerms, FileTooLong, NotJson, NotArray, BadItem, NoDocuments, TooManyDocuments, TextTooLong, AllTooLong, BadIndex, ProofTooLong}
 use Rattle.ats_top.specs.declared.stops.Stop.{Stop}
 use Rattle.ats_top.specs.declared.stops.Stop.TheVariants.{Input, Memory}
 use Rattle.ats_top.specs.declared.trial.Tally.{Tally}
@@ -178,15 +177,15 @@ passed_on P result stop told is same holds = subst (λ r. IfErr r P) (sym is) (s
 
 pub query_stops : (H : List ℕ → List ℕ) (number i : ℕ) (fault : QueryFault) → i < 20 → AreQueries number i → IsFirstFault (trial_query number i) fault
     → IsTrialStop H number (stop_of_query fault)
-query_stops H number i (query.TooLong bytes) low before first = record { i = i; inside = low; before = before; fault = query.TooLong bytes; first = first; same = refl }
-query_stops H number i query.NoTerm low before first = record { i = i; inside = low; before = before; fault = query.NoTerm; first = first; same = refl }
-query_stops H number i (query.TooManyWords count) low before first = record { i = i; inside = low; before = before; fault = query.TooManyWords count; first = first; same = refl }
-query_stops H number i (query.TooManyTerms distinct) low before first = record { i = i; inside = low; before = before; fault = query.TooManyTerms distinct; first = first; same = refl }
+query_stops H number i (query.TooLong bytes) low before first = inl (record { i = i; inside = low; before = before; fault = query.TooLong bytes; first = first; same = refl })
+query_stops H number i query.NoTerm low before first = inl (record { i = i; inside = low; before = before; fault = query.NoTerm; first = first; same = refl })
+query_stops H number i (query.TooManyWords count) low before first = inl (record { i = i; inside = low; before = before; fault = query.TooManyWords count; first = first; same = refl })
+query_stops H number i (query.TooManyTerms distinct) low before first = inl (record { i = i; inside = low; before = before; fault = query.TooManyTerms distinct; first = first; same = refl })
 query_stops H number i query.OutOfMemory low before first = tt
 
 pub proof_stops : (H : List ℕ → List ℕ) (archive : Archive) (query : List (List ℕ × ℕ)) (algorithm : Algorithm) (fault : ProveFault)
     → IsFault H archive query 10 algorithm (2 ^ 26) fault → IsTryStop H archive query algorithm (stop_of_proof fault)
-proof_stops H archive query algorithm (proof.ProofTooLong bytes) is = is
+proof_stops H archive query algorithm (proof.ProofTooLong bytes) is = (bytes, is, refl)
 proof_stops H archive query algorithm proof.OutOfMemory is = tt
 
 pub collection_stops : (H : List ℕ → List ℕ) (number : ℕ) (texts : List (List ℕ)) (fault : CollectionFault) → AreWithin texts
@@ -251,38 +250,30 @@ module _ (H : List ℕ → List ℕ) (number : ℕ) (queries : List (List (List 
       → ((k : ℕ) (a : Algorithm) → turn k a < turn i algorithm → (d : List (List ℕ × ℕ)) → (proof : Proof) × IsTried H (trial_archive number) (get_or queries k d) a proof)
       → IsTrialStop H number stop
   trial_stops_at Memory i algorithm inside stopped before = tt
-  trial_stops_at (Input (ProofTooLong bytes)) i algorithm inside stopped before = record {
-    i = i;
-    algorithm = algorithm;
-    inside = omega (arith, inside, many);
-    asked = are_queries number queries 20 many are;
-    before = λ k a less.
-        let found = before k a less [] in
-        (found.0, record { query = get_or queries k []; asked = are k [] (past k i a algorithm less inside); tried = found.1 });
-    query = get_or queries i [];
-    own = are i [] inside;
-    long = stopped [];
-  }
+  trial_stops_at (Input line) i algorithm inside stopped before =
+      let long = stopped [] in
+      inr (
+        long.0,
+        record {
+          i = i;
+          algorithm = algorithm;
+          inside = omega (arith, inside, many);
+          asked = are_queries number queries 20 many are;
+          before = λ k a less.
+              let found = before k a less [] in
+              (found.0, record { query = get_or queries k []; asked = are k [] (past k i a algorithm less inside); tried = found.1 });
+          query = get_or queries i [];
+          own = are i [] inside;
+          long = long.1;
+        },
+        long.2,
+      )
     where
       past : (k i : ℕ) (a algorithm : Algorithm) → turn k a < turn i algorithm → i < length queries → k < length queries
       past k i Tra Tra less inside = omega (arith, less, inside)
       past k i Tra Tnra less inside = omega (arith, less, inside)
       past k i Tnra Tra less inside = omega (arith, less, inside)
       past k i Tnra Tnra less inside = omega (arith, less, inside)
-  trial_stops_at (Input (ROut r)) i algorithm inside stopped before = absurd (stopped [])
-  trial_stops_at (Input (QueryTooLong bytes)) i algorithm inside stopped before = absurd (stopped [])
-  trial_stops_at (Input NoTerm) i algorithm inside stopped before = absurd (stopped [])
-  trial_stops_at (Input (TooManyWords count)) i algorithm inside stopped before = absurd (stopped [])
-  trial_stops_at (Input (TooManyTerms distinct)) i algorithm inside stopped before = absurd (stopped [])
-  trial_stops_at (Input (FileTooLong limit)) i algorithm inside stopped before = absurd (stopped [])
-  trial_stops_at (Input NotJson) i algorithm inside stopped before = absurd (stopped [])
-  trial_stops_at (Input NotArray) i algorithm inside stopped before = absurd (stopped [])
-  trial_stops_at (Input (BadItem doc)) i algorithm inside stopped before = absurd (stopped [])
-  trial_stops_at (Input NoDocuments) i algorithm inside stopped before = absurd (stopped [])
-  trial_stops_at (Input (TooManyDocuments n)) i algorithm inside stopped before = absurd (stopped [])
-  trial_stops_at (Input (TextTooLong doc)) i algorithm inside stopped before = absurd (stopped [])
-  trial_stops_at (Input (AllTooLong bytes)) i algorithm inside stopped before = absurd (stopped [])
-  trial_stops_at (Input (BadIndex at)) i algorithm inside stopped before = absurd (stopped [])
   trial_stops_at _ i algorithm inside stopped before = absurd (stopped [])
 
   pub trial_stops : (stop : Stop) → IsTriesStop H (trial_archive number) queries stop → IsTrialStop H number stop
@@ -310,16 +301,16 @@ module _ (H : List ℕ → List ℕ) (number : ℕ) (queries : List (List (List 
   }
 
   -- the lines of the tried proofs are the trial's
-  pub tried_ok : (index : Archive) → index ≡ trial_archive number → (asked : List (List (List ℕ × ℕ))) → asked ≡ queries → (result : Result (String Global) Stop)
-      → IfOk result (λ text. AreTriedLines H index asked (string_bytes text)) → IfOk result (λ text. IsTrial H number (string_bytes text))
+  pub tried_ok : (index : Archive) → index ≡ trial_archive number → (asked : List (List (List ℕ × ℕ))) → asked ≡ queries → (result : Result (Vec ℕ Global) Stop)
+      → IfOk result (λ text. AreTriedLines H index asked text.items) → IfOk result (λ text. IsTrial H number text.items)
   tried_ok index own asked same (Ok text) is =
-      let here : AreTriedLines H (trial_archive number) queries (string_bytes text) = subst (λ (a : Archive). AreTriedLines H a queries (string_bytes text)) own
-      (subst (λ (qs : List (List (List ℕ × ℕ))). AreTriedLines H index qs (string_bytes text)) same is) in
-      is_trial (string_bytes text) here.tra here.tnra here.by_tra here.by_tnra here.printed
+      let here : AreTriedLines H (trial_archive number) queries text.items = subst (λ (a : Archive). AreTriedLines H a queries text.items) own
+      (subst (λ (qs : List (List (List ℕ × ℕ))). AreTriedLines H index qs text.items) same is) in
+      is_trial text.items here.tra here.tnra here.by_tra here.by_tnra here.printed
   tried_ok index own asked same (Err stop) none = tt
 
   -- if there are none, a proof of the trial is the cause, or memory ran out
-  pub tried_stop : (index : Archive) → index ≡ trial_archive number → (asked : List (List (List ℕ × ℕ))) → asked ≡ queries → (result : Result (String Global) Stop)
+  pub tried_stop : (index : Archive) → index ≡ trial_archive number → (asked : List (List (List ℕ × ℕ))) → asked ≡ queries → (result : Result (Vec ℕ Global) Stop)
       → IfErr result (λ stop. (stop ≡ Memory) ⊎ IsTriesStop H index asked stop) → IfErr result (IsTrialStop H number)
   tried_stop index own asked same (Ok text) none = tt
   tried_stop index own asked same (Err stop) (inl wanted) = subst (IsTrialStop H number) (sym wanted) tt

@@ -14,7 +14,7 @@ use Rattle.ats_top.specs.ReadStops.{ProofStop, BytesStop}
 use Rattle.ats_top.specs.Done.{IsVerified}
 use Rattle.ats_top.specs.Run.{FilesStop}
 use Rattle.ats_top.specs.declared.stops.Stop.{Stop}
-use Rattle.ats_top.specs.declared.stops.Stop.TheVariants.{Usage, Shelf, Input, Rejected, Memory, Link, Peer, Faults, Collision, Swept}
+use Rattle.ats_top.specs.declared.stops.Stop.TheVariants.{Usage, Shelf, Input, Rejected, Memory, Link, Peer, Faults, Collision}
 
 -- rows and a query that were read are within the limits
 pub asks_of : (r : ℕ) (text : List ℕ) (query : List (List ℕ × ℕ)) → (1 ≤ r) × (r ≤ 1000) → IsQueryOf text query → AsksRanking r text
@@ -26,28 +26,26 @@ module _ (H : List ℕ → List ℕ) (before now : ShelfTold) (words : VerifyWor
   file_stops Usage stops = stops
   file_stops Shelf (inl rose) = (inl (asks, rose), inl same)
   file_stops Shelf (inr missing) = (inr (asks, missing), inl same)
-  file_stops (Input refusal) stops = absurd stops
-  file_stops (Rejected rejection) stops = ((asks, inl stops), same)
+  file_stops (Input line) stops = absurd stops
+  file_stops (Rejected line) (rejection, long, printed) = (inl (rejection, (asks, inl long), printed), same)
   file_stops Memory stops = same
   file_stops Link stops = absurd stops
-  file_stops (Peer fault) stops = absurd stops
+  file_stops (Peer line) stops = absurd stops
   file_stops (Faults count) stops = absurd stops
-  file_stops (Collision place ours theirs) stops = absurd stops
-  file_stops (Swept lines collides) stops = absurd stops
+  file_stops (Collision lines) stops = absurd stops
 
   module _ (query : List (List ℕ × ℕ)) (bytes : List ℕ) (asked : IsQueryOf words.query query) (file : IsFile before.files words.proof (2 ^ 26) bytes) where
     bytes_stop : (stop : Stop) → BytesStop H words.root query words.r bytes stop → FilesStop H before now (Verify words) stop
     bytes_stop Usage stops = stops
     bytes_stop Shelf stops = absurd stops
-    bytes_stop (Input refusal) stops = absurd stops
-    bytes_stop (Rejected rejection) stops =
-        ((asks, inr (record { query = query; asked = asked; bytes = bytes; file = file; rejected = stops })), same)
+    bytes_stop (Input line) stops = absurd stops
+    bytes_stop (Rejected line) (rejection, bad, printed) =
+        (inl (rejection, (asks, inr (record { query = query; asked = asked; bytes = bytes; file = file; rejected = bad })), printed), same)
     bytes_stop Memory stops = same
     bytes_stop Link stops = absurd stops
-    bytes_stop (Peer fault) stops = absurd stops
+    bytes_stop (Peer line) stops = absurd stops
     bytes_stop (Faults count) stops = absurd stops
-    bytes_stop (Collision place ours theirs) stops = absurd stops
-    bytes_stop (Swept lines collides) stops = absurd stops
+    bytes_stop (Collision lines) stops = absurd stops
 
     -- bytes that were refused
     pub bytes_stops : {T : Type 0} (result : Result T Stop) → IfErr result (BytesStop H words.root query words.r bytes)

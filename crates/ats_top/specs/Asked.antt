@@ -13,7 +13,7 @@ use Rattle.ats_top.specs.Words.{AskWords}
 use Rattle.ats_top.specs.Print.{lines}
 use Rattle.ats_top.specs.Conversation.{Converses, LosesLink, HearsFault}
 use Rattle.ats_top.specs.Refusals.{AsksRanking, IsRankingRefused}
-use Rattle.ats_top.specs.declared.stops.PeerFault.{PeerFault}
+use Rattle.ats_top.specs.RejectionLines.{IsRejectionLine}
 use Rattle.ats_top.specs.declared.stops.Stop.{Stop}
 use Rattle.ats_top.specs.declared.stops.Stop.TheVariants.{Input, Rejected, Memory, Link, Peer}
 
@@ -44,10 +44,10 @@ pub record IsReplyRejected (H : List ℕ → List ℕ) (before now : CallerTold)
   pub replied : IsReplied before now words query bytes
   pub rejected : IsRejectedBytes H words.root query words.r bytes rejection
 
--- the reply is no proof, and has this fault
-pub record IsReplyFault (before now : CallerTold) (words : AskWords) (fault : PeerFault) : Type 0 where
+-- the reply is no proof, and the line is that of its fault
+pub record IsReplyFault (before now : CallerTold) (words : AskWords) (line : List ℕ) : Type 0 where
   pub asks : AsksRanking words.r words.query
-  pub heard : HearsFault words.address (question_of words) before now fault
+  pub heard : HearsFault words.address (question_of words) before now line
 
 -- The reply is an accepted proof, and the text is the lines of the rows of its answer. For every archive with the root,
 -- either these rows are right, or the proof and the archive contain two different strings with equal digests, and an
@@ -60,12 +60,12 @@ pub record IsAnswered (H : List ℕ → List ℕ) (before now : CallerTold) (wor
 
 -- why it stopped; out of memory needs no cause
 abbrev pub AskStop : (List ℕ → List ℕ) → (before now : CallerTold) → AskWords → Stop → Type 0
-AskStop H before now words (Input refusal) = IsRankingRefused words.r words.query (λ other. ⊥) refusal
-AskStop H before now words (Rejected rejection) = IsReplyRejected H before now words rejection
+AskStop H before now words (Input line) = IsRankingRefused words.r words.query (λ other. ⊥) line
+AskStop H before now words (Rejected line) = IsRejectionLine (IsReplyRejected H before now words) line
 AskStop H before now words Memory = Unit {0}
 AskStop H before now words Link = AsksRanking words.r words.query
     × LosesLink words.address (question_of words) before now
-AskStop H before now words (Peer fault) = IsReplyFault before now words fault
+AskStop H before now words (Peer line) = IsReplyFault before now words line
 AskStop H before now words _ = ⊥
 
 -- The status that a reply decides: that of an accepted proof, of one that is rejected, or of a reply that is no proof.
@@ -73,4 +73,4 @@ abbrev pub Decides : (List ℕ → List ℕ) → (before now : CallerTold) → A
 Decides H before now words status =
     ((status ≡ 0) × IsReplyAccepted H before now words)
     ⊎ (((status ≡ 1) × ((rejection : Rejection) × IsReplyRejected H before now words rejection))
-    ⊎ ((status ≡ 9) × ((fault : PeerFault) × IsReplyFault before now words fault)))
+    ⊎ ((status ≡ 9) × ((line : List ℕ) × IsReplyFault before now words line)))

@@ -15,6 +15,8 @@ use Rattle.ats_top.specs.Words.{AuditWords, Command, Audit}
 use Rattle.ats_top.specs.Print.{lines}
 use Rattle.ats_top.specs.Read.{Files, IsFile, HasIndex}
 use Rattle.ats_top.specs.Refusals.{AsksRanking}
+use Rattle.ats_top.specs.RejectionLines.{IsRejectionLine}
+use Rattle.ats_top.specs.CollisionLines.{lines_of_collision}
 use Rattle.ats_top.specs.declared.stops.Stop.{Stop}
 use Rattle.ats_top.specs.declared.stops.Stop.TheVariants.{Rejected, Memory, Collision}
 
@@ -52,10 +54,27 @@ pub record CollidesAt (H : List ℕ → List ℕ) (files : Files) (command : Com
   pub differ : ours ≢ theirs
   pub equal : H ours ≡ H theirs
 
--- the bytes are rejected under the archive's root, or have this first collision with the archive
+-- the lines are those of such a collision
+pub record AreCollisionLines (H : List ℕ → List ℕ) (files : Files) (command : Command) (lines : List ℕ) : Type 0 where
+  pub place : Place
+  pub ours : List ℕ
+  pub theirs : List ℕ
+  pub collides : CollidesAt H files command place ours theirs
+  pub printed : lines ≡ lines_of_collision place ours theirs
+
+-- the bytes have this first collision with the archive, and the lines are those of it
+pub record IsCollisionFound (H : List ℕ → List ℕ) (archive : Archive) (query : List (List ℕ × ℕ)) (r : ℕ)
+    (bytes lines : List ℕ) : Type 0 where
+  pub place : Place
+  pub ours : List ℕ
+  pub theirs : List ℕ
+  pub found : IsFoundCollision H archive query r bytes (record { place = place; ours = ours; theirs = theirs })
+  pub printed : lines ≡ lines_of_collision place ours theirs
+
+-- the bytes are rejected under the archive's root, or have a collision with the archive
 abbrev pub VerdictStop : (List ℕ → List ℕ) → Archive → List (List ℕ × ℕ) → ℕ → List ℕ → Stop → Type 0
-VerdictStop H archive query r bytes (Rejected rejection) = IsRejectedBytes H (root_of H archive) query r bytes rejection
-VerdictStop H archive query r bytes (Collision place ours theirs) =
-    IsFoundCollision H archive query r bytes (record { place = place; ours = ours; theirs = theirs })
+VerdictStop H archive query r bytes (Rejected line) =
+    IsRejectionLine (IsRejectedBytes H (root_of H archive) query r bytes) line
+VerdictStop H archive query r bytes (Collision lines) = IsCollisionFound H archive query r bytes lines
 VerdictStop H archive query r bytes Memory = Unit {0}
 VerdictStop H archive query r bytes _ = ⊥

@@ -6,10 +6,9 @@ use Rattle.ats_wire.specs.Requests.{Question}
 use Rattle.ats_wire.specs.Asking.{IsAsked, IsHeard}
 use Rattle.ats_wire.specs.Feeding.{IsFed}
 use Rattle.ats_wire.specs.declared.asking.AskFault.{AskFault}
-use Rattle.ats_wire.specs.declared.asking.AskFault.TheVariants.{ShortReply, LongReply, BadReply, PeerRefused, ReadFault, WriteFault}
+use Rattle.ats_wire.specs.declared.asking.AskFault.TheVariants.{LongReply, BadReply, ReadFault, WriteFault}
 use Rattle.ats_wire.specs.declared.feeding.Fed.{Fed}
-use Rattle.ats_top.specs.declared.stops.PeerFault.{PeerFault}
-use Rattle.ats_top.specs.declared.stops.PeerFault.TheVariants.{Short, Long, Bad, Refused}
+use Rattle.ats_top.specs.Stops.{stop_of_asking}
 use Rattle.ats_top.specs.declared.stops.Stop.{Stop}
 use Rattle.ats_top.specs.declared.stops.Stop.TheVariants.{Memory, Link, Peer}
 
@@ -43,24 +42,19 @@ pub record LosesLink (address : List ℕ) (question : Question) (before now : Ca
   pub way : CallsInVain address before now
       ⊎ (Converses address question before now (Err ReadFault) ⊎ Converses address question before now (Err WriteFault))
 
--- the fault of the reply
-abbrev pub reply_fault : PeerFault → AskFault
-reply_fault (Short got wanted) = ShortReply got wanted
-reply_fault (Long size) = LongReply size
-reply_fault (Bad size kind) = BadReply size kind
-reply_fault (Refused code) = PeerRefused code
-
--- the reply is no proof, and has this fault
+-- the reply is no proof, and the line is that of its fault
 pub record HearsFault (address : List ℕ) (question : Question) (before now : CallerTold)
-    (fault : PeerFault) : Type 0 where
-  pub heard : IsHeard (Err (reply_fault fault))
-  pub conversation : Converses address question before now (Err (reply_fault fault))
+    (line : List ℕ) : Type 0 where
+  pub fault : AskFault
+  pub heard : IsHeard (Err fault)
+  pub conversation : Converses address question before now (Err fault)
+  pub same : stop_of_asking fault ≡ Peer line
 
 -- why there are no bytes of a proof; out of memory needs no cause
 abbrev pub ConversationStop : (address : List ℕ) → Question → (before now : CallerTold) → Stop → Type 0
 ConversationStop address question before now Memory = Unit {0}
 ConversationStop address question before now Link = LosesLink address question before now
-ConversationStop address question before now (Peer fault) = HearsFault address question before now fault
+ConversationStop address question before now (Peer line) = HearsFault address question before now line
 ConversationStop address question before now _ = ⊥
 
 -- the reported length has 4 bytes

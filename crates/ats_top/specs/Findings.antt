@@ -86,10 +86,10 @@ pub record IsSwept (H : List ℕ → List ℕ) (files : Files) (words : SweepWor
   pub comes : status_of_findings findings ≡ status
   pub printed : text ≡ lines_of_findings findings
 
--- a sweep found that not all is right: one collides, or one is refused and none collides
-abbrev pub SweepStops : (List ℕ → List ℕ) → Files → Command → (text : List ℕ) → (collides : Bool) → Type 0
-SweepStops H files (Sweep words) text collides = IsSwept H files words (if collides then 5 else 1) text
-SweepStops H files _ text collides = ⊥
+-- the lines are those of a sweep whose findings give this status
+abbrev pub SweepStops : (List ℕ → List ℕ) → Files → Command → (status : ℕ) → (lines : List ℕ) → Type 0
+SweepStops H files (Sweep words) status lines = IsSwept H files words status lines
+SweepStops H files _ status lines = ⊥
 
 -- the file of a line is the honest proof, by one of the algorithms, of what the line asks for; each query that is read
 -- satisfies `IsQuery`

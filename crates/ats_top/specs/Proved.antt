@@ -1,12 +1,12 @@
 -- The honest proof that the words of `prove` ask for.
-use Rattle.std.specs.Prelude.{◌≤◌, ◌^◌, ℕ, List, length}
+use Rattle.std.specs.Prelude.{◌≡◌, ◌≤◌, ◌^◌, ℕ, List, length}
 use Rattle.ats_commit.specs.Archive.{Archive}
 use Rattle.ats_terms.specs.Query.{IsQueryOf}
 use Rattle.ats_proof.specs.declared.record.Algorithm.{Algorithm}
 use Rattle.ats_honest.specs.Honest.{IsProved, IsTooLong}
 use Rattle.ats_top.specs.Words.{ProveWords}
 use Rattle.ats_top.specs.Read.{Files, HasIndex}
-use Rattle.ats_top.specs.declared.stops.InputRefusal.TheVariants.{ProofTooLong}
+use Rattle.ats_top.specs.Stops.{line_of_long_proof}
 use Rattle.ats_top.specs.declared.stops.Stop.{Stop}
 use Rattle.ats_top.specs.declared.stops.Stop.TheVariants.{Input, Memory}
 
@@ -31,6 +31,6 @@ pub record IsProofTooLong (H : List ℕ → List ℕ) (files : Files) (words : P
 -- why a query's proof over an archive is not made: it is too long, or memory ran out
 abbrev pub MakingStop : (List ℕ → List ℕ) → Archive → List (List ℕ × ℕ) → ℕ → Algorithm → Stop → Type 0
 MakingStop H archive query r algorithm Memory = Unit {0}
-MakingStop H archive query r algorithm (Input (ProofTooLong bytes)) =
-    IsTooLong H archive query r algorithm (2 ^ 26) bytes
+MakingStop H archive query r algorithm (Input line) = (bytes : ℕ)
+    × IsTooLong H archive query r algorithm (2 ^ 26) bytes × (line ≡ line_of_long_proof bytes)
 MakingStop H archive query r algorithm _ = ⊥

@@ -1,27 +1,25 @@
 -- Why a command refuses its words or its file, or a query or a proof of a trial: the first limit or form that is
--- broken, in the order in which they are checked.
+-- broken, in the order in which they are checked. Each refusal is named by the line that is printed for it.
 use Rattle.std.specs.Prelude.{◌≡◌, ◌⊎◌, ◌≤◌, ◌^◌, ℕ, List}
 use Rattle.ats_base.specs.Outside.{IsMissing, IsLonger}
 use Rattle.ats_terms.specs.Query.{HasQuery}
 use Rattle.ats_terms.specs.Faults.{IsFirstFault}
-use Rattle.ats_terms.specs.declared.query.QueryFault.TheVariants as query
+use Rattle.ats_terms.specs.declared.query.QueryFault.{QueryFault}
 use Rattle.ats_impact.specs.CollectionFaults.{IsFirstCollectionFault}
 use Rattle.ats_impact.specs.declared.collection.CollectionFault.{CollectionFault}
-use Rattle.ats_impact.specs.declared.collection.CollectionFault.TheVariants as collection
 use Rattle.ats_commit.specs.Archive.{Archive}
 use Rattle.ats_index.specs.LoadFaults.{IsLoadFault}
-use Rattle.ats_index.specs.declared.load.LoadFault.TheVariants as index
+use Rattle.ats_index.specs.declared.load.LoadFault.{LoadFault}
 use Rattle.ats_top.specs.Input.{AreJsonTexts, IsFirstJsonFault}
 use Rattle.ats_top.specs.declared.input.JsonFault.{JsonFault}
-use Rattle.ats_top.specs.declared.input.JsonFault.TheVariants as json
 use Rattle.ats_top.specs.Listed.{Listed, lines_of, IsList, IsBadLine, names_of}
 use Rattle.ats_top.specs.Gathered.{LacksProof, PassesLimit}
 use Rattle.ats_top.specs.Words.{ProveWords, SweepWords, Command, Rank, Build, Root, Prove, Verify, Ask, Serve, Audit, Sweep, Trial}
 use Rattle.ats_top.specs.Read.{Files, IsFile, HasIndex}
 use Rattle.ats_top.specs.Proved.{IsProofTooLong}
 use Rattle.ats_top.specs.Trial.{IsTrialRefused}
-use Rattle.ats_top.specs.declared.stops.InputRefusal.{InputRefusal}
-use Rattle.ats_top.specs.declared.stops.InputRefusal.TheVariants.{ROut, QueryTooLong, NoTerm, TooManyWords, TooManyTerms, FileTooLong, NotJson, NotArray, BadItem, NoDocuments, TooManyDocuments, TextTooLong, AllTooLong, BadIndex, ProofTooLong, ListLine, ProofsTooLong}
+use Rattle.ats_top.specs.Stops.{line_of_rows, line_of_limit, line_of_long_proof, line_of_bad_line, line_of_long_proofs, stop_of_query, stop_of_json, stop_of_collection, stop_of_load}
+use Rattle.ats_top.specs.declared.stops.Stop.TheVariants.{Input}
 
 -- an answer may have 1 to 1,000 rows
 pub record IsRowCount (r : ℕ) : Type 0 where
@@ -70,72 +68,94 @@ LacksFile H files (Sweep words) = IsMissing files words.index
     ⊎ ((listed : List Listed) × IsList files words.list listed × LacksProof files (names_of listed))))
 LacksFile H files (Trial words) = ⊥
 
--- the first refusal of the file's bytes is that of the JSON text
-abbrev pub IsJsonRefused : Files → List ℕ → JsonFault → Type 0
-IsJsonRefused files name fault = (bytes : List ℕ) × IsFile files name (2 ^ 26) bytes × IsFirstJsonFault bytes fault
+-- the text has this first fault as a query
+abbrev pub IsQueryRefused : List ℕ → (line : List ℕ) → Type 0
+IsQueryRefused text line = (fault : QueryFault) × IsFirstFault text fault × (stop_of_query fault ≡ Input line)
 
--- the first refusal of the file's bytes is that of its texts as a collection
-abbrev pub AreTextsRefused : Files → List ℕ → CollectionFault → Type 0
-AreTextsRefused files name fault = (bytes : List ℕ) × (texts : List (List ℕ))
-    × IsFile files name (2 ^ 26) bytes × AreJsonTexts bytes texts × IsFirstCollectionFault texts fault
+-- the named file has more bytes than the limit
+abbrev pub IsLongRefused : Files → List ℕ → (limit : ℕ) → (line : List ℕ) → Type 0
+IsLongRefused files name limit line = IsLonger files name limit × (line ≡ line_of_limit limit)
+
+-- the file's bytes have this first fault as a JSON array of texts
+pub record IsJsonRefused (files : Files) (name line : List ℕ) : Type 0 where
+  pub bytes : List ℕ
+  pub file : IsFile files name (2 ^ 26) bytes
+  pub fault : JsonFault
+  pub first : IsFirstJsonFault bytes fault
+  pub same : stop_of_json fault ≡ Input line
+
+-- the file's texts have this first fault as a collection
+pub record AreTextsRefused (files : Files) (name line : List ℕ) : Type 0 where
+  pub bytes : List ℕ
+  pub texts : List (List ℕ)
+  pub file : IsFile files name (2 ^ 26) bytes
+  pub json : AreJsonTexts bytes texts
+  pub fault : CollectionFault
+  pub first : IsFirstCollectionFault texts fault
+  pub same : stop_of_collection fault ≡ Input line
 
 -- the named file as a collection: its length, its JSON text, its texts
-abbrev pub IsCollectionRefused : Files → List ℕ → InputRefusal → Type 0
-IsCollectionRefused files name (FileTooLong limit) = (limit ≡ 2 ^ 26) × IsLonger files name limit
-IsCollectionRefused files name NotJson = IsJsonRefused files name json.NotJson
-IsCollectionRefused files name NotArray = IsJsonRefused files name json.NotArray
-IsCollectionRefused files name (BadItem doc) = IsJsonRefused files name (json.BadItem doc)
-IsCollectionRefused files name NoDocuments = AreTextsRefused files name collection.NoDocuments
-IsCollectionRefused files name (TooManyDocuments n) = AreTextsRefused files name (collection.TooMany n)
-IsCollectionRefused files name (TextTooLong doc) = AreTextsRefused files name (collection.TextTooLong doc)
-IsCollectionRefused files name (AllTooLong bytes) = AreTextsRefused files name (collection.AllTooLong bytes)
-IsCollectionRefused files name _ = ⊥
+abbrev pub IsCollectionRefused : Files → List ℕ → (line : List ℕ) → Type 0
+IsCollectionRefused files name line = IsLongRefused files name (2 ^ 26) line
+    ⊎ (IsJsonRefused files name line ⊎ AreTextsRefused files name line)
+
+-- the file's bytes are the index of no archive, and this is the place where they cease to be
+pub record IsLoadRefused (H : List ℕ → List ℕ) (files : Files) (name line : List ℕ) : Type 0 where
+  pub bytes : List ℕ
+  pub file : IsFile files name (2 ^ 29) bytes
+  pub fault : LoadFault
+  pub first : IsLoadFault H bytes fault
+  pub same : stop_of_load fault ≡ Input line
 
 -- the named file as an index: its length, and the place where it is the index of no archive
-abbrev pub IsIndexRefused : (List ℕ → List ℕ) → Files → List ℕ → InputRefusal → Type 0
-IsIndexRefused H files name (FileTooLong limit) = (limit ≡ 2 ^ 29) × IsLonger files name limit
-IsIndexRefused H files name (BadIndex at) = (bytes : List ℕ) × IsFile files name (2 ^ 29) bytes
-    × IsLoadFault H bytes (index.BadIndex at)
-IsIndexRefused H files name _ = ⊥
+abbrev pub IsIndexRefused : (List ℕ → List ℕ) → Files → List ℕ → (line : List ℕ) → Type 0
+IsIndexRefused H files name line = IsLongRefused files name (2 ^ 29) line ⊎ IsLoadRefused H files name line
 
 -- the named index, then the length of the honest proof
-abbrev pub IsProvingRefused : (List ℕ → List ℕ) → Files → ProveWords → InputRefusal → Type 0
-IsProvingRefused H files words (ProofTooLong bytes) = IsProofTooLong H files words bytes
-IsProvingRefused H files words refusal = IsIndexRefused H files words.index refusal
+abbrev pub IsProvingRefused : (List ℕ → List ℕ) → Files → ProveWords → (line : List ℕ) → Type 0
+IsProvingRefused H files words line = IsIndexRefused H files words.index line
+    ⊎ ((bytes : ℕ) × IsProofTooLong H files words bytes × (line ≡ line_of_long_proof bytes))
+
+-- a line of the named list is out of form
+pub record IsLineRefused (files : Files) (name line : List ℕ) : Type 0 where
+  pub bytes : List ℕ
+  pub file : IsFile files name (2 ^ 20) bytes
+  pub number : ℕ
+  pub bad : IsBadLine (lines_of bytes) number
+  pub same : line ≡ line_of_bad_line number
+
+-- the proofs of the named list have too many bytes together
+pub record AreProofsRefused (files : Files) (name line : List ℕ) : Type 0 where
+  pub listed : List Listed
+  pub list : IsList files name listed
+  pub bytes : ℕ
+  pub passes : PassesLimit files (names_of listed) bytes
+  pub same : line ≡ line_of_long_proofs bytes
 
 -- the named file as a list: its length, its lines, and how many bytes its proofs have together
-abbrev pub IsListRefused : Files → List ℕ → InputRefusal → Type 0
-IsListRefused files name (FileTooLong limit) = (limit ≡ 2 ^ 20) × IsLonger files name limit
-IsListRefused files name (ListLine number) = (bytes : List ℕ) × IsFile files name (2 ^ 20) bytes
-    × IsBadLine (lines_of bytes) number
-IsListRefused files name (ProofsTooLong bytes) = (listed : List Listed) × IsList files name listed
-    × PassesLimit files (names_of listed) bytes
-IsListRefused files name _ = ⊥
+abbrev pub IsListRefused : Files → List ℕ → (line : List ℕ) → Type 0
+IsListRefused files name line = IsLongRefused files name (2 ^ 20) line
+    ⊎ (IsLineRefused files name line ⊎ AreProofsRefused files name line)
 
 -- the named index, then the named list
-abbrev pub IsSweepRefused : (List ℕ → List ℕ) → Files → SweepWords → InputRefusal → Type 0
-IsSweepRefused H files words refusal = IsIndexRefused H files words.index refusal
-    ⊎ (((archive : Archive) × HasIndex H files words.index archive) × IsListRefused files words.list refusal)
+abbrev pub IsSweepRefused : (List ℕ → List ℕ) → Files → SweepWords → (line : List ℕ) → Type 0
+IsSweepRefused H files words line = IsIndexRefused H files words.index line
+    ⊎ (((archive : Archive) × HasIndex H files words.index archive) × IsListRefused files words.list line)
 
 -- rows, query, and then what is checked after them
-abbrev pub IsRankingRefused : ℕ → List ℕ → (InputRefusal → Type 0) → InputRefusal → Type 0
-IsRankingRefused r text later (ROut out) = (out ≡ r) × (IsRowCount out → ⊥)
-IsRankingRefused r text later (QueryTooLong bytes) = IsRowCount r × IsFirstFault text (query.TooLong bytes)
-IsRankingRefused r text later NoTerm = IsRowCount r × IsFirstFault text query.NoTerm
-IsRankingRefused r text later (TooManyWords count) = IsRowCount r × IsFirstFault text (query.TooManyWords count)
-IsRankingRefused r text later (TooManyTerms distinct) = IsRowCount r × IsFirstFault text (query.TooManyTerms distinct)
-IsRankingRefused r text later refusal = AsksRanking r text × later refusal
+abbrev pub IsRankingRefused : ℕ → List ℕ → (later : List ℕ → Type 0) → (line : List ℕ) → Type 0
+IsRankingRefused r text later line = ((IsRowCount r → ⊥) × (line ≡ line_of_rows r))
+    ⊎ ((IsRowCount r × IsQueryRefused text line) ⊎ (AsksRanking r text × later line))
 
-abbrev pub IsRefused : (List ℕ → List ℕ) → Files → Command → InputRefusal → Type 0
-IsRefused H files (Rank words) refusal =
-    IsRankingRefused words.r words.query (IsCollectionRefused files words.collection) refusal
-IsRefused H files (Build words) refusal = IsCollectionRefused files words.collection refusal
-IsRefused H files (Root words) refusal = IsIndexRefused H files words.index refusal
-IsRefused H files (Prove words) refusal = IsRankingRefused words.r words.query (IsProvingRefused H files words) refusal
-IsRefused H files (Verify words) refusal = IsRankingRefused words.r words.query (λ other. ⊥) refusal
-IsRefused H files (Ask words) refusal = IsRankingRefused words.r words.query (λ other. ⊥) refusal
-IsRefused H files (Serve words) refusal = IsIndexRefused H files words.index refusal
-IsRefused H files (Audit words) refusal =
-    IsRankingRefused words.r words.query (IsIndexRefused H files words.index) refusal
-IsRefused H files (Sweep words) refusal = IsSweepRefused H files words refusal
-IsRefused H files (Trial words) refusal = IsTrialRefused H words.number refusal
+abbrev pub IsRefused : (List ℕ → List ℕ) → Files → Command → (line : List ℕ) → Type 0
+IsRefused H files (Rank words) line =
+    IsRankingRefused words.r words.query (IsCollectionRefused files words.collection) line
+IsRefused H files (Build words) line = IsCollectionRefused files words.collection line
+IsRefused H files (Root words) line = IsIndexRefused H files words.index line
+IsRefused H files (Prove words) line = IsRankingRefused words.r words.query (IsProvingRefused H files words) line
+IsRefused H files (Verify words) line = IsRankingRefused words.r words.query (λ other. ⊥) line
+IsRefused H files (Ask words) line = IsRankingRefused words.r words.query (λ other. ⊥) line
+IsRefused H files (Serve words) line = IsIndexRefused H files words.index line
+IsRefused H files (Audit words) line = IsRankingRefused words.r words.query (IsIndexRefused H files words.index) line
+IsRefused H files (Sweep words) line = IsSweepRefused H files words line
+IsRefused H files (Trial words) line = IsTrialRefused H words.number line

@@ -1,5 +1,5 @@
 -- The line of each refusal of a proof.
-use Rattle.std.specs.Prelude.{◌++◌, ℕ, List, codes, decimal}
+use Rattle.std.specs.Prelude.{◌≡◌, ◌++◌, ℕ, List, codes, decimal}
 use Rattle.ats_grammar.specs.declared.fault.ShapeKind.{ShapeKind}
 use Rattle.ats_grammar.specs.declared.fault.ShapeKind.TheVariants.{Long, Cut, Magic, Version, Algorithm, Count, Order, Trailing}
 use Rattle.ats_client.specs.declared.refusal.Refusal.{Refusal}
@@ -7,15 +7,16 @@ use Rattle.ats_client.specs.declared.refusal.Refusal.TheVariants.{OtherRoot, Slo
 use Rattle.ats_client.specs.declared.fault.Rejection.{Rejection}
 use Rattle.ats_client.specs.declared.fault.Rejection.TheVariants.{Shape, Check}
 
-abbrev pub kind_word : ShapeKind → List ℕ
-kind_word Long = codes "long"
-kind_word Cut = codes "cut"
-kind_word Magic = codes "magic"
-kind_word Version = codes "version"
-kind_word Algorithm = codes "algorithm"
-kind_word Count = codes "count"
-kind_word Order = codes "order"
-kind_word Trailing = codes "trailing"
+-- the words before the place of a fault of the shape
+abbrev pub shape_words : ShapeKind → List ℕ
+shape_words Long = codes "shape long "
+shape_words Cut = codes "shape cut "
+shape_words Magic = codes "shape magic "
+shape_words Version = codes "shape version "
+shape_words Algorithm = codes "shape algorithm "
+shape_words Count = codes "shape count "
+shape_words Order = codes "shape order "
+shape_words Trailing = codes "shape trailing "
 
 abbrev pub refusal_words : Refusal → List ℕ
 refusal_words OtherRoot = codes "other-root"
@@ -38,8 +39,12 @@ refusal_words (AnswerRepeated row) = codes "answer-repeated " ++ decimal row
 refusal_words NotSettled = codes "not-settled"
 
 abbrev pub rejection_words : Rejection → List ℕ
-rejection_words (Shape fault) = codes "shape " ++ (kind_word fault.kind ++ (codes " " ++ decimal fault.at))
+rejection_words (Shape fault) = shape_words fault.kind ++ decimal fault.at
 rejection_words (Check refusal) = refusal_words refusal
 
 abbrev pub line_of_rejection : Rejection → List ℕ
 line_of_rejection rejection = codes "refused: " ++ (rejection_words rejection ++ codes "\n")
+
+-- the line is that of a rejection that satisfies P
+abbrev pub IsRejectionLine : (Rejection → Type 0) → List ℕ → Type 0
+IsRejectionLine P line = (rejection : Rejection) × P rejection × (line ≡ line_of_rejection rejection)

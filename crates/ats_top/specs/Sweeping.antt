@@ -1,5 +1,5 @@
 -- The results of the steps of `sweep`: for the list, its proofs, the audits, and the lines.
-use Rattle.std.specs.Prelude.{◌≡◌, ◌⊎◌, ◌≤◌, ◌^◌, ℕ, List, [], None, map, string_bytes}
+use Rattle.std.specs.Prelude.{◌≡◌, ◌⊎◌, ◌≤◌, ◌^◌, ℕ, true, false, List, [], None, map}
 use Rattle.std.specs.List.{AllZip, list_any, zip}
 use Rattle.ats_base.specs.Outside.{Rose, ShelfTold, Asked}
 use Rattle.ats_client.specs.declared.fault.Rejection.TheVariants.{Shape, Check}
@@ -19,9 +19,9 @@ use Rattle.ats_top.specs.declared.gathering.Gathered.{Gathered}
 use Rattle.ats_top.specs.declared.gathering.Gathered.TheVariants.{Whole, Long}
 use Rattle.ats_top.specs.declared.listing.Entry.{Entry}
 use Rattle.ats_top.specs.declared.sweeping.Report.{Report}
-use Rattle.ats_top.specs.declared.stops.InputRefusal.TheVariants.{ListLine, ProofsTooLong}
+use Rattle.ats_top.specs.Stops.{line_of_bad_line, line_of_long_proofs}
 use Rattle.ats_top.specs.declared.stops.Stop.{Stop}
-use Rattle.ats_top.specs.declared.stops.Stop.TheVariants.{Shelf, Input, Memory}
+use Rattle.ats_top.specs.declared.stops.Stop.TheVariants.{Shelf, Input, Rejected, Memory, Collision}
 
 -- the line spells this number, this name and this query
 abbrev pub IsSpelledAs : List ℕ → ℕ → List ℕ → List ℕ → Type 0
@@ -29,7 +29,7 @@ IsSpelledAs line r proof query = IsSpelled line (record { r = r; proof = proof; 
 
 -- a line is bad, or memory ran out
 abbrev pub ListStop : List (List ℕ) → Stop → Type 0
-ListStop lines (Input (ListLine number)) = IsBadLine lines number
+ListStop lines (Input line) = (number : ℕ) × IsBadLine lines number × (line ≡ line_of_bad_line number)
 ListStop lines Memory = Unit {0}
 ListStop lines _ = ⊥
 
@@ -46,7 +46,8 @@ entry_names entries = map (λ (entry : Entry). entry.proof.now) entries
 -- the shelf's count rose, or a proof is missing; the proofs have too many bytes; or memory ran out
 abbrev pub GatheringStop : (before now : ShelfTold) → List (List ℕ) → Stop → Type 0
 GatheringStop before now names Shelf = Rose before.faults now.faults ⊎ LacksProof before.files names
-GatheringStop before now names (Input (ProofsTooLong bytes)) = PassesLimit before.files names bytes
+GatheringStop before now names (Input line) = (bytes : ℕ)
+    × PassesLimit before.files names bytes × (line ≡ line_of_long_proofs bytes)
 GatheringStop before now names Memory = Unit {0}
 GatheringStop before now names _ = ⊥
 
@@ -84,9 +85,16 @@ findings_of proofs verdicts = map (λ found. finding_of found.0 found.1) (zip pr
 
 -- the lines of all findings, whether one refuses a proof, and whether one is a collision
 pub record IsReport (proofs : List Gathered) (verdicts : List Verdict) (report : Report) : Type 0 where
-  pub lines : string_bytes report.lines ≡ lines_of_findings (findings_of proofs verdicts)
+  pub lines : report.lines.items ≡ lines_of_findings (findings_of proofs verdicts)
   pub refused : report.refused ≡ list_any is_refused (findings_of proofs verdicts)
   pub collides : report.collides ≡ list_any is_collision (findings_of proofs verdicts)
+
+-- one collides, or one is refused and none collides; and the lines are those of the report
+abbrev pub ConclusionStop : Report → Stop → Type 0
+ConclusionStop report (Collision lines) = (report.collides ≡ true) × (lines ≡ report.lines.items)
+ConclusionStop report (Rejected lines) = (report.collides ≡ false) × (report.refused ≡ true)
+    × (lines ≡ report.lines.items)
+ConclusionStop report _ = ⊥
 
 -- the index and the list that the words name were read, in this order
 pub record AreRead (H : List ℕ → List ℕ) (before now : ShelfTold) (words : SweepWords) (archive : Archive) (list : List ℕ) : Type 0 where

@@ -1,5 +1,5 @@
 -- The trial of a number: the honest proofs of its queries over its texts, and what is printed for them.
-use Rattle.std.specs.Prelude.{◌≡◌, ◌+◌, ◌*◌, ◌<◌, ◌≤◌, ◌^◌, ◌++◌, ℕ, Bool, true, false, List, None, length, sum_by, slice_index_or, codes, decimal}
+use Rattle.std.specs.Prelude.{◌≡◌, ◌⊎◌, ◌+◌, ◌*◌, ◌<◌, ◌≤◌, ◌^◌, ◌++◌, ℕ, Bool, true, false, List, None, length, sum_by, slice_index_or, codes, decimal}
 use Rattle.ats_terms.specs.Query.{HasQuery, IsQueryOf}
 use Rattle.ats_terms.specs.Faults.{IsFirstFault}
 use Rattle.ats_terms.specs.declared.query.QueryFault.{QueryFault}
@@ -16,9 +16,7 @@ use Rattle.ats_audit.specs.declared.auditing.Verdict.TheVariants.{Right}
 use Rattle.ats_honest.specs.Honest.{IsHonest, IsTooLong, length_of}
 use Rattle.ats_top.specs.Print.{line_of_root}
 use Rattle.ats_top.specs.Proved.{MakingStop}
-use Rattle.ats_top.specs.Stops.{stop_of_query}
-use Rattle.ats_top.specs.declared.stops.InputRefusal.{InputRefusal}
-use Rattle.ats_top.specs.declared.stops.InputRefusal.TheVariants.{ProofTooLong}
+use Rattle.ats_top.specs.Stops.{line_of_long_proof, stop_of_query}
 use Rattle.ats_top.specs.declared.stops.Stop.{Stop}
 use Rattle.ats_top.specs.declared.stops.Stop.TheVariants.{Input, Memory}
 use Rattle.ats_top.specs.declared.trial.Tally.{Tally}
@@ -119,13 +117,13 @@ abbrev pub AreQueries : ℕ → ℕ → Type 0
 AreQueries number count = (i : ℕ) → i < count → HasQuery (trial_query number i)
 
 -- the first of the 20 texts that is no query, with its fault
-pub record IsTrialQueryRefused (number : ℕ) (refusal : InputRefusal) : Type 0 where
+pub record IsTrialQueryRefused (number : ℕ) (line : List ℕ) : Type 0 where
   pub i : ℕ
   pub inside : i < 20
   pub before : AreQueries number i
   pub fault : QueryFault
   pub first : IsFirstFault (trial_query number i) fault
-  pub same : stop_of_query fault ≡ Input refusal
+  pub same : stop_of_query fault ≡ Input line
 
 -- the texts are the trial's queries, in order
 abbrev pub AreTrialQueries : ℕ → List (List (List ℕ × ℕ)) → Type 0
@@ -171,9 +169,9 @@ pub record IsTrialTooLong (H : List ℕ → List ℕ) (number bytes : ℕ) : Typ
   pub long : IsTooLong H (trial_archive number) query 10 algorithm (2 ^ 26) bytes
 
 -- the queries first, then the proofs
-abbrev pub IsTrialRefused : (List ℕ → List ℕ) → ℕ → InputRefusal → Type 0
-IsTrialRefused H number (ProofTooLong bytes) = IsTrialTooLong H number bytes
-IsTrialRefused H number refusal = IsTrialQueryRefused number refusal
+abbrev pub IsTrialRefused : (List ℕ → List ℕ) → ℕ → (line : List ℕ) → Type 0
+IsTrialRefused H number line = IsTrialQueryRefused number line
+    ⊎ ((bytes : ℕ) × IsTrialTooLong H number bytes × (line ≡ line_of_long_proof bytes))
 
 -- all of its texts are queries, and no honest proof of one is too long
 abbrev pub IsTrialServed : (List ℕ → List ℕ) → ℕ → Type 0
@@ -182,5 +180,5 @@ IsTrialServed H number = AreQueries number 20 × ((bytes : ℕ) → IsTrialTooLo
 -- why a trial ends before it is done: its refusal, or memory ran out
 abbrev pub IsTrialStop : (List ℕ → List ℕ) → ℕ → Stop → Type 0
 IsTrialStop H number Memory = Unit {0}
-IsTrialStop H number (Input refusal) = IsTrialRefused H number refusal
+IsTrialStop H number (Input line) = IsTrialRefused H number line
 IsTrialStop H number _ = ⊥

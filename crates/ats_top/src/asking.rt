@@ -1,13 +1,14 @@
 //! `ask`: one question over the network, and the check of its reply.
 
-ghost use Rattle.std.specs.Prelude.{◌≡◌, ◌⊎◌, ◌≤◌, length, IfOk, IfErr, string_bytes};
+ghost use Rattle.std.specs.Prelude.{◌≡◌, ◌⊎◌, ◌≤◌, length, IfOk, IfErr};
 ghost use Rattle.ats_top.specs.Refusals.{AsksRanking};
 ghost use Rattle.ats_top.specs.Conversation.{ConversesFed, ConversationStop, IsRanged, Calls};
 ghost use Rattle.ats_top.specs.Asked.{IsAnswered, AskStop};
 ghost use Rattle.ats_top.specs.Stops.{stop_of_asking};
 ghost use Rattle.ats_top.specs.Counts.{KeepsCallerCount};
 
-use crate::stops::{PeerFault, Stop};
+use crate::phrase::Phrase;
+use crate::stops::{Stop, peer, rejected};
 use crate::verifying::answered;
 use ats_base::Caller;
 use ats_client::Rejection;
@@ -24,10 +25,12 @@ fn stop_of(fault: AskFault) -> Stop
     ensures ranged { IsRanged fault }
 {
     match fault {
-        AskFault::ShortReply { got, wanted } => Stop::Peer(PeerFault::Short { got, wanted }),
-        AskFault::LongReply { length } => Stop::Peer(PeerFault::Long { length }),
-        AskFault::BadReply { length, kind } => Stop::Peer(PeerFault::Bad { length, kind }),
-        AskFault::PeerRefused { code } => Stop::Peer(PeerFault::Refused { code }),
+        AskFault::ShortReply { got, wanted } => peer(Phrase::numbers("short ", got, " ", wanted)),
+        AskFault::LongReply { length } => peer(Phrase::number("long ", length as u64)),
+        AskFault::BadReply { length, kind } => {
+            peer(Phrase::numbers("bad ", length as u64, " ", kind as u64))
+        }
+        AskFault::PeerRefused { code } => peer(Phrase::number("refused ", code as u64)),
         AskFault::ReadFault => Stop::Link,
         AskFault::WriteFault => Stop::Link,
         AskFault::OutOfMemory => Stop::Memory,
@@ -73,10 +76,10 @@ pub(crate) fn ask<H: Hash32, C: Caller>(
     query: &str,
     address: &str,
     caller: &mut C,
-) -> Result<String, Stop>
+) -> Result<Vec<u8>, Stop>
     ensures ok { IfOk result (λ text. IsAnswered H.hash (C.told caller.old) (C.told caller.new)
         (record { root = root.now; algorithm = algorithm; r = r; query = query.now; address = address.now })
-        (string_bytes text)) }
+        text.items) }
     ensures stop { IfErr result (AskStop H.hash (C.told caller.old) (C.told caller.new)
         (record { root = root.now; algorithm = algorithm; r = r; query = query.now; address = address.now })) }
     ensures calls { (C.told caller.new ≡ C.told caller.old)
@@ -90,6 +93,6 @@ pub(crate) fn ask<H: Hash32, C: Caller>(
     let fed = converse(alloc, algorithm, rows, query, address, caller)?;
     match fed {
         Fed::Whole(bytes) => answered::<H>(alloc, bytes.as_slice(), root, &asked, rows),
-        Fed::Refused(fault) => Err(Stop::Rejected(Rejection::Shape(fault))),
+        Fed::Refused(fault) => Err(rejected(Rejection::Shape(fault))),
     }
 }

@@ -1,6 +1,6 @@
 //! `audit`: the audit of a proof against an index, and the lines of its answer.
 
-ghost use Rattle.std.specs.Prelude.{◌≡◌, ℕ, List, IfOk, IfErr, string_bytes};
+ghost use Rattle.std.specs.Prelude.{◌≡◌, ℕ, List, IfOk, IfErr};
 ghost use Rattle.ats_impact.specs.declared.rank.Row.{Row};
 ghost use Rattle.ats_commit.specs.Archive.{Archive};
 ghost use Rattle.ats_audit.specs.Verdicts.{IsFoundRight, IsVerdict};
@@ -12,9 +12,11 @@ ghost use Rattle.ats_top.specs.Counts.{KeepsShelfCount};
 ghost use Rattle.ats_top.specs.Audited.{IsAuditedRight, VerdictStop};
 ghost use Rattle.ats_top.specs.Run.{FilesStop};
 
+use crate::collision::collision_lines;
+use crate::line::Line;
 use crate::print::lines;
 use crate::read;
-use crate::stops::Stop;
+use crate::stops::{Stop, rejected};
 use ats_audit::Verdict;
 use ats_base::Shelf;
 use ats_client::Rejection;
@@ -26,11 +28,11 @@ use std::alloc::Global;
 use std::thread::Threads;
 
 // The lines of the rows of a verdict, or why it has none.
-fn told(alloc: Global, verdict: &Verdict) -> Result<String, Stop>
+fn told(alloc: Global, verdict: &Verdict) -> Result<Vec<u8>, Stop>
     ensures ok { (H : List ℕ → List ℕ) (archive : Archive) (query : List (List ℕ × ℕ)) (r : ℕ) (bytes : List ℕ)
         → IsVerdict H archive query r bytes verdict.now
         → IfOk result (λ text. (rows : List Row)
-        × IsFoundRight H archive query r bytes rows × (string_bytes text ≡ lines rows)) }
+        × IsFoundRight H archive query r bytes rows × (text.items ≡ lines rows)) }
     ensures stop { (H : List ℕ → List ℕ) (archive : Archive) (query : List (List ℕ × ℕ)) (r : ℕ) (bytes : List ℕ)
         → IsVerdict H archive query r bytes verdict.now
         → IfErr result (VerdictStop H archive query r bytes) }
@@ -40,17 +42,16 @@ fn told(alloc: Global, verdict: &Verdict) -> Result<String, Stop>
             Ok(text) => Ok(text),
             Err(_) => Err(Stop::Memory),
         },
-        Verdict::BadShape(fault) => Err(Stop::Rejected(Rejection::Shape(*fault))),
-        Verdict::Refused(refusal) => Err(Stop::Rejected(Rejection::Check(*refusal))),
+        Verdict::BadShape(fault) => Err(rejected(Rejection::Shape(*fault))),
+        Verdict::Refused(refusal) => Err(rejected(Rejection::Check(*refusal))),
         Verdict::Collision {
             place,
             ours,
             theirs,
-        } => Err(Stop::Collision {
-            place: *place,
-            ours: *ours,
-            theirs: *theirs,
-        }),
+        } => {
+            let lines = collision_lines(alloc, *place, ours.bytes(), theirs.bytes())?;
+            Err(Stop::Collision(Line::made(lines)))
+        }
     }
 }
 
@@ -61,9 +62,9 @@ fn audited<H: Hash32>(
     query: &Query,
     top: Top,
     bytes: &[u8],
-) -> Result<String, Stop>
+) -> Result<Vec<u8>, Stop>
     ensures ok { IfOk result (λ text. (rows : List Row)
-        × IsFoundRight H.hash index.now query.now top bytes.now rows × (string_bytes text ≡ lines rows)) }
+        × IsFoundRight H.hash index.now query.now top bytes.now rows × (text.items ≡ lines rows)) }
     ensures stop { IfErr result (VerdictStop H.hash index.now query.now top bytes.now) }
 {
     let Ok(verdict) = ats_audit::audit::<H>(alloc, index, query, top, bytes) else {
@@ -81,9 +82,9 @@ pub(crate) fn audit<H: Hash32 + Sync, R: Threads + Sync, S: Shelf>(
     query: &str,
     proof: &str,
     shelf: &mut S,
-) -> Result<String, Stop>
+) -> Result<Vec<u8>, Stop>
     ensures ok { IfOk result (λ text. IsAuditedRight H.hash (S.told shelf.old).files
-        (record { index = index.now; r = r; query = query.now; proof = proof.now }) (string_bytes text)) }
+        (record { index = index.now; r = r; query = query.now; proof = proof.now }) text.items) }
     ensures stop { IfErr result (FilesStop H.hash (S.told shelf.old) (S.told shelf.new)
         (Audit (record { index = index.now; r = r; query = query.now; proof = proof.now }))) }
     ensures same { (S.told shelf.new).files ≡ (S.told shelf.old).files }

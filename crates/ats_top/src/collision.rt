@@ -3,7 +3,7 @@
 ghost use Rattle.std.specs.Prelude.{◌≡◌, IfOk, string_bytes};
 ghost use Rattle.ats_top.specs.CollisionLines.{tree_words, lines_of_collision};
 
-use ats_tree::{HashedString, Place, Tree};
+use ats_tree::{Place, Tree};
 use std::alloc::{AllocError, Global};
 
 fn tree_words(alloc: Global, tree: Tree) -> Result<String, AllocError>
@@ -18,20 +18,21 @@ fn tree_words(alloc: Global, tree: Tree) -> Result<String, AllocError>
     }
 }
 
-/// The place, the archive's own string, and the string of the proof, a line each.
+/// The place, the archive's own string, and the string of the proof, a line each. The strings may have any length.
 pub(crate) fn collision_lines(
     alloc: Global,
     place: Place,
-    ours: &HashedString,
-    theirs: &HashedString,
-) -> Result<String, AllocError>
-    ensures { IfOk result (λ lines. string_bytes lines ≡ lines_of_collision place ours.now theirs.now) }
+    ours: &[u8],
+    theirs: &[u8],
+) -> Result<Vec<u8>, AllocError>
+    ensures { IfOk result (λ lines. lines.items ≡ lines_of_collision place ours.now theirs.now) }
 {
     let tree = tree_words(alloc, place.tree)?;
     let (depth, turns) = (place.depth, place.turns);
-    let ours = hex::encode(alloc, ours.bytes())?;
-    let theirs = hex::encode(alloc, theirs.bytes())?;
-    format!(in alloc;
+    let ours = hex::encode(alloc, ours)?;
+    let theirs = hex::encode(alloc, theirs)?;
+    let lines = format!(in alloc;
         "collision {tree} depth {depth} turns {turns}\nours {ours}\ntheirs {theirs}\n"
-    )
+    )?;
+    Ok(lines.into_bytes())
 }

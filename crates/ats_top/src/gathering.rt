@@ -8,7 +8,7 @@ ghost use Rattle.ats_top.specs.Sweeping.{GatheringStop, MissingStop, ReadsProofs
 
 use crate::listing::Entry;
 use crate::read;
-use crate::stops::{InputRefusal, Stop};
+use crate::stops::{Stop, proofs_too_long};
 use ats_base::{Bytes, Shelf};
 use std::alloc::Global;
 
@@ -64,7 +64,7 @@ pub(crate) fn gather_all<S: Shelf>(
         let proof = gather_one(alloc, entry.proof, shelf)?;
         total += proof.bytes().len() as u64;
         if total > PROOFS_LIMIT {
-            return Err(Stop::Input(InputRefusal::ProofsTooLong { bytes: total }));
+            return Err(proofs_too_long(total));
         }
         proofs.push(proof)?;
     }

@@ -14,7 +14,6 @@ ghost use Rattle.ats_top.specs.Read.{Files, IsFile, IsTold, HasIndex};
 ghost use Rattle.ats_top.specs.Refusals.{IsRowCount, AsksRanking, IsRefused};
 ghost use Rattle.ats_top.specs.Rejected.{IsRejected};
 ghost use Rattle.ats_client.specs.declared.fault.Rejection.{Rejection};
-ghost use Rattle.ats_top.specs.declared.stops.InputRefusal.{InputRefusal};
 ghost use Rattle.ats_top.specs.Listed.{Listed, IsList, names_of};
 ghost use Rattle.ats_top.specs.Gathered.{AreAllThere};
 ghost use Rattle.ats_top.specs.Findings.{IsHonestLine};
@@ -85,13 +84,13 @@ pub fn commands_have_one_rejection<H: HashKind>()
         → HasInput H.hash files command → IsRejected H.hash files command rejection → ⊥ }
 {}
 
-/// If the shelf reports its files, the input of a command is refused in at most one way, and in none if the command is
-/// served.
+/// If the shelf reports its files, the input of a command is refused in at most one way, so that one line is printed,
+/// and in none if the command is served.
 pub fn commands_have_one_refusal<H: HashKind>()
-    ensures one { (files : Files) (command : Command) (a b : InputRefusal) → IsTold files
+    ensures one { (files : Files) (command : Command) (a b : List ℕ) → IsTold files
         → IsRefused H.hash files command a → IsRefused H.hash files command b → a ≡ b }
-    ensures none { (files : Files) (command : Command) (refusal : InputRefusal) → IsTold files
-        → IsServed H.hash files command → IsRefused H.hash files command refusal → ⊥ }
+    ensures none { (files : Files) (command : Command) (line : List ℕ) → IsTold files
+        → IsServed H.hash files command → IsRefused H.hash files command line → ⊥ }
 {}
 
 /// If the bytes that `ask` got are the honest proof of its query over an archive with its root, by either algorithm,

@@ -4,10 +4,9 @@ ghost use Rattle.std.specs.Prelude.{◌≡◌, ◌≢◌, ◌⊎◌, ◌≤◌, 
 ghost use Rattle.std.specs.List.{AllZip};
 ghost use Rattle.ats_top.specs.Listed.{Listed, IsSpelled, IsListed, IsEntry, IsBadLine, lines_of};
 ghost use Rattle.ats_top.specs.Sweeping.{ListStop, IsSpelledAs};
-ghost use Rattle.ats_top.specs.declared.stops.InputRefusal.TheVariants.{ListLine};
-ghost use Rattle.ats_top.specs.declared.stops.Stop.TheVariants.{Input, Memory};
+ghost use Rattle.ats_top.specs.declared.stops.Stop.TheVariants.{Memory};
 
-use crate::stops::{InputRefusal, Stop};
+use crate::stops::{Stop, bad_line};
 use crate::words::number;
 use ats_impact::Top;
 use ats_terms::{Query, QueryFault};
@@ -95,12 +94,6 @@ fn read_line<'a>(alloc: Global, line: &'a [u8]) -> Result<Option<Entry<'a>>, Sto
 
 // The most lines of a list.
 const LINES: usize = 1000;
-
-fn bad_line(line: usize) -> Stop
-    ensures { result ≡ Input (ListLine line) }
-{
-    Stop::Input(InputRefusal::ListLine { line })
-}
 
 /// What the lines of a list ask, in order. Their number is checked before any of them is.
 pub(crate) fn read_entries<'a>(alloc: Global, bytes: &'a [u8]) -> Result<Vec<Entry<'a>>, Stop>

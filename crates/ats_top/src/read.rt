@@ -7,7 +7,7 @@ ghost use Rattle.ats_top.specs.Counts.{KeepsShelfCount};
 ghost use Rattle.ats_top.specs.ReadStops.{FileStop, CollectionStop, IndexStop, ProofStop};
 
 use crate::input::read_collection;
-use crate::stops::{InputRefusal, Stop};
+use crate::stops::{Stop, file_too_long, rejected};
 use ats_base::{Bytes, GatherFault, Shelf, gather};
 use ats_client::Rejection;
 use ats_grammar::MAX_PROOF;
@@ -43,7 +43,7 @@ fn file<S: Shelf>(alloc: Global, name: &str, limit: u64, shelf: &mut S) -> Resul
     match gather(alloc, shelf, name, limit) {
         Ok(bytes) => Ok(bytes),
         Err(GatherFault::ReadFault) => Err(Stop::Shelf),
-        Err(GatherFault::TooLong) => Err(Stop::Input(InputRefusal::FileTooLong { limit })),
+        Err(GatherFault::TooLong) => Err(file_too_long(limit)),
         Err(GatherFault::OutOfMemory) => Err(Stop::Memory),
     }
 }
@@ -100,7 +100,7 @@ pub(crate) fn proof<S: Shelf>(alloc: Global, name: &str, shelf: &mut S) -> Resul
     match gather(alloc, shelf, name, MAX_PROOF) {
         Ok(bytes) => Ok(bytes),
         Err(GatherFault::ReadFault) => Err(Stop::Shelf),
-        Err(GatherFault::TooLong) => Err(Stop::Rejected(Rejection::Shape(TOO_LONG))),
+        Err(GatherFault::TooLong) => Err(rejected(Rejection::Shape(TOO_LONG))),
         Err(GatherFault::OutOfMemory) => Err(Stop::Memory),
     }
 }

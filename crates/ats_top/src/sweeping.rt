@@ -1,16 +1,16 @@
 //! `sweep`: the audits of the proofs of a list against an index, and their lines.
 
-ghost use Rattle.std.specs.Prelude.{◌≡◌, ◌++◌, ◌||◌, true, false, IfOk, IfErr, OnOk, length, string_bytes};
+ghost use Rattle.std.specs.Prelude.{◌≡◌, ◌++◌, ◌||◌, false, IfOk, IfErr, OnOk, length, string_bytes};
 ghost use Rattle.ats_base.specs.Outside.{ShelfTold};
 ghost use Rattle.ats_top.specs.Words.{Sweep, SweepWords};
 ghost use Rattle.ats_top.specs.Reading.{Serves};
 ghost use Rattle.ats_top.specs.Counts.{KeepsShelfCount};
 ghost use Rattle.ats_top.specs.Run.{FilesStop};
 ghost use Rattle.ats_top.specs.Findings.{FoundRefused, IsSwept, is_refused, is_collision, line_of_finding};
-ghost use Rattle.ats_top.specs.Sweeping.{AreJobs, AreRead, IsReport, finding_of, found_by};
-ghost use Rattle.ats_top.specs.declared.stops.Stop.TheVariants.{Swept};
+ghost use Rattle.ats_top.specs.Sweeping.{AreJobs, AreRead, IsReport, ConclusionStop, finding_of, found_by};
 
 use crate::gathering::{Gathered, gather_all};
+use crate::line::Line;
 use crate::listing::{Entry, read_entries};
 use crate::read;
 use crate::rejection::rejection_words;
@@ -48,7 +48,7 @@ fn jobs<'a>(
 fn refused_line(alloc: Global, number: usize, rejection: Rejection) -> Result<String, AllocError>
     ensures { IfOk result (λ text. string_bytes text ≡ line_of_finding number (FoundRefused rejection)) }
 {
-    let words = rejection_words(alloc, rejection)?;
+    let words = rejection_words(rejection).text(alloc)?;
     format!(in alloc; "{number} refused {words}\n")
 }
 
@@ -109,7 +109,7 @@ fn is_collision(proof: &Gathered, verdict: &Verdict) -> bool
 // The report on some proofs: a line for each, whether one is refused, and whether one collides.
 #[derive(Drop)]
 struct Report {
-    lines: String,
+    lines: Vec<u8>,
     refused: bool,
     collides: bool,
 }
@@ -123,15 +123,15 @@ impl Report {
         proof: &Gathered,
         verdict: &Verdict,
     ) -> Result<(), AllocError>
-        ensures lines { OnOk result (string_bytes self.new.lines
-            ≡ string_bytes self.old.lines ++ line_of_finding number (finding_of proof.now verdict.now)) }
+        ensures lines { OnOk result (self.new.lines.items
+            ≡ self.old.lines.items ++ line_of_finding number (finding_of proof.now verdict.now)) }
         ensures refused { OnOk result (self.new.refused
             ≡ (self.old.refused || is_refused (finding_of proof.now verdict.now))) }
         ensures collides { OnOk result (self.new.collides
             ≡ (self.old.collides || is_collision (finding_of proof.now verdict.now))) }
     {
         let line = line(alloc, number, proof, verdict)?;
-        self.lines.push_str(line.as_str())?;
+        self.lines.extend_from_slice(line.as_bytes())?;
         self.refused = self.refused || is_refused(proof, verdict);
         self.collides = self.collides || is_collision(proof, verdict);
         Ok(())
@@ -144,7 +144,7 @@ fn report_of(alloc: Global, proofs: &[Gathered], verdicts: &[Verdict]) -> Result
     ensures { IfOk result (IsReport proofs.now verdicts.now) }
 {
     let mut report = Report {
-        lines: String::new(alloc),
+        lines: Vec::new(alloc),
         refused: false,
         collides: false,
     };
@@ -155,17 +155,16 @@ fn report_of(alloc: Global, proofs: &[Gathered], verdicts: &[Verdict]) -> Result
 }
 
 // If one collides or is refused, not all is right.
-fn conclusion(report: Report) -> Result<String, Stop>
-    ensures ok { IfOk result (λ text. (string_bytes text ≡ string_bytes report.lines)
+fn conclusion(report: Report) -> Result<Vec<u8>, Stop>
+    ensures ok { IfOk result (λ text. (text.items ≡ report.lines.items)
         × (report.collides ≡ false) × (report.refused ≡ false)) }
-    ensures stop { IfErr result (λ stop. (stop ≡ Swept report.lines report.collides)
-        × ((report.collides || report.refused) ≡ true)) }
+    ensures stop { IfErr result (ConclusionStop report) }
 {
-    if report.collides || report.refused {
-        return Err(Stop::Swept {
-            lines: report.lines,
-            collides: report.collides,
-        });
+    if report.collides {
+        return Err(Stop::Collision(Line::made(report.lines)));
+    }
+    if report.refused {
+        return Err(Stop::Rejected(Line::made(report.lines)));
     }
     Ok(report.lines)
 }
@@ -177,10 +176,10 @@ fn swept<H: Hash32 + Sync, R: Threads + Sync, S: Shelf>(
     index: &Index<H>,
     list: &[u8],
     shelf: &mut S,
-) -> Result<String, Stop>
+) -> Result<Vec<u8>, Stop>
     ensures ok { (before : ShelfTold) (words : SweepWords)
         → AreRead H.hash before (S.told shelf.old) words index.now list.now
-        → IfOk result (λ text. IsSwept H.hash before.files words 0 (string_bytes text)) }
+        → IfOk result (λ text. IsSwept H.hash before.files words 0 text.items) }
     ensures stop { (before : ShelfTold) (words : SweepWords)
         → AreRead H.hash before (S.told shelf.old) words index.now list.now
         → IfErr result (FilesStop H.hash before (S.told shelf.new) (Sweep words)) }
@@ -205,9 +204,9 @@ pub(crate) fn sweep<H: Hash32 + Sync, R: Threads + Sync, S: Shelf>(
     index: &str,
     list: &str,
     shelf: &mut S,
-) -> Result<String, Stop>
+) -> Result<Vec<u8>, Stop>
     ensures ok { IfOk result (λ text. IsSwept H.hash (S.told shelf.old).files
-        (record { index = index.now; list = list.now }) 0 (string_bytes text)) }
+        (record { index = index.now; list = list.now }) 0 text.items) }
     ensures stop { IfErr result (FilesStop H.hash (S.told shelf.old) (S.told shelf.new)
         (Sweep (record { index = index.now; list = list.now }))) }
     ensures same { (S.told shelf.new).files ≡ (S.told shelf.old).files }

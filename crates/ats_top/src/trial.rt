@@ -207,14 +207,14 @@ fn tried<H: Hash32>(
     index: &Index<H>,
     queries: &[Query],
     top: Top,
-) -> Result<String, Stop>
+) -> Result<Vec<u8>, Stop>
     requires ten { top ≡ 10 }
     requires few { length queries.now ≤ 20 }
-    ensures ok { IfOk result (λ text. AreTriedLines H.hash index.now queries.now (string_bytes text)) }
+    ensures ok { IfOk result (λ text. AreTriedLines H.hash index.now queries.now text.items) }
     ensures stop { IfErr result (λ stop. (stop ≡ Memory) ⊎ IsTriesStop H.hash index.now queries.now stop) }
 {
     let (tra, tnra) = tallies(alloc, index, queries, top)?;
-    Ok(text(alloc, &index.root(), &tra, &tnra)?)
+    Ok(text(alloc, &index.root(), &tra, &tnra)?.into_bytes())
 }
 
 // How many rows an answer may have.
@@ -226,8 +226,8 @@ pub(crate) fn trial<H: Hash32 + Sync, R: Threads + Sync>(
     rt: &R,
     alloc: Global,
     number: u32,
-) -> Result<String, Stop>
-    ensures ok { IfOk result (λ text. IsTrial H.hash number (string_bytes text)) }
+) -> Result<Vec<u8>, Stop>
+    ensures ok { IfOk result (λ text. IsTrial H.hash number text.items) }
     ensures stop { IfErr result (IsTrialStop H.hash number) }
 {
     let top = Top::new(ROWS)?;

@@ -1,6 +1,6 @@
 //! `verify`: the check of a proof, and the lines of its answer.
 
-ghost use Rattle.std.specs.Prelude.{◌≡◌, ◌^◌, List, IfOk, IfErr, string_bytes};
+ghost use Rattle.std.specs.Prelude.{◌≡◌, ◌^◌, List, IfOk, IfErr};
 ghost use Rattle.ats_terms.specs.Query.{IsQuery};
 ghost use Rattle.ats_impact.specs.declared.rank.Row.{Row};
 ghost use Rattle.ats_client.specs.Bytes.{AreVerifiedRows};
@@ -15,7 +15,7 @@ ghost use Rattle.ats_top.specs.Run.{FilesStop};
 
 use crate::print::lines;
 use crate::read;
-use crate::stops::Stop;
+use crate::stops::{Stop, rejected};
 use ats_base::Shelf;
 use ats_client::VerifyFault;
 use ats_hash::Hash32;
@@ -30,9 +30,9 @@ pub(crate) fn answered<H: Hash32>(
     root: &[u8; 32],
     query: &Query,
     top: Top,
-) -> Result<String, Stop>
+) -> Result<Vec<u8>, Stop>
     ensures ok { IfOk result (λ text. (rows : List Row)
-        × AreVerifiedRows H.hash root.now query.now top bytes.now rows × (string_bytes text ≡ lines rows)) }
+        × AreVerifiedRows H.hash root.now query.now top bytes.now rows × (text.items ≡ lines rows)) }
     ensures stop { IfErr result (BytesStop H.hash root.now query.now top bytes.now) }
     ensures asked { IsQuery query.now }
 {
@@ -43,7 +43,7 @@ pub(crate) fn answered<H: Hash32>(
             Ok(text) => Ok(text),
             Err(_) => Err(Stop::Memory),
         },
-        Err(VerifyFault::Rejected(rejection)) => Err(Stop::Rejected(rejection)),
+        Err(VerifyFault::Rejected(rejection)) => Err(rejected(rejection)),
         Err(VerifyFault::OutOfMemory) => Err(Stop::Memory),
     }
 }
@@ -56,9 +56,9 @@ pub(crate) fn verify<H: Hash32, S: Shelf>(
     query: &str,
     proof: &str,
     shelf: &mut S,
-) -> Result<String, Stop>
+) -> Result<Vec<u8>, Stop>
     ensures ok { IfOk result (λ text. IsVerified H.hash (S.told shelf.old).files
-        (record { root = root.now; r = r; query = query.now; proof = proof.now }) (string_bytes text)) }
+        (record { root = root.now; r = r; query = query.now; proof = proof.now }) text.items) }
     ensures stop { IfErr result (FilesStop H.hash (S.told shelf.old) (S.told shelf.new)
         (Verify (record { root = root.now; r = r; query = query.now; proof = proof.now }))) }
     ensures reads { Reads (S.told shelf.old) (S.told shelf.new) proof.now (2 ^ 26) }

@@ -1,4 +1,4 @@
-use Rattle.std.proofs.Common.{Ok, inr, string_bytes}
+use Rattle.std.proofs.Common.{Ok, inr, vec_items}
 use Rattle.ats_top.specs.Words.{AskWords}
 use Rattle.ats_top.specs.Conversation.{Converses}
 use Rattle.ats_top.specs.Asked.{question_of}
@@ -15,7 +15,7 @@ returns-in-Whole-clause-ok g c =
     c.in_ok-fed.fed c.in-Whole.bytes c.in-Whole.is (rw c.in_ok-rows.ensures.ok at c.in_ok-fed.ensures.ok)) in
     bytes_end g.H.HashKind.hash (g.C.Caller.told c.args.caller.now) (g.C.Caller.told c.converse.new.caller) words
     c.in_ok-asked.asked c.as_slice.result.now (record { asks = asks; asked = c.in_ok-asked.ensures.ok; conversation = conversation })
-    g.H.HashKind.sized c.answered.ensures.asked string_bytes c.answered.result (rw c.in_ok-rows.ensures.ok at c.answered.ensures.ok)
+    g.H.HashKind.sized c.answered.ensures.asked vec_items c.answered.result (rw c.in_ok-rows.ensures.ok at c.answered.ensures.ok)
 
 pub returns-in-Whole-clause-stop : goal.returns-in-Whole-clause-stop
 returns-in-Whole-clause-stop g c =
@@ -32,8 +32,8 @@ pub returns-clause-stop : goal.returns-clause-stop
 returns-clause-stop g c =
     let asks = asks_of c.args.r c.args.query.now c.in_ok-asked.asked c.in_ok-rows.ensures.within c.in_ok-asked.ensures.ok in
     let words : AskWords = record { root = c.args.root.now; algorithm = c.args.algorithm; r = c.args.r; query = c.args.query.now; address = c.args.address.now } in
-    refused_stops g.H.HashKind.hash (g.C.Caller.told c.args.caller.now) (g.C.Caller.told c.converse.new.caller) words
-    c.in_ok-asked.asked c.in_ok-fed.fed c.in-Refused.fault c.in-Refused.is asks c.in_ok-asked.ensures.ok (rw c.in_ok-rows.ensures.ok at c.in_ok-fed.ensures.ok)
+    rw c.rejected.ensures (refused_stops g.H.HashKind.hash (g.C.Caller.told c.args.caller.now) (g.C.Caller.told c.converse.new.caller) words
+    c.in_ok-asked.asked c.in_ok-fed.fed c.in-Refused.fault c.in-Refused.is asks c.in_ok-asked.ensures.ok (rw c.in_ok-rows.ensures.ok at c.in_ok-fed.ensures.ok))
 
 pub returns-in_err-fed-clause-calls : goal.returns-in_err-fed-clause-calls
 returns-in_err-fed-clause-calls g c =

@@ -1,4 +1,4 @@
-use Rattle.std.proofs.Common.{ℕ, ◌^◌, List, string_bytes, sym, subst}
+use Rattle.std.proofs.Common.{ℕ, ◌^◌, List, vec_items, sym, subst}
 use Rattle.ats_top.specs.Read.{IsFile}
 use Rattle.ats_top.proofs.VerifyEnds.{asks_of}
 use Rattle.ats_top.proofs.AuditEnds.{proof_stops, verdict_stops, verdict_end}
@@ -32,7 +32,7 @@ returns-clause-ok g c =
     (record { index = c.args.index.now; r = c.args.r; query = c.args.query.now; proof = c.args.proof.now })
     asks c.in_ok-loaded.ensures.reads.files c.in-Ok.ensures.reads.files c.in_ok-loaded.loaded c.in_ok-loaded.ensures.ok
     c.in_ok-asked.asked c.as_slice.result.now c.in_ok-asked.ensures.ok file
-    string_bytes c.audited-text.result (rw c.in_ok-rows.ensures.ok at c.audited-text.ensures.ok)
+    vec_items c.audited-text.result (rw c.in_ok-rows.ensures.ok at c.audited-text.ensures.ok)
 
 pub returns-clause-stop : goal.returns-clause-stop
 returns-clause-stop g c =

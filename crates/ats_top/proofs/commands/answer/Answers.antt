@@ -1,4 +1,4 @@
-use Rattle.std.proofs.Common.{refl, sym, map, string_bytes, inl, inr}
+use Rattle.std.proofs.Common.{refl, sym, map, string_bytes, vec_items, inl, inr}
 use Rattle.ats_top.specs.Done.{IsRanked, IsProofStored, IsVerified}
 use Rattle.ats_top.specs.Asked.{IsAnswered}
 use Rattle.ats_top.specs.Audited.{IsAuditedRight}
@@ -36,7 +36,7 @@ returns-in-Some-Verify-clause-ok g c =
     let is = rw c.in-Some-Verify.field-0-is at c.in-Some-Verify.ensures in
     done_ends _ (g.S.Shelf.told c.args.shelf.now) (g.S.Shelf.told c.verify.new.shelf) (g.C.Caller.told c.args.caller.now) (g.C.Caller.told c.args.caller.now)
     (g.D.Door.told c.args.door.now) (map string_bytes c.args.words.now) _ (sym is)
-    string_bytes (IsVerified _ _ _) c.verify.result (λ text done was now. (done, c.verify.ensures.reads.files)) c.verify.ensures.ok
+    vec_items (IsVerified _ _ _) c.verify.result (λ text done was now. (done, c.verify.ensures.reads.files)) c.verify.ensures.ok
 
 pub returns-in-Some-Build-clause-stop : goal.returns-in-Some-Build-clause-stop
 returns-in-Some-Build-clause-stop g c =
@@ -49,7 +49,7 @@ returns-in-Some-Prove-clause-ok g c =
     let is = rw c.in-Some-Prove.field-0-is at c.in-Some-Prove.ensures in
     done_ends _ (g.S.Shelf.told c.args.shelf.now) (g.S.Shelf.told c.prove.new.shelf) (g.C.Caller.told c.args.caller.now) (g.C.Caller.told c.args.caller.now)
     (g.D.Door.told c.args.door.now) (map string_bytes c.args.words.now) _ (sym is)
-    string_bytes (IsProofStored _ _ _ _) c.prove.result (λ text done was now. done) c.prove.ensures.ok
+    vec_items (IsProofStored _ _ _ _) c.prove.result (λ text done was now. done) c.prove.ensures.ok
 
 pub returns-in-Some-Prove-clause-stop : goal.returns-in-Some-Prove-clause-stop
 returns-in-Some-Prove-clause-stop g c =
@@ -73,7 +73,7 @@ returns-in-Some-Audit-clause-ok g c =
     let is = rw c.in-Some-Audit.field-0-is at c.in-Some-Audit.ensures in
     done_ends _ (g.S.Shelf.told c.args.shelf.now) (g.S.Shelf.told c.audit.new.shelf) (g.C.Caller.told c.args.caller.now) (g.C.Caller.told c.args.caller.now)
     (g.D.Door.told c.args.door.now) (map string_bytes c.args.words.now) _ (sym is)
-    string_bytes (IsAuditedRight _ _ _) c.audit.result (λ text done was now. (done, c.audit.ensures.same)) c.audit.ensures.ok
+    vec_items (IsAuditedRight _ _ _) c.audit.result (λ text done was now. (done, c.audit.ensures.same)) c.audit.ensures.ok
 
 pub returns-in-Some-Audit-clause-stop : goal.returns-in-Some-Audit-clause-stop
 returns-in-Some-Audit-clause-stop g c =
@@ -91,7 +91,7 @@ returns-in-Some-Sweep-clause-ok g c =
     let is = rw c.in-Some-Sweep.field-0-is at c.in-Some-Sweep.ensures in
     done_ends _ (g.S.Shelf.told c.args.shelf.now) (g.S.Shelf.told c.sweep.new.shelf) (g.C.Caller.told c.args.caller.now) (g.C.Caller.told c.args.caller.now)
     (g.D.Door.told c.args.door.now) (map string_bytes c.args.words.now) _ (sym is)
-    string_bytes (IsSwept _ _ _ 0) c.sweep.result (λ text done was now. (done, c.sweep.ensures.same)) c.sweep.ensures.ok
+    vec_items (IsSwept _ _ _ 0) c.sweep.result (λ text done was now. (done, c.sweep.ensures.same)) c.sweep.ensures.ok
 
 pub returns-in-Some-Sweep-clause-stop : goal.returns-in-Some-Sweep-clause-stop
 returns-in-Some-Sweep-clause-stop g c =
@@ -104,7 +104,7 @@ returns-in-Some-Ask-clause-ok g c =
     let is = rw c.in-Some-Ask.field-0-is at c.in-Some-Ask.ensures in
     done_ends _ (g.S.Shelf.told c.args.shelf.now) (g.S.Shelf.told c.args.shelf.now) (g.C.Caller.told c.args.caller.now) (g.C.Caller.told c.ask.new.caller)
     (g.D.Door.told c.args.door.now) (map string_bytes c.args.words.now) _ (sym is)
-    string_bytes (IsAnswered _ _ _ _) c.ask.result (λ text answered was now. (answered, refl)) c.ask.ensures.ok
+    vec_items (IsAnswered _ _ _ _) c.ask.result (λ text answered was now. (answered, refl)) c.ask.ensures.ok
 
 pub returns-in-Some-Ask-clause-stop : goal.returns-in-Some-Ask-clause-stop
 returns-in-Some-Ask-clause-stop g c =
@@ -125,7 +125,7 @@ returns-in-Some-Trial-clause-ok g c =
     let is = rw c.in-Some-Trial.field-0-is at c.in-Some-Trial.ensures in
     done_ends _ (g.S.Shelf.told c.args.shelf.now) (g.S.Shelf.told c.args.shelf.now) (g.C.Caller.told c.args.caller.now) (g.C.Caller.told c.args.caller.now)
     (g.D.Door.told c.args.door.now) (map string_bytes c.args.words.now) _ (sym is)
-    string_bytes (IsTrial _ _) c.trial.result (λ text tried was now. (tried, refl)) c.trial.ensures.ok
+    vec_items (IsTrial _ _) c.trial.result (λ text tried was now. (tried, refl)) c.trial.ensures.ok
 
 pub returns-in-Some-Trial-clause-stop : goal.returns-in-Some-Trial-clause-stop
 returns-in-Some-Trial-clause-stop g c =
@@ -139,7 +139,7 @@ returns-in-Some-Rank-clause-ok g c =
     let is = rw c.in-Some-Rank.field-0-is at c.in-Some-Rank.ensures in
     done_ends g.H.HashKind.hash (g.S.Shelf.told c.args.shelf.now) (g.S.Shelf.told c.rank.new.shelf) (g.C.Caller.told c.args.caller.now) (g.C.Caller.told c.args.caller.now)
     (g.D.Door.told c.args.door.now) (map string_bytes c.args.words.now) _ (sym is)
-    string_bytes (IsRanked _ _) c.rank.result (λ text done was now. (done, c.rank.ensures.reads.files)) c.rank.ensures.ok
+    vec_items (IsRanked _ _) c.rank.result (λ text done was now. (done, c.rank.ensures.reads.files)) c.rank.ensures.ok
 
 pub returns-in-Some-Rank-clause-unstored : goal.returns-in-Some-Rank-clause-unstored
 returns-in-Some-Rank-clause-unstored g c =

@@ -29,9 +29,9 @@ returns-in-Some-clause-unstored g c not_done not_shelf not_failed =
 
 pub returns-in-Ok-clause-ended : goal.returns-in-Ok-clause-ended
 returns-in-Ok-clause-ended g c = record {
-  end = Done (string_bytes c.in-Ok.text);
+  end = Done c.in-Ok.text.items;
   ends = c.in-Ok.ensures.ok (g.K.Sink.told c.args.out.now) (g.K.Sink.told c.print.new.out);
-  prints = rw c.as_str.ensures.value at c.print.ensures.prints;
+  prints = rw c.as_slice.ensures.value at c.print.ensures.prints;
 }
 
 pub returns-in-Err-clause-ended : goal.returns-in-Err-clause-ended

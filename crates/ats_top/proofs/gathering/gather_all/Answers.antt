@@ -2,7 +2,7 @@ use Rattle.std.proofs.Common.{◌+◌, ℕ, List, length, ap, arith}
 use Rattle.std.proofs.lemmas.Result.{err_from_is_err_and}
 use Rattle.ats_top.specs.Sweeping.{entry_names, GatheringStop}
 use Rattle.ats_top.proofs.AuditEnds.{passed_on}
-use Rattle.ats_top.proofs.GatherSteps.{reads_next, stops_at, passes_at, so_far_more, reads_all}
+use Rattle.ats_top.proofs.GatherSteps.{reads_next, stops_at, passes_at, passes_stop, so_far_more, reads_all}
 use Rattle.ats_top.proofs.gathering.gather_all.Goals as goal
 
 pub returns-in_err-proof-clause-stop : goal.returns-in_err-proof-clause-stop
@@ -24,9 +24,9 @@ returns-in_err-proof-clause-reads g c =
 pub returns-then-total-gt-PROOFS_LIMIT-clause-stop : goal.returns-then-total-gt-PROOFS_LIMIT-clause-stop
 returns-then-total-gt-PROOFS_LIMIT-clause-stop g c =
     let i : ℕ = c.loop-entry.entry-index in
-    passes_at (g.S.Shelf.told c.args.shelf.now) (g.S.Shelf.told c.loop-entry.shelf) (g.S.Shelf.told c.gather_one.new.shelf) c.args.entries.now i
+    passes_stop (g.S.Shelf.told c.args.shelf.now) (g.S.Shelf.told c.gather_one.new.shelf) (entry_names c.args.entries.now) _ _ c.proofs_too_long.ensures (passes_at (g.S.Shelf.told c.args.shelf.now) (g.S.Shelf.told c.loop-entry.shelf) (g.S.Shelf.told c.gather_one.new.shelf) c.args.entries.now i
     c.entry-item.result c.loop-entry-test.true c.entry-item.is c.loop-entry.proofs.items c.loop-entry.total c.loop-entry.invariant c.gather_one.ensures.reads
-    c.in_ok-proof.proof c.in_ok-proof.ensures.ok _ (ap (λ (bytes : List ℕ). c.loop-entry.total + length bytes) c.bytes.ensures) (omega (arith, c.if-total-gt-PROOFS_LIMIT.true))
+    c.in_ok-proof.proof c.in_ok-proof.ensures.ok _ (ap (λ (bytes : List ℕ). c.loop-entry.total + length bytes) c.bytes.ensures) (omega (arith, c.if-total-gt-PROOFS_LIMIT.true)))
 
 pub returns-then-total-gt-PROOFS_LIMIT-clause-reads : goal.returns-then-total-gt-PROOFS_LIMIT-clause-reads
 returns-then-total-gt-PROOFS_LIMIT-clause-reads g c =

@@ -1,4 +1,4 @@
-use Rattle.std.proofs.Common.{◌≡◌, ◌⊎◌, ℕ, List, ap, inr, ◌∙◌}
+use Rattle.std.proofs.Common.{◌≡◌, ◌⊎◌, ℕ, List, Vec, Global, ap, inr, ◌∙◌}
 use Rattle.std.proofs.lemmas.Result.{err_from_is_err_and}
 use Rattle.ats_top.specs.Trial.{IsTriesStop, lines_of_trial}
 use Rattle.ats_top.specs.declared.stops.Stop.{Stop}
@@ -19,5 +19,5 @@ returns-clause-ok g c =
       tnra = tnra.0;
       by_tra = tra.1;
       by_tnra = tnra.1;
-      printed = c.in_ok-text.ensures tra.0 tnra.0 tra.2 tnra.2 ∙ ap (λ (r : List ℕ). lines_of_trial r tra.0 tnra.0) c.root.ensures;
+      printed = ap (λ (v : Vec ℕ Global). v.items) c.into_bytes.ensures.value ∙ c.in_ok-text.ensures tra.0 tnra.0 tra.2 tnra.2 ∙ ap (λ (r : List ℕ). lines_of_trial r tra.0 tnra.0) c.root.ensures;
     }

@@ -1,4 +1,4 @@
-use Rattle.std.proofs.Common.{ℕ, ◌^◌, List, string_bytes, sym, subst}
+use Rattle.std.proofs.Common.{ℕ, ◌^◌, List, vec_items, sym, subst}
 use Rattle.ats_top.specs.Read.{IsFile}
 use Rattle.ats_top.proofs.VerifyEnds.{asks_of, bytes_stops, bytes_end}
 use Rattle.ats_top.proofs.verifying.verify.Goals as goal
@@ -10,7 +10,7 @@ returns-clause-ok g c =
     bytes_end g.H.HashKind.hash (g.S.Shelf.told c.args.shelf.now) (g.S.Shelf.told c.proof.new.shelf)
     (record { root = c.args.root.now; r = c.args.r; query = c.args.query.now; proof = c.args.proof.now })
     asks c.in_ok-bytes.ensures.reads.files c.in_ok-asked.asked c.as_slice.result.now c.in_ok-asked.ensures.ok file
-    g.H.HashKind.sized c.answered.ensures.asked string_bytes c.answered.result (rw c.in_ok-rows.ensures.ok at c.answered.ensures.ok)
+    g.H.HashKind.sized c.answered.ensures.asked vec_items c.answered.result (rw c.in_ok-rows.ensures.ok at c.answered.ensures.ok)
 
 pub returns-clause-stop : goal.returns-clause-stop
 returns-clause-stop g c =
