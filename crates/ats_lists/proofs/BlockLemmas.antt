@@ -14,7 +14,7 @@ use Rattle.ats_lists.specs.Blocks.{blocks_in, items_in}
 use Rattle.ats_lists.specs.ChainBound.{chain_inner_nodes}
 use Rattle.ats_lists.specs.BlockRoots.{AreBlockRoots}
 use Rattle.ats_lists.specs.ChainPrefix.{block_tree, block_need, block_root}
-use Rattle.ats_lists.proofs.Fronts.{front-places, front-length, front-gone}
+use Rattle.ats_lists.proofs.Fronts.{front-places, front-length, front-gone, range-more}
 
 -- the leaves of a list that are shown are its first ones
 abbrev pub IsShownFront : List Shown → Type 0
@@ -146,13 +146,6 @@ sum-next : (count : ℕ → ℕ) (from n j : ℕ) → from + n ≡ j
 sum-next count from n j at =
     let more : range_with_len from (n + 1) ≡ range_with_len from n ++ j ∷ [] = range-more from n j at
     in ap (sum_by count) more ∙ sum_by-append count (range_with_len from n) (j ∷ []) ∙ ap (λ m. sum_by count (range_with_len from n) + m) (sum_by-cons count j [] ∙ omega arith)
-  where
-    range-more : (a n j : ℕ) → a + n ≡ j → range_with_len a (n + 1) ≡ range_with_len a n ++ j ∷ []
-    range-more a zero j at = let here : a ≡ j = omega arith in ap (λ i. i ∷ []) here
-    range-more a (suc n) j at =
-        let at' : a + 1 + n ≡ j = omega arith
-        in let size : suc n + 1 ≡ suc (n + 1) = omega arith
-        in rw size (ap (λ is. a ∷ is) (range-more (a + 1) n j at'))
 
 sum-front : (count : ℕ → ℕ) (from n m : ℕ) → n ≤ m → sum_by count (range_with_len from n) ≤ sum_by count (range_with_len from m)
 sum-front count from zero m le = omega arith

@@ -104,6 +104,12 @@ chain_from-step H leaves j less =
     let count : blocks_in (length leaves) - j ≡ suc (blocks_in (length leaves) - (j + 1)) = omega arith
     in ap (λ n. chain_digest H (map (λ i. mth H (block leaves i)) (range_with_len j n)) no_block) count
 
+-- past the list's last block no digest comes
+pub chain-end : (H : List ℕ → List ℕ) (leaves : List (List ℕ)) (j : ℕ) → blocks_in (length leaves) ≤ j → chain_from H leaves j ≡ no_block
+chain-end H leaves j past =
+    let none : blocks_in (length leaves) - j ≡ 0 = omega arith
+    in ap (λ n. chain_digest H (map (λ i. mth H (block leaves i)) (range_with_len j n)) no_block) none
+
 -- ---- all shown blocks from block j on
 
 -- what is shown from block j on is the list's

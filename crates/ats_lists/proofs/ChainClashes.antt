@@ -1,5 +1,5 @@
 -- The first collision of the strings of a list in blocks, from those of its blocks.
-use Rattle.std.proofs.Common.{◌≡◌, ℕ, zero, suc, ◌+◌, ◌-◌, ◌*◌, ◌/◌, ◌%◌, ◌^◌, ◌<◌, ◌≤◌, List, [], ◌∷◌, ◌++◌, length, map, take, drop, min, true, false, refl, sym, ◌∙◌, ap, ap₂, arith, inl, inr, Option, Some, None, subst, All, IsSome, get_or, nat_lt, nat_le, if◌then◌else◌, slice_get}
+use Rattle.std.proofs.Common.{◌≡◌, ℕ, zero, suc, ◌+◌, ◌-◌, ◌*◌, ◌%◌, ◌^◌, ◌<◌, ◌≤◌, List, [], ◌∷◌, ◌++◌, length, map, drop, min, true, false, refl, sym, ◌∙◌, ap, ap₂, arith, inl, inr, Option, Some, None, All, IsSome, get_or}
 use Rattle.std.specs.List.{range_with_len, flat_map}
 use Rattle.std.specs.Option.{option_map, option_or, is_some}
 use Rattle.std.proofs.Math.Seq.{drop-cons}
@@ -7,7 +7,7 @@ use Rattle.std.proofs.Math.Nat.{mod-eq_of_lt}
 use Rattle.std.proofs.lemmas.Bool.{cond-true, cond-false, cases_lt, le-leb, lt-leb}
 use Rattle.std.proofs.lemmas.List.Concat.{flat_map-cons}
 use Rattle.std.proofs.lemmas.List.FromFn.{get_or-map-range_with_len}
-use Rattle.ats_tree.specs.Tree.{Tree, tree_of}
+use Rattle.ats_tree.specs.Tree.{tree_of}
 use Rattle.ats_tree.specs.Shown.{Shown, places}
 use Rattle.ats_tree.specs.Paths.{Path, path_of, number_of}
 use Rattle.ats_tree.specs.Nodes.{Node, by_path, NodeNumbers}
@@ -20,7 +20,7 @@ use Rattle.ats_tree.specs.declared.clashing.Clash.{Clash}
 use Rattle.ats_tree.proofs.Public.{collision-append, moved_collision, collision-moved, collision_or-or, collision-alike, collision-own, length-path_of, number_of-path_of}
 use Rattle.ats_lists.specs.Blocks.{blocks_in, items_in, blocks_from}
 use Rattle.ats_lists.specs.Chain.{link, chain_digest}
-use Rattle.ats_lists.specs.ChainPrefix.{block_tree, block_need, block_root, next_digest, shown_from, tree_strings, block_strings, chain_strings}
+use Rattle.ats_lists.specs.ChainPrefix.{block_tree, block_need, block_root, next_digest, tree_strings, block_strings, chain_strings}
 use Rattle.ats_lists.proofs.BlockLemmas.{IsShownFront, taken, taken-none, taken-all, taken-next, block-left}
 use Rattle.ats_lists.specs.ChainClash.{list_difference_of, numbers_in, ours_in, tree_collision, IsFirstInTrees, link_at}
 

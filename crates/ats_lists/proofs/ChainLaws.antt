@@ -20,15 +20,10 @@ use Rattle.ats_lists.specs.Chain.{link, no_block, chain_digest, chain_from, chai
 use Rattle.ats_lists.specs.ChainPrefix.{block_tree, block_need, block_root, has_next, chain_need, next_digest, shown_from, chain_rebuilt, tree_strings, chain_strings}
 use Rattle.ats_lists.proofs.Fronts.{front-places, front-past}
 use Rattle.ats_lists.proofs.BlockLemmas.{shown-front, full-block}
-use Rattle.ats_lists.proofs.ChainBinding.{own_at, in_block, node-own, link-own, length-block, shown_from-step, chain_from-step, strings_from}
+use Rattle.ats_lists.proofs.ChainBinding.{chain-end, own_at, in_block, node-own, link-own, length-block, shown_from-step, chain_from-step, strings_from}
 use Rattle.ats_lists.proofs.ChainOutcomes.{chain-rebuilt}
 
 -- ---- how a list is cut
-
-chain_from-end : (H : List ℕ → List ℕ) (ds : List (List ℕ)) (j : ℕ) → blocks_in (length ds) ≤ j → chain_from H ds j ≡ no_block
-chain_from-end H ds j past =
-    let none : blocks_in (length ds) - j ≡ 0 = omega arith
-    in ap (λ n. chain_digest H (map (λ i. mth H (block ds i)) (range_with_len j n)) no_block) none
 
 first-block : (ds : List (List ℕ)) → block ds 0 ≡ take 64 ds
 first-block ds = refl
@@ -39,7 +34,7 @@ chain-one H ds some few =
     let one : 0 < blocks_in (length ds) = omega arith
     in let end : blocks_in (length ds) ≤ 0 + 1 = omega arith
     in chain_from-step H ds 0 one
-    ∙ ap₂ (λ (root next : List ℕ). H (link root next)) (ap (mth H) (take_all 64 ds few)) (chain_from-end H ds (0 + 1) end)
+    ∙ ap₂ (λ (root next : List ℕ). H (link root next)) (ap (mth H) (take_all 64 ds few)) (chain-end H ds (0 + 1) end)
 
 -- block j + 1 of a list is block j after its first 64
 later-block : (ds : List (List ℕ)) (j : ℕ) → block ds (j + 1) ≡ block (drop 64 ds) j
@@ -265,7 +260,7 @@ first-next H ds k some within =
       | inr ends ↦
           let past : length ds ≤ 64 * blocks_in k = ltb-false (64 * blocks_in k) (length ds) ends
           in let end : blocks_in (length ds) ≤ blocks_in k = omega arith
-          in cond-false _ _ _ (has ∙ ends) ∙ sym (chain_from-end H ds (blocks_in k) end)
+          in cond-false _ _ _ (has ∙ ends) ∙ sym (chain-end H ds (blocks_in k) end)
     ]
 
 first-from : (H : List ℕ → List ℕ) (ds : List (List ℕ)) (k : ℕ) → 1 ≤ k → k ≤ length ds → (n j : ℕ) → j + n ≡ blocks_in k

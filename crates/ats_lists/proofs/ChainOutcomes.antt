@@ -1,6 +1,6 @@
 -- What rebuilding a list in blocks returns, by what is left after its shown blocks.
-use Rattle.std.proofs.Common.{◌≡◌, ℕ, zero, ◌+◌, ◌-◌, ◌*◌, ◌<◌, ◌≤◌, List, [], ◌∷◌, length, map, drop, min, Bool, true, false, ◌&&◌, refl, sym, ◌∙◌, ap, arith, inl, inr, Option, Some, None, IsSome, slice_get, get_or, nat_lt, nat_le, nat_eq, if◌then◌else◌}
-use Rattle.std.proofs.lemmas.Bool.{cond-true, cond-false, cases_Bool, and_parts, and_from, le-leb, eq-eqb, leb-true, eqb-true, ltb-true, ltb-false}
+use Rattle.std.proofs.Common.{◌≡◌, ℕ, ◌+◌, ◌-◌, ◌*◌, ◌<◌, ◌≤◌, List, [], ◌∷◌, length, drop, min, Bool, true, false, ◌&&◌, refl, sym, ◌∙◌, ap, arith, inl, inr, Option, Some, None, IsSome, slice_get, get_or, nat_lt, nat_le, nat_eq, if◌then◌else◌}
+use Rattle.std.proofs.lemmas.Bool.{cond-true, cond-false, cases_Bool, and_parts, and_from, le-leb, eq-eqb, leb-true, eqb-true, ltb-true}
 use Rattle.std.proofs.lemmas.List.{length-drop, get_or-drop}
 use Rattle.std.proofs.lemmas.List.FromFn.{length-map-range_with_len}
 use Rattle.std.proofs.lemmas.Option.{get_or_from_slice_get, slice_get_within}

@@ -17,7 +17,7 @@ use Rattle.ats_lists.proofs.BlockLemmas.{IsShownFront}
 use Rattle.ats_lists.proofs.ChainBinding.{chain-bound_to}
 
 -- the string with a node's numbers is the node's
-numbers-own : (H : List ℕ → List ℕ) (entries : List Entry) (node : Node)
+pub numbers-own : (H : List ℕ → List ℕ) (entries : List Entry) (node : Node)
     → list_string H One entries (numbers_of node) ≡ node_string H (map leaf_bytes entries) node
 numbers-own H entries (by_path path) = ap (string_at H (tree_of (map leaf_bytes entries))) (node-some (by_path path)).0
 

@@ -1,12 +1,13 @@
 -- The first leaves of a list, shown: their positions are 0, 1, 2 and so on.
-use Rattle.std.proofs.Common.{◌≡◌, ℕ, zero, suc, ◌+◌, ◌-◌, ◌<◌, ◌≤◌, List, [], ◌∷◌, length, false, refl, sym, ◌∙◌, ap, arith, inl, inr, None, subst}
+use Rattle.std.proofs.Common.{◌≡◌, ℕ, zero, suc, ◌+◌, ◌-◌, ◌<◌, ◌≤◌, List, [], ◌∷◌, ◌++◌, length, false, refl, sym, ◌∙◌, ap, arith, inl, inr, None, subst}
 use Rattle.std.specs.List.{range_with_len}
+use Rattle.std.specs.List.Sorted.{IsStrictlyIncreasing}
 use Rattle.std.specs.Option.{is_none}
 use Rattle.std.proofs.lemmas.Bool.{cond-true, cond-false, cases_lt, eq-eqb, ne_eqb, lt-ltb, and_from}
 use Rattle.std.proofs.lemmas.List.{length-map}
-use Rattle.std.proofs.lemmas.List.FromFn.{length-range_with_len}
+use Rattle.std.proofs.lemmas.List.FromFn.{get_or-range_with_len, length-range_with_len}
 use Rattle.ats_tree.specs.Shown.{Shown, positions_of, shown_at, places}
-use Rattle.ats_tree.specs.Part.{RisesFrom, shown_from}
+use Rattle.ats_tree.specs.Part.{RisesFrom, RisesWithin, shown_from}
 use Rattle.ats_tree.proofs.Public.{IsFront, front-nil}
 
 pub front-length : (a n : ℕ) (shown : List Shown) → positions_of shown ≡ range_with_len a n → length shown ≡ n
@@ -20,6 +21,28 @@ front-rises a (suc n) (s ∷ rest) is =
     in let later : positions_of rest ≡ range_with_len (a + 1) n = cc
     in let low : a ≤ s.0 = omega arith
     in (low, subst (λ p. RisesFrom (p + 1) rest) (sym first) (front-rises (a + 1) n rest later))
+
+-- a run of numbers with one number more
+pub range-more : (a n j : ℕ) → a + n ≡ j → range_with_len a (n + 1) ≡ range_with_len a n ++ j ∷ []
+range-more a zero j at = let here : a ≡ j = omega arith in ap (λ (i : ℕ). i ∷ []) here
+range-more a (suc n) j at =
+    let at' : a + 1 + n ≡ j = omega arith
+    in let size : suc n + 1 ≡ suc (n + 1) = omega arith
+    in rw size (ap (λ (rest : List ℕ). a ∷ rest) (range-more (a + 1) n j at'))
+
+-- a run of numbers rises strictly
+pub range-rises : (n : ℕ) → IsStrictlyIncreasing (range_with_len 0 n)
+range-rises n k inside =
+    omega (arith, get_or-range_with_len 0 n k 0 (omega (arith, inside, length-range_with_len 0 n)), get_or-range_with_len 0 n (k + 1) 0 (omega (arith, inside, length-range_with_len 0 n)))
+
+-- the first positions rise within those of the list
+pub front-within : (a n end : ℕ) → a + n ≤ end → RisesWithin a end (range_with_len a n)
+front-within a zero end within = tt
+front-within a (suc n) end within =
+    let low : a ≤ a = omega arith
+    in let high : a < end = omega arith
+    in let rest : a + 1 + n ≤ end = omega arith
+    in (low, high, front-within (a + 1) n end rest)
 
 -- a leaf is shown at each position below the end
 pub front-there : (a n i : ℕ) (shown : List Shown) → positions_of shown ≡ range_with_len a n → a ≤ i → i < a + n

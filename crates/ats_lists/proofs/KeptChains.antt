@@ -5,19 +5,18 @@ use Rattle.std.proofs.Math.Nat.{lt-div-mul-add, div-eq_of_lt}
 use Rattle.std.proofs.lemmas.Nat.{pow_pos}
 use Rattle.std.proofs.lemmas.Bool.{cases_lt, cases_Bool, cond-true, cond-false, lt-ltb, le-ltb, eq-eqb, ne_eqb}
 use Rattle.std.specs.List.{All}
-use Rattle.std.proofs.lemmas.List.{append-nil, drop-drop, drop-take, take-take, get_or-take, get_or-drop, take_all, take_at, drop_at, drop_all, length-take, length-drop}
+use Rattle.std.proofs.lemmas.List.{append-nil, drop-drop, drop-take, get_or-take, get_or-drop, take_all, take_at, drop_at, drop_all, length-take, length-drop}
 use Rattle.std.proofs.lemmas.List.Elements.{All-cons}
 use Rattle.std.proofs.lemmas.Slice.{drop-put_mid}
 use borrow.Rule.Slice.PartMut.{put_mid, post_of}
 use Rattle.std.proofs.lemmas.List.FromFn.{get_or-map-range_with_len, get_or-range_with_len, length-range_with_len}
-use Rattle.std.specs.List.Sorted.{IsStrictlyIncreasing}
 use Rattle.ats_tree.specs.Kept.{kept_digests}
 use Rattle.ats_tree.specs.Tree.{mth, tree_of}
 use Rattle.ats_tree.specs.Paths.{path_of}
 use Rattle.ats_tree.specs.Strings.{string_at}
 use Rattle.ats_tree.proofs.Public.{length-kept, sized-kept, string-none}
 use Rattle.ats_lists.specs.Blocks.{blocks_in, items_in, block, blocks_from}
-use Rattle.ats_lists.specs.Chain.{link, no_block, chain_digest, chain_from, chain_link, chain_string}
+use Rattle.ats_lists.specs.Chain.{link, chain_from, chain_link, chain_string}
 use Rattle.ats_lists.specs.KeptChain.{ChainDigests, kept_chain, digests_in, chain_in, IsChainRun}
 use Rattle.ats_lists.proofs.ChainBinding.{chain_from-step}
 
@@ -112,18 +111,6 @@ take-range a n zero few = refl
 take-range a zero (suc k) few = absurd (omega arith)
 take-range a (suc n) (suc k) few = ap (λ (rest : List ℕ). a ∷ rest) (take-range (a + 1) n k (omega arith))
 
--- one number more
-pub range-more : (a n j : ℕ) → a + n ≡ j → range_with_len a (n + 1) ≡ range_with_len a n ++ j ∷ []
-range-more a zero j at = let here : a ≡ j = omega arith in ap (λ (i : ℕ). i ∷ []) here
-range-more a (suc n) j at =
-    let at' : a + 1 + n ≡ j = omega arith
-    in let size : suc n + 1 ≡ suc (n + 1) = omega arith
-    in rw size (ap (λ (rest : List ℕ). a ∷ rest) (range-more (a + 1) n j at'))
-
-pub range-rises : (n : ℕ) → IsStrictlyIncreasing (range_with_len 0 n)
-range-rises n k inside =
-    omega (arith, get_or-range_with_len 0 n k 0 (omega (arith, inside, length-range_with_len 0 n)), get_or-range_with_len 0 n (k + 1) 0 (omega (arith, inside, length-range_with_len 0 n)))
-
 pub range-nodes : (n nodes : ℕ) → 2 * n ≤ nodes + 1 → All (λ p. 2 * p + 1 ≤ nodes) (range_with_len 0 n)
 range-nodes n nodes within k d inside =
     omega (arith, get_or-range_with_len 0 n k d (omega (arith, inside, length-range_with_len 0 n)), inside, length-range_with_len 0 n, within)
@@ -134,21 +121,10 @@ pub on-err : {A E : Type 0} (r : Result A E) {P : Type 0} → P → OnErr r P
 on-err (Ok x) p = tt
 on-err (Err e) p = p
 
-pub front-front : (a b c : List (List ℕ)) → take (length a) b ≡ a → take (length b) c ≡ b → take (length a) c ≡ a
-front-front a b c first second =
-    let le : length a ≤ length b = omega (arith, length-take (length a) b, ap length first)
-    in sym (take-take (length a) (length b) c le) ∙ ap (take (length a)) second ∙ first
-
 pub front-more : (a b c : List (List ℕ)) → b ≡ a ++ c → take (length a) b ≡ a
 front-more a b c is = ap (take (length a)) is ∙ take_at a c (length a) refl
 
 -- ---- one block's digests are written where they stand
-
--- past the list's last block no digest comes
-pub chain-end : (H : List ℕ → List ℕ) (leaves : List (List ℕ)) (j : ℕ) → blocks_in (length leaves) ≤ j → chain_from H leaves j ≡ no_block
-chain-end H leaves j past =
-    let none : blocks_in (length leaves) - j ≡ 0 = omega arith
-    in ap (λ n. chain_digest H (map (λ i. mth H (block leaves i)) (range_with_len j n)) no_block) none
 
 -- the leaves of a block
 pub block-leaves : (leaves : List (List ℕ)) (j n : ℕ) → n ≡ items_in (length leaves) j → take n (drop (64 * j) leaves) ≡ block leaves j

@@ -17,4 +17,5 @@ mod ChainOutcomes
 mod ChainLaws
 mod ChainClashes
 mod FormatLemmas
+mod FormatLaws
 mod KeptChains

@@ -26,3 +26,9 @@ pub use Rattle.ats_lists.proofs.WholeLemmas.{list_keeps}
 pub use Rattle.ats_lists.proofs.ListedLemmas.{listed}
 -- a term that is under none of a collection's lists has an empty list
 pub use Rattle.ats_lists.proofs.ListedLemmas.{unlisted}
+-- a run of numbers rises strictly
+pub use Rattle.ats_lists.proofs.Fronts.{range-rises}
+-- the root of a list has 32 bytes
+pub use Rattle.ats_lists.proofs.FormatLaws.{root-sized}
+-- the first entries of a list need few digests of 32 bytes, which rebuild its root; their strings are the list's own
+pub use Rattle.ats_lists.proofs.FormatLaws.{front-few, front-sized, front-rebuilds, front-own}

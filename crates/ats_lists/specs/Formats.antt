@@ -2,7 +2,7 @@
 use Rattle.std.specs.Prelude.{◌≡◌, ℕ, List, map, Option, Some, MatchOption, All, slice_get}
 use Rattle.std.specs.List.{range_with_len}
 use Rattle.ats_tree.specs.Differences.{Hashed, moved, Difference, first_difference}
-use Rattle.ats_tree.specs.Elided.{elided_digests}
+use Rattle.ats_tree.specs.Elided.{elided_digests, shown_with}
 use Rattle.ats_tree.specs.Nodes.{NodeNumbers, by_path, numbers_of}
 use Rattle.ats_tree.specs.Paths.{path_of}
 use Rattle.ats_tree.specs.Rebuild.{rebuilt}
@@ -25,6 +25,10 @@ list_root H Two entries = chain H (map leaf_bytes entries)
 abbrev pub list_string : (List ℕ → List ℕ) → Format → List Entry → NodeNumbers → Option (List ℕ)
 list_string H One entries at = node_string H (map leaf_bytes entries) (by_path (path_of at.depth at.turns))
 list_string H Two entries at = chain_string H (map leaf_bytes entries) at.depth at.turns
+
+-- the leaves of the first `count` entries of a list, at their positions
+abbrev pub first_leaves : List Entry → ℕ → List Shown
+first_leaves entries count = shown_with (map leaf_bytes entries) (range_with_len 0 count)
 
 -- the root of a list of `total` entries, from its first leaves, which are shown, and the digests of the rest
 abbrev pub prefix_root : (List ℕ → List ℕ) → Format → ℕ → List Shown → List (List ℕ) → Option (List ℕ)

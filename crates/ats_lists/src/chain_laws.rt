@@ -5,15 +5,11 @@ ghost use Rattle.std.specs.Prelude.{◌≡◌, ℕ, ◌+◌, ◌*◌, ◌<◌, �
 ghost use Rattle.std.specs.List.{range_with_len};
 ghost use Rattle.ats_tree.specs.Elided.{shown_with};
 ghost use Rattle.ats_tree.specs.Paths.{Path, number_of};
-ghost use Rattle.ats_tree.specs.Shown.{Shown, positions_of};
 ghost use Rattle.ats_tree.specs.Strings.{string_at};
 ghost use Rattle.ats_tree.specs.Tree.{tree_of, mth};
 ghost use Rattle.ats_lists.specs.Blocks.{block, blocks_in};
 ghost use Rattle.ats_lists.specs.Chain.{chain, chain_from, chain_string, chain_elided, IsAtBlock};
 ghost use Rattle.ats_lists.specs.ChainPrefix.{chain_rebuilt, chain_strings};
-ghost use Rattle.ats_lists.specs.Formats.{list_root, prefix_root, IsListBoundTo};
-ghost use Rattle.ats_lists.specs.declared.entry.Entry.{Entry};
-ghost use Rattle.ats_lists.specs.declared.format.Format.{Format};
 
 use ats_hash::HashKind;
 
@@ -48,13 +44,4 @@ pub fn first_leaves_suffice<H: HashKind>()
     ensures own { (ds : List (List ℕ)) (k : ℕ) → 1 ≤ k → k ≤ length ds
         → All (λ s. chain_string H.hash ds s.place.depth s.place.turns ≡ Some s.text)
         (chain_strings H.hash (length ds) (shown_with ds (range_with_len 0 k)) (chain_elided H.hash ds k)) }
-{}
-
-/// If the first leaves of a list and digests of 32 bytes rebuild the root of a list, in either format, the leaves are
-/// bound to that list. Nothing is assumed of the hash function.
-pub fn first_leaves_are_bound<H: HashKind>()
-    ensures { (format : Format) (shown : List Shown) (digests : List (List ℕ)) (entries : List Entry)
-        → positions_of shown ≡ range_with_len 0 (length shown) → All (λ d. length d ≡ 32) digests
-        → prefix_root H.hash format (length entries) shown digests ≡ Some (list_root H.hash format entries)
-        → IsListBoundTo H.hash format (length entries) shown digests entries }
 {}

@@ -45,16 +45,48 @@ pub fn chain_rebuild<'a, H: Hash32, R: Revealed<'a>>(
     ensures by_items { steps.new ≤ steps.old + 3 * k + 2 * length (R.digests revealed.old) + 1 }
     ensures by_places { steps.new ≤ steps.old + 3 * f + 1 }
 {
-    // Digests have 32 bytes.
-    let _first = revealed.position();
     if f < k {
         return None;
     }
-    let blocks = k.div_ceil(BLOCK);
+    // To clear all roots would take longer than to rebuild one.
+    if k <= BLOCK {
+        return rebuild_front::<H, R>(f, &mut [[0; 32]], revealed, steps);
+    }
     let mut all = [[0; 32]; BLOCKS];
-    let roots = &mut all[..blocks as usize];
+    let blocks = k.div_ceil(BLOCK);
+    rebuild_front::<H, R>(f, &mut all[..blocks as usize], revealed, steps)
+}
+
+/// The digest of a list of `f` leaves in blocks, from the leaves and digests of `revealed`, with room for the roots of
+/// the blocks of which some leaf is shown.
+fn rebuild_front<'a, H: Hash32, R: Revealed<'a>>(
+    f: u32,
+    roots: &mut [[u8; 32]],
+    revealed: &mut R,
+    steps: &mut Steps,
+) -> Option<[u8; 32]>
+    requires some { 1 ≤ length (R.shown revealed.old) }
+    requires few { length (R.shown revealed.old) ≤ 65536 }
+    requires front { positions_of (R.shown revealed.old) ≡ range_with_len 0 (length (R.shown revealed.old)) }
+    requires within { length (R.shown revealed.old) ≤ f }
+    requires size { length roots.old ≡ blocks_in (length (R.shown revealed.old)) }
+    requires room { steps.old ≤ 2 ^ 63 }
+    ensures value { result ≡ chain_rebuilt H.hash f (R.shown revealed.old) (R.digests revealed.old) }
+    ensures used { IfSome result (λ x. (R.shown revealed.new ≡ []) × (R.digests revealed.new ≡ [])) }
+    ensures bound { IfSome result (λ x. (leaves : List (List ℕ)) → length leaves ≡ f → chain H.hash leaves ≡ x
+        → IsChainBoundTo H.hash f (R.shown revealed.old) (R.digests revealed.old) leaves) }
+    ensures cost { steps.new + 2 * length (R.shown revealed.new) + length (R.digests revealed.new)
+        ≤ steps.old + 2 * length (R.shown revealed.old) + length (R.digests revealed.old)
+        + chain_inner_nodes f (R.shown revealed.old) + blocks_in (length (R.shown revealed.old)) + 1 }
+    ensures by_items { steps.new
+        ≤ steps.old + 3 * length (R.shown revealed.old) + 2 * length (R.digests revealed.old) + 1 }
+    ensures by_places { steps.new ≤ steps.old + 3 * f + 1 }
+{
+    // Digests have 32 bytes.
+    let _first = revealed.position();
+    let follows = BLOCK as usize * roots.len() < f as usize;
     rebuild_blocks::<H, R>(f, roots, revealed, steps)?;
-    let next = pass_next::<R>(BLOCK * blocks < f, revealed, steps)?;
+    let next = pass_next::<R>(follows, revealed, steps)?;
     match revealed.pass_digest(steps) {
         Some(_) => None,
         None => Some(link_blocks::<H>(roots, next, steps)),
@@ -72,7 +104,7 @@ fn rebuild_blocks<'a, H: Hash32, R: Revealed<'a>>(
     requires front { positions_of (R.shown revealed.old) ≡ range_with_len 0 (length (R.shown revealed.old)) }
     requires within { length (R.shown revealed.old) ≤ f }
     requires size { length roots.old ≡ blocks_in (length (R.shown revealed.old)) }
-    requires room { steps.old + 3 * f < 2 ^ 64 }
+    requires room { steps.old ≤ 2 ^ 63 }
     ensures whole { IfSome result (λ x. AreBlockRoots H.hash f (R.shown revealed.old) (R.digests revealed.old) roots.new
         (R.shown revealed.new) (R.digests revealed.new)) }
     ensures short { IfNone result (length (R.digests revealed.old) < block_need f (R.shown revealed.old)) }

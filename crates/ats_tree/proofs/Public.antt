@@ -68,6 +68,8 @@ pub use Rattle.ats_tree.proofs.OwnStrings.{own-strings}
 pub use Rattle.ats_tree.proofs.OwnStrings.{own-shown}
 -- a tree of n leaves has 2n - 1 kept digests if n is at least 1
 pub use Rattle.ats_tree.proofs.KeptLemmas.{length-kept}
+-- what is in front of a list that is in front of another is in front of that one
+pub use Rattle.ats_tree.proofs.KeptLemmas.{front-front}
 -- kept digests have 32 bytes each and the number of a tree's nodes, and the first is that of the tree
 pub use Rattle.ats_tree.proofs.KeptLemmas.{sized-kept, is_node_list, kept-first}
 -- places from b on are the same if only the shown leaves from b on are left
@@ -86,6 +88,8 @@ pub use Rattle.ats_tree.proofs.ShownParts.{ShowsOwn, part-bound}
 pub use Rattle.ats_tree.proofs.ShownParts.{difference-alike}
 -- the digest of a list, and a rebuilt digest, has 32 bytes
 pub use Rattle.ats_tree.proofs.ShownParts.{length-mth, length-rebuilt}
+-- elided digests have 32 bytes
+pub use Rattle.ats_tree.proofs.ShownParts.{elided-sized}
 -- the nodes of a part of at most 2^h places are at most h deep
 pub use Rattle.ats_tree.proofs.ShownParts.{part-shallow}
 -- the first places hold leaves, and the others none

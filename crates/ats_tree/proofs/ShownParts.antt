@@ -5,13 +5,13 @@ use Rattle.std.specs.List.{slice_get, list_all}
 use Rattle.std.specs.Option.{is_none}
 use Rattle.std.proofs.Math.Nat.{two-pow-succ}
 use Rattle.std.proofs.lemmas.Nat.{pow_pos}
-use Rattle.std.proofs.lemmas.Bool.{cond-true, cond-false, cases_lt, and_left, and_parts, and_from}
+use Rattle.std.proofs.lemmas.Bool.{cond-true, cond-false, cases_Bool, cases_lt, and_left, and_parts, and_from}
 use Rattle.std.proofs.lemmas.List.{length-take, length-drop}
-use Rattle.std.proofs.lemmas.List.Elements.{All-head, All-tail, recursion_from_All}
+use Rattle.std.proofs.lemmas.List.Elements.{All-append, All-cons, All-head, All-nil, All-tail, recursion_from_All}
 use Rattle.ats_tree.specs.Tree.{Tree, empty, leaf, node, tree_within, tree_of, digest_of, mth}
 use Rattle.ats_tree.specs.Shown.{Shown, shown_at, places}
 use Rattle.ats_tree.specs.Rebuild.{is_bare, need, digest_with}
-use Rattle.ats_tree.specs.Elided.{shown_with, elided_of}
+use Rattle.ats_tree.specs.Elided.{shown_with, elided_of, left_of, right_of}
 use Rattle.ats_tree.specs.Paths.{Path}
 use Rattle.ats_tree.specs.Differences.{Hashed, first_difference, IsOurs}
 use Rattle.ats_tree.specs.Strings.{strings, string_at}
@@ -82,6 +82,22 @@ length-rebuilt H sized t ds all enough = length-digest_with H sized t ds (recurs
 -- the digest of a list has 32 bytes
 pub length-mth : (H : List ℕ → List ℕ) → ((m : List ℕ) → length (H m) ≡ 32) → (leaves : List (List ℕ)) → length (mth H leaves) ≡ 32
 length-mth H sized leaves = length-digest_of H sized (tree_of leaves)
+
+-- elided digests have 32 bytes
+pub elided-sized : (H : List ℕ → List ℕ) → ((m : List ℕ) → length (H m) ≡ 32) → (t : Tree (Option (List ℕ))) (u : Tree (List ℕ))
+    → All (λ d. length d ≡ 32) (elided_of H t u)
+elided-sized H sized empty u = All-nil _
+elided-sized H sized (leaf None) u = All-cons (λ d. length d ≡ 32) (digest_of H u) [] (length-digest_of H sized u) (All-nil _)
+elided-sized H sized (leaf (Some x)) u = All-nil _
+elided-sized H sized (node l r) u =
+    let Sized : List (List ℕ) → Type 0 = All (λ d. length d ≡ 32)
+    in elim (cases_Bool (is_bare l && is_bare r)) [
+      | inl bare ↦
+          subst Sized (sym (cond-true _ _ _ bare)) (All-cons (λ d. length d ≡ 32) (digest_of H u) [] (length-digest_of H sized u) (All-nil _))
+      | inr shows ↦
+          subst Sized (sym (cond-false _ _ _ shows))
+          (All-append (λ d. length d ≡ 32) (elided_of H l (left_of u)) (elided_of H r (right_of u)) (elided-sized H sized l (left_of u)) (elided-sized H sized r (right_of u)))
+    ]
 
 -- the nodes of a part of at most 2^h places are at most h deep
 pub part-shallow : (H : List ℕ → List ℕ) (h from n : ℕ) (shown : List Shown) (ds : List (List ℕ)) → n ≤ 2 ^ h

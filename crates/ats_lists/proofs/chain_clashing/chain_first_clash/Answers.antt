@@ -1,10 +1,10 @@
-use Rattle.std.proofs.Common.{ℕ, ◌≡◌, ◌+◌, ◌*◌, ◌<◌, ◌≤◌, List, length, All, Some, None, slice_get, nat_lt, refl, sym, ◌∙◌, ap, arith, if◌then◌else◌}
+use Rattle.std.proofs.Common.{ℕ, ◌≡◌, ◌*◌, List, length, All, nat_lt, refl, sym, ◌∙◌, ap, arith}
 use Rattle.std.specs.Option.{option_map}
 use Rattle.std.proofs.lemmas.List.{length-take-le}
 use Rattle.std.proofs.lemmas.List.Elements.{All-drop}
 use Rattle.ats_lists.specs.Blocks.{blocks_in}
 use Rattle.ats_lists.specs.ChainClash.{list_difference_of}
-use Rattle.ats_lists.specs.ChainPrefix.{has_next, block_need, chain_need, next_digest}
+use Rattle.ats_lists.specs.ChainPrefix.{has_next, next_digest}
 use Rattle.ats_lists.proofs.Fronts.{front-length}
 use Rattle.ats_lists.proofs.BlockLemmas.{blocks-div_ceil, shown-front}
 use Rattle.ats_lists.proofs.ChainOutcomes.{chain-fits, not-none, none-next, next-is, block-count, for-next-few, search-steps}

@@ -1,4 +1,4 @@
-use Rattle.std.proofs.Common.{◌≡◌, ◌+◌, ◌-◌, ◌<◌, length, min, ◌∙◌, sym, ap, arith}
+use Rattle.std.proofs.Common.{◌≡◌, ◌+◌, ◌-◌, ◌<◌, length, min, arith}
 use Rattle.ats_lists.proofs.ChainClashes.{link-digest, link-more}
 use Rattle.ats_lists.proofs.chain_clashing.search_links.Goals as goal
 

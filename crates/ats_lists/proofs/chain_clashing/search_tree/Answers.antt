@@ -1,9 +1,7 @@
-use Rattle.std.proofs.Common.{◌≡◌, ◌∙◌, ◌≤◌, ◌*◌, ◌^◌, List, Some, All, length, sym, ap, arith}
+use Rattle.std.proofs.Common.{◌∙◌, ◌≤◌, ◌*◌, ◌^◌, sym, ap, arith}
 use Rattle.std.specs.Option.{option_map}
 use Rattle.std.proofs.Math.Pow.{pow_mono}
 use Rattle.ats_tree.specs.Clashes.{difference_of}
-use Rattle.ats_tree.specs.Differences.{Hashed}
-use Rattle.ats_tree.specs.Paths.{Path}
 use Rattle.ats_tree.specs.Shown.{places}
 use Rattle.ats_tree.specs.Tree.{tree_of}
 use Rattle.ats_tree.specs.Strings.{strings}

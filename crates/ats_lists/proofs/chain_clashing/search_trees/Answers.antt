@@ -1,13 +1,11 @@
-use Rattle.std.proofs.Common.{ℕ, ◌≡◌, ◌+◌, ◌-◌, ◌*◌, ◌<◌, ◌≤◌, List, [], length, map, take, drop, refl, sym, ◌∙◌, ap, arith, min, not, All, slice_set}
-use Rattle.std.specs.List.{range_with_len}
+use Rattle.std.proofs.Common.{◌≡◌, ◌+◌, ◌-◌, ◌*◌, ◌<◌, ◌≤◌, length, drop, refl, sym, ◌∙◌, ap, arith, not, All}
 use Rattle.std.specs.Option.{option_map}
 use Rattle.std.proofs.lemmas.List.{length-set, take_more_set}
 use Rattle.std.proofs.lemmas.List.FromFn.{map-range_with_len_more}
 use Rattle.ats_tree.proofs.Public.{from-all, rises-from, All-from}
 use Rattle.ats_tree.specs.Shown.{Shown}
-use Rattle.ats_tree.specs.Part.{RisesFrom, shown_from}
-use Rattle.ats_lists.specs.Blocks.{blocks_in, items_in}
-use Rattle.ats_lists.specs.ChainPrefix.{block_root}
+use Rattle.ats_tree.specs.Part.{RisesFrom}
+use Rattle.ats_lists.specs.Blocks.{blocks_in}
 use Rattle.ats_lists.specs.ChainClash.{list_difference_of, tree_collision, IsFirstInTrees}
 use Rattle.ats_lists.proofs.Fronts.{front-rises}
 use Rattle.ats_lists.proofs.BlockLemmas.{taken-none, next-root, IsNextRoot, all-roots}

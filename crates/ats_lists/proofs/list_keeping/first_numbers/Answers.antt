@@ -1,5 +1,5 @@
 use Rattle.std.proofs.Common.{ℕ, List, [], ◌∷◌, ◌++◌, sym, ap, ◌∙◌, arith}
-use Rattle.ats_lists.proofs.KeptChains.{range-more}
+use Rattle.ats_lists.proofs.Fronts.{range-more}
 use Rattle.ats_lists.proofs.list_keeping.first_numbers.Goals as goal
 
 pub loop-i-preserved : goal.loop-i-preserved

@@ -3,7 +3,8 @@ use Rattle.std.specs.List.{All, range_with_len}
 use Rattle.std.specs.List.Sorted.{IsStrictlyIncreasing}
 use Rattle.ats_tree.specs.Elided.{elided_digests}
 use Rattle.ats_lists.specs.Blocks.{block}
-use Rattle.ats_lists.proofs.KeptChains.{take-range, range-rises, range-nodes, front-more}
+use Rattle.ats_lists.proofs.Fronts.{range-rises}
+use Rattle.ats_lists.proofs.KeptChains.{take-range, range-nodes, front-more}
 use Rattle.ats_lists.proofs.chain_keeping.Chain.elide_nodes.Goals as goal
 
 first : (all : List ℕ) (n : ℕ) → all ≡ range_with_len 0 64 → n ≤ 64 → take n all ≡ range_with_len 0 n

@@ -3,7 +3,8 @@ use Rattle.std.specs.List.{range_with_len}
 use Rattle.ats_tree.specs.Elided.{elided_digests}
 use Rattle.ats_lists.specs.Blocks.{blocks_in, block}
 use Rattle.ats_lists.specs.Chain.{chain_from, chain_elided}
-use Rattle.ats_lists.proofs.KeptChains.{on-err, front-front}
+use Rattle.ats_tree.proofs.Public.{front-front}
+use Rattle.ats_lists.proofs.KeptChains.{on-err}
 use Rattle.ats_lists.proofs.chain_keeping.Chain.elided.Goals as goal
 
 pub returns-then-is_err-clause-err : goal.returns-then-is_err-clause-err

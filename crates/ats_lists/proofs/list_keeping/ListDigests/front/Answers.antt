@@ -2,7 +2,8 @@ use Rattle.std.proofs.Common.{◌≡◌, ℕ, ◌+◌, ◌*◌, ◌/◌, ◌≤�
 use Rattle.std.specs.List.{All}
 use Rattle.std.specs.List.Sorted.{IsStrictlyIncreasing}
 use Rattle.ats_lists.specs.KeptList.{entries_of}
-use Rattle.ats_lists.proofs.KeptChains.{range-rises, range-nodes}
+use Rattle.ats_lists.proofs.Fronts.{range-rises}
+use Rattle.ats_lists.proofs.KeptChains.{range-nodes}
 use Rattle.ats_lists.proofs.list_keeping.ListDigests.front.Goals as goal
 
 pub elided-requires-clause-rising : goal.elided-requires-clause-rising
