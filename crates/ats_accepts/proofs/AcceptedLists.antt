@@ -9,17 +9,16 @@ use Rattle.std.proofs.lemmas.List.Folds.{list_any_at}
 use Rattle.ats_impact.specs.Numbers.{idf}
 use Rattle.ats_impact.specs.Rank.{times}
 use Rattle.ats_tree.specs.Shown.{Shown}
-use Rattle.ats_tree.specs.Rebuild.{rebuilt}
-use Rattle.ats_tree.specs.Elided.{elided_digests, shown_with}
-use Rattle.ats_tree.proofs.Public.{within-increasing, elided-rebuilds}
-use Rattle.ats_lists.specs.Formats.{list_root}
+use Rattle.ats_tree.specs.Elided.{shown_with}
+use Rattle.ats_lists.specs.Formats.{list_root, prefix_digests, prefix_root}
 use Rattle.ats_lists.specs.Leaf.{leaf_bytes}
 use Rattle.ats_lists.specs.Lists.{IsList}
 use Rattle.ats_lists.specs.declared.entry.Entry.{Entry}
-use Rattle.ats_lists.proofs.Public.{list_frequency}
+use Rattle.ats_lists.specs.declared.format.Format.{Format}
+use Rattle.ats_lists.proofs.Public.{list_frequency, front-rebuilds}
 use Rattle.ats_dict.specs.declared.spot.Spot.{Spot}
 use Rattle.ats_dict.specs.declared.spot.Spot.TheVariants.{At, Between}
-use Rattle.ats_lists.specs.Layout.{Layout, whole_lists}
+use Rattle.ats_lists.specs.Layout.{Layout}
 use Rattle.ats_commit.specs.Archive.{Archive, format_of}
 use Rattle.ats_commit.specs.Trees.{dictionary_of}
 use Rattle.ats_bound.specs.Cut.{ShownLane, lane_of as shown_lane, names}
@@ -30,12 +29,12 @@ use Rattle.ats_proof.specs.Value.{Prefix}
 use Rattle.ats_proof.specs.Runs.{named, shown_list}
 use Rattle.ats_client.specs.Groups.{IsListRight, indexes_of, list_digest}
 use Rattle.ats_client.specs.Indexes.{AreNames}
-use Rattle.ats_client.specs.Presented.{Presented, presented, presented_from}
+use Rattle.ats_client.specs.Presented.{Presented, presented_from}
 use Rattle.ats_client.specs.Presented as client
 use Rattle.ats_honest.specs.Terms.{AreSpots, place, shown_entry, slot_of}
 use Rattle.ats_honest.specs.Lanes.{lane_of, lanes_of}
 use Rattle.ats_honest.specs.Honest.{placed, prefix_of, prefixes}
-use Rattle.ats_honest.proofs.Public.{HasList, with_lane, with_none, range_below, range_rises}
+use Rattle.ats_honest.proofs.Public.{HasList, with_lane, with_none}
 use Rattle.ats_accepts.proofs.AcceptedSlots.{AreShown, shown_first, shown_rest}
 use Rattle.ats_accepts.proofs.AcceptedTerms.{IsOwnEntry, honest_entry, honest_present}
 
@@ -212,16 +211,14 @@ front_shown H layout documents met lane count term is within are =
     ∙ ap (λ (k : ℕ). shown_with leaves (range_with_len 0 k)) many
 
 -- what a front rebuilds to
-front_root : (H : List ℕ → List ℕ) (layout : Layout) (documents n : ℕ) (met : List ℕ) (lane : WholeLane) (count : ℕ) (term : Presented) → IsFront H layout documents met lane count term
-    → IsList n lane.entries → count ≤ length lane.entries → All (IsEntryIn met) (take count lane.entries) → list_digest H layout met term ≡ Some term.entry.root
-front_root H whole_lists documents n met lane count term is own within are =
-    let leaves : List (List ℕ) = map leaf_bytes lane.entries in
-    let size : length leaves ≡ length lane.entries = length-map lane.entries leaf_bytes in
-    let digests : List (List ℕ) = elided_digests H leaves (range_with_len 0 count) in
-    ap (λ (p : Prefix). rebuilt H term.entry.f (shown_list 0 met term.prefix.entries) p.digests) is.front
-    ∙ ap₂ (λ (k : ℕ) (s : List Shown). rebuilt H k s digests) (is.size ∙ sym size) (front_shown H whole_lists documents met lane count term is within are)
-    ∙ elided-rebuilds H leaves (range_with_len 0 count) (omega (arith, size, own.some))
-    (within-increasing (length leaves) (range_with_len 0 count) (range_rises count) (range_below count (length leaves) (omega (arith, size, within))))
+front_root : (H : List ℕ → List ℕ) (layout : Layout) (documents : ℕ) (met : List ℕ) (lane : WholeLane) (count : ℕ) (term : Presented) → IsFront H layout documents met lane count term
+    → 1 ≤ count → count ≤ length lane.entries → All (IsEntryIn met) (take count lane.entries) → list_digest H layout met term ≡ Some term.entry.root
+front_root H layout documents met lane count term is some within are =
+    let format : Format = format_of layout in
+    let digests : List (List ℕ) = prefix_digests H format lane.entries count in
+    ap (λ (p : Prefix). prefix_root H format term.entry.f (shown_list 0 met term.prefix.entries) p.digests) is.front
+    ∙ ap₂ (λ (k : ℕ) (s : List Shown). prefix_root H format k s digests) is.size (front_shown H layout documents met lane count term is within are)
+    ∙ front-rebuilds H format lane.entries count some within
     ∙ ap Some (sym is.root)
 
 -- the places that it names are those of distinct documents
@@ -252,10 +249,10 @@ front_names n met entries count own within are =
     }
 
 front_right : (H : List ℕ → List ℕ) (layout : Layout) (documents n : ℕ) (met : List ℕ) (lane : WholeLane) (count : ℕ) (term : Presented) → IsFront H layout documents met lane count term
-    → IsList n lane.entries → count ≤ length lane.entries → All (IsEntryIn met) (take count lane.entries) → IsListRight H layout met term
-front_right H layout documents n met lane count term is own within are = record {
+    → IsList n lane.entries → 1 ≤ count → count ≤ length lane.entries → All (IsEntryIn met) (take count lane.entries) → IsListRight H layout met term
+front_right H layout documents n met lane count term is own some within are = record {
   names = subst (λ (p : Prefix). AreNames (length met) (indexes_of p.entries)) (sym is.front) (front_names n met lane.entries count own within are);
-  root = front_root H layout documents n met lane count term is own within are;
+  root = front_root H layout documents met lane count term is some within are;
 }
 
 -- the check accepts them
@@ -267,7 +264,7 @@ fronts_right H layout documents n met (lane ∷ lanes) [] terms fronts lists is 
 fronts_right H layout documents n met (lane ∷ lanes) (count ∷ cut) [] fronts lists is are = absurd fronts
 fronts_right H layout documents n met (lane ∷ lanes) (count ∷ cut) (term ∷ terms) fronts lists is are =
     let here : ShownLane = shown_lane lane.coefficient lane.entries count in
-    let within : count ≤ length lane.entries = (is.each 0 lane (omega arith)).1 in
+    let shows : (1 ≤ count) × (count ≤ length lane.entries) = is.each 0 lane (omega arith) in
     All-cons (IsListRight H layout met) term terms
-    (front_right H layout documents n met lane count term fronts.0 (All-head (HasList n) lane lanes lists) within (first_in met here (shown lanes cut) are))
+    (front_right H layout documents n met lane count term fronts.0 (All-head (HasList n) lane lanes lists) shows.0 shows.1 (first_in met here (shown lanes cut) are))
     (fronts_right H layout documents n met lanes cut terms fronts.1 (All-tail (HasList n) lane lanes lists) (tail_cut lane lanes count cut is) (later_in met here (shown lanes cut) are))

@@ -1,10 +1,8 @@
 -- How many digests some shown leaves need at most.
 use Rattle.std.proofs.Common.{◌≡◌, ◌⊎◌, ◌+◌, ◌*◌, ◌^◌, ◌<◌, ◌≤◌, ℕ, zero, suc, true, false, ◌&&◌, List, [], ◌∷◌, length, take, drop, get_or, Option, Some, None, nat_eq, refl, sym, ap, subst, ◌∙◌, arith, inl, inr, length-append}
-use Rattle.std.specs.List.{range_with_len}
 use Rattle.std.proofs.Math.Nat.{two-pow-succ}
 use Rattle.std.proofs.lemmas.Bool.{cond-true, cond-false, cases_Bool, cases_lt, and_parts, eqb-true}
 use Rattle.std.proofs.lemmas.List.{length-take, length-drop, length-map}
-use Rattle.std.proofs.lemmas.List.FromFn.{length-range_with_len}
 use Rattle.ats_tree.specs.Tree.{Tree, empty, leaf, node, tree_within, tree_of}
 use Rattle.ats_tree.specs.Shown.{Shown, shown_at, places}
 use Rattle.ats_tree.specs.Rebuild.{is_bare, need}
@@ -25,12 +23,12 @@ elided_need H (node l r) u = elim (cases_Bool (is_bare l && is_bare r)) [
 
 -- ---- places with and without a leaf
 
-abbrev pub filled : List (Option (List ℕ)) → ℕ
+abbrev filled : List (Option (List ℕ)) → ℕ
 filled [] = 0
 filled (None ∷ os) = filled os
 filled (Some x ∷ os) = 1 + filled os
 
-abbrev pub holes : List (Option (List ℕ)) → ℕ
+abbrev holes : List (Option (List ℕ)) → ℕ
 holes [] = 0
 holes (None ∷ os) = 1 + holes os
 holes (Some x ∷ os) = holes os
@@ -47,7 +45,7 @@ holes-cut (suc k) [] = omega arith
 holes-cut (suc k) (None ∷ os) = omega (arith, holes-cut k os)
 holes-cut (suc k) (Some x ∷ os) = holes-cut k os
 
-pub holes-few : (os : List (Option (List ℕ))) → holes os ≤ length os
+holes-few : (os : List (Option (List ℕ))) → holes os ≤ length os
 holes-few [] = omega arith
 holes-few (None ∷ os) = omega (arith, holes-few os)
 holes-few (Some x ∷ os) = omega (arith, holes-few os)
@@ -205,35 +203,3 @@ documents_few H leaves positions few =
     let low : length os ≤ 2 ^ 16 = omega (arith, few, size) in
     let all = elided_need H (tree_of os) (tree_of leaves) ∙ ap need (of-within 16 os low) in
     omega (arith, all, need_holes 16 os low, holes-few os, size, few)
-
--- the first leaves of a list need fewer digests than the list has leaves
-pub prefix_few : (H : List ℕ → List ℕ) (leaves : List (List ℕ)) (k : ℕ) → length leaves ≤ 65536 → 1 ≤ length leaves → 1 ≤ k
-    → length (elided_digests H leaves (range_with_len 0 k)) ≤ 65535
-prefix_few H leaves zero few any some = absurd (omega (arith, some))
-prefix_few H [] (suc k) few any some = absurd (omega (arith, any))
-prefix_few H (x ∷ xs) (suc k) few any some =
-    let leaves = x ∷ xs in
-    let shown = shown_with leaves (range_with_len 0 (suc k)) in
-    let os = places 0 (length leaves) shown in
-    let size = length-places 0 (length leaves) shown in
-    let low : length os ≤ 2 ^ 16 = omega (arith, few, size) in
-    let all = elided_need H (tree_of os) (tree_of leaves) ∙ ap need (of-within 16 os low) in
-    let left : holes os ≤ length xs = omega (arith, holes-few (places 1 (length xs) shown), length-places 1 (length xs) shown) in
-    omega (arith, all, need_holes 16 os low, left, few)
-
--- the first leaves of a list need at most 16 digests each, and no more digests than there are other leaves
-pub prefix_need : (H : List ℕ → List ℕ) (leaves : List (List ℕ)) (k : ℕ) → length leaves ≤ 65536 → 1 ≤ k
-    → (length (elided_digests H leaves (range_with_len 0 k)) ≤ 16 * k) × (length (elided_digests H leaves (range_with_len 0 k)) ≤ holes (places 0 (length leaves) (shown_with leaves (range_with_len 0 k))))
-prefix_need H leaves k few some =
-    let shown = shown_with leaves (range_with_len 0 k) in
-    let os = places 0 (length leaves) shown in
-    let size = length-places 0 (length leaves) shown in
-    let low : length os ≤ 2 ^ 16 = omega (arith, few, size) in
-    let count : filled os ≤ k = omega (arith, filled_few shown 0 (length leaves), length-map (range_with_len 0 k) (shown_of leaves), length-range_with_len 0 k) in
-    let all = elided_need H (tree_of os) (tree_of leaves) ∙ ap need (of-within 16 os low) in (
-      elim (need_filled 16 os low) [
-        | inl bare ↦ omega (arith, all, bare.1, some)
-        | inr shows ↦ omega (arith, all, shows.2, count)
-      ],
-      omega (arith, all, need_holes 16 os low),
-    )

@@ -1,7 +1,6 @@
 -- The fronts of lists, one by one.
-use Rattle.std.proofs.Common.{◌≡◌, ◌+◌, ◌<◌, ◌≤◌, ◌^◌, ℕ, zero, suc, List, [], ◌∷◌, length, take, get_or, refl, ap, arith}
+use Rattle.std.proofs.Common.{◌≡◌, ◌<◌, ◌≤◌, ◌^◌, ℕ, zero, suc, List, [], ◌∷◌, length, take, get_or, refl, ap, arith}
 use Rattle.std.specs.List.{All, range_with_len}
-use Rattle.std.specs.List.Sorted.{IsStrictlyIncreasing}
 use Rattle.std.proofs.lemmas.List.FromFn.{length-range_with_len, get_or-range_with_len}
 use Rattle.std.proofs.lemmas.List.Elements.{All-take}
 use Rattle.ats_lists.specs.declared.entry.Entry.{Entry}
@@ -23,12 +22,7 @@ prefix_at H layout met (lane ∷ lanes) [] i d e same inside = absurd (omega (ar
 prefix_at H layout met (lane ∷ lanes) (count ∷ cut) zero d e same inside = refl
 prefix_at H layout met (lane ∷ lanes) (count ∷ cut) (suc i) d e same inside = prefix_at H layout met lanes cut i d e (omega (arith, same)) (omega (arith, inside))
 
--- the first numbers rise
-pub range_rises : (n : ℕ) → IsStrictlyIncreasing (range_with_len 0 n)
-range_rises n k inside =
-    let size = length-range_with_len 0 n in
-    omega (arith, get_or-range_with_len 0 n k 0 (omega (arith, inside, size)), get_or-range_with_len 0 n (k + 1) 0 (omega (arith, inside, size)))
-
+-- the first numbers are below each end that is not before theirs
 pub range_below : (n m : ℕ) → n ≤ m → All (λ p. p < m) (range_with_len 0 n)
 range_below n m up k d inside = omega (arith, get_or-range_with_len 0 n k d (omega (arith, inside, length-range_with_len 0 n)), inside, length-range_with_len 0 n, up)
 

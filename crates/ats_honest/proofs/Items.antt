@@ -9,6 +9,7 @@ use Rattle.ats_terms.specs.Query.{Rises}
 use Rattle.ats_tree.specs.Tree.{tree_of}
 use Rattle.ats_tree.specs.Rebuild.{tree_of_places}
 use Rattle.ats_tree.specs.Elided.{elided_digests, shown_with}
+use Rattle.ats_tree.proofs.Public.{elided-sized}
 use Rattle.ats_dict.specs.declared.spot.Spot.{Spot}
 use Rattle.ats_dict.specs.declared.spot.Spot.TheVariants.{At, Between}
 use Rattle.ats_doctree.specs.Impacts.{AreImpacts}
@@ -20,7 +21,7 @@ use Rattle.ats_honest.specs.Terms.{AreNeeded, HaveSpots, lower, slot_of}
 use Rattle.ats_honest.specs.Order.{ComesIn}
 use Rattle.ats_honest.proofs.ComingDocuments.{AreGoodTerms, IsGoodSection, come_section}
 use Rattle.ats_honest.proofs.Elided.{dictionary_few}
-use Rattle.ats_honest.proofs.Ranges.{above_first, all_below, elided_sized, rising_slots, some_needed, tail_rises}
+use Rattle.ats_honest.proofs.Ranges.{above_first, all_below, rising_slots, some_needed, tail_rises}
 use Rattle.ats_honest.proofs.Spots.{spots_each}
 
 -- what holds for a leaf, sentinels included
@@ -85,7 +86,7 @@ module _ (H : List ℕ → List ℕ) (sized : (bytes : List ℕ) → length (H b
         leaves = good_terms items positions 0 are needed.rise (λ k d less. omega arith) below;
         others = record {
           few = omega (arith, dictionary_few H leaves positions (omega (arith, length-terms_leaves items, are.few)) few);
-          each = elided_sized H sized (tree_of_places (length leaves) (shown_with leaves positions)) (tree_of leaves);
+          each = elided-sized H sized (tree_of_places (length leaves) (shown_with leaves positions)) (tree_of leaves);
         };
         places = rising_slots (term_at items) (length items) (IsTermSpot items) (terms_rise items are) (lower_item items) (lower_at items) (upper_at items are) positions terms spots few rises found;
       }

@@ -5,6 +5,7 @@ use Rattle.std.proofs.lemmas.List.{get_or-map, length-map}
 use Rattle.ats_tree.specs.Tree.{tree_of}
 use Rattle.ats_tree.specs.Rebuild.{tree_of_places}
 use Rattle.ats_tree.specs.Elided.{elided_digests, shown_with}
+use Rattle.ats_tree.proofs.Public.{elided-sized, length-mth}
 use Rattle.ats_doctree.specs.Impacts.{doc_terms, text_terms}
 use Rattle.ats_doctree.specs.Sentinels.{terms_leaves}
 use Rattle.ats_doctree.specs.declared.doc_leaf.DocLeaf.{DocLeaf}
@@ -14,7 +15,6 @@ use Rattle.ats_honest.specs.Documents.{AreHonestSections, document_leaf}
 use Rattle.ats_honest.specs.Order.{AreInOrder, ComesIn}
 use Rattle.ats_honest.proofs.ComingDocuments.{IsGoodLeaf, come_documents}
 use Rattle.ats_honest.proofs.Elided.{documents_few}
-use Rattle.ats_honest.proofs.Ranges.{digest_sized, elided_sized}
 use Rattle.ats_honest.proofs.Sections.{section_each}
 
 -- the documents tree has a leaf for each text
@@ -32,7 +32,7 @@ module _ (H : List ℕ → List ℕ) (sized : (bytes : List ℕ) → length (H b
       let here : k < length met = omega (arith, inside, length-map met made) in
       let at = get_or-map made met k 0 d here in record {
         small = small k d inside;
-        root = ap (λ (leaf : DocLeaf). length leaf.root) at ∙ digest_sized H sized (tree_of (terms_leaves (doc_terms texts (get_or met k 0))));
+        root = ap (λ (leaf : DocLeaf). length leaf.root) at ∙ length-mth H sized (terms_leaves (doc_terms texts (get_or met k 0)));
       }
 
   -- what is shown of them, with these sections
@@ -53,6 +53,6 @@ module _ (H : List ℕ → List ℕ) (sized : (bytes : List ℕ) → length (H b
         section_each = section_each H texts terms met sections honest;
         leaves = good_leaves small;
         few = documents_few H all met (omega (arith, few, documents_each H texts));
-        digests = elided_sized H sized (tree_of_places (length all) (shown_with all met)) (tree_of all);
+        digests = elided-sized H sized (tree_of_places (length all) (shown_with all met)) (tree_of all);
         sections = come;
       })

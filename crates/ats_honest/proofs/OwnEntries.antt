@@ -13,12 +13,8 @@ use Rattle.unicode_segmentation.specs.Word.{words}
 use Rattle.ats_terms.specs.Terms.{folded, is_term, occurrences, terms}
 use Rattle.ats_terms.proofs.Public.{counted_counts, weight_at}
 use Rattle.ats_impact.specs.Score.{count}
-use Rattle.ats_tree.specs.Tree.{tree_of}
-use Rattle.ats_lists.specs.Formats.{list_root}
-use Rattle.ats_lists.specs.Layout.{Layout, whole_lists}
-use Rattle.ats_lists.specs.Leaf.{leaf_bytes}
+use Rattle.ats_lists.proofs.Public.{root-sized}
 use Rattle.ats_lists.specs.Lists.{list, vocabulary}
-use Rattle.ats_lists.specs.declared.entry.Entry.{Entry}
 use Rattle.ats_lists.proofs.Public.{vocabulary_few}
 use Rattle.ats_dict.specs.Entry.{DictEntry}
 use Rattle.ats_dict.proofs.Public.{length-dict_leaves}
@@ -26,7 +22,6 @@ use Rattle.ats_commit.specs.Archive.{Archive, format_of}
 use Rattle.ats_commit.specs.Own.{AreTexts}
 use Rattle.ats_commit.specs.Trees.{dictionary_of}
 use Rattle.ats_commit.proofs.Public.{dictionary_count, dictionary_numbers, dictionary_roots, dictionary_terms, few_within}
-use Rattle.ats_honest.proofs.Ranges.{digest_sized}
 use Rattle.ats_honest.proofs.Spots.{IsLeaf}
 
 abbrev IsShortTerm : List ℕ → Type 0
@@ -64,10 +59,6 @@ vocabulary_short texts k d inside =
     let occurs : 0 < occurrences term all = omega (arith, own.some k ([], 0) here, weight_at pairs k ([], 0) own.rises here, own.weights term) in
     subst IsShortTerm (sym (get_or-map (λ (pair : List ℕ × ℕ). pair.0) pairs k ([], 0) d here)) (occurs_has IsShortTerm term all (terms_short texts) occurs)
 
--- the root of a list is a digest
-root_sized : (H : List ℕ → List ℕ) → ((bytes : List ℕ) → length (H bytes) ≡ 32) → (layout : Layout) (entries : List Entry) → length (list_root H (format_of layout) entries) ≡ 32
-root_sized H sized whole_lists entries = digest_sized H sized (tree_of (map leaf_bytes entries))
-
 -- what holds for a leaf holds for each entry
 pub own_leaves : (H : List ℕ → List ℕ) → ((bytes : List ℕ) → length (H bytes) ≡ 32) → (archive : Archive) → length archive.texts ≤ 65536 → All IsLeaf (dictionary_of H archive)
 own_leaves H sized archive few k d inside =
@@ -79,7 +70,7 @@ own_leaves H sized archive few k d inside =
     record {
       short = subst IsShortTerm same (vocabulary_short archive.texts k [] among);
       number = omega (arith, dictionary_numbers H archive k d inside, count_by-le-length (λ (text : List ℕ). nat_lt 0 (count entry.term text)) archive.texts, few);
-      root = ap (λ (root : List ℕ). length root) (dictionary_roots H archive k d inside) ∙ root_sized H sized archive.layout (list archive.texts entry.term);
+      root = ap (λ (root : List ℕ). length root) (dictionary_roots H archive k d inside) ∙ root-sized H sized (format_of archive.layout) (list archive.texts entry.term);
     }
 
 pub own_few : (H : List ℕ → List ℕ) (archive : Archive) → AreTexts archive.texts → length (dictionary_of H archive) ≤ 2 ^ 24

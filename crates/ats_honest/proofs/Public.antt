@@ -26,8 +26,6 @@ pub use Rattle.ats_honest.proofs.Spots.{spots_more}
 pub use Rattle.ats_honest.proofs.Elided.{dictionary_few}
 -- showing any leaves of a tree of at most 65536 leaves needs at most 65536 elided digests
 pub use Rattle.ats_honest.proofs.Elided.{documents_few}
--- showing the first one or more leaves of a tree of 1 to 65536 leaves needs at most 65535 digests
-pub use Rattle.ats_honest.proofs.Elided.{prefix_few}
 -- all positions that spots need, sorted and without duplicates, are the needed positions
 pub use Rattle.ats_honest.proofs.Needed.{are_needed}
 -- spots need at most twice as many positions as there are spots, duplicates included
@@ -40,8 +38,6 @@ pub use Rattle.ats_honest.proofs.Fronts.{prefix_at}
 pub use Rattle.ats_honest.proofs.Fronts.{prefix_each}
 -- if n is at most m, the first n numbers from 0 on are all below m
 pub use Rattle.ats_honest.proofs.Fronts.{range_below}
--- the list of the first n numbers from 0 on increases strictly
-pub use Rattle.ats_honest.proofs.Fronts.{range_rises}
 -- the first k entries of an inverted list have impacts below 2^16
 pub use Rattle.ats_honest.proofs.Fronts.{small_impacts}
 -- the entries of the lane are an inverted list over n documents

@@ -1,18 +1,16 @@
 -- The numbers of an honest proof are in their ranges.
-use Rattle.std.proofs.Common.{◌≡◌, ◌⊎◌, ◌+◌, ◌<◌, ◌≤◌, ◌++◌, ◌&&◌, ◌||◌, ℕ, zero, suc, Bool, true, false, nat_lt, nat_eq, List, [], ◌∷◌, length, map, get_or, Option, Some, None, refl, sym, ap, subst, ◌∙◌, arith, inl, inr}
+use Rattle.std.proofs.Common.{◌≡◌, ◌⊎◌, ◌+◌, ◌<◌, ◌≤◌, ◌||◌, ℕ, zero, suc, Bool, true, false, nat_lt, nat_eq, List, [], ◌∷◌, length, map, get_or, refl, sym, ap, subst, ◌∙◌, arith, inl, inr}
 use Rattle.std.specs.List.{All, flat_map}
 use Rattle.std.specs.List.Sorted.{IsStrictlyIncreasing}
-use Rattle.std.proofs.lemmas.Bool.{cases_Bool, cases_lt, cond-true, cond-false}
+use Rattle.std.proofs.lemmas.Bool.{cases_lt}
 use Rattle.std.proofs.lemmas.Cmp.{nat_list_cmp_total, tied_itself}
 use Rattle.std.proofs.lemmas.List.{get_or_default}
-use Rattle.std.proofs.lemmas.List.Elements.{All-append, All-tail}
+use Rattle.std.proofs.lemmas.List.Elements.{All-tail}
 use Rattle.std.proofs.lemmas.List.Folds.{list_any-append}
 use Rattle.std.proofs.lemmas.List.Sums.{count_by-le-length}
 use Rattle.std.proofs.lemmas.List.Kept.{AllPairs-from_increasing}
 use Rattle.ats_terms.specs.Query.{Rises, RisesFrom}
-use Rattle.ats_tree.specs.Tree.{Tree, empty, leaf, node, digest_of}
-use Rattle.ats_tree.specs.Rebuild.{is_bare}
-use Rattle.ats_tree.specs.Elided.{elided_of, left_of, right_of}
+use Rattle.ats_tree.specs.Tree.{leaf}
 use Rattle.ats_dict.specs.declared.spot.Spot.{Spot}
 use Rattle.ats_dict.specs.declared.spot.Spot.TheVariants.{At, Between}
 use Rattle.ats_dict.specs.Entry.{DictEntry}
@@ -24,33 +22,6 @@ use Rattle.ats_honest.proofs.Spots.{leaf_at, lower_within}
 use Rattle.ats_honest.proofs.Places.{place_grows}
 use Rattle.ats_bound.proofs.Public.{has_contained, contained_has}
 use Rattle.ats_honest.proofs.Coming.{AreGoodEntries, AreGoodSlots, AreGoodIds}
-
--- ---- digests have 32 bytes
-
-pub digest_sized : (H : List ℕ → List ℕ) → ((bytes : List ℕ) → length (H bytes) ≡ 32) → (t : Tree (List ℕ)) → length (digest_of H t) ≡ 32
-digest_sized H sized empty = sized []
-digest_sized H sized (leaf d) = sized (0 ∷ d)
-digest_sized H sized (node l r) = sized (1 ∷ digest_of H l ++ digest_of H r)
-
-abbrev IsSized : List ℕ → Type 0
-IsSized d = length d ≡ 32
-
-one_sized : (d : List ℕ) → IsSized d → All IsSized (d ∷ [])
-one_sized d is zero e inside = is
-one_sized d is (suc k) e inside = absurd (omega (arith, inside))
-
-none_sized : All IsSized []
-none_sized k d inside = absurd (omega (arith, inside))
-
-pub elided_sized : (H : List ℕ → List ℕ) → ((bytes : List ℕ) → length (H bytes) ≡ 32) → (t : Tree (Option (List ℕ))) (u : Tree (List ℕ)) → All IsSized (elided_of H t u)
-elided_sized H sized empty u = none_sized
-elided_sized H sized (leaf None) u = one_sized (digest_of H u) (digest_sized H sized u)
-elided_sized H sized (leaf (Some x)) u = none_sized
-elided_sized H sized (node l r) u = elim (cases_Bool (is_bare l && is_bare r)) [
-  | inl bare ↦ subst (All IsSized) (sym (cond-true _ _ _ bare)) (one_sized (digest_of H u) (digest_sized H sized u))
-  | inr shows ↦ subst (All IsSized) (sym (cond-false _ _ _ shows))
-      (All-append IsSized (elided_of H l (left_of u)) (elided_of H r (right_of u)) (elided_sized H sized l (left_of u)) (elided_sized H sized r (right_of u)))
-]
 
 -- ---- positions
 

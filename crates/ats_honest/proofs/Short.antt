@@ -1,16 +1,13 @@
 -- No honest TNRA proof has more than 2^26 bytes.
-use Rattle.std.proofs.Common.{true, false, ◌≡◌, ◌+◌, ◌*◌, ◌^◌, ◌<◌, ◌≤◌, ◌++◌, ℕ, zero, suc, List, [], ◌∷◌, length, map, take, get_or, Option, Some, None, nat_eq, refl, sym, ap, subst, ◌∙◌, arith, inl, inr, length-append, length-take}
-use Rattle.std.specs.List.{All, concat, flat_map, range_with_len}
-use Rattle.std.proofs.lemmas.Bool.{cases_Bool, cond-true, cond-false, eq-eqb, cases_order}
+use Rattle.std.proofs.Common.{◌≡◌, ◌+◌, ◌*◌, ◌^◌, ◌<◌, ◌≤◌, ◌++◌, ℕ, zero, suc, List, [], ◌∷◌, length, map, take, get_or, Option, None, refl, sym, ap, subst, ◌∙◌, arith, length-append, length-take}
+use Rattle.std.specs.List.{All, concat, flat_map}
 use Rattle.std.proofs.lemmas.List.{length-map, length-take-le}
 use Rattle.std.proofs.lemmas.List.Elements.{All-head, All-map, All-tail}
 use Rattle.std.proofs.lemmas.List.Folds.{concat-append}
-use Rattle.ats_tree.specs.Elided.{elided_digests, shown_with}
+use Rattle.ats_tree.specs.Elided.{shown_with}
 use Rattle.ats_tree.specs.Rebuild.{tree_of_places}
-use Rattle.ats_tree.specs.Shown.{Shown, places, shown_at}
 use Rattle.ats_tree.specs.Tree.{tree_of}
-use Rattle.ats_tree.proofs.Public.{length-places}
-use Rattle.ats_lists.specs.Leaf.{leaf_bytes}
+use Rattle.ats_tree.proofs.Public.{elided-sized}
 use Rattle.ats_lists.specs.Lists.{IsList}
 use Rattle.ats_lists.specs.declared.entry.Entry.{Entry}
 use Rattle.ats_dict.specs.Dictionary.{dict_leaves}
@@ -18,8 +15,9 @@ use Rattle.ats_dict.specs.Entry.{DictEntry}
 use Rattle.ats_dict.specs.Header.{IsHeader}
 use Rattle.ats_dict.specs.declared.header.Header.{Header}
 use Rattle.ats_dict.proofs.Public.{length-dict_leaves}
-use Rattle.ats_lists.specs.Layout.{Layout, whole_lists}
-use Rattle.ats_commit.specs.Archive.{Archive}
+use Rattle.ats_lists.specs.Layout.{Layout}
+use Rattle.ats_lists.proofs.Public.{front-few, front-sized}
+use Rattle.ats_commit.specs.Archive.{Archive, format_of}
 use Rattle.ats_commit.specs.Own.{AreTexts}
 use Rattle.ats_commit.specs.Trees.{dictionary_of}
 use Rattle.ats_commit.proofs.Public.{header_in_range, few_within}
@@ -34,54 +32,14 @@ use Rattle.ats_honest.specs.Terms.{shown_entry, slot_of}
 use Rattle.ats_honest.specs.Lanes.{lanes_of}
 use Rattle.ats_honest.specs.Honest.{IsHonest, length_of, placed, prefix_of, prefixes}
 use Rattle.ats_honest.proofs.Coming.{AreDigests}
-use Rattle.ats_honest.proofs.Elided.{dictionary_few, holes, holes-few, prefix_need}
+use Rattle.ats_honest.proofs.Elided.{dictionary_few}
 use Rattle.ats_honest.proofs.Fronts.{prefix_each}
 use Rattle.ats_honest.proofs.MetDocuments.{lists_below, met_below, met_rises, rising_few}
 use Rattle.ats_honest.proofs.Needed.{positions_few}
 use Rattle.ats_honest.proofs.OwnEntries.{own_few, own_leaves}
 use Rattle.ats_honest.proofs.Present.{HasList, lanes_few, lists_within}
-use Rattle.ats_honest.proofs.Ranges.{elided_sized, positions_below}
+use Rattle.ats_honest.proofs.Ranges.{positions_below}
 use Rattle.ats_honest.proofs.Spots.{IsLeaf, leaf_among, spot_each}
-
--- ---- the front of a list
-
-holes-cons : (o : Option (List ℕ)) (os : List (Option (List ℕ))) → holes (o ∷ os) ≡ holes (o ∷ []) + holes os
-holes-cons None os = omega arith
-holes-cons (Some x) os = omega arith
-
--- a leaf is shown at each of the first places
-shown_front : (leaves : List (List ℕ)) (a k j : ℕ) → a ≤ j → j < a + k → (bytes : List ℕ) × (shown_at (shown_with leaves (range_with_len a k)) j ≡ Some bytes)
-shown_front leaves a zero j up low = absurd (omega (arith, up, low))
-shown_front leaves a (suc k) j up low = elim (cases_Bool (nat_eq a j)) [
-  | inl here ↦ (get_or leaves a [], cond-true _ _ _ here)
-  | inr not ↦
-      let past : a + 1 ≤ j = elim (cases_order a j) [
-        | inl same ↦
-            let clash : true ≡ false = sym (eq-eqb a j same) ∙ not in
-            absurd (cc)
-        | inr other ↦ elim other [ inl less ↦ omega (arith, less) | inr greater ↦ absurd (omega (arith, up, greater)) ]
-      ] in
-      let later = shown_front leaves (a + 1) k j past (omega (arith, low)) in
-      (later.0, cond-false _ _ _ not ∙ later.1)
-]
-
--- k places that hold a leaf leave at most n - k empty ones
-holes_behind : (shown : List Shown) (from n k : ℕ) → k ≤ n → ((j : ℕ) → from ≤ j → j < from + k → (bytes : List ℕ) × (shown_at shown j ≡ Some bytes)) → holes (places from n shown) + k ≤ n
-holes_behind shown from n zero within are = omega (arith, holes-few (places from n shown), length-places from n shown)
-holes_behind shown from zero (suc k) within are = absurd (omega (arith, within))
-holes_behind shown from (suc n) (suc k) within are =
-    let here = are from (omega arith) (omega arith) in
-    let none : holes (shown_at shown from ∷ []) ≡ 0 = ap (λ (o : Option (List ℕ)). holes (o ∷ [])) here.1 in
-    let later = holes_behind shown (from + 1) n k (omega (arith, within)) (λ j up low. are j (omega (arith, up)) (omega (arith, low))) in
-    omega (arith, holes-cons (shown_at shown from) (places (from + 1) n shown), none, later)
-
--- the more entries a front shows, the fewer digests it needs
-front_few : (H : List ℕ → List ℕ) (leaves : List (List ℕ)) (k : ℕ) → length leaves ≤ 65536 → 1 ≤ k → k ≤ length leaves
-    → 6 * k + 32 * length (elided_digests H leaves (range_with_len 0 k)) ≤ 1996922
-front_few H leaves k few some within =
-    let need = prefix_need H leaves k few some in
-    let behind = holes_behind (shown_with leaves (range_with_len 0 k)) 0 (length leaves) k within (λ j up low. shown_front leaves 0 k j up low) in
-    omega (arith, need.0, need.1, behind, few)
 
 -- ---- how many bytes fields have
 
@@ -170,13 +128,11 @@ prefixes_size (p ∷ ps) all =
 
 short_prefix : (H : List ℕ → List ℕ) → ((bytes : List ℕ) → length (H bytes) ≡ 32) → (layout : Layout) (met : List ℕ) (entries : List Entry) (count : ℕ) → IsList 65536 entries
     → 1 ≤ count → count ≤ length entries → IsShort (prefix_of H layout met entries count)
-short_prefix H sized whole_lists met entries count is some within =
+short_prefix H sized layout met entries count is some within =
     let shown = length-map (take count entries) (placed met) in
-    let took = length-take-le count entries within in
-    let leaves : List (List ℕ) = map leaf_bytes entries in
-    let all = length-map entries leaf_bytes in record {
-      each = elided_sized H sized (tree_of_places (length leaves) (shown_with leaves (range_with_len 0 count))) (tree_of leaves);
-      short = omega (arith, shown, took, front_few H leaves count (omega (arith, all, is.few)) some (omega (arith, all, within)));
+    let took = length-take-le count entries within in record {
+      each = front-sized H sized (format_of layout) entries count;
+      short = omega (arith, shown, took, within, is.few, front-few H (format_of layout) entries count some within is.few);
     }
 
 short_prefixes : (H : List ℕ → List ℕ) → ((bytes : List ℕ) → length (H bytes) ≡ 32) → (layout : Layout) (met : List ℕ) (lanes : List WholeLane) (cut : List ℕ)
@@ -274,7 +230,7 @@ module _ (H : List ℕ → List ℕ) (sized : (bytes : List ℕ) → length (H b
       let leaves : List (List ℕ) = dict_leaves entries in
       record {
         few = omega (arith, dictionary_few H leaves honest.positions (omega (arith, length-dict_leaves entries, own_few H archive are)) positions);
-        each = elided_sized H sized (tree_of_places (length leaves) (shown_with leaves honest.positions)) (tree_of leaves);
+        each = elided-sized H sized (tree_of_places (length leaves) (shown_with leaves honest.positions)) (tree_of leaves);
       })
 
   lists : All (HasList 65536) lanes

@@ -10,7 +10,7 @@ use Rattle.ats_impact.specs.Score.{frequency}
 use Rattle.ats_tree.specs.Tree.{tree_of}
 use Rattle.ats_tree.specs.Rebuild.{tree_of_places}
 use Rattle.ats_tree.specs.Elided.{elided_digests, shown_with}
-use Rattle.ats_lists.specs.Leaf.{leaf_bytes}
+use Rattle.ats_tree.proofs.Public.{elided-sized}
 use Rattle.ats_lists.specs.Lists.{IsList}
 use Rattle.ats_lists.specs.declared.entry.Entry.{Entry}
 use Rattle.ats_dict.specs.Dictionary.{IsDictionary, dict_leaves}
@@ -19,8 +19,9 @@ use Rattle.ats_dict.specs.Header.{IsHeader}
 use Rattle.ats_dict.specs.declared.spot.Spot.{Spot}
 use Rattle.ats_dict.specs.declared.spot.Spot.TheVariants.{At, Between}
 use Rattle.ats_dict.proofs.Public.{length-dict_leaves}
-use Rattle.ats_lists.specs.Layout.{Layout, whole_lists}
-use Rattle.ats_commit.specs.Archive.{Archive}
+use Rattle.ats_lists.specs.Layout.{Layout}
+use Rattle.ats_lists.proofs.Public.{front-few, front-sized}
+use Rattle.ats_commit.specs.Archive.{Archive, format_of}
 use Rattle.ats_commit.proofs.Public.{same_layout}
 use Rattle.ats_commit.specs.Root.{header_parts}
 use Rattle.ats_commit.specs.Trees.{dictionary_of}
@@ -38,14 +39,14 @@ use Rattle.ats_honest.specs.Terms.{AreSpots, AreNeeded, shown_entry, slot_of}
 use Rattle.ats_honest.specs.Documents.{HasDocuments}
 use Rattle.ats_honest.specs.Lanes.{bounding, lane_of, lanes_of, present}
 use Rattle.ats_honest.specs.Honest.{IsHonest, placed, prefix_of, prefixes}
-use Rattle.ats_honest.proofs.Elided.{dictionary_few, prefix_few}
+use Rattle.ats_honest.proofs.Elided.{dictionary_few}
 use Rattle.ats_honest.proofs.Spots.{spot_each}
 use Rattle.ats_honest.proofs.Present.{absent_term, present_term}
 use Rattle.ats_honest.proofs.Fronts.{prefix_each, range_below}
 use Rattle.ats_honest.proofs.MetDocuments.{met_rises, met_below, rising_few, lists_below}
 use Rattle.ats_honest.proofs.Coming.{IsGoodPrefix, IsInRange, come_proof}
 use Rattle.ats_honest.proofs.Sections.{are_documents}
-use Rattle.ats_honest.proofs.Ranges.{elided_sized, good_entries, good_ids, good_slots, positions_below, some_needed}
+use Rattle.ats_honest.proofs.Ranges.{good_entries, good_ids, good_slots, positions_below, some_needed}
 
 -- ---- as many lists as present slots
 
@@ -81,11 +82,9 @@ lanes_each H archive query positions spots are =
 
 good_prefix : (H : List ℕ → List ℕ) → ((bytes : List ℕ) → length (H bytes) ≡ 32) → (layout : Layout) (met : List ℕ) (entries : List Entry) (count : ℕ) → length met ≤ 65536 → IsList 65536 entries
     → 1 ≤ count → count ≤ length entries → IsGoodPrefix (prefix_of H layout met entries count)
-good_prefix H sized whole_lists met entries count few is some within =
+good_prefix H sized layout met entries count few is some within =
     let size = length-map (take count entries) (placed met) in
     let took = length-take-le count entries within in
-    let leaves : List (List ℕ) = map leaf_bytes entries in
-    let all = length-map entries leaf_bytes in
     let none : Entry = record { doc = 0; impact = 0 } in record {
       some = omega (arith, size, took, some);
       few = omega (arith, size, took, within, is.few);
@@ -96,8 +95,8 @@ good_prefix H sized whole_lists met entries count few is some within =
           let impact = (All-take (λ (x : Entry). (1 ≤ x.impact) × (x.impact ≤ 2200)) count entries is.impacts k none here).1 in
           (omega (arith, ap (λ (x : Entry). x.doc) at, count_by-le-length (λ m. nat_lt m e.doc) met, few), omega (arith, ap (λ (x : Entry). x.impact) at, impact));
       others = record {
-        few = prefix_few H leaves count (omega (arith, all, is.few)) (omega (arith, all, is.some)) some;
-        each = elided_sized H sized (tree_of_places (length leaves) (shown_with leaves (range_with_len 0 count))) (tree_of leaves);
+        few = omega (arith, front-few H (format_of layout) entries count some within is.few);
+        each = front-sized H sized (format_of layout) entries count;
       };
     }
 
@@ -209,7 +208,7 @@ is_in_range H archive query r algorithm spots positions cut brackets docs picks 
       entries = good_entries entries positions 0 parts.dictionary parts.needed.rise (λ k d less. omega arith) inside;
       others = record {
         few = omega (arith, dictionary_few H leaves positions (omega (arith, length-dict_leaves entries, parts.dictionary.few)) parts.positions_few);
-        each = elided_sized H parts.sized (tree_of_places (length leaves) (shown_with leaves positions)) (tree_of leaves);
+        each = elided-sized H parts.sized (tree_of_places (length leaves) (shown_with leaves positions)) (tree_of leaves);
       };
       places = good_slots entries positions query spots parts.dictionary parts.positions_few parts.is_query.rises parts.found;
       ids = (few, good_ids ids 0 rises (λ k d less. omega arith) below);

@@ -15,6 +15,7 @@ fn types_cross_threads() {
     cross::<ats_tree::Place>();
     cross::<ats_tree::Tree>();
     cross::<ats_tree::Clash>();
+    cross::<ats_tree::ComparedPart>();
     cross::<ats_terms::OutOfMemory>();
     cross::<ats_terms::QueryFault>();
     cross::<ats_terms::Terms>();
@@ -41,6 +42,7 @@ fn types_cross_threads() {
     cross::<ats_lists::OutOfMemory>();
     cross::<ats_lists::Chain>();
     cross::<ats_lists::Format>();
+    cross::<ats_lists::ListDigests>();
     cross::<ats_lists::Entry>();
     cross::<ats_lists::ListsBuilder<'static>>();
     cross::<ats_lists::Lists>();
