@@ -18,7 +18,7 @@ use Rattle.ats_bound.specs.Schedule.{Bounding, WholeLane, AreBracketsBy, IsCut, 
 use Rattle.ats_bound.proofs.Public.{chosen_are_picks, chosen_is_settled, are_brackets, one_bracketing, scheduled_is_cut, has_contained}
 use Rattle.ats_proof.specs.Value.{Prefix, Proof, ShownEntry}
 use Rattle.ats_client.specs.Groups.{AreAllMet, AreListsRight, AreRowsRight, IsListRight, IsAnswerSettled, brackets_of}
-use Rattle.ats_client.specs.Presented.{Presented, presented, presented_from}
+use Rattle.ats_client.specs.Presented.{presented, presented_from}
 use Rattle.ats_client.specs.Presented as client
 use Rattle.ats_client.specs.Bracketing.{bounds_of}
 use Rattle.ats_client.specs.Documents.{AreDocumentsRight, IsDocsTree, present_from, present_numbers}

@@ -1,5 +1,5 @@
 -- A relation of two lists, pair by pair, if the second list has no error.
-use Rattle.std.proofs.Common.{◌≡◌, List, [], ◌∷◌, IfOk, map, subst, sym}
+use Rattle.std.proofs.Common.{◌≡◌, List, [], ◌∷◌, IfOk, map, subst}
 use Rattle.std.specs.Prelude.{Ok}
 use Rattle.std.specs.List.{AllZip}
 use Rattle.std.specs.declared.result.Result.{Result}

@@ -1,27 +1,16 @@
 -- The rules that hold for an accepted proof, by name.
-use Rattle.std.proofs.Common.{◌≡◌, ℕ, List, Option, Some, None, inl, inr}
-use Rattle.std.specs.List.{All}
-use Rattle.std.proofs.lemmas.List.Elements.{All-nil, All-weaker}
-use Rattle.ats_dict.specs.declared.header.Header.{Header}
-use Rattle.ats_proof.specs.declared.record.Algorithm.{Algorithm}
-use Rattle.ats_proof.specs.declared.record.Algorithm.TheVariants.{Tra, Tnra}
-use Rattle.ats_proof.specs.Value.{Documents, Proof, algorithm_of, layout_of}
+use Rattle.std.proofs.Common.{ℕ, List, inl, inr}
+use Rattle.std.proofs.lemmas.List.Elements.{All-weaker}
+use Rattle.ats_proof.specs.Value.{Proof, layout_of}
 use Rattle.ats_client.specs.Presented.{presented, lanes_of}
 use Rattle.ats_client.specs.Bracketing.{bounds_of}
 use Rattle.ats_client.specs.Groups.{IsOpened, IsDictionary, AreSlotsRight, IsListRight, IsListRooted, AreListsRight, AreAllMet, IsMetFault, AreRowsRight, IsRowsFault, IsAnswerSettled}
-use Rattle.ats_client.specs.Documents.{AreDocsRooted, IsTermsTree, documents_in, met_documents, present_numbers, IsDocumentRight, IsDocsTree, IsDocsFault, AreDocumentsRight, IsDocumentsFault}
+use Rattle.ats_client.specs.Documents.{IsTermsTree, met_documents, present_numbers, IsDocumentRight, IsDocsTree, IsDocsFault, AreDocumentsRight, IsDocumentsFault}
 use Rattle.ats_client.specs.Rooted.{AreRooted}
 use Rattle.ats_client.specs.Sections.{AreRebuilt}
 use Rattle.ats_client.specs.Accepts.{Accepts, IsFirstRefusal}
 use Rattle.ats_client.specs.declared.refusal.Refusal.{Refusal}
 use Rattle.ats_client.specs.declared.refusal.Refusal.TheVariants.{NotSettled}
-
--- the rules of the documents hold for a TNRA proof
-none_shown : (H : List ℕ → List ℕ) (query : List (List ℕ × ℕ)) (numbers : List ℕ) (header : Header) (met : List ℕ) (docs : Option Documents)
-    → (let walk : Algorithm = elim docs [ None ↦ Tnra | Some docs ↦ Tra ] in walk) ≡ Tnra
-    → AreDocsRooted H header met docs × All (IsDocumentRight H query numbers) (documents_in met docs)
-none_shown H query numbers header met None is = (tt, All-nil (IsDocumentRight H query numbers))
-none_shown H query numbers header met (Some docs) is = absurd (cc)
 
 module _ (H : List ℕ → List ℕ) (root : List ℕ) (query : List (List ℕ × ℕ)) (r : ℕ) (proof : Proof) where
   pub accepts_each : IsOpened H root query proof → IsDictionary H proof → AreSlotsRight query proof → AreListsRight H query proof
@@ -29,14 +18,6 @@ module _ (H : List ℕ → List ℕ) (root : List ℕ) (query : List (List ℕ �
       → IsAnswerSettled (bounds_of proof) (lanes_of query proof) proof.met proof.answer r → Accepts H root query r proof
   accepts_each opened dictionary slots lists met tree documents rows settled =
       record { kept = (opened, (dictionary, (slots, (lists, (met, (tree, (documents, (rows, (settled, tt))))))))) }
-
-  -- for a TNRA proof
-  pub accepts_all : algorithm_of proof ≡ Tnra → IsOpened H root query proof → IsDictionary H proof → AreSlotsRight query proof → AreListsRight H query proof
-      → AreAllMet (lanes_of query proof) proof.met → AreRowsRight proof.met proof.answer → IsAnswerSettled (bounds_of proof) (lanes_of query proof) proof.met proof.answer r
-      → Accepts H root query r proof
-  accepts_all walk opened dictionary slots lists met rows settled =
-      let none = none_shown H query (present_numbers proof) proof.header proof.met proof.docs walk in
-      accepts_each opened dictionary slots lists met none.0 none.1 rows settled
 
   -- ---- the first refusal, if all groups before it hold
 

@@ -1,8 +1,7 @@
 -- The score of a met document, as it is summed over the slots of the present terms.
-use Rattle.std.proofs.Common.{◌≡◌, ◌<◌, ◌≤◌, ◌+◌, ◌*◌, ◌∙◌, ℕ, List, [], length, map, drop, get_or, slice_get, Some, option_map, refl, sym, ap, subst, arith}
+use Rattle.std.proofs.Common.{◌≡◌, ◌<◌, ◌+◌, ◌*◌, ◌∙◌, ℕ, List, [], length, map, drop, get_or, slice_get, Some, option_map, refl, sym, ap, subst, arith}
 use Rattle.std.proofs.lemmas.List.{length-map}
 use Rattle.std.proofs.lemmas.Option.{get_or_from_slice_get, slice_get_within, slice_get-map}
-use Rattle.std.proofs.Math.ListN.{drop_of_length-le}
 use Rattle.ats_bound.specs.Cut.{ShownLane}
 use Rattle.ats_bound.specs.Lookup.{Table, looked_score_from}
 use Rattle.ats_commit.specs.Ours.{asked_term}
@@ -31,15 +30,6 @@ looked_more table terms doc i term score impact whole is shown before =
     ap (λ (lanes : List ShownLane). looked_score_from i table lanes doc) (at_front (bare_lanes terms) i _ (lane_at terms i term is)) in
     let gain : term.coefficient * impact ≡ term.coefficient * table i doc = ap (λ n. term.coefficient * n) shown in
     omega (arith, next, gain, before)
-
--- all terms
-pub looked_all : (table : Table) (terms : List PresentTerm) (doc i score whole : ℕ) → length terms ≤ i
-    → score + looked_score_from i table (drop i (bare_lanes terms)) doc ≡ whole → score ≡ whole
-looked_all table terms doc i score whole all before =
-    let size : length (bare_lanes terms) ≡ length terms = length-map terms _ in
-    let none : looked_score_from i table (drop i (bare_lanes terms)) doc ≡ 0 =
-    ap (λ (lanes : List ShownLane). looked_score_from i table lanes doc) (drop_of_length-le (bare_lanes terms) (omega (arith, size, all))) in
-    omega (arith, none, before)
 
 -- ---- the slots
 

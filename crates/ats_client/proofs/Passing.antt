@@ -12,12 +12,11 @@ use Rattle.ats_bound.specs.Cut.{rest, threshold as threshold_of, lo_of, held, br
 use Rattle.ats_bound.proofs.Public.{held_or_missing}
 use Rattle.ats_proof.specs.Value.{Proof, Prefix, present_in, layout_of}
 use Rattle.ats_lists.specs.Layout.{Layout}
-use Rattle.ats_client.specs.declared.refusal.Refusal.{Refusal}
 use Rattle.ats_client.specs.declared.present_terms.PresentTerm.{PresentTerm}
 use Rattle.ats_client.specs.PresentTerms.{kept_term, kept_terms}
 use Rattle.ats_client.specs.Presented.{Presented, presented, presented_from, lanes_of}
 use Rattle.ats_client.specs.Indexes.{AreNames}
-use Rattle.ats_client.specs.Groups.{IsListRight, IsListFault, IsListsFault, indexes_of, met_at}
+use Rattle.ats_client.specs.Groups.{IsListRight, indexes_of, met_at}
 use Rattle.ats_client.specs.Marked.{AreMarks, AreNoted}
 use Rattle.ats_client.specs.Noting.{Note, AreNotes, IsNoted, index_lane, lane_notes, notes_of}
 use Rattle.ats_client.proofs.Lanes.{gain_all, held_all, has_all, rests_all}
@@ -114,18 +113,6 @@ passes_present H query proof i left after terms terms' threshold most one marks 
       kept = more ∙ ap (λ (ts : List PresentTerm). ts ++ kept_term n one ∷ []) p.kept ∙ sym (map-append (kept_term n) p.before (one ∷ []));
       few = omega (arith, few, ap (λ (ts : List PresentTerm). length ts) more, length-append terms (kept_term n one ∷ []));
     }
-
-pub fails : (H : List ℕ → List ℕ) (query : List (List ℕ × ℕ)) (proof : Proof) (i : ℕ) (left : List Prefix) (terms : List PresentTerm) (threshold : ℕ) (one : Presented) (later : List Presented) (marks : List Mark) (refusal : Refusal)
-    → IsPassed H query proof i left terms threshold marks → presented_from proof.dict i (drop i query) (drop i proof.slots) left ≡ one ∷ later
-    → IsListFault H (layout_of proof) proof.met one refusal → IsListsFault H query proof refusal
-fails H query proof i left terms threshold one later marks refusal p step fault = record {
-  before = p.before;
-  one = one;
-  after = later;
-  stands = p.stands ∙ ap (λ (l : List Presented). p.before ++ l) step;
-  right = p.right;
-  fault = fault;
-}
 
 -- all terms are checked
 pub record IsDone (H : List ℕ → List ℕ) (query : List (List ℕ × ℕ)) (proof : Proof) (terms : List PresentTerm) (threshold : ℕ) (marks : List Mark) : Type 0 where

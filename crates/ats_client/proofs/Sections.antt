@@ -1,18 +1,18 @@
 -- The first collision of a proof's strings from those of its sections, and what holds for the sections of a proof that
 -- rebuilds.
-use Rattle.std.proofs.Common.{◌≡◌, ◌≢◌, ◌<◌, ◌≤◌, ◌+◌, ◌^◌, ◌∙◌, ℕ, zero, suc, List, [], ◌∷◌, ◌++◌, length, map, drop, Bool, true, false, Option, Some, None, slice_get, refl, sym, ap, ap₂, subst, arith, IfSome}
+use Rattle.std.proofs.Common.{◌≡◌, ◌≢◌, ◌<◌, ◌≤◌, ◌+◌, ◌^◌, ◌∙◌, ℕ, zero, suc, List, [], ◌∷◌, ◌++◌, length, map, drop, true, false, Option, Some, None, refl, sym, ap, ap₂, subst, arith, IfSome}
 use Rattle.std.specs.List.{All, flat_map}
 use Rattle.std.specs.Option.{option_map, option_or, IsSome}
 use Rattle.std.specs.Int.{to_be_bytes, w16, w32}
 use Rattle.std.proofs.lemmas.List.{length-append}
 use Rattle.std.proofs.lemmas.Simd.{map-map}
-use Rattle.std.proofs.lemmas.List.Elements.{All-nil, All-cons, All-head, All-tail, All-map, All-weaker}
+use Rattle.std.proofs.lemmas.List.Elements.{All-nil, All-cons, All-head, All-tail}
 use Rattle.ats_tree.specs.Differences.{Hashed, moved, Difference, collision_or, first_collision}
 use Rattle.ats_tree.specs.Nodes.{Node, NodeNumbers, by_path, numbers_of}
 use Rattle.ats_tree.specs.Paths.{Path, path_of}
 use Rattle.ats_tree.specs.Rebuild.{rebuilt}
 use Rattle.ats_tree.specs.Shown as tree
-use Rattle.ats_tree.specs.Strings.{string_at, node_string, node_strings}
+use Rattle.ats_tree.specs.Strings.{string_at, node_string}
 use Rattle.ats_tree.specs.Tree as trees
 use Rattle.ats_tree.specs.Clashes as nodes
 use Rattle.ats_tree.specs.declared.clashing.Clash as found
@@ -31,11 +31,11 @@ use Rattle.ats_doctree.specs.Sentinels as terms
 use Rattle.ats_lists.specs.Layout.{Layout, whole_lists}
 use Rattle.ats_commit.specs.Archive.{Archive, format_of}
 use Rattle.ats_commit.specs.Ours.{own_leaves, own_header, own_string, ours}
-use Rattle.ats_commit.specs.Places.{in_tree, numbers_at, IsOfQuery}
-use Rattle.ats_proof.specs.Value.{ShownEntry, ShownTerm, TermsSection, Documents, Proof, layout_of}
+use Rattle.ats_commit.specs.Places.{in_tree, numbers_at}
+use Rattle.ats_proof.specs.Value.{ShownEntry, ShownTerm, Documents, Proof, layout_of}
 use Rattle.ats_proof.specs.Ranges.{IsShownInRange, IsTermInRange, IsDocLeafInRange}
 use Rattle.ats_proof.specs.Runs.{shown_entry, shown_term, shown_docs, shown_list, named}
-use Rattle.ats_client.specs.Documents.{MetDocument, documents_from, AreDocsRooted, IsTermsTree}
+use Rattle.ats_client.specs.Documents.{documents_from, AreDocsRooted}
 use Rattle.ats_client.specs.Presented.{presented}
 use Rattle.ats_client.specs.Strings.{hashed_header, strings_in, list_strings, terms_strings, documents_strings, extract}
 
@@ -71,22 +71,6 @@ own-tagged H archive query (Terms doc) at = node-tagged H (own_leaves H archive 
 
 pub ours-tagged : (H : List ℕ → List ℕ) (archive : Archive) (query : List (List ℕ × ℕ)) (place : Place) → IsTagged (ours H archive query place)
 ours-tagged H archive query place = own-tagged H archive query place.tree (numbers_at place)
-
--- ---- which trees a query has
-
-pub of_query : (query : List (List ℕ × ℕ)) (tree : Tree) → ((term : ℕ) → tree ≡ ListOf term → term < length query) → IsOfQuery query tree
-of_query query Header asked = tt
-of_query query Dictionary asked = tt
-of_query query (ListOf term) asked = asked term refl
-of_query query DocumentsTree asked = tt
-of_query query (Terms doc) asked = tt
-
-pub query_has : (query : List (List ℕ × ℕ)) (tree : Tree) → IsOfQuery query tree → (term : ℕ) → tree ≡ ListOf term → term < length query
-query_has query Header is term same = absurd (cc)
-query_has query Dictionary is term same = absurd (cc)
-query_has query (ListOf t) is term same = let e : t ≡ term = cc in subst (λ (k : ℕ). k < length query) e is
-query_has query DocumentsTree is term same = absurd (cc)
-query_has query (Terms doc) is term same = absurd (cc)
 
 -- ---- one tree
 

@@ -1,5 +1,5 @@
 -- How `audit` ends, from the results of its steps, and what a collision excludes.
-use Rattle.std.proofs.Common.{◌≡◌, ◌∙◌, ◌≤◌, ◌^◌, ℕ, List, Option, Some, None, Result, Ok, Err, sym, ap, subst, inl, inr, arith}
+use Rattle.std.proofs.Common.{◌≡◌, ◌∙◌, ◌^◌, ℕ, List, Option, Some, None, Result, Ok, Err, sym, ap, subst, inl, inr}
 use Rattle.std.specs.Prelude.{IfOk, IfErr}
 use Rattle.ats_base.specs.Outside.{IsMissing, ShelfTold}
 use Rattle.ats_terms.specs.Query.{IsQueryOf}
@@ -18,7 +18,7 @@ use Rattle.ats_top.specs.Print.{lines}
 use Rattle.ats_top.specs.Read.{Files, IsTold, IsFile, HasIndex}
 use Rattle.ats_top.specs.Refusals.{AsksRanking, IsIndexRefused, IsRefused}
 use Rattle.ats_top.specs.Rejected.{IsLongFile}
-use Rattle.ats_top.specs.ReadStops.{IndexStop, ProofStop}
+use Rattle.ats_top.specs.ReadStops.{ProofStop}
 use Rattle.ats_top.specs.Audited.{IsAudited, IsAuditedRight, HasCollision, VerdictStop}
 use Rattle.ats_top.specs.Outside.{Outside}
 use Rattle.ats_top.specs.Done.{IsDone, HasInput, IsServed}
@@ -34,20 +34,6 @@ pub passed_on : {X : Type 0} (P : Stop → Type 0) (result : Result X Stop) (tol
 passed_on {X} P result told stop is same cause = subst (λ (r : Result X Stop). IfErr r P) (sym is) (subst P (sym same) cause)
 
 -- ---- the steps
-
-module _ (H : List ℕ → List ℕ) (before now : ShelfTold) (words : AuditWords) (asks : AsksRanking words.r words.query) (same : now.files ≡ before.files) where
-  -- an index that was not loaded
-  pub index_stops : (stop : Stop) → IndexStop H before now words.index stop → FilesStop H before now (Audit words) stop
-  index_stops Usage stops = absurd stops
-  index_stops Shelf (inl rose) = (inl (asks, rose), inl same)
-  index_stops Shelf (inr missing) = (inr (asks, inl missing), inl same)
-  index_stops (Input line) stops = (inr (inr (asks, stops)), same)
-  index_stops (Rejected lines) stops = absurd stops
-  index_stops Memory stops = same
-  index_stops Link stops = absurd stops
-  index_stops (Peer line) stops = absurd stops
-  index_stops (Faults count) stops = absurd stops
-  index_stops (Collision lines) stops = absurd stops
 
 module _ (H : List ℕ → List ℕ) (before mid now : ShelfTold) (words : AuditWords) (asks : AsksRanking words.r words.query) (was : mid.files ≡ before.files) (same : now.files ≡ mid.files)
     (archive : Archive) (index : HasIndex H before.files words.index archive) where

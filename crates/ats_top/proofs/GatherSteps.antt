@@ -3,7 +3,7 @@ use Rattle.std.proofs.Common.{◌≡◌, ◌⊎◌, ◌++◌, ◌∷◌, ◌<◌
 use Rattle.std.specs.List.{AllZip}
 use Rattle.std.proofs.lemmas.List.Sums.{sum_by-cons}
 use Rattle.ats_base.specs.Outside.{IsMissing, ShelfTold, Ask, Asked, ReadsAtMostOnce}
-use Rattle.ats_base.proofs.Public.{asked_none, asked_then, asked_as}
+use Rattle.ats_base.proofs.Public.{asked_then, asked_as}
 use Rattle.ats_top.specs.Read.{Files}
 use Rattle.ats_top.specs.Reading.{AsListed, IsGood, ReadsThen, listed_files, StoresAtMostOnce, Reads}
 use Rattle.ats_top.specs.Gathered.{IsGathered, AreGathered, PassesLimit, size, total}
@@ -66,16 +66,6 @@ pub record AreSoFar (before now : ShelfTold) (entries : List Entry) (i : ℕ) (p
   pub each : AllZip (IsGathered before.files) (entry_names (take i entries)) proofs
   pub counted : count ≡ total proofs
   pub within : count ≤ 2 ^ 28
-
-pub none_so_far : (told : ShelfTold) (entries : List Entry) → AreSoFar told told entries 0 [] 0
-none_so_far told entries = record {
-  files = refl;
-  calm = refl;
-  asked = λ H. asked_none told.asked (ReadsFirst H told.files entries 0) (λ more all. all);
-  each = tt;
-  counted = refl;
-  within = omega arith;
-}
 
 module _ (before mid now : ShelfTold) (entries : List Entry) (i : ℕ) (entry : Entry) (less : i < length entries) (is : entry ≡ get_or entries i entry)
     (proofs : List Gathered) (count : ℕ) (so_far : AreSoFar before mid entries i proofs count)
@@ -182,12 +172,6 @@ pub passes_stop : (before now : ShelfTold) (names : List (List ℕ)) (bytes : �
     → PassesLimit before.files names bytes → GatheringStop before now names stop
 passes_stop before now names bytes stop is passes = subst (GatheringStop before now names) (sym is) (bytes, passes, refl)
 
-take_all_entries : (entries : List Entry) (i : ℕ) → length entries ≤ i → take i entries ≡ entries
-take_all_entries [] zero past = refl
-take_all_entries [] (suc i) past = refl
-take_all_entries (e ∷ entries) zero past = absurd (omega (arith, past))
-take_all_entries (e ∷ entries) (suc i) past = ap (λ (es : List Entry). e ∷ es) (take_all_entries entries i (omega (arith, past)))
-
 drop_all_entries : (entries : List Entry) (i : ℕ) → length entries ≤ i → drop i entries ≡ []
 drop_all_entries [] zero past = refl
 drop_all_entries [] (suc i) past = refl
@@ -197,12 +181,6 @@ drop_all_entries (e ∷ entries) (suc i) past = drop_all_entries entries i (omeg
 -- all were gathered
 module _ (before now : ShelfTold) (entries : List Entry) (i : ℕ) (past : length entries ≤ i) (proofs : List Gathered) (count : ℕ)
     (so_far : AreSoFar before now entries i proofs count) where
-  pub all_gathered : AreGathered before.files (entry_names entries) proofs
-  all_gathered = record {
-    each = subst (λ (es : List Entry). AllZip (IsGathered before.files) (entry_names es) proofs) (take_all_entries entries i past) so_far.each;
-    within = omega (arith, so_far.counted, so_far.within);
-  }
-
   pub reads_all : ReadsProofs before now (entry_names entries)
   reads_all = record {
     files = so_far.files;

@@ -1,5 +1,5 @@
 -- The audits that the entries of a list ask for, one by one, and what they find.
-use Rattle.std.proofs.Common.{◌≡◌, ◌++◌, ◌∷◌, ◌<◌, ◌^◌, ℕ, zero, suc, List, [], length, drop, get_or, refl, sym, subst, ◌∙◌, inl, inr, arith}
+use Rattle.std.proofs.Common.{◌≡◌, ◌++◌, ◌∷◌, ◌^◌, ℕ, List, [], length, drop, get_or, refl, sym, subst, ◌∙◌, inl, inr, arith}
 use Rattle.std.specs.List.{AllZip}
 use Rattle.ats_commit.specs.Archive.{Archive}
 use Rattle.ats_audit.specs.Verdicts.{IsVerdict}
@@ -43,13 +43,6 @@ jobs_more (e ∷ entries) [] (j ∷ jobs) entry rest proof job are left same at 
 jobs_more (e ∷ entries) (p ∷ proofs) (j ∷ jobs) entry rest proof job are left same at is =
     let later = jobs_more entries proofs jobs entry rest proof job are.1 left (omega (arith, same)) at is in
     ((are.0, later.0), later.1)
-
--- an entry that is left has a proof
-pub proof_left : (entries : List Entry) (jobs : ℕ) (entry : Entry) (rest : List Entry) → drop jobs entries ≡ entry ∷ rest → jobs < length entries
-proof_left [] zero entry rest left = absurd (cc)
-proof_left [] (suc jobs) entry rest left = absurd (cc)
-proof_left (e ∷ entries) zero entry rest left = omega arith
-proof_left (e ∷ entries) (suc jobs) entry rest left = let less = proof_left entries jobs entry rest left in omega (arith, less)
 
 pub all_jobs : (entries : List Entry) (proofs : List Gathered) (jobs : List Job) → AreFirstJobs entries proofs jobs → drop (length jobs) entries ≡ []
     → length entries ≡ length proofs → AreJobs entries proofs jobs

@@ -2,7 +2,7 @@
 use Rattle.std.proofs.Common.{◌≡◌, ◌⊎◌, ◌++◌, ◌∷◌, ◌<◌, ◌≤◌, ◌+◌, ◌^◌, ℕ, List, [], length, refl, sym, ap, subst, ◌∙◌, inl, inr, arith, append-nil, append_assoc}
 use Rattle.std.specs.List.{AllZip}
 use Rattle.std.proofs.lemmas.Slice.Zip.{AllZip-long}
-use Rattle.ats_terms.specs.Query.{HasQuery, IsQueryOf}
+use Rattle.ats_terms.specs.Query.{HasQuery}
 use Rattle.ats_top.specs.Read.{Files, IsFile}
 use Rattle.ats_top.specs.Listed.{Listed, lines_of, IsListed, IsList, IsBadLine, IsEntry, names_of}
 use Rattle.ats_top.specs.Sweeping.{IsSpelledAs, entry_names}
@@ -26,24 +26,7 @@ module _ (line : List ℕ) (r : ℕ) (proof query : List ℕ) (is : IsSpelledAs 
   pub query_out : (HasQuery query → ⊥) → (listed : Listed) → IsListed line listed → ⊥
   query_out none listed has = none (subst HasQuery (spelled_query listed has) has.query)
 
-  pub entry_is : (entry : Entry) → (1 ≤ r) × (r ≤ 1000) → entry.top ≡ r → entry.proof.now ≡ proof → IsQueryOf query entry.query → IsEntry line entry
-  entry_is entry within top named asked = record {
-    listed = record { r = r; proof = proof; query = query };
-    is = record { spelled = is; some = within.0; few = within.1; query = asked.has };
-    top = top;
-    proof = named;
-    query = asked;
-  }
-
 -- ---- all lines
-
--- there is none, or there are too many
-pub none_bad : (lines : List (List ℕ)) → length lines ≡ 0 → IsBadLine lines 1
-none_bad [] none = inl (refl, refl)
-none_bad (line ∷ lines) none = absurd (omega (arith, none))
-
-pub many_bad : (lines : List (List ℕ)) → 1000 < length lines → IsBadLine lines 1001
-many_bad lines many = inr (inl (many, refl))
 
 -- what entries ask for
 abbrev pub listed_of : (lines : List (List ℕ)) (entries : List Entry) → AllZip IsEntry lines entries → List Listed
@@ -87,9 +70,6 @@ pub record AreRead (bytes rest : List ℕ) (entries : List Entry) : Type 0 where
   pub done : List (List ℕ)
   pub parts : lines_of bytes ≡ done ++ lines_of rest
   pub are : AllZip IsEntry done entries
-
-pub none_read : (bytes : List ℕ) → AreRead bytes bytes []
-none_read bytes = record { done = []; parts = refl; are = tt }
 
 pub read_more : (bytes rest line after : List ℕ) (entries : List Entry) (entry : Entry) → AreRead bytes rest entries → lines_of rest ≡ line ∷ lines_of after
     → IsEntry line entry → AreRead bytes after (entries ++ entry ∷ [])

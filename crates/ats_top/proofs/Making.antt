@@ -1,5 +1,5 @@
--- How `prove` stops if its index was not loaded or no proof was made.
-use Rattle.std.proofs.Common.{◌≡◌, ℕ, List, inl, inr}
+-- How `prove` stops if no proof was made.
+use Rattle.std.proofs.Common.{◌≡◌, ℕ, List, inr}
 use Rattle.ats_base.specs.Outside.{ShelfTold}
 use Rattle.ats_terms.specs.Query.{IsQueryOf}
 use Rattle.ats_commit.specs.Archive.{Archive}
@@ -7,10 +7,9 @@ use Rattle.ats_top.specs.Words.{ProveWords, Prove}
 use Rattle.ats_top.specs.Read.{HasIndex}
 use Rattle.ats_top.specs.Refusals.{AsksRanking}
 use Rattle.ats_top.specs.Proved.{MakingStop}
-use Rattle.ats_top.specs.ReadStops.{IndexStop}
 use Rattle.ats_top.specs.Run.{FilesStop}
 use Rattle.ats_top.specs.declared.stops.Stop.{Stop}
-use Rattle.ats_top.specs.declared.stops.Stop.TheVariants.{Shelf, Input, Memory}
+use Rattle.ats_top.specs.declared.stops.Stop.TheVariants.{Input, Memory}
 
 pub making_stops : (H : List ℕ → List ℕ) (before now : ShelfTold) (words : ProveWords) → AsksRanking words.r words.query → now.files ≡ before.files
     → (archive : Archive) → HasIndex H before.files words.index archive → (query : List (List ℕ × ℕ)) → IsQueryOf words.query query
@@ -19,11 +18,3 @@ making_stops H before now words asks same archive index query asked Memory stops
 making_stops H before now words asks same archive index query asked (Input line) (bytes, long, printed) =
     (inr (inr (asks, inr (bytes, record { archive = archive; query = query; index = index; asked = asked; long = long }, printed))), same)
 making_stops H before now words asks same archive index query asked _ stops = absurd stops
-
-pub unloaded_stops : (H : List ℕ → List ℕ) (before now : ShelfTold) (words : ProveWords) → AsksRanking words.r words.query → now.files ≡ before.files
-    → (stop : Stop) → IndexStop H before now words.index stop → FilesStop H before now (Prove words) stop
-unloaded_stops H before now words asks same Shelf (inl rose) = (inl (asks, rose), inl same)
-unloaded_stops H before now words asks same Shelf (inr missing) = (inr (asks, missing), inl same)
-unloaded_stops H before now words asks same (Input line) stops = (inr (inr (asks, inl stops)), same)
-unloaded_stops H before now words asks same Memory stops = same
-unloaded_stops H before now words asks same _ stops = absurd stops

@@ -1,15 +1,10 @@
 -- Words and a reported file are refused as an input in at most one way.
-use Rattle.std.proofs.Common.{◌≡◌, ◌∙◌, ◌⊎◌, ◌^◌, ℕ, List, refl, sym, ap, subst, inl, inr, arith}
+use Rattle.std.proofs.Common.{◌≡◌, ◌∙◌, ◌^◌, ℕ, List, refl, sym, ap, subst, inl, inr, arith}
 use Rattle.std.proofs.lemmas.Bool.{cases_order}
-use Rattle.ats_base.specs.Outside.{IsLonger}
 use Rattle.ats_terms.specs.Query.{HasQuery, IsQueryOf}
 use Rattle.ats_terms.specs.Faults.{IsFirstFault}
-use Rattle.ats_terms.specs.declared.query.QueryFault.{QueryFault}
-use Rattle.ats_terms.specs.declared.query.QueryFault.TheVariants as query
 use Rattle.ats_impact.specs.Trial.{trial_query}
 use Rattle.ats_impact.specs.CollectionFaults.{IsFirstCollectionFault}
-use Rattle.ats_impact.specs.declared.collection.CollectionFault.{CollectionFault}
-use Rattle.ats_impact.specs.declared.collection.CollectionFault.TheVariants as collection
 use Rattle.ats_commit.specs.Archive.{Archive}
 use Rattle.ats_proof.specs.declared.record.Algorithm.{Algorithm}
 use Rattle.ats_proof.specs.declared.record.Algorithm.TheVariants.{Tra, Tnra}
@@ -21,10 +16,8 @@ use Rattle.ats_index.proofs.Public.{one_archive, one_place}
 use Rattle.ats_honest.specs.Honest.{IsHonest, IsTooLong, length_of}
 use Rattle.ats_honest.proofs.Public.{one_proof}
 use Rattle.ats_top.specs.Input.{AreJsonTexts, IsFirstJsonFault}
-use Rattle.ats_top.specs.declared.input.JsonFault.{JsonFault}
-use Rattle.ats_top.specs.declared.input.JsonFault.TheVariants as json
 use Rattle.ats_top.specs.Words.{ProveWords, SweepWords, Command, Rank, Build, Root, Prove, Verify, Ask, Serve, Audit, Sweep, Trial}
-use Rattle.ats_top.specs.Read.{Files, IsTold, IsFile}
+use Rattle.ats_top.specs.Read.{Files, IsTold}
 use Rattle.ats_top.specs.Stops.{line_of_long_proof, stop_of_query, stop_of_json, stop_of_collection, stop_of_load}
 use Rattle.ats_top.specs.Refusals.{IsQueryRefused, IsJsonRefused, AreTextsRefused, IsCollectionRefused, IsIndexRefused, IsProvingRefused, IsSweepRefused, IsRankingRefused, IsRefused}
 use Rattle.ats_top.specs.Proved.{IsProofTooLong}

@@ -9,15 +9,6 @@ use Rattle.ats_top.specs.Listed.{Listed, IsList, names_of}
 use Rattle.ats_top.specs.Reading.{AsCollection, AsIndex, AsProof, AsList, InputFile, limit_of, IsGood, reads, stores, ReadsThen, listed_files, StoresAtMostOnce, AsksFurther, AsksThen, AsksFor, IsFirstMissing, Reads, ReadsAlone, Serves}
 use Rattle.ats_top.proofs.ToldFiles.{missing_file}
 
--- nothing was read
-pub reads_none : (told : ShelfTold) (name : List ℕ) (limit : ℕ) → Reads told told name limit
-reads_none told name limit = record {
-  files = refl;
-  later = omega arith;
-  uncounted = λ missing. refl;
-  asked = asked_none told.asked (ReadsAtMostOnce name limit) tt;
-}
-
 stores_none : (name : Option (List ℕ)) → StoresAtMostOnce name []
 stores_none None = refl
 stores_none (Some name) = inl refl

@@ -1,7 +1,7 @@
 -- What is within the limits is not refused, and a missing file is neither served nor refused.
 use Rattle.std.proofs.Common.{◌≡◌, ◌∙◌, ◌<◌, ◌^◌, ℕ, List, [], ◌∷◌, length, get_or, None, sym, ap, subst, inl, inr, arith, append-nil}
 use Rattle.std.specs.List.{concat}
-use Rattle.ats_base.specs.Outside.{IsMissing, IsLonger}
+use Rattle.ats_base.specs.Outside.{IsMissing}
 use Rattle.ats_terms.specs.Query.{HasQuery, IsQueryOf}
 use Rattle.ats_terms.specs.Faults.{IsFirstFault}
 use Rattle.ats_terms.specs.declared.query.QueryFault.{QueryFault}
@@ -24,7 +24,7 @@ use Rattle.ats_top.specs.declared.input.JsonFault.{JsonFault}
 use Rattle.ats_top.specs.declared.input.JsonFault.TheVariants as json
 use Rattle.ats_top.specs.Words.{ProveWords, Command, Rank, Build, Root, Prove, Verify, Ask, Serve, Audit, Sweep, Trial}
 use Rattle.ats_top.specs.Read.{Files, IsTold, HasCollection}
-use Rattle.ats_top.specs.Refusals.{IsRowCount, AsksRanking, Asks, LacksFile, IsJsonRefused, AreTextsRefused, IsCollectionRefused, IsIndexRefused, IsProvingRefused, IsRankingRefused, IsRefused}
+use Rattle.ats_top.specs.Refusals.{AsksRanking, LacksFile, IsJsonRefused, AreTextsRefused, IsCollectionRefused, IsIndexRefused, IsProvingRefused, IsRankingRefused, IsRefused}
 use Rattle.ats_top.specs.Proved.{IsProofFor, IsProofTooLong}
 use Rattle.ats_top.specs.Trial.{trial_archive, IsTrialProof, AreTrialProofs, IsTrial, AreQueries, IsTrialQueryRefused, IsTrialTooLong, IsTrialRefused, IsTrialServed}
 use Rattle.ats_top.specs.Stops.{stop_of_query, stop_of_json, stop_of_collection}
@@ -230,20 +230,7 @@ module _ (files : Files) (name : List ℕ) (missing : IsMissing files name) wher
   collection_missing line (inr (inl refused)) = missing_file files name refused.bytes (2 ^ 26) missing refused.file
   collection_missing line (inr (inr refused)) = missing_file files name refused.bytes (2 ^ 26) missing refused.file
 
--- if a file is missing, the words are within the limits
-pub lacks_asks : (H : List ℕ → List ℕ) (files : Files) (command : Command) → LacksFile H files command → Asks command
-lacks_asks H files (Rank words) lacks = lacks.0
-lacks_asks H files (Build words) lacks = tt
-lacks_asks H files (Root words) lacks = tt
-lacks_asks H files (Prove words) lacks = lacks.0
-lacks_asks H files (Verify words) lacks = lacks.0
-lacks_asks H files (Ask words) lacks = absurd lacks
-lacks_asks H files (Serve words) lacks = tt
-lacks_asks H files (Audit words) lacks = lacks.0
-lacks_asks H files (Sweep words) lacks = tt
-lacks_asks H files (Trial words) lacks = absurd lacks
-
--- and nothing is refused
+-- if a file is missing, nothing is refused
 pub missing_kept : (H : List ℕ → List ℕ) (files : Files) (command : Command) → LacksFile H files command
     → (line : List ℕ) → IsRefused H files command line → ⊥
 missing_kept H files (Rank words) (asks, missing) line refused =

@@ -1,5 +1,5 @@
 -- What excludes what in a sweep: what is found, what is refused, and a missing file.
-use Rattle.std.proofs.Common.{◌≡◌, ◌^◌, ℕ, List, refl, sym, ap, subst, ◌∙◌, inl, inr}
+use Rattle.std.proofs.Common.{◌≡◌, ◌^◌, ℕ, List, sym, ap, subst, ◌∙◌, inl, inr}
 use Rattle.std.specs.List.{AllZip}
 use Rattle.ats_base.specs.Outside.{IsMissing, IsLonger}
 use Rattle.ats_top.specs.Words.{SweepWords, Sweep}

@@ -1,5 +1,5 @@
 -- How `sweep` ends, from the results of its steps.
-use Rattle.std.proofs.Common.{◌≡◌, ◌∙◌, ◌≤◌, ◌^◌, ℕ, false, List, [], None, length, Vec, Global, Result, Ok, Err, sym, subst, inl, inr, arith}
+use Rattle.std.proofs.Common.{◌≡◌, ◌∙◌, ◌≤◌, ◌^◌, ℕ, false, List, [], None, length, Vec, Global, Result, Ok, Err, sym, subst, inl, inr}
 use Rattle.std.specs.Prelude.{IfOk, IfErr}
 use Rattle.std.specs.List.{AllZip}
 use Rattle.ats_base.specs.Outside.{IsMissing, IsLonger, ShelfTold, Asked}
@@ -9,7 +9,6 @@ use Rattle.ats_audit.specs.declared.auditing.Verdict.{Verdict}
 use Rattle.ats_audit.specs.declared.sweeping.Job.{Job}
 use Rattle.ats_top.specs.Words.{SweepWords, Sweep}
 use Rattle.ats_top.specs.Read.{Files, IsFile, HasIndex}
-use Rattle.ats_top.specs.Refusals.{IsListRefused}
 use Rattle.ats_top.specs.ReadStops.{FileStop, IndexStop}
 use Rattle.ats_top.specs.Reading.{Reads, Serves, IsGood, ReadsThen, listed_files, StoresAtMostOnce}
 use Rattle.ats_top.specs.Listed.{Listed, lines_of, IsList, IsEntry, names_of}

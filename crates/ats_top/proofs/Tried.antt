@@ -1,5 +1,5 @@
 -- The results of the proofs of a trial.
-use Rattle.std.proofs.Common.{◌≡◌, ◌+◌, ◌<◌, ◌≤◌, ◌^◌, ℕ, ◌⊎◌, true, Option, None, List, [], ◌∷◌, ◌++◌, length, drop, get_or, slice_get, sum_by, Some, refl, sym, ap, ap₂, subst, ◌∙◌, arith, inl, inr, zero-add, Result, Ok, Err, IfErr, codes, decimal, Vec, Global}
+use Rattle.std.proofs.Common.{◌≡◌, ◌+◌, ◌<◌, ◌≤◌, ◌^◌, ℕ, ◌⊎◌, true, Option, None, List, [], ◌∷◌, ◌++◌, length, get_or, sum_by, Some, refl, sym, ap, ap₂, subst, ◌∙◌, arith, inl, inr, zero-add, Result, Ok, Err, IfErr, codes, decimal, Vec, Global}
 use Rattle.std.specs.Prelude.{IfOk}
 use Rattle.std.proofs.lemmas.Bool.{cases_Bool, cases_lt, cond-false, cond-true}
 use Rattle.std.proofs.lemmas.List.{length-append, get_or_append_left, get_or_read}
@@ -25,14 +25,8 @@ use Rattle.ats_terms.specs.Query.{IsQueryOf}
 use Rattle.ats_terms.specs.Faults.{IsFirstFault}
 use Rattle.ats_terms.specs.declared.query.QueryFault.{QueryFault}
 use Rattle.ats_terms.specs.declared.query.QueryFault.TheVariants as query
-use Rattle.ats_impact.specs.Limits.{AreWithin}
 use Rattle.ats_impact.specs.Trial.{trial_query}
-use Rattle.ats_impact.specs.declared.collection.CollectionFault.{CollectionFault}
-use Rattle.ats_impact.specs.declared.collection.CollectionFault.TheVariants as collection
-use Rattle.ats_prover.specs.Fault.{IsFault}
-use Rattle.ats_prover.specs.declared.fault.ProveFault.{ProveFault}
-use Rattle.ats_prover.specs.declared.fault.ProveFault.TheVariants as proof
-use Rattle.ats_top.specs.Stops.{stop_of_query, stop_of_collection, stop_of_proof}
+use Rattle.ats_top.specs.Stops.{stop_of_query}
 use Rattle.ats_top.specs.Print.{line_of_root}
 use Rattle.ats_top.specs.Trial.{line_of_proofs, lines_of_trial, shown_entries, trial_archive, tally_of, counted, turn, IsTried, AreTried, AreTriedLines, AreQueries, AreTrialQueries, AreTrialProofs, IsTrial, is_right, IsTryStop, IsTriesStop, IsTrialStop}
 use Rattle.ats_top.specs.declared.stops.Stop.{Stop}
@@ -40,13 +34,6 @@ use Rattle.ats_top.specs.declared.stops.Stop.TheVariants.{Input, Memory}
 use Rattle.ats_top.specs.declared.trial.Tally.{Tally}
 
 -- ---- the entries that are shown
-
-pub entries_first : (lists : List Prefix) (one : Prefix) → slice_get lists 0 ≡ Some one
-    → sum_by (λ (p : Prefix). length p.entries) lists ≡ length one.entries + sum_by (λ (p : Prefix). length p.entries) (drop 1 lists)
-entries_first [] one is = absurd (cc)
-entries_first (p ∷ lists) one is =
-    let same : p ≡ one = cc in
-    sum_by-cons (λ (q : Prefix). length q.entries) p lists ∙ ap (λ (q : Prefix). length q.entries + sum_by (λ (s : Prefix). length s.entries) lists) same
 
 pub entries_begin : (lists : List Prefix) (proof : Proof) → lists ≡ proof.lists → 0 + sum_by (λ (p : Prefix). length p.entries) lists ≡ shown_entries proof
 entries_begin lists proof are = zero-add (sum_by (λ (p : Prefix). length p.entries) lists) ∙ ap (λ (all : List Prefix). sum_by (λ (p : Prefix). length p.entries) all) are
@@ -120,15 +107,6 @@ pub record AreFirst (H : List ℕ → List ℕ) (archive : Archive) (queries : L
   pub each : (i : ℕ) (d : List (List ℕ × ℕ)) (e : Proof) → i < length proofs → IsTried H archive (get_or queries i d) algorithm (get_or proofs i e)
   pub same : tally ≡ tally_of proofs
 
-pub first_none : (H : List ℕ → List ℕ) (archive : Archive) (queries : List (List (List ℕ × ℕ))) (algorithm : Algorithm)
-    → AreFirst H archive queries algorithm 0 (record { accepted = 0; entries = 0; bytes = 0; right = 0 })
-first_none H archive queries algorithm = record {
-  proofs = [];
-  many = refl;
-  each = λ i d e inside. absurd (omega (arith, inside));
-  same = refl;
-}
-
 pub first_more : (H : List ℕ → List ℕ) (archive : Archive) (queries : List (List (List ℕ × ℕ))) (algorithm : Algorithm) (count : ℕ) (before now : Tally) (proof : Proof)
     → AreFirst H archive queries algorithm count before → ((d : List (List ℕ × ℕ)) → IsTried H archive (get_or queries count d) algorithm proof)
     → now ≡ counted proof before → AreFirst H archive queries algorithm (count + 1) now
@@ -147,11 +125,6 @@ first_more H archive queries algorithm count before now proof first own is = rec
       ];
   same = is ∙ ap (counted proof) first.same ∙ one_more first.proofs proof;
 }
-
-pub first_all : (H : List ℕ → List ℕ) (archive : Archive) (queries : List (List (List ℕ × ℕ))) (algorithm : Algorithm) (count : ℕ) (tally : Tally)
-    → AreFirst H archive queries algorithm count tally → count ≡ length queries
-    → (proofs : List Proof) × AreTried H archive queries algorithm proofs × (tally ≡ tally_of proofs)
-first_all H archive queries algorithm count tally first all = (first.proofs, record { many = first.many ∙ all; each = first.each }, first.same)
 
 -- ---- the queries
 
@@ -182,16 +155,6 @@ query_stops H number i query.NoTerm low before first = inl (record { i = i; insi
 query_stops H number i (query.TooManyWords count) low before first = inl (record { i = i; inside = low; before = before; fault = query.TooManyWords count; first = first; same = refl })
 query_stops H number i (query.TooManyTerms distinct) low before first = inl (record { i = i; inside = low; before = before; fault = query.TooManyTerms distinct; first = first; same = refl })
 query_stops H number i query.OutOfMemory low before first = tt
-
-pub proof_stops : (H : List ℕ → List ℕ) (archive : Archive) (query : List (List ℕ × ℕ)) (algorithm : Algorithm) (fault : ProveFault)
-    → IsFault H archive query 10 algorithm (2 ^ 26) fault → IsTryStop H archive query algorithm (stop_of_proof fault)
-proof_stops H archive query algorithm (proof.ProofTooLong bytes) is = (bytes, is, refl)
-proof_stops H archive query algorithm proof.OutOfMemory is = tt
-
-pub collection_stops : (H : List ℕ → List ℕ) (number : ℕ) (texts : List (List ℕ)) (fault : CollectionFault) → AreWithin texts
-    → (fault ≡ collection.OutOfMemory) ⊎ (¬ AreWithin texts) → IsTrialStop H number (stop_of_collection fault)
-collection_stops H number texts fault within (inl memory) = subst (λ (f : CollectionFault). IsTrialStop H number (stop_of_collection f)) (sym memory) tt
-collection_stops H number texts fault within (inr out) = absurd (out within)
 
 module _ (H : List ℕ → List ℕ) (archive : Archive) (queries : List (List (List ℕ × ℕ))) where
   made_at : (algorithm : Algorithm) (k : ℕ) (proofs : List Proof) (d : List (List ℕ × ℕ))

@@ -6,7 +6,7 @@ use Rattle.ats_top.specs.Words.{Command, command_of}
 use Rattle.ats_top.specs.Reading.{ReadsAlone, Serves, stores}
 use Rattle.ats_top.specs.Run.{Said, Prints, PrintsStop}
 use Rattle.ats_top.specs.declared.stops.Stop.{Stop}
-use Rattle.ats_top.specs.declared.stops.Stop.TheVariants.{Shelf, Link}
+use Rattle.ats_top.specs.declared.stops.Stop.TheVariants.{Shelf}
 use Rattle.ats_top.proofs.Readings.{stores_no_file}
 
 -- whatever the stop
@@ -45,13 +45,3 @@ shelf_status before now result (inr (has, prints)) not_shelf not_failed = has
 pub other_stop : (before now : SinkTold) (stop : Stop) (result : ℕ) → PrintsStop before now stop result → result ≢ 3 → result ≢ 7 → stop ≢ Shelf
 other_stop before now stop result prints not_shelf not_failed same =
     shelf_status before now result (subst (λ (s : Stop). PrintsStop before now s result) same prints) not_shelf not_failed
-
--- likewise that of a fault of a link is 8
-link_status : (before now : SinkTold) (result : ℕ) → PrintsStop before now Link result → result ≢ 8 → result ≢ 7 → ⊥
-link_status before now result (inl (inl (printed, is, took))) not_link not_failed = not_link is
-link_status before now result (inl (inr (is, failed))) not_link not_failed = not_failed is
-link_status before now result (inr (has, prints)) not_link not_failed = has
-
-pub unlinked_stop : (before now : SinkTold) (stop : Stop) (result : ℕ) → PrintsStop before now stop result → result ≢ 8 → result ≢ 7 → stop ≢ Link
-unlinked_stop before now stop result prints not_link not_failed same =
-    link_status before now result (subst (λ (s : Stop). PrintsStop before now s result) same prints) not_link not_failed

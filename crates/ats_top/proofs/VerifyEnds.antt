@@ -10,7 +10,7 @@ use Rattle.ats_top.specs.Words.{VerifyWords, Verify}
 use Rattle.ats_top.specs.Print.{lines}
 use Rattle.ats_top.specs.Read.{IsFile}
 use Rattle.ats_top.specs.Refusals.{AsksRanking}
-use Rattle.ats_top.specs.ReadStops.{ProofStop, BytesStop}
+use Rattle.ats_top.specs.ReadStops.{BytesStop}
 use Rattle.ats_top.specs.Done.{IsVerified}
 use Rattle.ats_top.specs.Run.{FilesStop}
 use Rattle.ats_top.specs.declared.stops.Stop.{Stop}
@@ -21,19 +21,6 @@ pub asks_of : (r : ℕ) (text : List ℕ) (query : List (List ℕ × ℕ)) → (
 asks_of r text query within asked = record { rows = record { some = within.0; few = within.1 }; query = asked.has }
 
 module _ (H : List ℕ → List ℕ) (before now : ShelfTold) (words : VerifyWords) (asks : AsksRanking words.r words.query) (same : now.files ≡ before.files) where
-  -- a file that was not gathered
-  pub file_stops : (stop : Stop) → ProofStop before now words.proof stop → FilesStop H before now (Verify words) stop
-  file_stops Usage stops = stops
-  file_stops Shelf (inl rose) = (inl (asks, rose), inl same)
-  file_stops Shelf (inr missing) = (inr (asks, missing), inl same)
-  file_stops (Input line) stops = absurd stops
-  file_stops (Rejected line) (rejection, long, printed) = (inl (rejection, (asks, inl long), printed), same)
-  file_stops Memory stops = same
-  file_stops Link stops = absurd stops
-  file_stops (Peer line) stops = absurd stops
-  file_stops (Faults count) stops = absurd stops
-  file_stops (Collision lines) stops = absurd stops
-
   module _ (query : List (List ℕ × ℕ)) (bytes : List ℕ) (asked : IsQueryOf words.query query) (file : IsFile before.files words.proof (2 ^ 26) bytes) where
     bytes_stop : (stop : Stop) → BytesStop H words.root query words.r bytes stop → FilesStop H before now (Verify words) stop
     bytes_stop Usage stops = stops

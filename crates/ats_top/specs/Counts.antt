@@ -1,6 +1,6 @@
 -- How the counts of faults stand after a run, and after a part of one: a fault ends the command.
 use Rattle.std.specs.Prelude.{◌≡◌, ◌≢◌, ℕ, true, Result, Ok, Err}
-use Rattle.ats_base.specs.Outside.{Rose, ShelfTold, SinkTold}
+use Rattle.ats_base.specs.Outside.{Rose, ShelfTold}
 use Rattle.ats_base.specs.Links.{CallerTold}
 use Rattle.ats_top.specs.Outside.{Outside}
 use Rattle.ats_top.specs.declared.stops.Stop.{Stop}

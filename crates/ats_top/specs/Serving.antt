@@ -1,5 +1,5 @@
 -- Links from a door, served one after another.
-use Rattle.std.specs.Prelude.{◌≡◌, ◌<◌, ◌≤◌, ◌+◌, ◌++◌, ◌∷◌, ℕ, Bool, true, false, List, [], length, take, fold, count_by, is_some, option_map, codes, decimal, Result, Ok, Err}
+use Rattle.std.specs.Prelude.{◌≡◌, ◌<◌, ◌≤◌, ◌+◌, ◌++◌, ◌∷◌, ℕ, Bool, true, List, [], length, take, fold, count_by, is_some, option_map, codes, decimal, Result, Ok, Err}
 use Rattle.std.specs.List.{All}
 use Rattle.ats_base.specs.Outside.{Rose, SinkTold}
 use Rattle.ats_base.specs.Links.{LinkTold, Opening, DoorTold, IsNew, counted_broken, counting_accept, accepting_out, accepted_back}

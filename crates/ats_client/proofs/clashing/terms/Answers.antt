@@ -1,4 +1,4 @@
-use Rattle.std.proofs.Common.{◌≡◌, ◌≤◌, List, ℕ, length, refl, sym, ap, subst, arith}
+use Rattle.std.proofs.Common.{◌≤◌, length, refl, sym, ap, subst, arith}
 use Rattle.std.specs.List.{All}
 use Rattle.ats_tree.specs.Shown.{Shown}
 use Rattle.ats_doctree.specs.declared.doc_leaf.DocLeaf.{DocLeaf}

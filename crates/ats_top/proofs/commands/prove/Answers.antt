@@ -1,4 +1,4 @@
-use Rattle.std.proofs.Common.{ℕ, List, subst, inl, arith}
+use Rattle.std.proofs.Common.{ℕ, List, subst, inl}
 use Rattle.std.proofs.lemmas.Result.{err_from_is_err_and}
 use Rattle.ats_base.specs.Outside.{Puts}
 use Rattle.ats_top.specs.Words.{Prove}

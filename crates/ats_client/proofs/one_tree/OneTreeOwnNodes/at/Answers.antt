@@ -1,4 +1,4 @@
-use Rattle.std.proofs.Common.{◌≡◌, ◌<◌, ◌∙◌, List, ℕ, length, sym, ap, subst}
+use Rattle.std.proofs.Common.{◌∙◌, sym, ap, subst}
 use Rattle.ats_tree.specs.Nodes.{NodeNumbers}
 use Rattle.ats_tree.proofs.Public.{numbers-back}
 use Rattle.ats_commit.specs.Ours.{ours}
