@@ -6,8 +6,8 @@ usage: bench/slowest.py CRATE [CRATE ..]
 Each crate is checked alone, by one process, from nothing: the command of `rt check` is run again without the work that
 earlier checks kept. The libraries below it must be built, which `rt check` in its folder does. As each function is
 reported, the processor time of the check so far is read, so other work on the machine matters little. The first
-function's time includes reading the libraries, and a function's includes the lemma files that are checked for it.
-Linux only: the times come from /proc.
+function's time includes reading the libraries, so it is on the crate's line and not in the list. A function's time
+includes the lemma files that are checked for it. Linux only: the times come from /proc.
 """
 
 import os
@@ -105,9 +105,10 @@ def main():
     every = []
     for crate in crates:
         times, whole = times_of(crate)
-        every += times
+        every += times[1:]
+        first = times[0][0] if times else 0
         rest = whole - sum(seconds for seconds, _ in times)
-        print(f"{crate}: {whole:.0f} s, {len(times)} functions, {rest:.0f} s after the last")
+        print(f"{crate}: {whole:.0f} s, {len(times)} functions, {first:.0f} s to the first, {rest:.0f} s after the last")
     for seconds, name in sorted(every, reverse=True)[:MOST]:
         print(f"{seconds:7.1f} s  {name}")
 
