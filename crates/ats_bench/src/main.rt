@@ -16,6 +16,9 @@
 //!   another file. It prints for each time the microseconds of the check and of the audit.
 //! - `build TEXTS TIMES` builds the index of a file's texts, one a line, by one thread and by several, and loads it,
 //!   TIMES times. It prints for each time the microseconds of the three.
+//! - `blocks TIMES` rebuilds and keeps a list of 65,536 entries in blocks, TIMES times. It prints for each time the
+//!   microseconds of 4,000 fronts of one entry and of their strings, of the whole list in blocks and as one tree, and of
+//!   the digests kept and of as many strings.
 //!
 //! The program stands on the rooms below it and promises nothing of its own. Each kind of work may change as a script
 //! needs it.
@@ -24,6 +27,7 @@
 ghost use Rattle.std.specs.Prelude.{◌≡◌, ◌+◌, ◌<◌, ◌^◌};
 
 mod auditing;
+mod blocks;
 mod building;
 mod checking;
 mod reading;
@@ -31,6 +35,7 @@ mod walking;
 
 use ats_hash::{Hash32, Sha, Steps};
 use auditing::time_audits;
+use blocks::time_blocks;
 use building::time_builds;
 use checking::{check_proof, hash_strings};
 use reading::{feed_proof, hash_proof, read_proof};
@@ -106,6 +111,7 @@ fn work(rt: &HostRuntime, threads: &(impl Threads + Sync), words: &[String]) -> 
         [job, sizes, times] if job.as_str() == "strings" => {
             hash_strings(rt, sizes.as_str(), number(times)?)
         }
+        [job, times] if job.as_str() == "blocks" => time_blocks(rt, number(times)?),
         [job, texts, times] if job.as_str() == "build" => {
             time_builds(rt, threads, texts.as_str(), number(times)?)
         }
