@@ -1,0 +1,87 @@
+-- A command leaves the files as they were, or as its plan allows.
+use Rattle.std.proofs.Common.{◌≡◌, ◌⊎◌, ◌∙◌, ℕ, List, length, inl, inr, ap, subst, arith}
+use Rattle.std.proofs.Math.Seq.{take-length}
+use Rattle.ats_base.specs.Outside.{ShelfTold, IsLonger, Puts}
+use Rattle.ats_plan.specs.Files.{Files, IsFile, PutsPart}
+use Rattle.ats_plan.specs.Plan.{Plan, Finishes, Stores, Fails, Tries, Gets, Makes, Reads, Leaves}
+use Rattle.ats_plan.specs.Runs.{HasRead, Does, Stops}
+
+-- all of the bytes are a prefix of them
+puts_all : (before now : Files) (name bytes : List ℕ) → Puts before now name bytes → PutsPart before now name bytes
+puts_all before now name bytes puts = record {
+  n = length bytes;
+  within = omega arith;
+  stored = rw (take-length bytes) puts;
+}
+
+same_files : (before now : ShelfTold) → now ≡ before → now.files ≡ before.files
+same_files before now same = ap (λ (told : ShelfTold). told.files) same
+
+-- what a later step leaves is what the plan allows
+left_past : {A B C : Type 0} → A ⊎ B → (B → C) → A ⊎ C
+left_past (inl same) on = inl same
+left_past (inr leaves) on = inr (on leaves)
+
+module _ {F : Type 0} (name : List ℕ) (limit : ℕ) (long : Plan F) (rest : List ℕ → Plan F) (before mid : ShelfTold) (now : Files) (read : HasRead before mid name limit) where
+  left_read : (bytes : List ℕ) → IsFile before.files name limit bytes → (now ≡ mid.files) ⊎ Leaves mid.files now (rest bytes)
+      → (now ≡ before.files) ⊎ Leaves before.files now (Reads name limit long rest)
+  left_read bytes file (inl same) = inl (same ∙ read.files)
+  left_read bytes file (inr leaves) = inr (inr (bytes, file, subst (λ (files : Files). Leaves files now (rest bytes)) read.files leaves))
+
+  left_long : IsLonger before.files name limit → (now ≡ mid.files) ⊎ Leaves mid.files now long
+      → (now ≡ before.files) ⊎ Leaves before.files now (Reads name limit long rest)
+  left_long longer (inl same) = inl (same ∙ read.files)
+  left_long longer (inr leaves) = inr (inl (longer, subst (λ (files : Files). Leaves files now long) read.files leaves))
+
+pub does_leaves : {F : Type 0} (plan : Plan F) (before now : ShelfTold) (text : List ℕ) → Does plan before now text
+    → (now.files ≡ before.files) ⊎ Leaves before.files now.files plan
+does_leaves (Finishes says) before now text (same, holds) = inl (same_files before now same)
+does_leaves (Stores name bytes says) before now text (asked, counts, puts, holds) = inr (puts_all before.files now.files name bytes puts)
+does_leaves (Fails fault) before now text done = absurd done
+does_leaves (Tries kept fault rest) before now text (is, done) = left_past (does_leaves rest before now text done) (λ leaves. (is, leaves))
+does_leaves (Gets A is fault rest) before now text (a, holds, done) = left_past (does_leaves (rest a) before now text done) (λ leaves. (a, holds, leaves))
+does_leaves (Makes A is rest) before now text (a, holds, done) = left_past (does_leaves (rest a) before now text done) (λ leaves. (a, holds, leaves))
+does_leaves (Reads name limit long rest) before now text (mid, read, counts, inl (longer, done)) =
+    left_long name limit long rest before mid now.files read longer (does_leaves long mid now text done)
+does_leaves (Reads name limit long rest) before now text (mid, read, counts, inr (bytes, file, done)) =
+    left_read name limit long rest before mid now.files read bytes file (does_leaves (rest bytes) mid now text done)
+
+module _ {F : Type 0} (shelf memory : F) where
+  pub stops_leaves : (plan : Plan F) (before now : ShelfTold) (stop : F) → Stops shelf memory plan before now stop
+      → (now.files ≡ before.files) ⊎ Leaves before.files now.files plan
+  stops_leaves (Finishes says) before now stop (same, is) = inl (same_files before now same)
+  stops_leaves (Stores name bytes says) before now stop (inl (same, is)) = inl (same_files before now same)
+  stops_leaves (Stores name bytes says) before now stop (inr (is, later, rose, asked, files)) = files
+  stops_leaves (Fails fault) before now stop (same, is) = inl (same_files before now same)
+  stops_leaves (Tries kept fault rest) before now stop (inl (same, is)) = inl (same_files before now same)
+  stops_leaves (Tries kept fault rest) before now stop (inr (is, later)) = left_past (stops_leaves rest before now stop later) (λ leaves. (is, leaves))
+  stops_leaves (Gets A is fault rest) before now stop (inl (same, here)) = inl (same_files before now same)
+  stops_leaves (Gets A is fault rest) before now stop (inr (a, holds, later)) = left_past (stops_leaves (rest a) before now stop later) (λ leaves. (a, holds, leaves))
+  stops_leaves (Makes A is rest) before now stop (inl (same, here)) = inl (same_files before now same)
+  stops_leaves (Makes A is rest) before now stop (inr (a, holds, later)) = left_past (stops_leaves (rest a) before now stop later) (λ leaves. (a, holds, leaves))
+  stops_leaves (Reads name limit long rest) before now stop (inl (same, is)) = inl (same_files before now same)
+  stops_leaves (Reads name limit long rest) before now stop (inr (inl (read, unread))) = inl read.files
+  stops_leaves (Reads name limit long rest) before now stop (inr (inr (mid, read, counts, inl (longer, later)))) =
+      left_long name limit long rest before mid now.files read longer (stops_leaves long mid now stop later)
+  stops_leaves (Reads name limit long rest) before now stop (inr (inr (mid, read, counts, inr (bytes, file, later)))) =
+      left_read name limit long rest before mid now.files read bytes file (stops_leaves (rest bytes) mid now stop later)
+
+  -- a stop for another cause than the shelf leaves the files as they were
+  pub stops_files : (plan : Plan F) (before now : ShelfTold) (stop : F) → Stops shelf memory plan before now stop → (stop ≡ shelf → ⊥)
+      → now.files ≡ before.files
+  stops_files (Finishes says) before now stop (same, is) other = same_files before now same
+  stops_files (Stores name bytes says) before now stop (inl (same, is)) other = same_files before now same
+  stops_files (Stores name bytes says) before now stop (inr (is, later, rose, asked, files)) other = absurd (other is)
+  stops_files (Fails fault) before now stop (same, is) other = same_files before now same
+  stops_files (Tries kept fault rest) before now stop (inl (same, is)) other = same_files before now same
+  stops_files (Tries kept fault rest) before now stop (inr (is, later)) other = stops_files rest before now stop later other
+  stops_files (Gets A is fault rest) before now stop (inl (same, here)) other = same_files before now same
+  stops_files (Gets A is fault rest) before now stop (inr (a, holds, later)) other = stops_files (rest a) before now stop later other
+  stops_files (Makes A is rest) before now stop (inl (same, here)) other = same_files before now same
+  stops_files (Makes A is rest) before now stop (inr (a, holds, later)) other = stops_files (rest a) before now stop later other
+  stops_files (Reads name limit long rest) before now stop (inl (same, is)) other = same_files before now same
+  stops_files (Reads name limit long rest) before now stop (inr (inl (read, unread))) other = read.files
+  stops_files (Reads name limit long rest) before now stop (inr (inr (mid, read, counts, inl (longer, later)))) other =
+      stops_files long mid now stop later other ∙ read.files
+  stops_files (Reads name limit long rest) before now stop (inr (inr (mid, read, counts, inr (bytes, file, later)))) other =
+      stops_files (rest bytes) mid now stop later other ∙ read.files

@@ -1,0 +1,11 @@
+pub mod Public
+mod Avoids
+mod Calls
+mod Causes
+mod Counts
+mod Files
+mod Leads
+mod Left
+mod Refusals
+mod Steps
+mod Stopping
