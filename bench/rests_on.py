@@ -36,7 +36,7 @@ COMMANDS = {
     "root": "IsRooted",
     "prove": "IsProofStored",
     "verify": "IsVerified",
-    "ask": "IsAnswered",
+    "ask": "IsReplyVerified",
     "serve": "AreAllServed",
     "audit": "IsAuditedRight",
     "sweep": "IsSwept",
@@ -258,8 +258,9 @@ class House:
         self.files = {}
         for crate in CRATES:
             folder = HOUSE / "crates" / crate
-            for path in sorted(folder.glob("specs/*.antt")):
-                self.files[crate, f"specs/{path.name}"] = definitions(crate, f"specs/{path.name}")
+            for path in sorted(folder.glob("specs/**/*.antt")):
+                name = path.relative_to(folder).as_posix()
+                self.files[crate, name] = definitions(crate, name)
             for path in sorted(folder.glob("src/*.rt")):
                 self.files[crate, f"src/{path.name}"] = code(crate, f"src/{path.name}")
 
@@ -272,7 +273,7 @@ class House:
             return None
         if path[1] == "declared":
             return self.in_code(crate, path[2], path[3] if len(path) > 3 else name)
-        file = self.files[crate, f"specs/{path[1]}.antt"]
+        file = self.files[crate, "/".join(path) + ".antt"]
         if name in file.pieces or name in file.members:
             return Key(crate, file.path, file.members.get(name, name))
         if name in file.exports:
@@ -380,7 +381,7 @@ def asked(house, name):
 
 def by_file(keys):
     """The pieces by crate and file, from the crate on top down; specs/ before src/."""
-    order = re.findall(r"^(\w+):", (HOUSE / "crates.txt").read_text(), re.M)
+    order = re.findall(r"^(\w+)[ \w]*:", (HOUSE / "crates.txt").read_text(), re.M)
     groups = collections.defaultdict(list)
     for key in sorted(keys):
         if key.crate != "library":

@@ -9,10 +9,12 @@ use Rattle.ats_wire.specs.Connections.{is_fault}
 use Rattle.ats_wire.specs.declared.reply.Reply.{Reply}
 use Rattle.ats_wire.specs.declared.serving.Served.{Served}
 use Rattle.ats_top.specs.Words.{ServeWords}
-use Rattle.ats_top.specs.Read.{Files, HasIndex}
+use Rattle.ats_plan.specs.Files.{Files}
+use Rattle.ats_top.specs.Read.{HasIndex}
 use Rattle.ats_top.specs.Answering.{gives}
-use Rattle.ats_top.specs.Serving.{Session, HadSessions, DoorAndSink, Took, FailedToTake, IsUntold, EndsServing, ServesLinks, faults_of, line_of_session, session_lines}
-use Rattle.ats_top.specs.Served.{Listened, HasServed, Attends, serving_text}
+use Rattle.ats_top.specs.Serving.{Session, HadSessions, Took, FailedToTake, faults_of, line_of_session, session_lines}
+use Rattle.ats_top.specs.Inner.Serving.{DoorAndSink, IsUntold, EndsServing, ServesLinks, Attends}
+use Rattle.ats_top.specs.Served.{Listened, HasServed, serving_text}
 use Rattle.ats_top.specs.declared.serving.Halt.{Halt}
 use Rattle.ats_top.specs.declared.serving.Halt.TheVariants.{Door, Sink, Memory}
 use Rattle.ats_top.proofs.Sessions.{had_then, took_then, failed_then, lines_then, faults_then}

@@ -1,33 +1,22 @@
 -- What follows from how a command ended and what it printed.
-use Rattle.std.proofs.Common.{◌≡◌, ◌≢◌, ◌⊎◌, ◌≤◌, ◌∙◌, ℕ, List, length, Some, None, IsSome, refl, sym, ap, subst, inl, inr, arith, take_all}
-use Rattle.ats_base.specs.Outside.{Rose, ShelfTold, Asked, Puts}
-use Rattle.ats_tree.specs.Differences.{Difference}
-use Rattle.ats_tree.specs.declared.hashed.Place.{Place}
-use Rattle.ats_client.specs.declared.fault.Rejection.{Rejection}
-use Rattle.ats_top.specs.Words.{SweepWords, TrialWords, Command, Rank, Build, Root, Prove, Verify, Ask, Serve, Audit, Sweep, Trial, command_of}
+use Rattle.std.proofs.Common.{◌≡◌, ◌≢◌, ◌⊎◌, ◌≤◌, ◌∙◌, ℕ, List, Some, None, refl, sym, ap, subst, inl, inr, arith}
+use Rattle.ats_base.specs.Outside.{Rose, ShelfTold, StoresOnce}
+use Rattle.ats_plan.specs.Plan.{Refuses, Passes, ComesToShelf, IsKnown, LacksFirst, Leaves}
+use Rattle.ats_plan.specs.Runs.{IsDone, IsStopped}
+use Rattle.ats_plan.specs.Sound.{IsSound}
+use Rattle.ats_plan.proofs.Public.{Cause, Refused, Wanted, Broken, stop_cause, one_refusal, passes_kept, does_passes, does_asked, does_counts, does_later, does_leaves, does_untouched, stops_asked, stops_alone, stops_counts, stops_files, stops_later, stops_leaves, stops_uncounted, stops_untouched}
+use Rattle.ats_top.specs.Words.{Command, command_of}
 use Rattle.ats_top.specs.Stops.{End, Done, Stopped, Unprinted, status_of, status_of_stop, text_of}
 use Rattle.ats_top.specs.Outside.{Outside}
-use Rattle.ats_top.specs.Read.{Files, IsTold}
-use Rattle.ats_top.specs.Calling.{HasCalled, HasOpened, ReplyDecides}
-use Rattle.ats_top.specs.Reading.{reads, AsksFor, IsFirstMissing, ReadsAlone, Serves}
-use Rattle.ats_top.specs.Refusals.{NeedsShelf, LacksFile, IsRefused}
-use Rattle.ats_top.specs.Rejected.{IsRejected}
-use Rattle.ats_top.specs.Audited.{HasCollision}
-use Rattle.ats_top.specs.Done.{IsDone, PutsPart, Changes, HasInput, IsServed}
-use Rattle.ats_top.specs.Findings.{Finding, AreFound, IsSwept, status_of_findings}
-use Rattle.ats_top.specs.Trial.{IsTrialRefused}
-use Rattle.ats_top.specs.Run.{Said, HasShelfCause, IsStopped, Ends, Ended, IsStatus, SinkFailed, DoorFailed, LinkFailed, Failed, HasTried, Ran}
-use Rattle.ats_top.specs.Serving.{Took}
+use Rattle.ats_top.specs.Commands.{plan_of}
+use Rattle.ats_top.specs.Calling.{HasCalled, HasOpened}
 use Rattle.ats_top.specs.Counts.{CountsFaults}
+use Rattle.ats_top.specs.Serving.{Took}
+use Rattle.ats_top.specs.Run.{Said, IsCompleted, StoppedEarly, StoppedLate, IsHalted, RunEnds, Ended, IsStatus, StopDecides, PassingDecides, HeardDecides, Decides, Excuse, NoMemory, SinkFailed, ShelfFailed, CallerFailed, DoorBroke, HasAsked, Ran}
 use Rattle.ats_top.specs.declared.stops.Stop.{Stop}
 use Rattle.ats_top.specs.declared.stops.Stop.TheVariants.{Usage, Shelf, Input, Rejected, Memory, Link, Peer, Faults, Collision}
-use Rattle.ats_top.proofs.Refused.{served_kept, done_kept, missing_kept, input_there, served_input, trial_asks, trial_kept, trial_done_kept}
-use Rattle.ats_top.proofs.LinkEnds.{links_there, links_refused, links_rejected, links_collided, links_served, links_files, unprinted_files, replied_stop, replied_done}
-use Rattle.ats_top.proofs.Rejecting.{input_kept, rejected_there, rejected_kept}
-use Rattle.ats_top.proofs.SweepKept.{found_kept}
-use Rattle.ats_top.proofs.OneSweep.{one_sweep_status}
-use Rattle.ats_top.proofs.SweepEnds.{swept_input, swept_kept, swept_unrejected, swept_uncollided, swept_unserved}
-use Rattle.ats_top.proofs.AuditEnds.{collision_input, collision_kept, collision_unserved, collision_undone}
+use Rattle.ats_top.proofs.NoUsage.{halted_otherwise}
+use Rattle.ats_top.proofs.LinkEnds.{served_passes, links_wait, links_served, replied_calls, replied_passes, replied_unread, replied_done, replied_stop}
 
 -- the words of a command are one
 same_command : (said : List (List ℕ)) (command other : Command) → command_of said ≡ Some command → command_of said ≡ Some other → command ≡ other
@@ -47,6 +36,18 @@ never_done Link = omega arith
 never_done (Peer line) = omega arith
 never_done (Faults count) = omega arith
 never_done (Collision lines) = omega arith
+
+-- 2 is the status of one stop
+only_usage : (stop : Stop) → status_of_stop stop ≡ 2 → stop ≡ Usage
+only_usage Usage two = refl
+only_usage Shelf two = absurd (omega (arith, two))
+only_usage (Input line) two = absurd (omega (arith, two))
+only_usage (Rejected lines) two = absurd (omega (arith, two))
+only_usage Memory two = absurd (omega (arith, two))
+only_usage Link two = absurd (omega (arith, two))
+only_usage (Peer line) two = absurd (omega (arith, two))
+only_usage (Faults count) two = absurd (omega (arith, two))
+only_usage (Collision lines) two = absurd (omega (arith, two))
 
 -- each end has a status
 has_status : (end : End) → IsStatus (status_of end)
@@ -73,430 +74,263 @@ was_printed (Done text) result not is = tt
 was_printed (Stopped text stop) result not is = tt
 was_printed (Unprinted text) result not is = not is
 
--- what is done had words within the limits, and a file of the form that the command reads
-done_input : (H : List ℕ → List ℕ) (before now : Outside) (command : Command) (text : List ℕ) → IsDone H before now command text → HasInput H before.shelf.files command
-done_input H before now (Rank words) text (ranked, same) = (ranked.asks, (ranked.texts, ranked.collection))
-done_input H before now (Build words) text built = (built.texts, built.collection)
-done_input H before now (Root words) text (rooted, same) = (rooted.archive, rooted.index)
-done_input H before now (Prove words) text done = (done.asks, (done.proof.archive, done.proof.index))
-done_input H before now (Ask words) text (answered, same) = answered.accepted.replied.asks
-done_input H before now (Verify words) text (verified, same) = (verified.asks, verified.accepted)
-done_input H before now (Serve words) text (all, same) = (all.served.archive, all.served.index)
-done_input H before now (Audit words) text (right, same) = (right.asks, (None, right.audited))
-done_input H before now (Sweep words) text (swept, same) = (swept.findings, swept.found)
-done_input H before now (Trial words) text (tried, same) = trial_asks H words.number text tried
-
--- all bytes are a prefix of them
-whole_part : (before now : Files) (name bytes : List ℕ) → Puts before now name bytes → PutsPart before now name bytes
-whole_part before now name bytes stored = record {
-  n = length bytes;
-  within = omega arith;
-  stored = subst (λ b. Puts before now name b) (sym (take_all (length bytes) bytes (omega arith))) stored;
-}
-
--- what is done changes no more than the command may
-done_changes : (H : List ℕ → List ℕ) (before now : Outside) (command : Command) (text : List ℕ) → IsDone H before now command text
-    → (now.shelf.files ≡ before.shelf.files) ⊎ Changes H before.shelf.files now.shelf.files command
-done_changes H before now (Rank words) text (ranked, same) = inl same
-done_changes H before now (Build words) text built = inr (record {
-  texts = built.texts;
-  bytes = built.bytes;
-  collection = built.collection;
-  spelling = built.spelling;
-  part = whole_part before.shelf.files now.shelf.files words.index built.bytes built.stored;
-})
-done_changes H before now (Root words) text (rooted, same) = inl same
-done_changes H before now (Prove words) text done = inr (record {
-  asks = done.asks;
-  bytes = done.bytes;
-  proof = done.proof;
-  part = whole_part before.shelf.files now.shelf.files words.proof done.bytes done.stored;
-})
-done_changes H before now (Ask words) text (answered, same) = inl same
-done_changes H before now (Verify words) text (verified, same) = inl same
-done_changes H before now (Serve words) text (all, same) = inl same
-done_changes H before now (Audit words) text (right, same) = inl same
-done_changes H before now (Sweep words) text (swept, same) = inl same
-done_changes H before now (Trial words) text (tried, same) = inl same
-
--- of a run
 module _ (H : List ℕ → List ℕ) (said : List (List ℕ)) (before now : Outside) where
   -- a condition on the command of the words holds for the command that ended
   its : (P : Command → Type 0) (command : Command) → Said said P → command_of said ≡ Some command → P command
   its P command is also = subst P (same_command said is.0 command is.1 also) is.2
 
-  -- the status is this one, or 6, or the shelf's count rose and it is 3
-  abbrev Comes : ℕ → ℕ → Type 0
-  Comes k status = (status ≡ k) ⊎ ((status ≡ 6) ⊎ ((status ≡ 3) × Rose before.shelf.faults now.shelf.faults))
+  -- ---- the status
 
-  -- the status is 0, or 6, or that of the shelf or of the door, which failed
-  abbrev IsServedBy : ℕ → Type 0
-  IsServedBy status = DoorFailed before.door now.door status ⊎ Comes 0 status
+  -- it is this one, or has an excuse
+  abbrev Agrees : ℕ → ℕ → Type 0
+  Agrees k status = (status ≡ k) ⊎ Excuse H said before now status
 
-  unsaid_end : command_of said ≡ None → (end : End) → IsPrinted end → Ends H before now said end → status_of end ≡ 2
+  unsaid_end : command_of said ≡ None → (end : End) → IsPrinted end → RunEnds H before now said end → status_of end ≡ 2
   unsaid_end none (Unprinted text) printed ends = absurd printed
   unsaid_end none (Done text) printed ends = absurd (no_command said ends.0 none ends.1)
-  unsaid_end none (Stopped text Usage) printed ends = refl
-  unsaid_end none (Stopped text Shelf) printed ends = absurd (no_command said ends.0 none ends.1)
-  unsaid_end none (Stopped text (Input line)) printed ends = absurd (no_command said ends.0 none ends.1)
-  unsaid_end none (Stopped text (Rejected lines)) printed ends = absurd (no_command said ends.0 none ends.1)
-  unsaid_end none (Stopped text Memory) printed ends = absurd (no_command said ends.0 none ends.1)
-  unsaid_end none (Stopped text Link) printed ends = absurd (no_command said ends.0 none ends.1)
-  unsaid_end none (Stopped text (Peer line)) printed ends = absurd (no_command said ends.0 none ends.1)
-  unsaid_end none (Stopped text (Faults count)) printed ends = absurd (no_command said ends.0 none ends.1)
-  unsaid_end none (Stopped text (Collision lines)) printed ends = absurd (no_command said ends.0 none ends.1)
+  unsaid_end none (Stopped text stop) printed (inl unsaid) = ap status_of_stop unsaid.usage
+  unsaid_end none (Stopped text stop) printed (inr halted) = absurd (no_command said halted.0 none halted.1)
 
-  -- what the status is of what the command of the words did, and of why it stopped, it is of their end
-  module _ (P : ℕ → Type 0) (command : Command) (is : command_of said ≡ Some command)
-      (done : (text : List ℕ) → IsDone H before now command text → P 0)
-      (stopped : (text : List ℕ) (stop : Stop) → IsStopped H before now command text stop → P (status_of_stop stop)) where
-    stop_end : (text : List ℕ) (stop : Stop) → Said said (λ c. IsStopped H before now c text stop) → P (status_of_stop stop)
-    stop_end text stop ends = stopped text stop (its (λ c. IsStopped H before now c text stop) command ends is)
+  usage_end : (end : End) → RunEnds H before now said end → status_of end ≡ 2 → command_of said ≡ None
+  usage_end (Done text) ends two = absurd (omega (arith, two))
+  usage_end (Unprinted text) ends two = absurd (omega (arith, two))
+  usage_end (Stopped text stop) (inl unsaid) two = unsaid.none
+  usage_end (Stopped text stop) (inr (command, is, halted)) two =
+      absurd (halted_otherwise H before now command text (subst (IsHalted H before now command text) (only_usage stop two) halted))
 
-    by_end : (end : End) → IsPrinted end → Ends H before now said end → P (status_of end)
-    by_end (Unprinted text) printed ends = absurd printed
-    by_end (Done text) printed ends = done text (its (λ c. IsDone H before now c text) command ends is)
-    by_end (Stopped text Usage) printed (empty, none, same) = absurd (no_command said command none is)
-    by_end (Stopped text Shelf) printed ends = stop_end text Shelf ends
-    by_end (Stopped text (Input line)) printed ends = stop_end text (Input line) ends
-    by_end (Stopped text (Rejected lines)) printed ends = stop_end text (Rejected lines) ends
-    by_end (Stopped text Memory) printed ends = stop_end text Memory ends
-    by_end (Stopped text Link) printed ends = stop_end text Link ends
-    by_end (Stopped text (Peer line)) printed ends = stop_end text (Peer line) ends
-    by_end (Stopped text (Faults count)) printed ends = stop_end text (Faults count) ends
-    by_end (Stopped text (Collision lines)) printed ends = stop_end text (Collision lines) ends
+  -- of the command of the words
+  module _ (command : Command) (is : command_of said ≡ Some command) where
+    -- what the status is of what the command did, and of why it stopped, it is of its end
+    module _ (P : ℕ → Type 0) (done : (text : List ℕ) → IsCompleted H before now command text → P 0)
+        (early : (text : List ℕ) (stop : Stop) → StoppedEarly H before now command text stop → P (status_of_stop stop))
+        (late : (text : List ℕ) (stop : Stop) → StoppedLate H before now command text stop → P (status_of_stop stop)) where
+      halted_end : (text : List ℕ) (stop : Stop) → IsHalted H before now command text stop → P (status_of_stop stop)
+      halted_end text stop (inl stops) = early text stop stops
+      halted_end text stop (inr stops) = late text stop stops
 
-  -- of the command of these words
-  module _ (command : Command) where
-    -- a file that is not there is a fault of the shelf
-    missing_stop : LacksFile H before.shelf.files command → (text : List ℕ) (stop : Stop) → IsStopped H before now command text stop
-        → (status_of_stop stop ≡ 3) ⊎ (status_of_stop stop ≡ 6)
-    missing_stop lacks text Usage (inl stops) = absurd stops.1
-    missing_stop lacks text Shelf (inl stops) = inl refl
-    missing_stop lacks text (Input line) (inl stops) = absurd (missing_kept H before.shelf.files command lacks line stops.1.0)
-    missing_stop lacks text (Rejected lines) (inl stops) = elim stops.1.0 [
-      | inl is ↦ absurd (rejected_there H before.shelf.files command lacks is.0 is.1)
-      | inr swept ↦ absurd (input_there H before.shelf.files command (swept_input H before.shelf.files command 1 lines swept) lacks)
-    ]
-    missing_stop lacks text Memory (inl stops) = inr refl
-    missing_stop lacks text Link (inl stops) = absurd stops.1
-    missing_stop lacks text (Peer line) (inl stops) = absurd stops.1
-    missing_stop lacks text (Faults count) (inl stops) = absurd stops.1
-    missing_stop lacks text (Collision lines) (inl stops) = elim stops.1.0 [
-      | inl is ↦ absurd (input_there H before.shelf.files command (collision_input H before.shelf.files command _ is.collides.collision) lacks)
-      | inr swept ↦ absurd (input_there H before.shelf.files command (swept_input H before.shelf.files command 5 lines swept) lacks)
-    ]
-    missing_stop lacks text stop (inr links) = absurd (links_there H before now command text stop links lacks)
+      by_end : (end : End) → IsPrinted end → RunEnds H before now said end → P (status_of end)
+      by_end (Unprinted text) printed ends = absurd printed
+      by_end (Done text) printed ends = done text (its (λ c. IsCompleted H before now c text) command ends is)
+      by_end (Stopped text stop) printed (inl unsaid) = absurd (no_command said command unsaid.none is)
+      by_end (Stopped text stop) printed (inr halted) = halted_end text stop (its (λ c. IsHalted H before now c text stop) command halted is)
 
-    -- a fault of the shelf, if no file is missing
-    shelf_stop : (k : ℕ) → (LacksFile H before.shelf.files command → ⊥) → HasShelfCause H before.shelf now.shelf command → Comes k 3
-    shelf_stop k there (inl rose) = inr (inr (refl, rose.1))
-    shelf_stop k there (inr lacks) = absurd (there lacks)
+    -- a stop whose cause is no refusal has an excuse
+    excused : (k : ℕ) (stop : Stop) → (Refuses Shelf before.shelf.files (plan_of H command) stop → status_of_stop stop ≡ k)
+        → Cause Shelf Memory (plan_of H command) before.shelf now.shelf stop → Agrees k (status_of_stop stop)
+    excused k stop refused (Refused refuses) = inl (refused refuses)
+    excused k stop refused (Wanted same) = inr (NoMemory (ap status_of_stop same) (command, is, tt))
+    excused k stop refused (Broken same comes rose) = inr (ShelfFailed (ap status_of_stop same) (command, is, comes) rose)
 
-    -- a refused input is served by no run
-    refused_stop : IsTold before.shelf.files → (line : List ℕ) → IsRefused H before.shelf.files command line → (text : List ℕ) (stop : Stop) → IsStopped H before now command text stop
-        → Comes 4 (status_of_stop stop)
-    refused_stop told line cause text Usage (inl stops) = absurd stops.1
-    refused_stop told line cause text Shelf (inl stops) = shelf_stop 4 (λ lacks. missing_kept H before.shelf.files command lacks line cause) stops.1.0
-    refused_stop told line cause text (Input other) (inl stops) = inl refl
-    refused_stop told line cause text (Rejected lines) (inl stops) = elim stops.1.0 [
-      | inl is ↦ absurd (rejected_kept H before.shelf.files command is.0 told is.1 line cause)
-      | inr swept ↦ absurd (swept_kept H before.shelf.files command 1 lines told swept line cause)
-    ]
-    refused_stop told line cause text Memory (inl stops) = inr (inl refl)
-    refused_stop told line cause text Link (inl stops) = absurd stops.1
-    refused_stop told line cause text (Peer other) (inl stops) = absurd stops.1
-    refused_stop told line cause text (Faults count) (inl stops) = absurd stops.1
-    refused_stop told line cause text (Collision lines) (inl stops) = elim stops.1.0 [
-      | inl is ↦ absurd (collision_kept H before.shelf.files command _ told is.collides.collision line cause)
-      | inr swept ↦ absurd (swept_kept H before.shelf.files command 5 lines told swept line cause)
-    ]
-    refused_stop told line cause text stop (inr links) = elim (links_refused H before now command text stop told links line cause) [
-      | inl is ↦ inl is
-      | inr memory ↦ inr (inl memory)
-    ]
+    early_agrees : (k : ℕ) (text : List ℕ) (stop : Stop) → (Refuses Shelf before.shelf.files (plan_of H command) stop → status_of_stop stop ≡ k)
+        → StoppedEarly H before now command text stop → Agrees k (status_of_stop stop)
+    early_agrees k text stop refused early =
+        excused k stop refused (stop_cause Shelf Memory (plan_of H command) before.shelf now.shelf stop early.plan.so)
 
-    -- a rejected proof is accepted by no run
-    rejected_stop : IsTold before.shelf.files → (rejection : Rejection) → IsRejected H before.shelf.files command rejection → (text : List ℕ) (stop : Stop) → IsStopped H before now command text stop
-        → Comes 1 (status_of_stop stop)
-    rejected_stop told rejection cause text Usage (inl stops) = absurd stops.1
-    rejected_stop told rejection cause text Shelf (inl stops) = shelf_stop 1 (λ lacks. rejected_there H before.shelf.files command lacks rejection cause) stops.1.0
-    rejected_stop told rejection cause text (Input line) (inl stops) = absurd (rejected_kept H before.shelf.files command rejection told cause line stops.1.0)
-    rejected_stop told rejection cause text (Rejected lines) (inl stops) = inl refl
-    rejected_stop told rejection cause text Memory (inl stops) = inr (inl refl)
-    rejected_stop told rejection cause text Link (inl stops) = absurd stops.1
-    rejected_stop told rejection cause text (Peer line) (inl stops) = absurd stops.1
-    rejected_stop told rejection cause text (Faults count) (inl stops) = absurd stops.1
-    rejected_stop told rejection cause text (Collision lines) (inl stops) = elim stops.1.0 [
-      | inl is ↦ absurd (input_kept H before.shelf.files command told (collision_input H before.shelf.files command _ is.collides.collision) rejection cause)
-      | inr swept ↦ absurd (swept_unrejected H before.shelf.files command 5 lines swept rejection cause)
-    ]
-    rejected_stop told rejection cause text stop (inr links) = absurd (links_rejected H before now command text stop links rejection cause)
+    module _ (sound : IsSound (plan_of H command)) where
+      passes_unrefused : (stop : Stop) → IsKnown before.shelf.files (plan_of H command) → Passes before.shelf.files (plan_of H command)
+          → Refuses Shelf before.shelf.files (plan_of H command) stop → ⊥
+      passes_unrefused stop known passes refuses = passes_kept Shelf before.shelf.files (plan_of H command) stop known sound passes refuses
 
-    -- no other run reports a proof that has a collision
-    collided_stop : IsTold before.shelf.files → (collision : Difference Place) → HasCollision H before.shelf.files command collision → (text : List ℕ) (stop : Stop)
-        → IsStopped H before now command text stop → Comes 5 (status_of_stop stop)
-    collided_stop told collision has text Usage (inl stops) = absurd stops.1
-    collided_stop told collision has text Shelf (inl stops) =
-        shelf_stop 5 (input_there H before.shelf.files command (collision_input H before.shelf.files command collision has)) stops.1.0
-    collided_stop told collision has text (Input line) (inl stops) = absurd (collision_kept H before.shelf.files command collision told has line stops.1.0)
-    collided_stop told collision has text (Rejected lines) (inl stops) = elim stops.1.0 [
-      | inl is ↦ absurd (input_kept H before.shelf.files command told (collision_input H before.shelf.files command collision has) is.0 is.1)
-      | inr swept ↦ absurd (swept_uncollided H before.shelf.files command 1 lines swept collision has)
-    ]
-    collided_stop told collision has text Memory (inl stops) = inr (inl refl)
-    collided_stop told collision has text Link (inl stops) = absurd stops.1
-    collided_stop told collision has text (Peer line) (inl stops) = absurd stops.1
-    collided_stop told collision has text (Faults count) (inl stops) = absurd stops.1
-    collided_stop told collision has text (Collision lines) (inl stops) = inl refl
-    collided_stop told collision has text stop (inr links) = absurd (links_collided H before now command text stop links collision has)
+      -- a plan that is done is not refused
+      done_unrefused : (k : ℕ) (text : List ℕ) → StopDecides H before.shelf.files command k → IsDone (plan_of H command) before.shelf now.shelf text → ⊥
+      done_unrefused k text decides done =
+          passes_unrefused decides.stop decides.known (does_passes (plan_of H command) before.shelf now.shelf text sound done.so) decides.refuses
 
-    -- what is within the limits is done, unless memory runs out or the shelf or the door fails
-    served_stop : IsTold before.shelf.files → IsServed H before.shelf.files command → (text : List ℕ) (stop : Stop) → IsStopped H before now command text stop
-        → IsServedBy (status_of_stop stop)
-    served_stop told served text Usage (inl stops) = absurd stops.1
-    served_stop told served text Shelf (inl stops) =
-        inr (shelf_stop 0 (input_there H before.shelf.files command (served_input H before.shelf.files command served)) stops.1.0)
-    served_stop told served text (Input line) (inl stops) = absurd (served_kept H before.shelf.files command told served line stops.1.0)
-    served_stop told served text (Rejected lines) (inl stops) = elim stops.1.0 [
-      | inl is ↦ absurd (input_kept H before.shelf.files command told (served_input H before.shelf.files command served) is.0 is.1)
-      | inr swept ↦ absurd (swept_unserved H before.shelf.files command 1 lines (omega arith) told swept served)
-    ]
-    served_stop told served text Memory (inl stops) = inr (inr (inl refl))
-    served_stop told served text Link (inl stops) = absurd stops.1
-    served_stop told served text (Peer line) (inl stops) = absurd stops.1
-    served_stop told served text (Faults count) (inl stops) = absurd stops.1
-    served_stop told served text (Collision lines) (inl stops) = elim stops.1.0 [
-      | inl is ↦ absurd (collision_unserved H before.shelf.files command _ told is.collides.collision served)
-      | inr swept ↦ absurd (swept_unserved H before.shelf.files command 5 lines (omega arith) told swept served)
-    ]
-    served_stop told served text stop (inr links) = elim (links_served H before now command text stop links served) [
-      | inl memory ↦ inr (inr (inl memory))
-      | inr door ↦ inl door
-    ]
+      -- what decides the status gives that of each end, or the end has an excuse
+      stop_decided : (k : ℕ) → StopDecides H before.shelf.files command k → (end : End) → IsPrinted end → RunEnds H before now said end → Agrees k (status_of end)
+      stop_decided k decides = by_end (Agrees k)
+          (λ text completed. absurd (done_unrefused k text decides completed.plan))
+          (λ text stop early. early_agrees k text stop
+          (λ refuses. ap status_of_stop (one_refusal Shelf before.shelf.files (plan_of H command) stop decides.stop decides.known sound refuses decides.refuses) ∙ sym decides.is) early)
+          (λ text stop late. absurd (done_unrefused k text decides late.plan))
 
-    abbrev FilesNow : Type 0
-    FilesNow = (now.shelf.files ≡ before.shelf.files) ⊎ Changes H before.shelf.files now.shelf.files command
+      passing_late : (k : ℕ) (text : List ℕ) (stop : Stop) → PassingDecides H before.shelf.files command k → StoppedLate H before now command text stop
+          → Agrees k (status_of_stop stop)
+      passing_late k text stop decides late = elim (links_served H before now command text stop decides.served late.links) [
+        | inl memory ↦ inr (NoMemory memory (command, is, tt))
+        | inr failed ↦ inr (DoorBroke (command, is, (failed.0, decides.served)) failed.1)
+      ]
 
-    files_stop : (text : List ℕ) (stop : Stop) → IsStopped H before now command text stop → FilesNow
-    files_stop text Usage (inl stops) = absurd stops.1
-    files_stop text Shelf (inl stops) = stops.1.1
-    files_stop text (Input line) (inl stops) = inl stops.1.1
-    files_stop text (Rejected lines) (inl stops) = inl stops.1.1
-    files_stop text Memory (inl stops) = inl stops.1
-    files_stop text Link (inl stops) = absurd stops.1
-    files_stop text (Peer line) (inl stops) = absurd stops.1
-    files_stop text (Faults count) (inl stops) = absurd stops.1
-    files_stop text (Collision lines) (inl stops) = inl stops.1.1
-    files_stop text stop (inr links) = inl (links_files H before now command text stop links)
+      passing_decided : (k : ℕ) → PassingDecides H before.shelf.files command k → (end : End) → IsPrinted end → RunEnds H before now said end → Agrees k (status_of end)
+      passing_decided k decides = by_end (Agrees k)
+          (λ text completed. inl (sym decides.is))
+          (λ text stop early. early_agrees k text stop
+          (λ refuses. absurd (passes_unrefused stop decides.known (served_passes H before.shelf.files command decides.served) refuses)) early)
+          (λ text stop late. passing_late k text stop decides late)
 
-  missing_end : Said said (λ command. LacksFile H before.shelf.files command) → (end : End) → IsPrinted end → Ends H before now said end
-      → (status_of end ≡ 3) ⊎ (status_of end ≡ 6)
-  missing_end (command, is, lacks) = by_end (λ status. (status ≡ 3) ⊎ (status ≡ 6)) command is
-      (λ text done. absurd (input_there H before.shelf.files command (done_input H before now command text done) lacks)) (missing_stop command lacks)
+      module _ (k : ℕ) (decides : HeardDecides H before now command k) where
+        -- the status of the reply, or that of out of memory or of the caller
+        heard_agrees : (status : ℕ) → (status ≡ k) ⊎ ((status ≡ 6) ⊎ ((status ≡ 8) × Rose before.caller.faults now.caller.faults)) → Agrees k status
+        heard_agrees status (inl same) = inl same
+        heard_agrees status (inr (inl memory)) = inr (NoMemory memory (command, is, tt))
+        heard_agrees status (inr (inr (eight, rose))) = inr (CallerFailed eight (command, is, replied_calls H before now k command decides.decides) rose)
 
-  refused_end : IsTold before.shelf.files → Said said (λ command. (line : List ℕ) × IsRefused H before.shelf.files command line)
-      → (end : End) → IsPrinted end → Ends H before now said end → Comes 4 (status_of end)
-  refused_end told (command, is, (line, cause)) = by_end (Comes 4) command is
-      (λ text done. absurd (done_kept H before now command text told done line cause)) (refused_stop command told line cause)
+        heard_decided : (end : End) → IsPrinted end → RunEnds H before now said end → Agrees k (status_of end)
+        heard_decided = by_end (Agrees k)
+            (λ text completed. heard_agrees 0 (replied_done H before now k decides.known command text decides.decides completed.links))
+            (λ text stop early. early_agrees k text stop
+            (λ refuses. absurd (passes_unrefused stop (inr (replied_unread H before now k command decides.decides))
+            (replied_passes H before now k command decides.decides before.shelf.files) refuses)) early)
+            (λ text stop late. heard_agrees (status_of_stop stop) (replied_stop H before now k decides.known command text stop decides.decides late.links))
 
-  rejected_end : IsTold before.shelf.files → Said said (λ command. (rejection : Rejection) × IsRejected H before.shelf.files command rejection)
-      → (end : End) → IsPrinted end → Ends H before now said end → Comes 1 (status_of end)
-  rejected_end told (command, is, (rejection, cause)) = by_end (Comes 1) command is
-      (λ text done. absurd (input_kept H before.shelf.files command told (done_input H before now command text done) rejection cause)) (rejected_stop command told rejection cause)
+  -- ---- the shelf
 
-  collided_end : IsTold before.shelf.files → Said said (λ command. (collision : Difference Place) × HasCollision H before.shelf.files command collision)
-      → (end : End) → IsPrinted end → Ends H before now said end → Comes 5 (status_of end)
-  collided_end told (command, is, (collision, has)) = by_end (Comes 5) command is
-      (λ text done. absurd (collision_undone H before now command text collision told has done)) (collided_stop command told collision has)
+  -- A command was done up to the end of its plan, with status 0 or 7, or it could stop there for out of memory; or its
+  -- plan stopped it, with this status.
+  abbrev Went : ℕ → Command → Type 0
+  Went status command = ((text : List ℕ)
+      × ((status ≡ 0) ⊎ ((status ≡ 7) ⊎ IsStopped Shelf Memory (plan_of H command) before.shelf now.shelf Memory))
+      × IsDone (plan_of H command) before.shelf now.shelf text)
+      ⊎ ((stop : Stop) × (status ≡ status_of_stop stop) × IsStopped Shelf Memory (plan_of H command) before.shelf now.shelf stop)
 
-  served_end : IsTold before.shelf.files → Said said (λ command. IsServed H before.shelf.files command)
-      → (end : End) → IsPrinted end → Ends H before now said end → IsServedBy (status_of end)
-  served_end told (command, is, served) = by_end IsServedBy command is (λ text done. inr (inl refl)) (served_stop command told served)
+  -- the shelf was left, or the command of the words went so
+  abbrev WentSo : ℕ → Type 0
+  WentSo status = (now.shelf ≡ before.shelf) ⊎ Said said (Went status)
 
-  -- a trial is done, or is refused, or runs out of memory
-  module _ (words : TrialWords) (P : ℕ → Type 0) (refused : (line : List ℕ) → IsTrialRefused H words.number line → P 4) (memory : P 6) where
-    trial_stop : (text : List ℕ) (stop : Stop) → IsStopped H before now (Trial words) text stop → P (status_of_stop stop)
-    trial_stop text Usage (inl stops) = absurd stops.1
-    trial_stop text Shelf (inl stops) = elim stops.1.0 [ inl rose ↦ absurd rose.0 | inr lacks ↦ absurd lacks ]
-    trial_stop text (Input line) (inl stops) = refused line stops.1.0
-    trial_stop text (Rejected lines) (inl stops) = elim stops.1.0 [ inl is ↦ absurd is.1 | inr swept ↦ absurd swept ]
-    trial_stop text Memory (inl stops) = memory
-    trial_stop text Link (inl stops) = absurd stops.1
-    trial_stop text (Peer line) (inl stops) = absurd stops.1
-    trial_stop text (Faults count) (inl stops) = absurd stops.1
-    trial_stop text (Collision lines) (inl stops) = elim stops.1.0 [ inl is ↦ absurd is.collides.collision | inr swept ↦ absurd swept ]
-    trial_stop text stop (inr links) = absurd links
+  halted_went : (command : Command) (text : List ℕ) (stop : Stop) → IsHalted H before now command text stop → Went (status_of_stop stop) command
+  halted_went command text stop (inl early) = inr (stop, refl, early.plan)
+  halted_went command text stop (inr late) = inl (text, inr (inr (links_wait H before now command text stop late.links late.plan)), late.plan)
 
-    trial_end : command_of said ≡ Some (Trial words) → ((text : List ℕ) → IsDone H before now (Trial words) text → P 0)
-        → (end : End) → IsPrinted end → Ends H before now said end → P (status_of end)
-    trial_end is done = by_end P (Trial words) is done trial_stop
+  end_went : (end : End) → RunEnds H before now said end → WentSo (status_of end)
+  end_went (Done text) (command, is, completed) = inr (command, is, inl (text, inl refl, completed.plan))
+  end_went (Unprinted text) (command, is, unprinted) = inr (command, is, inl (text, inr (inl refl), unprinted.plan))
+  end_went (Stopped text stop) (inl unsaid) = inl unsaid.shelf
+  end_went (Stopped text stop) (inr (command, is, halted)) = inr (command, is, halted_went command text stop halted)
 
-  -- a sweep ends with the status of its findings
-  module _ (words : SweepWords) (told : IsTold before.shelf.files) (findings : List Finding) (found : AreFound H before.shelf.files words findings) where
-    abbrev Sweeps : ℕ → Type 0
-    Sweeps status = Comes (status_of_findings findings) status
+  abbrev Left : Type 0
+  Left = (now.shelf.files ≡ before.shelf.files) ⊎ Said said (λ command. Leaves before.shelf.files now.shelf.files (plan_of H command))
 
-    sweeps : (text : List ℕ) (status : ℕ) → IsSwept H before.shelf.files words status text → Sweeps status
-    sweeps text status swept = inl (sym swept.comes ∙ one_sweep_status H before.shelf.files words swept.findings findings told swept.found found)
+  left_said : (command : Command) → command_of said ≡ Some command
+      → (now.shelf.files ≡ before.shelf.files) ⊎ Leaves before.shelf.files now.shelf.files (plan_of H command) → Left
+  left_said command is (inl same) = inl same
+  left_said command is (inr leaves) = inr (command, is, leaves)
 
-    sweep_stop : (text : List ℕ) (stop : Stop) → IsStopped H before now (Sweep words) text stop → Sweeps (status_of_stop stop)
-    sweep_stop text Usage (inl stops) = absurd stops.1
-    sweep_stop text Shelf (inl stops) =
-        shelf_stop (Sweep words) (status_of_findings findings) (λ lacks. input_there H before.shelf.files (Sweep words) (findings, found) lacks) stops.1.0
-    sweep_stop text (Input line) (inl stops) = absurd (found_kept H before.shelf.files words findings told found line stops.1.0)
-    sweep_stop text (Rejected lines) (inl stops) = elim stops.1.0 [ inl is ↦ absurd is.1 | inr swept ↦ sweeps lines 1 swept ]
-    sweep_stop text Memory (inl stops) = inr (inl refl)
-    sweep_stop text Link (inl stops) = absurd stops.1
-    sweep_stop text (Peer line) (inl stops) = absurd stops.1
-    sweep_stop text (Faults count) (inl stops) = absurd stops.1
-    sweep_stop text (Collision lines) (inl stops) = elim stops.1.0 [ inl is ↦ absurd is.collides.collision | inr swept ↦ sweeps lines 5 swept ]
-    sweep_stop text stop (inr links) = absurd links
+  module _ (status : ℕ) where
+    files_went : WentSo status → Left
+    files_went (inl same) = inl (ap (λ (told : ShelfTold). told.files) same)
+    files_went (inr (command, is, inl (text, how, done))) = left_said command is (does_leaves (plan_of H command) before.shelf now.shelf text done.so)
+    files_went (inr (command, is, inr (stop, same, stopped))) = left_said command is (stops_leaves Shelf Memory (plan_of H command) before.shelf now.shelf stop stopped.so)
 
-    sweep_end : command_of said ≡ Some (Sweep words) → (end : End) → IsPrinted end → Ends H before now said end → Sweeps (status_of end)
-    sweep_end is = by_end Sweeps (Sweep words) is (λ text done. sweeps text 0 done.0) sweep_stop
+    asked_went : WentSo status → (now.shelf ≡ before.shelf) ⊎ Said said (HasAsked H StoresOnce before.shelf now.shelf)
+    asked_went (inl same) = inl same
+    asked_went (inr (command, is, inl (text, how, done))) = inr (command, is, does_asked (plan_of H command) before.shelf now.shelf text done.so)
+    asked_went (inr (command, is, inr (stop, same, stopped))) = inr (command, is, stops_asked Shelf Memory (plan_of H command) before.shelf now.shelf stop stopped.so)
 
-  -- the status that a reply decides
-  abbrev Replies : ℕ → ℕ → Type 0
-  Replies k status = (status ≡ k) ⊎ ((status ≡ 6) ⊎ ((status ≡ 8) × Rose before.caller.faults now.caller.faults))
+    unread_went : WentSo status → Said said (λ command. ComesToShelf (plan_of H command) → ⊥) → now.shelf ≡ before.shelf
+    unread_went (inl same) none = same
+    unread_went (inr (command, is, inl (text, how, done))) none =
+        does_untouched (plan_of H command) before.shelf now.shelf text (its (λ c. ComesToShelf (plan_of H c) → ⊥) command none is) done.so
+    unread_went (inr (command, is, inr (stop, same, stopped))) none =
+        stops_untouched Shelf Memory (plan_of H command) before.shelf now.shelf stop (its (λ c. ComesToShelf (plan_of H c) → ⊥) command none is) stopped.so
 
-  replied_end : IsSome before.caller.content → (k : ℕ) → Said said (λ command. ReplyDecides H before.caller now.caller command k)
-      → (end : End) → IsPrinted end → Ends H before now said end → Replies k (status_of end)
-  replied_end tells k (command, is, decides) = by_end (Replies k) command is (replied_done H before now tells k command decides) (replied_stop H before now tells k command decides)
+    uncounted_went : WentSo status → Said said (λ command. LacksFirst before.shelf.files (plan_of H command)) → now.shelf.faults ≡ before.shelf.faults
+    uncounted_went (inl same) lacks = ap (λ (told : ShelfTold). told.faults) same
+    uncounted_went (inr (command, is, inl (text, how, done))) lacks = does_counts (plan_of H command) before.shelf now.shelf text done.so
+    uncounted_went (inr (command, is, inr (stop, same, stopped))) lacks =
+        stops_uncounted Shelf Memory (plan_of H command) before.shelf now.shelf stop (its (λ c. LacksFirst before.shelf.files (plan_of H c)) command lacks is) stopped.so
 
-  or_said : (command : Command) → command_of said ≡ Some command → FilesNow command
-      → (now.shelf.files ≡ before.shelf.files) ⊎ Said said (λ c. Changes H before.shelf.files now.shelf.files c)
-  or_said command is (inl same) = inl same
-  or_said command is (inr changes) = inr (command, is, changes)
+    later_went : WentSo status → before.shelf.faults ≤ now.shelf.faults
+    later_went (inl same) = omega (arith, ap (λ (told : ShelfTold). told.faults) same)
+    later_went (inr (command, is, inl (text, how, done))) = does_later (plan_of H command) before.shelf now.shelf text done.so
+    later_went (inr (command, is, inr (stop, same, stopped))) = stops_later Shelf Memory (plan_of H command) before.shelf now.shelf stop stopped.so
 
-  stop_files : (text : List ℕ) (stop : Stop) → Said said (λ c. IsStopped H before now c text stop)
-      → (now.shelf.files ≡ before.shelf.files) ⊎ Said said (λ c. Changes H before.shelf.files now.shelf.files c)
-  stop_files text stop (command, is, stopped) = or_said command is (files_stop command text stop stopped)
+    counts_went : status ≢ 3 → WentSo status → now.shelf.faults ≡ before.shelf.faults
+    counts_went other (inl same) = ap (λ (told : ShelfTold). told.faults) same
+    counts_went other (inr (command, is, inl (text, how, done))) = does_counts (plan_of H command) before.shelf now.shelf text done.so
+    counts_went other (inr (command, is, inr (stop, same, stopped))) =
+        stops_counts Shelf Memory (plan_of H command) before.shelf now.shelf stop stopped.so (λ shelf. other (same ∙ ap status_of_stop shelf))
 
-  files_end : (end : End) → Ends H before now said end
-      → (now.shelf.files ≡ before.shelf.files) ⊎ Said said (λ command. Changes H before.shelf.files now.shelf.files command)
-  files_end (Done text) ends = or_said ends.0 ends.1 (done_changes H before now ends.0 text ends.2)
-  files_end (Stopped text Usage) (empty, none, same) = inl same
-  files_end (Stopped text Shelf) ends = stop_files text Shelf ends
-  files_end (Stopped text (Input line)) ends = stop_files text (Input line) ends
-  files_end (Stopped text (Rejected lines)) ends = stop_files text (Rejected lines) ends
-  files_end (Stopped text Memory) ends = stop_files text Memory ends
-  files_end (Stopped text Link) ends = stop_files text Link ends
-  files_end (Stopped text (Peer line)) ends = stop_files text (Peer line) ends
-  files_end (Stopped text (Faults count)) ends = stop_files text (Faults count) ends
-  files_end (Stopped text (Collision lines)) ends = stop_files text (Collision lines) ends
-  files_end (Unprinted text) ends = inl (unprinted_files H before now ends.0 text ends.2)
+    -- the files were left, and the calls on the shelf stored none
+    abbrev Unstored : Type 0
+    Unstored = (now.shelf ≡ before.shelf)
+        ⊎ ((now.shelf.files ≡ before.shelf.files) × Said said (HasAsked H (λ name asks. ⊥) before.shelf now.shelf))
 
-  abbrev Served : Type 0
-  Served = (now.shelf ≡ before.shelf) ⊎ Said said (Serves H before.shelf now.shelf)
+    stopped_unstored : (command : Command) (stop : Stop) → command_of said ≡ Some command → stop ≢ Shelf
+        → IsStopped Shelf Memory (plan_of H command) before.shelf now.shelf stop → Unstored
+    stopped_unstored command stop is other stopped = inr (
+      stops_files Shelf Memory (plan_of H command) before.shelf now.shelf stop stopped.so other,
+      (command, is, stops_alone Shelf Memory (plan_of H command) before.shelf now.shelf stop stopped.so other),
+    )
 
-  abbrev Unread : Type 0
-  Unread = Said said (λ command. NeedsShelf command → ⊥) → now.shelf ≡ before.shelf
+    unstored_went : status ≢ 0 → status ≢ 3 → status ≢ 7 → WentSo status → Unstored
+    unstored_went not_done not_shelf not_failed (inl same) = inl same
+    unstored_went not_done not_shelf not_failed (inr (command, is, inl (text, inl zero, done))) = absurd (not_done zero)
+    unstored_went not_done not_shelf not_failed (inr (command, is, inl (text, inr (inl seven), done))) = absurd (not_failed seven)
+    unstored_went not_done not_shelf not_failed (inr (command, is, inl (text, inr (inr waits), done))) =
+        stopped_unstored command Memory is (λ same. absurd (cc)) waits
+    unstored_went not_done not_shelf not_failed (inr (command, is, inr (stop, same, stopped))) =
+        stopped_unstored command stop is (λ shelf. not_shelf (same ∙ ap status_of_stop shelf)) stopped
 
-  -- by another status than those of what is done, and of a fault of the shelf or of the sink
-  abbrev StoredNone : ℕ → Type 0
-  StoredNone result = result ≢ 0 → result ≢ 3 → result ≢ 7 → (now.shelf ≡ before.shelf) ⊎ Said said (ReadsAlone H before.shelf now.shelf)
+  -- ---- a run
 
-  abbrev Called : Type 0
-  Called = (now.caller ≡ before.caller) ⊎ Said said (HasCalled before.caller now.caller)
-
-  abbrev Opened : Type 0
-  Opened = (now.door ≡ before.door) ⊎ Said said (HasOpened before.door now.door)
-
-  asked : Served → (now.shelf ≡ before.shelf) ⊎ Said said (λ command. Asked before.shelf.asked now.shelf.asked (AsksFor H before.shelf.files command))
-  asked (inl same) = inl same
-  asked (inr serves) = inr (serves.0, serves.1, serves.2.asked)
-
-  uncounted : Served → Said said (λ command. IsFirstMissing before.shelf.files (reads command)) → now.shelf.faults ≡ before.shelf.faults
-  uncounted (inl same) missing = ap (λ (told : ShelfTold). told.faults) same
-  uncounted (inr serves) (command, is, gone) = (its (Serves H before.shelf now.shelf) command serves is).uncounted gone
-
-  later : Served → before.shelf.faults ≤ now.shelf.faults
-  later (inl same) = omega (arith, ap (λ (told : ShelfTold). told.faults) same)
-  later (inr serves) = serves.2.later
-
-  module _ (result : ℕ) where
+  module _ (result : ℕ) (ended : Ended H said before now result) where
     -- what holds for the status of the end, if all of its text may be printed, holds for that of the run, or the sink
     -- failed
-    tells : (P : ℕ → Type 0) (ended : Ended H said before now result)
-        → ((end : End) → IsPrinted end → Ends H before now said end → P (status_of end)) → P result ⊎ SinkFailed before now result
-    tells P ended is = elim ended.prints [
+    tells : (P : ℕ → Type 0) → ((end : End) → IsPrinted end → RunEnds H before now said end → P (status_of end))
+        → P result ⊎ ((result ≡ 7) × Rose before.sink.faults now.sink.faults)
+    tells P is = elim ended.prints [
       | inl told ↦ inl (subst P (sym told.1) (is ended.end (was_printed ended.end result told.0 told.1) ended.ends))
       | inr failed ↦ inr (failed.0, failed.1.cause)
     ]
 
+    status : IsStatus result
+    status = elim (tells IsStatus (λ end printed ends. has_status end)) [
+      | inl is ↦ is
+      | inr failed ↦ inr (inr (inr (inr (inr (inr (inr (inl failed.0)))))))
+    ]
+
+    usage : result ≡ 2 → command_of said ≡ None
+    usage is = elim ended.prints [
+      | inl told ↦ usage_end ended.end ended.ends (sym told.1 ∙ is)
+      | inr failed ↦ absurd (omega (arith, is, failed.0))
+    ]
+
     -- 0 is the status of what is done
-    done_end : (end : End) → Ends H before now said end → result ≡ 0 → result ≡ status_of end → Took before.sink now.sink (text_of end)
-        → Said said (λ command. (text : List ℕ) × IsDone H before now command text × Took before.sink now.sink text)
-    done_end (Done text) ends is same took = (ends.0, ends.1, (text, ends.2, took))
+    abbrev IsDoneSo : Type 0
+    IsDoneSo = Said said (λ command. (text : List ℕ) × IsCompleted H before now command text × Took before.sink now.sink text)
+
+    done_end : (end : End) → RunEnds H before now said end → result ≡ 0 → result ≡ status_of end → Took before.sink now.sink (text_of end) → IsDoneSo
+    done_end (Done text) (command, said, completed) is same took = (command, said, (text, completed, took))
     done_end (Stopped text stop) ends is same took = absurd (never_done stop (sym same ∙ is))
     done_end (Unprinted text) ends is same took = absurd (omega (arith, is, same))
 
-    done : Ended H said before now result → result ≡ 0
-        → Said said (λ command. (text : List ℕ) × IsDone H before now command text × Took before.sink now.sink text)
-    done ended is = elim ended.prints [
+    done : result ≡ 0 → IsDoneSo
+    done is = elim ended.prints [
       | inl told ↦ done_end ended.end ended.ends is told.1 told.2
       | inr failed ↦ absurd (omega (arith, is, failed.0))
     ]
 
-    with_sink : (a b : ℕ) → ((result ≡ a) ⊎ (result ≡ b)) ⊎ SinkFailed before now result → (result ≡ a) ⊎ ((result ≡ b) ⊎ SinkFailed before now result)
-    with_sink a b (inl (inl is)) = inl is
-    with_sink a b (inl (inr is)) = inr (inl is)
-    with_sink a b (inr sinks) = inr (inr sinks)
-
-    with_faults : (k : ℕ) → Comes k result ⊎ SinkFailed before now result → (result ≡ k) ⊎ ((result ≡ 6) ⊎ Failed before now result)
-    with_faults k (inl (inl is)) = inl is
-    with_faults k (inl (inr (inl is))) = inr (inl is)
-    with_faults k (inl (inr (inr shelves))) = inr (inr (inl shelves))
-    with_faults k (inr sinks) = inr (inr (inr sinks))
-
-    with_door : IsServedBy result ⊎ SinkFailed before now result → (result ≡ 0) ⊎ ((result ≡ 6) ⊎ (DoorFailed before.door now.door result ⊎ Failed before now result))
-    with_door (inl (inl doors)) = inr (inr (inl doors))
-    with_door (inl (inr (inl is))) = inl is
-    with_door (inl (inr (inr (inl is)))) = inr (inl is)
-    with_door (inl (inr (inr (inr shelves)))) = inr (inr (inr (inl shelves)))
-    with_door (inr sinks) = inr (inr (inr (inr sinks)))
-
-    with_link : (k : ℕ) → Replies k result ⊎ SinkFailed before now result → (result ≡ k) ⊎ ((result ≡ 6) ⊎ LinkFailed before now result)
-    with_link k (inl (inl is)) = inl is
-    with_link k (inl (inr (inl is))) = inr (inl is)
-    with_link k (inl (inr (inr links))) = inr (inr (inl links))
-    with_link k (inr sinks) = inr (inr (inr sinks))
-
-    -- one of three statuses, or the sink failed
-    abbrev Tries : ℕ → Type 0
-    Tries status = (status ≡ 0) ⊎ ((status ≡ 4) ⊎ (status ≡ 6))
-
-    with_three : Tries result ⊎ SinkFailed before now result → (result ≡ 0) ⊎ ((result ≡ 4) ⊎ ((result ≡ 6) ⊎ SinkFailed before now result))
-    with_three (inl (inl is)) = inl is
-    with_three (inl (inr (inl is))) = inr (inl is)
-    with_three (inl (inr (inr is))) = inr (inr (inl is))
-    with_three (inr sinks) = inr (inr (inr sinks))
-
-    tried : Ended H said before now result → (words : TrialWords) → command_of said ≡ Some (Trial words) → HasTried H words.number before now result
-    tried ended words is = record {
-      status = with_three (tells Tries ended (trial_end words Tries (λ line cause. inr (inl refl)) (inr (inr refl)) is (λ text done. inl refl)));
-      complete = λ served. with_sink 0 6 (tells (λ status. (status ≡ 0) ⊎ (status ≡ 6)) ended (trial_end words (λ status. (status ≡ 0) ⊎ (status ≡ 6))
-          (λ line cause. absurd (trial_kept H words.number served line cause)) (inr refl) is (λ text done. inl refl)));
-      refused = λ line cause. with_sink 4 6 (tells (λ status. (status ≡ 4) ⊎ (status ≡ 6)) ended (trial_end words (λ status. (status ≡ 4) ⊎ (status ≡ 6))
-          (λ other also. inl refl) (inr refl) is (λ text done. absurd (trial_done_kept H words.number text done.0 line cause))));
-    }
-
-    status : Ended H said before now result → IsStatus result
-    status ended = elim (tells IsStatus ended (λ end printed ends. has_status end)) [
-      | inl is ↦ is
-      | inr sinks ↦ inr (inr (inr (inr (inr (inr (inr (inl sinks.0)))))))
+    -- the status is that of the end, or the sink failed
+    agrees : (k : ℕ) → ((end : End) → IsPrinted end → RunEnds H before now said end → Agrees k (status_of end)) → Agrees k result
+    agrees k is = elim (tells (Agrees k) is) [
+      | inl agreed ↦ agreed
+      | inr failed ↦ inr (SinkFailed failed.0 failed.1)
     ]
 
-    pub counts : Ended H said before now result → (result ≢ 3 → result ≢ 7 → now.shelf.faults ≡ before.shelf.faults)
-        → (result ≢ 8 → result ≢ 7 → now.caller.faults ≡ before.caller.faults) → (result ≢ 8 → result ≢ 7 → now.door.faults ≡ before.door.faults)
+    decided : ((command : Command) → IsSound (plan_of H command)) → (k : ℕ) → Decides H said before now k → Agrees k result
+    decided sound k (inl (none, two)) = agrees k (λ end printed ends. inl (unsaid_end none end printed ends ∙ sym two))
+    decided sound k (inr (command, is, inl stops)) = agrees k (stop_decided command is (sound command) k stops)
+    decided sound k (inr (command, is, inr (inl passes))) = agrees k (passing_decided command is (sound command) k passes)
+    decided sound k (inr (command, is, inr (inr heard))) = agrees k (heard_decided command is (sound command) k heard)
+
+    went : WentSo (status_of ended.end)
+    went = end_went ended.end ended.ends
+
+    -- the same of the status of the run
+    went_so : result ≢ 7 → WentSo result
+    went_so other = elim ended.prints [
+      | inl told ↦ subst WentSo (sym told.1) went
+      | inr failed ↦ absurd (other failed.0)
+    ]
+
+    counts : (result ≢ 8 → result ≢ 7 → now.caller.faults ≡ before.caller.faults) → (result ≢ 8 → result ≢ 7 → now.door.faults ≡ before.door.faults)
         → CountsFaults before now result
-    counts ended shelf caller door = elim ended.prints [
+    counts caller door = elim ended.prints [
       | inl told ↦ record {
         sink = λ other. told.2.kept;
         sink_once = λ seven. absurd (told.0 seven);
         sink_last = λ seven. absurd (told.0 seven);
-        shelf = shelf;
+        shelf = λ not_shelf not_failed. counts_went result not_shelf (went_so not_failed);
         caller = caller;
         door = door;
       }
@@ -504,35 +338,29 @@ module _ (H : List ℕ → List ℕ) (said : List (List ℕ)) (before now : Outs
         sink = λ other. absurd (other failed.0);
         sink_once = λ seven. failed.1.cause;
         sink_last = λ seven. failed.1.last;
-        shelf = shelf;
+        shelf = λ not_shelf not_failed. absurd (not_failed failed.0);
         caller = caller;
         door = door;
       }
     ]
 
-    pub ran : Ended H said before now result → CountsFaults before now result → Served → Unread → Called → Opened → before.sink.faults ≤ now.sink.faults → StoredNone result → Ran H said before now result
-    ran ended counted served unread called opened sink_later unstored = record {
+    pub ran : ((command : Command) → IsSound (plan_of H command)) → (result ≢ 8 → result ≢ 7 → now.caller.faults ≡ before.caller.faults)
+        → (result ≢ 8 → result ≢ 7 → now.door.faults ≡ before.door.faults) → (now.caller ≡ before.caller) ⊎ Said said (HasCalled before.caller now.caller)
+        → (now.door ≡ before.door) ⊎ Said said (HasOpened before.door now.door) → before.sink.faults ≤ now.sink.faults → Ran H said before now result
+    ran sound caller_count door_count called opened sink_later = record {
       ended = ended;
-      status = status ended;
-      done = done ended;
-      unsaid = λ none. tells (λ status. status ≡ 2) ended (unsaid_end none);
-      missing = λ lacks. with_sink 3 6 (tells (λ status. (status ≡ 3) ⊎ (status ≡ 6)) ended (missing_end lacks));
-      refused = λ told line. with_faults 4 (tells (Comes 4) ended (refused_end told line));
-      rejected = λ told rejection. with_faults 1 (tells (Comes 1) ended (rejected_end told rejection));
-      collided = λ told collision. with_faults 5 (tells (Comes 5) ended (collided_end told collision));
-      complete = λ told asks. with_door (tells IsServedBy ended (served_end told asks));
-      swept = λ told words is findings found. with_faults (status_of_findings findings)
-          (tells (Comes (status_of_findings findings)) ended (sweep_end words told findings found is));
-      tried = tried ended;
-      replied = λ content k decides. with_link k (tells (Replies k) ended (replied_end content k decides));
-      files = files_end ended.end ended.ends;
-      asked = asked served;
-      unread = unread;
-      unstored = unstored;
+      status = status;
+      usage = usage;
+      done = done;
+      decided = decided sound;
+      files = files_went (status_of ended.end) went;
+      asked = asked_went (status_of ended.end) went;
+      unread = unread_went (status_of ended.end) went;
+      unstored = λ not_done not_shelf not_failed. unstored_went result not_done not_shelf not_failed (went_so not_failed);
       called = called;
       opened = opened;
-      counts = counted;
-      uncounted = uncounted served;
-      later = later served;
+      counts = counts caller_count door_count;
+      uncounted = uncounted_went (status_of ended.end) went;
+      later = later_went (status_of ended.end) went;
       sink_later = sink_later;
     }

@@ -1,5 +1,5 @@
--- A file that is an honest proof is served by `verify`, and a reply that is one is accepted by `ask`.
-use Rattle.std.proofs.Common.{◌≡◌, ◌^◌, ℕ, List, Option, Some, Ok, refl, sym, subst, inl, ap₂}
+-- A file that is an honest proof is served by `verify` and by `audit`, and a reply that is one is accepted by `ask`.
+use Rattle.std.proofs.Common.{◌≡◌, ◌^◌, ℕ, List, Option, Some, Ok, refl, sym, subst, inl, inr, ap₂}
 use Rattle.std.specs.Prelude.{option_map, option_and_then}
 use Rattle.ats_proof.specs.declared.record.Algorithm.{Algorithm}
 use Rattle.ats_base.specs.Links.{CallerTold}
@@ -8,14 +8,14 @@ use Rattle.ats_commit.specs.Archive.{Archive}
 use Rattle.ats_commit.specs.Root.{root_of}
 use Rattle.ats_honest.specs.Honest.{IsProved}
 use Rattle.ats_client.specs.Bytes.{IsAcceptedBytes}
-use Rattle.ats_accepts.proofs.Public.{proved_accepted}
-use Rattle.ats_top.specs.Words.{AskWords, Command, Verify, number_of, root_word, verify_words, command_of}
-use Rattle.ats_top.specs.Read.{Files, IsFile}
-use Rattle.ats_top.specs.Refusals.{IsRowCount}
-use Rattle.ats_top.specs.Done.{IsServed}
+use Rattle.ats_accepts.proofs.Public.{proved_accepted, proved_unclashing}
+use Rattle.ats_top.specs.Words.{AskWords, AuditWords, Command, Audit, Verify, number_of, root_word, verify_words, command_of}
+use Rattle.ats_plan.specs.Files.{Files, IsFile}
+use Rattle.ats_top.specs.Read.{HasIndex}
+use Rattle.ats_top.specs.Steps.{IsRowCount}
 use Rattle.ats_top.specs.Conversation.{Converses}
 use Rattle.ats_top.specs.Asked.{question_of, Decides}
-use Rattle.ats_top.specs.Run.{Said}
+use Rattle.ats_top.specs.Run.{Said, IsCommandServed}
 
 -- the command of the words of `verify`, from what its root and its number of rows spell
 abbrev said_by : List ℕ → List ℕ → Option (List ℕ) → Option ℕ → Option Command
@@ -36,22 +36,22 @@ bytes_accepted H archive asked rows algorithm bytes proved =
 pub honest_served : (H : List ℕ → List ℕ) (archive : Archive) (asked : List (List ℕ × ℕ)) (rows : ℕ) (algorithm : Algorithm) (bytes : List ℕ) (files : Files) (root r query name : List ℕ)
     → IsProved H archive asked rows algorithm bytes → IsFile files name (2 ^ 26) bytes → root_word root ≡ Some (root_of H archive)
     → number_of r ≡ Some rows → IsRowCount rows → IsQueryOf query asked
-    → Said (verify_words root r query name) (IsServed H files)
+    → Said (verify_words root r query name) (IsCommandServed H files)
 honest_served H archive asked rows algorithm bytes files root r query name proved file is_root is_rows within is_query = (
   Verify (record { root = root_of H archive; r = rows; query = query; proof = name }),
   verify_said root (root_of H archive) r query name rows is_root is_rows,
-  (
-    record { rows = within; query = is_query.has },
-    record {
-      query = asked;
-      asked = is_query;
-      bytes = bytes;
-      file = file;
-      proof = proved.proof;
-      accepted = bytes_accepted H archive asked rows algorithm bytes proved;
-    },
-  ),
+  (within, (asked, is_query, inr (bytes, file, (proved.proof, bytes_accepted H archive asked rows algorithm bytes proved, tt)))),
 )
+
+-- such a proof has no collision with the archive
+pub audit_served : (H : List ℕ → List ℕ) (archive : Archive) (files : Files) (words : AuditWords) (asked : List (List ℕ × ℕ)) (algorithm : Algorithm) (bytes : List ℕ)
+    → HasIndex H files words.index archive → IsRowCount words.r → IsQueryOf words.query asked → IsProved H archive asked words.r algorithm bytes
+    → IsFile files words.proof (2 ^ 26) bytes → IsCommandServed H files (Audit words)
+audit_served H archive files words asked algorithm bytes index within is_query proved file =
+    let proof = proved.proof in
+    let accepted = bytes_accepted H archive asked words.r algorithm bytes proved in
+    let unclashing = proved_unclashing H archive asked words.r algorithm bytes proved proof proved.spells in
+    (within, (asked, is_query, inr (index.bytes, index.file, (archive, index.spelling, inr (bytes, file, (proof, accepted, (unclashing, tt)))))))
 
 pub honest_replied : (H : List ℕ → List ℕ) (archive : Archive) (asked : List (List ℕ × ℕ)) (algorithm : Algorithm) (bytes : List ℕ) (words : AskWords) (before now : CallerTold)
     → IsProved H archive asked words.r algorithm bytes → words.root ≡ root_of H archive → IsRowCount words.r → IsQueryOf words.query asked

@@ -1,5 +1,5 @@
 -- The audits that the entries of a list ask for, one by one, and what they find.
-use Rattle.std.proofs.Common.{◌≡◌, ◌++◌, ◌∷◌, ◌^◌, ℕ, List, [], length, drop, get_or, refl, sym, subst, ◌∙◌, inl, inr, arith}
+use Rattle.std.proofs.Common.{◌≡◌, ◌++◌, ◌∷◌, ℕ, List, [], length, drop, get_or, refl, sym, subst, ◌∙◌, arith}
 use Rattle.std.specs.List.{AllZip}
 use Rattle.ats_commit.specs.Archive.{Archive}
 use Rattle.ats_audit.specs.Verdicts.{IsVerdict}
@@ -9,11 +9,11 @@ use Rattle.ats_audit.specs.declared.auditing.Verdict.TheVariants as verdict
 use Rattle.ats_audit.specs.declared.sweeping.Job.{Job}
 use Rattle.ats_audit.proofs.Public.{extract-collides}
 use Rattle.ats_terms.specs.Query.{IsQueryOf}
-use Rattle.ats_top.specs.Read.{Files, IsFile, HasIndex}
-use Rattle.ats_top.specs.Listed.{Listed, IsEntry}
+use Rattle.ats_plan.specs.Files.{Files}
+use Rattle.ats_top.specs.Listed.{Listed}
+use Rattle.ats_top.specs.Inner.Sweeping.{IsEntry, IsJobOf, AreJobs, entry_names, found_by, finding_of, findings_of}
 use Rattle.ats_top.specs.Gathered.{IsGathered}
-use Rattle.ats_top.specs.Findings.{IsFinding, audit_of}
-use Rattle.ats_top.specs.Sweeping.{IsJobOf, AreJobs, entry_names, found_by, finding_of, findings_of}
+use Rattle.ats_top.specs.Findings.{IsFinding, AreFindings}
 use Rattle.ats_top.specs.declared.gathering.Gathered.{Gathered}
 use Rattle.ats_top.specs.declared.gathering.Gathered.TheVariants.{Whole, Long}
 use Rattle.ats_top.specs.declared.listing.Entry.{Entry}
@@ -60,71 +60,40 @@ all_jobs_made entries proofs jobs (entry ∷ rest) are left none same = absurd (
 
 -- ---- what they find
 
-module _ (H : List ℕ → List ℕ) (files : Files) (index : List ℕ) (archive : Archive) (has : HasIndex H files index archive) where
-  -- by the verdict on the bytes of a proof's file
-  module _ (listed : Listed) (query : List (List ℕ × ℕ)) (asked : IsQueryOf listed.query query) (bytes : List ℕ) (file : IsFile files listed.proof (2 ^ 26) bytes) where
-    whole_is : (found : Verdict) → IsVerdict H archive query listed.r bytes found → IsFinding H files (audit_of index listed) (found_by found)
-    whole_is (verdict.BadShape fault) is = (archive, has, inr (record { query = query; asked = asked; bytes = bytes; file = file; rejected = is }))
-    whole_is (verdict.Refused refusal) is = (archive, has, inr (record { query = query; asked = asked; bytes = bytes; file = file; rejected = is }))
-    whole_is (verdict.Right rows) is = (
-      record {
-        archive = archive;
-        index = has;
-        query = query;
-        asked = asked;
-        bytes = bytes;
-        file = file;
-        proof = is.proof;
-        accepted = is.accepted;
-        is = is.none;
-      },
-      is.answer,
-      is.right,
-    )
-    whole_is (verdict.Collision place ours theirs) found =
-        let two = extract-collides H archive query found.proof _ found.found in (
-          record {
-            archive = archive;
-            index = has;
-            query = query;
-            asked = asked;
-            bytes = bytes;
-            file = file;
-            proof = found.proof;
-            accepted = found.accepted;
-            is = found.found;
-          },
-          two.0,
-          two.1,
-        )
+module _ (H : List ℕ → List ℕ) (archive : Archive) where
+  -- by the verdict on the bytes of a proof
+  whole_is : (line : Listed) (query : List (List ℕ × ℕ)) → IsQueryOf line.query query → (bytes : List ℕ) (found : Verdict) → IsVerdict H archive query line.r bytes found
+      → IsFinding H archive line (Whole bytes) (found_by found)
+  whole_is line query asked bytes (verdict.BadShape fault) is = (query, asked, is)
+  whole_is line query asked bytes (verdict.Refused refusal) is = (query, asked, is)
+  whole_is line query asked bytes (verdict.Right rows) is = (query, asked, is)
+  whole_is line query asked bytes (verdict.Collision place ours theirs) is =
+      let two = extract-collides H archive query is.proof _ is.found in (query, asked, is, two.0, two.1)
 
-  found_is : (line : List ℕ) (entry : Entry) (is : IsEntry line entry) (proof : Gathered) (job : Job) (found : Verdict) → IsGathered files entry.proof.now proof
-      → IsJobOf entry proof job → IsVerdictOf H archive job found → IsFinding H files (audit_of index is.listed) (finding_of proof found)
-  found_is line entry is Long job found gathered its judged =
-      (archive, has, inl (record { longer = subst (λ (name : List ℕ). IsGathered files name Long) is.proof gathered; is = refl }))
-  found_is line entry is (Whole bytes) job found gathered its judged =
-      whole_is is.listed entry.query is.query bytes (subst (λ (name : List ℕ). IsFile files name (2 ^ 26) bytes) is.proof gathered) found
+  found_is : (line : List ℕ) (entry : Entry) (is : IsEntry line entry) (proof : Gathered) (job : Job) (found : Verdict) → IsJobOf entry proof job
+      → IsVerdictOf H archive job found → IsFinding H archive is.listed proof (finding_of proof found)
+  found_is line entry is Long job found its judged = refl
+  found_is line entry is (Whole bytes) job found its judged =
+      whole_is is.listed entry.query is.query bytes found
       (subst (λ (r : ℕ). IsVerdict H archive entry.query r bytes found) (its.top ∙ is.top)
       (subst (λ (query : List (List ℕ × ℕ)). IsVerdict H archive query job.top bytes found) its.query
       (subst (λ (content : List ℕ). IsVerdict H archive job.query job.top content found) its.bytes judged)))
 
   -- of each line
   pub found_each : (lines : List (List ℕ)) (entries : List Entry) (proofs : List Gathered) (jobs : List Job) (verdicts : List Verdict)
-      (are : AllZip IsEntry lines entries) → AllZip (IsGathered files) (entry_names entries) proofs → AreJobs entries proofs jobs → AllZip (IsVerdictOf H archive) jobs verdicts
-      → AllZip (λ line finding. IsFinding H files (audit_of index line) finding) (listed_of lines entries are) (findings_of proofs verdicts)
-  found_each [] [] [] [] [] are gathered its verdicts = tt
-  found_each [] (entry ∷ entries) proofs jobs verdicts are gathered its found = absurd are
-  found_each (line ∷ lines) [] proofs jobs verdicts are gathered its found = absurd are
-  found_each [] [] (proof ∷ proofs) jobs verdicts are gathered its found = absurd gathered
-  found_each [] [] [] (job ∷ jobs) verdicts are gathered its found = absurd its
-  found_each [] [] [] [] (v ∷ verdicts) are gathered its found = absurd found
-  found_each (line ∷ lines) (entry ∷ entries) [] jobs verdicts are gathered its found = absurd gathered
-  found_each (line ∷ lines) (entry ∷ entries) (proof ∷ proofs) [] verdicts are gathered its found = absurd its
-  found_each (line ∷ lines) (entry ∷ entries) (proof ∷ proofs) (job ∷ jobs) [] are gathered its found = absurd found
-  found_each (line ∷ lines) (entry ∷ entries) (proof ∷ proofs) (job ∷ jobs) (v ∷ verdicts) are gathered its found = (
-    found_is line entry are.0 proof job v gathered.0 its.0 found.0,
-    found_each lines entries proofs jobs verdicts are.1 gathered.1 its.1 found.1,
-  )
+      (are : AllZip IsEntry lines entries) → AreJobs entries proofs jobs → AllZip (IsVerdictOf H archive) jobs verdicts
+      → AreFindings H archive (listed_of lines entries are) proofs (findings_of proofs verdicts)
+  found_each [] (entry ∷ entries) proofs jobs verdicts are its found = absurd are
+  found_each (line ∷ lines) [] proofs jobs verdicts are its found = absurd are
+  found_each [] [] proofs (job ∷ jobs) verdicts are its found = absurd its
+  found_each [] [] proofs [] (v ∷ verdicts) are its found = absurd found
+  found_each [] [] [] [] [] are its found = tt
+  found_each [] [] (proof ∷ proofs) [] [] are its found = tt
+  found_each (line ∷ lines) (entry ∷ entries) [] jobs verdicts are its found = tt
+  found_each (line ∷ lines) (entry ∷ entries) (proof ∷ proofs) [] verdicts are its found = absurd its
+  found_each (line ∷ lines) (entry ∷ entries) (proof ∷ proofs) (job ∷ jobs) [] are its found = absurd found
+  found_each (line ∷ lines) (entry ∷ entries) (proof ∷ proofs) (job ∷ jobs) (v ∷ verdicts) are its found =
+      (found_is line entry are.0 proof job v its.0 found.0, found_each lines entries proofs jobs verdicts are.1 its.1 found.1)
 
 -- ---- how many there are
 

@@ -1,5 +1,5 @@
 -- Items of a JSON array and their texts.
-use Rattle.std.proofs.Common.{◌≡◌, ◌<◌, ◌+◌, ◌∙◌, ℕ, List, [], ◌∷◌, ◌++◌, length, map, take, get_or, Option, Some, None, IsSome, option_map, option_and_then, refl, sym, ap, subst, arith, length-take}
+use Rattle.std.proofs.Common.{◌≡◌, ◌≢◌, ◌<◌, ◌+◌, ◌∙◌, ℕ, List, [], ◌∷◌, ◌++◌, length, map, take, get_or, Option, Some, None, IsSome, option_map, option_and_then, refl, sym, ap, subst, arith, length-take}
 use Rattle.std.specs.Str.{IsUtf8}
 use Rattle.std.proofs.lemmas.List.{map_more, map-append, length-map, get_or-map, get_or-take}
 use Rattle.serde_json.specs.Data.{Data, null}
@@ -8,8 +8,10 @@ use Rattle.serde_json.specs.Read.{read}
 use Rattle.serde_json.specs.View.{view, items_of, items_view}
 use Rattle.serde_json.specs.declared.value.Value.{Value}
 use Rattle.ats_top.specs.Input.{item_list, item_text, IsJsonArray, AreJsonTexts, IsFirstBadItem, IsFirstJsonFault}
+use Rattle.ats_top.specs.Stops.{stop_of_json}
 use Rattle.ats_top.specs.declared.input.JsonFault.{JsonFault}
 use Rattle.ats_top.specs.declared.input.JsonFault.TheVariants.{NotJson, NotArray, BadItem, OutOfMemory}
+use Rattle.ats_top.specs.declared.stops.Stop.TheVariants.{Memory}
 
 listed : (values : List Data) → item_list (items_of values) ≡ values
 listed [] = refl
@@ -96,20 +98,15 @@ not_array bytes items value is reads none =
     ap (λ o. option_map item_list (option_and_then as_array o)) reads ∙ ap (option_map item_list) none in
     no_some _ _ nothing is.read
 
--- a fault other than out of memory
-abbrev pub IsJsonRefusal : JsonFault → Type 0
-IsJsonRefusal OutOfMemory = ⊥
-IsJsonRefusal _ = Unit {0}
-
 -- bytes with texts have no fault except out of memory
-pub no_json_fault : (bytes : List ℕ) (texts : List (List ℕ)) (fault : JsonFault) → AreJsonTexts bytes texts → IsFirstJsonFault bytes fault
-    → IsJsonRefusal fault → ⊥
-no_json_fault bytes texts NotJson are fault free = not_json bytes are.items are.array (fault are.array.utf8)
-no_json_fault bytes texts NotArray are fault free = not_array bytes are.items fault.0 are.array fault.1.read fault.2
-no_json_fault bytes texts (BadItem doc) are fault free =
+pub no_json_fault : (bytes : List ℕ) (texts : List (List ℕ)) (fault : JsonFault) → AreJsonTexts bytes texts → stop_of_json fault ≢ Memory
+    → IsFirstJsonFault bytes fault → ⊥
+no_json_fault bytes texts NotJson are free fault = not_json bytes are.items are.array (fault are.array.utf8)
+no_json_fault bytes texts NotArray are free fault = not_array bytes are.items fault.0 are.array fault.1.read fault.2
+no_json_fault bytes texts (BadItem doc) are free fault =
     let items = same_items bytes are.items fault.0 are.array fault.1 in
     bad_item fault.0 texts doc (sym (ap (map item_text) items) ∙ are.said) fault.2
-no_json_fault bytes texts OutOfMemory are fault free = free
+no_json_fault bytes texts OutOfMemory are free fault = free refl
 
 -- the item at a place of the list that is gone through
 pub item_at : (values : List Value) (doc : ℕ) (value : Value) → doc < length values → value ≡ get_or values doc value

@@ -1,10 +1,10 @@
 -- What follows if serving stopped.
 use Rattle.std.proofs.Common.{◌≡◌, ◌⊎◌, ◌<◌, ℕ, List, refl, inl, inr, arith, is_some}
 use Rattle.ats_base.specs.Links.{DoorTold}
-use Rattle.ats_commit.specs.Archive.{Archive}
 use Rattle.ats_top.specs.Words.{ServeWords}
-use Rattle.ats_top.specs.Read.{Files, HasIndex}
-use Rattle.ats_top.specs.Stops.{HasLine, status_of_stop}
+use Rattle.ats_plan.specs.Files.{Files}
+use Rattle.ats_top.specs.Inner.Outcome.{HasLine}
+use Rattle.ats_top.specs.Stops.{status_of_stop}
 use Rattle.ats_top.specs.Answering.{gives}
 use Rattle.ats_top.specs.Served.{AreAllServed, ServingStop}
 use Rattle.ats_top.specs.Run.{HasRisen, DoorFailed}
@@ -13,19 +13,6 @@ use Rattle.ats_top.specs.declared.stops.Stop.TheVariants.{Usage, Shelf, Input, R
 use Rattle.ats_top.proofs.Opened.{faults_rise}
 
 module _ (H : List ℕ → List ℕ) (files : Files) (words : ServeWords) (before now : DoorTold) (text : List ℕ) where
-  -- if serving stopped, its index was loaded
-  pub serving_index : (stop : Stop) → ServingStop H files words before now text stop → (archive : Archive) × HasIndex H files words.index archive
-  serving_index Link (inl shut) = (shut.archive, shut.index)
-  serving_index Link (inr broken) = (broken.served.archive, broken.served.index)
-  serving_index (Faults count) (some, all) = (all.served.archive, all.served.index)
-  serving_index Memory unmade = (unmade.served.archive, unmade.served.index)
-  serving_index Usage stops = absurd stops
-  serving_index Shelf stops = absurd stops
-  serving_index (Input line) stops = absurd stops
-  serving_index (Rejected lines) stops = absurd stops
-  serving_index (Peer line) stops = absurd stops
-  serving_index (Collision lines) stops = absurd stops
-
   -- if links ended by a fault, the door's count of broken links rose
   broken_rose : (count : ℕ) → 0 < count → AreAllServed H files words before now count text → HasRisen before.broken now.broken
   broken_rose count some all =

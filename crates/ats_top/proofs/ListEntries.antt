@@ -1,11 +1,10 @@
 -- What the lines of a list ask for, line by line.
-use Rattle.std.proofs.Common.{◌≡◌, ◌⊎◌, ◌++◌, ◌∷◌, ◌<◌, ◌≤◌, ◌+◌, ◌^◌, ℕ, List, [], length, refl, sym, ap, subst, ◌∙◌, inl, inr, arith, append-nil, append_assoc}
+use Rattle.std.proofs.Common.{◌≡◌, ◌⊎◌, ◌++◌, ◌∷◌, ◌<◌, ◌≤◌, ◌+◌, ℕ, List, [], length, refl, sym, ap, subst, ◌∙◌, inl, inr, arith, append-nil, append_assoc}
 use Rattle.std.specs.List.{AllZip}
 use Rattle.std.proofs.lemmas.Slice.Zip.{AllZip-long}
 use Rattle.ats_terms.specs.Query.{HasQuery}
-use Rattle.ats_top.specs.Read.{Files, IsFile}
-use Rattle.ats_top.specs.Listed.{Listed, lines_of, IsListed, IsList, IsBadLine, IsEntry, names_of}
-use Rattle.ats_top.specs.Sweeping.{IsSpelledAs, entry_names}
+use Rattle.ats_top.specs.Listed.{Listed, lines_of, IsListed, IsListOf, IsBadLine, names_of}
+use Rattle.ats_top.specs.Inner.Sweeping.{IsEntry, IsSpelledAs, entry_names}
 use Rattle.ats_top.specs.declared.listing.Entry.{Entry}
 use Rattle.ats_top.proofs.OneList.{one_spelled}
 
@@ -50,13 +49,13 @@ listed_names (line ∷ lines) (entry ∷ entries) are =
     ∙ ap (λ (names : List (List ℕ)). entry.proof.now ∷ names) (listed_names lines entries are.1)
 
 -- the list of the entries that were read
-pub list_is : (files : Files) (name bytes : List ℕ) (entries : List Entry) → IsFile files name (2 ^ 20) bytes → (are : AllZip IsEntry (lines_of bytes) entries)
-    → 1 ≤ length entries → length entries ≤ 1000 → IsList files name (listed_of (lines_of bytes) entries are)
-list_is files name bytes entries file are some few =
+pub list_is : (bytes : List ℕ) (entries : List Entry) (are : AllZip IsEntry (lines_of bytes) entries) → 1 ≤ length entries → length entries ≤ 1000
+    → IsListOf bytes (listed_of (lines_of bytes) entries are)
+list_is bytes entries are some few =
     let each = listed_are (lines_of bytes) entries are in
     let long = AllZip-long IsListed (lines_of bytes) (listed_of (lines_of bytes) entries are) each in
     let other = AllZip-long IsEntry (lines_of bytes) entries are in
-    record { bytes = bytes; file = file; some = omega (arith, long, other, some); few = omega (arith, long, other, few); each = each }
+    record { some = omega (arith, long, other, some); few = omega (arith, long, other, few); each = each }
 
 one_more : (lines : List (List ℕ)) (entries : List Entry) (line : List ℕ) (entry : Entry) → AllZip IsEntry lines entries → IsEntry line entry
     → AllZip IsEntry (lines ++ line ∷ []) (entries ++ entry ∷ [])

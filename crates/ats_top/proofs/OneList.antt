@@ -1,13 +1,11 @@
--- A line asks for at most one thing, and so a reported list has one reading.
-use Rattle.std.proofs.Common.{◌≡◌, ◌++◌, ◌∷◌, ◌&&◌, ◌||◌, ◌==◌, ◌≤◌, ◌^◌, ℕ, Bool, true, false, not, List, [], length, slice_index, nat_lt, nat_le, Some, None, refl, sym, ap, subst, if◌then◌else◌, ◌∙◌, inl, inr, arith}
+-- A line asks for at most one thing, and so a list has one reading, and at most one first bad line.
+use Rattle.std.proofs.Common.{◌≡◌, ◌++◌, ◌∷◌, ◌&&◌, ◌||◌, ◌==◌, ℕ, Bool, true, false, not, List, [], length, slice_index, nat_lt, nat_le, Some, None, refl, sym, ap, subst, if◌then◌else◌, ◌∙◌, inl, inr, arith}
 use Rattle.std.specs.List.{AllZip, list_all}
 use Rattle.std.specs.Char.{is_ascii_digit}
 use Rattle.std.specs.Str.Parse.{digits_value}
 use Rattle.std.proofs.lemmas.Slice.Zip.{AllZip-long}
 use Rattle.ats_top.specs.Words.{is_number_word, number_of}
-use Rattle.ats_top.specs.Read.{Files, IsTold}
-use Rattle.ats_top.specs.Listed.{Listed, lines_of, IsSpelled, IsListed, IsList, IsBadLine}
-use Rattle.ats_top.proofs.ToldFiles.{one_file}
+use Rattle.ats_top.specs.Listed.{Listed, lines_of, IsSpelled, IsListed, IsListOf, IsBadLine}
 
 both : (x y : Bool) → (x && y) ≡ true → (x ≡ true) × (y ≡ true)
 both true y h = (refl, h)
@@ -69,11 +67,9 @@ same_zip R one (x ∷ xs) (a ∷ ys) (b ∷ zs) is also =
 one_listed : (line : List ℕ) (a b : Listed) → IsListed line a → IsListed line b → a ≡ b
 one_listed line a b is also = one_spelled line a b is.spelled also.spelled
 
--- a reported list is one
-pub one_list : (files : Files) (name : List ℕ) (a b : List Listed) → IsTold files → IsList files name a → IsList files name b → a ≡ b
-one_list files name a b told is also =
-    let same = one_file files name is.bytes also.bytes (2 ^ 20) (2 ^ 20) told is.file also.file in
-    same_zip IsListed one_listed (lines_of also.bytes) a b (subst (λ (bytes : List ℕ). AllZip IsListed (lines_of bytes) a) same is.each) also.each
+-- the bytes of a list are one list
+pub one_list : (bytes : List ℕ) (a b : List Listed) → IsListOf bytes a → IsListOf bytes b → a ≡ b
+one_list bytes a b is also = same_zip IsListed one_listed (lines_of bytes) a b is.each also.each
 
 -- in lines that all ask for something there is no bad one
 good_lines : (before after : List (List ℕ)) (line : List ℕ) (listed : List Listed) → ((l : Listed) → IsListed line l → ⊥)
@@ -83,12 +79,12 @@ good_lines [] after line (l ∷ listed) bad is = bad l is.0
 good_lines (b ∷ before) after line [] bad is = is
 good_lines (b ∷ before) after line (l ∷ listed) bad is = good_lines before after line listed bad is.1
 
-pub no_bad_line : (lines : List (List ℕ)) (listed : List Listed) → 1 ≤ length listed → length listed ≤ 1000 → AllZip IsListed lines listed
-    → (number : ℕ) → IsBadLine lines number → ⊥
-no_bad_line lines listed some few is number (inl (none, one)) = omega (arith, AllZip-long IsListed lines listed is, some, ap length none)
-no_bad_line lines listed some few is number (inr (inl (many, is_that))) = omega (arith, AllZip-long IsListed lines listed is, few, many)
-no_bad_line lines listed some few is number (inr (inr bad)) =
-    good_lines bad.before bad.after bad.line listed bad.bad (subst (λ (all : List (List ℕ)). AllZip IsListed all listed) bad.parts is)
+-- nor is there one in a list
+pub no_bad_line : (bytes : List ℕ) (listed : List Listed) → IsListOf bytes listed → (number : ℕ) → IsBadLine (lines_of bytes) number → ⊥
+no_bad_line bytes listed is number (inl (none, one)) = omega (arith, AllZip-long IsListed (lines_of bytes) listed is.each, is.some, ap length none)
+no_bad_line bytes listed is number (inr (inl (many, is_that))) = omega (arith, AllZip-long IsListed (lines_of bytes) listed is.each, is.few, many)
+no_bad_line bytes listed is number (inr (inr bad)) =
+    good_lines bad.before bad.after bad.line listed bad.bad (subst (λ (all : List (List ℕ)). AllZip IsListed all listed) bad.parts is.each)
 
 -- the first bad line is one
 first_bad : (before other after rest : List (List ℕ)) (line next : List ℕ) (listed others : List Listed)

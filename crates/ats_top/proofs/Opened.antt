@@ -10,9 +10,10 @@ use Rattle.ats_wire.specs.Connections.{is_fault}
 use Rattle.ats_wire.specs.Moving.{FailsOnce}
 use Rattle.ats_wire.specs.declared.reply.Reply.{Reply}
 use Rattle.ats_top.specs.Words.{ServeWords}
-use Rattle.ats_top.specs.Read.{Files}
-use Rattle.ats_top.specs.Serving.{Session, IsSession, after_session, broken_after, FailedToAccept, DoorAndSink, faults_of}
-use Rattle.ats_top.specs.Served.{HasServed, Attends, KeepsContent, Opens}
+use Rattle.ats_plan.specs.Files.{Files}
+use Rattle.ats_top.specs.Serving.{Session, IsSession, after_session, broken_after, FailedToAccept, faults_of}
+use Rattle.ats_top.specs.Inner.Serving.{DoorAndSink, Attends}
+use Rattle.ats_top.specs.Served.{HasServed, KeepsContent, Opens}
 use Rattle.ats_top.specs.declared.serving.Halt.{Halt}
 use Rattle.ats_top.specs.declared.serving.Halt.TheVariants.{Door, Sink, Memory}
 

@@ -1,9 +1,9 @@
--- The lines of all proofs, one after another, and the status that they give.
+-- The lines of all proofs, one after another, and whether one is refused or collides.
 use Rattle.std.proofs.Common.{◌≡◌, ◌++◌, ◌∷◌, ◌||◌, ◌<◌, ◌≤◌, ◌+◌, ℕ, zero, suc, Bool, true, false, List, [], length, drop, get_or, refl, sym, ap, ◌∙◌, arith, append-nil, append_assoc}
 use Rattle.std.specs.List.{list_any}
 use Rattle.ats_audit.specs.declared.auditing.Verdict.{Verdict}
-use Rattle.ats_top.specs.Findings.{Finding, is_refused, is_collision, status_of_findings, line_of_finding, finding_lines, lines_of_findings}
-use Rattle.ats_top.specs.Sweeping.{finding_of, findings_of, IsReport}
+use Rattle.ats_top.specs.Findings.{Finding, is_refused, is_collision, line_of_finding, finding_lines, lines_of_findings}
+use Rattle.ats_top.specs.Inner.Sweeping.{finding_of, findings_of, IsReport}
 use Rattle.ats_top.specs.declared.gathering.Gathered.{Gathered}
 use Rattle.ats_top.specs.declared.sweeping.Report.{Report}
 
@@ -79,15 +79,3 @@ module _ (proofs : List Gathered) (verdicts : List Verdict) (same : length verdi
         refused = sym (or_none report.refused) ∙ ap (λ (fs : List Finding). report.refused || list_any is_refused fs) (sym none) ∙ so_far.refused;
         collides = sym (or_none report.collides) ∙ ap (λ (fs : List Finding). report.collides || list_any is_collision fs) (sym none) ∙ so_far.collides;
       }
-
--- ---- the status
-
-module _ (proofs : List Gathered) (verdicts : List Verdict) (report : Report) (is : IsReport proofs verdicts report) where
-  pub right_status : report.collides ≡ false → report.refused ≡ false → status_of_findings (findings_of proofs verdicts) ≡ 0
-  right_status collides refused = rw (sym is.collides ∙ collides, sym is.refused ∙ refused) refl
-
-  pub refused_status : report.collides ≡ false → report.refused ≡ true → status_of_findings (findings_of proofs verdicts) ≡ 1
-  refused_status collides refused = rw (sym is.collides ∙ collides, sym is.refused ∙ refused) refl
-
-  pub collision_status : report.collides ≡ true → status_of_findings (findings_of proofs verdicts) ≡ 5
-  collision_status collides = rw (sym is.collides ∙ collides) refl

@@ -1,35 +1,28 @@
 -- How a run of `serve` ends.
-use Rattle.std.proofs.Common.{◌≡◌, ◌≤◌, ℕ, List, Result, Ok, Err, Option, Some, None, refl, sym, ap, subst, inl, inr, arith}
+use Rattle.std.proofs.Common.{◌≡◌, ◌≢◌, ◌≤◌, ◌∙◌, ℕ, List, [], Result, Ok, Err, Some, refl, sym, subst, inl, inr, arith}
 use Rattle.ats_base.specs.Outside.{ShelfTold, SinkTold}
 use Rattle.ats_base.specs.Links.{CallerTold, DoorTold}
-use Rattle.ats_top.specs.Words.{ServeWords, Command, Rank, Build, Root, Prove, Verify, Ask, Serve, Audit, Sweep, Trial, command_of, serving_of}
+use Rattle.ats_top.specs.Words.{ServeWords, Serve, command_of}
 use Rattle.ats_top.specs.Outside.{Outside}
-use Rattle.ats_top.specs.Read.{Files}
+use Rattle.ats_commit.specs.Archive.{Archive}
+use Rattle.ats_plan.specs.Files.{Files}
+use Rattle.ats_plan.specs.Runs.{IsDone, IsStopped}
+use Rattle.ats_plan.proofs.Public.{leads_none, done_end}
+use Rattle.ats_top.specs.Steps.{reads_index}
+use Rattle.ats_top.specs.Inner.Steps.{no_more, comes_to}
+use Rattle.ats_top.specs.Commands.Serve.{serve_plan}
 use Rattle.ats_top.specs.Stops.{Done, Unprinted}
-use Rattle.ats_top.specs.ReadStops.{IndexStop}
-use Rattle.ats_top.specs.Serving.{DoorAndSink, Took, FailedToTake}
-use Rattle.ats_top.specs.Served.{AreAllServed, Attends}
-use Rattle.ats_top.specs.Run.{FilesStop, PrintsStop, Ended}
-use Rattle.ats_top.specs.Outcome.{PrintsOutcome}
+use Rattle.ats_top.specs.Inner.Serving.{DoorAndSink, Attends}
+use Rattle.ats_top.specs.Serving.{Took, FailedToTake}
+use Rattle.ats_top.specs.Served.{AreAllServed}
+use Rattle.ats_top.specs.Inner.Outcome.{PrintsStop, PrintsOutcome}
+use Rattle.ats_top.specs.Run.{Ended}
 use Rattle.ats_top.specs.declared.serving.Halt.{Halt}
 use Rattle.ats_top.specs.declared.serving.Halt.TheVariants.{Door, Sink, Memory}
 use Rattle.ats_top.specs.declared.stops.Stop.{Stop}
 use Rattle.ats_top.specs.declared.stops.Stop.TheVariants as stop
-use Rattle.ats_top.proofs.Stopped.{files_end, stop_ended, stopped_behind}
-
--- words that are those of `serve` say its command
-pub serving_said : (command : Option Command) (words : ServeWords) → Some words ≡ serving_of command → command ≡ Some (Serve words)
-serving_said None words is = absurd (cc)
-serving_said (Some (Rank other)) words is = absurd (cc)
-serving_said (Some (Build other)) words is = absurd (cc)
-serving_said (Some (Root other)) words is = absurd (cc)
-serving_said (Some (Prove other)) words is = absurd (cc)
-serving_said (Some (Verify other)) words is = absurd (cc)
-serving_said (Some (Ask other)) words is = absurd (cc)
-serving_said (Some (Audit other)) words is = absurd (cc)
-serving_said (Some (Sweep other)) words is = absurd (cc)
-serving_said (Some (Trial other)) words is = absurd (cc)
-serving_said (Some (Serve other)) words is = let same : words ≡ other = cc in ap (λ (w : ServeWords). Some (Serve w)) (sym same)
+use Rattle.ats_top.proofs.Fronts.{leads_index, at_index, memory_stops}
+use Rattle.ats_top.proofs.Stopped.{stop_ended, stopped_after}
 
 -- the count of the sink did not fall
 pub attends_later : (H : List ℕ → List ℕ) (files : Files) (words : ServeWords) (before now : DoorAndSink) (result : Result ℕ Halt)
@@ -39,54 +32,78 @@ attends_later H files words before now (Err Door) (text, took, how) = omega (ari
 attends_later H files words before now (Err Sink) (text, failed, some) = failed.later
 attends_later H files words before now (Err Memory) (text, took, some) = omega (arith, took.kept)
 
+-- the line of a fault of the door has its status, unless the sink failed
+link_printed : (before now : SinkTold) (result : ℕ) → PrintsStop before now stop.Link result → result ≢ 8 → result ≢ 7 → ⊥
+link_printed before now result (inl (inl (printed, is, took))) not_door not_sink = not_door is
+link_printed before now result (inl (inr (is, failed))) not_door not_sink = not_sink is
+link_printed before now result (inr (has, prints)) not_door not_sink = has
+
+-- the count of the door's faults is as before, unless the status is that of its fault
+pub attends_door : (H : List ℕ → List ℕ) (files : Files) (words : ServeWords) (before now : DoorAndSink) (outcome : Result ℕ Halt) (after : SinkTold) (result : ℕ)
+    → Attends H files words before now outcome → PrintsOutcome now.sink after outcome result → result ≢ 8 → result ≢ 7
+    → now.door.faults ≡ before.door.faults
+attends_door H files words before now (Ok faults) after result (text, took, all) prints not_door not_sink = all.served.had.kept ∙ all.served.listened.kept
+attends_door H files words before now (Err Door) after result (text, took, how) prints not_door not_sink =
+    absurd (link_printed now.sink after result prints not_door not_sink)
+attends_door H files words before now (Err Memory) after result (text, took, unmade) prints not_door not_sink = unmade.served.had.kept ∙ unmade.served.listened.kept
+attends_door H files words before now (Err Sink) after result (text, failed, some) prints not_door not_sink = some.served.had.kept ∙ some.served.listened.kept
+
 module _ (H : List ℕ → List ℕ) (said : List (List ℕ)) (words : ServeWords) (is : command_of said ≡ Some (Serve words)) (caller : CallerTold)
-    (shelf later : ShelfTold) (same : later.files ≡ shelf.files) where
+    (shelf later : ShelfTold) where
   abbrev at : ShelfTold → SinkTold → DoorTold → Outside
   at shelf sink door = record { shelf = shelf; sink = sink; caller = caller; door = door }
 
-  index_stop : (why : Stop) → IndexStop H shelf later words.index why → FilesStop H shelf later (Serve words) why
-  index_stop stop.Shelf (inl rose) = (inl (tt, rose), inl same)
-  index_stop stop.Shelf (inr missing) = (inr missing, inl same)
-  index_stop (stop.Input line) refused = (refused, same)
-  index_stop stop.Memory free = same
-  index_stop stop.Usage stops = absurd stops
-  index_stop (stop.Rejected lines) stops = absurd stops
-  index_stop stop.Link stops = absurd stops
-  index_stop (stop.Peer line) stops = absurd stops
-  index_stop (stop.Faults count) stops = absurd stops
-  index_stop (stop.Collision lines) stops = absurd stops
-
   -- the index was not loaded
-  pub unloaded : (why : Stop) (sink now : SinkTold) (door : DoorTold) (result : ℕ) → IndexStop H shelf later words.index why → PrintsStop sink now why result
+  pub unloaded : (why : Stop) (sink now : SinkTold) (door : DoorTold) (result : ℕ)
+      → IsStopped stop.Shelf stop.Memory (reads_index H words.index (λ archive. no_more)) shelf later why → PrintsStop sink now why result
       → Ended H said (at shelf sink door) (at later now door) result
   unloaded why sink now door result stops prints =
-      stop_ended H said (at shelf sink door) (at later now door) why result
-      (files_end H shelf later caller caller door said (Serve words) is why (index_stop why stops) sink now) prints
+      stop_ended H said (at shelf sink door) (at later now door) why result (inr (
+        Serve words,
+        is,
+        inl (record {
+          plan = at_index stops;
+          silent = refl;
+          door = refl;
+        }),
+      )) prints
 
-  -- there was no memory for the room
-  pub roomless : (sink now : SinkTold) (door : DoorTold) (result : ℕ) → PrintsStop sink now stop.Memory result → Ended H said (at shelf sink door) (at later now door) result
-  roomless sink now door result prints =
-      stop_ended H said (at shelf sink door) (at later now door) stop.Memory result (Serve words, is, inl (refl, same, refl)) prints
+  module _ (archive : Archive) (loaded : IsDone (reads_index H words.index (comes_to archive)) shelf later []) where
+    plan_done : (text : List ℕ) → IsDone (serve_plan H words) shelf later text
+    plan_done text = (leads_index leads_none loaded).does later text (done_end tt)
 
-  -- the links were served, or not all
-  pub served : (sink mid now : SinkTold) (door left : DoorTold) (outcome : Result ℕ Halt) (result : ℕ)
-      → Attends H shelf.files words (record { door = door; sink = sink }) (record { door = left; sink = mid }) outcome
-      → PrintsOutcome mid now outcome result → Ended H said (at shelf sink door) (at later now left) result
-  served sink mid now door left (Ok faults) result (text, took, all) (inl (none, done, quiet)) = record {
-    end = Done text;
-    ends = (Serve words, is, (subst (λ (n : ℕ). AreAllServed H shelf.files words door left n text) none all, same));
-    prints = inl (omega (arith, done), done, subst (λ (s : SinkTold). Took sink s text) (sym quiet) took);
-  }
-  served sink mid now door left (Ok faults) result (text, took, all) (inr (some, prints)) =
-      stopped_behind H said (at shelf sink door) (at later now left) text mid (stop.Faults faults) result took (Serve words, is, inr ((some, all), same)) prints
-  served sink mid now door left (Err Door) result (text, took, how) prints =
-      stopped_behind H said (at shelf sink door) (at later now left) text mid stop.Link result took (Serve words, is, inr (how, same)) prints
-  served sink mid now door left (Err Memory) result (text, took, unmade) prints =
-      stopped_behind H said (at shelf sink door) (at later now left) text mid stop.Memory result took (Serve words, is, inr (unmade, same)) prints
-  served sink mid now door left (Err Sink) result (text, failed, some) (seven, quiet) =
-      let told = subst (λ (s : SinkTold). FailedToTake sink s text) (sym quiet) failed in
-      record {
-        end = Unprinted text;
-        ends = (Serve words, is, (some, same));
-        prints = inr (seven, told);
-      }
+    -- there was no memory for the room
+    pub roomless : (sink now : SinkTold) (door : DoorTold) (result : ℕ) → PrintsStop sink now stop.Memory result → Ended H said (at shelf sink door) (at later now door) result
+    roomless sink now door result prints =
+        stop_ended H said (at shelf sink door) (at later now door) stop.Memory result (inr (
+          Serve words,
+          is,
+          inl (record {
+            plan = memory_stops (leads_index leads_none loaded) refl;
+            silent = refl;
+            door = refl;
+          }),
+        )) prints
+
+    -- the links were served, or not all
+    pub served : (sink mid now : SinkTold) (door left : DoorTold) (outcome : Result ℕ Halt) (result : ℕ)
+        → Attends H shelf.files words (record { door = door; sink = sink }) (record { door = left; sink = mid }) outcome
+        → PrintsOutcome mid now outcome result → Ended H said (at shelf sink door) (at later now left) result
+    served sink mid now door left (Ok faults) result (text, took, all) (inl (none, done, quiet)) = record {
+      end = Done text;
+      ends = (Serve words, is, record { plan = plan_done text; links = subst (λ (n : ℕ). AreAllServed H shelf.files words door left n text) none all });
+      prints = inl (omega (arith, done), done, subst (λ (s : SinkTold). Took sink s text) (sym quiet) took);
+    }
+    served sink mid now door left (Ok faults) result (text, took, all) (inr (some, prints)) =
+        stopped_after H said (at shelf sink door) (at later now left) text mid (stop.Faults faults) result took (inr (Serve words, is, inr (record { plan = plan_done text; links = (some, all) }))) prints
+    served sink mid now door left (Err Door) result (text, took, how) prints =
+        stopped_after H said (at shelf sink door) (at later now left) text mid stop.Link result took (inr (Serve words, is, inr (record { plan = plan_done text; links = how }))) prints
+    served sink mid now door left (Err Memory) result (text, took, unmade) prints =
+        stopped_after H said (at shelf sink door) (at later now left) text mid stop.Memory result took (inr (Serve words, is, inr (record { plan = plan_done text; links = unmade }))) prints
+    served sink mid now door left (Err Sink) result (text, failed, some) (seven, quiet) =
+        let told = subst (λ (s : SinkTold). FailedToTake sink s text) (sym quiet) failed in
+        record {
+          end = Unprinted text;
+          ends = (Serve words, is, record { plan = plan_done text; links = some });
+          prints = inr (seven, told);
+        }

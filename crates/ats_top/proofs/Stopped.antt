@@ -1,22 +1,78 @@
 -- How a command that is done or stopped ends.
-use Rattle.std.proofs.Common.{◌≡◌, ◌++◌, ℕ, List, [], refl, inl, inr, Some, Result, Ok, Err, IfErr}
+use Rattle.std.proofs.Common.{◌≡◌, ◌≢◌, ◌⊎◌, ◌++◌, ℕ, List, [], refl, sym, subst, inl, inr, Some, None, Result, Ok, Err, IfErr}
 use Rattle.std.specs.Prelude.{IfOk}
 use Rattle.ats_base.specs.Outside.{ShelfTold, SinkTold}
 use Rattle.ats_base.specs.Links.{CallerTold, DoorTold}
-use Rattle.ats_top.specs.Words.{RankWords, AskWords, TrialWords, Command, Rank, Ask, Trial, command_of}
-use Rattle.ats_top.specs.ReadStops.{RankingStop}
-use Rattle.ats_top.specs.Refusals.{IsCollectionRefused}
-use Rattle.ats_top.specs.Trial.{IsTrialStop}
+use Rattle.ats_plan.specs.Plan.{Refuses}
+use Rattle.ats_plan.specs.Runs.{IsDone, IsStopped}
+use Rattle.ats_plan.proofs.Public.{at_memory, stops_memory}
+use Rattle.ats_top.specs.Words.{AskWords, Command, Ask, command_of}
 use Rattle.ats_top.specs.Outside.{Outside}
-use Rattle.ats_top.specs.Done.{IsDone}
-use Rattle.ats_top.specs.Stops.{End, Done, Stopped, HasLine, status_of_stop, text_of_stop}
-use Rattle.ats_top.specs.Asked.{AskStop}
+use Rattle.ats_top.specs.Commands.{plan_of}
+use Rattle.ats_top.specs.Commands.Ask.{ask_plan}
+use Rattle.ats_top.specs.Asked.{IsReplyVerified}
+use Rattle.ats_top.specs.Inner.Stops.{AskStop}
 use Rattle.ats_top.specs.Serving.{Took}
-use Rattle.ats_top.proofs.LinkEnds.{links_memory}
-use Rattle.ats_top.specs.Run.{FilesStop, Ends, Prints, PrintsStop, Ended}
+use Rattle.ats_top.specs.Stops.{End, Done, Stopped, status_of_stop, text_of_stop}
+use Rattle.ats_top.specs.Inner.Outcome.{HasLine, PrintsStop}
+use Rattle.ats_top.specs.Run.{LinksDone, StoppedEarly, IsHalted, RunEnds, Prints, Ended}
 use Rattle.ats_top.specs.declared.stops.Stop.{Stop}
-use Rattle.ats_top.specs.declared.stops.Stop.TheVariants.{Usage, Shelf, Input, Rejected, Memory, Link, Peer, Faults, Collision}
+use Rattle.ats_top.specs.declared.stops.Stop.TheVariants.{Usage, Shelf, Memory}
+use Rattle.ats_top.proofs.LinkEnds.{ask_done, links_memory}
 use Rattle.ats_top.proofs.Sessions.{took_then, failed_then}
+
+-- what is printed after a text that was taken is printed with it
+prints_then : (before mid now : SinkTold) (status : ℕ) (text more : List ℕ) (result : ℕ) → Took before mid text
+    → Prints mid now status more result → Prints before now status (text ++ more) result
+prints_then before mid now status text more result took (inl (not, is, all)) = inl (not, is, took_then before mid now text more took all)
+prints_then before mid now status text more result took (inr (is, failed)) = inr (is, failed_then before mid now text more took failed)
+
+-- the stop has a line of its own
+has_other : (stop : Stop) → HasLine stop → stop ≢ Shelf
+has_other Shelf has same = has
+has_other stop has same = absurd (cc)
+
+has_said : (stop : Stop) → HasLine stop → stop ≢ Usage
+has_said Usage has same = has
+has_said stop has same = absurd (cc)
+
+module _ (H : List ℕ → List ℕ) (said : List (List ℕ)) (before now : Outside) where
+  -- a stop for out of memory in place of one that has a line
+  memory_early : (command : Command) (text : List ℕ) (stop : Stop) → stop ≢ Shelf → StoppedEarly H before now command text stop
+      → StoppedEarly H before now command text Memory
+  memory_early command text stop other early = record {
+    plan = record { so = stops_memory Shelf Memory (plan_of H command) before.shelf now.shelf stop early.plan.so other };
+    silent = early.silent;
+    door = early.door;
+  }
+
+  halted_memory : (command : Command) (text : List ℕ) (stop : Stop) → HasLine stop → IsHalted H before now command text stop → IsHalted H before now command text Memory
+  halted_memory command text stop has (inl early) = inl (memory_early command text stop (has_other stop has) early)
+  halted_memory command text stop has (inr late) = inr (record { plan = late.plan; links = links_memory H before now command text stop has late.links })
+
+  -- if memory for the line of a stop runs out, the stop is out of memory
+  pub no_line : (text : List ℕ) (stop : Stop) → HasLine stop → RunEnds H before now said (Stopped text stop) → RunEnds H before now said (Stopped text Memory)
+  no_line text stop has (inl unsaid) = absurd (has_said stop has unsaid.usage)
+  no_line text stop has (inr (command, is, halted)) = inr (command, is, halted_memory command text stop has halted)
+
+  -- a command that stopped before it printed, and whose stop was then printed
+  pub stop_ended : (stop : Stop) (result : ℕ) → RunEnds H before now said (Stopped [] stop) → PrintsStop before.sink now.sink stop result → Ended H said before now result
+  stop_ended stop result ends (inl prints) = record { end = Stopped [] stop; ends = ends; prints = prints }
+  stop_ended stop result ends (inr (has, prints)) = record { end = Stopped [] Memory; ends = no_line [] stop has ends; prints = prints }
+
+  -- a command that stopped after this text, which was taken, and whose stop was then printed
+  pub stopped_after : (text : List ℕ) (mid : SinkTold) (stop : Stop) (result : ℕ) → Took before.sink mid text
+      → RunEnds H before now said (Stopped text stop) → PrintsStop mid now.sink stop result → Ended H said before now result
+  stopped_after text mid stop result took ends (inl prints) = record {
+    end = Stopped text stop;
+    ends = ends;
+    prints = prints_then before.sink mid now.sink (status_of_stop stop) text (text_of_stop stop) result took prints;
+  }
+  stopped_after text mid stop result took ends (inr (has, prints)) = record {
+    end = Stopped text Memory;
+    ends = no_line text stop has ends;
+    prints = prints_then before.sink mid now.sink (status_of_stop Memory) text (text_of_stop Memory) result took prints;
+  }
 
 -- what all objects but the sink report, before and after a command of these words
 module _ (H : List ℕ → List ℕ) (shelf later_shelf : ShelfTold) (caller later_caller : CallerTold) (door : DoorTold)
@@ -29,129 +85,54 @@ module _ (H : List ℕ → List ℕ) (shelf later_shelf : ShelfTold) (caller lat
 
   -- whatever the sink reports
   abbrev EndsSo : End → Type 0
-  EndsSo end = (was is : SinkTold) → Ends H (before was) (now is) said end
+  EndsSo end = (was is : SinkTold) → RunEnds H (before was) (now is) said end
 
-  pub files_end : (stop : Stop) → FilesStop H shelf later_shelf command stop → EndsSo (Stopped [] stop)
-  files_end Usage stops = absurd stops
-  files_end Shelf stops = λ was now. (command, is, inl (refl, stops, refl))
-  files_end (Input line) stops = λ was now. (command, is, inl (refl, stops, refl))
-  files_end (Rejected lines) stops = λ was now. (command, is, inl (refl, stops, refl))
-  files_end Memory stops = λ was now. (command, is, inl (refl, stops, refl))
-  files_end Link stops = absurd stops
-  files_end (Peer line) stops = absurd stops
-  files_end (Faults count) stops = absurd stops
-  files_end (Collision lines) stops = λ was now. (command, is, inl (refl, stops, refl))
+  -- a command that its plan stopped
+  pub plan_end : (stop : Stop) → IsStopped Shelf Memory (plan_of H command) shelf later_shelf stop → EndsSo (Stopped [] stop)
+  plan_end stop stopped = λ was after.
+      inr (command, is, inl (record { plan = stopped; silent = refl; door = refl }))
 
-  -- a command that stopped by its words or files
-  pub files_ends : {T : Type 0} (result : Result T Stop) → IfErr result (FilesStop H shelf later_shelf command)
+  pub plan_ends : {T : Type 0} (result : Result T Stop) → IfErr result (IsStopped Shelf Memory (plan_of H command) shelf later_shelf)
       → IfErr result (λ stop. EndsSo (Stopped [] stop))
-  files_ends (Ok _) stops = tt
-  files_ends (Err stop) stops = files_end stop stops
+  plan_ends (Ok _) stopped = tt
+  plan_ends (Err stop) stopped = plan_end stop stopped
 
-  -- a command that is done, by what its text must be
-  pub done_ends : {T : Type 0} (bytes_of : T → List ℕ) (Does : List ℕ → Type 0) (result : Result T Stop)
-      → ((text : List ℕ) → Does text → (was is : SinkTold) → IsDone H (before was) (now is) command text)
-      → IfOk result (λ text. Does (bytes_of text)) → IfOk result (λ text. EndsSo (Done (bytes_of text)))
-  done_ends bytes_of Does (Ok text) says done = λ was now. (command, is, says (bytes_of text) done was now)
-  done_ends bytes_of Does (Err stop) says done = tt
+  -- a command that does nothing after its plan
+  pub done_ends : {T : Type 0} (bytes_of : T → List ℕ) (result : Result T Stop)
+      → ((was is : SinkTold) (text : List ℕ) → LinksDone H (before was) (now is) command text)
+      → IfOk result (λ text. IsDone (plan_of H command) shelf later_shelf (bytes_of text)) → IfOk result (λ text. EndsSo (Done (bytes_of text)))
+  done_ends bytes_of (Ok text) links done = λ was after. (command, is, record { plan = done; links = links was after (bytes_of text) })
+  done_ends bytes_of (Err stop) links done = tt
 
--- `ask` that stopped before it printed, whatever the sink reports
+-- `ask`, whatever the sink reports
 module _ (H : List ℕ → List ℕ) (shelf : ShelfTold) (caller later : CallerTold) (door : DoorTold)
     (said : List (List ℕ)) (words : AskWords) (is : command_of said ≡ Some (Ask words)) where
-  ask_end : (stop : Stop) → AskStop H caller later words stop → (was now : SinkTold)
-      → Ends H (record { shelf = shelf; sink = was; caller = caller; door = door }) (record { shelf = shelf; sink = now; caller = later; door = door }) said (Stopped [] stop)
-  ask_end Usage stops was now = absurd stops
-  ask_end Shelf stops was now = absurd stops
-  ask_end (Input line) stops was now = (Ask words, is, inr (refl, stops, refl))
-  ask_end (Rejected lines) stops was now = (Ask words, is, inr (refl, stops, refl))
-  ask_end Memory stops was now = (Ask words, is, inr (refl, stops, refl))
-  ask_end Link stops was now = (Ask words, is, inr (refl, stops, refl))
-  ask_end (Peer line) stops was now = (Ask words, is, inr (refl, stops, refl))
-  ask_end (Faults count) stops was now = absurd stops
-  ask_end (Collision lines) stops was now = absurd stops
+  abbrev at : CallerTold → SinkTold → Outside
+  at caller sink = record { shelf = shelf; sink = sink; caller = caller; door = door }
 
-  pub ask_ends : {X : Type 0} (result : Result X Stop) → IfErr result (AskStop H caller later words)
-      → IfErr result (λ stop. (was now : SinkTold)
-      → Ends H (record { shelf = shelf; sink = was; caller = caller; door = door }) (record { shelf = shelf; sink = now; caller = later; door = door }) said (Stopped [] stop))
+  abbrev AskEndsSo : End → Type 0
+  AskEndsSo end = (was now : SinkTold) → RunEnds H (at caller was) (at later now) said end
+
+  -- its words stopped it
+  refused_stop : (stop : Stop) → Refuses Shelf None (ask_plan words) stop → IsStopped Shelf Memory (ask_plan words) shelf shelf stop
+  refused_stop stop (inl rows) = record { so = inl (refl, inr rows) }
+  refused_stop stop (inr (rows, inl query)) = record { so = inr (rows, inl (refl, inr query)) }
+  refused_stop stop (inr (rows, inr (query, asked, never))) = absurd never
+
+  unasked_stop : (stop : Stop) → (stop ≡ Memory) ⊎ Refuses Shelf None (ask_plan words) stop → IsStopped Shelf Memory (ask_plan words) shelf shelf stop
+  unasked_stop stop (inl same) = subst (IsStopped Shelf Memory (ask_plan words) shelf shelf) (sym same) (at_memory {plan = ask_plan words})
+  unasked_stop stop (inr refuses) = refused_stop stop refuses
+
+  ask_halted : (stop : Stop) → AskStop H caller later words stop → (was now : SinkTold) → IsHalted H (at caller was) (at later now) (Ask words) [] stop
+  ask_halted stop (inl unasked) was now = inl (record { plan = unasked_stop stop unasked; silent = refl; door = refl })
+  ask_halted stop (inr (asks, stops)) was now = inr (record { plan = ask_done words shelf [] asks; links = (refl, stops) })
+
+  pub ask_ends : {T : Type 0} (result : Result T Stop) → IfErr result (AskStop H caller later words) → IfErr result (λ stop. AskEndsSo (Stopped [] stop))
   ask_ends (Ok _) stops = tt
-  ask_ends (Err stop) stops = ask_end stop stops
+  ask_ends (Err stop) stops = λ was now. inr (Ask words, is, ask_halted stop stops was now)
 
--- what is printed after a text that was taken is printed with it
-prints_then : (before mid now : SinkTold) (status : ℕ) (text more : List ℕ) (result : ℕ) → Took before mid text
-    → Prints mid now status more result → Prints before now status (text ++ more) result
-prints_then before mid now status text more result took (inl (not, is, all)) = inl (not, is, took_then before mid now text more took all)
-prints_then before mid now status text more result took (inr (is, failed)) = inr (is, failed_then before mid now text more took failed)
-
--- why `rank` stopped is why a command stops by its words and files
-rank_stop : (H : List ℕ → List ℕ) (before now : ShelfTold) (words : RankWords) (stop : Stop) → now.files ≡ before.files
-    → RankingStop before now words.collection words.r words.query (IsCollectionRefused before.files words.collection) stop → FilesStop H before now (Rank words) stop
-rank_stop H before now words Shelf same (asks, inl rose) = (inl (asks, rose), inl same)
-rank_stop H before now words Shelf same (asks, inr missing) = (inr (asks, missing), inl same)
-rank_stop H before now words (Input line) same stops = (stops, same)
-rank_stop H before now words Memory same stops = same
-rank_stop H before now words Usage same stops = absurd stops
-rank_stop H before now words (Rejected lines) same stops = absurd stops
-rank_stop H before now words Link same stops = absurd stops
-rank_stop H before now words (Peer line) same stops = absurd stops
-rank_stop H before now words (Faults count) same stops = absurd stops
-rank_stop H before now words (Collision lines) same stops = absurd stops
-
-pub rank_stops : {T : Type 0} (H : List ℕ → List ℕ) (before now : ShelfTold) (words : RankWords) (result : Result T Stop) → now.files ≡ before.files
-    → IfErr result (RankingStop before now words.collection words.r words.query (IsCollectionRefused before.files words.collection))
-    → IfErr result (FilesStop H before now (Rank words))
-rank_stops H before now words (Ok _) same stops = tt
-rank_stops H before now words (Err stop) same stops = rank_stop H before now words stop same stops
-
--- why a trial stopped is why a command stops that reads no file
-trial_stop : (H : List ℕ → List ℕ) (shelf : ShelfTold) (words : TrialWords) (stop : Stop) → IsTrialStop H words.number stop → FilesStop H shelf shelf (Trial words) stop
-trial_stop H shelf words (Input line) stops = (stops, refl)
-trial_stop H shelf words Memory stops = refl
-trial_stop H shelf words Usage stops = absurd stops
-trial_stop H shelf words Shelf stops = absurd stops
-trial_stop H shelf words (Rejected lines) stops = absurd stops
-trial_stop H shelf words Link stops = absurd stops
-trial_stop H shelf words (Peer line) stops = absurd stops
-trial_stop H shelf words (Faults count) stops = absurd stops
-trial_stop H shelf words (Collision lines) stops = absurd stops
-
-pub trial_ends : {T : Type 0} (H : List ℕ → List ℕ) (shelf : ShelfTold) (words : TrialWords) (result : Result T Stop) → IfErr result (IsTrialStop H words.number)
-    → IfErr result (FilesStop H shelf shelf (Trial words))
-trial_ends H shelf words (Ok _) stops = tt
-trial_ends H shelf words (Err stop) stops = trial_stop H shelf words stop stops
-
-module _ (H : List ℕ → List ℕ) (said : List (List ℕ)) (before now : Outside) where
-  -- if memory for the line of a stop runs out, the stop is out of memory
-  pub no_line : (text : List ℕ) (stop : Stop) → HasLine stop → Ends H before now said (Stopped text stop) → Ends H before now said (Stopped text Memory)
-  no_line text Usage has ends = absurd has
-  no_line text Shelf has ends = absurd has
-  no_line text (Input line) has (command, is, inl stops) = (command, is, inl (stops.0, stops.1.1, stops.2))
-  no_line text (Input line) has (command, is, inr links) = (command, is, links_memory H before now command text (Input line) has links)
-  no_line text (Rejected lines) has (command, is, inl stops) = (command, is, inl (stops.0, stops.1.1, stops.2))
-  no_line text (Rejected lines) has (command, is, inr links) = (command, is, links_memory H before now command text (Rejected lines) has links)
-  no_line text Memory has ends = absurd has
-  no_line text Link has ends = absurd has
-  no_line text (Peer line) has (command, is, inl stops) = absurd stops.1
-  no_line text (Peer line) has (command, is, inr links) = (command, is, links_memory H before now command text (Peer line) has links)
-  no_line text (Faults count) has (command, is, inl stops) = absurd stops.1
-  no_line text (Faults count) has (command, is, inr links) = (command, is, links_memory H before now command text (Faults count) has links)
-  no_line text (Collision lines) has (command, is, inl stops) = (command, is, inl (stops.0, stops.1.1, stops.2))
-  no_line text (Collision lines) has (command, is, inr links) = (command, is, links_memory H before now command text (Collision lines) has links)
-
-  -- a command that stopped before it printed, and whose stop was then printed
-  pub stop_ended : (stop : Stop) (result : ℕ) → Ends H before now said (Stopped [] stop) → PrintsStop before.sink now.sink stop result → Ended H said before now result
-  stop_ended stop result ends (inl prints) = record { end = Stopped [] stop; ends = ends; prints = prints }
-  stop_ended stop result ends (inr (has, prints)) = record { end = Stopped [] Memory; ends = no_line [] stop has ends; prints = prints }
-
-  -- a command that stopped after this text, which was taken, and whose stop was then printed
-  pub stopped_behind : (text : List ℕ) (mid : SinkTold) (stop : Stop) (result : ℕ) → Took before.sink mid text
-      → Ends H before now said (Stopped text stop) → PrintsStop mid now.sink stop result → Ended H said before now result
-  stopped_behind text mid stop result took ends (inl prints) = record {
-    end = Stopped text stop;
-    ends = ends;
-    prints = prints_then before.sink mid now.sink (status_of_stop stop) text (text_of_stop stop) result took prints;
-  }
-  stopped_behind text mid stop result took ends (inr (has, prints)) = record {
-    end = Stopped text Memory;
-    ends = no_line text stop has ends;
-    prints = prints_then before.sink mid now.sink (status_of_stop Memory) text (text_of_stop Memory) result took prints;
-  }
+  pub answered_ends : {T : Type 0} (bytes_of : T → List ℕ) (result : Result T Stop) → IfOk result (λ text. IsReplyVerified H caller later words (bytes_of text))
+      → IfOk result (λ text. AskEndsSo (Done (bytes_of text)))
+  answered_ends bytes_of (Ok text) answered = λ was now.
+      (Ask words, is, record { plan = ask_done words shelf (bytes_of text) answered.accepted.replied.asks; links = answered })
+  answered_ends bytes_of (Err stop) answered = tt

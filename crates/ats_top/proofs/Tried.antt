@@ -1,9 +1,10 @@
 -- The results of the proofs of a trial.
-use Rattle.std.proofs.Common.{◌≡◌, ◌+◌, ◌<◌, ◌≤◌, ◌^◌, ℕ, ◌⊎◌, true, Option, None, List, [], ◌∷◌, ◌++◌, length, get_or, sum_by, Some, refl, sym, ap, ap₂, subst, ◌∙◌, arith, inl, inr, zero-add, Result, Ok, Err, IfErr, codes, decimal, Vec, Global}
+use Rattle.std.proofs.Common.{◌≡◌, ◌+◌, ◌<◌, ◌≤◌, ◌^◌, ℕ, ◌⊎◌, true, Option, None, List, [], ◌∷◌, ◌++◌, length, get_or, sum_by, Some, refl, sym, ap, ap₂, subst, ◌∙◌, arith, inl, inr, zero-add, Result, Err, IfErr, codes, decimal, Vec, Global}
 use Rattle.std.specs.Prelude.{IfOk}
 use Rattle.std.proofs.lemmas.Bool.{cases_Bool, cases_lt, cond-false, cond-true}
 use Rattle.std.proofs.lemmas.List.{length-append, get_or_append_left, get_or_read}
 use Rattle.std.proofs.lemmas.List.Sums.{sum_by-append, sum_by-cons, sum_by-le}
+use Rattle.std.proofs.lemmas.Result.{IfErr-weaker, IfOk-weaker}
 use Rattle.std.proofs.Math.Seq.{get_or-append_seam}
 use Rattle.ats_commit.specs.Archive.{Archive}
 use Rattle.ats_commit.specs.Root.{root_of}
@@ -13,7 +14,7 @@ use Rattle.ats_proof.specs.Ranges.{IsInRange}
 use Rattle.ats_proof.specs.Value.{Prefix, Proof, IsProof, IsSpelled, kind_of_slot}
 use Rattle.ats_proof.specs.declared.record.Slot.{Slot}
 use Rattle.ats_proof.proofs.Public.{one_value}
-use Rattle.ats_honest.specs.Honest.{IsHonest, IsProved, length_of}
+use Rattle.ats_honest.specs.Honest.{IsHonest, IsProved, IsTooLong, length_of}
 use Rattle.ats_client.specs.Strings.{extract}
 use Rattle.ats_client.specs.declared.fault.Rejection.TheVariants.{Shape, Check}
 use Rattle.ats_client.proofs.Public.{accepted_kept}
@@ -26,12 +27,18 @@ use Rattle.ats_terms.specs.Faults.{IsFirstFault}
 use Rattle.ats_terms.specs.declared.query.QueryFault.{QueryFault}
 use Rattle.ats_terms.specs.declared.query.QueryFault.TheVariants as query
 use Rattle.ats_impact.specs.Trial.{trial_query}
-use Rattle.ats_top.specs.Stops.{stop_of_query}
+use Rattle.ats_base.specs.Outside.{ShelfTold}
+use Rattle.ats_plan.specs.Runs.{IsDone, IsStopped}
+use Rattle.ats_plan.proofs.Public.{done_try, done_end, at_memory, at_try}
+use Rattle.ats_top.specs.Commands.Trial.{trial_plan}
+use Rattle.ats_top.specs.Stops.{stop_of_query, line_of_long_proof}
 use Rattle.ats_top.specs.Print.{line_of_root}
-use Rattle.ats_top.specs.Trial.{line_of_proofs, lines_of_trial, shown_entries, trial_archive, tally_of, counted, turn, IsTried, AreTried, AreTriedLines, AreQueries, AreTrialQueries, AreTrialProofs, IsTrial, is_right, IsTryStop, IsTriesStop, IsTrialStop}
+use Rattle.ats_top.specs.Trial.{line_of_proofs, lines_of_trial, shown_entries, trial_archive, turn, IsTried, AreQueries, AreTrialProofs, IsTrialProof, IsTrial, IsTrialTooLong, IsTrialServed}
+use Rattle.ats_top.specs.Inner.Trial.{tally_of, counted, AreTried, AreTriedLines, AreTrialQueries, is_right, IsTryStop, IsTriesStop, IsTrialStop}
 use Rattle.ats_top.specs.declared.stops.Stop.{Stop}
-use Rattle.ats_top.specs.declared.stops.Stop.TheVariants.{Input, Memory}
+use Rattle.ats_top.specs.declared.stops.Stop.TheVariants.{Shelf, Input, Memory}
 use Rattle.ats_top.specs.declared.trial.Tally.{Tally}
+use Rattle.ats_top.proofs.OneTrial.{tried_short}
 
 -- ---- the entries that are shown
 
@@ -148,13 +155,19 @@ are_queries number queries count many are i low = (are i [] (omega (arith, low, 
 pub passed_on : {T : Type 0} (P : Stop → Type 0) (result : Result T Stop) (stop told : Stop) → result ≡ Err told → told ≡ stop → P stop → IfErr result P
 passed_on P result stop told is same holds = subst (λ r. IfErr r P) (sym is) (subst P (sym same) holds)
 
+-- the first text that is no query
+query_refused : (H : List ℕ → List ℕ) (number i : ℕ) (fault : QueryFault) (line : List ℕ) → i < 20 → AreQueries number i → IsFirstFault (trial_query number i) fault
+    → stop_of_query fault ≡ Input line → IsTrialStop H number (stop_of_query fault)
+query_refused H number i fault line low before first same =
+    inr (line, inl (record { i = i; inside = low; before = before; fault = fault; first = first; same = same }), same)
+
 pub query_stops : (H : List ℕ → List ℕ) (number i : ℕ) (fault : QueryFault) → i < 20 → AreQueries number i → IsFirstFault (trial_query number i) fault
     → IsTrialStop H number (stop_of_query fault)
-query_stops H number i (query.TooLong bytes) low before first = inl (record { i = i; inside = low; before = before; fault = query.TooLong bytes; first = first; same = refl })
-query_stops H number i query.NoTerm low before first = inl (record { i = i; inside = low; before = before; fault = query.NoTerm; first = first; same = refl })
-query_stops H number i (query.TooManyWords count) low before first = inl (record { i = i; inside = low; before = before; fault = query.TooManyWords count; first = first; same = refl })
-query_stops H number i (query.TooManyTerms distinct) low before first = inl (record { i = i; inside = low; before = before; fault = query.TooManyTerms distinct; first = first; same = refl })
-query_stops H number i query.OutOfMemory low before first = tt
+query_stops H number i (query.TooLong bytes) low before first = query_refused H number i (query.TooLong bytes) _ low before first refl
+query_stops H number i query.NoTerm low before first = query_refused H number i query.NoTerm _ low before first refl
+query_stops H number i (query.TooManyWords count) low before first = query_refused H number i (query.TooManyWords count) _ low before first refl
+query_stops H number i (query.TooManyTerms distinct) low before first = query_refused H number i (query.TooManyTerms distinct) _ low before first refl
+query_stops H number i query.OutOfMemory low before first = inl refl
 
 module _ (H : List ℕ → List ℕ) (archive : Archive) (queries : List (List (List ℕ × ℕ))) where
   made_at : (algorithm : Algorithm) (k : ℕ) (proofs : List Proof) (d : List (List ℕ × ℕ))
@@ -205,45 +218,75 @@ pub at_query : (queries : List (List (List ℕ × ℕ))) (i : ℕ) (query : List
     → i < length queries → query ≡ get_or queries i query → P query → (d : List (List ℕ × ℕ)) → P (get_or queries i d)
 at_query queries i query P inside here holds d = subst P (get_or_read queries i query inside here d) holds
 
+-- ---- a trial that is done was served
+
+proof_at : (H : List ℕ → List ℕ) (number : ℕ) (algorithm : Algorithm) (proofs : List Proof) → AreTrialProofs H number algorithm proofs
+    → (i : ℕ) → i < length proofs → (proof : Proof) × IsTrialProof H number algorithm i proof
+proof_at H number algorithm [] are i inside = absurd (omega (arith, inside))
+proof_at H number algorithm (p ∷ proofs) are i inside = (get_or (p ∷ proofs) i p, are i p inside)
+
+module _ (H : List ℕ → List ℕ) (number : ℕ) (text : List ℕ) (tried : IsTrial H number text) where
+  tried_at : (algorithm : Algorithm) (i : ℕ) → i < 20 → (proof : Proof) × IsTrialProof H number algorithm i proof
+  tried_at Tra i inside = proof_at H number Tra tried.tra tried.tra_are i (omega (arith, inside, tried.tra_each))
+  tried_at Tnra i inside = proof_at H number Tnra tried.tnra tried.tnra_are i (omega (arith, inside, tried.tnra_each))
+
+  -- its texts are queries, and no proof is too long
+  trial_served : IsTrialServed H number
+  trial_served = (
+    λ i inside. (tried_at Tra i inside).1.asked.has,
+    λ bytes long.
+        let found = tried_at long.algorithm long.i long.inside in
+        tried_short H number long.algorithm long.i found.0 found.1 long.query bytes long.own long.long,
+  )
+
+-- ---- how a trial ends
+
+module _ (H : List ℕ → List ℕ) (number : ℕ) (shelf : ShelfTold) where
+  trial_done : (text : List ℕ) → IsTrial H number text → IsDone (trial_plan H (record { number = number })) shelf shelf text
+  trial_done text is = done_try (trial_served H number text is) (done_end is)
+
+  pub trial_stopped : (stop : Stop) → IsTrialStop H number stop → IsStopped Shelf Memory (trial_plan H (record { number = number })) shelf shelf stop
+  trial_stopped stop (inl memory) = subst (IsStopped Shelf Memory (trial_plan H (record { number = number })) shelf shelf) (sym memory) at_memory
+  trial_stopped stop (inr refuses) = at_try refuses
+
 -- ---- the trial of a number
 
 module _ (H : List ℕ → List ℕ) (number : ℕ) (queries : List (List (List ℕ × ℕ))) (are : AreTrialQueries number queries) (many : length queries ≡ 20) where
-  trial_stops_at : (stop : Stop) (i : ℕ) (algorithm : Algorithm) → i < length queries
-      → ((d : List (List ℕ × ℕ)) → IsTryStop H (trial_archive number) (get_or queries i d) algorithm stop)
+  past : (k i : ℕ) (a algorithm : Algorithm) → turn k a < turn i algorithm → i < length queries → k < length queries
+  past k i Tra Tra less inside = omega (arith, less, inside)
+  past k i Tra Tnra less inside = omega (arith, less, inside)
+  past k i Tnra Tra less inside = omega (arith, less, inside)
+  past k i Tnra Tnra less inside = omega (arith, less, inside)
+
+  -- the first proof that is too long
+  too_long : (i : ℕ) (algorithm : Algorithm) (bytes : ℕ) → i < length queries → IsTooLong H (trial_archive number) (get_or queries i []) 10 algorithm (2 ^ 26) bytes
+      → ((k : ℕ) (a : Algorithm) → turn k a < turn i algorithm → (d : List (List ℕ × ℕ)) → (proof : Proof) × IsTried H (trial_archive number) (get_or queries k d) a proof)
+      → IsTrialTooLong H number bytes
+  too_long i algorithm bytes inside long before = record {
+    i = i;
+    algorithm = algorithm;
+    inside = omega (arith, inside, many);
+    asked = are_queries number queries 20 many are;
+    before = λ k a less.
+        let found = before k a less [] in
+        (found.0, record { query = get_or queries k []; asked = are k [] (past k i a algorithm less inside); tried = found.1 });
+    query = get_or queries i [];
+    own = are i [] inside;
+    long = long;
+  }
+
+  trial_stops_at : (stop : Stop) (i : ℕ) (algorithm : Algorithm) → i < length queries → IsTryStop H (trial_archive number) (get_or queries i []) algorithm stop
       → ((k : ℕ) (a : Algorithm) → turn k a < turn i algorithm → (d : List (List ℕ × ℕ)) → (proof : Proof) × IsTried H (trial_archive number) (get_or queries k d) a proof)
       → IsTrialStop H number stop
-  trial_stops_at Memory i algorithm inside stopped before = tt
-  trial_stops_at (Input line) i algorithm inside stopped before =
-      let long = stopped [] in
-      inr (
-        long.0,
-        record {
-          i = i;
-          algorithm = algorithm;
-          inside = omega (arith, inside, many);
-          asked = are_queries number queries 20 many are;
-          before = λ k a less.
-              let found = before k a less [] in
-              (found.0, record { query = get_or queries k []; asked = are k [] (past k i a algorithm less inside); tried = found.1 });
-          query = get_or queries i [];
-          own = are i [] inside;
-          long = long.1;
-        },
-        long.2,
-      )
-    where
-      past : (k i : ℕ) (a algorithm : Algorithm) → turn k a < turn i algorithm → i < length queries → k < length queries
-      past k i Tra Tra less inside = omega (arith, less, inside)
-      past k i Tra Tnra less inside = omega (arith, less, inside)
-      past k i Tnra Tra less inside = omega (arith, less, inside)
-      past k i Tnra Tnra less inside = omega (arith, less, inside)
-  trial_stops_at _ i algorithm inside stopped before = absurd (stopped [])
+  trial_stops_at stop i algorithm inside (inl memory) before = inl memory
+  trial_stops_at stop i algorithm inside (inr (bytes, long, is)) before =
+      inr (line_of_long_proof bytes, inr (bytes, too_long i algorithm bytes inside long before, refl), is)
 
-  pub trial_stops : (stop : Stop) → IsTriesStop H (trial_archive number) queries stop → IsTrialStop H number stop
-  trial_stops stop is = trial_stops_at stop is.i is.algorithm is.inside is.stopped is.before
+  trial_stops : (stop : Stop) → IsTriesStop H (trial_archive number) queries stop → IsTrialStop H number stop
+  trial_stops stop is = trial_stops_at stop is.i is.algorithm is.inside (is.stopped []) is.before
 
   -- the tried proofs are the trial's
-  pub trial_proofs : (algorithm : Algorithm) (proofs : List Proof) → AreTried H (trial_archive number) queries algorithm proofs → AreTrialProofs H number algorithm proofs
+  trial_proofs : (algorithm : Algorithm) (proofs : List Proof) → AreTried H (trial_archive number) queries algorithm proofs → AreTrialProofs H number algorithm proofs
   trial_proofs algorithm proofs tried i d inside = record {
     query = get_or queries i [];
     asked = are i [] (omega (arith, inside, tried.many));
@@ -251,7 +294,7 @@ module _ (H : List ℕ → List ℕ) (number : ℕ) (queries : List (List (List 
   }
 
   -- what holds for the tried proofs holds for the trial
-  pub is_trial : (text : List ℕ) (tra tnra : List Proof) → AreTried H (trial_archive number) queries Tra tra → AreTried H (trial_archive number) queries Tnra tnra
+  is_trial : (text : List ℕ) (tra tnra : List Proof) → AreTried H (trial_archive number) queries Tra tra → AreTried H (trial_archive number) queries Tnra tnra
       → text ≡ lines_of_trial (root_of H (trial_archive number)) tra tnra → IsTrial H number text
   is_trial text tra tnra by_tra by_tnra printed = record {
     tra = tra;
@@ -263,28 +306,26 @@ module _ (H : List ℕ → List ℕ) (number : ℕ) (queries : List (List (List 
     printed = printed;
   }
 
-  -- the lines of the tried proofs are the trial's
-  pub tried_ok : (index : Archive) → index ≡ trial_archive number → (asked : List (List (List ℕ × ℕ))) → asked ≡ queries → (result : Result (Vec ℕ Global) Stop)
-      → IfOk result (λ text. AreTriedLines H index asked text.items) → IfOk result (λ text. IsTrial H number text.items)
-  tried_ok index own asked same (Ok text) is =
-      let here : AreTriedLines H (trial_archive number) queries text.items = subst (λ (a : Archive). AreTriedLines H a queries text.items) own
-      (subst (λ (qs : List (List (List ℕ × ℕ))). AreTriedLines H index qs text.items) same is) in
-      is_trial text.items here.tra here.tnra here.by_tra here.by_tnra here.printed
-  tried_ok index own asked same (Err stop) none = tt
+  module _ (shelf : ShelfTold) (index : Archive) (own : index ≡ trial_archive number) (asked : List (List (List ℕ × ℕ))) (same : asked ≡ queries) (result : Result (Vec ℕ Global) Stop) where
+    -- the lines of the tried proofs are the trial's
+    pub tried_ok : IfOk result (λ text. AreTriedLines H index asked text.items)
+        → IfOk result (λ text. IsDone (trial_plan H (record { number = number })) shelf shelf text.items)
+    tried_ok = IfOk-weaker result (λ text. AreTriedLines H index asked text.items) (λ text. IsDone (trial_plan H (record { number = number })) shelf shelf text.items) (λ text lines.
+        let here : AreTriedLines H (trial_archive number) queries text.items = subst (λ (a : Archive). AreTriedLines H a queries text.items) own
+        (subst (λ (qs : List (List (List ℕ × ℕ))). AreTriedLines H index qs text.items) same lines) in
+        trial_done H number shelf text.items (is_trial text.items here.tra here.tnra here.by_tra here.by_tnra here.printed))
 
-  -- if there are none, a proof of the trial is the cause, or memory ran out
-  pub tried_stop : (index : Archive) → index ≡ trial_archive number → (asked : List (List (List ℕ × ℕ))) → asked ≡ queries → (result : Result (Vec ℕ Global) Stop)
-      → IfErr result (λ stop. (stop ≡ Memory) ⊎ IsTriesStop H index asked stop) → IfErr result (IsTrialStop H number)
-  tried_stop index own asked same (Ok text) none = tt
-  tried_stop index own asked same (Err stop) (inl wanted) = subst (IsTrialStop H number) (sym wanted) tt
-  tried_stop index own asked same (Err stop) (inr stops) =
-      trial_stops stop (subst (λ (a : Archive). IsTriesStop H a queries stop) own (subst (λ (qs : List (List (List ℕ × ℕ))). IsTriesStop H index qs stop) same stops))
+    ending : (stop : Stop) → (stop ≡ Memory) ⊎ IsTriesStop H index asked stop → IsTrialStop H number stop
+    ending stop (inl memory) = inl memory
+    ending stop (inr stops) =
+        trial_stops stop (subst (λ (a : Archive). IsTriesStop H a queries stop) own (subst (λ (qs : List (List (List ℕ × ℕ))). IsTriesStop H index qs stop) same stops))
+
+    -- if there are none, a proof of the trial is the cause, or memory ran out
+    pub tried_stop : IfErr result (λ stop. (stop ≡ Memory) ⊎ IsTriesStop H index asked stop) → IfErr result (IsStopped Shelf Memory (trial_plan H (record { number = number })) shelf shelf)
+    tried_stop = IfErr-weaker result (λ stop. (stop ≡ Memory) ⊎ IsTriesStop H index asked stop) (IsStopped Shelf Memory (trial_plan H (record { number = number })) shelf shelf)
+        (λ stop ends. trial_stopped H number shelf stop (ending stop ends))
 
 -- ---- the lines
-
-pub ok_more : {T E : Type 0} {P : T → Type 0} (result : Result T E) (Q : T → Type 0) → IfOk result P → ((x : T) → P x → Q x) → IfOk result Q
-ok_more (Ok x) Q is more = more x is
-ok_more (Err e) Q is more = tt
 
 -- the lines joined
 abbrev pub joined_lines : List ℕ → List ℕ → List ℕ → ℕ → List ℕ

@@ -1,16 +1,13 @@
 -- A conversation: an address is called, one question is asked over the link, and the link is given back.
-use Rattle.std.specs.Prelude.{◌≡◌, ◌<◌, ◌⊎◌, ◌^◌, ℕ, true, List, is_some, option_map, Result, Ok, Err}
+use Rattle.std.specs.Prelude.{◌≡◌, ◌⊎◌, ℕ, true, List, is_some, option_map, Result, Err}
 use Rattle.ats_base.specs.Outside.{Rose}
 use Rattle.ats_base.specs.Links.{LinkTold, CallerTold, IsNew, IsCalledAt, MayNoteCall, calling_out, called_back, counted_broken}
 use Rattle.ats_wire.specs.Requests.{Question}
 use Rattle.ats_wire.specs.Asking.{IsAsked, IsHeard}
-use Rattle.ats_wire.specs.Feeding.{IsFed}
 use Rattle.ats_wire.specs.declared.asking.AskFault.{AskFault}
-use Rattle.ats_wire.specs.declared.asking.AskFault.TheVariants.{LongReply, BadReply, ReadFault, WriteFault}
-use Rattle.ats_wire.specs.declared.feeding.Fed.{Fed}
+use Rattle.ats_wire.specs.declared.asking.AskFault.TheVariants.{ReadFault, WriteFault}
 use Rattle.ats_top.specs.Stops.{stop_of_asking}
-use Rattle.ats_top.specs.declared.stops.Stop.{Stop}
-use Rattle.ats_top.specs.declared.stops.Stop.TheVariants.{Memory, Link, Peer}
+use Rattle.ats_top.specs.declared.stops.Stop.TheVariants.{Peer}
 
 -- The address was called, the question was asked over the link, with this result, and the link was given back. The
 -- record has the link as it was received and as it was given back.
@@ -23,11 +20,6 @@ pub record Converses (address : List ℕ) (question : Question) (before now : Ca
   pub asked : IsAsked question link back result
   pub content : now.content ≡ option_map (called_back back) (option_map (calling_out address) before.content)
   pub counted : now.faults ≡ counted_broken back.faults before.faults
-
--- a whole reply with the bytes of a proof was read, with this verdict
-abbrev pub ConversesFed : (address : List ℕ) → Question → (before now : CallerTold) → Fed → Type 0
-ConversesFed address question before now fed = (bytes : List ℕ)
-    × Converses address question before now (Ok bytes) × IsFed fed bytes
 
 -- the address was called, and there was no link
 pub record CallsInVain (address : List ℕ) (before now : CallerTold) : Type 0 where
@@ -49,19 +41,6 @@ pub record HearsFault (address : List ℕ) (question : Question) (before now : C
   pub heard : IsHeard (Err fault)
   pub conversation : Converses address question before now (Err fault)
   pub same : stop_of_asking fault ≡ Peer line
-
--- why there are no bytes of a proof; out of memory needs no cause
-abbrev pub ConversationStop : (address : List ℕ) → Question → (before now : CallerTold) → Stop → Type 0
-ConversationStop address question before now Memory = Unit {0}
-ConversationStop address question before now Link = LosesLink address question before now
-ConversationStop address question before now (Peer line) = HearsFault address question before now line
-ConversationStop address question before now _ = ⊥
-
--- the reported length has 4 bytes
-abbrev pub IsRanged : AskFault → Type 0
-IsRanged (LongReply size) = size < 2 ^ 32
-IsRanged (BadReply size kind) = size < 2 ^ 32
-IsRanged _ = Unit {0}
 
 -- the address was called once, and the link, if there was one, is back
 abbrev pub Calls : (address : List ℕ) → Question → (before now : CallerTold) → Type 0

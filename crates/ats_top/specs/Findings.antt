@@ -1,42 +1,50 @@
 -- What a sweep finds for the listed proofs: for each what `audit` finds, and a line.
-use Rattle.std.specs.Prelude.{◌≡◌, ◌≢◌, ◌+◌, ◌^◌, ◌++◌, ◌∷◌, ℕ, Bool, true, false, List, [], length, codes, decimal, Some, None, if◌then◌else◌}
-use Rattle.std.specs.List.{AllZip, list_any}
+use Rattle.std.specs.Prelude.{◌≡◌, ◌≢◌, ◌+◌, ◌^◌, ◌++◌, ◌∷◌, ℕ, Bool, true, false, List, [], length, codes, decimal}
+use Rattle.std.specs.List.{AllZip, list_any, zip}
 use Rattle.ats_terms.specs.Query.{IsQuery, IsQueryOf}
 use Rattle.ats_impact.specs.declared.rank.Row.{Row}
 use Rattle.ats_tree.specs.Differences.{Difference}
 use Rattle.ats_tree.specs.declared.hashed.Place.{Place}
 use Rattle.ats_commit.specs.Archive.{Archive}
+use Rattle.ats_commit.specs.Root.{root_of}
 use Rattle.ats_proof.specs.declared.record.Algorithm.{Algorithm}
 use Rattle.ats_honest.specs.Honest.{IsProved}
-use Rattle.ats_client.specs.Headline.{AreRight}
-use Rattle.ats_client.specs.Rows.{rows_of}
+use Rattle.ats_client.specs.Bytes.{IsRejectedBytes}
 use Rattle.ats_client.specs.declared.fault.Rejection.{Rejection}
-use Rattle.ats_top.specs.Words.{AuditWords, SweepWords, Command, Sweep}
-use Rattle.ats_top.specs.Read.{Files, IsFile, HasIndex}
+use Rattle.ats_audit.specs.Verdicts.{IsFoundRight, IsFoundCollision}
+use Rattle.ats_plan.specs.Files.{Files, IsFile}
+use Rattle.ats_top.specs.Words.{SweepWords}
+use Rattle.ats_top.specs.Read.{HasIndex}
 use Rattle.ats_top.specs.RejectionLines.{rejection_words}
 use Rattle.ats_top.specs.Listed.{Listed, IsList, names_of}
-use Rattle.ats_top.specs.Gathered.{AreAllThere}
-use Rattle.ats_top.specs.Rejected.{IsAuditRejected}
-use Rattle.ats_top.specs.Audited.{IsAudited}
+use Rattle.ats_top.specs.Gathered.{AreGathered}
+use Rattle.ats_top.specs.Steps.{too_long}
+use Rattle.ats_top.specs.declared.gathering.Gathered.{Gathered}
+use Rattle.ats_top.specs.declared.gathering.Gathered.TheVariants.{Whole, Long}
 
 pub data Finding : Type 0 where
   FoundRight : List Row → Finding
   FoundRefused : Rejection → Finding
   FoundCollision : Difference Place → Finding
 
--- What `audit` finds for these words: the rows of the answer, why the proof is refused, or its first collision with the
--- archive. The rows are right for the archive's texts, and the collision is two different strings with the same digest.
-abbrev pub IsFinding : (List ℕ → List ℕ) → Files → AuditWords → Finding → Type 0
-IsFinding H files words (FoundRight rows) = (audited : IsAudited H files words None)
-    × (rows ≡ rows_of audited.query audited.proof) × AreRight audited.archive.texts audited.query words.r rows
-IsFinding H files words (FoundRefused rejection) = IsAuditRejected H files words rejection
-IsFinding H files words (FoundCollision collision) =
-    IsAudited H files words (Some collision)
+-- What `audit` finds for the proof of a line: the rows of the answer, which are right for the archive's texts; why the
+-- proof is refused; or its first collision with the archive, which is two different strings with the same digest. A file
+-- that is too long is refused.
+abbrev pub IsFinding : (List ℕ → List ℕ) → Archive → Listed → Gathered → Finding → Type 0
+IsFinding H archive line (Whole bytes) (FoundRight rows) = (query : List (List ℕ × ℕ))
+    × IsQueryOf line.query query × IsFoundRight H archive query line.r bytes rows
+IsFinding H archive line (Whole bytes) (FoundRefused rejection) = (query : List (List ℕ × ℕ))
+    × IsQueryOf line.query query × IsRejectedBytes H (root_of H archive) query line.r bytes rejection
+IsFinding H archive line (Whole bytes) (FoundCollision collision) = (query : List (List ℕ × ℕ))
+    × IsQueryOf line.query query × IsFoundCollision H archive query line.r bytes collision
     × (collision.ours ≢ collision.theirs) × (H collision.ours ≡ H collision.theirs)
+IsFinding H archive line Long (FoundRefused rejection) = rejection ≡ too_long
+IsFinding H archive line Long _ = ⊥
 
--- the words of the audit that a line asks for
-abbrev pub audit_of : List ℕ → Listed → AuditWords
-audit_of index listed = record { index = index; r = listed.r; query = listed.query; proof = listed.proof }
+-- the findings for these proofs, in the order of their lines
+abbrev pub AreFindings : (List ℕ → List ℕ) → Archive → List Listed → List Gathered → List Finding → Type 0
+AreFindings H archive listed proofs findings =
+    AllZip (λ pair finding. IsFinding H archive pair.0 pair.1 finding) (zip listed proofs) findings
 
 -- the named files are an index and a list whose proofs are all there, and these are the findings in the order of the
 -- lines
@@ -45,8 +53,9 @@ pub record AreFound (H : List ℕ → List ℕ) (files : Files) (words : SweepWo
   pub index : HasIndex H files words.index archive
   pub listed : List Listed
   pub list : IsList files words.list listed
-  pub there : AreAllThere files (names_of listed)
-  pub each : AllZip (λ line finding. IsFinding H files (audit_of words.index line) finding) listed findings
+  pub proofs : List Gathered
+  pub there : AreGathered files (names_of listed) proofs
+  pub each : AreFindings H archive listed proofs findings
 
 abbrev pub is_refused : Finding → Bool
 is_refused (FoundRefused rejection) = true
@@ -55,13 +64,6 @@ is_refused _ = false
 abbrev pub is_collision : Finding → Bool
 is_collision (FoundCollision collision) = true
 is_collision _ = false
-
--- a collision wins over a refusal
-abbrev pub status_of_findings : List Finding → ℕ
-status_of_findings findings =
-    if list_any is_collision findings then 5
-    else if list_any is_refused findings then 1
-    else 0
 
 -- I right ROWS, where ROWS is how many there are; I refused REFUSAL; or I collision
 abbrev pub line_of_finding : ℕ → Finding → List ℕ
@@ -78,18 +80,13 @@ finding_lines number (finding ∷ findings) = line_of_finding number finding ++ 
 abbrev pub lines_of_findings : List Finding → List ℕ
 lines_of_findings findings = finding_lines 1 findings
 
--- the findings give this status, and the text is their lines
-pub record IsSwept (H : List ℕ → List ℕ) (files : Files) (words : SweepWords)
-    (status : ℕ) (text : List ℕ) : Type 0 where
+-- no proof is refused and none has a collision, and the text is the lines of the findings
+pub record IsSwept (H : List ℕ → List ℕ) (files : Files) (words : SweepWords) (text : List ℕ) : Type 0 where
   pub findings : List Finding
   pub found : AreFound H files words findings
-  pub comes : status_of_findings findings ≡ status
+  pub clear : list_any is_collision findings ≡ false
+  pub accepted : list_any is_refused findings ≡ false
   pub printed : text ≡ lines_of_findings findings
-
--- the lines are those of a sweep whose findings give this status
-abbrev pub SweepStops : (List ℕ → List ℕ) → Files → Command → (status : ℕ) → (lines : List ℕ) → Type 0
-SweepStops H files (Sweep words) status lines = IsSwept H files words status lines
-SweepStops H files _ status lines = ⊥
 
 -- the file of a line is the honest proof, by one of the algorithms, of what the line asks for; each query that is read
 -- satisfies `IsQuery`

@@ -1,8 +1,8 @@
--- The proofs of a list, as a sweep gathers them in the order of its lines, and why it cannot gather all.
-use Rattle.std.specs.Prelude.{◌≡◌, ◌+◌, ◌<◌, ◌≤◌, ◌^◌, ◌++◌, ◌∷◌, ℕ, List, [], length, sum_by}
+-- The proofs of a list, as a sweep gathers them in the order of its lines.
+use Rattle.std.specs.Prelude.{◌≤◌, ◌^◌, ℕ, List, [], length, sum_by}
 use Rattle.std.specs.List.{AllZip}
-use Rattle.ats_base.specs.Outside.{IsMissing, IsLonger}
-use Rattle.ats_top.specs.Read.{Files, IsFile}
+use Rattle.ats_base.specs.Outside.{IsLonger}
+use Rattle.ats_plan.specs.Files.{Files, IsFile}
 use Rattle.ats_top.specs.declared.gathering.Gathered.{Gathered}
 use Rattle.ats_top.specs.declared.gathering.Gathered.TheVariants.{Whole, Long}
 
@@ -30,26 +30,3 @@ pub record AreGathered (files : Files) (names : List (List ℕ)) (proofs : List 
 -- all files are there, within the limit
 abbrev pub AreAllThere : Files → List (List ℕ) → Type 0
 AreAllThere files names = (proofs : List Gathered) × AreGathered files names proofs
-
--- a file is missing, and those before it are there, within the limit
-pub record LacksProof (files : Files) (names : List (List ℕ)) : Type 0 where
-  pub before : List (List ℕ)
-  pub name : List ℕ
-  pub after : List (List ℕ)
-  pub parts : names ≡ before ++ name ∷ after
-  pub proofs : List Gathered
-  pub gathered : AreGathered files before proofs
-  pub missing : IsMissing files name
-
--- the files before one are within the limit; with it they have this many bytes, which are more
-pub record PassesLimit (files : Files) (names : List (List ℕ)) (bytes : ℕ) : Type 0 where
-  pub before : List (List ℕ)
-  pub name : List ℕ
-  pub after : List (List ℕ)
-  pub parts : names ≡ before ++ name ∷ after
-  pub proofs : List Gathered
-  pub gathered : AreGathered files before proofs
-  pub last : Gathered
-  pub is : IsGathered files name last
-  pub counted : bytes ≡ total proofs + size last
-  pub passes : 2 ^ 28 < bytes

@@ -2,10 +2,9 @@
 use Rattle.std.specs.Prelude.{◌≡◌, ◌==◌, ◌⊎◌, ◌+◌, ◌<◌, ◌≤◌, ◌^◌, ◌++◌, ◌∷◌, ℕ, Bool, true, not, List, [], length, map, Some, if◌then◌else◌}
 use Rattle.std.specs.Str.{IsUtf8}
 use Rattle.std.specs.List.{AllZip, list_all}
-use Rattle.ats_terms.specs.Query.{HasQuery, IsQueryOf}
+use Rattle.ats_terms.specs.Query.{HasQuery}
 use Rattle.ats_top.specs.Words.{number_of}
-use Rattle.ats_top.specs.Read.{Files, IsFile}
-use Rattle.ats_top.specs.declared.listing.Entry.{Entry}
+use Rattle.ats_plan.specs.Files.{Files, IsFile}
 
 -- one more byte at the front of the first line
 abbrev pub begun_with : ℕ → List (List ℕ) → List (List ℕ)
@@ -44,13 +43,17 @@ pub record IsListed (line : List ℕ) (listed : Listed) : Type 0 where
   pub few : listed.r ≤ 1000
   pub query : HasQuery listed.query
 
--- the named file is the list of these lines, 1 to 1,000
-pub record IsList (files : Files) (name : List ℕ) (listed : List Listed) : Type 0 where
-  pub bytes : List ℕ
-  pub file : IsFile files name (2 ^ 20) bytes
+-- the bytes are the list of these lines, 1 to 1,000
+pub record IsListOf (bytes : List ℕ) (listed : List Listed) : Type 0 where
   pub some : 1 ≤ length listed
   pub few : length listed ≤ 1000
   pub each : AllZip IsListed (lines_of bytes) listed
+
+-- the named file is that list
+pub record IsList (files : Files) (name : List ℕ) (listed : List Listed) : Type 0 where
+  pub bytes : List ℕ
+  pub file : IsFile files name (2 ^ 20) bytes
+  pub list : IsListOf bytes listed
 
 -- the files of the proofs
 abbrev pub names_of : List Listed → List (List ℕ)
@@ -71,11 +74,3 @@ pub record IsFirstBadLine (lines : List (List ℕ)) (number : ℕ) : Type 0 wher
 abbrev pub IsBadLine : List (List ℕ) → ℕ → Type 0
 IsBadLine lines number =
     ((lines ≡ []) × (number ≡ 1)) ⊎ (((1000 < length lines) × (number ≡ 1001)) ⊎ IsFirstBadLine lines number)
-
--- a line as it was read
-pub record IsEntry (line : List ℕ) (entry : Entry) : Type 0 where
-  pub listed : Listed
-  pub is : IsListed line listed
-  pub top : entry.top ≡ listed.r
-  pub proof : entry.proof.now ≡ listed.proof
-  pub query : IsQueryOf listed.query entry.query

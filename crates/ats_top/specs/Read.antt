@@ -1,21 +1,9 @@
 -- The files that commands read, as a shelf reports them.
-use Rattle.std.specs.Prelude.{◌≤◌, ◌^◌, ℕ, List, length, Option, IsSome}
-use Rattle.ats_base.specs.Outside.{Holds}
+use Rattle.std.specs.Prelude.{◌^◌, ℕ, List}
 use Rattle.ats_commit.specs.Archive.{Archive}
 use Rattle.ats_index.specs.Spelling.{IsSpelling}
+use Rattle.ats_plan.specs.Files.{Files, IsFile}
 use Rattle.ats_top.specs.Input.{IsCollectionOf}
-
--- what a shelf reports of its files
-abbrev pub Files : Type 0
-Files = Option (List ℕ → Option (List ℕ))
-
-abbrev pub IsTold : Files → Type 0
-IsTold files = IsSome files
-
--- the named file has these bytes, if the shelf reports them, and they are within the limit
-pub record IsFile (files : Files) (name : List ℕ) (limit : ℕ) (bytes : List ℕ) : Type 0 where
-  pub held : Holds files name bytes
-  pub short : length bytes ≤ limit
 
 -- the named file is the collection of these texts
 pub record HasCollection (files : Files) (name : List ℕ) (texts : List (List ℕ)) : Type 0 where

@@ -1,14 +1,13 @@
 -- What `serve` does: it loads an index, listens, and serves links one after another.
-use Rattle.std.specs.Prelude.{◌≡◌, ◌⊎◌, ◌<◌, ◌≤◌, ◌+◌, ◌++◌, ◌∷◌, ℕ, true, List, [], length, Option, Some, None, option_map, codes, Result, Ok, Err}
+use Rattle.std.specs.Prelude.{◌≡◌, ◌⊎◌, ◌<◌, ◌≤◌, ◌+◌, ◌++◌, ◌∷◌, ℕ, true, List, [], length, Option, Some, None, option_map, codes}
 use Rattle.ats_base.specs.Outside.{Rose}
 use Rattle.ats_base.specs.Links.{Opening, DoorTold, MayNoteListen, noting_listen}
 use Rattle.ats_commit.specs.Archive.{Archive}
 use Rattle.ats_top.specs.Words.{ServeWords}
-use Rattle.ats_top.specs.Read.{Files, HasIndex}
+use Rattle.ats_plan.specs.Files.{Files}
+use Rattle.ats_top.specs.Read.{HasIndex}
 use Rattle.ats_top.specs.Answering.{gives}
-use Rattle.ats_top.specs.Serving.{Session, HadSessions, FailedToAccept, DoorAndSink, Took, FailedToTake, faults_of, session_lines}
-use Rattle.ats_top.specs.declared.serving.Halt.{Halt}
-use Rattle.ats_top.specs.declared.serving.Halt.TheVariants.{Door, Sink, Memory}
+use Rattle.ats_top.specs.Serving.{Session, HadSessions, FailedToAccept, faults_of, session_lines}
 use Rattle.ats_top.specs.declared.stops.Stop.{Stop}
 use Rattle.ats_top.specs.declared.stops.Stop.TheVariants as stop
 
@@ -83,20 +82,6 @@ pub record IsDoorShut (H : List ℕ → List ℕ) (files : Files) (words : Serve
   pub index : HasIndex H files words.index archive
   pub failed : FailedToListen words.address before now
   pub printed : text ≡ []
-
--- The result of serving after the index was loaded: as many links as the words say were served; or the door failed, or
--- the sink; or memory for a line ran out.
-abbrev pub Attends : (List ℕ → List ℕ) → Files → ServeWords → (before now : DoorAndSink) → Result ℕ Halt → Type 0
-Attends H files words before now (Ok faults) =
-    (text : List ℕ) × Took before.sink now.sink text × AreAllServed H files words before.door now.door faults text
-Attends H files words before now (Err Door) =
-    (text : List ℕ) × Took before.sink now.sink text
-    × (IsDoorShut H files words before.door now.door text ⊎ IsDoorBroken H files words before.door now.door text)
-Attends H files words before now (Err Sink) =
-    (text : List ℕ) × FailedToTake before.sink now.sink text
-    × IsServingUnprinted H files words before.door now.door text
-Attends H files words before now (Err Memory) =
-    (text : List ℕ) × Took before.sink now.sink text × IsLineUnmade H files words before.door now.door text
 
 -- Why serving stopped after this text, once the index was loaded.
 abbrev pub ServingStop : (List ℕ → List ℕ) → Files → ServeWords → (before now : DoorTold) → List ℕ → Stop → Type 0

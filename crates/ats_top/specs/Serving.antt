@@ -1,5 +1,5 @@
 -- Links from a door, served one after another.
-use Rattle.std.specs.Prelude.{◌≡◌, ◌<◌, ◌≤◌, ◌+◌, ◌++◌, ◌∷◌, ℕ, Bool, true, List, [], length, take, fold, count_by, is_some, option_map, codes, decimal, Result, Ok, Err}
+use Rattle.std.specs.Prelude.{◌≡◌, ◌≤◌, ◌+◌, ◌++◌, ◌∷◌, ℕ, Bool, true, List, [], length, take, fold, count_by, is_some, option_map, codes, decimal}
 use Rattle.std.specs.List.{All}
 use Rattle.ats_base.specs.Outside.{Rose, SinkTold}
 use Rattle.ats_base.specs.Links.{LinkTold, Opening, DoorTold, IsNew, counted_broken, counting_accept, accepting_out, accepted_back}
@@ -9,8 +9,6 @@ use Rattle.ats_wire.specs.declared.reply.Reply.{Reply}
 use Rattle.ats_wire.specs.declared.serving.Served.{Served}
 use Rattle.ats_wire.specs.declared.serving.ConnectionEnd.{ConnectionEnd}
 use Rattle.ats_wire.specs.declared.serving.ConnectionEnd.TheVariants.{Ended, CutFrame, BadFrame, RequestLimit, ReadFault, WriteFault}
-use Rattle.ats_top.specs.declared.serving.Halt.{Halt}
-use Rattle.ats_top.specs.declared.serving.Halt.TheVariants.{Door, Sink, Memory}
 
 -- A session: what a link reported when it was accepted and when it was given back, and how it was served.
 pub record Session : Type 0 where
@@ -75,11 +73,6 @@ session_lines_from number (session ∷ sessions) = line_of_session number sessio
 abbrev pub session_lines : List Session → List ℕ
 session_lines sessions = session_lines_from 1 sessions
 
--- What a door and a sink report of themselves.
-pub record DoorAndSink : Type 0 where
-  pub door : DoorTold
-  pub sink : SinkTold
-
 -- the sink took the text, if it reports, and did not fail
 pub record Took (before now : SinkTold) (text : List ℕ) : Type 0 where
   pub all : now.taken ≡ option_map (λ taken. taken ++ text) before.taken
@@ -93,32 +86,3 @@ pub record FailedToTake (before now : SinkTold) (text : List ℕ) : Type 0 where
   pub cause : Rose before.faults now.faults
   pub later : before.faults ≤ now.faults
   pub last : now.last_failed ≡ true
-
--- why the sink did not take the whole text: it failed, or memory for the text ran out
-abbrev pub IsUntold : (before now : SinkTold) → List ℕ → Halt → Type 0
-IsUntold before now text Door = ⊥
-IsUntold before now text Sink = FailedToTake before now text
-IsUntold before now text Memory = now ≡ before
-
--- How serving `connections` links ended after these sessions: all links were served, and `faults` of them ended by a
--- fault; or `accept` failed; or the sink did; or memory for the line of the last session ran out.
-abbrev pub EndsServing : (Question → Reply → Type 0) → ℕ
-    → (before now : DoorAndSink) → List Session → Result ℕ Halt → Type 0
-EndsServing gives connections before now sessions (Ok faults) =
-    (length sessions ≡ connections) × (faults ≡ faults_of sessions)
-    × HadSessions gives sessions before.door now.door × Took before.sink now.sink (session_lines sessions)
-EndsServing gives connections before now sessions (Err Door) =
-    (length sessions < connections)
-    × ((mid : DoorTold) × HadSessions gives sessions before.door mid × FailedToAccept mid now.door)
-    × Took before.sink now.sink (session_lines sessions)
-EndsServing gives connections before now sessions (Err Sink) =
-    (length sessions ≤ connections) × HadSessions gives sessions before.door now.door
-    × FailedToTake before.sink now.sink (session_lines sessions)
-EndsServing gives connections before now sessions (Err Memory) =
-    (length sessions ≤ connections) × HadSessions gives sessions before.door now.door
-    × ((told : List Session) × (last : Session) × (sessions ≡ told ++ last ∷ [])
-    × Took before.sink now.sink (session_lines told))
-
-abbrev pub ServesLinks : (Question → Reply → Type 0) → ℕ → (before now : DoorAndSink) → Result ℕ Halt → Type 0
-ServesLinks gives connections before now result = (sessions : List Session)
-    × EndsServing gives connections before now sessions result

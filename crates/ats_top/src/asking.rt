@@ -1,15 +1,16 @@
 //! `ask`: one question over the network, and the check of its reply.
 
 ghost use Rattle.std.specs.Prelude.{◌≡◌, ◌⊎◌, ◌≤◌, length, IfOk, IfErr};
-ghost use Rattle.ats_top.specs.Refusals.{AsksRanking};
-ghost use Rattle.ats_top.specs.Conversation.{ConversesFed, ConversationStop, IsRanged, Calls};
-ghost use Rattle.ats_top.specs.Asked.{IsAnswered, AskStop};
+ghost use Rattle.ats_top.specs.Steps.{AsksRanking};
+ghost use Rattle.ats_top.specs.Inner.Conversation.{ConversesFed, ConversationStop, IsRanged, KeepsCallerCount};
+ghost use Rattle.ats_top.specs.Conversation.{Calls};
+ghost use Rattle.ats_top.specs.Asked.{IsReplyVerified};
+ghost use Rattle.ats_top.specs.Inner.Stops.{AskStop};
 ghost use Rattle.ats_top.specs.Stops.{stop_of_asking};
-ghost use Rattle.ats_top.specs.Counts.{KeepsCallerCount};
 
 use crate::phrase::Phrase;
 use crate::stops::{Stop, peer, rejected};
-use crate::verifying::answered;
+use crate::verifying::verify_to_lines;
 use ats_base::Caller;
 use ats_client::Rejection;
 use ats_hash::Hash32;
@@ -77,7 +78,7 @@ pub(crate) fn ask<H: Hash32, C: Caller>(
     address: &str,
     caller: &mut C,
 ) -> Result<Vec<u8>, Stop>
-    ensures ok { IfOk result (λ text. IsAnswered H.hash (C.told caller.old) (C.told caller.new)
+    ensures ok { IfOk result (λ text. IsReplyVerified H.hash (C.told caller.old) (C.told caller.new)
         (record { root = root.now; algorithm = algorithm; r = r; query = query.now; address = address.now })
         text.items) }
     ensures stop { IfErr result (AskStop H.hash (C.told caller.old) (C.told caller.new)
@@ -92,7 +93,7 @@ pub(crate) fn ask<H: Hash32, C: Caller>(
     let asked = Query::read(alloc, query)?;
     let fed = converse(alloc, algorithm, rows, query, address, caller)?;
     match fed {
-        Fed::Whole(bytes) => answered::<H>(alloc, bytes.as_slice(), root, &asked, rows),
+        Fed::Whole(bytes) => verify_to_lines::<H>(alloc, bytes.as_slice(), root, &asked, rows),
         Fed::Refused(fault) => Err(rejected(Rejection::Shape(fault))),
     }
 }

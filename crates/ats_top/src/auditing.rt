@@ -4,13 +4,12 @@ ghost use Rattle.std.specs.Prelude.{◌≡◌, ℕ, List, IfOk, IfErr};
 ghost use Rattle.ats_impact.specs.declared.rank.Row.{Row};
 ghost use Rattle.ats_commit.specs.Archive.{Archive};
 ghost use Rattle.ats_audit.specs.Verdicts.{IsFoundRight, IsVerdict};
-ghost use Rattle.ats_top.specs.Words.{Audit};
+ghost use Rattle.ats_plan.specs.Plan.{ComesToShelf};
+ghost use Rattle.ats_plan.specs.Runs.{IsDone, IsStopped};
 ghost use Rattle.ats_top.specs.Print.{lines};
-ghost use Rattle.ats_top.specs.Refusals.{AsksRanking};
-ghost use Rattle.ats_top.specs.Reading.{Serves};
-ghost use Rattle.ats_top.specs.Counts.{KeepsShelfCount};
-ghost use Rattle.ats_top.specs.Audited.{IsAuditedRight, VerdictStop};
-ghost use Rattle.ats_top.specs.Run.{FilesStop};
+ghost use Rattle.ats_top.specs.Commands.Audit.{audit_plan};
+ghost use Rattle.ats_top.specs.Inner.Stops.{VerdictStop};
+ghost use Rattle.ats_top.specs.declared.stops.Stop.TheVariants.{Shelf as AtShelf, Memory};
 
 use crate::collision::collision_lines;
 use crate::line::Line;
@@ -28,7 +27,7 @@ use std::alloc::Global;
 use std::thread::Threads;
 
 // The lines of the rows of a verdict, or why it has none.
-fn told(alloc: Global, verdict: &Verdict) -> Result<Vec<u8>, Stop>
+fn verdict_to_lines(alloc: Global, verdict: &Verdict) -> Result<Vec<u8>, Stop>
     ensures ok { (H : List ℕ → List ℕ) (archive : Archive) (query : List (List ℕ × ℕ)) (r : ℕ) (bytes : List ℕ)
         → IsVerdict H archive query r bytes verdict.now
         → IfOk result (λ text. (rows : List Row)
@@ -56,7 +55,7 @@ fn told(alloc: Global, verdict: &Verdict) -> Result<Vec<u8>, Stop>
 }
 
 // The lines of the rows of bytes that are accepted as a proof and have no collision with the archive.
-fn audited<H: Hash32>(
+fn audit_to_lines<H: Hash32>(
     alloc: Global,
     index: &Index<H>,
     query: &Query,
@@ -70,7 +69,7 @@ fn audited<H: Hash32>(
     let Ok(verdict) = ats_audit::audit::<H>(alloc, index, query, top, bytes) else {
         return Err(Stop::Memory);
     };
-    told(alloc, &verdict)
+    verdict_to_lines(alloc, &verdict)
 }
 
 /// The lines of `audit`. The words are checked before anything is read, and the index before the proof.
@@ -83,15 +82,15 @@ pub(crate) fn audit<H: Hash32 + Sync, R: Threads + Sync, S: Shelf>(
     proof: &str,
     shelf: &mut S,
 ) -> Result<Vec<u8>, Stop>
-    ensures ok { IfOk result (λ text. IsAuditedRight H.hash (S.told shelf.old).files
-        (record { index = index.now; r = r; query = query.now; proof = proof.now }) text.items) }
-    ensures stop { IfErr result (FilesStop H.hash (S.told shelf.old) (S.told shelf.new)
-        (Audit (record { index = index.now; r = r; query = query.now; proof = proof.now }))) }
-    ensures same { (S.told shelf.new).files ≡ (S.told shelf.old).files }
-    ensures count { KeepsShelfCount (S.told shelf.old) (S.told shelf.new) result }
-    ensures serves { Serves H.hash (S.told shelf.old) (S.told shelf.new)
-        (Audit (record { index = index.now; r = r; query = query.now; proof = proof.now })) }
-    ensures unread { (AsksRanking r query.now → ⊥) → shelf.new ≡ shelf.old }
+    ensures ok { IfOk result (λ text. IsDone
+        (audit_plan H.hash (record { index = index.now; r = r; query = query.now; proof = proof.now }))
+        (S.told shelf.old) (S.told shelf.new) text.items) }
+    ensures stop { IfErr result (IsStopped AtShelf Memory
+        (audit_plan H.hash (record { index = index.now; r = r; query = query.now; proof = proof.now }))
+        (S.told shelf.old) (S.told shelf.new)) }
+    ensures unread { (ComesToShelf
+        (audit_plan H.hash (record { index = index.now; r = r; query = query.now; proof = proof.now })) → ⊥)
+        → shelf.new ≡ shelf.old }
 {
     let rows = Top::new(r)?;
     let asked = Query::read(alloc, query)?;
@@ -103,7 +102,7 @@ pub(crate) fn audit<H: Hash32 + Sync, R: Threads + Sync, S: Shelf>(
             return Err(stop);
         }
     };
-    let text = audited::<H>(alloc, &loaded, &asked, rows, bytes.as_slice());
+    let text = audit_to_lines::<H>(alloc, &loaded, &asked, rows, bytes.as_slice());
     drop(loaded);
     text
 }

@@ -1,10 +1,12 @@
 //! The proofs of a sweep, gathered in the order of their lines.
 
-ghost use Rattle.std.specs.Prelude.{◌≡◌, ◌≤◌, ◌^◌, List, length, IfOk, IfErr};
-ghost use Rattle.ats_top.specs.Gathered.{AreGathered, IsGathered, content};
-ghost use Rattle.ats_top.specs.Reading.{Reads};
-ghost use Rattle.ats_top.specs.Counts.{KeepsShelfCount};
-ghost use Rattle.ats_top.specs.Sweeping.{GatheringStop, MissingStop, ReadsProofs, entry_names};
+ghost use Rattle.std.specs.Prelude.{◌≡◌, [], IfOk, IfErr};
+ghost use Rattle.ats_plan.specs.Runs.{IsDone, IsStopped};
+ghost use Rattle.ats_top.specs.Gathered.{content};
+ghost use Rattle.ats_top.specs.Inner.Steps.{no_more, comes_to};
+ghost use Rattle.ats_top.specs.Inner.Sweeping.{entry_names};
+ghost use Rattle.ats_top.specs.Commands.Sweep.{gathers};
+ghost use Rattle.ats_top.specs.declared.stops.Stop.TheVariants.{Shelf as AtShelf, Memory};
 
 use crate::listing::Entry;
 use crate::read;
@@ -34,34 +36,21 @@ impl Gathered {
 // The most bytes of all proofs together.
 const PROOFS_LIMIT: u64 = 1 << 28;
 
-fn gather_one<S: Shelf>(alloc: Global, name: &str, shelf: &mut S) -> Result<Gathered, Stop>
-    ensures ok { IfOk result (IsGathered (S.told shelf.old).files name.now) }
-    ensures stop { IfErr result (MissingStop (S.told shelf.old) (S.told shelf.new) name.now) }
-    ensures reads { Reads (S.told shelf.old) (S.told shelf.new) name.now (2 ^ 26) }
-    ensures count { KeepsShelfCount (S.told shelf.old) (S.told shelf.new) result }
-{
-    match read::proof(alloc, name, shelf) {
-        Ok(bytes) => Ok(Gathered::Whole(bytes)),
-        Err(Stop::Rejected(_)) => Ok(Gathered::Long),
-        Err(stop) => Err(stop),
-    }
-}
-
 /// The proofs of all lines.
 pub(crate) fn gather_all<S: Shelf>(
     alloc: Global,
     entries: &[Entry<'_>],
     shelf: &mut S,
 ) -> Result<Vec<Gathered>, Stop>
-    ensures ok { IfOk result (λ proofs. AreGathered (S.told shelf.old).files (entry_names entries.now) proofs.items) }
-    ensures stop { IfErr result (GatheringStop (S.told shelf.old) (S.told shelf.new) (entry_names entries.now)) }
-    ensures reads { ReadsProofs (S.told shelf.old) (S.told shelf.new) (entry_names entries.now) }
-    ensures count { KeepsShelfCount (S.told shelf.old) (S.told shelf.new) result }
+    ensures ok { IfOk result (λ proofs. IsDone (gathers [] (entry_names entries.now) (comes_to proofs.items))
+        (S.told shelf.old) (S.told shelf.new) []) }
+    ensures stop { IfErr result (IsStopped AtShelf Memory (gathers [] (entry_names entries.now) (λ proofs. no_more))
+        (S.told shelf.old) (S.told shelf.new)) }
 {
     let mut proofs = Vec::new(alloc);
     let mut total = 0;
     for entry in entries {
-        let proof = gather_one(alloc, entry.proof, shelf)?;
+        let proof = read::proof_or_long(alloc, entry.proof, shelf)?;
         total += proof.bytes().len() as u64;
         if total > PROOFS_LIMIT {
             return Err(proofs_too_long(total));

@@ -10,15 +10,17 @@ ghost use Rattle.ats_proof.specs.declared.record.Algorithm.{Algorithm};
 ghost use Rattle.ats_index.specs.Spelling.{IsSpelling};
 ghost use Rattle.ats_honest.specs.Honest.{IsProved};
 ghost use Rattle.ats_top.specs.Words.{AskWords, AuditWords, SweepWords, Command, Ask, Audit, Sweep, number_of, algorithm_of, root_word, root_words, prove_words, verify_words};
-ghost use Rattle.ats_top.specs.Read.{Files, IsFile, IsTold, HasIndex};
-ghost use Rattle.ats_top.specs.Refusals.{IsRowCount, AsksRanking, IsRefused};
-ghost use Rattle.ats_top.specs.Rejected.{IsRejected};
-ghost use Rattle.ats_client.specs.declared.fault.Rejection.{Rejection};
+ghost use Rattle.ats_plan.specs.Files.{Files, IsFile};
+ghost use Rattle.ats_top.specs.Read.{HasIndex};
+ghost use Rattle.ats_top.specs.Steps.{IsRowCount, AsksRanking};
+ghost use Rattle.ats_plan.specs.Plan.{Refuses, Passes, IsKnown};
+ghost use Rattle.ats_top.specs.Commands.{plan_of};
+ghost use Rattle.ats_top.specs.declared.stops.Stop.{Stop};
+ghost use Rattle.ats_top.specs.declared.stops.Stop.TheVariants.{Shelf as AtShelf};
+ghost use Rattle.ats_top.specs.Run.{Said, IsCommandServed};
 ghost use Rattle.ats_top.specs.Listed.{Listed, IsList, names_of};
 ghost use Rattle.ats_top.specs.Gathered.{AreAllThere};
 ghost use Rattle.ats_top.specs.Findings.{IsHonestLine};
-ghost use Rattle.ats_top.specs.Done.{HasInput, IsServed};
-ghost use Rattle.ats_top.specs.Run.{Said};
 ghost use Rattle.ats_top.specs.Conversation.{Converses};
 ghost use Rattle.ats_top.specs.Asked.{question_of};
 ghost use Rattle.ats_top.specs.Calling.{ReplyDecides};
@@ -33,7 +35,7 @@ pub fn honest_proofs_are_served<H: HashKind>()
         → IsProved H.hash archive asked rows algorithm bytes
         → IsFile files name (2 ^ 26) bytes → root_word root ≡ Some (root_of H.hash archive)
         → number_of r ≡ Some rows → IsRowCount rows → IsQueryOf query asked
-        → Said (verify_words root r query name) (IsServed H.hash files) }
+        → Said (verify_words root r query name) (IsCommandServed H.hash files) }
 {}
 
 /// If a file is the honest proof of a query over the archive of an index, by either algorithm, `audit` serves it for
@@ -43,7 +45,7 @@ pub fn honest_audits_are_served<H: HashKind>()
         (asked : List (List ℕ × ℕ)) (algorithm : Algorithm) (bytes : List ℕ)
         → HasIndex H.hash files words.index archive → IsRowCount words.r → IsQueryOf words.query asked
         → IsProved H.hash archive asked words.r algorithm bytes
-        → IsFile files words.proof (2 ^ 26) bytes → IsServed H.hash files (Audit words) }
+        → IsFile files words.proof (2 ^ 26) bytes → IsCommandServed H.hash files (Audit words) }
 {}
 
 /// `sweep` serves a list in which each line asks for the honest proof of its query over the archive of the index, by
@@ -52,7 +54,7 @@ pub fn honest_sweeps_are_served<H: HashKind>()
     ensures { (archive : Archive) (files : Files) (words : SweepWords) (listed : List Listed)
         → HasIndex H.hash files words.index archive → IsList files words.list listed
         → AreAllThere files (names_of listed) → All (IsHonestLine H.hash files archive) listed
-        → IsServed H.hash files (Sweep words) }
+        → IsCommandServed H.hash files (Sweep words) }
 {}
 
 /// If a file holds the index bytes of an archive, which `build` stores, `root` serves it. TNRA `prove` serves it too,
@@ -61,36 +63,27 @@ pub fn honest_sweeps_are_served<H: HashKind>()
 pub fn built_indexes_are_served<H: HashKind>()
     ensures root { (archive : Archive) (bytes : List ℕ) (files : Files) (name : List ℕ)
         → IsSpelling H.hash bytes archive → Holds files name bytes
-        → Said (root_words name) (IsServed H.hash files) }
+        → Said (root_words name) (IsCommandServed H.hash files) }
     ensures prove { (archive : Archive) (bytes : List ℕ) (files : Files) (name : List ℕ)
         → IsSpelling H.hash bytes archive → Holds files name bytes
         → (rows : ℕ) (r query proof : List ℕ) → number_of r ≡ Some rows → AsksRanking rows query
-        → Said (prove_words name (codes "tnra") r query proof) (IsServed H.hash files) }
+        → Said (prove_words name (codes "tnra") r query proof) (IsCommandServed H.hash files) }
     ensures either { (archive : Archive) (bytes : List ℕ) (files : Files) (name : List ℕ)
-        → IsTold files → IsSpelling H.hash bytes archive → Holds files name bytes
+        → IsSpelling H.hash bytes archive → Holds files name bytes
         → (algorithm : Algorithm) (asked : List (List ℕ × ℕ)) (rows : ℕ) (honest : List ℕ)
         → IsProved H.hash archive asked rows algorithm honest → length honest ≤ 2 ^ 26
         → (word r query proof : List ℕ) → algorithm_of word ≡ Some algorithm → number_of r ≡ Some rows
         → IsRowCount rows → IsQueryOf query asked
-        → Said (prove_words name word r query proof) (IsServed H.hash files) }
+        → Said (prove_words name word r query proof) (IsCommandServed H.hash files) }
 {}
 
-/// If the shelf reports its files, the proof of a command is refused in at most one way, and in none if the command has
-/// what it reads.
-pub fn commands_have_one_rejection<H: HashKind>()
-    ensures one { (files : Files) (command : Command) (a b : Rejection) → IsTold files
-        → IsRejected H.hash files command a → IsRejected H.hash files command b → a ≡ b }
-    ensures none { (files : Files) (command : Command) (rejection : Rejection) → IsTold files
-        → HasInput H.hash files command → IsRejected H.hash files command rejection → ⊥ }
-{}
-
-/// If the shelf reports its files, the input of a command is refused in at most one way, so that one line is printed,
-/// and in none if the command is served.
-pub fn commands_have_one_refusal<H: HashKind>()
-    ensures one { (files : Files) (command : Command) (a b : List ℕ) → IsTold files
-        → IsRefused H.hash files command a → IsRefused H.hash files command b → a ≡ b }
-    ensures none { (files : Files) (command : Command) (line : List ℕ) → IsTold files
-        → IsServed H.hash files command → IsRefused H.hash files command line → ⊥ }
+/// If the shelf reports its files, or the command comes to no file, then its words and files stop it in at most one way,
+/// so that one status and one text are printed; and in none if each of its steps holds.
+pub fn commands_stop_in_one_way<H: HashKind>()
+    ensures one { (files : Files) (command : Command) (a b : Stop) → IsKnown files (plan_of H.hash command)
+        → Refuses AtShelf files (plan_of H.hash command) a → Refuses AtShelf files (plan_of H.hash command) b → a ≡ b }
+    ensures none { (files : Files) (command : Command) (stop : Stop) → IsKnown files (plan_of H.hash command)
+        → Passes files (plan_of H.hash command) → Refuses AtShelf files (plan_of H.hash command) stop → ⊥ }
 {}
 
 /// If the bytes that `ask` got are the honest proof of its query over an archive with its root, by either algorithm,

@@ -20,7 +20,7 @@ pub(crate) struct Line {
 
 impl Model for Line {
     ghost use Rattle.std.specs.Prelude.{ℕ, List};
-    ghost use Rattle.ats_top.specs.Line.{text_of_line};
+    ghost use Rattle.ats_top.specs.Inner.Line.{text_of_line};
 
     ghost Value = { List ℕ };
 

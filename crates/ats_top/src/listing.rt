@@ -1,9 +1,10 @@
 //! The list of a sweep: its lines, and what each asks for.
 
-ghost use Rattle.std.specs.Prelude.{◌≡◌, ◌≢◌, ◌⊎◌, ◌≤◌, ◌<◌, ◌^◌, ◌∷◌, [], length, IfOk, IfErr, MatchOption};
+ghost use Rattle.std.specs.Prelude.{◌≡◌, ◌≢◌, ◌⊎◌, ◌≤◌, ◌<◌, ◌∷◌, [], length, IfOk, IfErr, MatchOption};
 ghost use Rattle.std.specs.List.{AllZip};
-ghost use Rattle.ats_top.specs.Listed.{Listed, IsSpelled, IsListed, IsEntry, IsBadLine, lines_of};
-ghost use Rattle.ats_top.specs.Sweeping.{ListStop, IsSpelledAs};
+ghost use Rattle.ats_top.specs.Listed.{Listed, IsSpelled, IsListed, lines_of};
+ghost use Rattle.ats_top.specs.Inner.Sweeping.{IsEntry, IsSpelledAs};
+ghost use Rattle.ats_top.specs.Commands.Sweep.{IsListStop};
 ghost use Rattle.ats_top.specs.declared.stops.Stop.TheVariants.{Memory};
 
 use crate::stops::{Stop, bad_line};
@@ -100,7 +101,7 @@ pub(crate) fn read_entries<'a>(alloc: Global, bytes: &'a [u8]) -> Result<Vec<Ent
     ensures ok { IfOk result (λ entries. AllZip IsEntry (lines_of bytes.now) entries.items) }
     ensures some { IfOk result (λ entries. 1 ≤ length entries.items) }
     ensures few { IfOk result (λ entries. length entries.items ≤ 1000) }
-    ensures stop { IfErr result (ListStop (lines_of bytes.now)) }
+    ensures stop { IfErr result (λ stop. (stop ≡ Memory) ⊎ IsListStop bytes.now stop) }
 {
     let count = count_lines(bytes);
     if count == 0 {

@@ -21,7 +21,7 @@ pub(crate) struct Phrase {
 
 impl Model for Phrase {
     ghost use Rattle.std.specs.Prelude.{ℕ, List};
-    ghost use Rattle.ats_top.specs.Phrase.{text_of_form};
+    ghost use Rattle.ats_top.specs.Inner.Phrase.{text_of_form};
 
     ghost Value = { List ℕ };
 

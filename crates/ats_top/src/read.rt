@@ -1,11 +1,13 @@
 //! Reads the files of commands.
 
-ghost use Rattle.std.specs.Prelude.{◌≤◌, ◌^◌, IfOk, IfErr};
-ghost use Rattle.ats_top.specs.Read.{IsFile, HasCollection, HasIndex};
-ghost use Rattle.ats_top.specs.Reading.{Reads};
-ghost use Rattle.ats_top.specs.Counts.{KeepsShelfCount};
-ghost use Rattle.ats_top.specs.ReadStops.{FileStop, CollectionStop, IndexStop, ProofStop};
+ghost use Rattle.std.specs.Prelude.{◌≤◌, ◌^◌, [], IfOk, IfErr};
+ghost use Rattle.ats_plan.specs.Runs.{IsDone, IsStopped};
+ghost use Rattle.ats_top.specs.Steps.{reads_file, reads_collection, reads_index, reads_proof};
+ghost use Rattle.ats_top.specs.Inner.Steps.{no_more, comes_to};
+ghost use Rattle.ats_top.specs.Commands.Sweep.{reads_gathered};
+ghost use Rattle.ats_top.specs.declared.stops.Stop.TheVariants.{Shelf as AtShelf, Memory};
 
+use crate::gathering::Gathered;
 use crate::input::read_collection;
 use crate::stops::{Stop, file_too_long, rejected};
 use ats_base::{Bytes, GatherFault, Shelf, gather};
@@ -21,8 +23,8 @@ use std::thread::Threads;
 // The most bytes that the file of a collection may have.
 const COLLECTION_LIMIT: u64 = 1 << 26;
 
-// The most bytes that the list of a sweep may have.
-const LIST_LIMIT: u64 = 1 << 20;
+/// The most bytes that the list of a sweep may have.
+pub(crate) const LIST_LIMIT: u64 = 1 << 20;
 
 // The most bytes that the file of an index may have.
 const INDEX_LIMIT: u64 = 1 << 29;
@@ -33,12 +35,18 @@ pub(crate) const TOO_LONG: ShapeFault = ShapeFault {
     kind: ShapeKind::Long,
 };
 
-fn file<S: Shelf>(alloc: Global, name: &str, limit: u64, shelf: &mut S) -> Result<Bytes, Stop>
+/// The bytes of the named file.
+pub(crate) fn file<S: Shelf>(
+    alloc: Global,
+    name: &str,
+    limit: u64,
+    shelf: &mut S,
+) -> Result<Bytes, Stop>
     requires { limit ≤ 2 ^ 29 }
-    ensures ok { IfOk result (IsFile (S.told shelf.old).files name.now limit) }
-    ensures stop { IfErr result (FileStop (S.told shelf.old) (S.told shelf.new) name.now limit) }
-    ensures reads { Reads (S.told shelf.old) (S.told shelf.new) name.now limit }
-    ensures count { KeepsShelfCount (S.told shelf.old) (S.told shelf.new) result }
+    ensures ok { IfOk result (λ bytes. IsDone (reads_file name.now limit (comes_to bytes))
+        (S.told shelf.old) (S.told shelf.new) []) }
+    ensures stop { IfErr result (IsStopped AtShelf Memory (reads_file name.now limit (λ bytes. no_more))
+        (S.told shelf.old) (S.told shelf.new)) }
 {
     match gather(alloc, shelf, name, limit) {
         Ok(bytes) => Ok(bytes),
@@ -54,10 +62,10 @@ pub(crate) fn collection<S: Shelf>(
     name: &str,
     shelf: &mut S,
 ) -> Result<Collection, Stop>
-    ensures ok { IfOk result (HasCollection (S.told shelf.old).files name.now) }
-    ensures stop { IfErr result (CollectionStop (S.told shelf.old) (S.told shelf.new) name.now) }
-    ensures reads { Reads (S.told shelf.old) (S.told shelf.new) name.now (2 ^ 26) }
-    ensures count { KeepsShelfCount (S.told shelf.old) (S.told shelf.new) result }
+    ensures ok { IfOk result (λ texts. IsDone (reads_collection name.now (comes_to texts))
+        (S.told shelf.old) (S.told shelf.new) []) }
+    ensures stop { IfErr result (IsStopped AtShelf Memory (reads_collection name.now (λ texts. no_more))
+        (S.told shelf.old) (S.told shelf.new)) }
 {
     let bytes = file(alloc, name, COLLECTION_LIMIT, shelf)?;
     let texts = read_collection(alloc, bytes.as_slice())?;
@@ -71,36 +79,43 @@ pub(crate) fn index<H: Hash32 + Sync, R: Threads + Sync, S: Shelf>(
     name: &str,
     shelf: &mut S,
 ) -> Result<Index<H>, Stop>
-    ensures ok { IfOk result (HasIndex H.hash (S.told shelf.old).files name.now) }
-    ensures stop { IfErr result (IndexStop H.hash (S.told shelf.old) (S.told shelf.new) name.now) }
-    ensures reads { Reads (S.told shelf.old) (S.told shelf.new) name.now (2 ^ 29) }
-    ensures count { KeepsShelfCount (S.told shelf.old) (S.told shelf.new) result }
+    ensures ok { IfOk result (λ index. IsDone (reads_index H.hash name.now (comes_to index))
+        (S.told shelf.old) (S.told shelf.new) []) }
+    ensures stop { IfErr result (IsStopped AtShelf Memory (reads_index H.hash name.now (λ archive. no_more))
+        (S.told shelf.old) (S.told shelf.new)) }
 {
     let bytes = file(alloc, name, INDEX_LIMIT, shelf)?;
     Ok(Index::<H>::load(rt, alloc, bytes.as_slice())?)
 }
 
-/// The bytes of the list that the named file may be.
-pub(crate) fn list<S: Shelf>(alloc: Global, name: &str, shelf: &mut S) -> Result<Bytes, Stop>
-    ensures ok { IfOk result (IsFile (S.told shelf.old).files name.now (2 ^ 20)) }
-    ensures stop { IfErr result (FileStop (S.told shelf.old) (S.told shelf.new) name.now (2 ^ 20)) }
-    ensures reads { Reads (S.told shelf.old) (S.told shelf.new) name.now (2 ^ 20) }
-    ensures count { KeepsShelfCount (S.told shelf.old) (S.told shelf.new) result }
+/// The bytes of the proof that the named file may be, or `Long`.
+pub(crate) fn proof_or_long<S: Shelf>(
+    alloc: Global,
+    name: &str,
+    shelf: &mut S,
+) -> Result<Gathered, Stop>
+    ensures ok { IfOk result (λ proof. IsDone (reads_gathered name.now (comes_to proof))
+        (S.told shelf.old) (S.told shelf.new) []) }
+    ensures stop { IfErr result (IsStopped AtShelf Memory (reads_gathered name.now (λ proof. no_more))
+        (S.told shelf.old) (S.told shelf.new)) }
 {
-    file(alloc, name, LIST_LIMIT, shelf)
+    match gather(alloc, shelf, name, MAX_PROOF) {
+        Ok(bytes) => Ok(Gathered::Whole(bytes)),
+        Err(GatherFault::ReadFault) => Err(Stop::Shelf),
+        Err(GatherFault::TooLong) => Ok(Gathered::Long),
+        Err(GatherFault::OutOfMemory) => Err(Stop::Memory),
+    }
 }
 
 /// The bytes of the proof that the named file may be.
 pub(crate) fn proof<S: Shelf>(alloc: Global, name: &str, shelf: &mut S) -> Result<Bytes, Stop>
-    ensures ok { IfOk result (IsFile (S.told shelf.old).files name.now (2 ^ 26)) }
-    ensures stop { IfErr result (ProofStop (S.told shelf.old) (S.told shelf.new) name.now) }
-    ensures reads { Reads (S.told shelf.old) (S.told shelf.new) name.now (2 ^ 26) }
-    ensures count { KeepsShelfCount (S.told shelf.old) (S.told shelf.new) result }
+    ensures ok { IfOk result (λ bytes. IsDone (reads_proof name.now (comes_to bytes))
+        (S.told shelf.old) (S.told shelf.new) []) }
+    ensures stop { IfErr result (IsStopped AtShelf Memory (reads_proof name.now (λ bytes. no_more))
+        (S.told shelf.old) (S.told shelf.new)) }
 {
-    match gather(alloc, shelf, name, MAX_PROOF) {
-        Ok(bytes) => Ok(bytes),
-        Err(GatherFault::ReadFault) => Err(Stop::Shelf),
-        Err(GatherFault::TooLong) => Err(rejected(Rejection::Shape(TOO_LONG))),
-        Err(GatherFault::OutOfMemory) => Err(Stop::Memory),
+    match proof_or_long(alloc, name, shelf)? {
+        Gathered::Whole(bytes) => Ok(bytes),
+        Gathered::Long => Err(rejected(Rejection::Shape(TOO_LONG))),
     }
 }

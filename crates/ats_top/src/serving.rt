@@ -1,16 +1,17 @@
 //! `serve`: accepts links at a door, and serves them one after another.
 
-ghost use Rattle.std.specs.Prelude.{◌≡◌, ◌≢◌, ◌⊎◌, ◌≤◌, ◌^◌, ◌∷◌, ℕ, Some, List, [], true, string_bytes, IfOk, IfErr, OnOk, OnErr};
+ghost use Rattle.std.specs.Prelude.{◌≡◌, ◌≢◌, ◌⊎◌, ◌≤◌, ◌∷◌, ℕ, Some, List, [], true, string_bytes, IfOk, IfErr, OnOk, OnErr};
 ghost use Rattle.ats_base.specs.Links.{CallerTold};
 ghost use Rattle.ats_wire.specs.Connections.{is_fault};
 ghost use Rattle.ats_top.specs.Answering.{gives};
-ghost use Rattle.ats_top.specs.Serving.{Session, HadSessions, FailedToAccept, Took, IsUntold, ServesLinks, end_word, line_of_session};
-ghost use Rattle.ats_top.specs.Served.{Attends, Opens};
-ghost use Rattle.ats_top.specs.Read.{Files, HasIndex};
-ghost use Rattle.ats_top.specs.Reading.{Reads};
+ghost use Rattle.ats_top.specs.Serving.{Session, HadSessions, FailedToAccept, Took, end_word, line_of_session};
+ghost use Rattle.ats_top.specs.Inner.Serving.{IsUntold, ServesLinks, Attends};
+ghost use Rattle.ats_top.specs.Served.{Opens};
+ghost use Rattle.ats_plan.specs.Files.{Files};
+ghost use Rattle.ats_top.specs.Read.{HasIndex};
 ghost use Rattle.ats_top.specs.Words.{Serve, command_of};
 ghost use Rattle.ats_top.specs.Run.{Ended};
-ghost use Rattle.ats_top.specs.Outcome.{PrintsOutcome};
+ghost use Rattle.ats_top.specs.Inner.Outcome.{PrintsOutcome};
 
 use crate::answering::IndexAnswerer;
 use crate::commands::print_stop;
@@ -183,11 +184,9 @@ pub(crate) fn serve<H: Hash32 + Sync, R: Threads + Sync, S: Shelf, K: Sink, D: D
         → Ended H.hash said
         (record { shelf = S.told shelf.old; sink = K.told out.old; caller = caller; door = D.told door.old })
         (record { shelf = S.told shelf.new; sink = K.told out.new; caller = caller; door = D.told door.new }) result }
-    ensures reads { Reads (S.told shelf.old) (S.told shelf.new) index.now (2 ^ 29) }
     ensures opened { (D.told door.new ≡ D.told door.old)
         ⊎ Opens (record { index = index.now; connections = connections; address = address.now })
         (D.told door.old) (D.told door.new) }
-    ensures shelf_count { result ≢ 3 → result ≢ 7 → (S.told shelf.new).faults ≡ (S.told shelf.old).faults }
     ensures door_count { result ≢ 8 → result ≢ 7 → (D.told door.new).faults ≡ (D.told door.old).faults }
     ensures sink_later { (K.told out.old).faults ≤ (K.told out.new).faults }
 {

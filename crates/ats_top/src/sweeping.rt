@@ -1,13 +1,14 @@
 //! `sweep`: the audits of the proofs of a list against an index, and their lines.
 
-ghost use Rattle.std.specs.Prelude.{◌≡◌, ◌++◌, ◌||◌, false, IfOk, IfErr, OnOk, length, string_bytes};
-ghost use Rattle.ats_base.specs.Outside.{ShelfTold};
-ghost use Rattle.ats_top.specs.Words.{Sweep, SweepWords};
-ghost use Rattle.ats_top.specs.Reading.{Serves};
-ghost use Rattle.ats_top.specs.Counts.{KeepsShelfCount};
-ghost use Rattle.ats_top.specs.Run.{FilesStop};
-ghost use Rattle.ats_top.specs.Findings.{FoundRefused, IsSwept, is_refused, is_collision, line_of_finding};
-ghost use Rattle.ats_top.specs.Sweeping.{AreJobs, AreRead, IsReport, ConclusionStop, finding_of, found_by};
+ghost use Rattle.std.specs.Prelude.{◌≡◌, ◌^◌, ◌++◌, ◌||◌, false, IfOk, IfErr, OnOk, length, string_bytes};
+ghost use Rattle.ats_plan.specs.Files.{IsFile};
+ghost use Rattle.ats_plan.specs.Runs.{IsDone, IsStopped};
+ghost use Rattle.ats_top.specs.Words.{SweepWords};
+ghost use Rattle.ats_top.specs.Read.{HasIndex};
+ghost use Rattle.ats_top.specs.Findings.{FoundRefused, is_refused, is_collision, line_of_finding};
+ghost use Rattle.ats_top.specs.Inner.Sweeping.{AreJobs, IsReport, ConclusionStop, finding_of, found_by};
+ghost use Rattle.ats_top.specs.Commands.Sweep.{sweeps, sweep_plan};
+ghost use Rattle.ats_top.specs.declared.stops.Stop.TheVariants.{Shelf as AtShelf, Memory};
 
 use crate::gathering::{Gathered, gather_all};
 use crate::line::Line;
@@ -170,24 +171,20 @@ fn conclusion(report: Report) -> Result<Vec<u8>, Stop>
 }
 
 // The lines of a sweep of a list against an index, after both were read.
-fn swept<H: Hash32 + Sync, R: Threads + Sync, S: Shelf>(
+fn sweep_to_lines<H: Hash32 + Sync, R: Threads + Sync, S: Shelf>(
     rt: &R,
     alloc: Global,
     index: &Index<H>,
     list: &[u8],
     shelf: &mut S,
 ) -> Result<Vec<u8>, Stop>
-    ensures ok { (before : ShelfTold) (words : SweepWords)
-        → AreRead H.hash before (S.told shelf.old) words index.now list.now
-        → IfOk result (λ text. IsSwept H.hash before.files words 0 text.items) }
-    ensures stop { (before : ShelfTold) (words : SweepWords)
-        → AreRead H.hash before (S.told shelf.old) words index.now list.now
-        → IfErr result (FilesStop H.hash before (S.told shelf.new) (Sweep words)) }
-    ensures same { (S.told shelf.new).files ≡ (S.told shelf.old).files }
-    ensures count { KeepsShelfCount (S.told shelf.old) (S.told shelf.new) result }
-    ensures serves { (before : ShelfTold) (words : SweepWords)
-        → AreRead H.hash before (S.told shelf.old) words index.now list.now
-        → Serves H.hash before (S.told shelf.new) (Sweep words) }
+    ensures ok { (words : SweepWords) → HasIndex H.hash (S.told shelf.old).files words.index index.now
+        → IsFile (S.told shelf.old).files words.list (2 ^ 20) list.now
+        → IfOk result (λ text. IsDone (sweeps H.hash words index.now list.now)
+        (S.told shelf.old) (S.told shelf.new) text.items) }
+    ensures stop { (words : SweepWords)
+        → IfErr result (IsStopped AtShelf Memory (sweeps H.hash words index.now list.now)
+        (S.told shelf.old) (S.told shelf.new)) }
 {
     let entries = read_entries(alloc, list)?;
     let proofs = gather_all(alloc, entries.as_slice(), shelf)?;
@@ -205,24 +202,21 @@ pub(crate) fn sweep<H: Hash32 + Sync, R: Threads + Sync, S: Shelf>(
     list: &str,
     shelf: &mut S,
 ) -> Result<Vec<u8>, Stop>
-    ensures ok { IfOk result (λ text. IsSwept H.hash (S.told shelf.old).files
-        (record { index = index.now; list = list.now }) 0 text.items) }
-    ensures stop { IfErr result (FilesStop H.hash (S.told shelf.old) (S.told shelf.new)
-        (Sweep (record { index = index.now; list = list.now }))) }
-    ensures same { (S.told shelf.new).files ≡ (S.told shelf.old).files }
-    ensures count { KeepsShelfCount (S.told shelf.old) (S.told shelf.new) result }
-    ensures serves { Serves H.hash (S.told shelf.old) (S.told shelf.new)
-        (Sweep (record { index = index.now; list = list.now })) }
+    ensures ok { IfOk result (λ text. IsDone (sweep_plan H.hash (record { index = index.now; list = list.now }))
+        (S.told shelf.old) (S.told shelf.new) text.items) }
+    ensures stop { IfErr result (IsStopped AtShelf Memory
+        (sweep_plan H.hash (record { index = index.now; list = list.now }))
+        (S.told shelf.old) (S.told shelf.new)) }
 {
     let loaded = read::index::<H, R, S>(rt, alloc, index, shelf)?;
-    let bytes = match read::list(alloc, list, shelf) {
+    let bytes = match read::file(alloc, list, read::LIST_LIMIT, shelf) {
         Ok(bytes) => bytes,
         Err(stop) => {
             drop(loaded);
             return Err(stop);
         }
     };
-    let text = swept::<H, R, S>(rt, alloc, &loaded, bytes.as_slice(), shelf);
+    let text = sweep_to_lines::<H, R, S>(rt, alloc, &loaded, bytes.as_slice(), shelf);
     drop(loaded);
     text
 }

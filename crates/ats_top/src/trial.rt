@@ -7,8 +7,12 @@ ghost use Rattle.ats_proof.specs.Value.{Proof};
 ghost use Rattle.ats_proof.specs.declared.record.Algorithm.TheVariants.{Tra, Tnra};
 ghost use Rattle.ats_audit.specs.Verdicts.{IsVerdict};
 ghost use Rattle.ats_audit.specs.declared.auditing.Verdict.{Verdict};
-ghost use Rattle.ats_top.specs.Trial.{shown_entries, is_right, tally_of, counted, IsSmall, IsTried, IsTryStop, IsTriesStop, AreTried, AreTriedLines, AreTrialQueries, IsTrial, IsTrialStop, line_of_proofs, lines_of_trial};
-ghost use Rattle.ats_top.specs.declared.stops.Stop.TheVariants.{Memory};
+ghost use Rattle.ats_base.specs.Outside.{ShelfTold};
+ghost use Rattle.ats_plan.specs.Runs.{IsDone, IsStopped};
+ghost use Rattle.ats_top.specs.Commands.Trial.{trial_plan};
+ghost use Rattle.ats_top.specs.Trial.{shown_entries, IsTried, line_of_proofs, lines_of_trial};
+ghost use Rattle.ats_top.specs.Inner.Trial.{is_right, tally_of, counted, IsSmall, IsTryStop, IsTriesStop, AreTried, AreTriedLines, AreTrialQueries, IsTrialStop};
+ghost use Rattle.ats_top.specs.declared.stops.Stop.TheVariants.{Shelf as AtShelf, Memory};
 
 use crate::print::root_line;
 use crate::stops::Stop;
@@ -202,7 +206,7 @@ fn text(alloc: Global, root: &[u8; 32], tra: &Tally, tnra: &Tally) -> Result<Str
 }
 
 // The lines of a trial of these queries against the index of its texts.
-fn tried<H: Hash32>(
+fn try_to_lines<H: Hash32>(
     alloc: Global,
     index: &Index<H>,
     queries: &[Query],
@@ -227,13 +231,15 @@ pub(crate) fn trial<H: Hash32 + Sync, R: Threads + Sync>(
     alloc: Global,
     number: u32,
 ) -> Result<Vec<u8>, Stop>
-    ensures ok { IfOk result (λ text. IsTrial H.hash number text.items) }
-    ensures stop { IfErr result (IsTrialStop H.hash number) }
+    ensures ok { (shelf : ShelfTold)
+        → IfOk result (λ text. IsDone (trial_plan H.hash (record { number = number })) shelf shelf text.items) }
+    ensures stop { (shelf : ShelfTold)
+        → IfErr result (IsStopped AtShelf Memory (trial_plan H.hash (record { number = number })) shelf shelf) }
 {
     let top = Top::new(ROWS)?;
     let queries = queries(alloc, number)?;
     let index = index::<H, R>(rt, alloc, number)?;
-    let text = tried(alloc, &index, queries.as_slice(), top);
+    let text = try_to_lines(alloc, &index, queries.as_slice(), top);
     drop(index);
     text
 }

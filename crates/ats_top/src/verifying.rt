@@ -1,17 +1,15 @@
 //! `verify`: the check of a proof, and the lines of its answer.
 
-ghost use Rattle.std.specs.Prelude.{◌≡◌, ◌^◌, List, IfOk, IfErr};
+ghost use Rattle.std.specs.Prelude.{◌≡◌, ◌⊎◌, List, IfOk, IfErr};
 ghost use Rattle.ats_terms.specs.Query.{IsQuery};
 ghost use Rattle.ats_impact.specs.declared.rank.Row.{Row};
 ghost use Rattle.ats_client.specs.Bytes.{AreVerifiedRows};
-ghost use Rattle.ats_top.specs.Words.{Verify};
+ghost use Rattle.ats_plan.specs.Plan.{ComesToShelf};
+ghost use Rattle.ats_plan.specs.Runs.{IsDone, IsStopped};
 ghost use Rattle.ats_top.specs.Print.{lines};
-ghost use Rattle.ats_top.specs.Refusals.{AsksRanking};
-ghost use Rattle.ats_top.specs.Reading.{Reads};
-ghost use Rattle.ats_top.specs.Counts.{KeepsShelfCount};
-ghost use Rattle.ats_top.specs.ReadStops.{BytesStop};
-ghost use Rattle.ats_top.specs.Done.{IsVerified};
-ghost use Rattle.ats_top.specs.Run.{FilesStop};
+ghost use Rattle.ats_top.specs.Steps.{RejectsBytes};
+ghost use Rattle.ats_top.specs.Commands.Verify.{verify_plan};
+ghost use Rattle.ats_top.specs.declared.stops.Stop.TheVariants.{Shelf as AtShelf, Memory};
 
 use crate::print::lines;
 use crate::read;
@@ -24,7 +22,7 @@ use ats_terms::Query;
 use std::alloc::Global;
 
 /// The lines of the rows of bytes that are accepted as a proof.
-pub(crate) fn answered<H: Hash32>(
+pub(crate) fn verify_to_lines<H: Hash32>(
     alloc: Global,
     bytes: &[u8],
     root: &[u8; 32],
@@ -33,7 +31,8 @@ pub(crate) fn answered<H: Hash32>(
 ) -> Result<Vec<u8>, Stop>
     ensures ok { IfOk result (λ text. (rows : List Row)
         × AreVerifiedRows H.hash root.now query.now top bytes.now rows × (text.items ≡ lines rows)) }
-    ensures stop { IfErr result (BytesStop H.hash root.now query.now top bytes.now) }
+    ensures stop { IfErr result (λ stop.
+        (stop ≡ Memory) ⊎ RejectsBytes H.hash root.now query.now top bytes.now stop) }
     ensures asked { IsQuery query.now }
 {
     // A query has terms within the limits.
@@ -57,16 +56,18 @@ pub(crate) fn verify<H: Hash32, S: Shelf>(
     proof: &str,
     shelf: &mut S,
 ) -> Result<Vec<u8>, Stop>
-    ensures ok { IfOk result (λ text. IsVerified H.hash (S.told shelf.old).files
-        (record { root = root.now; r = r; query = query.now; proof = proof.now }) text.items) }
-    ensures stop { IfErr result (FilesStop H.hash (S.told shelf.old) (S.told shelf.new)
-        (Verify (record { root = root.now; r = r; query = query.now; proof = proof.now }))) }
-    ensures reads { Reads (S.told shelf.old) (S.told shelf.new) proof.now (2 ^ 26) }
-    ensures count { KeepsShelfCount (S.told shelf.old) (S.told shelf.new) result }
-    ensures unread { (AsksRanking r query.now → ⊥) → shelf.new ≡ shelf.old }
+    ensures ok { IfOk result (λ text. IsDone
+        (verify_plan H.hash (record { root = root.now; r = r; query = query.now; proof = proof.now }))
+        (S.told shelf.old) (S.told shelf.new) text.items) }
+    ensures stop { IfErr result (IsStopped AtShelf Memory
+        (verify_plan H.hash (record { root = root.now; r = r; query = query.now; proof = proof.now }))
+        (S.told shelf.old) (S.told shelf.new)) }
+    ensures unread { (ComesToShelf
+        (verify_plan H.hash (record { root = root.now; r = r; query = query.now; proof = proof.now })) → ⊥)
+        → shelf.new ≡ shelf.old }
 {
     let rows = Top::new(r)?;
     let asked = Query::read(alloc, query)?;
     let bytes = read::proof(alloc, proof, shelf)?;
-    answered::<H>(alloc, bytes.as_slice(), root, &asked, rows)
+    verify_to_lines::<H>(alloc, bytes.as_slice(), root, &asked, rows)
 }

@@ -1,21 +1,33 @@
-use Rattle.ats_top.proofs.Readings.{build_read, build_alone, build_stored}
-use Rattle.ats_top.proofs.Unstored.{if_unstored}
+use Rattle.std.proofs.Common.{sym, subst}
+use Rattle.std.proofs.lemmas.Result.{err_from_is_err_and}
+use Rattle.ats_plan.specs.Files.{Files}
+use Rattle.ats_plan.proofs.Public.{leads_none, leads_make}
+use Rattle.ats_top.specs.Read.{HasCollection}
+use Rattle.ats_top.proofs.Fronts.{passed_on, at_collection, leads_collection, has_collection, same_collection}
+use Rattle.ats_top.proofs.Stored.{stored, not_stored}
 use Rattle.ats_top.proofs.commands.build.Goals as goal
 
-pub returns-in_err-texts-clause-serves : goal.returns-in_err-texts-clause-serves
-returns-in_err-texts-clause-serves g c = build_read _ _ _ _ c.collection.ensures.reads
+pub returns-in_err-texts-clause-stop : goal.returns-in_err-texts-clause-stop
+returns-in_err-texts-clause-stop g c =
+    let told = err_from_is_err_and c.from_residual.result c.from_residual.ensures.1 in
+    passed_on _ _ told.0 _ told.1 told.2
+    (at_collection c.in_err-texts.ensures.stop)
 
-pub returns-in_err-bytes-clause-serves : goal.returns-in_err-bytes-clause-serves
-returns-in_err-bytes-clause-serves g c = build_read _ _ _ _ c.in_ok-texts.ensures.reads
+pub returns-in-Ok-clause-ok : goal.returns-in-Ok-clause-ok
+returns-in-Ok-clause-ok g c =
+    let leads = leads_make c.in_ok-bytes.bytes (leads_collection leads_none c.in_ok-texts.ensures.ok) c.in_ok-bytes.ensures.bytes in
+    let collection = subst (λ (files : Files). HasCollection files c.args.collection.now c.in_ok-texts.texts) (sym (same_collection c.in_ok-texts.ensures.ok)) (has_collection c.in_ok-texts.ensures.ok) in
+    let puts = rw c.as_slice.ensures at c.in-Ok.ensures.ok in
+    stored leads c.in-Ok.ensures.asked c.in-Ok.ensures.cause.kept puts (record {
+      texts = c.in_ok-texts.texts;
+      bytes = c.in_ok-bytes.bytes;
+      collection = collection;
+      spelling = c.in_ok-bytes.ensures.bytes;
+      stored = puts;
+      published = c.in_ok-bytes.ensures.line;
+    })
 
-pub returns-in-Ok-clause-serves : goal.returns-in-Ok-clause-serves
-returns-in-Ok-clause-serves g c = build_stored g.H.HashKind.hash _ _ (g.S.Shelf.told c.collection.new.shelf) _ _ c.in_ok-texts.ensures.ok c.in_ok-texts.ensures.reads c.in-Ok.ensures.asked c.in-Ok.ensures.cause.later
-
-pub returns-clause-serves : goal.returns-clause-serves
-returns-clause-serves g c = build_stored g.H.HashKind.hash _ _ (g.S.Shelf.told c.collection.new.shelf) _ _ c.in_ok-texts.ensures.ok c.in_ok-texts.ensures.reads c.in-Err.ensures.asked c.in-Err.ensures.cause.later
-
-pub returns-in_err-texts-clause-unstored : goal.returns-in_err-texts-clause-unstored
-returns-in_err-texts-clause-unstored g c = if_unstored c.from_residual.result _ (build_alone g.H.HashKind.hash _ _ (record { collection = c.args.collection.now; index = c.args.index.now }) c.collection.ensures.reads)
-
-pub returns-in_err-bytes-clause-unstored : goal.returns-in_err-bytes-clause-unstored
-returns-in_err-bytes-clause-unstored g c = if_unstored c.from_residual-in_err-bytes.result _ (build_alone g.H.HashKind.hash _ _ (record { collection = c.args.collection.now; index = c.args.index.now }) c.in_ok-texts.ensures.reads)
+pub returns-clause-stop : goal.returns-clause-stop
+returns-clause-stop g c =
+    let leads = leads_make c.in_ok-bytes.bytes (leads_collection leads_none c.in_ok-texts.ensures.ok) c.in_ok-bytes.ensures.bytes in
+    not_stored leads c.in-Err.ensures.asked c.in-Err.ensures.cause.later c.in-Err.ensures.cause.failed (rw c.as_slice.ensures at c.in-Err.ensures.err)

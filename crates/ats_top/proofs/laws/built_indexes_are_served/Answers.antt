@@ -2,11 +2,10 @@ use Rattle.ats_top.proofs.BuiltServed.{root_served, prove_served, prove_fits}
 use Rattle.ats_top.proofs.laws.built_indexes_are_served.Goals as goal
 
 pub returns-clause-root : goal.returns-clause-root
-returns-clause-root g c archive bytes files name spelling held = root_served g.H.HashKind.hash g.H.HashKind.sized files archive bytes name spelling held
+returns-clause-root g c archive bytes files = root_served g.H.HashKind.hash g.H.HashKind.sized files archive bytes
 
 pub returns-clause-prove : goal.returns-clause-prove
-returns-clause-prove g c archive bytes files name spelling held = prove_served g.H.HashKind.hash g.H.HashKind.sized files archive bytes name spelling held
+returns-clause-prove g c archive bytes files = prove_served g.H.HashKind.hash g.H.HashKind.sized files archive bytes
 
 pub returns-clause-either : goal.returns-clause-either
-returns-clause-either g c archive bytes files name told spelling held =
-    prove_fits g.H.HashKind.hash g.H.HashKind.sized files archive bytes name spelling held told
+returns-clause-either g c archive bytes files = prove_fits g.H.HashKind.hash g.H.HashKind.sized files archive bytes

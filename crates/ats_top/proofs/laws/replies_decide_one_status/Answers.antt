@@ -1,4 +1,4 @@
-use Rattle.ats_top.proofs.LinkEnds.{one_status}
+use Rattle.ats_top.proofs.OneReply.{one_status}
 use Rattle.ats_top.proofs.laws.replies_decide_one_status.Goals as goal
 
 pub returns : goal.returns

@@ -1,4 +1,4 @@
-use Rattle.std.proofs.Common.{rules, arith, refl, inl, List, [], ◌∷◌, sym, subst, ℕ, length, ◌≡◌, ◌+◌}
+use Rattle.std.proofs.Common.{rules, arith, refl, inl, inr, List, [], ◌∷◌, sym, subst, ℕ, length, ◌≡◌, ◌+◌}
 use Rattle.std.proofs.lemmas.Bool.{eqb-true}
 use Rattle.ats_top.specs.Listed.{lines_of, IsBadLine}
 use Rattle.ats_top.proofs.ListEntries.{next_bad, read_more, as_many_read}
@@ -6,13 +6,13 @@ use Rattle.ats_top.proofs.listing.read_entries.Goals as goal
 
 pub returns-in_default-clause-stop : goal.returns-in_default-clause-stop
 returns-in_default-clause-stop c =
-    rw (c.bad_line-in_default.ensures, c.len.ensures) (
+    rw (c.bad_line-in_default.ensures, c.len.ensures) (inr (
       c.lines.entries.len + 1,
       subst (λ (n : ℕ). IsBadLine (lines_of c.args.bytes.now) (n + 1)) (sym c.lines.entries.ok.0)
           (next_bad c.args.bytes.now c.lines.rest.now c.first_line.result.0.now c.first_line.result.1.now c.lines.entries.items c.lines.invariant c.first_line.ensures.lines
           (omega (arith, c.count_lines-count.ensures, c.if-count-gt-LINES.false)) (rw c.in_default.is at c.in_ok-entry.ensures.ok)),
       refl,
-    )
+    ))
 
 pub lines-preserved : goal.lines-preserved
 lines-preserved c =
@@ -37,7 +37,7 @@ no_lines [] none = refl
 no_lines (l ∷ lines) none = absurd (omega (arith, none))
 
 pub returns-then-count-eq0-clause-stop : goal.returns-then-count-eq0-clause-stop
-returns-then-count-eq0-clause-stop c = rw c.bad_line.ensures (1, inl (no_lines _ (omega (arith, c.count_lines-count.ensures, c.if-count-eq0.true)), refl), refl)
+returns-then-count-eq0-clause-stop c = rw c.bad_line.ensures (inr (1, inl (no_lines _ (omega (arith, c.count_lines-count.ensures, c.if-count-eq0.true)), refl), refl))
 
 pub returns-then-count-gt-LINES-clause-stop : goal.returns-then-count-gt-LINES-clause-stop
-returns-then-count-gt-LINES-clause-stop c = rw c.bad_line-then-count-gt-LINES.ensures (1001, search rules, refl)
+returns-then-count-gt-LINES-clause-stop c = rw c.bad_line-then-count-gt-LINES.ensures (inr (1001, search rules, refl))

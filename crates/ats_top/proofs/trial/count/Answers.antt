@@ -7,7 +7,8 @@ use Rattle.ats_client.specs.Accepts.{Accepts}
 use Rattle.ats_honest.specs.Honest.{IsHonest, IsProved, length_of}
 use Rattle.ats_audit.specs.Verdicts.{IsVerdict}
 use Rattle.ats_audit.specs.declared.auditing.Verdict.{Verdict}
-use Rattle.ats_top.specs.Trial.{IsSmall, IsTried, shown_entries}
+use Rattle.ats_top.specs.Inner.Trial.{IsSmall}
+use Rattle.ats_top.specs.Trial.{IsTried, shown_entries}
 use Rattle.ats_top.specs.declared.trial.Tally.{Tally}
 use Rattle.ats_top.proofs.Tried.{tried, audited_right}
 use Rattle.ats_top.proofs.trial.count.Goals as goal

@@ -1,5 +1,5 @@
 use Rattle.std.proofs.Common.{◌≡◌, length}
-use Rattle.ats_top.specs.Trial.{AreTrialQueries}
+use Rattle.ats_top.specs.Inner.Trial.{AreTrialQueries}
 use Rattle.ats_top.proofs.trial.queries.Given as goal
 
 -- the queries so far

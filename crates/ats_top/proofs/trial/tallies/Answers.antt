@@ -1,7 +1,8 @@
 use Rattle.std.proofs.Common.{ℕ, List}
 use Rattle.std.proofs.lemmas.Result.{err_from_is_err_and}
 use Rattle.ats_proof.specs.declared.record.Algorithm.TheVariants.{Tra, Tnra}
-use Rattle.ats_top.specs.Trial.{IsTried, IsTryStop, IsTriesStop}
+use Rattle.ats_top.specs.Trial.{IsTried}
+use Rattle.ats_top.specs.Inner.Trial.{IsTryStop, IsTriesStop}
 use Rattle.ats_top.proofs.Tried.{at_query, first_more, passed_on, stops_at_tra, stops_at_tnra}
 use Rattle.ats_top.proofs.trial.tallies.Goals as goal
 

@@ -1,5 +1,5 @@
 use Rattle.ats_proof.specs.declared.record.Algorithm.TheVariants.{Tra, Tnra}
-use Rattle.ats_top.specs.Trial.{IsSmall}
+use Rattle.ats_top.specs.Inner.Trial.{IsSmall}
 use Rattle.ats_top.proofs.Tried.{AreFirst}
 use Rattle.ats_top.proofs.trial.tallies.Given as goal
 

@@ -1,0 +1,233 @@
+-- The plan of each command goes one way at most.
+use Rattle.std.proofs.Common.{◌≡◌, ◌≢◌, ◌≤◌, ◌^◌, ◌++◌, ◌∷◌, ◌∙◌, ℕ, Bool, true, false, List, [], None, sym, ap, arith, true≢false}
+use Rattle.std.specs.List.{list_any}
+use Rattle.ats_terms.specs.Query.{IsQueryOf}
+use Rattle.ats_terms.specs.Faults.{IsFirstFault}
+use Rattle.ats_impact.specs.Limits.{AreWithin}
+use Rattle.ats_impact.specs.CollectionFaults.{IsFirstCollectionFault}
+use Rattle.ats_tree.specs.Differences.{Difference}
+use Rattle.ats_tree.specs.declared.hashed.Place.{Place}
+use Rattle.ats_commit.specs.Archive.{Archive}
+use Rattle.ats_index.specs.Spelling.{IsSpelling}
+use Rattle.ats_index.specs.LoadFaults.{IsLoadFault}
+use Rattle.ats_index.proofs.Public.{one_archive}
+use Rattle.ats_proof.specs.Value.{Proof}
+use Rattle.ats_proof.specs.declared.record.Algorithm.{Algorithm}
+use Rattle.ats_client.specs.Bytes.{IsAcceptedBytes}
+use Rattle.ats_client.specs.Strings.{extract}
+use Rattle.ats_client.specs.declared.fault.Rejection.{Rejection}
+use Rattle.ats_client.proofs.Public.{accepted_kept, one_rejection}
+use Rattle.ats_plan.specs.Files.{Files}
+use Rattle.ats_plan.specs.Plan.{Plan, Finishes, Stores, Fails, Tries, Gets, Makes, Reads}
+use Rattle.ats_plan.specs.Sound.{IsExact, IsOne, IsSound}
+use Rattle.ats_top.specs.Input.{AreJsonTexts, IsFirstJsonFault}
+use Rattle.ats_top.specs.Words.{Command, Rank, Build, Root, Prove, Verify, Ask, Serve, Audit, Sweep, Trial, SweepWords}
+use Rattle.ats_top.specs.RejectionLines.{line_of_rejection}
+use Rattle.ats_top.specs.CollisionLines.{lines_of_collision}
+use Rattle.ats_top.specs.Stops.{line_of_rows, line_of_bad_line, stop_of_query, stop_of_json, stop_of_collection, stop_of_load}
+use Rattle.ats_top.specs.Listed.{Listed, lines_of, IsListOf, names_of}
+use Rattle.ats_top.specs.Gathered.{total}
+use Rattle.ats_top.specs.Findings.{Finding, is_refused, is_collision, lines_of_findings}
+use Rattle.ats_top.specs.Trial.{IsTrialServed, RefusesTrial}
+use Rattle.ats_top.specs.Steps.{StopsBy, IsRowCount, asks_ranking, reads_collection, reads_index, RejectsBytes, checks}
+use Rattle.ats_top.specs.Commands.{plan_of}
+use Rattle.ats_top.specs.Commands.Prove.{IsNotTooLong, IsUnmade}
+use Rattle.ats_top.specs.Commands.Audit.{StopsByCollision}
+use Rattle.ats_top.specs.Commands.Sweep.{IsListStop, PassesRoom, gathers, concludes, audits, sweeps}
+use Rattle.ats_top.specs.declared.gathering.Gathered.{Gathered}
+use Rattle.ats_top.specs.declared.gathering.Gathered.TheVariants.{Whole, Long}
+use Rattle.ats_top.specs.declared.stops.Stop.{Stop}
+use Rattle.ats_top.specs.declared.stops.Stop.TheVariants.{Input, Rejected, Memory, Collision}
+use Rattle.ats_top.proofs.JsonLemmas.{same_texts, no_json_fault}
+use Rattle.ats_top.proofs.OneFault.{no_query_fault, one_query_fault, one_json_fault, no_collection_fault, one_collection_fault, no_load_fault, one_load_fault}
+use Rattle.ats_top.proofs.OneList.{one_list, no_bad_line, one_bad_line}
+use Rattle.ats_top.proofs.OneFinding.{none_found, one_found, one_accepted, one_findings}
+use Rattle.ats_top.proofs.OneProof.{one_made, one_unmade}
+use Rattle.ats_top.proofs.OneTrial.{trial_kept, one_trial}
+
+-- ---- steps
+
+-- a plan is sound; a record, so that a lemma finds the plan by the type of what it is passed
+record Sound (plan : Plan Stop) : Type 0 where
+  so : IsSound plan
+
+ends : {says : Files → List ℕ → Type 0} → Sound (Finishes says)
+ends = record { so = tt }
+
+stores : {name bytes : List ℕ} {says : Files → Files → List ℕ → Type 0} → Sound (Stores name bytes says)
+stores = record { so = tt }
+
+fails : {fault : Stop} → Sound (Fails fault)
+fails = record { so = tt }
+
+tries : {kept : Type 0} {fault : Stop → Type 0} {rest : Plan Stop} → IsExact kept fault → Sound rest → Sound (Tries kept fault rest)
+tries exact later = record { so = (exact, later.so) }
+
+gets : {A : Type 0} {is : A → Type 0} {fault : Stop → Type 0} {rest : A → Plan Stop} → IsOne is fault → ((a : A) → Sound (rest a))
+    → Sound (Gets A is fault rest)
+gets one later = record { so = (one, λ a. (later a).so) }
+
+makes : {A : Type 0} {is : A → Type 0} {rest : A → Plan Stop} → ((a b : A) → is a → is b → a ≡ b) → ((a : A) → Sound (rest a))
+    → Sound (Makes A is rest)
+makes single later = record { so = (single, λ a. (later a).so) }
+
+reads : {name : List ℕ} {limit : ℕ} {long : Plan Stop} {rest : List ℕ → Plan Stop} → Sound long → ((bytes : List ℕ) → Sound (rest bytes))
+    → Sound (Reads name limit long rest)
+reads long later = record { so = (long.so, λ bytes. (later bytes).so) }
+
+-- ---- the ways to stop
+
+module _ {E : Type 0} (first : E → Type 0) (stop_of : E → Stop) where
+  -- what excludes each first fault is not stopped by one
+  kept_by : (kept : Type 0) → ((fault : E) → kept → stop_of fault ≢ Memory → first fault → ⊥) → (stop : Stop) → StopsBy first stop_of stop → kept → ⊥
+  kept_by kept none stop (fault, is, same, free) holds = none fault holds (λ memory. free (same ∙ memory)) is
+
+  -- if there is one first fault, it stops in one way
+  one_by : ((a b : E) → stop_of a ≢ Memory → stop_of b ≢ Memory → first a → first b → a ≡ b) → (a b : Stop) → StopsBy first stop_of a → StopsBy first stop_of b → a ≡ b
+  one_by one a b (fault, is, same, free) (other, also, like, too) =
+      same ∙ ap stop_of (one fault other (λ memory. free (same ∙ memory)) (λ memory. too (like ∙ memory)) is also) ∙ sym like
+
+-- ---- the steps that commands share
+
+rows_exact : (r : ℕ) → IsExact (IsRowCount r) (λ (stop : Stop). (IsRowCount r → ⊥) × (stop ≡ Input (line_of_rows r)))
+rows_exact r = record {
+  breaks = λ stop out is. out.0 is;
+  one = λ a b is also. is.1 ∙ sym also.1;
+}
+
+query_one : (text : List ℕ) → IsOne (IsQueryOf text) (StopsBy (IsFirstFault text) stop_of_query)
+query_one text = record {
+  single = λ a b is also. is.same ∙ sym also.same;
+  breaks = λ query. kept_by (IsFirstFault text) stop_of_query (IsQueryOf text query) (λ fault is. no_query_fault text fault is.has);
+  one = one_by (IsFirstFault text) stop_of_query (one_query_fault text);
+}
+
+texts_one : (bytes : List ℕ) → IsOne (AreJsonTexts bytes) (StopsBy (IsFirstJsonFault bytes) stop_of_json)
+texts_one bytes = record {
+  single = same_texts bytes;
+  breaks = λ texts. kept_by (IsFirstJsonFault bytes) stop_of_json (AreJsonTexts bytes texts) (λ fault. no_json_fault bytes texts fault);
+  one = one_by (IsFirstJsonFault bytes) stop_of_json (one_json_fault bytes);
+}
+
+limits_exact : (texts : List (List ℕ)) → IsExact (AreWithin texts) (StopsBy (IsFirstCollectionFault texts) stop_of_collection)
+limits_exact texts = record {
+  breaks = kept_by (IsFirstCollectionFault texts) stop_of_collection (AreWithin texts) (no_collection_fault texts);
+  one = one_by (IsFirstCollectionFault texts) stop_of_collection (one_collection_fault texts);
+}
+
+archive_one : (H : List ℕ → List ℕ) (bytes : List ℕ) → IsOne (IsSpelling H bytes) (StopsBy (IsLoadFault H bytes) stop_of_load)
+archive_one H bytes = record {
+  single = one_archive H bytes;
+  breaks = λ archive. kept_by (IsLoadFault H bytes) stop_of_load (IsSpelling H bytes archive) (no_load_fault H bytes archive);
+  one = one_by (IsLoadFault H bytes) stop_of_load (one_load_fault H bytes);
+}
+
+module _ (H : List ℕ → List ℕ) (root : List ℕ) (query : List (List ℕ × ℕ)) (r : ℕ) (bytes : List ℕ) where
+  rejected_kept : (proof : Proof) (stop : Stop) → RejectsBytes H root query r bytes stop → IsAcceptedBytes H root query r bytes proof → ⊥
+  rejected_kept proof stop (rejection, rejected, same) accepted = accepted_kept H root query r bytes proof rejection accepted rejected
+
+  one_reject : (a b : Stop) → RejectsBytes H root query r bytes a → RejectsBytes H root query r bytes b → a ≡ b
+  one_reject a b (rejection, is, same) (other, also, like) =
+      same ∙ ap (λ (why : Rejection). Rejected (line_of_rejection why)) (one_rejection H root query r bytes rejection other is also) ∙ sym like
+
+  proof_one : IsOne (IsAcceptedBytes H root query r bytes) (RejectsBytes H root query r bytes)
+  proof_one = record { single = one_accepted H root query r bytes; breaks = rejected_kept; one = one_reject }
+
+ranking_sound : {r : ℕ} {text : List ℕ} {rest : List (List ℕ × ℕ) → Plan Stop} → ((query : List (List ℕ × ℕ)) → Sound (rest query))
+    → Sound (asks_ranking r text rest)
+ranking_sound {r = r} {text = text} later = tries (rows_exact r) (gets (query_one text) later)
+
+collection_sound : {name : List ℕ} {rest : List (List ℕ) → Plan Stop} → ((texts : List (List ℕ)) → Sound (rest texts))
+    → Sound (reads_collection name rest)
+collection_sound later = reads fails (λ bytes. gets (texts_one bytes) (λ texts. tries (limits_exact texts) (later texts)))
+
+index_sound : {H : List ℕ → List ℕ} {name : List ℕ} {rest : Archive → Plan Stop} → ((archive : Archive) → Sound (rest archive))
+    → Sound (reads_index H name rest)
+index_sound {H = H} later = reads fails (λ bytes. gets (archive_one H bytes) later)
+
+checks_sound : {H : List ℕ → List ℕ} {root : List ℕ} {query : List (List ℕ × ℕ)} {r : ℕ} {bytes : List ℕ} {rest : Proof → Plan Stop}
+    → ((proof : Proof) → Sound (rest proof)) → Sound (checks H root query r bytes rest)
+checks_sound {H = H} {root = root} {query = query} {r = r} {bytes = bytes} later = gets (proof_one H root query r bytes) later
+
+-- ---- the steps of one command
+
+module _ (H : List ℕ → List ℕ) (archive : Archive) (query : List (List ℕ × ℕ)) where
+  length_exact : (r : ℕ) (algorithm : Algorithm) → IsExact (IsNotTooLong H archive query r algorithm) (IsUnmade H archive query r algorithm)
+  length_exact r algorithm = record {
+    breaks = λ stop out none. none out.0 out.1;
+    one = one_unmade H archive query r algorithm;
+  }
+
+  module _ (proof : Proof) where
+    collision_kept : (stop : Stop) → StopsByCollision H archive query proof stop → extract H archive query proof ≡ None → ⊥
+    collision_kept stop (collision, collides, same) none = none_found collision (sym none ∙ collides.found)
+
+    one_collision : (a b : Stop) → StopsByCollision H archive query proof a → StopsByCollision H archive query proof b → a ≡ b
+    one_collision a b (collision, is, same) (other, also, like) =
+        same ∙ ap (λ (c : Difference Place). Collision (lines_of_collision c.place c.ours c.theirs)) (one_found collision other (sym is.found ∙ also.found)) ∙ sym like
+
+    collision_exact : IsExact (extract H archive query proof ≡ None) (StopsByCollision H archive query proof)
+    collision_exact = record { breaks = collision_kept; one = one_collision }
+
+list_kept : (bytes : List ℕ) (listed : List Listed) (stop : Stop) → IsListStop bytes stop → IsListOf bytes listed → ⊥
+list_kept bytes listed stop (number, bad, same) is = no_bad_line bytes listed is number bad
+
+one_list_stop : (bytes : List ℕ) (a b : Stop) → IsListStop bytes a → IsListStop bytes b → a ≡ b
+one_list_stop bytes a b (number, is, same) (other, also, like) =
+    same ∙ ap (λ (line : ℕ). Input (line_of_bad_line line)) (one_bad_line (lines_of bytes) number other is also) ∙ sym like
+
+list_one : (bytes : List ℕ) → IsOne (IsListOf bytes) (IsListStop bytes)
+list_one bytes = record { single = one_list bytes; breaks = list_kept bytes; one = one_list_stop bytes }
+
+room_exact : (bytes : ℕ) → IsExact (bytes ≤ 2 ^ 28) (PassesRoom bytes)
+room_exact bytes = record {
+  breaks = λ stop is within. omega (arith, is.0, within);
+  one = λ a b is also. is.1 ∙ sym also.1;
+}
+
+gathers_sound : {rest : List Gathered → Plan Stop} (got : List Gathered) (names : List (List ℕ)) → ((proofs : List Gathered) → Sound (rest proofs))
+    → Sound (gathers got names rest)
+gathers_sound got [] later = later got
+gathers_sound {rest = rest} got (name ∷ names) later =
+    let next : (proof : Gathered) → Sound (Tries (total (got ++ proof ∷ []) ≤ 2 ^ 28) (PassesRoom (total (got ++ proof ∷ []))) (gathers (got ++ proof ∷ []) names rest)) =
+    λ proof. tries (room_exact (total (got ++ proof ∷ []))) (gathers_sound {rest = rest} (got ++ proof ∷ []) names later) in
+    reads (next Long) (λ bytes. next (Whole bytes))
+
+-- a test that is to be false
+test_exact : (test : Bool) (to : Stop) → IsExact (test ≡ false) (λ (stop : Stop). (test ≡ true) × (stop ≡ to))
+test_exact test to = record {
+  breaks = λ stop is not. true≢false (sym is.0 ∙ not);
+  one = λ a b is also. is.1 ∙ sym also.1;
+}
+
+concludes_sound : (findings : List Finding) {rest : Plan Stop} → Sound rest → Sound (concludes findings rest)
+concludes_sound findings later =
+    tries (test_exact (list_any is_collision findings) (Collision (lines_of_findings findings)))
+    (tries (test_exact (list_any is_refused findings) (Rejected (lines_of_findings findings))) later)
+
+sweeps_sound : (H : List ℕ → List ℕ) (words : SweepWords) (archive : Archive) (bytes : List ℕ) → Sound (sweeps H words archive bytes)
+sweeps_sound H words archive bytes =
+    gets (list_one bytes) (λ listed. gathers_sound {rest = audits H words archive listed} [] (names_of listed)
+    (λ proofs. makes (one_findings H archive listed proofs) (λ findings. concludes_sound findings ends)))
+
+trial_exact : (H : List ℕ → List ℕ) (number : ℕ) → IsExact (IsTrialServed H number) (RefusesTrial H number)
+trial_exact H number = record { breaks = trial_kept H number; one = one_trial H number }
+
+-- ---- the commands
+
+command_sound : (H : List ℕ → List ℕ) (command : Command) → Sound (plan_of H command)
+command_sound H (Rank words) = ranking_sound (λ query. collection_sound (λ texts. ends))
+command_sound H (Build words) = collection_sound (λ texts. makes (λ a b is also. is.same ∙ sym also.same) (λ bytes. stores))
+command_sound H (Root words) = index_sound (λ archive. ends)
+command_sound H (Prove words) = ranking_sound (λ query. index_sound (λ archive.
+    tries (length_exact H archive query words.r words.algorithm) (makes (one_made H archive query words.r words.algorithm) (λ bytes. stores))))
+command_sound H (Verify words) = ranking_sound (λ query. reads fails (λ bytes. checks_sound (λ proof. ends)))
+command_sound H (Ask words) = ranking_sound (λ query. ends)
+command_sound H (Serve words) = index_sound (λ archive. ends)
+command_sound H (Audit words) =
+    ranking_sound (λ query. index_sound (λ archive. reads fails (λ bytes. checks_sound (λ proof. tries (collision_exact H archive query proof) ends))))
+command_sound H (Sweep words) = index_sound (λ archive. reads fails (λ bytes. sweeps_sound H words archive bytes))
+command_sound H (Trial words) = tries (trial_exact H words.number) ends
+
+pub plan_sound : (H : List ℕ → List ℕ) (command : Command) → IsSound (plan_of H command)
+plan_sound H command = (command_sound H command).so

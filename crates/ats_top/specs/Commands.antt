@@ -1,0 +1,38 @@
+-- The plan of each command. What `ask` and `serve` do after it, over links, is in Asked and Served.
+use Rattle.std.specs.Prelude.{ℕ, List}
+use Rattle.ats_plan.specs.Plan.{Plan}
+use Rattle.ats_top.specs.Words.{Command}
+use Rattle.ats_top.specs.Words as command
+use Rattle.ats_top.specs.Commands.Rank.{rank_plan}
+use Rattle.ats_top.specs.Commands.Build.{build_plan}
+use Rattle.ats_top.specs.Commands.Root.{root_plan}
+use Rattle.ats_top.specs.Commands.Prove.{prove_plan}
+use Rattle.ats_top.specs.Commands.Verify.{verify_plan}
+use Rattle.ats_top.specs.Commands.Ask.{ask_plan}
+use Rattle.ats_top.specs.Commands.Serve.{serve_plan}
+use Rattle.ats_top.specs.Commands.Audit.{audit_plan}
+use Rattle.ats_top.specs.Commands.Sweep.{sweep_plan}
+use Rattle.ats_top.specs.Commands.Trial.{trial_plan}
+use Rattle.ats_top.specs.declared.stops.Stop.{Stop}
+pub mod Rank
+pub mod Build
+pub mod Root
+pub mod Prove
+pub mod Verify
+pub mod Ask
+pub mod Serve
+pub mod Audit
+pub mod Sweep
+pub mod Trial
+
+abbrev pub plan_of : (List ℕ → List ℕ) → Command → Plan Stop
+plan_of H (command.Rank words) = rank_plan words
+plan_of H (command.Build words) = build_plan H words
+plan_of H (command.Root words) = root_plan H words
+plan_of H (command.Prove words) = prove_plan H words
+plan_of H (command.Verify words) = verify_plan H words
+plan_of H (command.Ask words) = ask_plan words
+plan_of H (command.Serve words) = serve_plan H words
+plan_of H (command.Audit words) = audit_plan H words
+plan_of H (command.Sweep words) = sweep_plan H words
+plan_of H (command.Trial words) = trial_plan H words
