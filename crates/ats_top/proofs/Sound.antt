@@ -1,6 +1,15 @@
--- The plan of each command goes one way at most.
+-- The plan of each command goes one way at most, and stops none for its words.
 use Rattle.std.proofs.Common.{◌≡◌, ◌≢◌, ◌≤◌, ◌^◌, ◌++◌, ◌∷◌, ◌∙◌, ℕ, Bool, true, false, List, [], None, sym, ap, arith, true≢false}
 use Rattle.std.specs.List.{list_any}
+use Rattle.ats_base.specs.Outside.{ShelfTold}
+use Rattle.ats_terms.specs.declared.query.QueryFault.{QueryFault}
+use Rattle.ats_terms.specs.declared.query.QueryFault.TheVariants as query
+use Rattle.ats_impact.specs.declared.collection.CollectionFault.{CollectionFault}
+use Rattle.ats_impact.specs.declared.collection.CollectionFault.TheVariants as collection
+use Rattle.ats_index.specs.declared.load.LoadFault.{LoadFault}
+use Rattle.ats_index.specs.declared.load.LoadFault.TheVariants as index
+use Rattle.ats_top.specs.declared.input.JsonFault.{JsonFault}
+use Rattle.ats_top.specs.declared.input.JsonFault.TheVariants as json
 use Rattle.ats_terms.specs.Query.{IsQueryOf}
 use Rattle.ats_terms.specs.Faults.{IsFirstFault}
 use Rattle.ats_impact.specs.Limits.{AreWithin}
@@ -19,7 +28,10 @@ use Rattle.ats_client.specs.declared.fault.Rejection.{Rejection}
 use Rattle.ats_client.proofs.Public.{accepted_kept, one_rejection}
 use Rattle.ats_plan.specs.Files.{Files}
 use Rattle.ats_plan.specs.Plan.{Plan, Finishes, Stores, Fails, Tries, Gets, Makes, Reads}
+use Rattle.ats_plan.specs.Avoids.{Avoids}
+use Rattle.ats_plan.specs.Runs.{IsStopped}
 use Rattle.ats_plan.specs.Sound.{IsExact, IsOne, IsSound}
+use Rattle.ats_plan.proofs.Public.{stops_otherwise}
 use Rattle.ats_top.specs.Input.{AreJsonTexts, IsFirstJsonFault}
 use Rattle.ats_top.specs.Words.{Command, Rank, Build, Root, Prove, Verify, Ask, Serve, Audit, Sweep, Trial, SweepWords}
 use Rattle.ats_top.specs.RejectionLines.{line_of_rejection}
@@ -37,7 +49,7 @@ use Rattle.ats_top.specs.Commands.Sweep.{IsListStop, PassesRoom, gathers, conclu
 use Rattle.ats_top.specs.declared.gathering.Gathered.{Gathered}
 use Rattle.ats_top.specs.declared.gathering.Gathered.TheVariants.{Whole, Long}
 use Rattle.ats_top.specs.declared.stops.Stop.{Stop}
-use Rattle.ats_top.specs.declared.stops.Stop.TheVariants.{Input, Rejected, Memory, Collision}
+use Rattle.ats_top.specs.declared.stops.Stop.TheVariants.{Usage, Shelf, Input, Rejected, Memory, Collision}
 use Rattle.ats_top.proofs.JsonLemmas.{same_texts, no_json_fault}
 use Rattle.ats_top.proofs.OneFault.{no_query_fault, one_query_fault, one_json_fault, no_collection_fault, one_collection_fault, no_load_fault, one_load_fault}
 use Rattle.ats_top.proofs.OneList.{one_list, no_bad_line, one_bad_line}
@@ -47,33 +59,77 @@ use Rattle.ats_top.proofs.OneTrial.{trial_kept, one_trial}
 
 -- ---- steps
 
--- a plan is sound; a record, so that a lemma finds the plan by the type of what it is passed
+-- a plan is sound, and no step stops it for its words; a record, so that a lemma finds the plan by the type of what it is
+-- passed
 record Sound (plan : Plan Stop) : Type 0 where
   so : IsSound plan
+  free : Avoids Usage plan
 
 ends : {says : Files → List ℕ → Type 0} → Sound (Finishes says)
-ends = record { so = tt }
+ends = record { so = tt; free = tt }
 
 stores : {name bytes : List ℕ} {says : Files → Files → List ℕ → Type 0} → Sound (Stores name bytes says)
-stores = record { so = tt }
+stores = record { so = tt; free = tt }
 
-fails : {fault : Stop} → Sound (Fails fault)
-fails = record { so = tt }
+fails : {fault : Stop} → Usage ≢ fault → Sound (Fails fault)
+fails other = record { so = tt; free = other }
 
-tries : {kept : Type 0} {fault : Stop → Type 0} {rest : Plan Stop} → IsExact kept fault → Sound rest → Sound (Tries kept fault rest)
-tries exact later = record { so = (exact, later.so) }
+tries : {kept : Type 0} {fault : Stop → Type 0} {rest : Plan Stop} → IsExact kept fault → (fault Usage → ⊥) → Sound rest
+    → Sound (Tries kept fault rest)
+tries exact other later = record { so = (exact, later.so); free = (other, later.free) }
 
-gets : {A : Type 0} {is : A → Type 0} {fault : Stop → Type 0} {rest : A → Plan Stop} → IsOne is fault → ((a : A) → Sound (rest a))
-    → Sound (Gets A is fault rest)
-gets one later = record { so = (one, λ a. (later a).so) }
+gets : {A : Type 0} {is : A → Type 0} {fault : Stop → Type 0} {rest : A → Plan Stop} → IsOne is fault → (fault Usage → ⊥)
+    → ((a : A) → Sound (rest a)) → Sound (Gets A is fault rest)
+gets one other later = record { so = (one, λ a. (later a).so); free = (other, λ a. (later a).free) }
 
 makes : {A : Type 0} {is : A → Type 0} {rest : A → Plan Stop} → ((a b : A) → is a → is b → a ≡ b) → ((a : A) → Sound (rest a))
     → Sound (Makes A is rest)
-makes single later = record { so = (single, λ a. (later a).so) }
+makes single later = record { so = (single, λ a. (later a).so); free = λ a. (later a).free }
 
 reads : {name : List ℕ} {limit : ℕ} {long : Plan Stop} {rest : List ℕ → Plan Stop} → Sound long → ((bytes : List ℕ) → Sound (rest bytes))
     → Sound (Reads name limit long rest)
-reads long later = record { so = (long.so, λ bytes. (later bytes).so) }
+reads long later = record { so = (long.so, λ bytes. (later bytes).so); free = (long.free, λ bytes. (later bytes).free) }
+
+-- ---- the stops of steps are never for words
+
+not_shelf : Usage ≢ Shelf
+not_shelf same = absurd (cc)
+
+not_memory : Usage ≢ Memory
+not_memory same = absurd (cc)
+
+not_input : {line : List ℕ} → Usage ≢ Input line
+not_input same = absurd (cc)
+
+not_rejected : {line : List ℕ} → Usage ≢ Rejected line
+not_rejected same = absurd (cc)
+
+not_collision : {lines : List ℕ} → Usage ≢ Collision lines
+not_collision same = absurd (cc)
+
+not_query : (fault : QueryFault) → Usage ≢ stop_of_query fault
+not_query (query.TooLong bytes) = not_input
+not_query query.NoTerm = not_input
+not_query (query.TooManyWords count) = not_input
+not_query (query.TooManyTerms distinct) = not_input
+not_query query.OutOfMemory = not_memory
+
+not_json : (fault : JsonFault) → Usage ≢ stop_of_json fault
+not_json json.NotJson = not_input
+not_json json.NotArray = not_input
+not_json (json.BadItem doc) = not_input
+not_json json.OutOfMemory = not_memory
+
+not_texts : (fault : CollectionFault) → Usage ≢ stop_of_collection fault
+not_texts collection.NoDocuments = not_input
+not_texts (collection.TooMany n) = not_input
+not_texts (collection.TextTooLong doc) = not_input
+not_texts (collection.AllTooLong bytes) = not_input
+not_texts collection.OutOfMemory = not_memory
+
+not_load : (fault : LoadFault) → Usage ≢ stop_of_load fault
+not_load (index.BadIndex at) = not_input
+not_load index.OutOfMemory = not_memory
 
 -- ---- the ways to stop
 
@@ -135,19 +191,21 @@ module _ (H : List ℕ → List ℕ) (root : List ℕ) (query : List (List ℕ �
 
 ranking_sound : {r : ℕ} {text : List ℕ} {rest : List (List ℕ × ℕ) → Plan Stop} → ((query : List (List ℕ × ℕ)) → Sound (rest query))
     → Sound (asks_ranking r text rest)
-ranking_sound {r = r} {text = text} later = tries (rows_exact r) (gets (query_one text) later)
+ranking_sound {r = r} {text = text} later =
+    tries (rows_exact r) (λ stops. not_input stops.1) (gets (query_one text) (λ stops. not_query stops.0 stops.2) later)
 
 collection_sound : {name : List ℕ} {rest : List (List ℕ) → Plan Stop} → ((texts : List (List ℕ)) → Sound (rest texts))
     → Sound (reads_collection name rest)
-collection_sound later = reads fails (λ bytes. gets (texts_one bytes) (λ texts. tries (limits_exact texts) (later texts)))
+collection_sound later = reads (fails not_input) (λ bytes. gets (texts_one bytes) (λ stops. not_json stops.0 stops.2)
+    (λ texts. tries (limits_exact texts) (λ stops. not_texts stops.0 stops.2) (later texts)))
 
 index_sound : {H : List ℕ → List ℕ} {name : List ℕ} {rest : Archive → Plan Stop} → ((archive : Archive) → Sound (rest archive))
     → Sound (reads_index H name rest)
-index_sound {H = H} later = reads fails (λ bytes. gets (archive_one H bytes) later)
+index_sound {H = H} later = reads (fails not_input) (λ bytes. gets (archive_one H bytes) (λ stops. not_load stops.0 stops.2) later)
 
 checks_sound : {H : List ℕ → List ℕ} {root : List ℕ} {query : List (List ℕ × ℕ)} {r : ℕ} {bytes : List ℕ} {rest : Proof → Plan Stop}
     → ((proof : Proof) → Sound (rest proof)) → Sound (checks H root query r bytes rest)
-checks_sound {H = H} {root = root} {query = query} {r = r} {bytes = bytes} later = gets (proof_one H root query r bytes) later
+checks_sound {H = H} {root = root} {query = query} {r = r} {bytes = bytes} later = gets (proof_one H root query r bytes) (λ stops. not_rejected stops.2) later
 
 -- ---- the steps of one command
 
@@ -190,7 +248,7 @@ gathers_sound : {rest : List Gathered → Plan Stop} (got : List Gathered) (name
 gathers_sound got [] later = later got
 gathers_sound {rest = rest} got (name ∷ names) later =
     let next : (proof : Gathered) → Sound (Tries (total (got ++ proof ∷ []) ≤ 2 ^ 28) (PassesRoom (total (got ++ proof ∷ []))) (gathers (got ++ proof ∷ []) names rest)) =
-    λ proof. tries (room_exact (total (got ++ proof ∷ []))) (gathers_sound {rest = rest} (got ++ proof ∷ []) names later) in
+    λ proof. tries (room_exact (total (got ++ proof ∷ []))) (λ stops. not_input stops.1) (gathers_sound {rest = rest} (got ++ proof ∷ []) names later) in
     reads (next Long) (λ bytes. next (Whole bytes))
 
 -- a test that is to be false
@@ -202,12 +260,12 @@ test_exact test to = record {
 
 concludes_sound : (findings : List Finding) {rest : Plan Stop} → Sound rest → Sound (concludes findings rest)
 concludes_sound findings later =
-    tries (test_exact (list_any is_collision findings) (Collision (lines_of_findings findings)))
-    (tries (test_exact (list_any is_refused findings) (Rejected (lines_of_findings findings))) later)
+    tries (test_exact (list_any is_collision findings) (Collision (lines_of_findings findings))) (λ stops. not_collision stops.1)
+    (tries (test_exact (list_any is_refused findings) (Rejected (lines_of_findings findings))) (λ stops. not_rejected stops.1) later)
 
 sweeps_sound : (H : List ℕ → List ℕ) (words : SweepWords) (archive : Archive) (bytes : List ℕ) → Sound (sweeps H words archive bytes)
 sweeps_sound H words archive bytes =
-    gets (list_one bytes) (λ listed. gathers_sound {rest = audits H words archive listed} [] (names_of listed)
+    gets (list_one bytes) (λ stops. not_input stops.2) (λ listed. gathers_sound {rest = audits H words archive listed} [] (names_of listed)
     (λ proofs. makes (one_findings H archive listed proofs) (λ findings. concludes_sound findings ends)))
 
 trial_exact : (H : List ℕ → List ℕ) (number : ℕ) → IsExact (IsTrialServed H number) (RefusesTrial H number)
@@ -220,14 +278,19 @@ command_sound H (Rank words) = ranking_sound (λ query. collection_sound (λ tex
 command_sound H (Build words) = collection_sound (λ texts. makes (λ a b is also. is.same ∙ sym also.same) (λ bytes. stores))
 command_sound H (Root words) = index_sound (λ archive. ends)
 command_sound H (Prove words) = ranking_sound (λ query. index_sound (λ archive.
-    tries (length_exact H archive query words.r words.algorithm) (makes (one_made H archive query words.r words.algorithm) (λ bytes. stores))))
-command_sound H (Verify words) = ranking_sound (λ query. reads fails (λ bytes. checks_sound (λ proof. ends)))
+    tries (length_exact H archive query words.r words.algorithm) (λ stops. not_input stops.2) (makes (one_made H archive query words.r words.algorithm) (λ bytes. stores))))
+command_sound H (Verify words) = ranking_sound (λ query. reads (fails not_rejected) (λ bytes. checks_sound (λ proof. ends)))
 command_sound H (Ask words) = ranking_sound (λ query. ends)
 command_sound H (Serve words) = index_sound (λ archive. ends)
 command_sound H (Audit words) =
-    ranking_sound (λ query. index_sound (λ archive. reads fails (λ bytes. checks_sound (λ proof. tries (collision_exact H archive query proof) ends))))
-command_sound H (Sweep words) = index_sound (λ archive. reads fails (λ bytes. sweeps_sound H words archive bytes))
-command_sound H (Trial words) = tries (trial_exact H words.number) ends
+    ranking_sound (λ query. index_sound (λ archive. reads (fails not_rejected) (λ bytes. checks_sound (λ proof. tries (collision_exact H archive query proof) (λ stops. not_collision stops.2) ends))))
+command_sound H (Sweep words) = index_sound (λ archive. reads (fails not_input) (λ bytes. sweeps_sound H words archive bytes))
+command_sound H (Trial words) = tries (trial_exact H words.number) (λ stops. not_input stops.2) ends
 
 pub plan_sound : (H : List ℕ → List ℕ) (command : Command) → IsSound (plan_of H command)
 plan_sound H command = (command_sound H command).so
+
+-- no command stops for its words
+pub plan_otherwise : (H : List ℕ → List ℕ) (command : Command) (before now : ShelfTold) → IsStopped Shelf Memory (plan_of H command) before now Usage → ⊥
+plan_otherwise H command before now stopped =
+    stops_otherwise Usage Shelf not_shelf Memory not_memory (plan_of H command) before now (command_sound H command).free stopped.so
