@@ -11,6 +11,8 @@ from types import SimpleNamespace
 
 LONGEST = 2**26
 LATER = 2**32 - 1
+BLOCK = 64
+NOTHING = bytes(32)
 
 
 class Refused(Exception):
@@ -46,6 +48,23 @@ def node(start, count, leaves, digests):
     left = node(start, half, leaves[:at], digests)
     right = node(start + half, count - half, leaves[at:], digests)
     return None if left is None or right is None else digest(b'\1' + left + right)
+
+
+def rebuilt_chain(count, leaves, digests, misfit):
+    """The digest of a list of so many leaves in blocks, of which the first ones are shown."""
+    if len(leaves) > count:
+        raise Refused(misfit)
+    last, after = (len(leaves) - 1) // BLOCK, NOTHING
+    if BLOCK * (last + 1) < count:
+        if not digests:
+            raise Refused(misfit)
+        digests, after = digests[:-1], digests[-1]
+    for block in range(last, -1, -1):
+        size = min(BLOCK, count - BLOCK * block)
+        shown = [(position % BLOCK, leaf) for position, leaf in leaves if position // BLOCK == block]
+        root = rebuilt(size, shown, digests if block == last else [], misfit)
+        after = digest(b'\3' + root + after)
+    return after
 
 
 # The terms of a text
@@ -269,8 +288,8 @@ class Reader:
         if len(self.data) > LONGEST:
             raise Refused(f'shape long {LONGEST}')
         self.number(4, 0x41545350, 0x41545350, 'magic')
-        self.number(1, 1, 1, 'version')
-        proof = SimpleNamespace(is_tra=self.number(1, 1, 2, 'algorithm') == 1)
+        version = self.number(1, 1, 2, 'version')
+        proof = SimpleNamespace(is_in_blocks=version == 2, is_tra=self.number(1, 1, 2, 'algorithm') == 1)
         self.number(1, 1, 1, 'version')
         proof.documents, proof.size = self.number(4, 1, 65536), self.number(4, 2, 16777218)
         proof.roots = [self.take(32) for _ in range(3)]
@@ -323,7 +342,8 @@ def check_list(proof, at, shown, leaf):
     leaves = [(entry, met[place].to_bytes(4, 'big') + height.to_bytes(2, 'big'))
               for entry, (place, height) in enumerate(shown.entries)]
     count, root = leaf.values
-    if rebuilt(int.from_bytes(count, 'big'), leaves, shown.digests, f'list-misfit {at}') != root:
+    rebuilt_list = rebuilt_chain if proof.is_in_blocks else rebuilt
+    if rebuilt_list(int.from_bytes(count, 'big'), leaves, shown.digests, f'list-misfit {at}') != root:
         raise Refused(f'list-root {at}')
     return named
 
@@ -391,7 +411,8 @@ def check_settled(proof, r, lows, highs, threshold):
 
 def answer(proof, root, r, found):
     """The rows of an accepted proof."""
-    if digest(b'\2' + proof.header) != root:
+    tag = b'\4' if proof.is_in_blocks else b'\2'
+    if digest(tag + proof.header) != root:
         raise Refused('other-root')
     check_dictionary(proof, found)
     slots, leaves = proof.dictionary.slots, proof.dictionary.leaves

@@ -22,6 +22,11 @@ TOP = HERE.parent
 PLAYED = TOP / 'crates' / 'ats_cases' / 'data'
 LONGEST = 2**26
 NOTHING = bytes(32)
+BLOCK = 64
+
+# How the lists of an archive are hashed, as the version of its proofs: each is one tree, or in blocks.
+ONE, TWO = 1, 2
+HEADER_TAGS = {ONE: b'\2', TWO: b'\4'}
 
 
 # The program
@@ -115,6 +120,44 @@ def rebuilt(count, shown, digests, start=0):
     return digest(b'\1' + left + right)
 
 
+def link(root, after):
+    """The digest of the string of a block."""
+    return digest(b'\3' + root + after)
+
+
+def chain_root(leaves):
+    """The digest of a list in blocks."""
+    after = NOTHING
+    for start in reversed(range(0, len(leaves), BLOCK)):
+        after = link(tree_root(leaves[start:start + BLOCK]), after)
+    return after
+
+
+def list_root(version, leaves):
+    return tree_root(leaves) if version == ONE else chain_root(leaves)
+
+
+def list_digests(version, leaves, count):
+    """The digests that the first `count` leaves of a list need."""
+    if version == ONE:
+        return elided(leaves, range(count))
+    start = (count - 1) // BLOCK * BLOCK
+    block, after = leaves[start:start + BLOCK], leaves[start + BLOCK:]
+    return elided(block, range(count - start)) + ([chain_root(after)] if after else [])
+
+
+def rebuilt_list(version, count, shown, digests):
+    """The root of a list of `count` leaves, of which the first ones are shown."""
+    if version == ONE:
+        return rebuilt(count, list(enumerate(shown)), digests)
+    starts = range(0, len(shown), BLOCK)
+    after = digests.pop() if BLOCK * len(starts) < count else NOTHING
+    for start in reversed(starts):
+        block = list(enumerate(shown[start:start + BLOCK]))
+        after = link(rebuilt(min(BLOCK, count - start), block, digests), after)
+    return after
+
+
 def dictionary_leaf(term, count, root):
     return number(len(term), 1) + term + number(count, 4) + root
 
@@ -131,17 +174,19 @@ def documents_leaf(count, root):
     return number(count, 4) + root
 
 
-def root_of_header(header):
-    return digest(b'\2' + header).hex()
+def root_of_header(version, header):
+    return digest(HEADER_TAGS[version] + header.data()).hex()
 
 
 # Archives
 
 class Archive:
-    """What the bytes of an index say, with all trees made again."""
+    """What the bytes of an index say, with all trees made again. The root in an index is that of version ONE; no command
+    prints that of the same texts with lists in blocks."""
 
-    def __init__(self, index):
+    def __init__(self, index, version=ONE):
         self.index = index
+        self.version = version
         self.at = 5
         self.texts = [self.take(self.number(4)) for _ in range(self.number(4))]
         self.lists = {}
@@ -150,7 +195,7 @@ class Archive:
             self.lists[term] = [(self.number(4), self.number(2)) for _ in range(self.number(4))]
         told = self.take(32).hex()
         self.make_trees()
-        if self.root != told:
+        if version == ONE and self.root != told:
             raise SystemExit('the root of this script is not the root of the program')
 
     def take(self, size):
@@ -161,7 +206,7 @@ class Archive:
         return int.from_bytes(self.take(size), 'big')
 
     def make_trees(self):
-        entries = [(term, len(entries), tree_root([list_leaf(*entry) for entry in entries]))
+        entries = [(term, len(entries), list_root(self.version, self.list_leaves(term)))
                    for term, entries in sorted(self.lists.items())]
         self.dictionary = [(b'', 0, NOTHING), *entries, (b'\xff', 0, NOTHING)]
         self.documents = [[(b'', 0)] for _ in self.texts]
@@ -175,7 +220,7 @@ class Archive:
         roots = [tree_root([dictionary_leaf(*leaf) for leaf in self.dictionary]), tree_root(self.document_leaves),
                  tree_root(self.texts)]
         self.header = Header(1, len(self.texts), len(self.dictionary), roots)
-        self.root = root_of_header(self.header.data())
+        self.root = root_of_header(self.version, self.header)
 
     def list_leaves(self, term):
         return [list_leaf(*entry) for entry in self.lists[term]]
@@ -235,6 +280,10 @@ class Proof:
     document_digests: list = field(default_factory=list)
     sections: list = field(default_factory=list)
     rows: list = field(default_factory=list)
+    version: int = ONE
+
+    def root(self):
+        return root_of_header(self.version, self.header)
 
     def data(self):
         return b''.join(data for _, data in self.fields())
@@ -242,7 +291,7 @@ class Proof:
     def fields(self):
         """Each field's name and bytes, in order."""
         yield 'magic', b'ATSP'
-        yield 'version', number(1, 1)
+        yield 'version', number(self.version, 1)
         yield 'algorithm', number(self.algorithm, 1)
         yield from self.header.fields()
         yield 'number of terms', number(self.terms, 2)
@@ -322,8 +371,7 @@ class Reader:
         return [(self.number(1), self.number(2)) for _ in range(count)]
 
     def proof(self):
-        self.number(1)
-        algorithm = self.number(1)
+        version, algorithm = self.number(1), self.number(1)
         header = Header(self.number(1), self.number(4), self.number(4), [self.take(32) for _ in range(3)])
         terms = self.number(2)
         leaves = [(self.number(4), self.take(self.number(1)), self.number(4), self.take(32))
@@ -332,7 +380,8 @@ class Reader:
         slots = self.slots(terms)
         met = [self.number(4) for _ in range(self.number(4))]
         present = sum(kind for kind, _ in slots)
-        proof = Proof(algorithm, header, terms, leaves, digests, slots, met, [self.prefix() for _ in range(present)])
+        prefixes = [self.prefix() for _ in range(present)]
+        proof = Proof(algorithm, header, terms, leaves, digests, slots, met, prefixes, version=version)
         if algorithm == 1:
             proof.documents = [(self.number(4), self.take(32)) for _ in met]
             proof.document_digests = self.digests(4)
@@ -403,6 +452,8 @@ COLLECTIONS = {
         "L'\u00e9t\u00e9 \u05e9\u05f4\u05e1 x\u0345y",
     ],
     'planes': ['\uff21 \U00010400', '\U00010428'],
+    'copies': ['a'] * 200,
+    'one more than a block': ['a'] * 65,
     'drawn': drawn_texts(),
     'sample': [item['text'] for item in json.loads((TOP / 'examples/archive.json').read_text(encoding='utf-8'))],
 }
@@ -428,25 +479,49 @@ QUESTIONS = {
     'of Unicode 17': ('beyond', 1, '\ua7ce'), 'marks': ('beyond', 2, "na\u00efve l'\u00e9t\u00e9 X\u03b9Y"),
     'on both sides of U+10000': ('planes', 1, '\U00010428 \uff41'),
     'absent, below U+10000': ('planes', 1, '\uff42'), 'absent, above U+10000': ('planes', 1, '\U00010429'),
+    'one of many copies': ('copies', 1, 'a'),
     'a frequent word': ('drawn', 3, 'w0'), 'two drawn words': ('drawn', 2, 'w3 w5'),
     'drawn words, one twice': ('drawn', 1, 'w1 w8 w8'),
     'the sample': ('sample', 3, 'blood count'), 'the court': ('sample', 1, 'the court'),
 }
 
 
+# Questions whose proofs are also given with lists in blocks.
+IN_BLOCKS = ['two terms', 'one of many copies']
+
+
 def honest(program, archives):
     """Each question by each algorithm, with the proof and the lines that verify prints for it."""
     proofs = {}
+
+    def tell(name, version, algorithm, data):
+        archive, r, query = QUESTIONS[name]
+        root = archives[version][archive].root
+        told = program.verify(root, r, query, data)
+        blocks = ', in blocks,' if version == TWO else ''
+        proofs[f'{name}{blocks} by {algorithm}'] = {
+            'archive': archive, 'root': root, 'algorithm': algorithm, 'r': r, 'query': query, **told,
+            'proof': data.hex(),
+        }
+
     for name, (archive, r, query) in QUESTIONS.items():
         for algorithm in ('tnra', 'tra'):
-            data = program.prove(archives[archive].index, algorithm, r, query)
-            root = archives[archive].root
-            told = program.verify(root, r, query, data)
-            proofs[f'{name} by {algorithm}'] = {
-                'archive': archive, 'root': root, 'algorithm': algorithm, 'r': r, 'query': query, **told,
-                'proof': data.hex(),
-            }
+            data = program.prove(archives[ONE][archive].index, algorithm, r, query)
+            tell(name, ONE, algorithm, data)
+            if name in IN_BLOCKS:
+                tell(name, TWO, algorithm, in_blocks(data, archives[TWO][archive]).data())
     return proofs
+
+
+def in_blocks(data, archive):
+    """The same honest proof for this archive, whose lists are in blocks."""
+    proof = Reader(data).proof()
+    proof.version, proof.header = TWO, archive.header
+    shown_leaves([leaf[0] for leaf in proof.leaves])(proof, archive)
+    terms = [proof.leaves[index][1] for kind, index in proof.slots if kind]
+    for term, prefix in zip(terms, proof.prefixes):
+        prefix.digests = list_digests(TWO, archive.list_leaves(term), len(prefix.entries))
+    return proof
 
 
 # What the tables of Unicode decide
@@ -527,7 +602,7 @@ def told_input(program, r, text, times, zeros):
 # Changes of bytes: faults of shape
 
 RANGES = {
-    'magic': (0x41545350, 0x41545350), 'version': (1, 1), 'algorithm': (1, 2), 'version of the header': (1, 1),
+    'magic': (0x41545350, 0x41545350), 'version': (1, 2), 'algorithm': (1, 2), 'version of the header': (1, 1),
     'number of documents': (1, 65536), 'number of dictionary leaves': (2, 16777218), 'number of terms': (1, 32),
     'dictionary: number of leaves': (1, 64), 'dictionary leaf: length of the term': (0, 64), 'slot: kind': (0, 1),
     'number of met documents': (0, 65536), 'list: number of entries': (1, 65536),
@@ -612,8 +687,20 @@ def shape_changes(data):
     yield 'one byte more', data + b'\0'
     yield 'the bytes twice', data + data
     yield 'the other algorithm is named', data[:5] + number(3 - data[5], 1) + data[6:]
-    yield 'two faults: the one in the first field is reported', b'BTSP' + number(2, 1) + data[5:]
+    yield 'the other version is named', other_version(data)
+    yield 'two faults: the one in the first field is reported', b'BTSP' + number(3, 1) + data[5:]
     yield 'a field that is cut is not tried for its range', data[:111] + b'\0'
+
+
+def other_version(data):
+    return data[:4] + number(3 - data[4], 1) + data[5:]
+
+
+def version_changes(data):
+    """The versions of a proof with lists in blocks."""
+    yield 'version: 3', data[:4] + number(3, 1) + data[5:]
+    yield 'version of the header: 2', data[:6] + number(2, 1) + data[7:]
+    yield 'the other version is named', other_version(data)
 
 
 # Changes of parts: refusals by the check, and changes that are accepted
@@ -658,7 +745,7 @@ def longer_lists(counts):
         proof.met = sorted({document for shown in entries for document, _ in shown})
         proof.prefixes = [
             Prefix([(proof.met.index(document), impact) for document, impact in shown],
-                   elided(archive.list_leaves(term), range(len(shown))))
+                   list_digests(archive.version, archive.list_leaves(term), len(shown)))
             for term, shown in zip(terms, entries)
         ]
         proof.rows = [proof.met.index(document) for document in documents]
@@ -790,6 +877,7 @@ ZEBRA, AAA = 'absent, after all', 'absent, before all'
 TIES, TIED, BEE, CAT_DOG = 'a tie for one row', 'a tie for two rows', 'a tie of many', 'two rare terms'
 WITH_ABSENT, EARLY, SILENT = 'present and absent', 'bounds that differ', 'no term in the archive'
 COURT, RED, SAMPLE = 'the court', 'more rows than documents', 'the sample'
+COPIES = 'one of many copies'
 
 ALL_FOXES = shown_leaves(list(range(6)))
 
@@ -945,6 +1033,29 @@ TRA_ALONE = [
     (FOXES, 'two: slot of a document and row', all_of(section_with(0, 1, 0, 0, 'slots'), rows(3))),
 ]
 
+
+def bare_next(proof, archive):
+    """Gives the root of the next block's tree in place of the digest of its string."""
+    proof.prefixes[0].digests[-1] = tree_root(archive.list_leaves(b'a')[BLOCK:2 * BLOCK])
+
+
+LISTS_IN_BLOCKS = [
+    (FOXES, 'list: another impact', with_entry(0, 0, 2, 1064)),
+    (FOXES, 'list: a digest too many, of bytes 00 as after the last block', digests_of(LISTS(0), lambda digests: (
+        digests.append(NOTHING)))),
+    (FOXES, 'list: more entries than the list has',
+     lambda proof, archive: proof.prefixes[1].entries.append((2, 1))),
+    (COPIES, 'list: another digest', digests_of(LISTS(0), BEND)),
+    (COPIES, 'list: no digest of the next block', digests_of(LISTS(0), DROP)),
+    (COPIES, 'list: the digest of the next block twice', digests_of(LISTS(0), lambda digests: digests.append(digests[-1]))),
+    (COPIES, 'list: the digest of the next block first', digests_of(LISTS(0), lambda digests: (
+        digests.insert(0, digests.pop())))),
+    (COPIES, 'list: the next block has the root of its tree in place of its digest', bare_next),
+    (COPIES, 'list: a digest of the block too few', digests_of(LISTS(0), lambda digests: digests.pop(0))),
+    (COPIES, 'list: the digests of the list as one tree', lambda proof, archive: setattr(
+        proof.prefixes[0], 'digests', list_digests(ONE, archive.list_leaves(b'a'), 1))),
+]
+
 # The same bytes for another question, or under another root.
 ASKED = [
     (FOXES, 'under another root', {'root': NOTHING.hex()}),
@@ -971,6 +1082,22 @@ def changed(program, archives, proofs):
         answer = program.verify(question['root'], question['r'], question['query'], data)
         told.append({'of': of, 'about': about, **asked, 'changes': changes, **answer})
 
+    def tell_change(of, about, change, **asked):
+        data = bytes.fromhex(proofs[of]['proof'])
+        proof = copy.deepcopy(Reader(data).proof())
+        change(proof, archives[proof.version][proofs[of]['archive']])
+        tell(of, about, difference(data, proof.data()), **asked)
+
+    def tell_in_blocks():
+        one, two = f'{FOXES} by tnra', f'{FOXES}, in blocks, by tnra'
+        tell(one, 'under the root of these texts with lists in blocks', [], root=proofs[two]['root'])
+        tell(two, 'under the root of these texts with lists of one tree', [], root=proofs[one]['root'])
+        data = bytes.fromhex(proofs[two]['proof'])
+        for about, new in version_changes(data):
+            tell(two, about, difference(data, new))
+        for name, about, change in LISTS_IN_BLOCKS:
+            tell_change(f'{name}, in blocks, by tnra', about, change)
+
     for algorithm in ('tnra', 'tra'):
         of = f'{FOXES} by {algorithm}'
         data = bytes.fromhex(proofs[of]['proof'])
@@ -982,12 +1109,10 @@ def changed(program, archives, proofs):
             tell(of, about, difference(data, new))
         for name, about, change, *asked in BOTH + (TRA_ALONE if algorithm == 'tra' else []):
             of = f'{name} by {algorithm}'
-            data = bytes.fromhex(proofs[of]['proof'])
-            proof = copy.deepcopy(Reader(data).proof())
-            change(proof, archives[proofs[of]['archive']])
-            tell(of, about, difference(data, proof.data()), **(asked[0] if asked else {}))
+            tell_change(of, about, change, **(asked[0] if asked else {}))
         for name, about, asked in ASKED:
             tell(f'{name} by {algorithm}', about, [], **asked)
+    tell_in_blocks()
     return told
 
 
@@ -1006,8 +1131,8 @@ class Made:
         proof = self.proof
         places = {document: at for at, document in enumerate(proof.met)}
         proof.prefixes.append(Prefix([(places[each], impact) for each, impact in entries], list(digests)))
-        shown = [(at, list_leaf(*each)) for at, each in enumerate(entries)]
-        return rebuilt(count, shown, list(digests)) if count else NOTHING
+        shown = [list_leaf(*each) for each in entries]
+        return rebuilt_list(proof.version, count, shown, list(digests)) if len(shown) <= count else NOTHING
 
     def dictionary(self, count, leaves, digests=()):
         """Shows leaves of a dictionary of `count`: position, term, number of documents, root of the list."""
@@ -1024,9 +1149,10 @@ class Made:
         proof.header.roots[1] = rebuilt(proof.header.documents, shown, list(digests))
 
 
-def one_list(documents, count, entries, digests=(), rows=(0,), term=b'x'):
+def one_list(documents, count, entries, digests=(), rows=(0,), term=b'x', version=ONE):
     """A dictionary of one term between sentinels, with this list."""
-    made = Made(documents, met=sorted({each for each, _ in entries}), slots=[(1, 0)], rows=list(rows))
+    met = sorted({each for each, _ in entries})
+    made = Made(documents, version=version, met=met, slots=[(1, 0)], rows=list(rows))
     root = made.list_root(count, entries, digests)
     made.dictionary(3, [(1, term, count, root)], [OTHER, OTHER])
     return made
@@ -1079,30 +1205,52 @@ def bounds_apart():
         ([(0, 900), (1, 100)], [(0, 300), (1, 20)]), [0, 1]), 2, 'hen red'
 
 
+def made_digests(count):
+    """So many digests of nothing that is known."""
+    return [digest(number(at, 1)) for at in range(count)]
+
+
+def made_in_blocks():
+    """Proofs with lists in blocks."""
+    yield 'in blocks: the largest number of entries', one_list(
+        2, 2**32 - 1, [(0, 7)], made_digests(7), version=TWO), 1, 'x'
+    yield 'in blocks: the digest of the next block is 32 bytes 00', one_list(
+        100, 100, [(0, 5)], [*made_digests(6), NOTHING], version=TWO), 1, 'x'
+    yield 'in blocks: an entry in a list of 0 entries', one_list(5, 0, [(0, 5)], version=TWO), 1, 'x'
+    yield 'in blocks: the root of a list is that of the tree of its only block', of_other_version(ONE), 1, 'x'
+    yield 'lists of one tree: the root of a list is that of a list in blocks', of_other_version(TWO), 1, 'x'
+
+
+def of_other_version(version):
+    """The root of the list is by this version; the proof has the other one, and the root of the header is by that."""
+    made = one_list(5, 2, [(0, 5), (1, 5)], version=version)
+    made.proof.version = ONE + TWO - version
+    return made
+
+
 def made_proofs():
     """Each with what it shows, and its question."""
     def has(impact):
         return Section([(1, b'x', impact)], [OTHER, OTHER], [(1, 0)])
-    digests = lambda count: [digest(number(at, 1)) for at in range(count)]
     yield 'a met document at the number of documents', one_list(1, 1, [(1, 5)]), 1, 'x'
     yield 'a met document far above the number of documents', one_list(1, 1, [(2**32 - 1, 5)]), 1, 'x'
     yield 'more entries than documents', one_list(2, 3, [(0, 7), (1, 6), (2, 5)]), 1, 'x'
-    yield 'the largest number of entries', one_list(2, 2**32 - 1, [(0, 7)], digests(32)), 1, 'x'
+    yield 'the largest number of entries', one_list(2, 2**32 - 1, [(0, 7)], made_digests(32)), 1, 'x'
     yield 'entries of 2^31 documents, which is above what 32 bits hold of 2 f + 1', one_list(
-        2, 2**31, [(0, 7)], digests(31)), 1, 'x'
+        2, 2**31, [(0, 7)], made_digests(31)), 1, 'x'
     yield 'more entries than documents, cut after as many as there are documents', one_list(
-        2, 3, [(0, 7), (1, 6)], digests(1)), 1, 'x'
+        2, 3, [(0, 7), (1, 6)], made_digests(1)), 1, 'x'
     yield 'more entries than documents, cut after as many as there are documents, and the threshold counts', one_list(
-        2, 3, [(0, 7), (1, 6)], digests(1), rows=(0, 1)), 3, 'x'
+        2, 3, [(0, 7), (1, 6)], made_digests(1), rows=(0, 1)), 3, 'x'
     yield 'a term of 64 bytes', one_list(5, 1, [(0, 5)], term=b'x' * 64), 1, 'x' * 64
     yield 'impacts that rise', one_list(5, 2, [(0, 5), (1, 9)], rows=(1, 0)), 2, 'x'
-    yield 'impacts that rise, and not all are shown', one_list(5, 4, [(0, 5), (1, 9)], digests(1), rows=(1,)), 1, 'x'
+    yield 'impacts that rise, and not all are shown', one_list(5, 4, [(0, 5), (1, 9)], made_digests(1), rows=(1,)), 1, 'x'
     yield 'an impact of 0', one_list(5, 1, [(0, 0)]), 1, 'x'
-    yield 'a last shown impact of 0, with entries after it', one_list(5, 4, [(0, 7), (1, 0)], digests(1), (0, 1)), 9, 'x'
+    yield 'a last shown impact of 0, with entries after it', one_list(5, 4, [(0, 7), (1, 0)], made_digests(1), (0, 1)), 9, 'x'
     yield 'the largest score', one_list(65536, 1, [(3, 65535)]), 1, 'x ' * 255
-    yield 'the largest threshold', one_list(65536, 2, [(3, 65535)], digests(1)), 1, 'x ' * 255
+    yield 'the largest threshold', one_list(65536, 2, [(3, 65535)], made_digests(1)), 1, 'x ' * 255
     yield 'impacts that rise, and the threshold is above the last row', one_list(
-        5, 4, [(0, 5), (1, 9)], digests(1), rows=(1, 0)), 2, 'x'
+        5, 4, [(0, 5), (1, 9)], made_digests(1), rows=(1, 0)), 2, 'x'
     yield 'terms out of order', whole_dictionary([b'z', b'x', b'a', b'y'], [1, 3]), 1, 'y x'
     yield 'a dictionary with no sentinel', whole_dictionary([b'x', b'y'], [0, 1]), 1, 'x y'
     yield 'an entry in a list of 0 entries', one_list(5, 0, [(0, 5)]), 1, 'x'
@@ -1115,35 +1263,35 @@ def made_proofs():
     before.proof.slots = [(1, 0)]
     yield 'a term that is in the dictionary twice, and the slot has the first of the two', before, 1, 'x'
     largest = one_list(5, 1, [(0, 5)])
-    largest.dictionary(16777218, [(16777217, b'x', 1, largest.proof.leaves[0][3])], digests(2))
+    largest.dictionary(16777218, [(16777217, b'x', 1, largest.proof.leaves[0][3])], made_digests(2))
     yield 'the largest dictionary, and its last leaf', largest, 1, 'x'
     between = Made(5, slots=[(0, 0)], rows=[])
-    between.dictionary(4, [(1, b'w', 1, OTHER), (2, b'z', 1, OTHER)], digests(2))
+    between.dictionary(4, [(1, b'w', 1, OTHER), (2, b'z', 1, OTHER)], made_digests(2))
     yield 'absent between terms that are no sentinels', between, 1, 'x'
     yield from bounds_apart()
     yield 'whole lists of two terms', two_lists(WHOLE, [1, 0, 2]), 3, 'hen red'
     yield 'whole lists of two terms, the last two of three rows exchanged', two_lists(
         WHOLE, [1, 2, 0]), 3, 'hen red'
     yield 'random access: a met document at the number of documents', random_access(
-        1, [(1, 5)], [3], [has(5)], digests(1)), 1, 'x'
+        1, [(1, 5)], [3], [has(5)], made_digests(1)), 1, 'x'
     yield 'random access: a term of 64 bytes', random_access(
-        5, [(1, 5)], [3], [Section([(1, b'x' * 64, 5)], [OTHER, OTHER], [(1, 0)])], digests(3), term=b'x' * 64), 1, 'x' * 64
+        5, [(1, 5)], [3], [Section([(1, b'x' * 64, 5)], [OTHER, OTHER], [(1, 0)])], made_digests(3), term=b'x' * 64), 1, 'x' * 64
     yield 'random access: the list and the document have different impacts', random_access(
-        5, [(1, 5)], [3], [has(9)], digests(3)), 1, 'x'
+        5, [(1, 5)], [3], [has(9)], made_digests(3)), 1, 'x'
     yield 'random access: the document does not have the term of its list', random_access(
-        5, [(1, 5)], [2], [Section([(0, b'', 0), (1, b'\xff', 0)], [], [(0, 0)])], digests(3)), 1, 'x'
-    yield 'random access: a document with 0 leaves', random_access(5, [(1, 5)], [0], [has(5)], digests(3)), 1, 'x'
+        5, [(1, 5)], [2], [Section([(0, b'', 0), (1, b'\xff', 0)], [], [(0, 0)])], made_digests(3)), 1, 'x'
+    yield 'random access: a document with 0 leaves', random_access(5, [(1, 5)], [0], [has(5)], made_digests(3)), 1, 'x'
     yield 'random access: the largest number of leaves', random_access(
-        5, [(1, 5)], [2**32 - 1], [Section([(0, b'x', 6)], digests(32), [(1, 0)])], digests(3)), 1, 'x'
+        5, [(1, 5)], [2**32 - 1], [Section([(0, b'x', 6)], made_digests(32), [(1, 0)])], made_digests(3)), 1, 'x'
     yield 'random access: the largest score', random_access(
-        65536, [(0, 1)], [1], [Section([(0, b'x', 65535)], [], [(1, 0)])], digests(16)), 1, 'x ' * 255
+        65536, [(0, 1)], [1], [Section([(0, b'x', 65535)], [], [(1, 0)])], made_digests(16)), 1, 'x ' * 255
+    yield from made_in_blocks()
 
 
 def made_answers(program):
     told = []
     for about, made, r, query in made_proofs():
-        data = made.proof.data()
-        root = root_of_header(made.proof.header.data())
+        data, root = made.proof.data(), made.proof.root()
         answer = program.verify(root, r, query, data)
         told.append({'about': about, 'root': root, 'r': r, 'query': query, **answer, 'proof': data.hex()})
     return told
@@ -1156,14 +1304,14 @@ GOING_ON = {
     'entry: impact', 'documents leaf: root of its terms', 'terms leaf: position', 'terms leaf: length of the term',
     'terms leaf: term', 'terms leaf: impact', 'terms: number of digests', 'terms slot: kind', 'terms slot: index',
 }
-LEAST = 64  # pieces that come fewer times over are kept as they are
+LEAST = 63  # pieces that come fewer times over are kept as they are
 
 
 def pieces(proof):
     """The bytes of a proof in pieces that may repeat, each with the name of its first field."""
-    whole = []
+    whole, has_many = [], len(proof.sections) >= LEAST
     for name, data in proof.fields():
-        if name in GOING_ON:
+        if name in GOING_ON or has_many and name == 'terms: digest':
             whole[-1] = (whole[-1][0], whole[-1][1] + data)
         else:
             whole.append((name, data))
@@ -1280,16 +1428,44 @@ def large_proofs():
     yield '64 leaves of the dictionary, and more than 255 digests', absent_terms(32), 1, absent
     yield 'random access: 64 leaves of the terms of a document, and more than 255 digests', many_terms(), 1, 'x63'
     yield 'random access: more than 255 digests of the documents', many_documents(), 64, 'x'
+    shown = [(document, 5) for document in range(BLOCK + 1)]
+    yield 'in blocks: all of 64 entries', one_list(100, BLOCK, shown[:BLOCK], version=TWO), 1, 'x'
+    yield 'in blocks: 65 entries in a list of 64', one_list(100, BLOCK, shown, version=TWO), 1, 'x'
+    yield 'in blocks: 65 entries in a list of 66', one_list(100, BLOCK + 2, shown, made_digests(1), version=TWO), 1, 'x'
 
 
-def large(program):
+def fronts(program, archives):
+    """Proofs that show the first entries of a list of equal texts, in blocks. The best r texts need r entries."""
+    def front(name, algorithm, r):
+        return in_blocks(program.prove(archives[ONE][name].index, algorithm, r, 'a'), archives[TWO][name])
+
+    for algorithm in ('tnra', 'tra'):
+        for r in (63, 64, 65, 128, 200):
+            yield f'in blocks: {r} of 200 entries by {algorithm}', front('copies', algorithm, r), r
+    yield 'in blocks: 65 of 65 entries, one in the last block', front('one more than a block', 'tnra', 65), 65
+    for digests, about in ((0, 'no digest of the next block'), (2, 'the digest of the next block twice')):
+        proof = front('one more than a block', 'tnra', 64)
+        proof.prefixes[0].digests *= digests
+        yield f'in blocks: 64 of 65 entries, and {about}', proof, 64
+    proof = front('copies', 'tnra', 128)
+    entries = proof.prefixes[0].entries
+    proof.prefixes[0].entries = entries[BLOCK:] + entries[:BLOCK]
+    yield 'in blocks: two blocks exchanged', proof, 128
+
+
+def large(program, archives):
     told = []
-    for about, made, r, query in large_proofs():
-        data, parts = made.proof.data(), in_parts(pieces(made.proof))
+
+    def tell(about, proof, r, query):
+        data, parts, root = proof.data(), in_parts(pieces(proof)), proof.root()
         agreed(about, expanded(parts), data)
-        root = root_of_header(made.proof.header.data())
         answer = program.verify(root, r, query, data)
         told.append({'about': about, 'root': root, 'r': r, 'query': query, **answer, 'proof': parts})
+
+    for about, made, r, query in large_proofs():
+        tell(about, made.proof, r, query)
+    for about, proof, r in fronts(program, archives):
+        tell(about, proof, r, 'a')
     return told
 
 
@@ -1341,9 +1517,10 @@ def asked(proofs):
         request = bytes_in_parts(client.request(asks['algorithm'], asks['r'], asks['query']))
         told.append({'about': about, **asks, 'request': request, **answer, 'reply': parts})
 
-    for name in (FOXES, FOXES_3, ZEBRA, 'sharp s', 'a term 255 times'):
-        for of in (f'{name} by tnra', f'{name} by tra'):
-            tell(of, of, bytes_in_parts(reply(bytes.fromhex(proofs[of]['proof']))))
+    honest_ones = [f'{name} by {algorithm}' for name in (FOXES, FOXES_3, ZEBRA, 'sharp s', 'a term 255 times')
+                   for algorithm in ('tnra', 'tra')]
+    for of in (*honest_ones, f'{FOXES}, in blocks, by tnra'):
+        tell(of, of, bytes_in_parts(reply(bytes.fromhex(proofs[of]['proof']))))
     of = f'{FOXES} by tnra'
     honest = reply(bytes.fromhex(proofs[of]['proof']))
     for about, data in replies(honest):
@@ -1411,7 +1588,7 @@ def links(first):
 def served(proofs):
     """What arrives at `serve`, what it replies, and what it then prints."""
     known = {(each['archive'], each['algorithm'], each['r'], each['query']): bytes.fromhex(each['proof'])
-             for each in proofs.values()}
+             for name, each in proofs.items() if 'in blocks' not in name}
     told = []
 
     def reply_to(archive, body):
@@ -1473,17 +1650,17 @@ def save(name, items):
 def main(words):
     with tempfile.TemporaryDirectory() as folder:
         program = Program(Path(words[0]).resolve() if words else TOP / 'ats', folder)
-        archives = {}
-        for name, texts in COLLECTIONS.items():
-            index, root = program.build(texts)
-            archives[name] = Archive(index)
+        indexes = {name: program.build(texts)[0] for name, texts in COLLECTIONS.items()}
+        archives = {version: {name: Archive(index, version) for name, index in indexes.items()}
+                    for version in (ONE, TWO)}
         proofs = honest(program, archives)
         told = changed(program, archives, proofs)
         look_over(told)
         save('archives.json', {
-            name: {'root': archive.root, 'header': archive.header.data().hex(),
+            name: {'root': one.root, 'header': one.header.data().hex(),
+                   'root_in_blocks': two.root, 'header_in_blocks': two.header.data().hex(),
                    **({'file': 'examples/archive.json'} if name == 'sample' else {'texts': COLLECTIONS[name]})}
-            for name, archive in archives.items()
+            for (name, one), two in zip(archives[ONE].items(), archives[TWO].values())
         })
         save('proofs.json', proofs)
         save('changed.json', told)
@@ -1491,13 +1668,13 @@ def main(words):
         save('words.json', [{'text': text, 'terms': terms_of(program, text)} for text in WORDS])
         save('numbers.json', [told_numbers(program, *each) for each in NUMBERS])
         save('inputs.json', [told_input(program, *each) for each in INPUTS])
-        save('large.json', large(program))
+        save('large.json', large(program, archives))
         save('asked.json', asked(proofs))
         save('served.json', served(proofs))
         save('fields.json', {
             name: [[start, end, label, proofs[name]['proof'][2 * start:2 * end]]
                    for label, start, end in with_places(Reader(bytes.fromhex(proofs[name]['proof'])).proof())]
-            for name in (f'{FOXES} by tnra', f'{FOXES} by tra')
+            for name in (f'{FOXES} by tnra', f'{FOXES} by tra', f'{COPIES}, in blocks, by tnra')
         })
 
 

@@ -18,8 +18,7 @@ use Rattle.ats_lists.specs.declared.format.Format.{Format}
 use Rattle.ats_lists.proofs.Public.{list_frequency, front-rebuilds}
 use Rattle.ats_dict.specs.declared.spot.Spot.{Spot}
 use Rattle.ats_dict.specs.declared.spot.Spot.TheVariants.{At, Between}
-use Rattle.ats_lists.specs.Layout.{Layout}
-use Rattle.ats_commit.specs.Archive.{Archive, format_of}
+use Rattle.ats_commit.specs.Archive.{Archive}
 use Rattle.ats_commit.specs.Trees.{dictionary_of}
 use Rattle.ats_bound.specs.Cut.{ShownLane, lane_of as shown_lane, names}
 use Rattle.ats_bound.specs.Settled.{AreDistinct}
@@ -103,27 +102,27 @@ differing_once (x ∷ xs) differ n =
 -- ---- the fronts that a proof shows
 
 -- a present term shows the front of a lane, and its entry in the dictionary has the lane's length and root
-pub record IsFront (H : List ℕ → List ℕ) (layout : Layout) (documents : ℕ) (met : List ℕ) (lane : WholeLane) (count : ℕ) (term : Presented) : Type 0 where
+pub record IsFront (H : List ℕ → List ℕ) (format : Format) (documents : ℕ) (met : List ℕ) (lane : WholeLane) (count : ℕ) (term : Presented) : Type 0 where
   pub weighs : term.weight * idf documents term.entry.f ≡ lane.coefficient
   pub size : term.entry.f ≡ length lane.entries
-  pub root : term.entry.root ≡ list_root H (format_of layout) lane.entries
-  pub front : term.prefix ≡ prefix_of H layout met lane.entries count
+  pub root : term.entry.root ≡ list_root H format lane.entries
+  pub front : term.prefix ≡ prefix_of H format met lane.entries count
 
 -- the present terms show the fronts of the lanes, as many entries as the cut says
-abbrev pub AreFronts : (List ℕ → List ℕ) → Layout → ℕ → List ℕ → List WholeLane → List ℕ → List Presented → Type 0
-AreFronts H layout documents met [] cut [] = Unit {0}
-AreFronts H layout documents met [] cut (term ∷ terms) = ⊥
-AreFronts H layout documents met (lane ∷ lanes) [] terms = ⊥
-AreFronts H layout documents met (lane ∷ lanes) (count ∷ cut) [] = ⊥
-AreFronts H layout documents met (lane ∷ lanes) (count ∷ cut) (term ∷ terms) = IsFront H layout documents met lane count term × AreFronts H layout documents met lanes cut terms
+abbrev pub AreFronts : (List ℕ → List ℕ) → Format → ℕ → List ℕ → List WholeLane → List ℕ → List Presented → Type 0
+AreFronts H format documents met [] cut [] = Unit {0}
+AreFronts H format documents met [] cut (term ∷ terms) = ⊥
+AreFronts H format documents met (lane ∷ lanes) [] terms = ⊥
+AreFronts H format documents met (lane ∷ lanes) (count ∷ cut) [] = ⊥
+AreFronts H format documents met (lane ∷ lanes) (count ∷ cut) (term ∷ terms) = IsFront H format documents met lane count term × AreFronts H format documents met lanes cut terms
 
 -- ---- what a proof shows of the terms
 
 -- the present terms from a number on show the fronts of these lanes
 abbrev pub Show : (List ℕ → List ℕ) → Archive → List ℕ → List ℕ → ℕ → List (List ℕ × ℕ) → List Spot → List WholeLane → Type 0
 Show H archive met positions number query spots lanes = (cut : List ℕ) → length cut ≡ length lanes
-    → AreFronts H archive.layout (length archive.texts) met lanes cut
-    (presented_from (map (shown_entry (dictionary_of H archive)) positions) number query (map (slot_of positions) spots) (prefixes H archive.layout met lanes cut))
+    → AreFronts H archive.format (length archive.texts) met lanes cut
+    (presented_from (map (shown_entry (dictionary_of H archive)) positions) number query (map (slot_of positions) spots) (prefixes H archive.format met lanes cut))
 
 show_none : (H : List ℕ → List ℕ) (archive : Archive) (met positions : List ℕ) (number : ℕ) → Show H archive met positions number [] [] []
 show_none H archive met positions number [] same = tt
@@ -161,24 +160,24 @@ show_terms H archive met positions number (pair ∷ query) (Between p ∷ spots)
 
 -- ---- what they make of the cut
 
-front_lane : (H : List ℕ → List ℕ) (layout : Layout) (documents : ℕ) (met : List ℕ) (lane : WholeLane) (count : ℕ) (term : Presented) → IsFront H layout documents met lane count term
+front_lane : (H : List ℕ → List ℕ) (format : Format) (documents : ℕ) (met : List ℕ) (lane : WholeLane) (count : ℕ) (term : Presented) → IsFront H format documents met lane count term
     → All (IsEntryIn met) (take count lane.entries) → client.lane_of documents met term ≡ shown_lane lane.coefficient lane.entries count
-front_lane H layout documents met lane count term is are =
+front_lane H format documents met lane count term is are =
     let entries = ap (λ (p : Prefix). map (named met) p.entries) is.front ∙ entries_back met (take count lane.entries) are in
     ap (λ (c : ℕ). let l : ShownLane = record { coefficient = c; total = term.entry.f; shown = map (named met) term.prefix.entries } in l) is.weighs
     ∙ ap₂ (λ (n : ℕ) (es : List Entry). let l : ShownLane = record { coefficient = lane.coefficient; total = n; shown = es } in l) is.size entries
 
 -- the lanes that a check makes of them are those of the cut
-pub front_lanes : (H : List ℕ → List ℕ) (layout : Layout) (documents : ℕ) (met : List ℕ) (lanes : List WholeLane) (cut : List ℕ) (terms : List Presented) → AreFronts H layout documents met lanes cut terms
+pub front_lanes : (H : List ℕ → List ℕ) (format : Format) (documents : ℕ) (met : List ℕ) (lanes : List WholeLane) (cut : List ℕ) (terms : List Presented) → AreFronts H format documents met lanes cut terms
     → AreIn met (shown lanes cut) → map (client.lane_of documents met) terms ≡ shown lanes cut
-front_lanes H layout documents met [] cut [] fronts are = refl
-front_lanes H layout documents met [] cut (term ∷ terms) fronts are = absurd fronts
-front_lanes H layout documents met (lane ∷ lanes) [] terms fronts are = absurd fronts
-front_lanes H layout documents met (lane ∷ lanes) (count ∷ cut) [] fronts are = absurd fronts
-front_lanes H layout documents met (lane ∷ lanes) (count ∷ cut) (term ∷ terms) fronts are =
+front_lanes H format documents met [] cut [] fronts are = refl
+front_lanes H format documents met [] cut (term ∷ terms) fronts are = absurd fronts
+front_lanes H format documents met (lane ∷ lanes) [] terms fronts are = absurd fronts
+front_lanes H format documents met (lane ∷ lanes) (count ∷ cut) [] fronts are = absurd fronts
+front_lanes H format documents met (lane ∷ lanes) (count ∷ cut) (term ∷ terms) fronts are =
     let here : ShownLane = shown_lane lane.coefficient lane.entries count in
-    ap₂ (λ x xs. x ∷ xs) (front_lane H layout documents met lane count term fronts.0 (first_in met here (shown lanes cut) are))
-    (front_lanes H layout documents met lanes cut terms fronts.1 (later_in met here (shown lanes cut) are))
+    ap₂ (λ x xs. x ∷ xs) (front_lane H format documents met lane count term fronts.0 (first_in met here (shown lanes cut) are))
+    (front_lanes H format documents met lanes cut terms fronts.1 (later_in met here (shown lanes cut) are))
 
 -- ---- the leaves that they show
 
@@ -196,10 +195,10 @@ shown_from met leaves at (e ∷ es) are same =
     ap (λ (k : ℕ). get_or leaves k []) next ∙ same (suc i) d (omega (arith, inside))))
 
 -- its leaves are the first of the list
-pub front_shown : (H : List ℕ → List ℕ) (layout : Layout) (documents : ℕ) (met : List ℕ) (lane : WholeLane) (count : ℕ) (term : Presented) → IsFront H layout documents met lane count term
+pub front_shown : (H : List ℕ → List ℕ) (format : Format) (documents : ℕ) (met : List ℕ) (lane : WholeLane) (count : ℕ) (term : Presented) → IsFront H format documents met lane count term
     → count ≤ length lane.entries → All (IsEntryIn met) (take count lane.entries)
     → shown_list 0 met term.prefix.entries ≡ shown_with (map leaf_bytes lane.entries) (range_with_len 0 count)
-front_shown H layout documents met lane count term is within are =
+front_shown H format documents met lane count term is within are =
     let es : List Entry = take count lane.entries in
     let leaves : List (List ℕ) = map leaf_bytes lane.entries in
     let many : length es ≡ count = length-take-le count lane.entries within in
@@ -211,13 +210,12 @@ front_shown H layout documents met lane count term is within are =
     ∙ ap (λ (k : ℕ). shown_with leaves (range_with_len 0 k)) many
 
 -- what a front rebuilds to
-front_root : (H : List ℕ → List ℕ) (layout : Layout) (documents : ℕ) (met : List ℕ) (lane : WholeLane) (count : ℕ) (term : Presented) → IsFront H layout documents met lane count term
-    → 1 ≤ count → count ≤ length lane.entries → All (IsEntryIn met) (take count lane.entries) → list_digest H layout met term ≡ Some term.entry.root
-front_root H layout documents met lane count term is some within are =
-    let format : Format = format_of layout in
+front_root : (H : List ℕ → List ℕ) (format : Format) (documents : ℕ) (met : List ℕ) (lane : WholeLane) (count : ℕ) (term : Presented) → IsFront H format documents met lane count term
+    → 1 ≤ count → count ≤ length lane.entries → All (IsEntryIn met) (take count lane.entries) → list_digest H format met term ≡ Some term.entry.root
+front_root H format documents met lane count term is some within are =
     let digests : List (List ℕ) = prefix_digests H format lane.entries count in
     ap (λ (p : Prefix). prefix_root H format term.entry.f (shown_list 0 met term.prefix.entries) p.digests) is.front
-    ∙ ap₂ (λ (k : ℕ) (s : List Shown). prefix_root H format k s digests) is.size (front_shown H layout documents met lane count term is within are)
+    ∙ ap₂ (λ (k : ℕ) (s : List Shown). prefix_root H format k s digests) is.size (front_shown H format documents met lane count term is within are)
     ∙ front-rebuilds H format lane.entries count some within
     ∙ ap Some (sym is.root)
 
@@ -248,23 +246,23 @@ front_names n met entries count own within are =
           own.once i j none less (omega (arith, low, many, within)) (ap (λ (e : Entry). e.doc) (sym first) ∙ docs ∙ ap (λ (e : Entry). e.doc) second));
     }
 
-front_right : (H : List ℕ → List ℕ) (layout : Layout) (documents n : ℕ) (met : List ℕ) (lane : WholeLane) (count : ℕ) (term : Presented) → IsFront H layout documents met lane count term
-    → IsList n lane.entries → 1 ≤ count → count ≤ length lane.entries → All (IsEntryIn met) (take count lane.entries) → IsListRight H layout met term
-front_right H layout documents n met lane count term is own some within are = record {
+front_right : (H : List ℕ → List ℕ) (format : Format) (documents n : ℕ) (met : List ℕ) (lane : WholeLane) (count : ℕ) (term : Presented) → IsFront H format documents met lane count term
+    → IsList n lane.entries → 1 ≤ count → count ≤ length lane.entries → All (IsEntryIn met) (take count lane.entries) → IsListRight H format met term
+front_right H format documents n met lane count term is own some within are = record {
   names = subst (λ (p : Prefix). AreNames (length met) (indexes_of p.entries)) (sym is.front) (front_names n met lane.entries count own within are);
-  root = front_root H layout documents met lane count term is some within are;
+  root = front_root H format documents met lane count term is some within are;
 }
 
 -- the check accepts them
-pub fronts_right : (H : List ℕ → List ℕ) (layout : Layout) (documents n : ℕ) (met : List ℕ) (lanes : List WholeLane) (cut : List ℕ) (terms : List Presented) → AreFronts H layout documents met lanes cut terms
-    → All (HasList n) lanes → IsCut lanes cut → AreIn met (shown lanes cut) → All (IsListRight H layout met) terms
-fronts_right H layout documents n met [] cut [] fronts lists is are = λ k d inside. absurd (omega (arith, inside))
-fronts_right H layout documents n met [] cut (term ∷ terms) fronts lists is are = absurd fronts
-fronts_right H layout documents n met (lane ∷ lanes) [] terms fronts lists is are = absurd fronts
-fronts_right H layout documents n met (lane ∷ lanes) (count ∷ cut) [] fronts lists is are = absurd fronts
-fronts_right H layout documents n met (lane ∷ lanes) (count ∷ cut) (term ∷ terms) fronts lists is are =
+pub fronts_right : (H : List ℕ → List ℕ) (format : Format) (documents n : ℕ) (met : List ℕ) (lanes : List WholeLane) (cut : List ℕ) (terms : List Presented) → AreFronts H format documents met lanes cut terms
+    → All (HasList n) lanes → IsCut lanes cut → AreIn met (shown lanes cut) → All (IsListRight H format met) terms
+fronts_right H format documents n met [] cut [] fronts lists is are = λ k d inside. absurd (omega (arith, inside))
+fronts_right H format documents n met [] cut (term ∷ terms) fronts lists is are = absurd fronts
+fronts_right H format documents n met (lane ∷ lanes) [] terms fronts lists is are = absurd fronts
+fronts_right H format documents n met (lane ∷ lanes) (count ∷ cut) [] fronts lists is are = absurd fronts
+fronts_right H format documents n met (lane ∷ lanes) (count ∷ cut) (term ∷ terms) fronts lists is are =
     let here : ShownLane = shown_lane lane.coefficient lane.entries count in
     let shows : (1 ≤ count) × (count ≤ length lane.entries) = is.each 0 lane (omega arith) in
-    All-cons (IsListRight H layout met) term terms
-    (front_right H layout documents n met lane count term fronts.0 (All-head (HasList n) lane lanes lists) shows.0 shows.1 (first_in met here (shown lanes cut) are))
-    (fronts_right H layout documents n met lanes cut terms fronts.1 (All-tail (HasList n) lane lanes lists) (tail_cut lane lanes count cut is) (later_in met here (shown lanes cut) are))
+    All-cons (IsListRight H format met) term terms
+    (front_right H format documents n met lane count term fronts.0 (All-head (HasList n) lane lanes lists) shows.0 shows.1 (first_in met here (shown lanes cut) are))
+    (fronts_right H format documents n met lanes cut terms fronts.1 (All-tail (HasList n) lane lanes lists) (tail_cut lane lanes count cut is) (later_in met here (shown lanes cut) are))

@@ -7,7 +7,7 @@ use Rattle.std.proofs.lemmas.List.{length-map, get_or-map, get_or_default}
 use Rattle.std.proofs.lemmas.List.Elements.{All-head, All-tail}
 use Rattle.std.proofs.lemmas.List.Folds.{Any-from_list_any, list_any_at}
 use Rattle.ats_dict.specs.declared.header.Header.{Header}
-use Rattle.ats_lists.specs.Layout.{Layout}
+use Rattle.ats_lists.specs.declared.format.Format.{Format}
 use Rattle.ats_commit.specs.Archive.{Archive}
 use Rattle.ats_proof.specs.declared.record.Slot.{Slot}
 use Rattle.ats_commit.specs.Trees.{dictionary_of}
@@ -101,7 +101,7 @@ module _ (H : List ℕ → List ℕ) (archive : Archive) (query : List (List ℕ
   slots = map (slot_of honest.positions) honest.spots
 
   abbrev fronts : List Prefix
-  fronts = prefixes H archive.layout proof.met lanes honest.cut
+  fronts = prefixes H archive.format proof.met lanes honest.cut
 
   presented_are : presented query proof ≡ presented_from dict 0 query slots fronts
   presented_are =
@@ -109,8 +109,8 @@ module _ (H : List ℕ → List ℕ) (archive : Archive) (query : List (List ℕ
       ∙ ap₂ (λ (s : List Slot) (l : List Prefix). presented_from dict 0 query s l) honest.slots honest.lists
 
   -- the present terms show the fronts of their lists, as many entries as the cut says
-  pub honest_presented : AreFronts H archive.layout (length archive.texts) proof.met lanes honest.cut (presented query proof)
-  honest_presented = subst (AreFronts H archive.layout (length archive.texts) proof.met lanes honest.cut) (sym presented_are)
+  pub honest_presented : AreFronts H archive.format (length archive.texts) proof.met lanes honest.cut (presented query proof)
+  honest_presented = subst (AreFronts H archive.format (length archive.texts) proof.met lanes honest.cut) (sym presented_are)
       (show_terms H archive proof.met honest.positions 0 query honest.spots honest.needed.rise honest.found
       (needed_shown honest.spots honest.positions honest.needed) honest.cut is_cut.size)
 
@@ -121,11 +121,11 @@ module _ (H : List ℕ → List ℕ) (archive : Archive) (query : List (List ℕ
   pub honest_lanes : client.lanes_of query proof ≡ cut_lanes
   honest_lanes =
       ap (λ (n : ℕ). map (client.lane_of n proof.met) (presented query proof)) documents
-      ∙ front_lanes H archive.layout (length archive.texts) proof.met lanes honest.cut (presented query proof) honest_presented are_in
+      ∙ front_lanes H archive.format (length archive.texts) proof.met lanes honest.cut (presented query proof) honest_presented are_in
 
   pub honest_lists : AreListsRight H query proof
-  honest_lists = subst (λ (layout : Layout). All (IsListRight H layout proof.met) (presented query proof)) (sym honest.layout)
-      (fronts_right H archive.layout (length archive.texts) (length archive.texts) proof.met lanes honest.cut (presented query proof) honest_presented (lanes_have_lists archive.texts query) is_cut are_in)
+  honest_lists = subst (λ (format : Format). All (IsListRight H format proof.met) (presented query proof)) (sym honest.format)
+      (fronts_right H archive.format (length archive.texts) (length archive.texts) proof.met lanes honest.cut (presented query proof) honest_presented (lanes_have_lists archive.texts query) is_cut are_in)
 
   pub honest_met : AreAllMet (client.lanes_of query proof) proof.met
   honest_met = subst (λ (ls : List ShownLane). AreAllMet ls proof.met) (sym honest_lanes)

@@ -18,8 +18,8 @@ use Rattle.ats_dict.specs.Entry.{DictEntry}
 use Rattle.ats_dict.specs.Dictionary.{dict_leaves, entry_at, low, term_at}
 use Rattle.ats_dict.specs.Found.{IsSpot, StandsAt}
 use Rattle.ats_dict.proofs.Public.{entry_at-suc, get_or-dict_leaves, length-dict_leaves}
-use Rattle.ats_lists.specs.Layout.{Layout}
-use Rattle.ats_commit.specs.Archive.{Archive, format_of}
+use Rattle.ats_lists.specs.declared.format.Format.{Format}
+use Rattle.ats_commit.specs.Archive.{Archive}
 use Rattle.ats_commit.specs.Trees.{dict_entry, dictionary_of}
 use Rattle.ats_commit.specs.Ours.{asked_term}
 use Rattle.ats_commit.specs.Root.{header_root, root_of}
@@ -44,7 +44,7 @@ use Rattle.ats_accepts.proofs.AcceptedSlots.{IsShown, LiesBy, leaf_at, slots_sho
 pub honest_opened : (H : List ℕ → List ℕ) (archive : Archive) (query : List (List ℕ × ℕ)) (r : ℕ) (algorithm : Algorithm) (proof : Proof)
     → IsHonest H archive query r algorithm proof → IsOpened H (root_of H archive) query proof
 honest_opened H archive query r algorithm proof honest = record {
-  commits = ap₂ (λ (layout : Layout) (h : Header). header_root H layout h) honest.layout honest.header;
+  commits = ap₂ (λ (format : Format) (h : Header). header_root H format h) honest.format honest.header;
   slots = ap (λ (all : List Slot). length all) honest.slots ∙ length-map honest.spots (slot_of honest.positions) ∙ spot_each (dictionary_of H archive) query honest.spots honest.found;
 }
 
@@ -102,7 +102,7 @@ honest_slots H archive query r algorithm proof honest i inside =
 pub record IsOwnEntry (H : List ℕ → List ℕ) (archive : Archive) (term : List ℕ) (entry : DictEntry) : Type 0 where
   pub same : entry.term ≡ term
   pub number : entry.f ≡ length (list archive.texts term)
-  pub root : entry.root ≡ list_root H (format_of archive.layout) (list archive.texts term)
+  pub root : entry.root ≡ list_root H archive.format (list archive.texts term)
 
 own_entry : (H : List ℕ → List ℕ) (archive : Archive) (term : List ℕ) (p : ℕ) → StandsAt (dictionary_of H archive) term p → IsOwnEntry H archive term (entry_at (dictionary_of H archive) p)
 own_entry H archive term zero is = absurd (omega (arith, is.some))
@@ -110,13 +110,13 @@ own_entry H archive term (suc p) is =
     let entries = dictionary_of H archive in
     let stands = standing_term H archive term p ([], []) is in
     let own = get_or (lists_of archive.texts) p ([], []) in
-    let entry : entry_at entries (suc p) ≡ dict_entry H archive.layout own =
-    entry_at-suc entries p low (omega (arith, stands.0, length-map (lists_of archive.texts) (dict_entry H archive.layout))) ∙ get_or-map (dict_entry H archive.layout) (lists_of archive.texts) p ([], []) low stands.0 in
+    let entry : entry_at entries (suc p) ≡ dict_entry H archive.format own =
+    entry_at-suc entries p low (omega (arith, stands.0, length-map (lists_of archive.texts) (dict_entry H archive.format))) ∙ get_or-map (dict_entry H archive.format) (lists_of archive.texts) p ([], []) low stands.0 in
     let all : own.1 ≡ list archive.texts term = list_at archive.texts p ([], []) stands.0 ∙ ap (list archive.texts) stands.1 in
     record {
       same = is.same;
       number = ap (λ (e : DictEntry). e.f) entry ∙ ap (λ (es : List Entry). length es) all;
-      root = ap (λ (e : DictEntry). e.root) entry ∙ ap (λ (es : List Entry). list_root H (format_of archive.layout) es) all;
+      root = ap (λ (e : DictEntry). e.root) entry ∙ ap (λ (es : List Entry). list_root H archive.format es) all;
     }
 
 -- the check finds the dictionary's entry at a shown position

@@ -1,8 +1,8 @@
 -- The strings that are hashed from an honest proof are the archive's own.
 use Rattle.std.proofs.Common.{◌≡◌, ◌+◌, ◌<◌, ◌≤◌, ℕ, suc, Bool, cond, List, [], ◌∷◌, ◌++◌, length, map, take, drop, get_or, Option, None, Some, IfSome, refl, sym, ap, ap₂, subst, ◌∙◌, arith}
-use Rattle.std.specs.List.{All, flat_map, range_with_len}
+use Rattle.std.specs.List.{All, flat_map}
 use Rattle.std.proofs.lemmas.Bool.{lt-ltb}
-use Rattle.std.proofs.lemmas.List.{length-map, get_or_default}
+use Rattle.std.proofs.lemmas.List.{get_or_default}
 use Rattle.std.proofs.lemmas.List.Elements.{All-nil, All-cons, All-append, All-head, All-map, All-tail}
 use Rattle.ats_tree.specs.Differences.{Hashed, moved, IsOurs}
 use Rattle.ats_tree.specs.Elided.{elided_digests, shown_with}
@@ -14,7 +14,6 @@ use Rattle.ats_tree.specs.declared.hashed.Place.{Place}
 use Rattle.ats_tree.specs.declared.hashed.Tree.{Tree}
 use Rattle.ats_tree.specs.declared.hashed.Tree.TheVariants.{Dictionary, List as ListOf, Documents as DocumentsTree, Terms}
 use Rattle.ats_tree.proofs.Public.{numbers-lead, own-none, own-strings}
-use Rattle.ats_lists.specs.Leaf.{leaf_bytes}
 use Rattle.ats_lists.specs.Lists.{list}
 use Rattle.ats_lists.specs.declared.entry.Entry.{Entry}
 use Rattle.ats_dict.specs.Dictionary.{dict_leaves}
@@ -24,9 +23,10 @@ use Rattle.ats_dict.specs.declared.spot.Spot.TheVariants.{At, Between}
 use Rattle.ats_doctree.specs.Impacts.{doc_terms}
 use Rattle.ats_doctree.specs.Sentinels.{terms_leaves}
 use Rattle.ats_doctree.specs.declared.doc_leaf.DocLeaf.{DocLeaf}
-use Rattle.ats_lists.specs.Formats.{list_string}
-use Rattle.ats_lists.specs.Layout.{Layout, whole_lists}
-use Rattle.ats_commit.specs.Archive.{Archive, format_of}
+use Rattle.ats_lists.specs.Formats.{first_leaves, list_string, prefix_digests, prefix_strings}
+use Rattle.ats_lists.specs.declared.format.Format.{Format}
+use Rattle.ats_lists.proofs.Public.{front-own}
+use Rattle.ats_commit.specs.Archive.{Archive}
 use Rattle.ats_commit.specs.Ours.{asked_term, ours}
 use Rattle.ats_commit.specs.Places.{in_tree}
 use Rattle.ats_commit.specs.Root.{header_string}
@@ -36,7 +36,7 @@ use Rattle.ats_proof.specs.declared.record.Slot.{Slot}
 use Rattle.ats_proof.specs.declared.record.Algorithm.TheVariants.{Tra, Tnra}
 use Rattle.ats_bound.specs.Cut.{ShownLane, lane_of as shown_lane}
 use Rattle.ats_bound.specs.Schedule.{WholeLane, IsCut, shown}
-use Rattle.ats_proof.specs.Value.{Prefix, Proof, IsProof, Documents, ShownEntry, TermsSection, layout_of}
+use Rattle.ats_proof.specs.Value.{Prefix, Proof, IsProof, Documents, ShownEntry, TermsSection}
 use Rattle.ats_proof.specs.Runs.{shown_docs, shown_list, shown_term}
 use Rattle.ats_proof.specs.Runs as runs
 use Rattle.ats_proof.proofs.Public.{one_value}
@@ -120,27 +120,43 @@ module _ (H : List ℕ → List ℕ) (archive : Archive) (query : List (List ℕ
   abbrev Own : Hashed Place → Type 0
   Own = IsOurs (ours H archive query)
 
-  front_own : (layout : Layout) → layout ≡ archive.layout → (documents : ℕ) (met : List ℕ) (lane : WholeLane) (count : ℕ) (term : Presented) → IsFront H layout documents met lane count term
-      → lane.entries ≡ list archive.texts (asked_term query term.number) → count ≤ length lane.entries → All (IsEntryIn met) (take count lane.entries)
-      → All Own (list_strings H layout met term)
-  front_own whole_lists same documents met lane count term is named within are =
-      let leaves : List (List ℕ) = map leaf_bytes lane.entries in
-      tree_own H archive query (ListOf term.number) leaves
-      (λ at. ap₂ (λ (layout : Layout) (es : List Entry). list_string H (format_of layout) es (record { depth = at.depth; turns = at.turns })) (sym same) (sym named))
-      term.entry.f (shown_list 0 met term.prefix.entries) term.prefix.digests (range_with_len 0 count)
-      (is.size ∙ sym (length-map lane.entries leaf_bytes)) (front_shown H whole_lists documents met lane count term is within are) (ap (λ (p : Prefix). p.digests) is.front)
+  -- the strings of a shown front are those that the list's first entries give
+  front_strings : (format : Format) (documents : ℕ) (met : List ℕ) (lane : WholeLane) (count : ℕ) (term : Presented) → IsFront H format documents met lane count term
+      → count ≤ length lane.entries → All (IsEntryIn met) (take count lane.entries)
+      → list_strings H format met term
+      ≡ map (moved (in_tree (ListOf term.number))) (prefix_strings H format (length lane.entries) (first_leaves lane.entries count) (prefix_digests H format lane.entries count))
+  front_strings format documents met lane count term is within are =
+      let digests : List (List ℕ) = prefix_digests H format lane.entries count in
+      let put : List (Hashed NodeNumbers) → List (Hashed Place) = map (moved (in_tree (ListOf term.number))) in
+      ap (λ (p : Prefix). put (prefix_strings H format term.entry.f (shown_list 0 met term.prefix.entries) p.digests)) is.front
+      ∙ ap₂ (λ (n : ℕ) (s : List Shown). put (prefix_strings H format n s digests)) is.size (front_shown H format documents met lane count term is within are)
 
-  fronts_own : (documents : ℕ) (met : List ℕ) (lanes : List WholeLane) (cut : List ℕ) (terms : List Presented) → AreFronts H archive.layout documents met lanes cut terms
-      → AreNumbered archive.texts query lanes terms → IsCut lanes cut → AreIn met (shown lanes cut) → All Own (flat_map (list_strings H archive.layout met) terms)
+  front_own : (documents : ℕ) (met : List ℕ) (lane : WholeLane) (count : ℕ) (term : Presented) → IsFront H archive.format documents met lane count term
+      → lane.entries ≡ list archive.texts (asked_term query term.number) → 1 ≤ count → count ≤ length lane.entries → All (IsEntryIn met) (take count lane.entries)
+      → All Own (list_strings H archive.format met term)
+  front_own documents met lane count term is named some within are =
+      let format : Format = archive.format in
+      let at_number : Hashed NodeNumbers → Hashed Place = moved (in_tree (ListOf term.number)) in
+      let strings : List (Hashed NodeNumbers) =
+      prefix_strings H format (length lane.entries) (first_leaves lane.entries count) (prefix_digests H format lane.entries count) in
+      subst (All Own) (sym (front_strings format documents met lane count term is within are))
+      (All-map Own at_number strings (λ k d inside.
+      let s : Hashed NodeNumbers = get_or strings k d in
+      let there : ours H archive query (in_tree (ListOf term.number) s.place) ≡ Some s.text =
+      ap (λ (es : List Entry). list_string H format es s.place) (sym named) ∙ front-own H format lane.entries count some within k d inside in
+      subst (λ (o : Option (List ℕ)). IfSome o (λ (mine : List ℕ). mine ≡ s.text)) (sym there) refl))
+
+  fronts_own : (documents : ℕ) (met : List ℕ) (lanes : List WholeLane) (cut : List ℕ) (terms : List Presented) → AreFronts H archive.format documents met lanes cut terms
+      → AreNumbered archive.texts query lanes terms → IsCut lanes cut → AreIn met (shown lanes cut) → All Own (flat_map (list_strings H archive.format met) terms)
   fronts_own documents met [] cut [] fronts named is are = All-nil Own
   fronts_own documents met [] cut (term ∷ terms) fronts named is are = absurd fronts
   fronts_own documents met (lane ∷ lanes) [] terms fronts named is are = absurd fronts
   fronts_own documents met (lane ∷ lanes) (count ∷ cut) [] fronts named is are = absurd fronts
   fronts_own documents met (lane ∷ lanes) (count ∷ cut) (term ∷ terms) fronts named is are =
       let here : ShownLane = shown_lane lane.coefficient lane.entries count in
-      let within : count ≤ length lane.entries = (is.each 0 lane (omega arith)).1 in
-      All-append Own (list_strings H archive.layout met term) (flat_map (list_strings H archive.layout met) terms)
-      (front_own archive.layout refl documents met lane count term fronts.0 named.0 within (first_in met here (shown lanes cut) are))
+      let shows : (1 ≤ count) × (count ≤ length lane.entries) = is.each 0 lane (omega arith) in
+      All-append Own (list_strings H archive.format met term) (flat_map (list_strings H archive.format met) terms)
+      (front_own documents met lane count term fronts.0 named.0 shows.0 shows.1 (first_in met here (shown lanes cut) are))
       (fronts_own documents met lanes cut terms fronts.1 named.1 (tail_cut lane lanes count cut is) (later_in met here (shown lanes cut) are))
 
   -- ---- the met documents
@@ -180,9 +196,9 @@ module _ (H : List ℕ → List ℕ) (archive : Archive) (query : List (List ℕ
   -- ---- the whole proof
 
   module _ (r : ℕ) (algorithm : Algorithm) (proof : Proof) (some : algorithm ≡ Tra → 1 ≤ length archive.texts) (honest : IsHonest H archive query r algorithm proof) where
-    lists_own : All Own (flat_map (list_strings H (layout_of proof) proof.met) (presented query proof))
+    lists_own : All Own (flat_map (list_strings H proof.format proof.met) (presented query proof))
     lists_own =
-        subst (λ (layout : Layout). All Own (flat_map (list_strings H layout proof.met) (presented query proof))) (sym honest.layout)
+        subst (λ (format : Format). All Own (flat_map (list_strings H format proof.met) (presented query proof))) (sym honest.format)
         (fronts_own (length archive.texts) proof.met (lanes_of archive.texts query) honest.cut (presented query proof) (honest_presented H archive query r algorithm proof some honest)
         names (is_cut H archive query r algorithm proof some honest) (are_in H archive query r algorithm proof some honest))
       where
@@ -203,11 +219,11 @@ module _ (H : List ℕ → List ℕ) (archive : Archive) (query : List (List ℕ
 
     pub honest_own : All Own (strings_of H query proof)
     honest_own =
-        let header : Hashed Place = hashed_header (layout_of proof) proof.header in
+        let header : Hashed Place = hashed_header proof.format proof.header in
         let dictionary : List (Hashed Place) = strings_in H Dictionary proof.header.dict_leaves (map runs.shown_entry proof.dict) proof.dict_digests in
-        let lists : List (Hashed Place) = flat_map (list_strings H (layout_of proof) proof.met) (presented query proof) in
+        let lists : List (Hashed Place) = flat_map (list_strings H proof.format proof.met) (presented query proof) in
         let documents : List (Hashed Place) = documents_strings H proof.header proof.met proof.docs in
-        All-cons Own header (dictionary ++ (lists ++ documents)) (ap₂ (λ (layout : Layout) (h : Header). header_string layout h) (sym honest.layout) (sym honest.header))
+        All-cons Own header (dictionary ++ (lists ++ documents)) (ap₂ (λ (format : Format) (h : Header). header_string format h) (sym honest.format) (sym honest.header))
         (All-append Own dictionary (lists ++ documents) dictionary_own
         (All-append Own lists documents lists_own
         (documents_own (present archive.texts query) algorithm proof.met proof.docs proof.header (ap (λ (h : Header). h.documents) honest.header) honest.docs

@@ -4,7 +4,7 @@ ghost use Rattle.std.specs.Prelude.{◌≡◌, ◌+◌, ◌≤◌, length};
 
 use ats_bound::Work;
 use ats_client::check;
-use ats_commit::root_of_header;
+use ats_commit::root_of_header_in;
 use ats_hash::{Hash32, Sha, Steps};
 use ats_impact::Top;
 use ats_proof::ProofView;
@@ -41,7 +41,7 @@ pub(crate) fn check_proof(
     let query = Query::read(rt.alloc(), query).ok()?;
     let bytes = fs::read(rt, proof).ok()?;
     let proof = ProofView::read(&bytes).ok()?;
-    let root = root_of_header::<Sha>(&proof.header(), &mut Steps::new(rt.alloc()));
+    let root = root_of_header_in::<Sha>(proof.format(), &proof.header(), &mut Steps::new(rt.alloc()));
     let mut work = Work::with_room(rt.alloc(), proof.met()).ok()?;
     let mut steps: u64 = 0;
     for _time in 0..times {

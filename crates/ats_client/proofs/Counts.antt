@@ -1,10 +1,10 @@
 -- How many items are left of the parts of a proof.
-use Rattle.std.proofs.Common.{◌≡◌, ◌≤◌, ◌+◌, ◌*◌, ◌∙◌, ℕ, List, [], ◌∷◌, length, drop, slice_get, Option, Some, sym, ap, subst, arith}
-use Rattle.std.specs.List.{sum_by}
+use Rattle.std.proofs.Common.{◌≡◌, ◌≤◌, ◌+◌, ◌*◌, ◌∙◌, ℕ, List, [], ◌∷◌, length, drop, slice_get, Option, Some, refl, sym, ap, subst, arith}
+use Rattle.std.specs.List.{sum_by, range_with_len}
 use Rattle.std.proofs.lemmas.List.Sums.{sum_by-cons}
 use Rattle.ats_lists.specs.declared.entry.Entry.{Entry}
 use Rattle.ats_doctree.specs.declared.doc_leaf.DocLeaf.{DocLeaf}
-use Rattle.ats_tree.specs.Shown.{Shown}
+use Rattle.ats_tree.specs.Shown.{Shown, positions_of}
 use Rattle.ats_proof.specs.Runs.{shown_docs, shown_list}
 use Rattle.ats_proof.specs.Value.{Documents, Proof, items_of_section, items_of_documents}
 use Rattle.ats_proof.proofs.Public.{length-shown_list}
@@ -48,3 +48,11 @@ section_items met shown docs is each =
 
 pub shown_list_size : (at : ℕ) (met : List ℕ) (entries : List Entry) → length (shown_list at met entries) ≡ length entries
 shown_list_size at met entries = length-shown_list at met entries
+
+-- the leaves of a list stand at the positions from its first on
+pub list-from : (at : ℕ) (met : List ℕ) (entries : List Entry) → positions_of (shown_list at met entries) ≡ range_with_len at (length entries)
+list-from at met [] = refl
+list-from at met (e ∷ entries) = ap (λ (ps : List ℕ). at ∷ ps) (list-from (at + 1) met entries)
+
+pub list-front : (at : ℕ) (met : List ℕ) (entries : List Entry) → positions_of (shown_list at met entries) ≡ range_with_len at (length (shown_list at met entries))
+list-front at met entries = list-from at met entries ∙ ap (range_with_len at) (sym (shown_list_size at met entries))

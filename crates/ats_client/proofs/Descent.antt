@@ -16,22 +16,23 @@ use Rattle.ats_tree.specs.Part.{RisesFrom}
 use Rattle.ats_tree.specs.declared.hashed.Place.{Place}
 use Rattle.ats_tree.specs.declared.hashed.Tree.TheVariants.{Dictionary, List as ListOf}
 use Rattle.ats_tree.proofs.Public.{bound_to, difference-collides, numbers-lead, rises-increasing}
-use Rattle.ats_lists.specs.Formats.{list_root, list_string, prefix_strings}
+use Rattle.ats_lists.specs.Formats.{list_root, list_string, prefix_root, prefix_strings}
 use Rattle.ats_lists.specs.Lists.{list}
 use Rattle.ats_lists.specs.declared.entry.Entry.{Entry}
+use Rattle.ats_lists.proofs.Public.{list-bound}
 use Rattle.ats_dict.specs.Dictionary.{dict_leaves}
 use Rattle.ats_dict.specs.Entry.{DictEntry, dict_leaf_bytes}
 use Rattle.ats_dict.specs.Header.{header_bytes, IsHeader}
 use Rattle.ats_dict.specs.declared.header.Header.{Header}
-use Rattle.ats_lists.specs.Layout.{Layout}
-use Rattle.ats_commit.specs.Archive.{Archive, format_of, header_tag}
+use Rattle.ats_lists.specs.declared.format.Format.{Format}
+use Rattle.ats_commit.specs.Archive.{Archive, header_tag}
 use Rattle.ats_commit.specs.Trees.{dictionary_of}
 use Rattle.ats_commit.specs.Root.{header_of, header_root, root_of}
 use Rattle.ats_commit.specs.Own.{AreTexts, IsHeaderOf, IsEntryOf}
 use Rattle.ats_commit.specs.Ours.{asked_term, ours}
 use Rattle.ats_commit.specs.Places.{in_tree}
-use Rattle.ats_commit.proofs.Public.{same_layout, own_header, leaf_tells_entry, prefix-binds}
-use Rattle.ats_proof.specs.Value.{ShownEntry, Proof, layout_of, present_in}
+use Rattle.ats_commit.proofs.Public.{same_format, own_header, leaf_tells_entry}
+use Rattle.ats_proof.specs.Value.{ShownEntry, Proof, present_in}
 use Rattle.ats_proof.specs.Ranges.{AreDigests, IsShownInRange, IsInRange}
 use Rattle.ats_proof.specs.Runs.{shown_entry, shown_list}
 use Rattle.ats_client.specs.Groups as groups
@@ -39,6 +40,7 @@ use Rattle.ats_client.specs.Presented.{Presented, presented, entry_at}
 use Rattle.ats_client.specs.Slots as slots
 use Rattle.ats_client.specs.Strings.{hashed_header, strings_in, list_strings, documents_strings, strings_of, extract, AreLeavesOf, IsOwnList, AreOwnDocuments, IsOwn, IsBound}
 use Rattle.ats_client.specs.Rooted.{AreRooted}
+use Rattle.ats_client.proofs.Counts.{list-front}
 use Rattle.ats_client.proofs.DescentDocuments.{all-documents-bind}
 use Rattle.ats_client.proofs.DescentTrees.{Binds, binds-both, binds-weaker, binds-one, binds-all, binds-moved, tree-binds}
 use Rattle.ats_client.proofs.HeadlineTerms.{HoldsPresent, each_presented}
@@ -57,25 +59,28 @@ pair_is query asked i pair at = (
   ap (λ (p : List ℕ × ℕ). p.0) (get_or_from_slice_get query i pair ([], 0) at),
 )
 
--- the front of a list has rising positions
-rises-list : (at : ℕ) (met : List ℕ) (entries : List Entry) → RisesFrom at (shown_list at met entries)
-rises-list at met [] = tt
-rises-list at met (e ∷ entries) = (omega arith, rises-list (at + 1) met entries)
-
 -- ---- the header
 
 -- two preimages of roots that are equal
+head_same : (x y : ℕ) (xs ys : List ℕ) → x ∷ xs ≡ y ∷ ys → y ≡ x
+head_same x y xs ys same = cc
+
 tail_same : (x y : ℕ) (xs ys : List ℕ) → x ∷ xs ≡ y ∷ ys → ys ≡ xs
 tail_same x y xs ys same = cc
 
-pub header-binds : (H : List ℕ → List ℕ) → ((m : List ℕ) → length (H m) ≡ 32) → (archive : Archive) (query : List (List ℕ × ℕ)) (layout : Layout) (header : Header)
+-- The header says the archive's format and numbers.
+pub header-binds : (H : List ℕ → List ℕ) → ((m : List ℕ) → length (H m) ≡ 32) → (archive : Archive) (query : List (List ℕ × ℕ)) (format : Format) (header : Header)
     → AreTexts archive.texts → IsHeader header.documents header.dict_leaves header.dict_root header.docs_root header.texts_root
-    → header_root H layout header ≡ root_of H archive → Binds H (ours H archive query) (hashed_header layout header ∷ []) (IsHeaderOf H archive header)
-header-binds H sized archive query layout header are is root =
+    → header_root H format header ≡ root_of H archive
+    → Binds H (ours H archive query) (hashed_header format header ∷ []) ((format ≡ archive.format) × IsHeaderOf H archive header)
+header-binds H sized archive query format header are is root =
     let bytes : List ℕ = header_bytes header.documents header.dict_leaves header.dict_root header.docs_root header.texts_root
-    in let tag : ℕ = header_tag archive.layout
-    in binds-one H (ours H archive query) (hashed_header layout header) (tag ∷ header_of H archive) (IsHeaderOf H archive header) refl root
-    (λ same. own_header H sized archive header are is (tail_same tag (header_tag layout) (header_of H archive) bytes same))
+    in let tag : ℕ = header_tag archive.format
+    in binds-one H (ours H archive query) (hashed_header format header) (tag ∷ header_of H archive) ((format ≡ archive.format) × IsHeaderOf H archive header) refl root
+    (λ same. (
+      same_format format archive.format (head_same tag (header_tag format) (header_of H archive) bytes same),
+      own_header H sized archive header are is (tail_same tag (header_tag format) (header_of H archive) bytes same),
+    ))
 
 -- ---- the dictionary
 
@@ -116,23 +121,24 @@ entry-own H archive query dict one are ranges own asked =
     in leaf_tells_entry H archive are asked.shown.position one.entry asked.term small
     (subst (λ (e : DictEntry). slice_get leaves asked.shown.position ≡ Some (dict_leaf_bytes e.term e.f e.root)) asked.entry leaf)
 
-pub list-binds : (H : List ℕ → List ℕ) → ((m : List ℕ) → length (H m) ≡ 32) → (archive : Archive) (query : List (List ℕ × ℕ)) (layout : Layout) (met : List ℕ) (one : Presented)
-    → one.entry.term ≡ asked_term query one.number → AreDigests one.prefix.digests → groups.IsListRooted H layout met one → IsEntryOf H archive one.entry
-    → Binds H (ours H archive query) (list_strings H layout met one) (IsOwnList archive.texts query met one)
-list-binds H sized archive query layout met one same digests rooted own =
+pub list-binds : (H : List ℕ → List ℕ) → ((m : List ℕ) → length (H m) ≡ 32) → (archive : Archive) (query : List (List ℕ × ℕ)) (format : Format) (met : List ℕ) (one : Presented)
+    → format ≡ archive.format → one.entry.term ≡ asked_term query one.number → AreDigests one.prefix.digests → groups.IsListRooted H format met one → IsEntryOf H archive one.entry
+    → Binds H (ours H archive query) (list_strings H format met one) (IsOwnList archive.texts query met one)
+list-binds H sized archive query format met one formats same digests rooted own =
     let entries : List Entry = list archive.texts (asked_term query one.number)
     in let shown : List Shown = shown_list 0 met one.prefix.entries
-    in let hashed : List (Hashed NodeNumbers) = prefix_strings H (format_of layout) one.entry.f shown one.prefix.digests
+    in let Strings : ℕ → List (Hashed NodeNumbers) = λ total. prefix_strings H format total shown one.prefix.digests
     in let Shows : Type 0 = IsOwnList archive.texts query met one
     in let size : length entries ≡ one.entry.f = subst (λ term. length (list archive.texts term) ≡ one.entry.f) same (sym own.number)
-    in let layouts : archive.layout ≡ layout = same_layout archive.layout layout
-    in let root : list_root H (format_of layout) entries ≡ one.entry.root =
-    subst (λ term. list_root H (format_of layout) (list archive.texts term) ≡ one.entry.root) same
-    (subst (λ l. list_root H (format_of l) (list archive.texts one.entry.term) ≡ one.entry.root) layouts (sym own.root))
-    in let bound : Binds H (list_string H (format_of layout) entries) hashed Shows =
-    prefix-binds H sized layout entries one.entry.f shown one.prefix.digests one.entry.root (rises-list 0 met one.prefix.entries) digests rooted size root
-    in binds-moved H (in_tree (ListOf one.number)) (ours H archive query) hashed Shows
-    (subst (λ l. Binds H (list_string H (format_of l) entries) hashed Shows) (sym layouts) bound)
+    in let root : one.entry.root ≡ list_root H format entries =
+    own.root ∙ ap (λ term. list_root H archive.format (list archive.texts term)) same ∙ ap (λ f. list_root H f entries) (sym formats)
+    in let right : prefix_root H format (length entries) shown one.prefix.digests ≡ Some (list_root H format entries) =
+    ap (λ total. prefix_root H format total shown one.prefix.digests) size ∙ rooted ∙ ap Some root
+    in let bound : Binds H (list_string H format entries) (Strings one.entry.f) Shows =
+    subst (λ total. Binds H (list_string H format entries) (Strings total) Shows) size
+    (list-bound H sized format shown one.prefix.digests entries (list-front 0 met one.prefix.entries) digests right)
+    in binds-moved H (in_tree (ListOf one.number)) (ours H archive query) (Strings one.entry.f) Shows
+    (subst (λ f. Binds H (list_string H f entries) (Strings one.entry.f) Shows) formats bound)
 
 -- ---- all lists
 
@@ -165,16 +171,16 @@ asked-terms query proof is right range size =
     each_presented (IsAsked query proof.dict) proof.dict 0 query proof.slots proof.lists size range.fronts (pair-asked query proof is right)
 
 pub lists-bind : (H : List ℕ → List ℕ) → ((m : List ℕ) → length (H m) ≡ 32) → (archive : Archive) (query : List (List ℕ × ℕ)) (proof : Proof) → AreTexts archive.texts
-    → IsInRange proof → All (IsAsked query proof.dict) (presented query proof) → All (groups.IsListRooted H (layout_of proof) proof.met) (presented query proof)
+    → IsInRange proof → proof.format ≡ archive.format → All (IsAsked query proof.dict) (presented query proof) → All (groups.IsListRooted H proof.format proof.met) (presented query proof)
     → AreLeavesOf (dict_leaves (dictionary_of H archive)) (map shown_entry proof.dict)
-    → Binds H (ours H archive query) (flat_map (list_strings H (layout_of proof) proof.met) (presented query proof))
+    → Binds H (ours H archive query) (flat_map (list_strings H proof.format proof.met) (presented query proof))
     (All (IsOwnList archive.texts query proof.met) (presented query proof))
-lists-bind H sized archive query proof are range asked rooted own =
-    binds-all H (ours H archive query) (list_strings H (layout_of proof) proof.met) (IsOwnList archive.texts query proof.met) (presented query proof)
+lists-bind H sized archive query proof are range formats asked rooted own =
+    binds-all H (ours H archive query) (list_strings H proof.format proof.met) (IsOwnList archive.texts query proof.met) (presented query proof)
     (λ k d low.
     let one : Presented = get_or (presented query proof) k d
     in let is : IsAsked query proof.dict one = asked k d low
-    in list-binds H sized archive query (layout_of proof) proof.met one is.same is.sized (rooted k d low)
+    in list-binds H sized archive query proof.format proof.met one formats is.same is.sized (rooted k d low)
     (entry-own H archive query proof.dict one are range.terms.each own is))
 
 -- ---- the whole proof
@@ -184,25 +190,25 @@ pub whole-binds : (H : List ℕ → List ℕ) → ((m : List ℕ) → length (H 
     → IsQuery query → IsInRange proof → present_in proof.slots ≡ length proof.lists → AreRooted H (root_of H archive) query proof → IsBound H archive query proof
 whole-binds H sized archive query proof are is range size rooted =
     let own : Place → Option (List ℕ) = ours H archive query
-    in let layout : Layout = layout_of proof
-    in let top : List (Hashed Place) = hashed_header layout proof.header ∷ []
+    in let format : Format = proof.format
+    in let top : List (Hashed Place) = hashed_header format proof.header ∷ []
     in let terms : List (Hashed Place) = strings_in H Dictionary proof.header.dict_leaves (map shown_entry proof.dict) proof.dict_digests
-    in let fronts : List (Hashed Place) = flat_map (list_strings H layout proof.met) (presented query proof)
+    in let fronts : List (Hashed Place) = flat_map (list_strings H format proof.met) (presented query proof)
     in let documents : List (Hashed Place) = documents_strings H proof.header proof.met proof.docs
-    in let Numbers : Type 0 = IsHeaderOf H archive proof.header
+    in let Numbers : Type 0 = (format ≡ archive.format) × IsHeaderOf H archive proof.header
     in let Terms : Type 0 = AreLeavesOf (dict_leaves (dictionary_of H archive)) (map shown_entry proof.dict)
     in let Fronts : Type 0 = All (IsOwnList archive.texts query proof.met) (presented query proof)
     in let Documents : Type 0 = ForSome proof.docs (AreOwnDocuments H archive.texts proof.met)
     in let asked = asked-terms query proof is rooted.slots range size
     in binds-weaker H own (strings_of H query proof) (Numbers × (Terms × (Fronts × Documents))) (IsOwn H archive query proof)
-    (λ all. record { layout = same_layout layout archive.layout; numbers = all.0; terms = all.1.0; fronts = all.1.1.0; documents = all.1.1.1 })
+    (λ all. record { format = all.0.0; numbers = all.0.1; terms = all.1.0; fronts = all.1.1.0; documents = all.1.1.1 })
     (binds-both H own top (terms ++ (fronts ++ documents)) Numbers (Terms × (Fronts × Documents))
-    (header-binds H sized archive query layout proof.header are range.front rooted.header)
+    (header-binds H sized archive query format proof.header are range.front rooted.header)
     (λ numbers. binds-both H own terms (fronts ++ documents) Terms (Fronts × Documents)
-    (dictionary-binds H sized archive query proof range rooted.dictionary numbers)
+    (dictionary-binds H sized archive query proof range rooted.dictionary numbers.1)
     (λ own_terms. binds-both H own fronts documents Fronts Documents
-    (lists-bind H sized archive query proof are range asked rooted.lists own_terms)
-    (λ own_lists. all-documents-bind H sized archive query proof.header proof.met proof.docs are range.ids.rise range.shown rooted.documents rooted.terms numbers))))
+    (lists-bind H sized archive query proof are range numbers.0 asked rooted.lists own_terms)
+    (λ own_lists. all-documents-bind H sized archive query proof.header proof.met proof.docs are range.ids.rise range.shown rooted.documents rooted.terms numbers.1))))
 
 -- the first difference is then the first collision
 pub whole-extracts : (H : List ℕ → List ℕ) (archive : Archive) (query : List (List ℕ × ℕ)) (proof : Proof) → IsBound H archive query proof

@@ -8,7 +8,7 @@ use Rattle.ats_bound.proofs.Public.{times-cons}
 use Rattle.ats_bound.specs.Cut.{ShownLane}
 use Rattle.ats_bound.specs.Schedule.{Bounding}
 use Rattle.ats_proof.specs.Value.{Proof}
-use Rattle.ats_lists.specs.Layout.{Layout}
+use Rattle.ats_lists.specs.declared.format.Format.{Format}
 use Rattle.ats_client.specs.declared.refusal.Refusal.{Refusal}
 use Rattle.ats_client.specs.declared.refusal.Refusal.TheVariants.{OtherRoot, SlotCount, DictMisfit, DictRoot, SlotWrong, IndexOut, Repeated, ListMisfit, ListRoot, Unmet, AnswerOut, AnswerRepeated, NotSettled}
 use Rattle.ats_client.specs.Presented.{Presented}
@@ -55,10 +55,10 @@ not_entries met one (IndexOut term entry) fault names = not_out met (indexes_of 
 not_entries met one (Repeated term entry) fault names = not_again met (indexes_of one.prefix.entries) entry fault.1 names
 not_entries met one _ fault names = fault
 
-pub not_rooted : (H : List ℕ → List ℕ) (layout : Layout) (met : List ℕ) (one : Presented) (refusal : Refusal) → IsListRootFault H layout met one refusal → IsListRooted H layout met one → ⊥
-not_rooted H layout met one (ListMisfit term) fault rooted = let none = fault.1 in cc
-not_rooted H layout met one (ListRoot term) fault rooted = not_other _ _ fault.1 rooted
-not_rooted H layout met one _ fault rooted = fault
+pub not_rooted : (H : List ℕ → List ℕ) (format : Format) (met : List ℕ) (one : Presented) (refusal : Refusal) → IsListRootFault H format met one refusal → IsListRooted H format met one → ⊥
+not_rooted H format met one (ListMisfit term) fault rooted = let none = fault.1 in cc
+not_rooted H format met one (ListRoot term) fault rooted = not_other _ _ fault.1 rooted
+not_rooted H format met one _ fault rooted = fault
 
 pub not_met : (lanes : List ShownLane) (met : List ℕ) (refusal : Refusal) → IsMetFault lanes met refusal → AreAllMet lanes met → ⊥
 not_met lanes met (Unmet index) fault all = fault.unmet (all index fault.inside)

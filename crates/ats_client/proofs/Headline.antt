@@ -5,7 +5,7 @@ use Rattle.std.specs.Prelude.{IsSome, MatchOption}
 use Rattle.std.proofs.lemmas.List.Elements.{All-weaker}
 use Rattle.ats_terms.specs.Query.{IsQuery}
 use Rattle.ats_impact.specs.Score.{score}
-use Rattle.ats_lists.specs.Layout.{Layout}
+use Rattle.ats_lists.specs.declared.format.Format.{Format}
 use Rattle.ats_commit.specs.Archive.{Archive}
 use Rattle.ats_commit.specs.Own.{AreTexts}
 use Rattle.ats_commit.specs.Root.{root_of}
@@ -13,7 +13,7 @@ use Rattle.ats_commit.specs.Ours.{ours}
 use Rattle.ats_tree.specs.Differences.{Difference, first_difference}
 use Rattle.ats_tree.specs.declared.hashed.Place.{Place}
 use Rattle.ats_bound.specs.Ranked.{AreScores, cut_of}
-use Rattle.ats_proof.specs.Value.{Proof, AreDocumentsOf, layout_of, present_in}
+use Rattle.ats_proof.specs.Value.{Proof, AreDocumentsOf, present_in}
 use Rattle.ats_proof.specs.Ranges.{IsInRange}
 use Rattle.ats_client.specs.Presented.{Presented, presented, lane_of, lanes_of}
 use Rattle.ats_client.specs.Groups.{IsListRight}
@@ -34,19 +34,19 @@ pub own_rows_right : (H : List ℕ → List ℕ) (archive : Archive) (query : Li
     → AreRight archive.texts query r (rows_of query proof)
 own_rows_right H archive query r root proof are asked range size parts accepts own =
     let texts : List (List ℕ) = archive.texts in
-    let layout : Layout = layout_of proof in
+    let format : Format = proof.format in
     let slots = kept.slots H root query r proof accepts in
     let lists = kept.lists H root query r proof accepts in
     let opened = kept.opened H root query r proof accepts in
     let documents : ℕ = proof.header.documents in
     let met : List ℕ = proof.met in
     let terms : List Presented = presented query proof in
-    let all : AllOf H layout texts query documents met are own.numbers.number range.ids.small terms =
+    let all : AllOf H format texts query documents met are own.numbers.number range.ids.small terms =
     (each_own H archive query proof are asked range own.terms slots (sym size), own.fronts, lists) in
     let same : map (lane_of documents met) terms ≡ cut_of (own_lanes texts query proof) =
-    lanes_cut H layout texts query documents met are own.numbers.number range.ids.small terms all in
+    lanes_cut H format texts query documents met are own.numbers.number range.ids.small terms all in
     let scores : AreScores (length texts) (λ doc. score texts query (get_or texts doc [])) (own_lanes texts query proof) = record {
-      each = each_cut H layout texts query documents met are own.numbers.number range.ids.small terms all;
+      each = each_cut H format texts query documents met are own.numbers.number range.ids.small terms all;
       sums = λ doc low. score_own H archive query proof are asked range own.terms slots opened.slots doc low;
     } in
     let cut : lanes_of query proof ≡ cut_of (own_lanes texts query proof) = same in
@@ -55,7 +55,7 @@ own_rows_right H archive query r root proof are asked range size parts accepts o
     (λ i low. brackets_hold H archive query proof are asked range (sym size) slots opened.slots own (kept.documents H root query r proof accepts) parts proof.docs refl
     (length texts) (λ doc. score texts query (get_or texts doc [])) scores cut i low (kept.met H root query r proof accepts i low))
     same scores range.ids.rise
-    (All-weaker (IsListRight H layout met) (NamesMet met) (λ one right. right.names) terms lists)
+    (All-weaker (IsListRight H format met) (NamesMet met) (λ one right. right.names) terms lists)
     (kept.met H root query r proof accepts) (kept.rows H root query r proof accepts) (kept.settled H root query r proof accepts)
 
 holds_or_some : (P : Type 0) (Q : Difference Place → Type 0) (difference : Option (Difference Place)) → MatchOption difference P Q → P ⊎ IsSome difference

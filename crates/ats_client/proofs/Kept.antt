@@ -1,7 +1,7 @@
 -- The rules that hold for an accepted proof, by name.
 use Rattle.std.proofs.Common.{ℕ, List, inl, inr}
 use Rattle.std.proofs.lemmas.List.Elements.{All-weaker}
-use Rattle.ats_proof.specs.Value.{Proof, layout_of}
+use Rattle.ats_proof.specs.Value.{Proof}
 use Rattle.ats_client.specs.Presented.{presented, lanes_of}
 use Rattle.ats_client.specs.Bracketing.{bounds_of}
 use Rattle.ats_client.specs.Groups.{IsOpened, IsDictionary, AreSlotsRight, IsListRight, IsListRooted, AreListsRight, AreAllMet, IsMetFault, AreRowsRight, IsRowsFault, IsAnswerSettled}
@@ -79,7 +79,7 @@ module _ (H : List ℕ → List ℕ) (root : List ℕ) (query : List (List ℕ �
       header = opened.commits;
       dictionary = dictionary;
       slots = slots;
-      lists = All-weaker (IsListRight H (layout_of proof) proof.met) (IsListRooted H (layout_of proof) proof.met) (λ one right. right.root) (presented query proof) lists;
+      lists = All-weaker (IsListRight H proof.format proof.met) (IsListRooted H proof.format proof.met) (λ one right. right.root) (presented query proof) lists;
       documents = tree;
       terms = All-weaker (IsDocumentRight H query (present_numbers proof)) (IsTermsTree H) (λ one right. right.tree) (met_documents proof) documents;
     }

@@ -1,7 +1,7 @@
 -- Indexes first break their rule at one place at most, and the present terms have at most one first failure.
 use Rattle.std.proofs.Common.{◌≡◌, ◌∙◌, ℕ, List, ◌∷◌, ◌++◌, length, refl, sym, ap, ap₂, arith}
-use Rattle.ats_proof.specs.Value.{Proof, layout_of}
-use Rattle.ats_lists.specs.Layout.{Layout}
+use Rattle.ats_proof.specs.Value.{Proof}
+use Rattle.ats_lists.specs.declared.format.Format.{Format}
 use Rattle.ats_client.specs.declared.refusal.Refusal.{Refusal}
 use Rattle.ats_client.specs.declared.refusal.Refusal.TheVariants.{IndexOut, Repeated, ListMisfit, ListRoot}
 use Rattle.ats_client.specs.Presented.{Presented, presented}
@@ -70,29 +70,29 @@ one_entry met one (Repeated term entry) (Repeated other place) is also =
 one_entry met one (Repeated term entry) _ is also = absurd also
 one_entry met one _ b is also = absurd is
 
-one_root : (H : List ℕ → List ℕ) (layout : Layout) (met : List ℕ) (one : Presented) (a b : Refusal) → IsListRootFault H layout met one a → IsListRootFault H layout met one b → a ≡ b
-one_root H layout met one (ListMisfit term) (ListMisfit other) is also = ap ListMisfit (is.0 ∙ sym also.0)
-one_root H layout met one (ListMisfit term) (ListRoot other) is also = let none = is.1 in let some = also.1.rebuilt in absurd (cc)
-one_root H layout met one (ListMisfit term) _ is also = absurd also
-one_root H layout met one (ListRoot term) (ListMisfit other) is also = let none = also.1 in let some = is.1.rebuilt in absurd (cc)
-one_root H layout met one (ListRoot term) (ListRoot other) is also = ap ListRoot (is.0 ∙ sym also.0)
-one_root H layout met one (ListRoot term) _ is also = absurd also
-one_root H layout met one _ b is also = absurd is
+one_root : (H : List ℕ → List ℕ) (format : Format) (met : List ℕ) (one : Presented) (a b : Refusal) → IsListRootFault H format met one a → IsListRootFault H format met one b → a ≡ b
+one_root H format met one (ListMisfit term) (ListMisfit other) is also = ap ListMisfit (is.0 ∙ sym also.0)
+one_root H format met one (ListMisfit term) (ListRoot other) is also = let none = is.1 in let some = also.1.rebuilt in absurd (cc)
+one_root H format met one (ListMisfit term) _ is also = absurd also
+one_root H format met one (ListRoot term) (ListMisfit other) is also = let none = also.1 in let some = is.1.rebuilt in absurd (cc)
+one_root H format met one (ListRoot term) (ListRoot other) is also = ap ListRoot (is.0 ∙ sym also.0)
+one_root H format met one (ListRoot term) _ is also = absurd also
+one_root H format met one _ b is also = absurd is
 
-list_exact : (H : List ℕ → List ℕ) (layout : Layout) (met : List ℕ) (one : Presented) → AreExact (list_rules H layout met one)
-list_exact H layout met one = (
+list_exact : (H : List ℕ → List ℕ) (format : Format) (met : List ℕ) (one : Presented) → AreExact (list_rules H format met one)
+list_exact H format met one = (
   record { breaks = not_entries (length met) one; one = one_entry (length met) one },
-  (record { breaks = not_rooted H layout met one; one = one_root H layout met one }, tt),
+  (record { breaks = not_rooted H format met one; one = one_root H format met one }, tt),
 )
 
-not_list : (H : List ℕ → List ℕ) (layout : Layout) (met : List ℕ) (one : Presented) (refusal : Refusal) → IsListFault H layout met one refusal → IsListRight H layout met one → ⊥
-not_list H layout met one refusal fault right = not_kept (list_rules H layout met one) refusal (list_exact H layout met one) fault (right.names, (right.root, tt))
+not_list : (H : List ℕ → List ℕ) (format : Format) (met : List ℕ) (one : Presented) (refusal : Refusal) → IsListFault H format met one refusal → IsListRight H format met one → ⊥
+not_list H format met one refusal fault right = not_kept (list_rules H format met one) refusal (list_exact H format met one) fault (right.names, (right.root, tt))
 
 pub not_lists : (H : List ℕ → List ℕ) (query : List (List ℕ × ℕ)) (proof : Proof) (refusal : Refusal) → IsListsFault H query proof refusal → AreListsRight H query proof → ⊥
 not_lists H query proof refusal fault right =
-    not_first_of (IsListRight H (layout_of proof) proof.met) (IsListFault H (layout_of proof) proof.met) (presented query proof) refusal (not_list H (layout_of proof) proof.met) fault right
+    not_first_of (IsListRight H proof.format proof.met) (IsListFault H proof.format proof.met) (presented query proof) refusal (not_list H proof.format proof.met) fault right
 
 pub one_lists : (H : List ℕ → List ℕ) (query : List (List ℕ × ℕ)) (proof : Proof) (a b : Refusal) → IsListsFault H query proof a → IsListsFault H query proof b → a ≡ b
 one_lists H query proof a b is also =
-    one_first_of (IsListRight H (layout_of proof) proof.met) (IsListFault H (layout_of proof) proof.met) (presented query proof) a b (not_list H (layout_of proof) proof.met)
-    (λ one a b. one_first (list_rules H (layout_of proof) proof.met one) a b (list_exact H (layout_of proof) proof.met one)) is also
+    one_first_of (IsListRight H proof.format proof.met) (IsListFault H proof.format proof.met) (presented query proof) a b (not_list H proof.format proof.met)
+    (λ one a b. one_first (list_rules H proof.format proof.met one) a b (list_exact H proof.format proof.met one)) is also

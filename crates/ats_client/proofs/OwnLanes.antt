@@ -19,7 +19,7 @@ use Rattle.ats_lists.proofs.Public.{list_is_sorted, list_keeps, list_frequency}
 use Rattle.ats_dict.specs.Entry.{dict_leaf_bytes}
 use Rattle.ats_dict.specs.Dictionary.{dict_leaves}
 use Rattle.ats_proof.specs.declared.record.Slot.{Slot}
-use Rattle.ats_lists.specs.Layout.{Layout}
+use Rattle.ats_lists.specs.declared.format.Format.{Format}
 use Rattle.ats_commit.specs.Archive.{Archive}
 use Rattle.ats_commit.specs.Trees.{dictionary_of}
 use Rattle.ats_commit.specs.Ours.{asked_term}
@@ -141,19 +141,19 @@ own_lane texts query one = record {
 abbrev pub own_lanes : List (List ℕ) → List (List ℕ × ℕ) → Proof → List CutLane
 own_lanes texts query proof = map (own_lane texts query) (presented query proof)
 
-module _ (H : List ℕ → List ℕ) (layout : Layout) (texts : List (List ℕ)) (query : List (List ℕ × ℕ)) (documents : ℕ) (met : List ℕ) (are : AreTexts texts)
+module _ (H : List ℕ → List ℕ) (format : Format) (texts : List (List ℕ)) (query : List (List ℕ × ℕ)) (documents : ℕ) (met : List ℕ) (are : AreTexts texts)
     (number : documents ≡ length texts) (small : All (λ id. id < 2 ^ 32) met) where
   abbrev pub AllOf : List Presented → Type 0
-  AllOf terms = All (HasOwnList texts query) terms × All (IsOwnList texts query met) terms × All (IsListRight H layout met) terms
+  AllOf terms = All (HasOwnList texts query) terms × All (IsOwnList texts query met) terms × All (IsListRight H format met) terms
 
-  front_is : (one : Presented) → HasOwnList texts query one → IsOwnList texts query met one → IsListRight H layout met one
+  front_is : (one : Presented) → HasOwnList texts query one → IsOwnList texts query met one → IsListRight H format met one
       → map (named met) one.prefix.entries ≡ take (length one.prefix.entries) (list texts (asked_term query one.number))
   front_is one is own right =
       let entries : List Entry = one.prefix.entries in
       let term : List ℕ = asked_term query one.number in
       front_from texts are term met 0 entries small (names_inside (length met) entries right.names) is.2.each own
 
-  lane_is : (one : Presented) → HasOwnList texts query one → IsOwnList texts query met one → IsListRight H layout met one
+  lane_is : (one : Presented) → HasOwnList texts query one → IsOwnList texts query met one → IsListRight H format met one
       → lane_of documents met one ≡ cut.lane_of (own_lane texts query one).coefficient (own_lane texts query one).entries (own_lane texts query one).shown
   lane_is one is own right =
       let term : List ℕ = asked_term query one.number in
@@ -163,7 +163,7 @@ module _ (H : List ℕ → List ℕ) (layout : Layout) (texts : List (List ℕ))
       ap₂ (λ n often. made (one.weight * idf n often) f (map (named met) one.prefix.entries)) number often
       ∙ ap₂ (made (one.weight * idf (length texts) (frequency term texts))) is.1 (front_is one is own right)
 
-  cut_is : (one : Presented) → HasOwnList texts query one → IsOwnList texts query met one → IsListRight H layout met one → IsCutLane (length texts) (own_lane texts query one)
+  cut_is : (one : Presented) → HasOwnList texts query one → IsOwnList texts query met one → IsListRight H format met one → IsCutLane (length texts) (own_lane texts query one)
   cut_is one is own right =
       let term : List ℕ = asked_term query one.number in
       let entries : List Entry = one.prefix.entries in
@@ -185,9 +185,9 @@ module _ (H : List ℕ → List ℕ) (layout : Layout) (texts : List (List ℕ))
   lanes_cut (one ∷ terms) all =
       let is = All-head (HasOwnList texts query) one terms all.0 in
       let own = All-head (IsOwnList texts query met) one terms all.1 in
-      let right = All-head (IsListRight H layout met) one terms all.2 in
+      let right = All-head (IsListRight H format met) one terms all.2 in
       ap₂ (λ (l : ShownLane) (ls : List ShownLane). l ∷ ls) (lane_is one is own right)
-      (lanes_cut terms (All-tail (HasOwnList texts query) one terms all.0, All-tail (IsOwnList texts query met) one terms all.1, All-tail (IsListRight H layout met) one terms all.2))
+      (lanes_cut terms (All-tail (HasOwnList texts query) one terms all.0, All-tail (IsOwnList texts query met) one terms all.1, All-tail (IsListRight H format met) one terms all.2))
 
   pub each_cut : (terms : List Presented) → AllOf terms → All (IsCutLane (length texts)) (map (own_lane texts query) terms)
   each_cut terms all =

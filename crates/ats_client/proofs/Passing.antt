@@ -10,8 +10,8 @@ use Rattle.ats_bound.specs.declared.work.Mark.{Mark}
 use Rattle.ats_bound.specs.Work.{mark_at, zero_mark}
 use Rattle.ats_bound.specs.Cut.{rest, threshold as threshold_of, lo_of, held, bracket}
 use Rattle.ats_bound.proofs.Public.{held_or_missing}
-use Rattle.ats_proof.specs.Value.{Proof, Prefix, present_in, layout_of}
-use Rattle.ats_lists.specs.Layout.{Layout}
+use Rattle.ats_proof.specs.Value.{Proof, Prefix, present_in}
+use Rattle.ats_lists.specs.declared.format.Format.{Format}
 use Rattle.ats_client.specs.declared.present_terms.PresentTerm.{PresentTerm}
 use Rattle.ats_client.specs.PresentTerms.{kept_term, kept_terms}
 use Rattle.ats_client.specs.Presented.{Presented, presented, presented_from, lanes_of}
@@ -26,7 +26,7 @@ use Rattle.ats_client.proofs.Marks.{notes_turn}
 pub record IsPassed (H : List ℕ → List ℕ) (query : List (List ℕ × ℕ)) (proof : Proof) (i : ℕ) (left : List Prefix) (terms : List PresentTerm) (threshold : ℕ) (marks : List Mark) : Type 0 where
   pub before : List Presented
   pub stands : presented query proof ≡ before ++ presented_from proof.dict i (drop i query) (drop i proof.slots) left
-  pub right : All (IsListRight H (layout_of proof) proof.met) before
+  pub right : All (IsListRight H proof.format proof.met) before
   pub notes : AreNotes (length proof.met) (notes_of proof.header.documents before) (i + 1) [] marks
   pub rests : threshold ≡ threshold_of (map (index_lane proof.header.documents) before)
   pub enough : present_in (drop i proof.slots) ≡ length left
@@ -51,7 +51,7 @@ pub begins : (H : List ℕ → List ℕ) (query : List (List ℕ × ℕ)) (proof
 begins H query proof left terms marks all enough zeros none = record {
   before = [];
   stands = ap (λ (l : List Prefix). presented_from proof.dict 0 query proof.slots l) (sym all);
-  right = All-nil (IsListRight H (layout_of proof) proof.met);
+  right = All-nil (IsListRight H proof.format proof.met);
   notes = record {
     size = ap (λ (m : List Mark). length m) zeros ∙ length-replicate (length proof.met) zero_mark;
     each = λ (i : ℕ) (low : i < length proof.met).
@@ -86,7 +86,7 @@ passes_absent H query proof i left after terms threshold marks p step enough =
 pub passes_present : (H : List ℕ → List ℕ) (query : List (List ℕ × ℕ)) (proof : Proof) (i : ℕ) (left after : List Prefix) (terms terms' : List PresentTerm) (threshold most : ℕ) (one : Presented) (marks next : List Mark)
     → IsPassed H query proof i left terms threshold marks
     → presented_from proof.dict i (drop i query) (drop i proof.slots) left ≡ one ∷ presented_from proof.dict (i + 1) (drop (i + 1) query) (drop (i + 1) proof.slots) after
-    → IsListRight H (layout_of proof) proof.met one
+    → IsListRight H proof.format proof.met one
     → ((notes : List Note) → AreNotes (length proof.met) notes (i + 1) [] marks → AreNotes (length proof.met) (notes ++ lane_notes (index_lane proof.header.documents one)) (i + 2) [] next)
     → most ≡ rest (index_lane proof.header.documents one) → most ≤ 2 ^ 33 → terms' ≡ terms ++ kept_term proof.header.documents one ∷ []
     → present_in (drop (i + 1) proof.slots) ≡ length after → IsPassed H query proof (i + 1) after terms' (threshold + most) next
@@ -104,7 +104,7 @@ passes_present H query proof i left after terms terms' threshold most one marks 
     record {
       before = p.before ++ one ∷ [];
       stands = p.stands ∙ ap (λ (l : List Presented). p.before ++ l) step ∙ sym (append_assoc p.before (one ∷ []) _);
-      right = All-append (IsListRight H (layout_of proof) proof.met) p.before (one ∷ []) p.right (All-cons (IsListRight H (layout_of proof) proof.met) one [] right (All-nil (IsListRight H (layout_of proof) proof.met)));
+      right = All-append (IsListRight H proof.format proof.met) p.before (one ∷ []) p.right (All-cons (IsListRight H proof.format proof.met) one [] right (All-nil (IsListRight H proof.format proof.met)));
       notes = subst (λ k. AreNotes (length proof.met) (notes_of n (p.before ++ one ∷ [])) k [] next) number
           (subst (λ m. AreNotes (length proof.met) m (i + 2) [] next) notes (noted (notes_of n p.before) p.notes));
       rests = omega (arith, rests, is, lanes, last);
@@ -116,7 +116,7 @@ passes_present H query proof i left after terms terms' threshold most one marks 
 
 -- all terms are checked
 pub record IsDone (H : List ℕ → List ℕ) (query : List (List ℕ × ℕ)) (proof : Proof) (terms : List PresentTerm) (threshold : ℕ) (marks : List Mark) : Type 0 where
-  pub right : All (IsListRight H (layout_of proof) proof.met) (presented query proof)
+  pub right : All (IsListRight H proof.format proof.met) (presented query proof)
   pub list : ℕ
   pub notes : AreNotes (length proof.met) (notes_of proof.header.documents (presented query proof)) list [] marks
   pub few : list ≤ 33
@@ -133,7 +133,7 @@ done H query proof i left terms threshold marks p all few =
     p.stands ∙ ap (λ (q : List (List ℕ × ℕ)). p.before ++ presented_from proof.dict i q (drop i proof.slots) left) nothing ∙ append-nil p.before in
     let small = p.small in
     record {
-      right = subst (λ l. All (IsListRight H (layout_of proof) proof.met) l) (sym same) p.right;
+      right = subst (λ l. All (IsListRight H proof.format proof.met) l) (sym same) p.right;
       list = i + 1;
       notes = subst (λ l. AreNotes (length proof.met) (notes_of n l) (i + 1) [] marks) (sym same) p.notes;
       few = omega arith;
@@ -144,15 +144,15 @@ done H query proof i left terms threshold marks p all few =
 
 -- ---- what the marks then say
 
-named_of : (H : List ℕ → List ℕ) (layout : Layout) (met : List ℕ) (terms : List Presented) → All (IsListRight H layout met) terms → All (λ (one : Presented). AreNames (length met) (indexes_of one.prefix.entries)) terms
-named_of H layout met terms all k d low = (all k d low).names
+named_of : (H : List ℕ → List ℕ) (format : Format) (met : List ℕ) (terms : List Presented) → All (IsListRight H format met) terms → All (λ (one : Presented). AreNames (length met) (indexes_of one.prefix.entries)) terms
+named_of H format met terms all k d low = (all k d low).names
 
 pub marks_done : (H : List ℕ → List ℕ) (query : List (List ℕ × ℕ)) (proof : Proof) (terms : List PresentTerm) (threshold : ℕ) (marks : List Mark) → IsStrictlyIncreasing proof.met
     → IsDone H query proof terms threshold marks → AreMarks bracket (lanes_of query proof) proof.met marks
 marks_done H query proof terms threshold marks rises d =
     let n : ℕ = proof.header.documents in
     let ones : List Presented = presented query proof in
-    let all = named_of H (layout_of proof) proof.met ones d.right in
+    let all = named_of H proof.format proof.met ones d.right in
     let notes = d.notes in
     let few = d.few in
     record {

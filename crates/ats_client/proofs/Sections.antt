@@ -7,36 +7,40 @@ use Rattle.std.specs.Int.{to_be_bytes, w16, w32}
 use Rattle.std.proofs.lemmas.List.{length-append}
 use Rattle.std.proofs.lemmas.Simd.{map-map}
 use Rattle.std.proofs.lemmas.List.Elements.{All-nil, All-cons, All-head, All-tail}
-use Rattle.ats_tree.specs.Differences.{Hashed, moved, Difference, collision_or, first_collision}
+use Rattle.ats_tree.specs.Differences.{Hashed, moved, Difference, IsOurs, collision_or, first_collision}
 use Rattle.ats_tree.specs.Nodes.{Node, NodeNumbers, by_path, numbers_of}
 use Rattle.ats_tree.specs.Paths.{Path, path_of}
 use Rattle.ats_tree.specs.Rebuild.{rebuilt}
 use Rattle.ats_tree.specs.Shown as tree
-use Rattle.ats_tree.specs.Strings.{string_at, node_string}
+use Rattle.ats_tree.specs.Strings.{string_at, node_string, node_strings}
 use Rattle.ats_tree.specs.Tree as trees
 use Rattle.ats_tree.specs.Clashes as nodes
 use Rattle.ats_tree.specs.declared.clashing.Clash as found
 use Rattle.ats_tree.specs.declared.hashed.Place.{Place}
 use Rattle.ats_tree.specs.declared.hashed.Tree.{Tree}
 use Rattle.ats_tree.specs.declared.hashed.Tree.TheVariants.{Header, Dictionary, List as ListOf, Documents as DocumentsTree, Terms}
-use Rattle.ats_tree.proofs.Public.{collision-append, collision-moved, collides-is, collides-not, numbers-back}
+use Rattle.ats_tree.proofs.Public.{collision-append, collision-moved, moved_collision, collides-is, collides-not, numbers-back, own-none}
 use Rattle.ats_lists.specs.declared.entry.Entry.{Entry}
 use Rattle.ats_lists.specs.Formats.{list_string}
 use Rattle.ats_lists.specs.Leaf.{leaf_bytes}
+use Rattle.ats_lists.specs.Lists.{list}
+use Rattle.ats_lists.proofs.Public.{list-tagged}
 use Rattle.ats_dict.specs.Entry.{dict_leaf_bytes}
 use Rattle.ats_dict.specs.declared.header.Header.{Header as Numbers}
 use Rattle.ats_doctree.specs.declared.doc_leaf.DocLeaf.{DocLeaf}
 use Rattle.ats_doctree.specs.DocumentLeaf.{doc_leaf_bytes}
 use Rattle.ats_doctree.specs.Sentinels as terms
-use Rattle.ats_lists.specs.Layout.{Layout, whole_lists}
-use Rattle.ats_commit.specs.Archive.{Archive, format_of}
-use Rattle.ats_commit.specs.Ours.{own_leaves, own_header, own_string, ours}
+use Rattle.ats_lists.specs.declared.format.Format.TheVariants.{One}
+use Rattle.ats_commit.specs.Archive.{Archive}
+use Rattle.ats_commit.specs.Ours.{asked_term, own_leaves, own_header, own_string, ours}
+use Rattle.ats_commit.specs.OwnShown.{tree_strings}
 use Rattle.ats_commit.specs.Places.{in_tree, numbers_at}
-use Rattle.ats_proof.specs.Value.{ShownEntry, ShownTerm, Documents, Proof, layout_of}
+use Rattle.ats_proof.specs.Value.{ShownEntry, ShownTerm, Documents, Proof}
 use Rattle.ats_proof.specs.Ranges.{IsShownInRange, IsTermInRange, IsDocLeafInRange}
 use Rattle.ats_proof.specs.Runs.{shown_entry, shown_term, shown_docs, shown_list, named}
 use Rattle.ats_client.specs.Documents.{documents_from, AreDocsRooted}
 use Rattle.ats_client.specs.Presented.{presented}
+use Rattle.ats_client.specs.Sections.{difference_in}
 use Rattle.ats_client.specs.Strings.{hashed_header, strings_in, list_strings, terms_strings, documents_strings, extract}
 
 -- ---- strings of an archive's own have a tag
@@ -55,8 +59,10 @@ string-tagged H (trees.node l r) (true ∷ path) = string-tagged H r path
 node-tagged : (H : List ℕ → List ℕ) (leaves : List (List ℕ)) (node : Node) → IsTagged (node_string H leaves node)
 node-tagged H leaves (by_path path) = string-tagged H (trees.tree_of leaves) path
 
-list-tagged : (H : List ℕ → List ℕ) (layout : Layout) (entries : List Entry) (at : NodeNumbers) → IsTagged (list_string H (format_of layout) entries at)
-list-tagged H whole_lists entries at = node-tagged H (map leaf_bytes entries) (by_path (path_of at.depth at.turns))
+-- a tag is a byte
+tag-there : (o : Option (List ℕ)) → IfSome o (λ text. (tag : ℕ) × (rest : List ℕ) × (tag ≤ 3) × (text ≡ tag ∷ rest)) → IsTagged o
+tag-there None is = tt
+tag-there (Some text) is = subst (λ (t : List ℕ). 0 < length t) (sym is.3) (omega arith)
 
 header-tagged : (H : List ℕ → List ℕ) (archive : Archive) (depth : ℕ) → IsTagged (own_header H archive depth)
 header-tagged H archive zero = omega arith
@@ -65,7 +71,9 @@ header-tagged H archive (suc depth) = tt
 own-tagged : (H : List ℕ → List ℕ) (archive : Archive) (query : List (List ℕ × ℕ)) (tree : Tree) (at : NodeNumbers) → IsTagged (own_string H archive query tree at)
 own-tagged H archive query Header at = header-tagged H archive at.depth
 own-tagged H archive query Dictionary at = node-tagged H (own_leaves H archive query Dictionary) (by_path (path_of at.depth at.turns))
-own-tagged H archive query (ListOf term) at = list-tagged H archive.layout _ at
+own-tagged H archive query (ListOf term) at =
+    let entries : List Entry = list archive.texts (asked_term query term)
+    in tag-there (list_string H archive.format entries at) (list-tagged H archive.format entries at)
 own-tagged H archive query DocumentsTree at = node-tagged H (own_leaves H archive query DocumentsTree) (by_path (path_of at.depth at.turns))
 own-tagged H archive query (Terms doc) at = node-tagged H (own_leaves H archive query (Terms doc)) (by_path (path_of at.depth at.turns))
 
@@ -95,13 +103,33 @@ in_one_tree H own tree ss found is =
     ∙ sym (collision-moved H (λ node. in_tree tree (numbers_of node)) own ss)
     ∙ sym (ap (first_collision H own) (map-map (moved (in_tree tree)) (moved numbers_of) ss))
 
+-- the collision that is found by numbers, as one of the whole proof
+pub in_one_list : (H : List ℕ → List ℕ) (own : Place → Option (List ℕ)) (tree : Tree) (ss : List (Hashed NodeNumbers)) (found : Option (Difference NodeNumbers))
+    → found ≡ first_collision H (λ at. own (in_tree tree at)) ss
+    → option_map (moved_collision (in_tree tree)) found ≡ first_collision H own (map (moved (in_tree tree)) ss)
+in_one_list H own tree ss found is = ap (option_map (moved_collision (in_tree tree))) is ∙ sym (collision-moved H (in_tree tree) own ss)
+
 -- the place of a clash, by the numbers that it has
 pub clash_placed : (tree : Tree) (clash : found.Clash) → clash.turns < 2 ^ clash.depth
-    → Some (let c : Difference Place = record { place = record { tree = tree; depth = clash.depth; turns = clash.turns }; ours = clash.ours; theirs = clash.theirs } in c)
-    ≡ Some (placed_in tree (nodes.difference_of clash))
+    → Some (difference_in tree clash) ≡ Some (placed_in tree (nodes.difference_of clash))
 clash_placed tree clash inside =
     ap (λ (at : NodeNumbers). Some (let c : Difference Place = record { place = in_tree tree at; ours = clash.ours; theirs = clash.theirs } in c))
     (sym (numbers-back clash.depth clash.turns inside))
+
+-- in the first format each list is one tree, as all other trees are
+pub one_tree_strings : (H : List ℕ → List ℕ) (place : Tree) (n : ℕ) (shown : List tree.Shown) (digests : List (List ℕ))
+    → tree_strings H One place n shown digests ≡ map (moved numbers_of) (node_strings H n shown digests)
+one_tree_strings H Header n shown digests = refl
+one_tree_strings H Dictionary n shown digests = refl
+one_tree_strings H (ListOf term) n shown digests = refl
+one_tree_strings H DocumentsTree n shown digests = refl
+one_tree_strings H (Terms doc) n shown digests = refl
+
+-- a tree whose strings are all the archive's own has no collision
+pub none_in_own : (H : List ℕ → List ℕ) (archive : Archive) (query : List (List ℕ × ℕ)) (tree : Tree) (ss : List (Hashed NodeNumbers))
+    → All (IsOurs (λ at. ours H archive query (in_tree tree at))) ss → None ≡ first_collision H (ours H archive query) (map (moved (in_tree tree)) ss)
+none_in_own H archive query tree ss own =
+    in_one_list H (ours H archive query) tree ss None (sym (own-none H (λ at. ours H archive query (in_tree tree at)) ss own))
 
 -- ---- the header
 
@@ -127,16 +155,16 @@ header_absent H o s none = ap (λ (p : Option (List ℕ)). collision_or H p s No
 
 pub extract-parts : (H : List ℕ → List ℕ) (archive : Archive) (query : List (List ℕ × ℕ)) (proof : Proof)
     (header dictionary lists documents : Option (Difference Place))
-    → header ≡ first_collision H (ours H archive query) (hashed_header (layout_of proof) proof.header ∷ [])
+    → header ≡ first_collision H (ours H archive query) (hashed_header proof.format proof.header ∷ [])
     → dictionary ≡ first_collision H (ours H archive query) (strings_in H Dictionary proof.header.dict_leaves (map shown_entry proof.dict) proof.dict_digests)
-    → lists ≡ first_collision H (ours H archive query) (flat_map (list_strings H (layout_of proof) proof.met) (presented query proof))
+    → lists ≡ first_collision H (ours H archive query) (flat_map (list_strings H proof.format proof.met) (presented query proof))
     → documents ≡ first_collision H (ours H archive query) (documents_strings H proof.header proof.met proof.docs)
     → option_or header (option_or dictionary (option_or lists documents)) ≡ extract H archive query proof
 extract-parts H archive query proof header dictionary lists documents in_header in_dictionary in_lists in_documents =
     let own : Place → Option (List ℕ) = ours H archive query
-    in let a : List (Hashed Place) = hashed_header (layout_of proof) proof.header ∷ []
+    in let a : List (Hashed Place) = hashed_header proof.format proof.header ∷ []
     in let b : List (Hashed Place) = strings_in H Dictionary proof.header.dict_leaves (map shown_entry proof.dict) proof.dict_digests
-    in let c : List (Hashed Place) = flat_map (list_strings H (layout_of proof) proof.met) (presented query proof)
+    in let c : List (Hashed Place) = flat_map (list_strings H proof.format proof.met) (presented query proof)
     in let d : List (Hashed Place) = documents_strings H proof.header proof.met proof.docs
     in ap₂ option_or in_header (ap₂ option_or in_dictionary (ap₂ option_or in_lists in_documents))
     ∙ sym (

@@ -2,7 +2,7 @@
 use Rattle.std.specs.Prelude.{◌≡◌, ℕ, List}
 use Rattle.ats_impact.specs.declared.rank.Row.{Row}
 use Rattle.ats_grammar.specs.Front.{IsBad}
-use Rattle.ats_grammar.specs.Grammar.{proof_format}
+use Rattle.ats_grammar.specs.Grammar.{proof_schema}
 use Rattle.ats_proof.specs.Value.{Proof, IsProof}
 use Rattle.ats_client.specs.Accepts.{Accepts, IsFirstRefusal}
 use Rattle.ats_client.specs.Headline.{IsTopOrCollides}
@@ -26,7 +26,7 @@ pub record AreVerifiedRows (H : List ℕ → List ℕ) (root : List ℕ) (query 
 
 -- the bytes are rejected for this reason, under the root for the query: their shape first, then the rules
 abbrev pub IsRejectedBytes : (List ℕ → List ℕ) → List ℕ → List (List ℕ × ℕ) → ℕ → List ℕ → Rejection → Type 0
-IsRejectedBytes H root query r bytes (Shape fault) = IsBad proof_format bytes fault
+IsRejectedBytes H root query r bytes (Shape fault) = IsBad proof_schema bytes fault
 IsRejectedBytes H root query r bytes (Check refusal) = (proof : Proof) × IsProof bytes proof × IsFirstRefusal H root query r proof refusal
 
 -- why no rows were returned; out of memory needs no cause in the bytes

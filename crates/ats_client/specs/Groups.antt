@@ -4,16 +4,15 @@ use Rattle.std.specs.List.{All}
 use Rattle.ats_tree.specs.Rebuild.{rebuilt}
 use Rattle.ats_lists.specs.declared.entry.Entry.{Entry}
 use Rattle.ats_lists.specs.Formats.{prefix_root}
-use Rattle.ats_lists.specs.Layout.{Layout}
+use Rattle.ats_lists.specs.declared.format.Format.{Format}
 use Rattle.ats_commit.specs.Ours.{asked_term}
-use Rattle.ats_commit.specs.Archive.{format_of}
 use Rattle.ats_commit.specs.Root.{header_root}
 use Rattle.ats_proof.specs.declared.record.Slot.{Slot}
 use Rattle.ats_bound.specs.declared.bracket.Bracket.{Bracket}
 use Rattle.ats_bound.specs.Cut.{ShownLane, IsMet, threshold}
 use Rattle.ats_bound.specs.Schedule.{Bounding}
 use Rattle.ats_bound.specs.Settled.{IsSettled}
-use Rattle.ats_proof.specs.Value.{ShownEntry, Proof, layout_of}
+use Rattle.ats_proof.specs.Value.{ShownEntry, Proof}
 use Rattle.ats_proof.specs.Runs.{shown_entry, shown_list}
 use Rattle.ats_client.specs.declared.refusal.Refusal.{Refusal}
 use Rattle.ats_client.specs.declared.refusal.Refusal.TheVariants.{OtherRoot, SlotCount, DictMisfit, DictRoot, SlotWrong, IndexOut, Repeated, ListMisfit, ListRoot, Unmet, AnswerOut, AnswerRepeated, NotSettled}
@@ -31,13 +30,13 @@ pub record IsOther (digest : Option (List ℕ)) (root : List ℕ) : Type 0 where
 -- ---- the root, and the number of slots
 
 pub record IsOpened (H : List ℕ → List ℕ) (root : List ℕ) (query : List (List ℕ × ℕ)) (proof : Proof) : Type 0 where
-  pub commits : header_root H (layout_of proof) proof.header ≡ root
+  pub commits : header_root H proof.format proof.header ≡ root
   pub slots : length proof.slots ≡ length query
 
 abbrev pub IsOpeningFault : (List ℕ → List ℕ) → List ℕ → List (List ℕ × ℕ) → Proof → Refusal → Type 0
-IsOpeningFault H root query proof OtherRoot = header_root H (layout_of proof) proof.header ≢ root
+IsOpeningFault H root query proof OtherRoot = header_root H proof.format proof.header ≢ root
 IsOpeningFault H root query proof (SlotCount shown) =
-    (header_root H (layout_of proof) proof.header ≡ root) × (shown ≡ length proof.slots) × (shown ≢ length query)
+    (header_root H proof.format proof.header ≡ root) × (shown ≡ length proof.slots) × (shown ≢ length query)
 IsOpeningFault H root query proof _ = ⊥
 
 -- ---- the dictionary
@@ -86,21 +85,21 @@ abbrev pub indexes_of : List Entry → List ℕ
 indexes_of entries = map (λ (entry : Entry). entry.doc) entries
 
 -- the digest that the prefix of a present term rebuilds to, in a list of the length that its dictionary entry gives
-abbrev pub list_digest : (List ℕ → List ℕ) → Layout → List ℕ → Presented → Option (List ℕ)
-list_digest H layout met term =
-    prefix_root H (format_of layout) term.entry.f (shown_list 0 met term.prefix.entries) term.prefix.digests
+abbrev pub list_digest : (List ℕ → List ℕ) → Format → List ℕ → Presented → Option (List ℕ)
+list_digest H format met term =
+    prefix_root H format term.entry.f (shown_list 0 met term.prefix.entries) term.prefix.digests
 
 -- that digest is the root of the list in the dictionary
-abbrev pub IsListRooted : (List ℕ → List ℕ) → Layout → List ℕ → Presented → Type 0
-IsListRooted H layout met term = list_digest H layout met term ≡ Some term.entry.root
+abbrev pub IsListRooted : (List ℕ → List ℕ) → Format → List ℕ → Presented → Type 0
+IsListRooted H format met term = list_digest H format met term ≡ Some term.entry.root
 
 -- its entries name met documents, each once, and it is the front of the list in the dictionary
-pub record IsListRight (H : List ℕ → List ℕ) (layout : Layout) (met : List ℕ) (term : Presented) : Type 0 where
+pub record IsListRight (H : List ℕ → List ℕ) (format : Format) (met : List ℕ) (term : Presented) : Type 0 where
   pub names : AreNames (length met) (indexes_of term.prefix.entries)
-  pub root : IsListRooted H layout met term
+  pub root : IsListRooted H format met term
 
 abbrev pub AreListsRight : (List ℕ → List ℕ) → List (List ℕ × ℕ) → Proof → Type 0
-AreListsRight H query proof = All (IsListRight H (layout_of proof) proof.met) (presented query proof)
+AreListsRight H query proof = All (IsListRight H proof.format proof.met) (presented query proof)
 
 -- the first entry of a prefix that fails
 abbrev pub IsEntryFault : ℕ → Presented → Refusal → Type 0
@@ -109,25 +108,25 @@ IsEntryFault met one (Repeated term entry) = (term ≡ one.number) × IsAgain me
 IsEntryFault met one _ = ⊥
 
 -- why it is not the front of the list in the dictionary
-abbrev pub IsListRootFault : (List ℕ → List ℕ) → Layout → List ℕ → Presented → Refusal → Type 0
-IsListRootFault H layout met one (ListMisfit term) = (term ≡ one.number) × (list_digest H layout met one ≡ None)
-IsListRootFault H layout met one (ListRoot term) = (term ≡ one.number) × IsOther (list_digest H layout met one) one.entry.root
-IsListRootFault H layout met one _ = ⊥
+abbrev pub IsListRootFault : (List ℕ → List ℕ) → Format → List ℕ → Presented → Refusal → Type 0
+IsListRootFault H format met one (ListMisfit term) = (term ≡ one.number) × (list_digest H format met one ≡ None)
+IsListRootFault H format met one (ListRoot term) = (term ≡ one.number) × IsOther (list_digest H format met one) one.entry.root
+IsListRootFault H format met one _ = ⊥
 
 -- the rules of one present term: its entries first, then its digest
-abbrev pub list_rules : (List ℕ → List ℕ) → Layout → List ℕ → Presented → List (Group Refusal)
-list_rules H layout met one =
+abbrev pub list_rules : (List ℕ → List ℕ) → Format → List ℕ → Presented → List (Group Refusal)
+list_rules H format met one =
     record { kept = AreNames (length met) (indexes_of one.prefix.entries); fault = IsEntryFault (length met) one }
-    ∷ record { kept = IsListRooted H layout met one; fault = IsListRootFault H layout met one }
+    ∷ record { kept = IsListRooted H format met one; fault = IsListRootFault H format met one }
     ∷ []
 
-abbrev pub IsListFault : (List ℕ → List ℕ) → Layout → List ℕ → Presented → Refusal → Type 0
-IsListFault H layout met one refusal = IsFirstFault (list_rules H layout met one) refusal
+abbrev pub IsListFault : (List ℕ → List ℕ) → Format → List ℕ → Presented → Refusal → Type 0
+IsListFault H format met one refusal = IsFirstFault (list_rules H format met one) refusal
 
 -- the first failure of the present terms, term by term
 abbrev pub IsListsFault : (List ℕ → List ℕ) → List (List ℕ × ℕ) → Proof → Refusal → Type 0
 IsListsFault H query proof refusal =
-    IsFirstOf (IsListRight H (layout_of proof) proof.met) (IsListFault H (layout_of proof) proof.met) (presented query proof) refusal
+    IsFirstOf (IsListRight H proof.format proof.met) (IsListFault H proof.format proof.met) (presented query proof) refusal
 
 -- ---- the met documents
 

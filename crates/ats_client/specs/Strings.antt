@@ -16,23 +16,23 @@ use Rattle.ats_dict.specs.Dictionary.{dict_leaves}
 use Rattle.ats_dict.specs.declared.header.Header.{Header as Numbers}
 use Rattle.ats_doctree.specs.Impacts.{doc_terms}
 use Rattle.ats_doctree.specs.Sentinels.{terms_leaves}
-use Rattle.ats_lists.specs.Layout.{Layout}
-use Rattle.ats_commit.specs.Archive.{Archive, format_of}
+use Rattle.ats_lists.specs.declared.format.Format.{Format}
+use Rattle.ats_commit.specs.Archive.{Archive}
 use Rattle.ats_commit.specs.Trees.{dictionary_of, documents_of}
 use Rattle.ats_commit.specs.Root.{header_string}
 use Rattle.ats_commit.specs.Ours.{asked_term, ours}
 use Rattle.ats_commit.specs.Places.{in_tree}
 use Rattle.ats_commit.specs.Own.{IsHeaderOf}
-use Rattle.ats_proof.specs.Value.{Documents, Proof, layout_of}
+use Rattle.ats_proof.specs.Value.{Documents, Proof}
 use Rattle.ats_proof.specs.Runs.{shown_entry, shown_list, shown_docs, shown_term}
 use Rattle.ats_client.specs.Presented.{Presented, presented}
 use Rattle.ats_client.specs.Documents.{MetDocument, documents_from}
 
 -- the string of a header, with its place
-abbrev pub hashed_header : Layout → Numbers → Hashed Place
-hashed_header layout header = record {
+abbrev pub hashed_header : Format → Numbers → Hashed Place
+hashed_header format header = record {
   place = record { tree = Header; depth = 0; turns = 0 };
-  text = header_string layout header;
+  text = header_string format header;
 }
 
 -- the strings of one tree of `leaves` leaves, in pre-order
@@ -41,10 +41,10 @@ strings_in H tree leaves shown digests =
     map (moved (in_tree tree)) (map (moved numbers_of) (node_strings H leaves shown digests))
 
 -- the strings of the shown front of a present term's list
-abbrev pub list_strings : (List ℕ → List ℕ) → Layout → List ℕ → Presented → List (Hashed Place)
-list_strings H layout met one =
+abbrev pub list_strings : (List ℕ → List ℕ) → Format → List ℕ → Presented → List (Hashed Place)
+list_strings H format met one =
     map (moved (in_tree (ListOf one.number)))
-    (prefix_strings H (format_of layout) one.entry.f (shown_list 0 met one.prefix.entries) one.prefix.digests)
+    (prefix_strings H format one.entry.f (shown_list 0 met one.prefix.entries) one.prefix.digests)
 
 -- the strings of what is shown of a met document's terms
 abbrev pub terms_strings : (List ℕ → List ℕ) → MetDocument → List (Hashed Place)
@@ -61,9 +61,9 @@ documents_strings H header met (Some docs) =
 -- those of the met documents, if the proof shows them
 abbrev pub strings_of : (List ℕ → List ℕ) → List (List ℕ × ℕ) → Proof → List (Hashed Place)
 strings_of H query proof =
-    hashed_header (layout_of proof) proof.header
+    hashed_header proof.format proof.header
     ∷ strings_in H Dictionary proof.header.dict_leaves (map shown_entry proof.dict) proof.dict_digests
-    ++ (flat_map (list_strings H (layout_of proof) proof.met) (presented query proof)
+    ++ (flat_map (list_strings H proof.format proof.met) (presented query proof)
     ++ documents_strings H proof.header proof.met proof.docs)
 
 -- the first of them that differs from the archive's own at its place and has an equal digest
@@ -89,7 +89,7 @@ pub record AreOwnDocuments (H : List ℕ → List ℕ) (texts : List (List ℕ))
 
 -- all that the proof shows is the archive's own
 pub record IsOwn (H : List ℕ → List ℕ) (archive : Archive) (query : List (List ℕ × ℕ)) (proof : Proof) : Type 0 where
-  pub layout : layout_of proof ≡ archive.layout
+  pub format : proof.format ≡ archive.format
   pub numbers : IsHeaderOf H archive proof.header
   pub terms : AreLeavesOf (dict_leaves (dictionary_of H archive)) (map shown_entry proof.dict)
   pub fronts : All (IsOwnList archive.texts query proof.met) (presented query proof)

@@ -1,20 +1,22 @@
 //! The first string of a proof that differs from an archive's own there and has the same digest.
 
 ghost use Rattle.std.specs.Prelude.{◌≡◌, ℕ, ◌+◌, ◌*◌, ◌^◌, ◌<◌, ◌≤◌, List, [], ◌∷◌, length, map, All, IsSome, IfOk, option_map};
-ghost use Rattle.std.specs.List.{flat_map};
-ghost use Rattle.ats_tree.specs.Differences.{first_collision};
+ghost use Rattle.std.specs.List.{flat_map, range_with_len};
+ghost use Rattle.ats_tree.specs.Differences.{first_collision, moved};
 ghost use Rattle.ats_tree.specs.Rebuild.{rebuilt};
+ghost use Rattle.ats_tree.specs.Shown.{positions_of};
+ghost use Rattle.ats_tree.specs.declared.hashed.Tree.TheVariants.{List as ListOf};
+ghost use Rattle.ats_lists.specs.ChainPrefix.{chain_rebuilt, chain_strings};
 ghost use Rattle.ats_commit.specs.Ours.{ours};
-ghost use Rattle.ats_commit.specs.Places.{IsOfQuery};
-ghost use Rattle.ats_proof.specs.Ranges.{IsSectionInRange, AreDocumentsInRange};
+ghost use Rattle.ats_commit.specs.Places.{in_tree, IsOfQuery};
+ghost use Rattle.ats_proof.specs.Ranges.{IsPrefixInRange, IsSectionInRange, AreDocumentsInRange};
 ghost use Rattle.ats_proof.specs.Runs.{shown_entry};
 ghost use Rattle.ats_proof.specs.SeenDocs.{documents_of, ids_of};
-ghost use Rattle.ats_proof.specs.Value.{layout_of};
 ghost use Rattle.ats_client.specs.Documents.{IsDocsTree, IsTermsTree, documents_from, met_documents};
 ghost use Rattle.ats_client.specs.Groups.{IsDictionary, AreSlotsRight, IsListRight, AreListsRight};
-ghost use Rattle.ats_client.specs.Lists.{presented_of};
+ghost use Rattle.ats_client.specs.Lists.{prefix_of, presented_of};
 ghost use Rattle.ats_client.specs.Presented.{presented};
-ghost use Rattle.ats_client.specs.Sections.{AreRebuilt, difference_of};
+ghost use Rattle.ats_client.specs.Sections.{AreRebuilt, difference_of, difference_in};
 ghost use Rattle.ats_client.specs.SeenTerms.{document_of};
 ghost use Rattle.ats_client.specs.Strings.{hashed_header, strings_in, list_strings, terms_strings, documents_strings, extract};
 
@@ -24,8 +26,9 @@ use crate::present::Present;
 use crate::presenting::present;
 use crate::taken::Taken;
 use crate::walk::Walk;
-use ats_commit::{OwnStrings, root_of_header, string_of_header};
+use ats_commit::{OwnStrings, root_of_header_in, string_of_header};
 use ats_hash::{Hash32, Steps};
+use ats_lists::{Format, chain_first_clash};
 use ats_proof::{DocView, DocsView, ProofView};
 use ats_terms::Query;
 use ats_tree::{HashedString, Place, Revealed, Tree, collides};
@@ -93,7 +96,7 @@ fn header<'a, H: Hash32, O: OwnStrings<H>>(
     requires room { steps.old ≤ 2 ^ 63 }
     ensures clash { option_map difference_of result
         ≡ first_collision H.hash (ours H.hash (O.archive own.now) query.now)
-        (hashed_header (layout_of proof.now) proof.now.header ∷ []) }
+        (hashed_header proof.now.format proof.now.header ∷ []) }
     ensures cost { steps.new ≤ steps.old + 2 }
 {
     let place = Place {
@@ -102,8 +105,9 @@ fn header<'a, H: Hash32, O: OwnStrings<H>>(
         turns: 0,
     };
     let header = proof.header();
-    let theirs = string_of_header(&header);
-    let digest = root_of_header::<H>(&header, steps);
+    let format = proof.format();
+    let theirs = string_of_header(format, &header);
+    let digest = root_of_header_in::<H>(format, &header, steps);
     match own.hashed_string(&place, query) {
         Some(ours) if collides::<H>(&ours, &theirs, &digest, steps) => Some(Clash {
             place,
@@ -114,7 +118,8 @@ fn header<'a, H: Hash32, O: OwnStrings<H>>(
     }
 }
 
-// The strings of one tree, which rebuilds.
+// The strings of one tree, which rebuilds. A list is one tree only in the first format; the other trees are the same in
+// both.
 fn in_tree<'a, H: Hash32, O: OwnStrings<H>, R: Revealed<'a> + Copy>(
     own: &O,
     query: &Query,
@@ -137,7 +142,7 @@ fn in_tree<'a, H: Hash32, O: OwnStrings<H>, R: Revealed<'a> + Copy>(
         lends: PhantomData,
     };
     // If it is all the archive's own, it need not be hashed.
-    if own.has_shown(tree, leaves, query, &mut taken) {
+    if own.has_shown(Format::One, tree, leaves, query, &mut taken) {
         return None;
     }
     let nodes: OneTree<'_, H, O> = OneTree {
@@ -147,15 +152,64 @@ fn in_tree<'a, H: Hash32, O: OwnStrings<H>, R: Revealed<'a> + Copy>(
         kind: PhantomData,
     };
     match ats_tree::first_clash::<H, R, _>(leaves, revealed, &nodes, steps) {
-        Some(clash) => Some(Clash {
-            place: Place {
-                tree,
-                depth: clash.depth,
-                turns: clash.turns,
-            },
-            ours: clash.ours,
-            theirs: clash.theirs,
-        }),
+        Some(clash) => Some(placed(tree, &clash)),
+        None => None,
+    }
+}
+
+// A clash of a tree, with its place.
+fn placed(tree: Tree, clash: &ats_tree::Clash) -> Clash
+    ensures { difference_of result ≡ difference_in tree clash.now }
+{
+    Clash {
+        place: Place {
+            tree,
+            depth: clash.depth,
+            turns: clash.turns,
+        },
+        ours: clash.ours,
+        theirs: clash.theirs,
+    }
+}
+
+// The strings of a list of `f` entries in blocks, which rebuilds from its first `k` entries.
+fn in_blocks<'a, H: Hash32, O: OwnStrings<H>, R: Revealed<'a> + Copy>(
+    own: &O,
+    query: &Query,
+    term: u8,
+    f: u32,
+    k: u32,
+    revealed: &mut R,
+    steps: &mut Steps,
+) -> Option<Clash>
+    requires asked { term < length query.now }
+    requires rebuilds { IsSome (chain_rebuilt H.hash f (R.shown revealed.old) (R.digests revealed.old)) }
+    requires few { k ≤ 65536 }
+    requires front { positions_of (R.shown revealed.old) ≡ range_with_len 0 k }
+    requires short { All (λ s. length s.1 ≤ 127) (R.shown revealed.old) }
+    requires room { steps.old ≤ 2 ^ 63 }
+    ensures clash { option_map difference_of result
+        ≡ first_collision H.hash (ours H.hash (O.archive own.now) query.now)
+        (map (moved (in_tree (ListOf term))) (chain_strings H.hash f (R.shown revealed.old) (R.digests revealed.old))) }
+    ensures cost { steps.new ≤ steps.old + 2 ^ 35 }
+{
+    let tree = Tree::List { term };
+    let mut taken = Taken {
+        section: *revealed,
+        lends: PhantomData,
+    };
+    // If it is all the archive's own, it need not be hashed.
+    if own.has_shown(Format::Two, tree, f, query, &mut taken) {
+        return None;
+    }
+    let list: OneTree<'_, H, O> = OneTree {
+        own,
+        query,
+        tree,
+        kind: PhantomData,
+    };
+    match chain_first_clash::<H, R, _>(f, k, revealed, &list, steps) {
+        Some(clash) => Some(placed(tree, &clash)),
         None => None,
     }
 }
@@ -191,17 +245,25 @@ fn list<'a, H: Hash32, O: OwnStrings<H>>(
 ) -> Option<Clash>
     requires number { one.now.number < length query.now }
     requires few { one.now.number < 32 }
-    requires right { IsListRight H.hash (layout_of proof.now) proof.now.met (presented_of one.now) }
+    requires range { IsPrefixInRange (prefix_of one.now.list) }
+    requires right { IsListRight H.hash proof.now.format proof.now.met (presented_of one.now) }
     requires room { steps.old ≤ 2 ^ 63 }
     ensures clash { option_map difference_of result ≡ first_collision H.hash (ours H.hash (O.archive own.now) query.now)
-        (list_strings H.hash (layout_of proof.now) proof.now.met (presented_of one.now)) }
+        (list_strings H.hash proof.now.format proof.now.met (presented_of one.now)) }
     ensures cost { steps.new ≤ steps.old + 2 ^ 35 }
 {
-    let tree = Tree::List {
-        term: one.number as u8,
-    };
+    let term = one.number as u8;
+    let f = one.entry.f;
     let mut section = one.list.revealed(proof);
-    in_tree::<H, O, _>(own, query, tree, one.entry.f, &mut section, steps)
+    match proof.format() {
+        Format::One => {
+            let tree = Tree::List { term };
+            in_tree::<H, O, _>(own, query, tree, f, &mut section, steps)
+        }
+        Format::Two => {
+            in_blocks::<H, O, _>(own, query, term, f, one.list.len(), &mut section, steps)
+        }
+    }
 }
 
 // The strings of the prefixes of all present terms.
@@ -216,7 +278,7 @@ fn lists<'a, H: Hash32, O: OwnStrings<H>>(
     requires right { AreListsRight H.hash query.now proof.now }
     requires room { steps.old ≤ 2 ^ 62 }
     ensures clash { option_map difference_of result ≡ first_collision H.hash (ours H.hash (O.archive own.now) query.now)
-        (flat_map (list_strings H.hash (layout_of proof.now) proof.now.met) (presented query.now proof.now)) }
+        (flat_map (list_strings H.hash proof.now.format proof.now.met) (presented query.now proof.now)) }
     ensures cost { steps.new ≤ steps.old + 2 ^ 41 }
 {
     proof.is_spelled();

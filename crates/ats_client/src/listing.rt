@@ -1,9 +1,12 @@
 //! Checks one prefix against the list that the dictionary names.
 
 ghost use Rattle.std.specs.Prelude.{◌≡◌, ◌<◌, ◌≤◌, ◌+◌, ◌*◌, ◌^◌, ◌++◌, List, [], Some, length, OnOk, IfOk, IfErr};
-ghost use Rattle.std.specs.List.{All};
+ghost use Rattle.std.specs.List.{All, range_with_len};
+ghost use Rattle.ats_tree.specs.Shown.{positions_of};
 ghost use Rattle.ats_bound.specs.Cut.{rest};
-ghost use Rattle.ats_proof.specs.Value.{layout_of, items_of_prefix};
+ghost use Rattle.ats_lists.specs.Formats.{prefix_root};
+ghost use Rattle.ats_proof.specs.Ranges.{IsPrefixInRange};
+ghost use Rattle.ats_proof.specs.Value.{items_of_prefix};
 ghost use Rattle.ats_client.specs.Groups.{IsListRight, IsListFault, IsListRootFault, list_digest};
 ghost use Rattle.ats_client.specs.Noting.{Note, AreNotes, index_lane, lane_notes};
 ghost use Rattle.ats_client.specs.Lists.{prefix_of, presented_of};
@@ -15,7 +18,33 @@ use crate::present::Present;
 use crate::refusal::Refusal;
 use ats_bound::Work;
 use ats_hash::{Hash32, Steps};
+use ats_lists::{Format, chain_rebuild};
 use ats_proof::ProofView;
+use ats_tree::Revealed;
+
+// The digest that the first `k` entries of a list of `f` entries rebuild to, by how the list is hashed, `None` if they are
+// no part of such a list.
+fn rebuilt_list<'a, H: Hash32, R: Revealed<'a>>(
+    format: Format,
+    f: u32,
+    k: u32,
+    revealed: &mut R,
+    steps: &mut Steps,
+) -> Option<[u8; 32]>
+    requires some { 1 ≤ k }
+    requires few { k ≤ 65536 }
+    requires front { positions_of (R.shown revealed.old) ≡ range_with_len 0 k }
+    requires size { length (R.shown revealed.old) ≡ k }
+    requires room { steps.old ≤ 2 ^ 63 }
+    ensures digest { result ≡ prefix_root H.hash format f (R.shown revealed.old) (R.digests revealed.old) }
+    ensures cost { steps.new ≤ steps.old + 3 * f + 1 }
+    ensures most { steps.new ≤ steps.old + 3 * k + 2 * length (R.digests revealed.old) + 1 }
+{
+    match format {
+        Format::One => rebuilt::<H, R>(f, revealed, steps),
+        Format::Two => chain_rebuild::<H, R>(f, k, revealed, steps),
+    }
+}
 
 // Checks that the prefix is the front of the list that its term's leaf names.
 #[tactic(auto, using(crate::proofs::Counts::shown_list_size), unfolding(crate::specs::Lists::prefix_of))]
@@ -25,17 +54,24 @@ fn rooted<'a, H: Hash32>(
     steps: &mut Steps,
 ) -> Result<(), Refusal>
     requires named { All (λ e. e.doc < length proof.now.met) (prefix_of one.now.list).entries }
+    requires range { IsPrefixInRange (prefix_of one.now.list) }
     requires room { steps.old ≤ 2 ^ 63 }
     ensures kept { OnOk result
-        (list_digest H.hash (layout_of proof.now) proof.now.met (presented_of one.now)
+        (list_digest H.hash proof.now.format proof.now.met (presented_of one.now)
         ≡ Some (presented_of one.now).entry.root) }
-    ensures fault { IfErr result (IsListRootFault H.hash (layout_of proof.now) proof.now.met (presented_of one.now)) }
+    ensures fault { IfErr result (IsListRootFault H.hash proof.now.format proof.now.met (presented_of one.now)) }
     ensures cost { steps.new ≤ steps.old + 2 ^ 34 }
     ensures most { steps.new
         ≤ steps.old + 3 * length (prefix_of one.now.list).entries + 2 * length (prefix_of one.now.list).digests + 1 }
 {
     let mut section = one.list.revealed(proof);
-    let Some(digest) = rebuilt::<H, _>(one.entry.f, &mut section, steps) else {
+    let Some(digest) = rebuilt_list::<H, _>(
+        proof.format(),
+        one.entry.f,
+        one.list.len(),
+        &mut section,
+        steps,
+    ) else {
         return Err(Refusal::ListMisfit { term: one.number });
     };
     if digest != one.entry.list_root {
@@ -54,13 +90,14 @@ pub(crate) fn list<'a, H: Hash32>(
     steps: &mut Steps,
 ) -> Result<u64, Refusal>
     requires number { one.now.number < 32 }
+    requires range { IsPrefixInRange (prefix_of one.now.list) }
     requires coefficient { coefficient ≡ (kept_term proof.now.header.documents (presented_of one.now)).coefficient }
     requires small { coefficient ≤ 2 ^ 17 }
     requires notes { (notes : List Note)
         × AreNotes (length proof.now.met) notes (one.now.number + 1) [] work.old.marks }
     requires room { steps.old ≤ 2 ^ 62 + 2 ^ 45 }
-    ensures fault { IfErr result (IsListFault H.hash (layout_of proof.now) proof.now.met (presented_of one.now)) }
-    ensures right { OnOk result (IsListRight H.hash (layout_of proof.now) proof.now.met (presented_of one.now)) }
+    ensures fault { IfErr result (IsListFault H.hash proof.now.format proof.now.met (presented_of one.now)) }
+    ensures right { OnOk result (IsListRight H.hash proof.now.format proof.now.met (presented_of one.now)) }
     ensures notes { OnOk result
         ((notes : List Note) → AreNotes (length proof.now.met) notes (one.now.number + 1) [] work.old.marks
         → AreNotes (length proof.now.met)

@@ -6,7 +6,7 @@ ghost use Rattle.ats_terms.specs.Query.{IsQuery};
 ghost use Rattle.ats_client.specs.Groups.{IsOpened, IsOpeningFault, IsDictionary, IsDictFault};
 
 use crate::refusal::Refusal;
-use ats_commit::root_of_header;
+use ats_commit::root_of_header_in;
 use ats_hash::{Hash32, Steps};
 use ats_proof::ProofView;
 use ats_terms::Query;
@@ -29,7 +29,7 @@ pub(crate) fn rebuilt<'a, H: Hash32, R: Revealed<'a>>(
     rebuild::<H, R>(n, revealed, steps).ok()
 }
 
-/// Checks that the header has this root, and that the proof has as many slots as the query has terms.
+/// Checks that the header has this root in the format of the proof, and that the proof has as many slots as the query has terms.
 pub(crate) fn opened<H: Hash32>(
     root: &[u8; 32],
     query: &Query,
@@ -42,7 +42,7 @@ pub(crate) fn opened<H: Hash32>(
     ensures fault { IfErr result (IsOpeningFault H.hash root.now query.now proof.now) }
     ensures cost { steps.new ≤ steps.old + 1 }
 {
-    if root_of_header::<H>(&proof.header(), steps) != *root {
+    if root_of_header_in::<H>(proof.format(), &proof.header(), steps) != *root {
         return Err(Refusal::OtherRoot);
     }
     let shown = proof.terms();

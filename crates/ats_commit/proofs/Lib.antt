@@ -2,7 +2,6 @@ pub mod Public
 mod DictionaryLemmas
 mod HeaderLemmas
 mod TermLemmas
-mod Layouts
 mod PrefixLemmas
 mod OwnHeader
 mod OwnLeaves

@@ -1,16 +1,25 @@
 -- A header with the bytes of an archive's own has the archive's numbers and roots.
-use Rattle.std.proofs.Common.{◌≡◌, ◌∙◌, ℕ, List, length, sym, subst}
+use Rattle.std.proofs.Common.{◌≡◌, ◌∙◌, ℕ, List, length, refl, sym, subst, arith}
 use Rattle.ats_tree.specs.Tree.{mth}
 use Rattle.ats_dict.specs.Dictionary.{dict_leaves}
 use Rattle.ats_dict.specs.Header.{header_bytes, IsHeader}
 use Rattle.ats_dict.specs.declared.header.Header.{Header}
 use Rattle.ats_dict.proofs.Public.{AreParts, parts}
-use Rattle.ats_commit.specs.Archive.{Archive}
+use Rattle.ats_lists.specs.declared.format.Format.{Format}
+use Rattle.ats_lists.specs.declared.format.Format.TheVariants.{One, Two}
+use Rattle.ats_commit.specs.Archive.{Archive, header_tag}
 use Rattle.ats_commit.specs.Trees.{dictionary_of, documents_of}
 use Rattle.ats_commit.specs.Root.{header_of}
 use Rattle.ats_commit.specs.Own.{AreTexts, IsHeaderOf}
 use Rattle.ats_commit.proofs.HeaderLemmas.{header_in_range}
 use Rattle.ats_commit.proofs.TermLemmas.{few_within}
+
+-- each format has a tag of its own
+pub same_format : (a b : Format) → header_tag a ≡ header_tag b → a ≡ b
+same_format One One same = refl
+same_format One Two same = absurd (omega arith)
+same_format Two One same = absurd (omega arith)
+same_format Two Two same = refl
 
 -- both headers are in range, so that equal bytes have equal parts
 pub own_header : (H : List ℕ → List ℕ) → ((bytes : List ℕ) → length (H bytes) ≡ 32) → (archive : Archive) (header : Header) → AreTexts archive.texts

@@ -12,12 +12,10 @@ pub use Rattle.ats_commit.proofs.DictionaryLemmas.{dictionary_terms}
 pub use Rattle.ats_commit.proofs.HeaderLemmas.{header_in_range}
 -- texts in UTF-8 within the limits of a collection have at most 2^24 term occurrences
 pub use Rattle.ats_commit.proofs.TermLemmas.{few_within}
--- two layouts are always equal, as there is only one layout
-pub use Rattle.ats_commit.proofs.Layouts.{same_layout}
+-- formats with equal tags are equal
+pub use Rattle.ats_commit.proofs.OwnHeader.{same_format}
 -- what is known of a tree's strings, unless the first difference collides, is known of them by their numbers
 pub use Rattle.ats_commit.proofs.PrefixLemmas.{known-by-numbers}
--- shown leaves that rebuild a list's root are the list's own, or the first difference is a collision
-pub use Rattle.ats_commit.proofs.PrefixLemmas.{prefix-binds}
 -- a header in range with the bytes of the archive's header has the archive's numbers and roots
 pub use Rattle.ats_commit.proofs.OwnHeader.{own_header}
 -- a dictionary leaf that is no sentinel has the length and the root of its term's list

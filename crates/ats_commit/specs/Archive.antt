@@ -1,22 +1,18 @@
 -- What a root commits to.
 use Rattle.std.specs.Prelude.{ℕ, List}
-use Rattle.ats_lists.specs.Layout.{Layout, whole_lists}
 use Rattle.ats_lists.specs.declared.format.Format.{Format}
-use Rattle.ats_lists.specs.declared.format.Format.TheVariants.{One}
+use Rattle.ats_lists.specs.declared.format.Format.TheVariants.{One, Two}
 
--- the texts of a collection, and the layout of their trees
+-- the texts of a collection, and the format of their lists
 pub record Archive : Type 0 where
   pub texts : List (List ℕ)
-  pub layout : Layout
+  pub format : Format
 
--- the archive of these texts, in the layout that an index uses
+-- the archive of these texts in which each list is one tree
 abbrev pub archive_of : List (List ℕ) → Archive
-archive_of texts = record { texts = texts; layout = whole_lists }
-
--- the format of the lists
-abbrev pub format_of : Layout → Format
-format_of whole_lists = One
+archive_of texts = record { texts = texts; format = One }
 
 -- the byte before the header when the root is hashed
-abbrev pub header_tag : Layout → ℕ
-header_tag whole_lists = 2
+abbrev pub header_tag : Format → ℕ
+header_tag One = 2
+header_tag Two = 4

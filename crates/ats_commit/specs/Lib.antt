@@ -4,3 +4,4 @@ pub mod Root
 pub mod Ours
 pub mod Places
 pub mod Own
+pub mod OwnShown

@@ -12,7 +12,7 @@ use Rattle.ats_lists.specs.Lists.{list}
 use Rattle.ats_dict.specs.Dictionary.{dict_leaves}
 use Rattle.ats_doctree.specs.Impacts.{doc_terms}
 use Rattle.ats_doctree.specs.Sentinels.{terms_leaves}
-use Rattle.ats_commit.specs.Archive.{Archive, format_of, header_tag}
+use Rattle.ats_commit.specs.Archive.{Archive, header_tag}
 use Rattle.ats_commit.specs.Places.{numbers_at}
 use Rattle.ats_commit.specs.Trees.{dictionary_of, documents_of}
 use Rattle.ats_commit.specs.Root.{header_of}
@@ -30,16 +30,16 @@ own_leaves H archive query Documents = documents_of H archive.texts
 own_leaves H archive query (Terms doc) =
     if nat_lt doc (length archive.texts) then terms_leaves (doc_terms archive.texts doc) else []
 
--- the header is one string, at depth 0, under the tag of its layout
+-- the header is one string, at depth 0, under the tag of its format
 abbrev pub own_header : (List ℕ → List ℕ) → Archive → ℕ → Option (List ℕ)
-own_header H archive zero = Some (header_tag archive.layout ∷ header_of H archive)
+own_header H archive zero = Some (header_tag archive.format ∷ header_of H archive)
 own_header H archive (suc depth) = None
 
 -- the string of one of the archive's trees with these two numbers, if there is one; a list is hashed by its format
 abbrev pub own_string : (List ℕ → List ℕ) → Archive → List (List ℕ × ℕ) → Tree → NodeNumbers → Option (List ℕ)
 own_string H archive query Header at = own_header H archive at.depth
 own_string H archive query (ListOf term) at =
-    list_string H (format_of archive.layout) (list archive.texts (asked_term query term)) at
+    list_string H archive.format (list archive.texts (asked_term query term)) at
 own_string H archive query tree at = node_string H (own_leaves H archive query tree) (by_path (path_of at.depth at.turns))
 
 -- the string at a place in the archive's own trees, if there is one

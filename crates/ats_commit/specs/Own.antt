@@ -15,7 +15,7 @@ use Rattle.ats_dict.specs.declared.header.Header.{Header}
 use Rattle.ats_doctree.specs.Impacts.{doc_terms}
 use Rattle.ats_doctree.specs.Sentinels.{terms_leaves, leaf_bytes as term_bytes}
 use Rattle.ats_doctree.specs.declared.doc_leaf.DocLeaf.{DocLeaf}
-use Rattle.ats_commit.specs.Archive.{Archive, format_of}
+use Rattle.ats_commit.specs.Archive.{Archive}
 use Rattle.ats_commit.specs.Trees.{dictionary_of, documents_of}
 
 -- texts within the limits of a collection
@@ -34,7 +34,7 @@ pub record IsHeaderOf (H : List ℕ → List ℕ) (archive : Archive) (header : 
 -- the number and the root are those of the list of the entry's term
 pub record IsEntryOf (H : List ℕ → List ℕ) (archive : Archive) (entry : DictEntry) : Type 0 where
   pub number : entry.f ≡ length (list archive.texts entry.term)
-  pub root : entry.root ≡ list_root H (format_of archive.layout) (list archive.texts entry.term)
+  pub root : entry.root ≡ list_root H archive.format (list archive.texts entry.term)
 
 -- the leaf at p is that of the lower entry, and the leaf after it that of the upper one
 pub record AreNeighbours (leaves : List (List ℕ)) (p : ℕ) (lower upper : DictEntry) : Type 0 where

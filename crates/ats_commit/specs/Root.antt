@@ -4,7 +4,7 @@ use Rattle.ats_tree.specs.Tree.{mth}
 use Rattle.ats_dict.specs.Dictionary.{dict_leaves}
 use Rattle.ats_dict.specs.Header.{header_bytes, IsHeader}
 use Rattle.ats_dict.specs.declared.header.Header.{Header}
-use Rattle.ats_lists.specs.Layout.{Layout}
+use Rattle.ats_lists.specs.declared.format.Format.{Format}
 use Rattle.ats_commit.specs.Archive.{Archive, header_tag}
 use Rattle.ats_commit.specs.Trees.{dictionary_of, documents_of}
 
@@ -38,14 +38,14 @@ HasHeaderInRange H archive =
     (mth H (documents_of H archive.texts))
     (mth H archive.texts)
 
--- the digest of the header under the tag of its layout
+-- the digest of the header under the tag of its format
 abbrev pub root_of : (List ℕ → List ℕ) → Archive → List ℕ
-root_of H archive = H (header_tag archive.layout ∷ header_of H archive)
+root_of H archive = H (header_tag archive.format ∷ header_of H archive)
 
--- a header's bytes under the tag of a layout
-abbrev pub header_string : Layout → Header → List ℕ
-header_string layout h = header_tag layout ∷ header_bytes h.documents h.dict_leaves h.dict_root h.docs_root h.texts_root
+-- a header's bytes under the tag of a format
+abbrev pub header_string : Format → Header → List ℕ
+header_string format h = header_tag format ∷ header_bytes h.documents h.dict_leaves h.dict_root h.docs_root h.texts_root
 
--- the root of an archive with this header and layout
-abbrev pub header_root : (List ℕ → List ℕ) → Layout → Header → List ℕ
-header_root H layout h = H (header_string layout h)
+-- the root of an archive with this header and format
+abbrev pub header_root : (List ℕ → List ℕ) → Format → Header → List ℕ
+header_root H format h = H (header_string format h)

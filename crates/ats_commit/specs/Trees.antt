@@ -9,16 +9,16 @@ use Rattle.ats_doctree.specs.DocumentLeaf.{doc_leaf_bytes}
 use Rattle.ats_doctree.specs.Impacts.{text_terms}
 use Rattle.ats_doctree.specs.Sentinels.{terms_leaves}
 use Rattle.ats_doctree.specs.declared.doc_leaf.DocLeaf.{DocLeaf}
-use Rattle.ats_lists.specs.Layout.{Layout}
-use Rattle.ats_commit.specs.Archive.{Archive, format_of}
+use Rattle.ats_lists.specs.declared.format.Format.{Format}
+use Rattle.ats_commit.specs.Archive.{Archive}
 
 -- the entry of a term's list: the term, how many entries the list has, and its root
-abbrev pub dict_entry : (List ℕ → List ℕ) → Layout → List ℕ × List Entry → DictEntry
-dict_entry H layout list = record { term = list.0; f = length list.1; root = list_root H (format_of layout) list.1 }
+abbrev pub dict_entry : (List ℕ → List ℕ) → Format → List ℕ × List Entry → DictEntry
+dict_entry H format list = record { term = list.0; f = length list.1; root = list_root H format list.1 }
 
 -- the entries of the dictionary, one for each list
 abbrev pub dictionary_of : (List ℕ → List ℕ) → Archive → List DictEntry
-dictionary_of H archive = map (dict_entry H archive.layout) (lists_of archive.texts)
+dictionary_of H archive = map (dict_entry H archive.format) (lists_of archive.texts)
 
 -- the leaf of a document whose terms tree has these leaves: their number and their root
 abbrev pub documents_leaf : (List ℕ → List ℕ) → List (List ℕ) → List ℕ

@@ -3,18 +3,19 @@
 
 ghost use Rattle.std.specs.Prelude.{◌≡◌, ◌+◌, ◌<◌, ◌≤◌, ◌^◌, ◌∷◌, ◌++◌, List, [], ℕ, Some, None, IsSome, MatchOption, length, map, slice_get, slice_index_or};
 ghost use Rattle.std.specs.Int.{to_be_bytes, w32};
-ghost use Rattle.std.specs.List.{All};
+ghost use Rattle.std.specs.List.{All, range_with_len};
 ghost use Rattle.std.specs.Str.{IsUtf8};
-ghost use Rattle.ats_tree.specs.Differences.{first_difference};
-ghost use Rattle.ats_tree.specs.Part.{RisesFrom};
-ghost use Rattle.ats_tree.specs.Shown.{Shown};
+ghost use Rattle.ats_tree.specs.Differences.{first_difference, IsOurs};
+ghost use Rattle.ats_tree.specs.Shown.{Shown, positions_of};
 ghost use Rattle.ats_tree.specs.Tree.{mth};
 ghost use Rattle.ats_tree.specs.Nodes.{NodeNumbers};
 ghost use Rattle.ats_tree.specs.declared.hashed.Place.{Place};
+ghost use Rattle.ats_tree.specs.declared.hashed.Tree.{Tree};
 ghost use Rattle.ats_tree.specs.declared.hashed.Tree.TheVariants.{Header as HeaderTree, List as ListTree, Terms as TermsTree};
 ghost use Rattle.ats_terms.specs.Terms.{IsTerm};
 ghost use Rattle.ats_impact.specs.Limits.{AreWithin};
 ghost use Rattle.ats_impact.specs.Score.{count, frequency, total_terms};
+ghost use Rattle.ats_lists.specs.Chain.{chain};
 ghost use Rattle.ats_lists.specs.Formats.{list_root, list_string, prefix_root, prefix_strings};
 ghost use Rattle.ats_lists.specs.Leaf.{leaf_bytes};
 ghost use Rattle.ats_lists.specs.Lists.{list, vocabulary};
@@ -27,9 +28,11 @@ ghost use Rattle.ats_dict.specs.Header.{header_bytes, IsHeader};
 ghost use Rattle.ats_dict.specs.declared.header.Header.{Header};
 ghost use Rattle.ats_dict.specs.Entry.{DictEntry, dict_leaf_bytes};
 ghost use Rattle.ats_dict.specs.Dictionary.{IsBelow, dict_leaves};
-ghost use Rattle.ats_lists.specs.Layout.{Layout, whole_lists};
-ghost use Rattle.ats_commit.specs.Archive.{Archive, format_of, header_tag};
-ghost use Rattle.ats_commit.specs.Places.{in_tree};
+ghost use Rattle.ats_lists.specs.declared.format.Format.{Format};
+ghost use Rattle.ats_lists.specs.declared.format.Format.TheVariants.{One, Two};
+ghost use Rattle.ats_commit.specs.Archive.{Archive, header_tag};
+ghost use Rattle.ats_commit.specs.OwnShown.{IsOwnTreeShown, tree_strings};
+ghost use Rattle.ats_commit.specs.Places.{in_tree, depth_limit};
 ghost use Rattle.ats_commit.specs.Trees.{dictionary_of, documents_of};
 ghost use Rattle.ats_commit.specs.Root.{header_of, root_of, HasHeaderInRange};
 ghost use Rattle.ats_commit.specs.Ours.{asked_term, own_leaves, ours};
@@ -38,17 +41,17 @@ ghost use Rattle.ats_commit.specs.Own.{AreTexts, AreNeighbours, AreTermNeighbour
 use ats_hash::HashKind;
 
 /// The dictionary has the terms that have a list, each with the number of documents that have it and the root of its
-/// list. If each list is one tree, that is the root of this tree.
+/// list: in the first format the root of one tree, in the second the digest of the list's first block.
 pub fn dictionary_has_all_terms<H: HashKind>()
     ensures terms { (archive : Archive) → map (λ entry. entry.term) (dictionary_of H.hash archive)
         ≡ vocabulary archive.texts }
     ensures numbers { (archive : Archive)
         → All (λ entry. entry.f ≡ frequency entry.term archive.texts) (dictionary_of H.hash archive) }
     ensures roots { (archive : Archive)
-        → All (λ entry. entry.root ≡ list_root H.hash (format_of archive.layout) (list archive.texts entry.term))
+        → All (λ entry. entry.root ≡ list_root H.hash archive.format (list archive.texts entry.term))
         (dictionary_of H.hash archive) }
-    ensures whole { (entries : List Entry) → list_root H.hash (format_of whole_lists) entries
-        ≡ mth H.hash (map leaf_bytes entries) }
+    ensures whole { (entries : List Entry) → list_root H.hash One entries ≡ mth H.hash (map leaf_bytes entries) }
+    ensures blocks { (entries : List Entry) → list_root H.hash Two entries ≡ chain H.hash (map leaf_bytes entries) }
 {}
 
 /// The documents tree has a leaf for each text: the number of leaves of its terms tree, which are its terms and two
@@ -69,13 +72,14 @@ pub fn headers_are_in_range<H: HashKind>()
         → HasHeaderInRange H.hash archive }
 {}
 
-/// The root is the digest of the header under the tag of its layout, which is 2 if each list is one tree. The header is
-/// the version 1, the numbers of documents and of dictionary leaves, high byte first, and the roots of the dictionary,
-/// the documents and the texts, 105 bytes in all.
+/// The root is the digest of the header after the tag of the format: 2 if each list is one tree, 4 if the lists are in
+/// blocks. So equal tags have equal formats. The header is, in both formats, the version 1, the numbers of documents and
+/// of dictionary leaves, high byte first, and the roots of the dictionary, the documents and the texts, 105 bytes in all.
 pub fn roots_bind_headers<H: HashKind>()
     ensures root { (archive : Archive) → root_of H.hash archive
-        ≡ H.hash (header_tag archive.layout ∷ header_of H.hash archive) }
-    ensures tag { header_tag whole_lists ≡ 2 }
+        ≡ H.hash (header_tag archive.format ∷ header_of H.hash archive) }
+    ensures tags { (header_tag One ≡ 2) × (header_tag Two ≡ 4) }
+    ensures formats { (a b : Format) → header_tag a ≡ header_tag b → a ≡ b }
     ensures header { (archive : Archive) → header_of H.hash archive
         ≡ 1 ∷ to_be_bytes w32 (length archive.texts) ++ to_be_bytes w32 (length (vocabulary archive.texts) + 2)
         ++ mth H.hash (dict_leaves (dictionary_of H.hash archive))
@@ -126,29 +130,44 @@ pub fn own_leaves_tell_documents<H: HashKind>()
         → count term (slice_index_or texts doc []) ≡ 0 }
 {}
 
-/// If shown leaves of a list rebuild its root with some digests, then either they are the list's own, or the first
-/// string that differs from the list's has an equal digest.
+/// If the first leaves of a list rebuild its root with some digests, then either they are the list's own, or the first
+/// string that differs from the list's has an equal digest. This holds in either format.
 pub fn list_prefixes_are_bound<H: HashKind>()
-    ensures { (layout : Layout) (entries : List Entry) (shown : List Shown) (digests : List (List ℕ))
-        → RisesFrom 0 shown → All (λ d. length d ≡ 32) digests
-        → prefix_root H.hash (format_of layout) (length entries) shown digests
-        ≡ Some (list_root H.hash (format_of layout) entries)
-        → MatchOption (first_difference (list_string H.hash (format_of layout) entries)
-        (prefix_strings H.hash (format_of layout) (length entries) shown digests))
+    ensures { (format : Format) (entries : List Entry) (shown : List Shown) (digests : List (List ℕ))
+        → positions_of shown ≡ range_with_len 0 (length shown) → All (λ d. length d ≡ 32) digests
+        → prefix_root H.hash format (length entries) shown digests ≡ Some (list_root H.hash format entries)
+        → MatchOption (first_difference (list_string H.hash format entries)
+        (prefix_strings H.hash format (length entries) shown digests))
         (All (λ s. slice_get (map leaf_bytes entries) s.0 ≡ Some s.1) shown)
         (λ c. H.hash c.theirs ≡ H.hash c.ours) }
 {}
 
+/// If what a proof shows of a tree is the archive's own, then each string that it hashes for the tree is the archive's
+/// own at its place.
+pub fn own_trees_have_own_strings<H: HashKind>()
+    ensures { (archive : Archive) (query : List (List ℕ × ℕ)) (format : Format) (tree : Tree) (n : ℕ)
+        (shown : List Shown) (digests : List (List ℕ))
+        → IsOwnTreeShown H.hash archive query format tree n shown digests
+        → All (IsOurs (λ at. ours H.hash archive query (in_tree tree at)))
+        (tree_strings H.hash format tree n shown digests) }
+{}
+
 /// The header's string is at depth 0. No tree has a string past its leaves: with at most 2^h leaves the depth of a
-/// string is at most `h`. There is no string in the list of a term that no text has, nor in the tree of a document past
+/// string is at most `h`. In a list in blocks it is at most 1 + h, and at most 7. Each string has a depth of 8 bits, and
+/// turns of 32 bits lead to it. There is no string in the list of a term that no text has, nor in the tree of a document past
 /// the last.
 pub fn own_strings_stand_in_trees<H: HashKind>()
     ensures header { (archive : Archive) (query : List (List ℕ × ℕ)) (turns : ℕ)
         → ours H.hash archive query (record { tree = HeaderTree; depth = 0; turns = turns })
-        ≡ Some (header_tag archive.layout ∷ header_of H.hash archive) }
+        ≡ Some (header_tag archive.format ∷ header_of H.hash archive) }
     ensures within { (archive : Archive) (query : List (List ℕ × ℕ)) (place : Place) (h : ℕ)
         → length (own_leaves H.hash archive query place.tree) ≤ 2 ^ h → IsSome (ours H.hash archive query place)
-        → place.depth ≤ h }
+        → place.depth ≤ depth_limit archive.format place.tree h }
+    ensures fits { (archive : Archive) (query : List (List ℕ × ℕ)) (place : Place)
+        → length (own_leaves H.hash archive query place.tree) ≤ 2 ^ 31 → IsSome (ours H.hash archive query place)
+        → (place.depth < 2 ^ 8) × ((turns : ℕ) × (turns < 2 ^ 32)
+        × (ours H.hash archive query (record { tree = place.tree; depth = place.depth; turns = turns })
+        ≡ ours H.hash archive query place)) }
     ensures lists { (archive : Archive) (query : List (List ℕ × ℕ)) (number : ℕ) (at : NodeNumbers)
         → frequency (asked_term query number) archive.texts ≡ 0
         → ours H.hash archive query (in_tree (ListTree number) at) ≡ None }

@@ -1,12 +1,13 @@
 //! The strings of an archive's own trees, by their places.
 
 ghost use Rattle.std.specs.Prelude.{◌≡◌, ◌↔◌, ◌≤◌, length, All, IsTrue};
-ghost use Rattle.ats_tree.specs.OwnShown.{IsOwnShown};
 ghost use Rattle.ats_commit.specs.Archive.{Archive};
-ghost use Rattle.ats_commit.specs.Ours.{own_leaves, ours};
+ghost use Rattle.ats_commit.specs.Ours.{ours};
+ghost use Rattle.ats_commit.specs.OwnShown.{IsOwnTreeShown};
 ghost use Rattle.ats_commit.specs.Places.{IsOfQuery};
 
 use ats_hash::Hash32;
+use ats_lists::Format;
 use ats_terms::Query;
 use ats_tree::{HashedString, Place, ShownTree, Tree};
 
@@ -22,12 +23,19 @@ pub trait OwnStrings<H: Hash32> {
         requires asked { IsOfQuery query.now place.now.tree }
         ensures { result ≡ ours H.hash (archive self.now) query.now place.now };
 
-    /// Whether what is shown of a tree of `n` leaves is the archive's own tree: its leaves at their positions, and the
-    /// digests of its other maximal subtrees. It only compares: nothing is hashed, and no memory is taken. The header
-    /// is no such tree. What is left in `shown` afterwards is any.
-    fn has_shown<S: ShownTree>(&self, tree: Tree, n: u32, query: &Query, shown: &mut S) -> bool
+    /// Whether what a proof in this format shows of a tree of `n` leaves is the archive's own: its leaves at their
+    /// positions, and the digests of the rest. A list in another format than the archive's is not. It only compares:
+    /// nothing is hashed, and no memory is taken. The header is no such tree. What is left in `shown` afterwards is any.
+    fn has_shown<S: ShownTree>(
+        &self,
+        format: Format,
+        tree: Tree,
+        n: u32,
+        query: &Query,
+        shown: &mut S,
+    ) -> bool
         requires asked { IsOfQuery query.now tree }
         requires short { All (λ s. length s.1 ≤ 127) (S.shown shown.old) }
-        ensures { IsTrue result ↔ IsOwnShown H.hash (own_leaves H.hash (archive self.now) query.now tree) n
+        ensures { IsTrue result ↔ IsOwnTreeShown H.hash (archive self.now) query.now format tree n
             (S.shown shown.old) (S.digests shown.old) };
 }

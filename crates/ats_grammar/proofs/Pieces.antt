@@ -11,7 +11,7 @@ use Rattle.ats_grammar.specs.declared.next.Next.{Next}
 use Rattle.ats_grammar.specs.declared.next.Next.TheVariants as next
 use Rattle.ats_grammar.specs.declared.stand.Stand.{Stand}
 use Rattle.ats_grammar.specs.Table.{Table, End, Number, Bytes, number, head, follow, size_of}
-use Rattle.ats_grammar.specs.Grammar.{proof_format}
+use Rattle.ats_grammar.specs.Grammar.{proof_schema}
 use Rattle.ats_grammar.specs.Front.{IsField, IsFront, IsSpelling, IsFirst, IsBad}
 use Rattle.ats_grammar.specs.State.{remaining}
 use Rattle.ats_grammar.specs.Reading.{IsNumberOf, IsTaken, IsStuck, IsRefused, IsReached}
@@ -106,7 +106,7 @@ at_whole bytes stand after part rest n at whole follows none nought =
     record { field = at.left ++ part; parts = sym (append_assoc at.left part rest); is = field.0; value = field.1 } in
     record {
       left = [];
-      reached = subst (λ (t : Table). IsReached proof_format bytes t rest) (sym follows) (reached_more proof_format bytes (remaining stand.state) (at.left ++ (part ++ rest)) n rest at.reached taken);
+      reached = subst (λ (t : Table). IsReached proof_schema bytes t rest) (sym follows) (reached_more proof_schema bytes (remaining stand.state) (at.left ++ (part ++ rest)) n rest at.reached taken);
       many = sym none;
       value = subst (λ n. IsNumberOf (head (remaining after.state)) [] n) (sym nought) (empty_number (head (remaining after.state)));
     }
@@ -118,16 +118,16 @@ pub at_part : (bytes : List ℕ) (stand after : Stand) (part rest : List ℕ) �
     → IsAt bytes after rest
 at_part bytes stand after part rest at same came value = record {
   left = at.left ++ part;
-  reached = subst (λ s. IsReached proof_format bytes (remaining s) ((at.left ++ part) ++ rest)) (sym same)
-      (subst (λ (xs : List ℕ). IsReached proof_format bytes (remaining stand.state) xs) (sym (append_assoc at.left part rest)) at.reached);
+  reached = subst (λ s. IsReached proof_schema bytes (remaining s) ((at.left ++ part) ++ rest)) (sym same)
+      (subst (λ (xs : List ℕ). IsReached proof_schema bytes (remaining stand.state) xs) (sym (append_assoc at.left part rest)) at.reached);
   many = omega (arith, length-append at.left part, at.many, came);
   value = subst (λ s. IsNumberOf (head (remaining s)) (at.left ++ part) after.number) (sym same) (value at.left at.value);
 }
 
 -- nothing of the field was read
-pub at_start : (bytes : List ℕ) (stand : Stand) (rest : List ℕ) → IsAt bytes stand rest → stand.came ≡ 0 → IsReached proof_format bytes (remaining stand.state) rest
+pub at_start : (bytes : List ℕ) (stand : Stand) (rest : List ℕ) → IsAt bytes stand rest → stand.came ≡ 0 → IsReached proof_schema bytes (remaining stand.state) rest
 at_start bytes stand rest at none = elim (list_cases at.left) [
-  | inl is ↦ subst (λ (xs : List ℕ). IsReached proof_format bytes (remaining stand.state) (xs ++ rest)) is at.reached
+  | inl is ↦ subst (λ (xs : List ℕ). IsReached proof_schema bytes (remaining stand.state) (xs ++ rest)) is at.reached
   | inr some ↦ absurd (omega (arith, some, at.many, none))
 ]
 
@@ -174,8 +174,8 @@ on_taken stand after rest behind n none taken follows start nought smaller =
     record {
       at = λ bytes at. record {
         left = [];
-        reached = subst (λ (t : Table). IsReached proof_format bytes t behind) (sym follows)
-            (reached_more proof_format bytes (remaining stand.state) rest n behind (at_start bytes stand rest at none) taken);
+        reached = subst (λ (t : Table). IsReached proof_schema bytes t behind) (sym follows)
+            (reached_more proof_schema bytes (remaining stand.state) rest n behind (at_start bytes stand rest at none) taken);
         many = sym start;
         value = subst (λ m. IsNumberOf (head (remaining after.state)) [] m) (sym nought) (empty_number (head (remaining after.state)));
       };
@@ -346,17 +346,17 @@ missing (next.Bytes size) left waiting wanted = record {
 
 -- if a field is missing, the bytes so far are cut
 pub cut_off : (bytes : List ℕ) (stand : Stand) (fault : ShapeFault) → length bytes ≤ 2 ^ 26 → IsAt bytes stand [] → IsWaiting (head (remaining stand.state)) stand.came
-    → (head (remaining stand.state) ≡ next.End → ⊥) → fault.kind ≡ Cut → fault.at + stand.came ≡ length bytes → IsBad proof_format bytes fault
+    → (head (remaining stand.state) ≡ next.End → ⊥) → fault.kind ≡ Cut → fault.at + stand.came ≡ length bytes → IsBad proof_schema bytes fault
 cut_off bytes stand fault few at waiting wanted kind place =
     let there : IsWaiting (head (remaining stand.state)) (length (at.left ++ [])) =
     subst (λ m. IsWaiting (head (remaining stand.state)) m) (omega (arith, at.many, length-append at.left [])) waiting in
-    refused proof_format bytes (remaining stand.state) (at.left ++ []) fault few at.reached
+    refused proof_schema bytes (remaining stand.state) (at.left ++ []) fault few at.reached
     (subst (λ k. IsRefused (head (remaining stand.state)) (at.left ++ []) k) (sym kind) (missing (head (remaining stand.state)) (at.left ++ []) there wanted))
     (omega (arith, place, at.many, length-append at.left []))
 
 -- if none is, they spell a proof
 pub spelled : (bytes : List ℕ) (stand : Stand) → length bytes ≤ 2 ^ 26 → IsAt bytes stand [] → IsWaiting (head (remaining stand.state)) stand.came
-    → head (remaining stand.state) ≡ next.End → IsSpelling proof_format bytes
+    → head (remaining stand.state) ≡ next.End → IsSpelling proof_schema bytes
 spelled bytes stand few at waiting done =
     let none : stand.came ≡ 0 = subst (λ n. IsWaiting n stand.came) done waiting in
     let last : remaining stand.state ≡ End = is_end (remaining stand.state) done in
@@ -364,31 +364,31 @@ spelled bytes stand few at waiting done =
     record {
       fields = start.fields;
       spells = record {
-        whole = subst (λ (t : Table). IsFront proof_format bytes start.fields t []) last start.front;
+        whole = subst (λ (t : Table). IsFront proof_schema bytes start.fields t []) last start.front;
         few = few;
       };
     }
 
 -- a fault of bytes that are read to their end is that they are cut
 pub only_cut : (bytes : List ℕ) (stand : Stand) (fault : ShapeFault) → length bytes ≤ 2 ^ 26 → IsAt bytes stand [] → IsWaiting (head (remaining stand.state)) stand.came
-    → IsBad proof_format bytes fault → fault.kind ≡ Cut
+    → IsBad proof_schema bytes fault → fault.kind ≡ Cut
 only_cut bytes stand fault few at waiting bad = elim (end_or_not (head (remaining stand.state))) [
-  | inl done ↦ let s = spelled bytes stand few at waiting done in absurd (no_fault proof_format bytes fault s.fields bad s.spells)
+  | inl done ↦ let s = spelled bytes stand few at waiting done in absurd (no_fault proof_schema bytes fault s.fields bad s.spells)
   | inr wanted ↦
       let here : ShapeFault = record { at = length bytes - stand.came; kind = Cut } in
-      let came : stand.came ≤ length bytes = omega (arith, reached_few proof_format bytes (remaining stand.state) (at.left ++ []) at.reached, at.many, length-append at.left []) in
-      ap (λ (f : ShapeFault). f.kind) (one_fault proof_format bytes fault here bad (cut_off bytes stand here few at waiting wanted refl (omega (arith, came))))
+      let came : stand.came ≤ length bytes = omega (arith, reached_few proof_schema bytes (remaining stand.state) (at.left ++ []) at.reached, at.many, length-append at.left []) in
+      ap (λ (f : ShapeFault). f.kind) (one_fault proof_schema bytes fault here bad (cut_off bytes stand here few at waiting wanted refl (omega (arith, came))))
 ]
 
 -- bytes that are few enough have no other fault than the first
-first_of : (bytes : List ℕ) (fault : ShapeFault) → length bytes ≤ 2 ^ 26 → IsBad proof_format bytes fault → IsFirst proof_format bytes fault
+first_of : (bytes : List ℕ) (fault : ShapeFault) → length bytes ≤ 2 ^ 26 → IsBad proof_schema bytes fault → IsFirst proof_schema bytes fault
 first_of bytes fault few (inl long) = absurd (omega (arith, few, long.many))
 first_of bytes fault few (inr first) = first
 
 -- bytes that are wrong have this fault
-pub wrong_is_first : (bytes : List ℕ) (fault : ShapeFault) (many : ℕ) → length bytes ≤ 2 ^ 26 → IsWrong bytes fault.kind many → fault.at + many ≡ length bytes → IsFirst proof_format bytes fault
+pub wrong_is_first : (bytes : List ℕ) (fault : ShapeFault) (many : ℕ) → length bytes ≤ 2 ^ 26 → IsWrong bytes fault.kind many → fault.at + many ≡ length bytes → IsFirst proof_schema bytes fault
 wrong_is_first bytes fault many few wrong place = first_of bytes fault few
-    (refused proof_format bytes wrong.table wrong.left fault few wrong.reached wrong.refused (omega (arith, place, wrong.same)))
+    (refused proof_schema bytes wrong.table wrong.left fault few wrong.reached wrong.refused (omega (arith, place, wrong.same)))
 
 -- ---- the position of a feeder
 
@@ -397,7 +397,7 @@ stand_of place stand bytes is at = subst (λ (p : Place). StandsAt p bytes) is a
 
 -- a fault stays, whatever is fed
 pub still_refused : (place : Place) (fault : ShapeFault) (bytes piece : List ℕ) → place ≡ places.Refused fault → StandsAt place bytes → length bytes + length piece ≤ 2 ^ 26
-    → IsFirst proof_format (bytes ++ piece) fault × (fault.kind ≢ Cut)
+    → IsFirst proof_schema (bytes ++ piece) fault × (fault.kind ≢ Cut)
 still_refused place fault bytes piece is at few =
-    let there : IsFirst proof_format bytes fault × (fault.kind ≢ Cut) = subst (λ (p : Place). StandsAt p bytes) is at in
-    (fault_stays proof_format bytes piece fault there.0 there.1 few, there.1)
+    let there : IsFirst proof_schema bytes fault × (fault.kind ≢ Cut) = subst (λ (p : Place). StandsAt p bytes) is at in
+    (fault_stays proof_schema bytes piece fault there.0 there.1 few, there.1)

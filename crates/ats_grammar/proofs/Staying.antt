@@ -8,7 +8,7 @@ use Rattle.ats_grammar.specs.declared.fault.ShapeKind.{ShapeKind}
 use Rattle.ats_grammar.specs.declared.fault.ShapeKind.TheVariants.{Cut}
 use Rattle.ats_grammar.specs.declared.next.Next.{Next}
 use Rattle.ats_grammar.specs.declared.next.Next.TheVariants as next
-use Rattle.ats_grammar.specs.Table.{Table, Format, number, head, follow, size_of}
+use Rattle.ats_grammar.specs.Table.{Table, Schema, number, head, follow, size_of}
 use Rattle.ats_grammar.specs.Front.{IsFront, IsLongest, IsFirst}
 use Rattle.ats_grammar.specs.Reading.{IsNumberOf, IsStuck, IsRefused}
 use Rattle.ats_grammar.proofs.Fronts.{field_size, front_more, longest}
@@ -18,9 +18,9 @@ number_itself next.End field = tt
 number_itself (next.Number size low high kind) field = refl
 number_itself (next.Bytes size) field = tt
 
-stuck_longest : (format : Format) (bytes : List ℕ) (fields : List (List ℕ)) (u : Table) (left : List ℕ) → IsFront format bytes fields u left → IsLongest format bytes fields → IsStuck (head u) left
-stuck_longest format bytes fields u left front most field after e is =
-    let next_front = front_more format bytes fields u left (number field) field after front e is (number_itself (head u) field) in
+stuck_longest : (schema : Schema) (bytes : List ℕ) (fields : List (List ℕ)) (u : Table) (left : List ℕ) → IsFront schema bytes fields u left → IsLongest schema bytes fields → IsStuck (head u) left
+stuck_longest schema bytes fields u left front most field after e is =
+    let next_front = front_more schema bytes fields u left (number field) field after front e is (number_itself (head u) field) in
     omega (arith, most (fields ++ field ∷ []) (follow u (number field)) after next_front, length-append fields (field ∷ []))
 
 stuck_more : (n : Next) (left more : List ℕ) → size_of n ≤ length left → IsStuck n left → IsStuck n (left ++ more)
@@ -40,11 +40,11 @@ refused_more (next.Number size low high other) left more kind is no_cut = elim (
 ]
 refused_more (next.Bytes size) left more kind is no_cut = absurd (no_cut is.same)
 
-pub fault_stays : (format : Format) (bytes more : List ℕ) (fault : ShapeFault) → IsFirst format bytes fault → (fault.kind ≡ Cut → ⊥) → length bytes + length more ≤ format.limit → IsFirst format (bytes ++ more) fault
-fault_stays format bytes more fault is no_cut few =
-    let there : IsRefused (head is.table) is.left fault.kind = record { stuck = stuck_longest format bytes is.fields is.table is.left is.front is.longest; more = is.more; same = is.kind } in
+pub fault_stays : (schema : Schema) (bytes more : List ℕ) (fault : ShapeFault) → IsFirst schema bytes fault → (fault.kind ≡ Cut → ⊥) → length bytes + length more ≤ schema.limit → IsFirst schema (bytes ++ more) fault
+fault_stays schema bytes more fault is no_cut few =
+    let there : IsRefused (head is.table) is.left fault.kind = record { stuck = stuck_longest schema bytes is.fields is.table is.left is.front is.longest; more = is.more; same = is.kind } in
     let behind = refused_more (head is.table) is.left more fault.kind there no_cut in
-    let front : IsFront format (bytes ++ more) is.fields is.table (is.left ++ more) = record {
+    let front : IsFront schema (bytes ++ more) is.fields is.table (is.left ++ more) = record {
       come = is.front.come;
       parts = ap (λ (xs : List ℕ). xs ++ more) is.front.parts ∙ append_assoc (concat is.fields) is.left more;
     } in
@@ -54,7 +54,7 @@ fault_stays format bytes more fault is no_cut few =
       table = is.table;
       left = is.left ++ more;
       front = front;
-      longest = longest format (bytes ++ more) is.fields is.table (is.left ++ more) front behind.stuck;
+      longest = longest schema (bytes ++ more) is.fields is.table (is.left ++ more) front behind.stuck;
       more = behind.more;
       at = is.at;
       kind = behind.same;

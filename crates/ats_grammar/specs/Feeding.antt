@@ -5,14 +5,14 @@ use Rattle.ats_grammar.specs.declared.feeder.Place.{Place}
 use Rattle.ats_grammar.specs.declared.feeder.Place.TheVariants as place
 use Rattle.ats_grammar.specs.declared.feeder.Feeder.{Feeder}
 use Rattle.ats_grammar.specs.Front.{IsFirst}
-use Rattle.ats_grammar.specs.Grammar.{proof_format}
+use Rattle.ats_grammar.specs.Grammar.{proof_schema}
 use Rattle.ats_grammar.specs.State.{remaining}
 use Rattle.ats_grammar.specs.Standing.{IsAt, IsWaiting}
 use Rattle.ats_grammar.specs.Table.{head}
 
 abbrev pub StandsAt : Place → List ℕ → Type 0
 StandsAt (place.Reading stand) bytes = IsAt bytes stand [] × IsWaiting (head (remaining stand.state)) stand.came
-StandsAt (place.Refused fault) bytes = IsFirst proof_format bytes fault × (fault.kind ≢ Cut)
+StandsAt (place.Refused fault) bytes = IsFirst proof_schema bytes fault × (fault.kind ≢ Cut)
 
 -- The feeder was fed these bytes: `fed` is their number. It is either after their whole fields and inside the next one,
 -- or has their first fault, which is no cut.

@@ -1,7 +1,7 @@
 -- The fields of a proof's bytes, in their order. A run of n like parts is followed by its last argument.
 use Rattle.std.specs.Prelude.{ℕ, zero, suc, ◌+◌, ◌^◌, ◌==◌, Bool, true, false}
 use Rattle.ats_grammar.specs.declared.fault.ShapeKind.TheVariants.{Magic, Version, Algorithm, Count, Order}
-use Rattle.ats_grammar.specs.Table.{Table, Format, End, Number, Bytes}
+use Rattle.ats_grammar.specs.Table.{Table, Schema, End, Number, Bytes}
 
 -- any number of 2 bytes, or of 4; its kind of fault never occurs
 abbrev pub any_2 : (ℕ → Table) → Table
@@ -132,11 +132,11 @@ query_terms tra = Number 2 1 32 Count (λ n. dictionary tra n)
 abbrev pub header : Bool → Table
 header tra = Number 1 1 1 Version (λ _. Number 4 1 65536 Count (λ _. Number 4 2 16777218 Count (λ _. Bytes 32 (Bytes 32 (Bytes 32 (query_terms tra))))))
 
--- ---- front: magic ATSP, version, algorithm
+-- ---- front: magic ATSP, version by the format of the lists, algorithm
 
 abbrev pub proof : Table
-proof = Number 4 0x41545350 0x41545350 Magic (λ _. Number 1 1 1 Version (λ _. Number 1 1 2 Algorithm (λ a. header (a == 1))))
+proof = Number 4 0x41545350 0x41545350 Magic (λ _. Number 1 1 2 Version (λ _. Number 1 1 2 Algorithm (λ a. header (a == 1))))
 
 -- what the bytes of a proof must be: at most 2^26
-abbrev pub proof_format : Format
-proof_format = record { table = proof; limit = 2 ^ 26 }
+abbrev pub proof_schema : Schema
+proof_schema = record { table = proof; limit = 2 ^ 26 }

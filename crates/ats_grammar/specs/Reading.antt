@@ -3,7 +3,7 @@ use Rattle.std.specs.Prelude.{◌≡◌, ℕ, List, ◌++◌, length}
 use Rattle.ats_grammar.specs.declared.fault.ShapeKind.{ShapeKind}
 use Rattle.ats_grammar.specs.declared.next.Next.{Next}
 use Rattle.ats_grammar.specs.declared.next.Next.TheVariants as next
-use Rattle.ats_grammar.specs.Table.{Table, Format, number}
+use Rattle.ats_grammar.specs.Table.{Table, Schema, number}
 use Rattle.ats_grammar.specs.Front.{IsField, IsFront, IsOpen, kind_of}
 
 -- this is the value of the field, if it is a number
@@ -30,6 +30,6 @@ pub record IsRefused (next : Next) (bytes : List ℕ) (kind : ShapeKind) : Type 
   pub same : kind ≡ kind_of next (length bytes)
 
 -- some whole fields were taken from the bytes, `table` is what comes after them, and `left` is left
-pub record IsReached (format : Format) (bytes : List ℕ) (table : Table) (left : List ℕ) : Type 0 where
+pub record IsReached (schema : Schema) (bytes : List ℕ) (table : Table) (left : List ℕ) : Type 0 where
   pub fields : List (List ℕ)
-  pub front : IsFront format bytes fields table left
+  pub front : IsFront schema bytes fields table left

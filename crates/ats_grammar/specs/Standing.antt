@@ -6,7 +6,7 @@ use Rattle.ats_grammar.specs.declared.next.Next.{Next}
 use Rattle.ats_grammar.specs.declared.next.Next.TheVariants as next
 use Rattle.ats_grammar.specs.declared.stand.Stand.{Stand}
 use Rattle.ats_grammar.specs.Table.{Table, head}
-use Rattle.ats_grammar.specs.Grammar.{proof_format}
+use Rattle.ats_grammar.specs.Grammar.{proof_schema}
 use Rattle.ats_grammar.specs.State.{remaining}
 use Rattle.ats_grammar.specs.Reading.{IsNumberOf, IsReached, IsRefused}
 use Rattle.ats_grammar.specs.Pending.{may_be_empty}
@@ -15,7 +15,7 @@ use Rattle.ats_grammar.specs.Pending.{may_be_empty}
 -- `rest` is still to be read
 pub record IsAt (bytes : List ℕ) (stand : Stand) (rest : List ℕ) : Type 0 where
   pub left : List ℕ
-  pub reached : IsReached proof_format bytes (remaining stand.state) (left ++ rest)
+  pub reached : IsReached proof_schema bytes (remaining stand.state) (left ++ rest)
   pub many : length left ≡ stand.came
   pub value : IsNumberOf (head (remaining stand.state)) left stand.number
 
@@ -40,7 +40,7 @@ IsStill stand rest = (rest ≡ []) × IsWaiting (head (remaining stand.state)) s
 pub record IsWrong (bytes : List ℕ) (kind : ShapeKind) (many : ℕ) : Type 0 where
   pub table : Table
   pub left : List ℕ
-  pub reached : IsReached proof_format bytes table left
+  pub reached : IsReached proof_schema bytes table left
   pub refused : IsRefused (head table) left kind
   pub same : length left ≡ many
   pub here : kind ≢ Cut

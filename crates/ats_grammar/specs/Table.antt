@@ -12,7 +12,7 @@ pub data Table : Type 0 where
   Bytes : (size : ℕ) → Table → Table
 
 -- what bytes of one kind must be: the table of their fields, and how many there may be
-pub record Format : Type 0 where
+pub record Schema : Type 0 where
   pub table : Table
   pub limit : ℕ
 

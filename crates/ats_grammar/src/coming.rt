@@ -53,7 +53,7 @@ impl State {
     {
         match part {
             FrontPart::Magic => Next::number(4, MAGIC.into(), MAGIC, ShapeKind::Magic),
-            FrontPart::Version => Next::number(1, 1, 1, ShapeKind::Version),
+            FrontPart::Version => Next::number(1, 1, 2, ShapeKind::Version),
             FrontPart::Algorithm => Next::number(1, 1, 2, ShapeKind::Algorithm),
             FrontPart::HeaderVersion => Next::number(1, 1, 1, ShapeKind::Version),
             FrontPart::Documents => Next::count(4, 1, 65_536),

@@ -9,7 +9,7 @@ pub enum ShapeKind {
     Cut,
     /// The first four bytes are not `ATSP`.
     Magic,
-    /// A version is not 1.
+    /// The version of the proof is neither 1 nor 2, or that of the header is not 1.
     Version,
     /// The algorithm is neither 1 nor 2.
     Algorithm,

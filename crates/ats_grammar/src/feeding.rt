@@ -4,7 +4,7 @@ ghost use Rattle.std.specs.Prelude.{◌≡◌, ◌≢◌, ℕ, ◌+◌, ◌<◌,
 ghost use Rattle.ats_grammar.specs.declared.fault.ShapeFault.{ShapeFault};
 ghost use Rattle.ats_grammar.specs.declared.fault.ShapeKind.TheVariants.{Cut, Long};
 ghost use Rattle.ats_grammar.specs.Front.{IsSpelling, IsBad};
-ghost use Rattle.ats_grammar.specs.Grammar.{proof_format};
+ghost use Rattle.ats_grammar.specs.Grammar.{proof_schema};
 ghost use Rattle.ats_grammar.specs.Table.{head};
 ghost use Rattle.ats_grammar.specs.State.{remaining};
 ghost use Rattle.ats_grammar.specs.Standing.{IsAt, IsWaiting, IsWrong};
@@ -84,9 +84,9 @@ impl Feeder {
         ensures more { (self.new.length ≡ self.old.length) × (self.new.fed ≡ self.old.fed + length piece.now) }
         ensures stands { (bytes : List ℕ) → StandsFor self.old bytes → StandsFor self.new (bytes ++ piece.now) }
         ensures refused { IfErr result (λ fault. (bytes : List ℕ) → StandsFor self.old bytes
-            → IsBad proof_format (bytes ++ piece.now) fault × (fault.kind ≢ Cut)) }
+            → IsBad proof_schema (bytes ++ piece.now) fault × (fault.kind ≢ Cut)) }
         ensures fine { OnOk result ((bytes : List ℕ) (fault : ShapeFault) → StandsFor self.old bytes
-            → IsBad proof_format (bytes ++ piece.now) fault → fault.kind ≡ Cut) }
+            → IsBad proof_schema (bytes ++ piece.now) fault → fault.kind ≡ Cut) }
     {
         let fed = self.fed + piece.len() as u64;
         self.fed = fed;
@@ -111,9 +111,9 @@ impl Feeder {
     /// # Errors
     /// The first fault of the bytes.
     pub fn finish(&self) -> Result<(), ShapeFault>
-        ensures spelled { OnOk result ((bytes : List ℕ) → StandsFor self.now bytes → IsSpelling proof_format bytes) }
+        ensures spelled { OnOk result ((bytes : List ℕ) → StandsFor self.now bytes → IsSpelling proof_schema bytes) }
         ensures refused { IfErr result (λ fault. (bytes : List ℕ) → StandsFor self.now bytes
-            → IsBad proof_format bytes fault) }
+            → IsBad proof_schema bytes fault) }
     {
         let stand = match self.place {
             Place::Refused(fault) => return Err(fault),

@@ -167,7 +167,7 @@ const BEGUN: [(usize, &[u8], u64, ShapeKind); 27] = [
     (0, b"ATSO", 0, ShapeKind::Magic),
     (0, b"ATSQ", 0, ShapeKind::Magic),
     (4, &[0], 4, ShapeKind::Version),
-    (4, &[2], 4, ShapeKind::Version),
+    (4, &[3], 4, ShapeKind::Version),
     (5, &[0], 5, ShapeKind::Algorithm),
     (5, &[3], 5, ShapeKind::Algorithm),
     (6, &[0], 6, ShapeKind::Version),

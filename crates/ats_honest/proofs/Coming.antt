@@ -4,6 +4,8 @@ use Rattle.std.specs.List.{All, flat_map}
 use Rattle.std.proofs.lemmas.List.Elements.{All-head, All-tail}
 use Rattle.std.proofs.lemmas.List.Sums.{sum_by-cons}
 use Rattle.ats_lists.specs.declared.entry.Entry.{Entry}
+use Rattle.ats_lists.specs.declared.format.Format.{Format}
+use Rattle.ats_lists.specs.declared.format.Format.TheVariants.{One, Two}
 use Rattle.ats_dict.specs.Header.{IsHeader}
 use Rattle.ats_dict.specs.declared.header.Header.{Header}
 use Rattle.ats_proof.specs.declared.record.Slot.{Slot}
@@ -13,7 +15,7 @@ use Rattle.ats_grammar.specs.Table.{Table, Number, End, number, follow}
 use Rattle.ats_grammar.specs.Front.{Come}
 use Rattle.ats_grammar.specs.Grammar as grammar
 use Rattle.ats_proof.specs.Parts.{spelled, counted}
-use Rattle.ats_proof.specs.Value.{ShownEntry, Prefix, Documents, documents_fields, Proof, fields_of, front_fields, header_fields, entry_fields, digest_fields, slot_fields, id_fields, number_of_algorithm, posting_fields, prefix_fields, kind_of_slot, present_in}
+use Rattle.ats_proof.specs.Value.{ShownEntry, Prefix, Documents, documents_fields, Proof, fields_of, front_fields, header_fields, entry_fields, digest_fields, slot_fields, id_fields, number_of_algorithm, number_of_format, posting_fields, prefix_fields, kind_of_slot, present_in}
 use Rattle.ats_proof.proofs.Public.{length-spelled, number-spelled}
 use Rattle.ats_honest.specs.Order.{AreInOrder}
 use Rattle.ats_honest.proofs.Spots.{IsLeaf}
@@ -162,16 +164,20 @@ is_algorithm : (docs : Option Documents) → IsNumber 1 1 2 (spelled 1 (number_o
 is_algorithm None = is_number 0 2 1 2 (omega arith) (omega arith)
 is_algorithm (Some docs) = is_number 0 1 1 2 (omega arith) (omega arith)
 
-come_front : (docs : Option Documents) (h : Header) → IsHeader h.documents h.dict_leaves h.dict_root h.docs_root h.texts_root
-    → Come (front_fields docs ++ header_fields h) grammar.proof (grammar.query_terms (tra_of docs))
-come_front docs h is =
-    let behind : List (List ℕ) = header_fields h in (
+is_version : (format : Format) → IsNumber 1 1 2 (spelled 1 (number_of_format format))
+is_version One = is_number 0 1 1 2 (omega arith) (omega arith)
+is_version Two = is_number 0 2 1 2 (omega arith) (omega arith)
+
+come_front : (format : Format) (docs : Option Documents) (h : Header) → IsHeader h.documents h.dict_leaves h.dict_root h.docs_root h.texts_root
+    → Come (front_fields format docs ++ header_fields h) grammar.proof (grammar.query_terms (tra_of docs))
+come_front format docs h is =
+    let rest : List (List ℕ) = header_fields h in (
       is_number 3 0x41545350 0x41545350 0x41545350 (omega arith) (omega arith),
       (
-        is_number 0 1 1 1 (omega arith) (omega arith),
+        is_version format,
         (
           is_algorithm docs,
-          subst (λ (a : ℕ). Come behind (grammar.header (a == 1)) (grammar.query_terms (tra_of docs))) (sym (number-spelled 0 (number_of_algorithm docs))) (
+          subst (λ (a : ℕ). Come rest (grammar.header (a == 1)) (grammar.query_terms (tra_of docs))) (sym (number-spelled 0 (number_of_algorithm docs))) (
             is_number 0 1 1 1 (omega arith) (omega arith),
             (
               is_number 3 h.documents 1 65536 is.numbers.some is.numbers.few,
@@ -200,7 +206,7 @@ come_proof p is =
     let present = length p.lists in
     let tra = tra_of p.docs in
     let last : Table = grammar.documents tra (length p.met) present in
-    let a : List (List ℕ) = front_fields p.docs ++ header_fields p.header in
+    let a : List (List ℕ) = front_fields p.format p.docs ++ header_fields p.header in
     let b : List (List ℕ) = a ++ spelled 2 n ∷ [] in
     let c : List (List ℕ) = b ++ counted 2 entry_fields p.dict in
     let d : List (List ℕ) = c ++ counted 2 digest_fields p.dict_digests in
@@ -209,7 +215,7 @@ come_proof p is =
     let g : List (List ℕ) = f ++ flat_map prefix_fields p.lists in
     let h : List (List ℕ) = g ++ documents_fields p.docs in
     let come_b : Come b grammar.proof (grammar.dictionary tra n) =
-    come_join a (spelled 2 n ∷ []) grammar.proof (grammar.query_terms tra) (grammar.dictionary tra n) (come_front p.docs p.header is.front)
+    come_join a (spelled 2 n ∷ []) grammar.proof (grammar.query_terms tra) (grammar.dictionary tra n) (come_front p.format p.docs p.header is.front)
     (come_number 1 n 1 32 Count (λ m. grammar.dictionary tra m) [] (grammar.dictionary tra n) is.terms.0 is.terms.1 refl) in
     let come_c : Come c grammar.proof (grammar.dict_digests tra n) =
     come_join b (counted 2 entry_fields p.dict) grammar.proof (grammar.dictionary tra n) (grammar.dict_digests tra n) come_b

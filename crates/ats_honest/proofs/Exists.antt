@@ -33,7 +33,7 @@ use Rattle.ats_honest.specs.Honest.{IsHonest}
 use Rattle.ats_honest.proofs.Needed.{are_needed}
 use Rattle.ats_honest.proofs.Present.{few_idf, lanes_few, lanes_have_lists, some_idf}
 use Rattle.ats_honest.proofs.Standing.{HasTerm, entry_spots, item_spots}
-use Rattle.ats_honest.proofs.Whole.{docs_of, layout_is, proof_of}
+use Rattle.ats_honest.proofs.Whole.{docs_of, proof_of}
 
 -- the positions that spots need can be put in order
 needed_exist : (spots : List Spot) → (positions : List ℕ) × AreNeeded spots positions
@@ -154,7 +154,7 @@ honest_exists H archive query r algorithm are is =
         first = ending.1;
         brackets = made.0;
         bounds = made.1;
-        layout = layout_is archive proof;
+        format = refl;
         header = refl;
         dict = refl;
         dict_digests = refl;

@@ -5,22 +5,22 @@ use Rattle.std.proofs.lemmas.List.FromFn.{length-range_with_len, get_or-range_wi
 use Rattle.std.proofs.lemmas.List.Elements.{All-take}
 use Rattle.ats_lists.specs.declared.entry.Entry.{Entry}
 use Rattle.ats_lists.specs.Lists.{IsList}
-use Rattle.ats_lists.specs.Layout.{Layout}
+use Rattle.ats_lists.specs.declared.format.Format.{Format}
 use Rattle.ats_bound.specs.Schedule.{WholeLane}
 use Rattle.ats_proof.specs.Value.{Prefix}
 use Rattle.ats_honest.specs.Honest.{prefix_of, prefixes}
 
-pub prefix_each : (H : List ℕ → List ℕ) (layout : Layout) (met : List ℕ) (lanes : List WholeLane) (cut : List ℕ) → length cut ≡ length lanes → length (prefixes H layout met lanes cut) ≡ length lanes
-prefix_each H layout met [] cut same = refl
-prefix_each H layout met (lane ∷ lanes) [] same = absurd (omega (arith, same))
-prefix_each H layout met (lane ∷ lanes) (count ∷ cut) same = ap suc (prefix_each H layout met lanes cut (omega (arith, same)))
+pub prefix_each : (H : List ℕ → List ℕ) (format : Format) (met : List ℕ) (lanes : List WholeLane) (cut : List ℕ) → length cut ≡ length lanes → length (prefixes H format met lanes cut) ≡ length lanes
+prefix_each H format met [] cut same = refl
+prefix_each H format met (lane ∷ lanes) [] same = absurd (omega (arith, same))
+prefix_each H format met (lane ∷ lanes) (count ∷ cut) same = ap suc (prefix_each H format met lanes cut (omega (arith, same)))
 
-pub prefix_at : (H : List ℕ → List ℕ) (layout : Layout) (met : List ℕ) (lanes : List WholeLane) (cut : List ℕ) (i : ℕ) (d : Prefix) (e : WholeLane) → length cut ≡ length lanes → i < length lanes
-    → get_or (prefixes H layout met lanes cut) i d ≡ prefix_of H layout met (get_or lanes i e).entries (get_or cut i 0)
-prefix_at H layout met [] cut i d e same inside = absurd (omega (arith, inside))
-prefix_at H layout met (lane ∷ lanes) [] i d e same inside = absurd (omega (arith, same))
-prefix_at H layout met (lane ∷ lanes) (count ∷ cut) zero d e same inside = refl
-prefix_at H layout met (lane ∷ lanes) (count ∷ cut) (suc i) d e same inside = prefix_at H layout met lanes cut i d e (omega (arith, same)) (omega (arith, inside))
+pub prefix_at : (H : List ℕ → List ℕ) (format : Format) (met : List ℕ) (lanes : List WholeLane) (cut : List ℕ) (i : ℕ) (d : Prefix) (e : WholeLane) → length cut ≡ length lanes → i < length lanes
+    → get_or (prefixes H format met lanes cut) i d ≡ prefix_of H format met (get_or lanes i e).entries (get_or cut i 0)
+prefix_at H format met [] cut i d e same inside = absurd (omega (arith, inside))
+prefix_at H format met (lane ∷ lanes) [] i d e same inside = absurd (omega (arith, same))
+prefix_at H format met (lane ∷ lanes) (count ∷ cut) zero d e same inside = refl
+prefix_at H format met (lane ∷ lanes) (count ∷ cut) (suc i) d e same inside = prefix_at H format met lanes cut i d e (omega (arith, same)) (omega (arith, inside))
 
 -- the first numbers are below each end that is not before theirs
 pub range_below : (n m : ℕ) → n ≤ m → All (λ p. p < m) (range_with_len 0 n)

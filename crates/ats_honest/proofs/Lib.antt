@@ -18,6 +18,7 @@ mod Positions
 mod OneProof
 mod OwnEntries
 mod Short
+mod ShortFronts
 mod Standing
 mod Exists
 mod LookedUp

@@ -179,15 +179,17 @@ one_proof H archive query r algorithm a b x y =
     one_bracketing by (shown lanes y.cut) x.brackets y.brackets (subst (λ (c : List ℕ). AreBracketsBy by (shown lanes c) x.brackets) cut x.bounds) y.bounds in
     let answer : a.answer ≡ b.answer =
     one_chosen y.brackets r a.answer b.answer (risen_are_distinct y.brackets y.bounds.rise) (subst (λ (bs : List Bracket). IsChosen bs r a.answer) brackets x.answer) y.answer in
+    let format : a.format ≡ b.format = x.format ∙ sym y.format in
     let header : a.header ≡ b.header = x.header ∙ sym y.header in
     let dict : a.dict ≡ b.dict = x.dict ∙ ap (λ (ps : List ℕ). map (shown_entry entries) ps) positions ∙ sym y.dict in
     let digests : a.dict_digests ≡ b.dict_digests = x.dict_digests ∙ ap (elided_digests H (dict_leaves entries)) positions ∙ sym y.dict_digests in
     let slots : a.slots ≡ b.slots = x.slots ∙ ap₂ (λ (ps : List ℕ) (ss : List Spot). map (slot_of ps) ss) positions spots ∙ sym y.slots in
     let met : a.met ≡ b.met = x.met ∙ ap (λ (bs : List Bracket). map (λ (b : Bracket). b.doc) bs) brackets ∙ sym y.met in
-    let lists : a.lists ≡ b.lists = x.lists ∙ ap₂ (λ (ids c : List ℕ). prefixes H archive.layout ids lanes c) met cut ∙ sym y.lists in
+    let lists : a.lists ≡ b.lists = x.lists ∙ ap₂ (λ (ids c : List ℕ). prefixes H archive.format ids lanes c) met cut ∙ sym y.lists in
     let docs : a.docs ≡ b.docs =
     one_documents algorithm H archive.texts (present archive.texts query) b.met a.docs b.docs (subst (λ (ids : List ℕ). HasDocuments algorithm H archive.texts (present archive.texts query) ids a.docs) met x.docs) y.docs in
     λ i. record {
+      format = format i;
       header = header i;
       dict = dict i;
       dict_digests = digests i;

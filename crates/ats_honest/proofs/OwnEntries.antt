@@ -18,7 +18,7 @@ use Rattle.ats_lists.specs.Lists.{list, vocabulary}
 use Rattle.ats_lists.proofs.Public.{vocabulary_few}
 use Rattle.ats_dict.specs.Entry.{DictEntry}
 use Rattle.ats_dict.proofs.Public.{length-dict_leaves}
-use Rattle.ats_commit.specs.Archive.{Archive, format_of}
+use Rattle.ats_commit.specs.Archive.{Archive}
 use Rattle.ats_commit.specs.Own.{AreTexts}
 use Rattle.ats_commit.specs.Trees.{dictionary_of}
 use Rattle.ats_commit.proofs.Public.{dictionary_count, dictionary_numbers, dictionary_roots, dictionary_terms, few_within}
@@ -70,7 +70,7 @@ own_leaves H sized archive few k d inside =
     record {
       short = subst IsShortTerm same (vocabulary_short archive.texts k [] among);
       number = omega (arith, dictionary_numbers H archive k d inside, count_by-le-length (λ (text : List ℕ). nat_lt 0 (count entry.term text)) archive.texts, few);
-      root = ap (λ (root : List ℕ). length root) (dictionary_roots H archive k d inside) ∙ root-sized H sized (format_of archive.layout) (list archive.texts entry.term);
+      root = ap (λ (root : List ℕ). length root) (dictionary_roots H archive k d inside) ∙ root-sized H sized archive.format (list archive.texts entry.term);
     }
 
 pub own_few : (H : List ℕ → List ℕ) (archive : Archive) → AreTexts archive.texts → length (dictionary_of H archive) ≤ 2 ^ 24

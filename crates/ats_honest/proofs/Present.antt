@@ -52,10 +52,10 @@ lane_none texts query i d inside none =
 pub standing_term : (H : List ℕ → List ℕ) (archive : Archive) (term : List ℕ) (p : ℕ) (d : List ℕ × List Entry) → StandsAt (dictionary_of H archive) term (suc p)
     → (p < length (lists_of archive.texts)) × ((get_or (lists_of archive.texts) p d).0 ≡ term)
 standing_term H archive term p d is =
-    let size = length-map (lists_of archive.texts) (dict_entry H archive.layout) in
+    let size = length-map (lists_of archive.texts) (dict_entry H archive.format) in
     let inside : p < length (lists_of archive.texts) = omega (arith, is.within, size) in
-    let entry : entry_at (dictionary_of H archive) (suc p) ≡ dict_entry H archive.layout (get_or (lists_of archive.texts) p d) =
-    entry_at-suc (dictionary_of H archive) p low (omega (arith, inside, size)) ∙ get_or-map (dict_entry H archive.layout) (lists_of archive.texts) p d low inside in
+    let entry : entry_at (dictionary_of H archive) (suc p) ≡ dict_entry H archive.format (get_or (lists_of archive.texts) p d) =
+    entry_at-suc (dictionary_of H archive) p low (omega (arith, inside, size)) ∙ get_or-map (dict_entry H archive.format) (lists_of archive.texts) p d low inside in
     (inside, ap (λ (e : DictEntry). e.term) (sym entry) ∙ is.same)
 
 -- and some text has it

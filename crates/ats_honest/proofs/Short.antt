@@ -15,9 +15,9 @@ use Rattle.ats_dict.specs.Entry.{DictEntry}
 use Rattle.ats_dict.specs.Header.{IsHeader}
 use Rattle.ats_dict.specs.declared.header.Header.{Header}
 use Rattle.ats_dict.proofs.Public.{length-dict_leaves}
-use Rattle.ats_lists.specs.Layout.{Layout}
+use Rattle.ats_lists.specs.declared.format.Format.{Format}
 use Rattle.ats_lists.proofs.Public.{front-few, front-sized}
-use Rattle.ats_commit.specs.Archive.{Archive, format_of}
+use Rattle.ats_commit.specs.Archive.{Archive}
 use Rattle.ats_commit.specs.Own.{AreTexts}
 use Rattle.ats_commit.specs.Trees.{dictionary_of}
 use Rattle.ats_commit.proofs.Public.{header_in_range, few_within}
@@ -126,25 +126,25 @@ prefixes_size (p ∷ ps) all =
       size-append (prefix_fields p) (flat_map prefix_fields ps),
     )
 
-short_prefix : (H : List ℕ → List ℕ) → ((bytes : List ℕ) → length (H bytes) ≡ 32) → (layout : Layout) (met : List ℕ) (entries : List Entry) (count : ℕ) → IsList 65536 entries
-    → 1 ≤ count → count ≤ length entries → IsShort (prefix_of H layout met entries count)
-short_prefix H sized layout met entries count is some within =
+short_prefix : (H : List ℕ → List ℕ) → ((bytes : List ℕ) → length (H bytes) ≡ 32) → (format : Format) (met : List ℕ) (entries : List Entry) (count : ℕ) → IsList 65536 entries
+    → 1 ≤ count → count ≤ length entries → IsShort (prefix_of H format met entries count)
+short_prefix H sized format met entries count is some within =
     let shown = length-map (take count entries) (placed met) in
     let took = length-take-le count entries within in record {
-      each = front-sized H sized (format_of layout) entries count;
-      short = omega (arith, shown, took, within, is.few, front-few H (format_of layout) entries count some within is.few);
+      each = front-sized H sized format entries count;
+      short = omega (arith, shown, took, within, is.few, front-few H format entries count some within is.few);
     }
 
-short_prefixes : (H : List ℕ → List ℕ) → ((bytes : List ℕ) → length (H bytes) ≡ 32) → (layout : Layout) (met : List ℕ) (lanes : List WholeLane) (cut : List ℕ)
+short_prefixes : (H : List ℕ → List ℕ) → ((bytes : List ℕ) → length (H bytes) ≡ 32) → (format : Format) (met : List ℕ) (lanes : List WholeLane) (cut : List ℕ)
     → All (λ (lane : WholeLane). IsList 65536 lane.entries) lanes → ((i : ℕ) (d : WholeLane) → i < length lanes → (1 ≤ get_or cut i 0) × (get_or cut i 0 ≤ length (get_or lanes i d).entries))
-    → All IsShort (prefixes H layout met lanes cut)
-short_prefixes H sized layout met [] cut lists is k d inside = absurd (omega (arith, inside))
-short_prefixes H sized layout met (lane ∷ lanes) [] lists is k d inside = absurd (omega (arith, inside))
-short_prefixes H sized layout met (lane ∷ lanes) (count ∷ cut) lists is zero d inside =
+    → All IsShort (prefixes H format met lanes cut)
+short_prefixes H sized format met [] cut lists is k d inside = absurd (omega (arith, inside))
+short_prefixes H sized format met (lane ∷ lanes) [] lists is k d inside = absurd (omega (arith, inside))
+short_prefixes H sized format met (lane ∷ lanes) (count ∷ cut) lists is zero d inside =
     let first = is 0 lane (omega arith) in
-    short_prefix H sized layout met lane.entries count (All-head (λ (l : WholeLane). IsList 65536 l.entries) lane lanes lists) first.0 first.1
-short_prefixes H sized layout met (lane ∷ lanes) (count ∷ cut) lists is (suc k) d inside =
-    short_prefixes H sized layout met lanes cut (All-tail (λ (l : WholeLane). IsList 65536 l.entries) lane lanes lists) (λ i e less. is (suc i) e (omega (arith, less))) k d (omega (arith, inside))
+    short_prefix H sized format met lane.entries count (All-head (λ (l : WholeLane). IsList 65536 l.entries) lane lanes lists) first.0 first.1
+short_prefixes H sized format met (lane ∷ lanes) (count ∷ cut) lists is (suc k) d inside =
+    short_prefixes H sized format met lanes cut (All-tail (λ (l : WholeLane). IsList 65536 l.entries) lane lanes lists) (λ i e less. is (suc i) e (omega (arith, less))) k d (omega (arith, inside))
 
 -- ---- the whole
 
@@ -183,7 +183,7 @@ record HasFew (proof : Proof) : Type 0 where
 
 few_short : (proof : Proof) → HasFew proof → length_of proof ≤ 2 ^ 26
 few_short proof is =
-    let a = front_fields proof.docs in
+    let a = front_fields proof.format proof.docs in
     let b = header_fields proof.header in
     let c : List (List ℕ) = spelled 2 (length proof.slots) ∷ [] in
     let d = counted 2 entry_fields proof.dict in
@@ -193,7 +193,7 @@ few_short proof is =
     let h = flat_map prefix_fields proof.lists in
     let i = documents_fields proof.docs in
     let j = counted 2 id_fields proof.answer in
-    let one : size a ≡ 6 = ap (λ (docs : Option Documents). size (front_fields docs)) is.alone in
+    let one : size a ≡ 6 = ap (λ (docs : Option Documents). size (front_fields proof.format docs)) is.alone in
     let four : size d ≤ 6722 = omega (arith, entries_size proof.dict is.entries, is.leaves) in
     let five : size e ≤ 2097122 = omega (arith, digests_size proof.dict_digests is.others.each, is.others.few) in
     let six : size f ≤ 96 = omega (arith, slots_size proof.slots, is.terms) in
@@ -255,8 +255,8 @@ module _ (H : List ℕ → List ℕ) (sized : (bytes : List ℕ) → length (H b
     others = others;
     terms = omega (arith, ap (λ (slots : List Slot). length slots) honest.slots, length-map honest.spots (slot_of honest.positions), terms, few);
     met = met;
-    lists = subst (All IsShort) (sym honest.lists) (short_prefixes H sized archive.layout proof.met lanes honest.cut lists is_cut.each);
-    fronts = omega (arith, ap (λ (ps : List Prefix). length ps) honest.lists, prefix_each H archive.layout proof.met lanes honest.cut is_cut.size, lanes_few archive.texts query, few);
+    lists = subst (All IsShort) (sym honest.lists) (short_prefixes H sized archive.format proof.met lanes honest.cut lists is_cut.each);
+    fronts = omega (arith, ap (λ (ps : List Prefix). length ps) honest.lists, prefix_each H archive.format proof.met lanes honest.cut is_cut.size, lanes_few archive.texts query, few);
     alone = honest.docs;
     rows = omega (arith, ap (λ (picks : List ℕ). length picks) honest.answer.first, length-take r honest.answer.all, rows);
   }

@@ -19,10 +19,9 @@ use Rattle.ats_dict.specs.Header.{IsHeader}
 use Rattle.ats_dict.specs.declared.spot.Spot.{Spot}
 use Rattle.ats_dict.specs.declared.spot.Spot.TheVariants.{At, Between}
 use Rattle.ats_dict.proofs.Public.{length-dict_leaves}
-use Rattle.ats_lists.specs.Layout.{Layout}
+use Rattle.ats_lists.specs.declared.format.Format.{Format}
 use Rattle.ats_lists.proofs.Public.{front-few, front-sized}
-use Rattle.ats_commit.specs.Archive.{Archive, format_of}
-use Rattle.ats_commit.proofs.Public.{same_layout}
+use Rattle.ats_commit.specs.Archive.{Archive}
 use Rattle.ats_commit.specs.Root.{header_parts}
 use Rattle.ats_commit.specs.Trees.{dictionary_of}
 use Rattle.ats_bound.specs.declared.bracket.Bracket.{Bracket}
@@ -33,7 +32,7 @@ use Rattle.ats_grammar.specs.Table.{End}
 use Rattle.ats_grammar.specs.Front.{Come}
 use Rattle.ats_grammar.specs.Grammar as grammar
 use Rattle.ats_proof.specs.declared.record.Algorithm.{Algorithm}
-use Rattle.ats_proof.specs.Value.{Documents, Proof, AreDocumentsOf, fields_of, layout_of, kind_of_slot, present_in}
+use Rattle.ats_proof.specs.Value.{Documents, Proof, AreDocumentsOf, fields_of, kind_of_slot, present_in}
 use Rattle.ats_honest.specs.Order.{AreInOrder}
 use Rattle.ats_honest.specs.Terms.{AreSpots, AreNeeded, shown_entry, slot_of}
 use Rattle.ats_honest.specs.Documents.{HasDocuments}
@@ -80,9 +79,9 @@ lanes_each H archive query positions spots are =
 
 -- ---- prefixes
 
-good_prefix : (H : List ℕ → List ℕ) → ((bytes : List ℕ) → length (H bytes) ≡ 32) → (layout : Layout) (met : List ℕ) (entries : List Entry) (count : ℕ) → length met ≤ 65536 → IsList 65536 entries
-    → 1 ≤ count → count ≤ length entries → IsGoodPrefix (prefix_of H layout met entries count)
-good_prefix H sized layout met entries count few is some within =
+good_prefix : (H : List ℕ → List ℕ) → ((bytes : List ℕ) → length (H bytes) ≡ 32) → (format : Format) (met : List ℕ) (entries : List Entry) (count : ℕ) → length met ≤ 65536 → IsList 65536 entries
+    → 1 ≤ count → count ≤ length entries → IsGoodPrefix (prefix_of H format met entries count)
+good_prefix H sized format met entries count few is some within =
     let size = length-map (take count entries) (placed met) in
     let took = length-take-le count entries within in
     let none : Entry = record { doc = 0; impact = 0 } in record {
@@ -95,21 +94,21 @@ good_prefix H sized layout met entries count few is some within =
           let impact = (All-take (λ (x : Entry). (1 ≤ x.impact) × (x.impact ≤ 2200)) count entries is.impacts k none here).1 in
           (omega (arith, ap (λ (x : Entry). x.doc) at, count_by-le-length (λ m. nat_lt m e.doc) met, few), omega (arith, ap (λ (x : Entry). x.impact) at, impact));
       others = record {
-        few = omega (arith, front-few H (format_of layout) entries count some within is.few);
-        each = front-sized H sized (format_of layout) entries count;
+        few = omega (arith, front-few H format entries count some within is.few);
+        each = front-sized H sized format entries count;
       };
     }
 
-good_prefixes : (H : List ℕ → List ℕ) → ((bytes : List ℕ) → length (H bytes) ≡ 32) → (layout : Layout) (met : List ℕ) (lanes : List WholeLane) (cut : List ℕ) → length met ≤ 65536
+good_prefixes : (H : List ℕ → List ℕ) → ((bytes : List ℕ) → length (H bytes) ≡ 32) → (format : Format) (met : List ℕ) (lanes : List WholeLane) (cut : List ℕ) → length met ≤ 65536
     → All (λ (lane : WholeLane). IsList 65536 lane.entries) lanes → ((i : ℕ) (d : WholeLane) → i < length lanes → (1 ≤ get_or cut i 0) × (get_or cut i 0 ≤ length (get_or lanes i d).entries))
-    → All IsGoodPrefix (prefixes H layout met lanes cut)
-good_prefixes H sized layout met [] cut few lists is k d inside = absurd (omega (arith, inside))
-good_prefixes H sized layout met (lane ∷ lanes) [] few lists is k d inside = absurd (omega (arith, inside))
-good_prefixes H sized layout met (lane ∷ lanes) (count ∷ cut) few lists is zero d inside =
+    → All IsGoodPrefix (prefixes H format met lanes cut)
+good_prefixes H sized format met [] cut few lists is k d inside = absurd (omega (arith, inside))
+good_prefixes H sized format met (lane ∷ lanes) [] few lists is k d inside = absurd (omega (arith, inside))
+good_prefixes H sized format met (lane ∷ lanes) (count ∷ cut) few lists is zero d inside =
     let first = is 0 lane (omega arith) in
-    good_prefix H sized layout met lane.entries count few (All-head (λ (l : WholeLane). IsList 65536 l.entries) lane lanes lists) first.0 first.1
-good_prefixes H sized layout met (lane ∷ lanes) (count ∷ cut) few lists is (suc k) d inside =
-    good_prefixes H sized layout met lanes cut few (All-tail (λ (l : WholeLane). IsList 65536 l.entries) lane lanes lists) (λ i e less. is (suc i) e (omega (arith, less))) k d (omega (arith, inside))
+    good_prefix H sized format met lane.entries count few (All-head (λ (l : WholeLane). IsList 65536 l.entries) lane lanes lists) first.0 first.1
+good_prefixes H sized format met (lane ∷ lanes) (count ∷ cut) few lists is (suc k) d inside =
+    good_prefixes H sized format met lanes cut few (All-tail (λ (l : WholeLane). IsList 65536 l.entries) lane lanes lists) (λ i e less. is (suc i) e (omega (arith, less))) k d (omega (arith, inside))
 
 -- ---- rows
 
@@ -146,19 +145,16 @@ docs_of brackets = map (λ (b : Bracket). b.doc) brackets
 
 abbrev pub proof_of : (List ℕ → List ℕ) → Archive → List (List ℕ × ℕ) → List Spot → List ℕ → List ℕ → List Bracket → Option Documents → List ℕ → Proof
 proof_of H archive query spots positions cut brackets docs picks = record {
+  format = archive.format;
   header = header_parts H archive;
   dict = map (shown_entry (dictionary_of H archive)) positions;
   dict_digests = elided_digests H (dict_leaves (dictionary_of H archive)) positions;
   slots = map (slot_of positions) spots;
   met = docs_of brackets;
-  lists = prefixes H archive.layout (docs_of brackets) (lanes_of archive.texts query) cut;
+  lists = prefixes H archive.format (docs_of brackets) (lanes_of archive.texts query) cut;
   docs = docs;
   answer = picks;
 }
-
--- the layout of a proof is that of any archive, as there is one
-pub layout_is : (archive : Archive) (proof : Proof) → layout_of proof ≡ archive.layout
-layout_is archive proof = same_layout (layout_of proof) archive.layout
 
 pub is_honest : (H : List ℕ → List ℕ) (archive : Archive) (query : List (List ℕ × ℕ)) (r : ℕ) (algorithm : Algorithm) (spots : List Spot) (positions cut : List ℕ) (brackets : List Bracket) (docs : Option Documents) (picks : List ℕ)
     → HasParts H archive query r algorithm spots positions cut brackets docs picks → IsHonest H archive query r algorithm (proof_of H archive query spots positions cut brackets docs picks)
@@ -171,7 +167,7 @@ is_honest H archive query r algorithm spots positions cut brackets docs picks pa
   first = parts.first;
   brackets = brackets;
   bounds = parts.bounds;
-  layout = layout_is archive (proof_of H archive query spots positions cut brackets docs picks);
+  format = refl;
   header = refl;
   dict = refl;
   dict_digests = refl;
@@ -183,10 +179,10 @@ is_honest H archive query r algorithm spots positions cut brackets docs picks pa
 }
 
 pub lists_each : (H : List ℕ → List ℕ) (archive : Archive) (query : List (List ℕ × ℕ)) (r : ℕ) (algorithm : Algorithm) (spots : List Spot) (positions cut : List ℕ) (brackets : List Bracket) (docs : Option Documents) (picks : List ℕ)
-    → HasParts H archive query r algorithm spots positions cut brackets docs picks → length (prefixes H archive.layout (docs_of brackets) (lanes_of archive.texts query) cut) ≡ present_in (map (slot_of positions) spots)
+    → HasParts H archive query r algorithm spots positions cut brackets docs picks → length (prefixes H archive.format (docs_of brackets) (lanes_of archive.texts query) cut) ≡ present_in (map (slot_of positions) spots)
 lists_each H archive query r algorithm spots positions cut brackets docs picks parts =
     let is_cut = scheduled_is_cut (lanes_of archive.texts query) parts.first.turns cut (have_entries (lanes_of archive.texts query) parts.whole) parts.first.scheduled in
-    prefix_each H archive.layout (docs_of brackets) (lanes_of archive.texts query) cut is_cut.size ∙ lanes_each H archive query positions spots parts.found
+    prefix_each H archive.format (docs_of brackets) (lanes_of archive.texts query) cut is_cut.size ∙ lanes_each H archive query positions spots parts.found
 
 is_in_range : (H : List ℕ → List ℕ) (archive : Archive) (query : List (List ℕ × ℕ)) (r : ℕ) (algorithm : Algorithm) (spots : List Spot) (positions cut : List ℕ) (brackets : List Bracket) (docs : Option Documents) (picks : List ℕ)
     → HasParts H archive query r algorithm spots positions cut brackets docs picks → IsInRange (proof_of H archive query spots positions cut brackets docs picks)
@@ -213,9 +209,9 @@ is_in_range H archive query r algorithm spots positions cut brackets docs picks 
       places = good_slots entries positions query spots parts.dictionary parts.positions_few parts.is_query.rises parts.found;
       ids = (few, good_ids ids 0 rises (λ k d less. omega arith) below);
       prefix_each = lists_each H archive query r algorithm spots positions cut brackets docs picks parts;
-      fronts = good_prefixes H parts.sized archive.layout ids lanes cut few parts.lists is_cut.each;
+      fronts = good_prefixes H parts.sized archive.format ids lanes cut few parts.lists is_cut.each;
       rows = (parts.rows, small_rows brackets r picks (omega (arith, few, length-map brackets (λ (b : Bracket). b.doc))) parts.chosen);
-      documents = subst (λ (n : ℕ). AreInOrder (length ids) n docs) (sym (prefix_each H archive.layout ids lanes cut is_cut.size ∙ length-map (present archive.texts query) (lane_of archive.texts))) parts.documents_come;
+      documents = subst (λ (n : ℕ). AreInOrder (length ids) n docs) (sym (prefix_each H archive.format ids lanes cut is_cut.size ∙ length-map (present archive.texts query) (lane_of archive.texts))) parts.documents_come;
     }
 
 -- its fields are in the grammar's order

@@ -6,15 +6,15 @@ use Rattle.ats_lists.specs.declared.entry.Entry.{Entry}
 use Rattle.ats_dict.specs.declared.spot.Spot.{Spot}
 use Rattle.ats_dict.specs.Dictionary.{dict_leaves}
 use Rattle.ats_lists.specs.Formats.{prefix_digests}
-use Rattle.ats_lists.specs.Layout.{Layout}
-use Rattle.ats_commit.specs.Archive.{Archive, format_of}
+use Rattle.ats_lists.specs.declared.format.Format.{Format}
+use Rattle.ats_commit.specs.Archive.{Archive}
 use Rattle.ats_commit.specs.Root.{header_parts}
 use Rattle.ats_commit.specs.Trees.{dictionary_of}
 use Rattle.ats_bound.specs.declared.bracket.Bracket.{Bracket}
 use Rattle.ats_bound.specs.Chosen.{IsChosen}
 use Rattle.ats_bound.specs.Schedule.{WholeLane, AreBracketsBy, IsFirstSettledBy, shown}
 use Rattle.ats_proof.specs.declared.record.Algorithm.{Algorithm}
-use Rattle.ats_proof.specs.Value.{Prefix, Proof, IsProof, layout_of, fields_of}
+use Rattle.ats_proof.specs.Value.{Prefix, Proof, IsProof, fields_of}
 use Rattle.ats_honest.specs.Terms.{AreSpots, AreNeeded, place, shown_entry, slot_of}
 use Rattle.ats_honest.specs.Lanes.{bounding, lanes_of, present}
 use Rattle.ats_honest.specs.Documents.{HasDocuments}
@@ -24,17 +24,17 @@ abbrev pub placed : List ℕ → Entry → Entry
 placed met entry = record { doc = place met entry.doc; impact = entry.impact }
 
 -- the first `count` entries of a list, and the digests that the list's format needs besides
-abbrev pub prefix_of : (List ℕ → List ℕ) → Layout → List ℕ → List Entry → ℕ → Prefix
-prefix_of H layout met entries count = record {
+abbrev pub prefix_of : (List ℕ → List ℕ) → Format → List ℕ → List Entry → ℕ → Prefix
+prefix_of H format met entries count = record {
   entries = map (placed met) (take count entries);
-  digests = prefix_digests H (format_of layout) entries count;
+  digests = prefix_digests H format entries count;
 }
 
 -- of each list the first entries, as many as the cut says
-abbrev pub prefixes : (List ℕ → List ℕ) → Layout → List ℕ → List WholeLane → List ℕ → List Prefix
-prefixes H layout met [] cut = []
-prefixes H layout met (lane ∷ lanes) [] = []
-prefixes H layout met (lane ∷ lanes) (count ∷ cut) = prefix_of H layout met lane.entries count ∷ prefixes H layout met lanes cut
+abbrev pub prefixes : (List ℕ → List ℕ) → Format → List ℕ → List WholeLane → List ℕ → List Prefix
+prefixes H format met [] cut = []
+prefixes H format met (lane ∷ lanes) [] = []
+prefixes H format met (lane ∷ lanes) (count ∷ cut) = prefix_of H format met lane.entries count ∷ prefixes H format met lanes cut
 
 -- The honest proof shows the leaves that prove where the query's terms are; the first cut of the schedule at which an
 -- answer is settled by the algorithm's brackets, with the documents that it meets and what is shown of them; and the
@@ -48,14 +48,14 @@ pub record IsHonest (H : List ℕ → List ℕ) (archive : Archive) (query : Lis
   pub first : IsFirstSettledBy (bounding algorithm (lanes_of archive.texts query)) (lanes_of archive.texts query) r cut
   pub brackets : List Bracket
   pub bounds : AreBracketsBy (bounding algorithm (lanes_of archive.texts query)) (shown (lanes_of archive.texts query) cut) brackets
-  pub layout : layout_of proof ≡ archive.layout
+  pub format : proof.format ≡ archive.format
   pub header : proof.header ≡ header_parts H archive
   pub dict : proof.dict ≡ map (shown_entry (dictionary_of H archive)) positions
   pub dict_digests : proof.dict_digests ≡ elided_digests H (dict_leaves (dictionary_of H archive)) positions
   pub slots : proof.slots ≡ map (slot_of positions) spots
   -- the met ids are the documents of the brackets
   pub met : proof.met ≡ map (λ (b : Bracket). b.doc) brackets
-  pub lists : proof.lists ≡ prefixes H archive.layout proof.met (lanes_of archive.texts query) cut
+  pub lists : proof.lists ≡ prefixes H archive.format proof.met (lanes_of archive.texts query) cut
   pub docs : HasDocuments algorithm H archive.texts (present archive.texts query) proof.met proof.docs
   pub answer : IsChosen brackets r proof.answer
 

@@ -1,8 +1,9 @@
 //! The laws of all honest proofs, as contracts of functions that do nothing.
 
-ghost use Rattle.std.specs.Prelude.{◌≡◌, ◌<◌, ◌≤◌, ◌^◌, ℕ, List, length};
+ghost use Rattle.std.specs.Prelude.{◌≡◌, ◌<◌, ◌≤◌, ◌^◌, ℕ, List, All, length};
 ghost use Rattle.ats_terms.specs.Query.{IsQuery};
 ghost use Rattle.ats_lists.specs.Lists.{list};
+ghost use Rattle.ats_lists.specs.declared.format.Format.TheVariants.{Two};
 ghost use Rattle.ats_dict.specs.declared.spot.Spot.TheVariants.{At, Between};
 ghost use Rattle.ats_doctree.specs.Impacts.{doc_terms};
 ghost use Rattle.ats_doctree.specs.Sentinels.{impact_at};
@@ -37,6 +38,14 @@ pub fn honest_proofs_are_short<H: HashKind>()
     ensures { (archive : Archive) (query : List (List ℕ × ℕ)) (r : ℕ) (proof : Proof)
         → AreTexts archive.texts → length query ≤ 32 → r ≤ 1000
         → IsHonest H.hash archive query r Tnra proof → length_of proof ≤ 2 ^ 26 }
+{}
+
+/// Over an archive whose lists stand in blocks, an honest proof shows each list with at most 7 digests, however many of
+/// its entries are shown.
+pub fn fronts_in_blocks_are_short<H: HashKind>()
+    ensures { (archive : Archive) (query : List (List ℕ × ℕ)) (r : ℕ) (algorithm : Algorithm) (proof : Proof)
+        → archive.format ≡ Two → IsHonest H.hash archive query r algorithm proof
+        → All (λ prefix. length prefix.digests ≤ 7) proof.lists }
 {}
 
 /// The impacts that are looked up are those that the terms of the documents show: for a term at a leaf the impact

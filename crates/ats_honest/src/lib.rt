@@ -7,13 +7,13 @@
 //! The room defines this over the archive only, and has no code but laws. It stands on `ats_commit` for the archive's
 //! trees, on `ats_bound` for settled answers, and on `ats_proof` for what a proof says. It knows neither the prover,
 //! which makes honest proofs, nor the check, which accepts them. The laws promise that a query over an archive has
-//! exactly one honest proof by each algorithm, and that a TNRA proof never has more than 2^26 bytes. How the laws are
-//! proved may change freely.
+//! exactly one honest proof by each algorithm, that a TNRA proof never has more than 2^26 bytes, and that lists in blocks
+//! are shown with few digests. How the laws are proved may change freely.
 #![tactic(auto)]
 
 mod laws;
 
 pub use laws::{
-    honest_proofs_are_one, honest_proofs_are_short, honest_proofs_exist,
-    impacts_are_shown_by_documents,
+    fronts_in_blocks_are_short, honest_proofs_are_one, honest_proofs_are_short,
+    honest_proofs_exist, impacts_are_shown_by_documents,
 };

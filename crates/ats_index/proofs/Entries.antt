@@ -13,8 +13,7 @@ use Rattle.ats_lists.specs.Leaf.{leaf_bytes}
 use Rattle.ats_lists.specs.declared.entry.Entry.{Entry}
 use Rattle.ats_dict.specs.Dictionary.{IsBelow, IsAboveLast}
 use Rattle.ats_dict.specs.Entry.{DictEntry}
-use Rattle.ats_lists.specs.Layout.{Layout}
-use Rattle.ats_commit.specs.Archive.{format_of}
+use Rattle.ats_lists.specs.declared.format.Format.{Format}
 use Rattle.ats_commit.specs.Trees.{dict_entry}
 use Rattle.ats_index.specs.Kept.{all_list_digests}
 
@@ -26,31 +25,31 @@ above_last (entry ∷ entries) term below =
     let last : ℕ = length (entry ∷ entries) - 1 in
     rw (slice_get-get_or (entry ∷ entries) last entry (omega arith)) (below last entry (omega arith))
 
-module _ (H : List ℕ → List ℕ) (layout : Layout) (lists : List (List ℕ × List Entry)) (i : ℕ) (inside : i < length lists) where
-  below_next : IsStrictlySortedBy byte_cmp (map (λ list. list.0) lists) → (k : ℕ) (d : DictEntry) → k < length (map (dict_entry H layout) (take i lists))
-      → IsBelow (get_or (map (dict_entry H layout) (take i lists)) k d).term (get_or lists i ([], [])).0
+module _ (H : List ℕ → List ℕ) (format : Format) (lists : List (List ℕ × List Entry)) (i : ℕ) (inside : i < length lists) where
+  below_next : IsStrictlySortedBy byte_cmp (map (λ list. list.0) lists) → (k : ℕ) (d : DictEntry) → k < length (map (dict_entry H format) (take i lists))
+      → IsBelow (get_or (map (dict_entry H format) (take i lists)) k d).term (get_or lists i ([], [])).0
   below_next rises k d before =
       let first : List ℕ × List Entry → List ℕ = λ list. list.0 in
-      let early : k < i = omega (arith, before, length-map (take i lists) (dict_entry H layout), length-take-le i lists (omega arith)) in
+      let early : k < i = omega (arith, before, length-map (take i lists) (dict_entry H format), length-take-le i lists (omega arith)) in
       let less : byte_cmp (get_or (map first lists) k []) (get_or (map first lists) i []) ≡ Less =
       Less-from_sorted byte_cmp (map first lists) k i [] rises early (omega (arith, length-map lists first)) in
-      rw (get_or-map (dict_entry H layout) (take i lists) k ([], []) d (omega (arith, early, length-take-le i lists (omega arith))), get_or-take i lists k ([], []) early)
+      rw (get_or-map (dict_entry H format) (take i lists) k ([], []) d (omega (arith, early, length-take-le i lists (omega arith))), get_or-take i lists k ([], []) early)
       (rw (get_or-map first lists k ([], []) [] (omega arith), get_or-map first lists i ([], []) [] inside) at less)
 
   -- the term of the next list is above those of the lists before it
   pub next_above : IsStrictlySortedBy byte_cmp (map (λ list. list.0) lists) → (term : List ℕ) → term ≡ (get_or lists i ([], [])).0
-      → IsAboveLast (map (dict_entry H layout) (take i lists)) term
-  next_above rises term is = rw is (above_last (map (dict_entry H layout) (take i lists)) (get_or lists i ([], [])).0 (below_next rises))
+      → IsAboveLast (map (dict_entry H format) (take i lists)) term
+  next_above rises term is = rw is (above_last (map (dict_entry H format) (take i lists)) (get_or lists i ([], [])).0 (below_next rises))
 
   -- the entries with that of the next list
   pub next_entry : (term : List ℕ) (entries : List Entry) (root : List ℕ) → term ≡ (get_or lists i ([], [])).0 → entries ≡ (get_or lists i ([], [])).1
-      → root ≡ list_root H (format_of layout) entries
-      → map (dict_entry H layout) (take i lists) ++ record { term = term; f = length entries; root = root } ∷ [] ≡ map (dict_entry H layout) (take (i + 1) lists)
+      → root ≡ list_root H format entries
+      → map (dict_entry H format) (take i lists) ++ record { term = term; f = length entries; root = root } ∷ [] ≡ map (dict_entry H format) (take (i + 1) lists)
   next_entry term entries root is_term are_entries is_root =
       let one : DictEntry = record { term = term; f = length entries; root = root } in
-      let same : one ≡ dict_entry H layout (get_or lists i ([], [])) = rw (is_root, are_entries, is_term) refl in
-      rw (add-one, take-suc lists i ([], []) inside, map-append (dict_entry H layout) (take i lists) (get_or lists i ([], []) ∷ []))
-      (ap (λ (e : DictEntry). map (dict_entry H layout) (take i lists) ++ e ∷ []) same)
+      let same : one ≡ dict_entry H format (get_or lists i ([], [])) = rw (is_root, are_entries, is_term) refl in
+      rw (add-one, take-suc lists i ([], []) inside, map-append (dict_entry H format) (take i lists) (get_or lists i ([], []) ∷ []))
+      (ap (λ (e : DictEntry). map (dict_entry H format) (take i lists) ++ e ∷ []) same)
 
   -- the digests of the lists' trees with those of the next list's
   pub next_digests : (entries : List Entry) (kept : List (List ℕ)) → entries ≡ (get_or lists i ([], [])).1 → kept ≡ kept_digests H (map leaf_bytes entries)

@@ -4,10 +4,9 @@ use Rattle.std.specs.List.{flat_map}
 use Rattle.std.proofs.lemmas.List.Elements.{All-tail}
 use Rattle.ats_impact.specs.Limits.{AllShort, AreWithin}
 use Rattle.ats_lists.specs.Lists.{lists_of}
-use Rattle.ats_lists.specs.Layout.{Layout}
+use Rattle.ats_lists.specs.declared.format.Format.{Format}
 use Rattle.ats_commit.specs.Archive.{Archive}
 use Rattle.ats_commit.specs.Root.{root_of}
-use Rattle.ats_commit.proofs.Public.{same_layout}
 use Rattle.ats_index.specs.Spelling.{IsSpelling, front_bytes, text_bytes, lists_bytes}
 use Rattle.ats_index.specs.LoadFaults.{BeginWith}
 use Rattle.ats_index.proofs.Reading.{front_number, front_rest, text_number, text_first, text_rest}
@@ -76,7 +75,7 @@ one_beginning bytes texts others first second =
 -- no two archives have the same index bytes
 pub one_archive : (H : List ℕ → List ℕ) (bytes : List ℕ) (archive other : Archive) → IsSpelling H bytes archive → IsSpelling H bytes other → archive ≡ other
 one_archive H bytes archive other first second =
-    let Made : List (List ℕ) → Layout → Archive = λ (t : List (List ℕ)) (l : Layout). record { texts = t; layout = l } in
+    let Made : List (List ℕ) → Format → Archive = λ (t : List (List ℕ)) (l : Format). record { texts = t; format = l } in
     ap₂ Made
     (one_beginning bytes archive.texts other.texts (spelled_begins H bytes archive first) (spelled_begins H bytes other second))
-    (same_layout archive.layout other.layout)
+    (first.format ∙ sym second.format)

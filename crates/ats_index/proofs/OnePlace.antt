@@ -311,4 +311,4 @@ module _ (H : List ℕ → List ℕ) (bytes : List ℕ) where
       none_bad bytes archive.texts (spelled_begins H bytes archive spelling) is.field is.behind is.reached is.bad is.same
   no_place at archive (inr is) spelling =
       let texts : is.texts ≡ archive.texts = one_beginning bytes is.texts archive.texts is.begins (spelled_begins H bytes archive spelling) in
-      is.differs.other (spelling.same ∙ sym (ap (index_bytes H) (same_archive archive texts)))
+      is.differs.other (spelling.same ∙ sym (ap (index_bytes H) (same_archive archive spelling.format texts)))

@@ -150,7 +150,7 @@ IsIndexOrFault H bytes = ((archive : Archive) × IsSpelling H bytes archive) ⊎
 module _ (H : List ℕ → List ℕ) (bytes : List ℕ) where
   last_by : (texts : List (List ℕ)) → BeginWith bytes texts → (equal : Bool) → bytes_eq bytes (index_bytes H (archive_of texts)) ≡ equal → IsIndexOrFault H bytes
   last_by texts begins true test =
-      inl (archive_of texts, record { utf8 = begins.utf8; within = begins.within; same = (bytes_eq-Decides bytes (index_bytes H (archive_of texts))).0 test })
+      inl (archive_of texts, record { utf8 = begins.utf8; within = begins.within; format = refl; same = (bytes_eq-Decides bytes (index_bytes H (archive_of texts))).0 test })
   last_by texts begins false test =
       let all : List ℕ = index_bytes H (archive_of texts) in
       inr (

@@ -7,6 +7,7 @@ use Rattle.ats_impact.specs.Limits.{AreWithin}
 use Rattle.ats_lists.specs.Leaf.{leaf_bytes}
 use Rattle.ats_lists.specs.Lists.{lists_of}
 use Rattle.ats_lists.specs.declared.entry.Entry.{Entry}
+use Rattle.ats_lists.specs.declared.format.Format.TheVariants.{One}
 use Rattle.ats_commit.specs.Archive.{Archive}
 use Rattle.ats_commit.specs.Root.{root_of}
 
@@ -34,8 +35,9 @@ lists_bytes lists = to_be_bytes w32 (length lists) ++ flat_map list_bytes lists
 abbrev pub index_bytes : (List ℕ → List ℕ) → Archive → List ℕ
 index_bytes H archive = texts_bytes archive.texts ++ lists_bytes (lists_of archive.texts) ++ root_of H archive
 
--- the bytes are the index of this archive
+-- the bytes are the index of this archive, in which each list is one tree
 pub record IsSpelling (H : List ℕ → List ℕ) (bytes : List ℕ) (archive : Archive) : Type 0 where
   pub utf8 : All IsUtf8 archive.texts
   pub within : AreWithin archive.texts
+  pub format : archive.format ≡ One
   pub same : bytes ≡ index_bytes H archive

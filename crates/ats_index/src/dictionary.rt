@@ -4,7 +4,6 @@ ghost use Rattle.std.specs.Prelude.{◌≡◌, ◌<◌, [], length, map, slice_i
 ghost use Rattle.ats_tree.specs.Kept.{kept_digests};
 ghost use Rattle.ats_dict.specs.Dictionary.{dict_leaves};
 ghost use Rattle.ats_lists.specs.Formats.{list_root};
-ghost use Rattle.ats_lists.specs.Layout.{whole_lists};
 ghost use Rattle.ats_lists.specs.Leaf.{leaf_bytes};
 ghost use Rattle.ats_lists.specs.declared.format.Format.TheVariants.{One};
 ghost use Rattle.ats_commit.specs.Trees.{dict_entry};
@@ -58,7 +57,7 @@ pub(crate) fn dictionary_of<H: HashKind>(
     nodes: &[Nodes],
 ) -> Result<Dictionary, OutOfMemory>
     requires { nodes.now ≡ all_list_digests H.hash lists.now }
-    ensures { IfOk result (λ made. made ≡ map (dict_entry H.hash whole_lists) lists.now) }
+    ensures { IfOk result (λ made. made ≡ map (dict_entry H.hash One) lists.now) }
 {
     let mut dictionary = Dictionary::new(alloc);
     for i in 0..lists.len() {
@@ -92,7 +91,7 @@ pub(crate) fn dictionary_tree<H: Hash32>(
     nodes: &[Nodes],
 ) -> Result<DictionaryTree, OutOfMemory>
     requires { nodes.now ≡ all_list_digests H.hash lists.now }
-    ensures dictionary { IfOk result (λ made. made.dictionary ≡ map (dict_entry H.hash whole_lists) lists.now) }
+    ensures dictionary { IfOk result (λ made. made.dictionary ≡ map (dict_entry H.hash One) lists.now) }
     ensures nodes { IfOk result (λ made. made.nodes ≡ kept_digests H.hash (dict_leaves made.dictionary)) }
 {
     let dictionary = dictionary_of::<H>(alloc, lists, nodes)?;

@@ -6,6 +6,7 @@ ghost use Rattle.ats_tree.specs.Tree.{mth};
 ghost use Rattle.ats_lists.specs.Leaf.{leaf_bytes};
 ghost use Rattle.ats_lists.specs.Lists.{lists_of};
 ghost use Rattle.ats_lists.specs.declared.entry.Entry.{Entry};
+ghost use Rattle.ats_lists.specs.declared.format.Format.TheVariants.{One};
 ghost use Rattle.ats_dict.specs.Dictionary.{dict_leaves};
 ghost use Rattle.ats_doctree.specs.Impacts.{doc_terms};
 ghost use Rattle.ats_doctree.specs.Sentinels.{terms_leaves};
@@ -81,9 +82,10 @@ impl<H: HashKind> Index<H> {
         self.root
     }
 
-    /// The header. The root is its digest.
+    /// The header. The root is its digest, and each list is one tree.
     pub fn header(&self) -> &Header
         ensures parts { result.now ≡ header_parts H.hash self.now }
+        ensures format { self.now.format ≡ One }
         ensures texts { AreTexts self.now.texts }
     {
         &self.header

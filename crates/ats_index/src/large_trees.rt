@@ -2,7 +2,7 @@
 
 ghost use Rattle.std.specs.Prelude.{◌≡◌, ◌<◌, [], length, map, slice_index_or, IfOk};
 ghost use Rattle.ats_tree.specs.Kept.{kept_digests};
-ghost use Rattle.ats_lists.specs.Layout.{whole_lists};
+ghost use Rattle.ats_lists.specs.declared.format.Format.TheVariants.{One};
 ghost use Rattle.ats_lists.specs.Leaf.{leaf_bytes};
 ghost use Rattle.ats_dict.specs.Dictionary.{dict_leaves};
 ghost use Rattle.ats_doctree.specs.Sentinels.{terms_leaves};
@@ -73,7 +73,7 @@ pub(crate) fn dictionary_tree<H: Hash32 + Sync, R: Threads + Sync>(
     nodes: &[Nodes],
 ) -> Result<DictionaryTree, OutOfMemory>
     requires { nodes.now ≡ all_list_digests H.hash lists.now }
-    ensures dictionary { IfOk result (λ made. made.dictionary ≡ map (dict_entry H.hash whole_lists) lists.now) }
+    ensures dictionary { IfOk result (λ made. made.dictionary ≡ map (dict_entry H.hash One) lists.now) }
     ensures nodes { IfOk result (λ made. made.nodes ≡ kept_digests H.hash (dict_leaves made.dictionary)) }
 {
     let dictionary = dictionary_of::<H>(alloc, lists, nodes)?;

@@ -9,7 +9,7 @@ ghost use Rattle.ats_terms.specs.Query.{counted};
 ghost use Rattle.ats_tree.specs.Kept.{kept_digests};
 ghost use Rattle.ats_tree.specs.Tree.{mth};
 ghost use Rattle.ats_dict.specs.Dictionary.{dict_leaves};
-ghost use Rattle.ats_lists.specs.Layout.{whole_lists};
+ghost use Rattle.ats_lists.specs.declared.format.Format.TheVariants.{One};
 ghost use Rattle.ats_commit.specs.Trees.{dict_entry, documents_of};
 ghost use Rattle.ats_lists.specs.Leaf.{leaf_bytes};
 ghost use Rattle.ats_lists.specs.Lists.{lists_of};
@@ -366,7 +366,7 @@ pub(crate) fn upper_trees<H: Hash32 + Sync, R: Threads + Sync>(
     requires terms { parts.now.terms.items ≡ all_terms collection.now }
     requires term_nodes { parts.now.term_nodes.items ≡ all_term_digests H.hash collection.now }
     requires list_nodes { parts.now.list_nodes.items ≡ all_list_digests H.hash parts.now.lists }
-    ensures dictionary { IfOk result (λ made. made.0.dictionary ≡ map (dict_entry H.hash whole_lists) parts.now.lists) }
+    ensures dictionary { IfOk result (λ made. made.0.dictionary ≡ map (dict_entry H.hash One) parts.now.lists) }
     ensures dict_nodes { IfOk result (λ made. made.0.nodes ≡ kept_digests H.hash (dict_leaves made.0.dictionary)) }
     ensures leaves { IfOk result (λ made. made.1.leaves.items ≡ all_leaves H.hash collection.now) }
     ensures docs_nodes { IfOk result (λ made. made.1.nodes ≡ kept_digests H.hash (documents_of H.hash collection.now)) }
@@ -377,7 +377,7 @@ pub(crate) fn upper_trees<H: Hash32 + Sync, R: Threads + Sync>(
             requires sync { IsSync R.row × IsSync H.row }
             requires nodes { parts.now.list_nodes.items ≡ all_list_digests H.hash parts.now.lists }
             ensures dictionary { IfOk result (λ made.
-                made.dictionary ≡ map (dict_entry H.hash whole_lists) parts.entry.now.lists) }
+                made.dictionary ≡ map (dict_entry H.hash One) parts.entry.now.lists) }
             ensures nodes { IfOk result (λ made. made.nodes ≡ kept_digests H.hash (dict_leaves made.dictionary)) }
         { dictionary_tree::<H, R>(rt, alloc, &parts.lists, &parts.list_nodes) },
         || -> Result<DocumentsTree, OutOfMemory>

@@ -6,7 +6,6 @@ ghost use Rattle.ats_tree.specs.declared.hashed.Tree.TheVariants.{Header as Head
 ghost use Rattle.ats_lists.specs.Formats.{list_string};
 ghost use Rattle.ats_lists.specs.Leaf.{leaf_bytes};
 ghost use Rattle.ats_lists.specs.Lists.{list};
-ghost use Rattle.ats_commit.specs.Archive.{format_of};
 ghost use Rattle.ats_commit.specs.Ours.{own_leaves, own_string, ours};
 ghost use Rattle.ats_commit.specs.Places.{numbers_at, IsOfQuery};
 ghost use Rattle.ats_commit.specs.Trees.{documents_of};
@@ -14,7 +13,7 @@ ghost use Rattle.ats_commit.specs.Trees.{documents_of};
 use crate::index::Index;
 use ats_commit::{DocLeaves, OwnStrings, string_of_header};
 use ats_hash::{Hash32, Steps};
-use ats_lists::ListLeaves;
+use ats_lists::{Format, ListLeaves};
 use ats_terms::Query;
 use ats_tree::{HashedString, Place, ShownTree, Tree};
 
@@ -46,15 +45,17 @@ impl<H: Hash32> Index<H> {
         if place.depth > 0 {
             return None;
         }
-        Some(string_of_header(self.header()))
+        Some(string_of_header(Format::One, self.header()))
     }
 
     // A string of the tree of a term's list.
     fn list_string(&self, term: &[u8], place: &Place) -> Option<HashedString>
         requires { place.now.depth ≤ 32 }
-        ensures { result ≡ list_string H.hash (format_of self.now.layout) (list self.now.texts term.now)
+        ensures { result ≡ list_string H.hash self.now.format (list self.now.texts term.now)
             (numbers_at place.now) }
     {
+        // By the header's contract each list is one tree.
+        let _header = self.header();
         let lists = self.lists();
         match lists.find(term) {
             Some(i) => {
@@ -157,7 +158,14 @@ impl<H: Hash32> OwnStrings<H> for Index<H> {
         Index::<H>::hashed_string(self, place, query)
     }
 
-    fn has_shown<S: ShownTree>(&self, tree: Tree, n: u32, query: &Query, shown: &mut S) -> bool {
+    fn has_shown<S: ShownTree>(
+        &self,
+        format: Format,
+        tree: Tree,
+        n: u32,
+        query: &Query,
+        shown: &mut S,
+    ) -> bool {
         let mut steps = Steps::new(self.alloc);
         match tree {
             Tree::Header => false,
@@ -166,12 +174,10 @@ impl<H: Hash32> OwnStrings<H> for Index<H> {
                 self.dict_nodes()
                     .has_shown::<H, _, S>(leaves, n, shown, &mut steps)
             }
-            Tree::List { term } => self.has_entries(
-                query.term(term as usize),
-                n,
-                shown,
-                &mut steps,
-            ),
+            Tree::List { term } => match format {
+                Format::One => self.has_entries(query.term(term as usize), n, shown, &mut steps),
+                Format::Two => false,
+            },
             Tree::Documents => self.has_documents(n, shown, &mut steps),
             Tree::Terms { doc } => self.has_terms(doc, n, shown, &mut steps),
         }

@@ -338,7 +338,7 @@ first-own H ds k some within =
 
 -- ---- where strings stand
 
-not_some : (o : Option (List ℕ)) → o ≡ None → IsSome o → ⊥
+pub not_some : (o : Option (List ℕ)) → o ≡ None → IsSome o → ⊥
 not_some None none there = absurd (cc)
 not_some (Some x) none there = absurd (cc)
 

@@ -18,4 +18,5 @@ mod ChainLaws
 mod ChainClashes
 mod FormatLemmas
 mod FormatLaws
+mod FormatPlaces
 mod KeptChains

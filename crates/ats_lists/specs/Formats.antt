@@ -1,5 +1,5 @@
 -- How a list stands in trees, by its format: its root, its strings, and what its first entries give.
-use Rattle.std.specs.Prelude.{◌≡◌, ℕ, List, map, Option, Some, MatchOption, All, slice_get}
+use Rattle.std.specs.Prelude.{◌≡◌, ℕ, ◌+◌, min, List, map, Option, Some, MatchOption, All, slice_get}
 use Rattle.std.specs.List.{range_with_len}
 use Rattle.ats_tree.specs.Differences.{Hashed, moved, Difference, first_difference}
 use Rattle.ats_tree.specs.Elided.{elided_digests, shown_with}
@@ -25,6 +25,11 @@ list_root H Two entries = chain H (map leaf_bytes entries)
 abbrev pub list_string : (List ℕ → List ℕ) → Format → List Entry → NodeNumbers → Option (List ℕ)
 list_string H One entries at = node_string H (map leaf_bytes entries) (by_path (path_of at.depth at.turns))
 list_string H Two entries at = chain_string H (map leaf_bytes entries) at.depth at.turns
+
+-- how deep the strings of a list of at most 2^h entries stand, at most
+abbrev pub deepest : Format → ℕ → ℕ
+deepest One h = h
+deepest Two h = min (1 + h) 7
 
 -- the leaves of the first `count` entries of a list, at their positions
 abbrev pub first_leaves : List Entry → ℕ → List Shown

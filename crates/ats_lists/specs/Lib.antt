@@ -2,7 +2,6 @@ pub mod Postings
 pub mod Lists
 pub mod Leaf
 pub mod Gathered
-pub mod Layout
 pub mod Blocks
 pub mod Chain
 pub mod ChainPrefix

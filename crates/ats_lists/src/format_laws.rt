@@ -1,10 +1,10 @@
 //! The laws that lists keep in either format, as contracts of functions that do nothing.
 
-ghost use Rattle.std.specs.Prelude.{◌≡◌, ℕ, ◌≤◌, List, [], ◌∷◌, length, All, Some, None, IfSome};
+ghost use Rattle.std.specs.Prelude.{◌≡◌, ℕ, ◌<◌, ◌≤◌, ◌^◌, List, [], ◌∷◌, length, All, Some, None, IfSome, IsSome};
 ghost use Rattle.std.specs.List.{range_with_len};
 ghost use Rattle.ats_tree.specs.Nodes.{NodeNumbers};
 ghost use Rattle.ats_tree.specs.Shown.{Shown, positions_of};
-ghost use Rattle.ats_lists.specs.Formats.{first_leaves, list_root, list_string, prefix_digests, prefix_root, prefix_strings, IsListBoundTo};
+ghost use Rattle.ats_lists.specs.Formats.{deepest, first_leaves, list_root, list_string, prefix_digests, prefix_root, prefix_strings, IsListBoundTo};
 ghost use Rattle.ats_lists.specs.declared.entry.Entry.{Entry};
 ghost use Rattle.ats_lists.specs.declared.format.Format.{Format};
 
@@ -41,4 +41,16 @@ pub fn list_strings_have_tags<H: HashKind>()
         → IfSome (list_string H.hash format entries at)
         (λ text. (tag : ℕ) × (rest : List ℕ) × (tag ≤ 3) × (text ≡ tag ∷ rest)) }
     ensures empty { (format : Format) (at : NodeNumbers) → list_string H.hash format [] at ≡ None }
+{}
+
+/// In one tree a string of at most 2^h entries is at most `h` deep. In blocks it is at most 1 + h deep, and at most 7. A
+/// string has numbers that fit 32 bits.
+pub fn list_strings_are_shallow<H: HashKind>()
+    ensures depth { (format : Format) (entries : List Entry) (at : NodeNumbers) (h : ℕ) → length entries ≤ 2 ^ h
+        → IsSome (list_string H.hash format entries at) → at.depth ≤ deepest format h }
+    ensures turns { (format : Format) (entries : List Entry) (at : NodeNumbers) → length entries ≤ 2 ^ 31
+        → IsSome (list_string H.hash format entries at)
+        → (turns : ℕ) × (turns < 2 ^ 32)
+        × (list_string H.hash format entries (record { depth = at.depth; turns = turns })
+        ≡ list_string H.hash format entries at) }
 {}

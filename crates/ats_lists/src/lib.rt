@@ -53,7 +53,9 @@ pub use chain_laws::{chain_of_strings, chain_strings_have_numbers, first_leaves_
 pub use chain_rebuilding::chain_rebuild;
 pub use entry::Entry;
 pub use format::Format;
-pub use format_laws::{first_entries_suffice, first_leaves_are_bound, list_strings_have_tags};
+pub use format_laws::{
+    first_entries_suffice, first_leaves_are_bound, list_strings_are_shallow, list_strings_have_tags,
+};
 pub use laws::{lists_are_sorted_postings, lists_have_all_documents, vocabulary_has_all_terms};
 pub use leaves::ListLeaves;
 pub use list_keeping::ListDigests;

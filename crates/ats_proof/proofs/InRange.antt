@@ -8,6 +8,7 @@ use Rattle.std.proofs.lemmas.List.Sorted.{IsNonDecreasingBy-from_all_adjacent}
 use Rattle.ats_dict.specs.Header.{IsHeader}
 use Rattle.ats_dict.specs.declared.header.Header.{Header}
 use Rattle.ats_lists.specs.declared.entry.Entry.{Entry}
+use Rattle.ats_lists.specs.declared.format.Format.{Format}
 use Rattle.ats_doctree.specs.declared.doc_leaf.DocLeaf.{DocLeaf}
 use Rattle.ats_proof.specs.declared.record.Slot.{Slot}
 use Rattle.ats_grammar.specs.declared.fault.ShapeKind.{ShapeKind}
@@ -21,7 +22,7 @@ use Rattle.ats_proof.specs.Ranges.{AreDigests, IsShownInRange, IsEntryInRange, I
 use Rattle.ats_proof.proofs.Numbers.{number-spelled}
 use Rattle.ats_proof.proofs.Standing.{IsRanged}
 use Rattle.ats_proof.proofs.Runs.{runs, state_after}
-use Rattle.ats_proof.proofs.Formats.{U, digest_part, id_part, posting_part, slot_part, doc_slot_part, doc_part, entry_part, term_part}
+use Rattle.ats_proof.proofs.PartKinds.{U, digest_part, id_part, posting_part, slot_part, doc_slot_part, doc_part, entry_part, term_part}
 use Rattle.ats_proof.proofs.Tables.{digests_run, ids_run, entries_run, slots_run, doc_slots_run, docs_run, dict_run, terms_run, prefix_part, prefixes_run}
 use Rattle.ats_proof.proofs.Whole.{next_slot, present_after}
 use Rattle.ats_proof.proofs.Unique.{after_lists, after_slots, after_terms, fields_in_turn}
@@ -114,9 +115,9 @@ pub record IsBegun (h : Header) (n : ℕ) : Type 0 where
   pub header : IsHeader h.documents h.dict_leaves h.dict_root h.docs_root h.texts_root
   pub terms : IsRanged 1 32 n
 
-header_holds : (docs : Option Documents) (h : Header) (n : ℕ) (after : List (List ℕ)) → Come (front_fields docs ++ (header_fields h ++ (spelled 2 n ∷ after))) proof End
+header_holds : (format : Format) (docs : Option Documents) (h : Header) (n : ℕ) (after : List (List ℕ)) → Come (front_fields format docs ++ (header_fields h ++ (spelled 2 n ∷ after))) proof End
     → Holds (IsBegun h n) (dictionary (is_shown docs) n) after
-header_holds docs h n after come =
+header_holds format docs h n after come =
     let tra = is_shown docs in
     let roots = h.dict_root ∷ h.docs_root ∷ h.texts_root ∷ spelled 2 n ∷ after in
     let numbers = spelled 4 h.documents ∷ spelled 4 h.dict_leaves ∷ roots in
@@ -364,7 +365,7 @@ in_range bytes p is =
     let tra = is_shown p.docs in
     let present = present_in p.slots in
     let come = subst (λ (fields : List (List ℕ)). Come fields proof End) (fields_in_turn p) is.spells.whole.come in
-    let header = header_holds p.docs p.header (length p.slots) (after_terms p) come in
+    let header = header_holds p.format p.docs p.header (length p.slots) (after_terms p) come in
     let dict = dict_holds tra (length p.slots) p.dict p.dict_digests (flat_map slot_fields p.slots ++ after_slots p) header.come in
     let own = slots_hold tra p.slots (after_slots p) header.is_good.terms dict.come in
     let ids = met_holds tra present p.met (flat_map prefix_fields p.lists ++ after_lists p) own.come in

@@ -2,7 +2,7 @@ pub mod Public
 mod Numbers
 mod Standing
 mod Runs
-mod Formats
+mod PartKinds
 mod Tables
 mod Taking
 mod Sections

@@ -8,7 +8,7 @@ use Rattle.ats_proof.specs.Value.{digest_fields, slot_fields, posting_fields, pr
 use Rattle.ats_proof.specs.Reading.{digest_in, digest_size, slot_in, slot_size, posting_in, posting_size, prefix_in, prefix_size, term_in, term_size, section_in, section_size, section_slots_place}
 use Rattle.ats_proof.proofs.Standing.{Stands, HasFront}
 use Rattle.ats_proof.proofs.Runs.{then_run, has_counted, then_counted}
-use Rattle.ats_proof.proofs.Formats.{U, digest_part, one_digest, posting_part, one_posting, term_part, one_term, doc_slot_part, one_doc_slot}
+use Rattle.ats_proof.proofs.PartKinds.{U, digest_part, one_digest, posting_part, one_posting, term_part, one_term, doc_slot_part, one_doc_slot}
 use Rattle.ats_proof.proofs.Tables.{digests_run, entries_run, terms_run, doc_slots_run, prefix_part, section_part}
 
 -- counted digests after a front

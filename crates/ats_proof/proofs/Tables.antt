@@ -3,7 +3,7 @@ use Rattle.std.proofs.Common.{◌≡◌, ℕ, zero, suc, ◌+◌, Bool, refl, ap
 use Rattle.ats_grammar.specs.Table.{Table, End, Bytes}
 use Rattle.ats_grammar.specs.Grammar.{any_2, any_4, rising, term_length, index, kind, digests, rows, doc_slots, term_leaves, term_section, term_sections, answer, doc_leaves, entries, prefix, prefixes, met_ids, slots, met, dict_leaves}
 use Rattle.ats_proof.proofs.Runs.{runs}
-use Rattle.ats_proof.proofs.Formats.{U, digest_part, id_part, row_part, posting_part, slot_part, doc_slot_part, doc_part, entry_part, term_part}
+use Rattle.ats_proof.proofs.PartKinds.{U, digest_part, id_part, row_part, posting_part, slot_part, doc_slot_part, doc_part, entry_part, term_part}
 
 pub digests_run : (n : ℕ) (rest : Table) → digests n rest ≡ runs digest_part n tt (λ _. rest)
 digests_run zero rest = refl

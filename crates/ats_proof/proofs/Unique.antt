@@ -4,13 +4,15 @@ use Rattle.std.specs.List.{All, concat, flat_map}
 use Rattle.std.proofs.lemmas.List.Elements.{All-tail}
 use Rattle.ats_dict.specs.Entry.{DictEntry}
 use Rattle.ats_lists.specs.declared.entry.Entry.{Entry}
+use Rattle.ats_lists.specs.declared.format.Format.{Format}
+use Rattle.ats_lists.specs.declared.format.Format.TheVariants.{One, Two}
 use Rattle.ats_doctree.specs.declared.doc_leaf.DocLeaf.{DocLeaf}
 use Rattle.ats_proof.specs.declared.record.Slot.{Slot}
 use Rattle.ats_grammar.specs.Table.{number}
-use Rattle.ats_grammar.specs.Grammar.{proof_format}
+use Rattle.ats_grammar.specs.Grammar.{proof_schema}
 use Rattle.ats_grammar.proofs.Public.{one_spelling}
 use Rattle.ats_proof.specs.Parts.{spelled, counted}
-use Rattle.ats_proof.specs.Value.{ShownEntry, ShownTerm, Prefix, TermsSection, Documents, Proof, IsProof, AreDocuments, AreDocumentsOf, digest_fields, slot_fields, kind_of_slot, id_fields, posting_fields, entry_fields, doc_fields, term_fields, prefix_fields, section_fields, documents_fields, front_fields, header_fields, fields_of, number_of_algorithm, present_in}
+use Rattle.ats_proof.specs.Value.{ShownEntry, ShownTerm, Prefix, TermsSection, Documents, Proof, IsProof, AreDocuments, AreDocumentsOf, digest_fields, slot_fields, kind_of_slot, id_fields, posting_fields, entry_fields, doc_fields, term_fields, prefix_fields, section_fields, documents_fields, front_fields, header_fields, fields_of, number_of_format, number_of_algorithm, present_in}
 use Rattle.ats_proof.specs.Reading.{proof_in}
 use Rattle.ats_proof.proofs.Numbers.{AreBytes, number-spelled}
 use Rattle.ats_proof.proofs.Whole.{whole}
@@ -164,13 +166,23 @@ shown_documents_tell p q met present (Some x) (Some y) a b one other same e =
 
 -- ---- the whole
 
-front_tells : (x y : Option Documents) (a b : List (List ℕ)) → front_fields x ++ a ≡ front_fields y ++ b → AreSame (number_of_algorithm x) (number_of_algorithm y) a b
-front_tells x y a b e =
+format_told : (f g : Format) → number_of_format f ≡ number_of_format g → f ≡ g
+format_told One One same = refl
+format_told One Two same = absurd (omega (arith, same))
+format_told Two One same = absurd (omega (arith, same))
+format_told Two Two same = refl
+
+pub record AreSameFronts (f g : Format) (x y : Option Documents) (a b : List (List ℕ)) : Type 0 where
+  pub format : f ≡ g
+  pub algorithm : AreSame (number_of_algorithm x) (number_of_algorithm y) a b
+
+front_tells : (f g : Format) (x y : Option Documents) (a b : List (List ℕ)) → front_fields f x ++ a ≡ front_fields g y ++ b → AreSameFronts f g x y a b
+front_tells f g x y a b e =
     let xs = spelled 1 (number_of_algorithm x) ∷ a in
     let ys = spelled 1 (number_of_algorithm y) ∷ b in
-    let magic = first (spelled 4 0x41545350) (spelled 4 0x41545350) (spelled 1 1 ∷ xs) (spelled 1 1 ∷ ys) e in
-    let version = first (spelled 1 1) (spelled 1 1) xs ys magic.rest in
-    number_first 0 (number_of_algorithm x) (number_of_algorithm y) a b version.rest
+    let magic = first (spelled 4 0x41545350) (spelled 4 0x41545350) (spelled 1 (number_of_format f) ∷ xs) (spelled 1 (number_of_format g) ∷ ys) e in
+    let version = number_first 0 (number_of_format f) (number_of_format g) xs ys magic.rest in
+    record { format = format_told f g version.value; algorithm = number_first 0 (number_of_algorithm x) (number_of_algorithm y) a b version.rest }
 
 header_tells : Tells header_fields
 header_tells x y a b e =
@@ -210,16 +222,16 @@ in_turn a b c d f g h j k l =
     ∙ append_assoc (a ++ b) c (d ++ (f ++ (g ++ (h ++ (j ++ (k ++ (l ++ [])))))))
     ∙ append_assoc a b (c ++ (d ++ (f ++ (g ++ (h ++ (j ++ (k ++ (l ++ []))))))))
 
-pub fields_in_turn : (p : Proof) → fields_of p ≡ front_fields p.docs ++ (header_fields p.header ++ (spelled 2 (length p.slots) ∷ after_terms p))
-fields_in_turn p = in_turn (front_fields p.docs) (header_fields p.header) (spelled 2 (length p.slots) ∷ []) (counted 2 entry_fields p.dict) (counted 2 digest_fields p.dict_digests)
+pub fields_in_turn : (p : Proof) → fields_of p ≡ front_fields p.format p.docs ++ (header_fields p.header ++ (spelled 2 (length p.slots) ∷ after_terms p))
+fields_in_turn p = in_turn (front_fields p.format p.docs) (header_fields p.header) (spelled 2 (length p.slots) ∷ []) (counted 2 entry_fields p.dict) (counted 2 digest_fields p.dict_digests)
     (flat_map slot_fields p.slots) (counted 4 id_fields p.met) (flat_map prefix_fields p.lists) (documents_fields p.docs) (counted 2 id_fields p.answer)
 
 pub one_value : (bytes : List ℕ) (p q : Proof) → IsProof bytes p → IsProof bytes q → p ≡ q
 one_value bytes p q one other =
-    let e = one_spelling proof_format bytes (fields_of p) (fields_of q) one.spells other.spells in
-    let front = front_tells p.docs q.docs (header_fields p.header ++ (spelled 2 (length p.slots) ∷ after_terms p)) (header_fields q.header ++ (spelled 2 (length q.slots) ∷ after_terms q))
+    let e = one_spelling proof_schema bytes (fields_of p) (fields_of q) one.spells other.spells in
+    let front = front_tells p.format q.format p.docs q.docs (header_fields p.header ++ (spelled 2 (length p.slots) ∷ after_terms p)) (header_fields q.header ++ (spelled 2 (length q.slots) ∷ after_terms q))
     (sym (fields_in_turn p) ∙ e ∙ fields_in_turn q) in
-    let header = header_tells p.header q.header (spelled 2 (length p.slots) ∷ after_terms p) (spelled 2 (length q.slots) ∷ after_terms q) front.rest in
+    let header = header_tells p.header q.header (spelled 2 (length p.slots) ∷ after_terms p) (spelled 2 (length q.slots) ∷ after_terms q) front.algorithm.rest in
     let terms = number_first 1 (length p.slots) (length q.slots) (after_terms p) (after_terms q) header.rest in
     let dict = counted_tells 1 entry_fields entry_tells p.dict q.dict (counted 2 digest_fields p.dict_digests ++ (flat_map slot_fields p.slots ++ after_slots p))
     (counted 2 digest_fields q.dict_digests ++ (flat_map slot_fields q.slots ++ after_slots q)) terms.rest in
@@ -229,9 +241,10 @@ one_value bytes p q one other =
     let met = counted_tells 3 id_fields id_tells p.met q.met (flat_map prefix_fields p.lists ++ after_lists p) (flat_map prefix_fields q.lists ++ after_lists q) slots.rest in
     let lists = runs_tell prefix_fields prefix_tells p.lists q.lists (after_lists p) (after_lists q) (one.prefix_each ∙ present ∙ sym other.prefix_each) met.rest in
     let docs = shown_documents_tell p q (ap length met.value) present p.docs q.docs (counted 2 id_fields p.answer ++ []) (counted 2 id_fields q.answer ++ [])
-    one.documents other.documents front.value lists.rest in
+    one.documents other.documents front.algorithm.value lists.rest in
     let answer = counted_tells 1 id_fields id_tells p.answer q.answer [] [] docs.rest in
     λ i. record {
+      format = front.format i;
       header = header.value i;
       dict = dict.value i;
       dict_digests = digests.value i;

@@ -1,21 +1,22 @@
 -- Bytes whose fields are a proof's spell what they say.
-use Rattle.std.proofs.Common.{◌≡◌, ◌∙◌, ℕ, zero, suc, ◌+◌, ◌==◌, ◌≤◌, Bool, true, false, List, [], ◌∷◌, ◌++◌, length, take, drop, refl, sym, ap, subst, append_assoc, append-nil, add_assoc, zero-add, arith}
+use Rattle.std.proofs.Common.{◌≡◌, ◌∙◌, ℕ, zero, suc, ◌+◌, ◌==◌, ◌≤◌, if◌then◌else◌, Bool, true, false, List, [], ◌∷◌, ◌++◌, length, take, drop, refl, sym, ap, subst, append_assoc, append-nil, add_assoc, zero-add, arith}
 use Rattle.std.proofs.lemmas.List.Sums.{sum_by-cons}
 use Rattle.std.specs.List.{AllByRecursion, concat, flat_map}
 use Rattle.std.proofs.lemmas.List.Elements.{All-from_recursion}
 use Rattle.ats_grammar.specs.Front.{Come, Spells, IsSpelling}
 use Rattle.ats_grammar.specs.declared.fault.ShapeKind.TheVariants.{Count}
 use Rattle.ats_grammar.specs.Table.{Table, End, Number}
-use Rattle.ats_grammar.specs.Grammar.{proof, proof_format, query_terms, dictionary, dict_digests, slots, met, prefixes, documents, doc_digests, term_sections, answer}
+use Rattle.ats_grammar.specs.Grammar.{proof, proof_schema, query_terms, dictionary, dict_digests, slots, met, prefixes, documents, doc_digests, term_sections, answer}
+use Rattle.ats_lists.specs.declared.format.Format.TheVariants.{One, Two}
 use Rattle.ats_proof.specs.declared.record.Slot.{Slot}
 use Rattle.ats_proof.specs.Parts.{spelled, number_in, parts_in, counted_in, counted_size, counted}
-use Rattle.ats_proof.specs.Value.{IsProof, AreDocumentsOf, digest_fields, slot_fields, id_fields, entry_fields, prefix_fields, doc_fields, section_fields, fields_of, front_fields, header_fields, documents_fields, number_of_algorithm, kind_of_slot, present_in}
-use Rattle.ats_proof.specs.Reading.{digest_in, digest_size, slot_in, slot_size, id_in, id_size, entry_in, entry_size, prefix_in, prefix_size, doc_in, doc_size, section_in, section_size, section_slots_place, header_in, terms_in, dict_digests_place, slots_place, slots_in, met_place, met_in, lists_place, docs_place, doc_digests_place, sections_place, is_tra, answer_place, documents_in, proof_in}
+use Rattle.ats_proof.specs.Value.{IsProof, AreDocumentsOf, digest_fields, slot_fields, id_fields, entry_fields, prefix_fields, doc_fields, section_fields, fields_of, front_fields, header_fields, documents_fields, number_of_format, number_of_algorithm, kind_of_slot, present_in}
+use Rattle.ats_proof.specs.Reading.{digest_in, digest_size, slot_in, slot_size, id_in, id_size, entry_in, entry_size, prefix_in, prefix_size, doc_in, doc_size, section_in, section_size, section_slots_place, format_in, header_in, terms_in, dict_digests_place, slots_place, slots_in, met_place, met_in, lists_place, docs_place, doc_digests_place, sections_place, is_tra, answer_place, documents_in, proof_in}
 use Rattle.ats_proof.specs.Told.{HasRoom}
 use Rattle.ats_proof.proofs.Numbers.{AreBytes}
 use Rattle.ats_proof.proofs.Standing.{Stands, HasFront, nothing, then_number, then_bytes}
 use Rattle.ats_proof.proofs.Runs.{state_after, length-parts, then_run, then_counted}
-use Rattle.ats_proof.proofs.Formats.{id_part, one_id, row_part, one_row, slot_part, one_slot, doc_part, one_doc, entry_part, one_entry}
+use Rattle.ats_proof.proofs.PartKinds.{id_part, one_id, row_part, one_row, slot_part, one_slot, doc_part, one_doc, entry_part, one_entry}
 use Rattle.ats_proof.proofs.Tables.{rows_run, ids_run, slots_run, docs_run, dict_run, prefix_part, prefixes_run, section_part, sections_run}
 use Rattle.ats_proof.proofs.Sections.{then_digests, one_prefix, one_section}
 
@@ -34,6 +35,12 @@ slots_by_recursion present (suc n) bytes =
 
 -- ---- the front and the header
 
+same_format : (n : ℕ) → 1 ≤ n → n ≤ 2 → n ≡ number_of_format (if n == 2 then Two else One)
+same_format zero some few = absurd (omega (arith, some))
+same_format (suc zero) some few = refl
+same_format (suc (suc zero)) some few = refl
+same_format (suc (suc (suc n))) some few = absurd (omega (arith, few))
+
 same_algorithm : (n : ℕ) (bytes : List ℕ) → 1 ≤ n → n ≤ 2 → n ≡ number_of_algorithm (documents_in (n == 1) bytes)
 same_algorithm zero bytes some few = absurd (omega (arith, some))
 same_algorithm (suc zero) bytes some few = refl
@@ -46,7 +53,7 @@ FrontWith fields bytes magic version algorithm again =
     ∷ take 32 (drop 15 bytes) ∷ take 32 (drop 47 bytes) ∷ take 32 (drop 79 bytes) ∷ []) 111 (query_terms (is_tra bytes)) fields bytes
 
 then_front : (fields : List (List ℕ)) (bytes : List ℕ) → Stands proof fields bytes
-    → HasFront (front_fields (documents_in (is_tra bytes) bytes) ++ header_fields (header_in bytes)) 111 (query_terms (is_tra bytes)) fields bytes
+    → HasFront (front_fields (format_in bytes) (documents_in (is_tra bytes) bytes) ++ header_fields (header_in bytes)) 111 (query_terms (is_tra bytes)) fields bytes
 then_front fields bytes is =
     let magic = then_number (nothing proof fields bytes is) in
     let version = then_number magic.front in
@@ -55,14 +62,14 @@ then_front fields bytes is =
     let numbers = then_number (then_number again.front).front in
     let roots = then_bytes (then_bytes (then_bytes numbers.front)) in
     let m : number_in 4 bytes ≡ 0x41545350 = omega (arith, magic.range.least, magic.range.most) in
-    let v : number_in 1 (drop 4 bytes) ≡ 1 = omega (arith, version.range.least, version.range.most) in
+    let v : number_in 1 (drop 4 bytes) ≡ number_of_format (format_in bytes) = same_format (number_in 1 (drop 4 bytes)) version.range.least version.range.most in
     let w : number_in 1 (drop 6 bytes) ≡ 1 = omega (arith, again.range.least, again.range.most) in
     let a = same_algorithm (number_in 1 (drop 5 bytes)) bytes algorithm.range.least algorithm.range.most in
     let whole : FrontWith fields bytes (number_in 4 bytes) (number_in 1 (drop 4 bytes)) (number_in 1 (drop 5 bytes)) (number_in 1 (drop 6 bytes)) = roots in
     let first = subst (λ (n : ℕ). FrontWith fields bytes n (number_in 1 (drop 4 bytes)) (number_in 1 (drop 5 bytes)) (number_in 1 (drop 6 bytes))) m whole in
     let second = subst (λ (n : ℕ). FrontWith fields bytes 0x41545350 n (number_in 1 (drop 5 bytes)) (number_in 1 (drop 6 bytes))) v first in
-    let third = subst (λ (n : ℕ). FrontWith fields bytes 0x41545350 1 (number_in 1 (drop 5 bytes)) n) w second in
-    subst (λ (n : ℕ). FrontWith fields bytes 0x41545350 1 n 1) a third
+    let third = subst (λ (n : ℕ). FrontWith fields bytes 0x41545350 (number_of_format (format_in bytes)) (number_in 1 (drop 5 bytes)) n) w second in
+    subst (λ (n : ℕ). FrontWith fields bytes 0x41545350 (number_of_format (format_in bytes)) n 1) a third
 
 -- ---- the dictionary section, the slots and the met ids
 
@@ -129,7 +136,7 @@ pub is_read : (fields : List (List ℕ)) (bytes : List ℕ) → Stands proof fie
 is_read fields bytes is =
     let terms = then_number (then_front fields bytes is) in
     let tra = is_tra bytes in
-    let begun = subst (λ (n : ℕ). HasFront (front_fields (documents_in tra bytes) ++ header_fields (header_in bytes) ++ spelled 2 n ∷ []) 113 (dictionary tra (terms_in bytes)) fields bytes)
+    let begun = subst (λ (n : ℕ). HasFront (front_fields (format_in bytes) (documents_in tra bytes) ++ header_fields (header_in bytes) ++ spelled 2 n ∷ []) 113 (dictionary tra (terms_in bytes)) fields bytes)
     (sym (length-parts slot_size slot_in (terms_in bytes) (drop (slots_place bytes) bytes))) terms.front in
     let dict = then_digests (slots tra (terms_in bytes) 0 0) (then_dict tra (terms_in bytes) begun) in
     let lists = then_lists (then_met tra (present_in (slots_in bytes)) (then_slots tra dict)) in
@@ -157,7 +164,7 @@ documents_whole true bytes =
       slot_each = All-from_recursion (λ s. length s.slots ≡ present) _ (slots_by_recursion present n (drop (sections_place bytes) bytes));
     }
 
-pub whole : (bytes : List ℕ) → AreBytes bytes → IsSpelling proof_format bytes → IsWhole bytes
+pub whole : (bytes : List ℕ) → AreBytes bytes → IsSpelling proof_schema bytes → IsWhole bytes
 whole bytes small spelling =
     let front = spelling.spells.whole in
     let stands : Stands proof spelling.fields bytes = record { come = front.come; join = front.parts ∙ append-nil (concat spelling.fields); small = small } in
@@ -166,7 +173,7 @@ whole bytes small spelling =
     read.front.split ∙ ap (λ (xs : List (List ℕ)). fields_of (proof_in bytes) ++ xs) (nothing_after read.front.after read.front.stands.come) ∙ append-nil (fields_of (proof_in bytes)) in
     record {
       is = record {
-        spells = subst (Spells proof_format bytes) same spelling.spells;
+        spells = subst (Spells proof_schema bytes) same spelling.spells;
         prefix_each = length-parts prefix_size prefix_in (present_in (slots_in bytes)) (drop (lists_place bytes) bytes);
         documents = documents_whole (is_tra bytes) bytes;
       };

@@ -1,7 +1,9 @@
 -- The parts of a proof, read from their bytes, and how many bytes each has.
-use Rattle.std.specs.Prelude.{ℕ, ◌+◌, ◌==◌, Bool, true, false, List, take, drop, Option, Some, None}
+use Rattle.std.specs.Prelude.{ℕ, ◌+◌, ◌==◌, if◌then◌else◌, Bool, true, false, List, take, drop, Option, Some, None}
 use Rattle.ats_dict.specs.declared.header.Header.{Header}
 use Rattle.ats_lists.specs.declared.entry.Entry.{Entry}
+use Rattle.ats_lists.specs.declared.format.Format.{Format}
+use Rattle.ats_lists.specs.declared.format.Format.TheVariants.{One, Two}
 use Rattle.ats_doctree.specs.declared.doc_leaf.DocLeaf.{DocLeaf}
 use Rattle.ats_proof.specs.declared.record.Slot.{Slot}
 use Rattle.ats_proof.specs.Parts.{number_in, parts_in, total_size, counted_in, counted_size}
@@ -96,6 +98,10 @@ section_in present bytes = record {
 
 -- ---- the whole
 
+-- the format of the lists, by the version
+abbrev pub format_in : List ℕ → Format
+format_in bytes = if number_in 1 (drop 4 bytes) == 2 then Two else One
+
 abbrev pub header_in : List ℕ → Header
 header_in bytes = record {
   documents = number_in 4 (drop 7 bytes);
@@ -154,6 +160,7 @@ documents_in false bytes = None
 -- the proof that bytes spell, if they spell one
 abbrev pub proof_in : List ℕ → Proof
 proof_in bytes = record {
+  format = format_in bytes;
   header = header_in bytes;
   dict = counted_in 2 entry_size entry_in (drop 113 bytes);
   dict_digests = counted_in 2 digest_size digest_in (drop (dict_digests_place bytes) bytes);

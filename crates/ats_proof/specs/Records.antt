@@ -7,18 +7,20 @@ use Rattle.ats_dict.specs.declared.header.Header.{Header}
 use Rattle.ats_doctree.specs.DocumentLeaf.{doc_leaf_bytes}
 use Rattle.ats_doctree.specs.Sentinels.{leaf_bytes}
 use Rattle.ats_doctree.specs.declared.doc_leaf.DocLeaf.{DocLeaf}
+use Rattle.ats_lists.specs.declared.format.Format.{Format}
 use Rattle.ats_proof.specs.declared.record.Algorithm.{Algorithm}
 use Rattle.ats_proof.specs.declared.record.Algorithm.TheVariants.{Tra, Tnra}
 use Rattle.ats_proof.specs.declared.record.Slot.{Slot}
+use Rattle.ats_proof.specs.Value.{number_of_format}
 
 abbrev pub algorithm_byte : Algorithm → ℕ
 algorithm_byte Tra = 1
 algorithm_byte Tnra = 2
 
--- ATSP, version 1, the algorithm, the header, and how many terms the query has in 2 bytes
-abbrev pub front_record : Algorithm → Header → ℕ → List ℕ
-front_record algorithm header terms =
-    65 ∷ 84 ∷ 83 ∷ 80 ∷ 1 ∷ algorithm_byte algorithm
+-- ATSP, the version of the format, the algorithm, the header, and how many terms the query has in 2 bytes
+abbrev pub front_record : Format → Algorithm → Header → ℕ → List ℕ
+front_record format algorithm header terms =
+    65 ∷ 84 ∷ 83 ∷ 80 ∷ number_of_format format ∷ algorithm_byte algorithm
     ∷ header_bytes header.documents header.dict_leaves header.dict_root header.docs_root header.texts_root
     ++ to_be_bytes w16 terms
 

@@ -5,12 +5,13 @@ use Rattle.ats_lists.specs.declared.entry.Entry.{Entry}
 use Rattle.ats_dict.specs.Entry.{DictEntry}
 use Rattle.ats_dict.specs.declared.header.Header.{Header}
 use Rattle.ats_doctree.specs.declared.doc_leaf.DocLeaf.{DocLeaf}
-use Rattle.ats_lists.specs.Layout.{Layout, whole_lists}
+use Rattle.ats_lists.specs.declared.format.Format.{Format}
+use Rattle.ats_lists.specs.declared.format.Format.TheVariants.{One, Two}
 use Rattle.ats_proof.specs.declared.record.Algorithm.{Algorithm}
 use Rattle.ats_proof.specs.declared.record.Algorithm.TheVariants.{Tra, Tnra}
 use Rattle.ats_proof.specs.declared.record.Slot.{Slot}
 use Rattle.ats_grammar.specs.Front.{Spells}
-use Rattle.ats_grammar.specs.Grammar.{proof_format}
+use Rattle.ats_grammar.specs.Grammar.{proof_schema}
 use Rattle.ats_proof.specs.Parts.{spelled, counted}
 
 -- a shown leaf of the dictionary
@@ -40,8 +41,9 @@ pub record Documents : Type 0 where
   pub digests : List (List ℕ)
   pub sections : List TermsSection
 
--- what a proof says; only a TRA proof has documents
+-- what a proof says: the format of its archive's lists, and what is shown; only a TRA proof has documents
 pub record Proof : Type 0 where
+  pub format : Format
   pub header : Header
   pub dict : List ShownEntry
   pub dict_digests : List (List ℕ)
@@ -51,21 +53,22 @@ pub record Proof : Type 0 where
   pub docs : Option Documents
   pub answer : List ℕ
 
--- the layout of the archive whose parts are shown
-abbrev pub layout_of : Proof → Layout
-layout_of proof = whole_lists
-
 abbrev pub algorithm_of : Proof → Algorithm
 algorithm_of proof = elim proof.docs [ None ↦ Tnra | Some docs ↦ Tra ]
 
 -- ---- the fields
 
+-- the version of a proof
+abbrev pub number_of_format : Format → ℕ
+number_of_format One = 1
+number_of_format Two = 2
+
 abbrev pub number_of_algorithm : Option Documents → ℕ
 number_of_algorithm (Some docs) = 1
 number_of_algorithm None = 2
 
-abbrev pub front_fields : Option Documents → List (List ℕ)
-front_fields docs = spelled 4 0x41545350 ∷ spelled 1 1 ∷ spelled 1 (number_of_algorithm docs) ∷ []
+abbrev pub front_fields : Format → Option Documents → List (List ℕ)
+front_fields format docs = spelled 4 0x41545350 ∷ spelled 1 (number_of_format format) ∷ spelled 1 (number_of_algorithm docs) ∷ []
 
 -- version, documents, dictionary leaves, three roots
 abbrev pub header_fields : Header → List (List ℕ)
@@ -110,7 +113,7 @@ documents_fields (Some d) = flat_map doc_fields d.leaves ++ counted 4 digest_fie
 
 -- all fields, in the table's order
 abbrev pub fields_of : Proof → List (List ℕ)
-fields_of p = front_fields p.docs ++ header_fields p.header ++ spelled 2 (length p.slots) ∷ []
+fields_of p = front_fields p.format p.docs ++ header_fields p.header ++ spelled 2 (length p.slots) ∷ []
     ++ counted 2 entry_fields p.dict ++ counted 2 digest_fields p.dict_digests
     ++ flat_map slot_fields p.slots ++ counted 4 id_fields p.met ++ flat_map prefix_fields p.lists
     ++ documents_fields p.docs ++ counted 2 id_fields p.answer
@@ -133,7 +136,7 @@ AreDocumentsOf proof (Some docs) = AreDocuments (length proof.met) (present_in p
 
 -- the bytes spell the proof
 pub record IsProof (bytes : List ℕ) (proof : Proof) : Type 0 where
-  pub spells : Spells proof_format bytes (fields_of proof)
+  pub spells : Spells proof_schema bytes (fields_of proof)
   pub prefix_each : length proof.lists ≡ present_in proof.slots
   pub documents : AreDocumentsOf proof proof.docs
 

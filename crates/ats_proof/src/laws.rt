@@ -3,7 +3,7 @@
 ghost use Rattle.std.specs.Prelude.{◌≡◌, ◌+◌, ◌≤◌, ◌^◌, ◌++◌, ℕ, List, length, Some};
 ghost use Rattle.ats_grammar.specs.declared.fault.ShapeKind.TheVariants.{Trailing};
 ghost use Rattle.ats_grammar.specs.Front.{Spells, IsBad};
-ghost use Rattle.ats_grammar.specs.Grammar.{proof_format};
+ghost use Rattle.ats_grammar.specs.Grammar.{proof_schema};
 ghost use Rattle.ats_proof.specs.Parts.{AreBytes};
 ghost use Rattle.ats_proof.specs.Ranges.{IsInRange};
 ghost use Rattle.ats_proof.specs.Reading.{proof_in};
@@ -23,14 +23,14 @@ pub fn proofs_have_one_spelling()
 /// Bytes that are fields by the grammar spell a proof: the one that is read from them, part by part.
 pub fn spellings_say_proofs()
     ensures { (bytes : List ℕ) (fields : List (List ℕ))
-        → AreBytes bytes → Spells proof_format bytes fields → IsProof bytes (proof_in bytes) }
+        → AreBytes bytes → Spells proof_schema bytes fields → IsProof bytes (proof_in bytes) }
 {}
 
 /// If further bytes follow a proof's spelling, the fault is at the first of them.
 pub fn further_bytes_are_trailing()
     ensures { (bytes more : List ℕ) (proof : Proof) → IsProof bytes proof
         → 1 ≤ length more → length bytes + length more ≤ 2 ^ 26
-        → IsBad proof_format (bytes ++ more) (record { at = length bytes; kind = Trailing }) }
+        → IsBad proof_schema (bytes ++ more) (record { at = length bytes; kind = Trailing }) }
 {}
 
 /// If the bytes of a proof were appended to a writer, within its limit, the writer keeps them. What it keeps is then

@@ -5,6 +5,9 @@
 //! nothing. `specs/Value.antt` defines what a proof says and which fields spell it. [`ProofWriter`] appends the bytes
 //! of records, and past its limit only counts them; which records make a proof is the caller's business.
 //!
+//! The version of a proof names the format of the archive's lists: 1 if each list is one tree, 2 if each is a chain of
+//! blocks. The other fields are the same in both.
+//!
 //! The crate stands on that grammar, on the bytes of `ats_base`, and on the leaves and headers of the rooms below.
 //! Bytes spell at most one proof; they are read exactly if they spell one, and a view says that proof. Every slice
 //! that the views and cursors lend is the named part of the bytes. Each counted call of the views and cursors is one

@@ -3,7 +3,7 @@
 ghost use Rattle.std.specs.Prelude.{◌≡◌, Ok, Err, IfOk, IfErr};
 ghost use Rattle.ats_grammar.specs.declared.fault.ShapeFault.{ShapeFault};
 ghost use Rattle.ats_grammar.specs.Front.{IsBad, IsSpelling};
-ghost use Rattle.ats_grammar.specs.Grammar.{proof_format};
+ghost use Rattle.ats_grammar.specs.Grammar.{proof_schema};
 ghost use Rattle.ats_proof.specs.Reading.{proof_in};
 ghost use Rattle.ats_proof.specs.Told.{HasRoom};
 ghost use Rattle.ats_proof.specs.Value.{IsProof};
@@ -17,7 +17,7 @@ use ats_grammar::{ShapeFault, scan};
 
 // Bytes that spell a proof spell the one that is read from them.
 fn are_a_proof(bytes: &[u8])
-    requires { IsSpelling proof_format bytes.now }
+    requires { IsSpelling proof_schema bytes.now }
     ensures proof { IsProof bytes.now (proof_in bytes.now) }
     ensures room { HasRoom bytes.now }
 {}
@@ -27,7 +27,7 @@ impl<'a> ProofView<'a> {
 
     // The view of bytes that spell a proof.
     fn of(bytes: &'a [u8]) -> ProofView<'a>
-        requires { IsSpelling proof_format bytes.now }
+        requires { IsSpelling proof_schema bytes.now }
         ensures { IsProof bytes.now result }
     {
         are_a_proof(bytes);
@@ -59,8 +59,8 @@ impl<'a> ProofView<'a> {
     pub fn read(bytes: &'a [u8]) -> Result<ProofView<'a>, ShapeFault>
         ensures spelled { IfOk result (IsProof bytes.now) }
         ensures accepted { (proof : Proof) → IsProof bytes.now proof → result ≡ Ok proof }
-        ensures refused { IfErr result (IsBad proof_format bytes.now) }
-        ensures exact { (fault : ShapeFault) → IsBad proof_format bytes.now fault → result ≡ Err fault }
+        ensures refused { IfErr result (IsBad proof_schema bytes.now) }
+        ensures exact { (fault : ShapeFault) → IsBad proof_schema bytes.now fault → result ≡ Err fault }
     {
         match scan(bytes) {
             Ok(()) => Ok(ProofView::of(bytes)),

@@ -14,6 +14,7 @@ use crate::places::{Begun, Ended};
 use crate::record::{Algorithm, DICT_BACK_BYTES, FRONT_BYTES, Slot};
 use ats_dict::Header;
 use ats_hash::Steps;
+use ats_lists::Format;
 use std::marker::Model;
 
 /// A proof over its bytes, which it lends part by part.
@@ -53,6 +54,16 @@ impl<'a> ProofView<'a> {
         ensures range { IsInRange self.now }
     {
         let _ = &self.bytes;
+    }
+
+    /// How the lists of the archive are hashed, by the version of the proof.
+    pub fn format(&self) -> Format
+        ensures { result ≡ self.now.format }
+    {
+        if number_1(self.bytes.split_at(4).1) == 2 {
+            return Format::Two;
+        }
+        Format::One
     }
 
     /// Which algorithm made the proof.

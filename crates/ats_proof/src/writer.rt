@@ -1,7 +1,9 @@
 //! The writer of a proof's records.
 
 ghost use Rattle.std.specs.Prelude.{◌≡◌, ◌+◌, ◌≤◌, ◌<◌, ◌^◌, ℕ, List, [], length, Some, IsOk, OnOk, OnErr, IfOk, IfErr};
+ghost use Rattle.ats_lists.specs.declared.format.Format.TheVariants.{One};
 ghost use Rattle.ats_proof.specs.Records.{algorithm_byte, front_record, count16_record, count32_record, dict_leaf_record, digest_record, slot_record, met_record, entry_record, doc_leaf_record, term_leaf_record, answer_record};
+ghost use Rattle.ats_proof.specs.Value.{number_of_format};
 ghost use Rattle.ats_proof.specs.Written.{writing, after};
 
 use crate::memory::OutOfMemory;
@@ -10,12 +12,11 @@ use crate::record::{Algorithm, Slot, TermLeaf};
 use ats_base::Bytes;
 use ats_dict::{DictLeaf, Header};
 use ats_doctree::DocLeaf;
+use ats_lists::Format;
 use std::alloc::Global;
 use std::marker::Model;
 
 const MAGIC: [u8; 4] = *b"ATSP";
-
-const VERSION: u8 = 1;
 
 /// A proof that is being written, record by record.
 ///
@@ -37,6 +38,16 @@ impl Model for ProofWriter {
     ghost view = { λ w. record { limit = w.limit; asked = w.asked; kept = w.kept } };
 
     ghost invariant = { λ w. Holds w.limit w.asked w.kept };
+}
+
+// The version of a proof over lists of a format.
+fn version_of(format: Format) -> u8
+    ensures { result ≡ number_of_format format }
+{
+    match format {
+        Format::One => 1,
+        Format::Two => 2,
+    }
 }
 
 // The byte of an algorithm.
@@ -80,7 +91,7 @@ impl ProofWriter {
         Ok(())
     }
 
-    /// The front: magic, version, algorithm, header, and the number of the query's terms.
+    /// The front of a proof over lists of format One.
     pub fn front(
         &mut self,
         algorithm: Algorithm,
@@ -88,14 +99,32 @@ impl ProofWriter {
         terms: u16,
     ) -> Result<(), OutOfMemory>
         requires { self.old.asked + 113 ≤ 2 ^ 63 }
-        ensures ok { OnOk result (self.new ≡ after self.old (front_record algorithm header.now terms)) }
+        ensures ok { OnOk result (self.new ≡ after self.old (front_record One algorithm header.now terms)) }
+        ensures size { OnOk result (self.new.asked ≡ self.old.asked + 113) }
+        ensures counts { self.old.limit < self.old.asked + 113 → IsOk result }
+        ensures err { OnErr result (self.new ≡ self.old) }
+    {
+        self.front_in(Format::One, algorithm, header, terms)
+    }
+
+    /// The front: magic, version, algorithm, header, and the number of the query's terms. The version is 1 if each list
+    /// of the archive is one tree, and 2 if each is a chain of blocks.
+    pub fn front_in(
+        &mut self,
+        format: Format,
+        algorithm: Algorithm,
+        header: &Header,
+        terms: u16,
+    ) -> Result<(), OutOfMemory>
+        requires { self.old.asked + 113 ≤ 2 ^ 63 }
+        ensures ok { OnOk result (self.new ≡ after self.old (front_record format algorithm header.now terms)) }
         ensures size { OnOk result (self.new.asked ≡ self.old.asked + 113) }
         ensures counts { self.old.limit < self.old.asked + 113 → IsOk result }
         ensures err { OnErr result (self.new ≡ self.old) }
     {
         let mut record = Packed::new();
         record.put(&MAGIC);
-        record.put(&[VERSION, algorithm_byte(algorithm)]);
+        record.put(&[version_of(format), algorithm_byte(algorithm)]);
         record.put(&header.bytes());
         record.put(&terms.to_be_bytes());
         self.append(record.as_slice())

@@ -2,6 +2,7 @@
 use Rattle.std.proofs.Common.{◌≡◌, ◌^◌, ◌<◌, ◌≤◌, ◌++◌, ℕ, List, [], ◌∷◌, length, map, Option, Some, None, refl, sym, ap, ap₂, ◌∙◌, append-nil}
 use Rattle.std.specs.List.{concat, flat_map}
 use Rattle.ats_tree.specs.Elided.{elided_digests}
+use Rattle.ats_lists.specs.declared.format.Format.{Format}
 use Rattle.ats_dict.specs.Dictionary.{dict_leaves}
 use Rattle.ats_dict.specs.declared.header.Header.{Header}
 use Rattle.ats_dict.specs.declared.spot.Spot.{Spot}
@@ -27,20 +28,20 @@ use Rattle.ats_prover.proofs.Records.{IsKindOf, front_is}
 -- the parts of the honest proof were appended, one after another
 pub written : (H : List ℕ → List ℕ) (archive : Archive) (query : List (List ℕ × ℕ)) (r : ℕ) (algorithm : Algorithm) (spots : List Spot) (positions cut : List ℕ) (brackets : List Bracket) (docs : Option Documents) (picks : List ℕ) (w x y z : Written)
     → HasParts H archive query r algorithm spots positions cut brackets docs picks
-    → x ≡ put w (front_fields docs ++ header_fields (header_parts H archive) ++ spelled 2 (length (map (slot_of positions) spots)) ∷ [])
+    → x ≡ put w (front_fields archive.format docs ++ header_fields (header_parts H archive) ++ spelled 2 (length (map (slot_of positions) spots)) ∷ [])
     → y ≡ put x (counted 2 entry_fields (map (shown_entry (dictionary_of H archive)) positions) ++ counted 2 digest_fields (elided_digests H (dict_leaves (dictionary_of H archive)) positions)
     ++ flat_map slot_fields (map (slot_of positions) spots))
-    → z ≡ put y (counted 4 id_fields (docs_of brackets) ++ flat_map prefix_fields (prefixes H archive.layout (docs_of brackets) (lanes_of archive.texts query) cut) ++ documents_fields docs ++ counted 2 id_fields picks)
+    → z ≡ put y (counted 4 id_fields (docs_of brackets) ++ flat_map prefix_fields (prefixes H archive.format (docs_of brackets) (lanes_of archive.texts query) cut) ++ documents_fields docs ++ counted 2 id_fields picks)
     → (algorithm ≡ Tnra → length_of (proof_of H archive query spots positions cut brackets docs picks) ≤ 2 ^ 26)
     → IsWritten H archive query r algorithm w z
 written H archive query r algorithm spots positions cut brackets docs picks w x y z parts front terms walk short =
     let proof = proof_of H archive query spots positions cut brackets docs picks in
-    let a : List (List ℕ) = front_fields docs ++ header_fields (header_parts H archive) ++ spelled 2 (length (map (slot_of positions) spots)) ∷ [] in
+    let a : List (List ℕ) = front_fields archive.format docs ++ header_fields (header_parts H archive) ++ spelled 2 (length (map (slot_of positions) spots)) ∷ [] in
     let b : List (List ℕ) = counted 2 entry_fields (map (shown_entry (dictionary_of H archive)) positions) in
     let c : List (List ℕ) = counted 2 digest_fields (elided_digests H (dict_leaves (dictionary_of H archive)) positions) in
     let d : List (List ℕ) = flat_map slot_fields (map (slot_of positions) spots) in
     let e : List (List ℕ) = counted 4 id_fields (docs_of brackets) in
-    let f : List (List ℕ) = flat_map prefix_fields (prefixes H archive.layout (docs_of brackets) (lanes_of archive.texts query) cut) in
+    let f : List (List ℕ) = flat_map prefix_fields (prefixes H archive.format (docs_of brackets) (lanes_of archive.texts query) cut) in
     let g : List (List ℕ) = documents_fields docs in
     let h : List (List ℕ) = counted 2 id_fields picks in record {
       proof = proof;
@@ -59,10 +60,13 @@ kind_of_documents H texts terms met Tra None are = absurd are
 kind_of_documents H texts terms met Tra (Some docs) are = refl
 
 -- the first record is the first fields
-pub front_put : (algorithm : Algorithm) (docs : Option Documents) (h own : Header) (n m : ℕ) (w : Written) → IsKindOf algorithm docs → h ≡ own → n ≡ m → own.documents < 2 ^ 32 → own.dict_leaves < 2 ^ 32 → m < 2 ^ 16
-    → after w (front_record algorithm h n) ≡ put w (front_fields docs ++ header_fields own ++ spelled 2 m ∷ [])
-front_put algorithm docs h own n m w kind header number documents leaves few =
-    ap (after w) (ap₂ (λ (x : Header) (k : ℕ). front_record algorithm x k) header number ∙ front_is algorithm docs own m kind documents leaves few)
+pub front_put : (f format : Format) (algorithm : Algorithm) (docs : Option Documents) (h own : Header) (n m : ℕ) (w : Written) → IsKindOf algorithm docs → f ≡ format → h ≡ own → n ≡ m → own.documents < 2 ^ 32 → own.dict_leaves < 2 ^ 32 → m < 2 ^ 16
+    → after w (front_record f algorithm h n) ≡ put w (front_fields format docs ++ header_fields own ++ spelled 2 m ∷ [])
+front_put f format algorithm docs h own n m w kind same header number documents leaves few =
+    ap (after w)
+    (ap (λ (some : Format). front_record some algorithm h n) same
+    ∙ ap₂ (λ (x : Header) (k : ℕ). front_record format algorithm x k) header number
+    ∙ front_is format algorithm docs own m kind documents leaves few)
 
 -- ---- what a finished writer gives
 

@@ -3,7 +3,7 @@ use Rattle.std.proofs.Common.{◌≡◌, ◌+◌, ◌<◌, ◌++◌, ℕ, List, 
 use Rattle.std.specs.List.{concat, flat_map}
 use Rattle.ats_tree.specs.Kept.{kept_digests}
 use Rattle.ats_lists.specs.Leaf.{leaf_bytes}
-use Rattle.ats_lists.specs.Layout.{Layout}
+use Rattle.ats_lists.specs.declared.format.Format.{Format}
 use Rattle.ats_bound.specs.Schedule.{WholeLane, whole_lane, whole_lanes}
 use Rattle.ats_bound.specs.declared.lane.Lane.{Lane}
 use Rattle.ats_proof.specs.Written.{Written}
@@ -16,19 +16,19 @@ use Rattle.ats_honest.specs.Honest.{prefix_of, prefixes}
 use Rattle.ats_honest.proofs.Public.{prefix_at, prefix_each}
 
 -- one prefix more
-pub prefix_more : (H : List ℕ → List ℕ) (layout : Layout) (met : List ℕ) (w : Written) (front : List (List ℕ)) (lanes : List Lane) (cut : List ℕ) (i : ℕ) (d : Lane) (old new : Written)
-    → length cut ≡ length (whole_lanes lanes) → i < length lanes → old ≡ put w (front ++ flat_map prefix_fields (take i (prefixes H layout met (whole_lanes lanes) cut)))
-    → new ≡ put old (prefix_fields (prefix_of H layout met (get_or lanes i d).entries.now (get_or cut i 0)))
-    → new ≡ put w (front ++ flat_map prefix_fields (take (i + 1) (prefixes H layout met (whole_lanes lanes) cut)))
-prefix_more H layout met w front lanes cut i d old new same inside before next =
+pub prefix_more : (H : List ℕ → List ℕ) (format : Format) (met : List ℕ) (w : Written) (front : List (List ℕ)) (lanes : List Lane) (cut : List ℕ) (i : ℕ) (d : Lane) (old new : Written)
+    → length cut ≡ length (whole_lanes lanes) → i < length lanes → old ≡ put w (front ++ flat_map prefix_fields (take i (prefixes H format met (whole_lanes lanes) cut)))
+    → new ≡ put old (prefix_fields (prefix_of H format met (get_or lanes i d).entries.now (get_or cut i 0)))
+    → new ≡ put w (front ++ flat_map prefix_fields (take (i + 1) (prefixes H format met (whole_lanes lanes) cut)))
+prefix_more H format met w front lanes cut i d old new same inside before next =
     let none : WholeLane = record { coefficient = 0; entries = [] } in
     let e : Prefix = record { entries = []; digests = [] } in
-    let x = prefix_of H layout met (get_or lanes i d).entries.now (get_or cut i 0) in
+    let x = prefix_of H format met (get_or lanes i d).entries.now (get_or cut i 0) in
     let size = length-map lanes whole_lane in
-    let at = prefix_at H layout met (whole_lanes lanes) cut i e none same (omega (arith, inside, size)) in
+    let at = prefix_at H format met (whole_lanes lanes) cut i e none same (omega (arith, inside, size)) in
     next ∙ ap (λ (v : Written). put v (prefix_fields x)) before
-    ∙ put_more prefix_fields w front (prefixes H layout met (whole_lanes lanes) cut) i x e (concat (prefix_fields x)) (omega (arith, inside, size, prefix_each H layout met (whole_lanes lanes) cut same))
-    (ap (λ (l : WholeLane). prefix_of H layout met l.entries (get_or cut i 0)) (sym (get_or-map whole_lane lanes i d none inside)) ∙ sym at) refl
+    ∙ put_more prefix_fields w front (prefixes H format met (whole_lanes lanes) cut) i x e (concat (prefix_fields x)) (omega (arith, inside, size, prefix_each H format met (whole_lanes lanes) cut same))
+    (ap (λ (l : WholeLane). prefix_of H format met l.entries (get_or cut i 0)) (sym (get_or-map whole_lane lanes i d none inside)) ∙ sym at) refl
 
 -- ---- the nodes that are lent for each lane
 

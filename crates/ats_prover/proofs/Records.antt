@@ -8,13 +8,14 @@ use Rattle.ats_dict.specs.Header.{header_bytes}
 use Rattle.ats_dict.specs.declared.header.Header.{Header}
 use Rattle.ats_doctree.specs.Sentinels.{leaf_bytes}
 use Rattle.ats_doctree.specs.declared.doc_leaf.DocLeaf.{DocLeaf}
+use Rattle.ats_lists.specs.declared.format.Format.{Format}
 use Rattle.ats_proof.specs.declared.record.Algorithm.{Algorithm}
 use Rattle.ats_proof.specs.declared.record.Algorithm.TheVariants.{Tra, Tnra}
 use Rattle.ats_proof.specs.declared.record.Slot.{Slot}
 use Rattle.ats_proof.specs.Records.{algorithm_byte, front_record, dict_leaf_record, doc_leaf_record, slot_record, entry_record, kind_byte, term_leaf_record}
 use Rattle.std.specs.Prelude.{Option, Some, None}
 use Rattle.ats_proof.specs.Parts.{spelled}
-use Rattle.ats_proof.specs.Value.{Documents, doc_fields, front_fields, header_fields, entry_fields, number_of_algorithm, slot_fields, posting_fields, term_fields}
+use Rattle.ats_proof.specs.Value.{Documents, doc_fields, front_fields, header_fields, entry_fields, number_of_algorithm, number_of_format, slot_fields, posting_fields, term_fields}
 use Rattle.ats_proof.proofs.Public.{be_2, be_4, AreBytes, number-spelled}
 
 power_some : (k : ℕ) → 0 < 256 ^ k
@@ -87,9 +88,11 @@ header_is h n documents leaves few =
 abbrev pub IsKindOf : Algorithm → Option Documents → Type 0
 IsKindOf algorithm docs = algorithm_byte algorithm ≡ number_of_algorithm docs
 
-pub front_is : (algorithm : Algorithm) (docs : Option Documents) (h : Header) (n : ℕ) → IsKindOf algorithm docs → h.documents < 2 ^ 32 → h.dict_leaves < 2 ^ 32 → n < 2 ^ 16
-    → front_record algorithm h n ≡ concat (front_fields docs ++ header_fields h ++ spelled 2 n ∷ [])
-front_is Tnra None h n kind documents leaves few = ap (λ (xs : List ℕ). 65 ∷ 84 ∷ 83 ∷ 80 ∷ 1 ∷ 2 ∷ xs) (header_is h n documents leaves few)
-front_is Tra (Some docs) h n kind documents leaves few = ap (λ (xs : List ℕ). 65 ∷ 84 ∷ 83 ∷ 80 ∷ 1 ∷ 1 ∷ xs) (header_is h n documents leaves few)
-front_is Tnra (Some docs) h n kind documents leaves few = absurd (omega (arith, kind))
-front_is Tra None h n kind documents leaves few = absurd (omega (arith, kind))
+pub front_is : (format : Format) (algorithm : Algorithm) (docs : Option Documents) (h : Header) (n : ℕ) → IsKindOf algorithm docs → h.documents < 2 ^ 32 → h.dict_leaves < 2 ^ 32 → n < 2 ^ 16
+    → front_record format algorithm h n ≡ concat (front_fields format docs ++ header_fields h ++ spelled 2 n ∷ [])
+front_is format Tnra None h n kind documents leaves few =
+    ap₂ (λ (version xs : List ℕ). 65 ∷ 84 ∷ 83 ∷ 80 ∷ (version ++ 2 ∷ xs)) (sym (spelled_1 (number_of_format format))) (header_is h n documents leaves few)
+front_is format Tra (Some docs) h n kind documents leaves few =
+    ap₂ (λ (version xs : List ℕ). 65 ∷ 84 ∷ 83 ∷ 80 ∷ (version ++ 1 ∷ xs)) (sym (spelled_1 (number_of_format format))) (header_is h n documents leaves few)
+front_is format Tnra (Some docs) h n kind documents leaves few = absurd (omega (arith, kind))
+front_is format Tra None h n kind documents leaves few = absurd (omega (arith, kind))

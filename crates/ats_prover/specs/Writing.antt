@@ -58,7 +58,7 @@ pub record IsWalkWritten
   pub docs : Option Documents
   pub honest : HasDocuments algorithm H archive.texts terms met docs
   pub come : AreInOrder (length met) (length terms) docs
-  pub asked : now ≡ put before (counted 4 id_fields met ++ flat_map prefix_fields (prefixes H archive.layout met lanes cut) ++ documents_fields docs ++ counted 2 id_fields picks)
+  pub asked : now ≡ put before (counted 4 id_fields met ++ flat_map prefix_fields (prefixes H archive.format met lanes cut) ++ documents_fields docs ++ counted 2 id_fields picks)
 
 -- all fields of the honest proof were appended, in the grammar's order
 pub record IsWritten (H : List ℕ → List ℕ) (archive : Archive) (query : List (List ℕ × ℕ)) (r : ℕ) (algorithm : Algorithm) (before now : Written) : Type 0 where

@@ -6,7 +6,7 @@ ghost use Rattle.std.specs.List.Sorted.{IsStrictlyIncreasing};
 ghost use Rattle.ats_tree.specs.Kept.{kept_digests};
 ghost use Rattle.ats_lists.specs.Leaf.{leaf_bytes};
 ghost use Rattle.ats_lists.specs.Lists.{IsList};
-ghost use Rattle.ats_lists.specs.Layout.{whole_lists};
+ghost use Rattle.ats_lists.specs.declared.format.Format.TheVariants.{One};
 ghost use Rattle.ats_bound.specs.Schedule.{whole_lanes};
 ghost use Rattle.ats_bound.specs.Schedule.{IsCut};
 ghost use Rattle.ats_bound.specs.Schedule.{AreWholeLanes};
@@ -76,7 +76,7 @@ fn write_prefix<H: HashKind>(
     requires within { count ≤ length entries.now }
     requires room { writer.old.asked ≤ 2 ^ 59 }
     ensures fields { OnOk result
-        (writer.new ≡ put writer.old (prefix_fields (prefix_of H.hash whole_lists met.now entries.now count))) }
+        (writer.new ≡ put writer.old (prefix_fields (prefix_of H.hash One met.now entries.now count))) }
     ensures size { OnOk result (writer.new.asked ≤ writer.old.asked + 2 ^ 23) }
 {
     let positions = first(alloc, count)?;
@@ -103,7 +103,7 @@ pub(crate) fn write_lists<H: HashKind>(
     requires cut { IsCut (whole_lanes lanes.now) cut.now }
     requires room { writer.old.asked ≤ 2 ^ 58 }
     ensures fields { OnOk result (writer.new ≡ put writer.old (counted 4 id_fields met.now
-        ++ flat_map prefix_fields (prefixes H.hash whole_lists met.now (whole_lanes lanes.now) cut.now))) }
+        ++ flat_map prefix_fields (prefixes H.hash One met.now (whole_lanes lanes.now) cut.now))) }
     ensures size { OnOk result (writer.new.asked ≤ writer.old.asked + 2 ^ 29) }
 {
     write_met(writer, met)?;

@@ -4,6 +4,7 @@ ghost use Rattle.std.specs.Prelude.{◌≡◌, ◌≤◌, ◌<◌, ◌^◌, ℕ,
 ghost use Rattle.std.specs.List.{All};
 ghost use Rattle.ats_lists.specs.Lists.{IsList};
 ghost use Rattle.ats_lists.specs.declared.entry.Entry.{Entry as Posting};
+ghost use Rattle.ats_lists.specs.declared.format.Format.TheVariants.{One};
 ghost use Rattle.ats_bound.specs.declared.bracket.Bracket.{Bracket as Bounds};
 ghost use Rattle.ats_bound.specs.Schedule.{AreBracketsBy, AreWholeLanes, shown, whole_lanes};
 ghost use Rattle.ats_bound.specs.Schedule.{IsCut};
@@ -48,6 +49,7 @@ fn write_walk<H: HashKind>(
     walk: &Walk,
     algorithm: Algorithm,
 ) -> Result<(), OutOfMemory>
+    requires format { index.now.format ≡ One }
     requires lanes { AreWholeLanes (whole_lanes lanes.now) }
     requires terms { length present.now ≡ length lanes.now }
     requires lists { All (λ lane. IsList 65536 lane.entries) (whole_lanes lanes.now) }

@@ -8,7 +8,7 @@ use Rattle.ats_base.specs.Links.{LinkTold}
 use Rattle.ats_grammar.specs.declared.fault.ShapeFault.{ShapeFault}
 use Rattle.ats_grammar.specs.declared.fault.ShapeKind.TheVariants.{Cut}
 use Rattle.ats_grammar.specs.Front.{IsBad}
-use Rattle.ats_grammar.specs.Grammar.{proof_format}
+use Rattle.ats_grammar.specs.Grammar.{proof_schema}
 use Rattle.ats_grammar.proofs.Public.{fault_stays}
 use Rattle.ats_wire.specs.Moving.{Moves}
 use Rattle.ats_wire.specs.Requests.{Question, framed}
@@ -21,9 +21,9 @@ use Rattle.ats_wire.proofs.Replying.{asked, rest_fault}
 use Rattle.ats_wire.proofs.Moved.{moves_then, moves_idle}
 
 -- a fault of a front of the bytes is theirs, if it is not a missing byte
-pub bad_stays : (bytes more : List ℕ) (fault : ShapeFault) → IsBad proof_format bytes fault → fault.kind ≢ Cut → length bytes + length more ≤ 2 ^ 26 → IsBad proof_format (bytes ++ more) fault
+pub bad_stays : (bytes more : List ℕ) (fault : ShapeFault) → IsBad proof_schema bytes fault → fault.kind ≢ Cut → length bytes + length more ≤ 2 ^ 26 → IsBad proof_schema (bytes ++ more) fault
 bad_stays bytes more fault (inl long) here few = absurd (omega (arith, long.many, few))
-bad_stays bytes more fault (inr first) here few = inr (fault_stays proof_format bytes more fault first here few)
+bad_stays bytes more fault (inr first) here few = inr (fault_stays proof_schema bytes more fault first here few)
 
 -- the frame was written, and a reply read whose proof was checked while it arrived
 pub asked_fed : (question : Question) (before mid now : LinkTold) (read : List ℕ) (result : Result Fed AskFault)

@@ -2,7 +2,7 @@
 use Rattle.std.specs.Prelude.{◌≡◌, ℕ, List, Result, Ok, Err}
 use Rattle.ats_base.specs.Links.{LinkTold}
 use Rattle.ats_grammar.specs.Front.{IsSpelling, IsBad}
-use Rattle.ats_grammar.specs.Grammar.{proof_format}
+use Rattle.ats_grammar.specs.Grammar.{proof_schema}
 use Rattle.ats_wire.specs.Requests.{Question}
 use Rattle.ats_wire.specs.Asking.{IsAsked, Says}
 use Rattle.ats_wire.specs.declared.asking.AskFault.{AskFault}
@@ -11,8 +11,8 @@ use Rattle.ats_wire.specs.declared.feeding.Fed.TheVariants.{Whole, Refused}
 
 -- the verdict on bytes that arrived: they spell a proof and are kept, or this is their first fault
 abbrev pub IsFed : Fed → List ℕ → Type 0
-IsFed (Whole kept) bytes = (kept ≡ bytes) × IsSpelling proof_format bytes
-IsFed (Refused fault) bytes = IsBad proof_format bytes fault
+IsFed (Whole kept) bytes = (kept ≡ bytes) × IsSpelling proof_schema bytes
+IsFed (Refused fault) bytes = IsBad proof_schema bytes fault
 
 -- one question was asked over the link: either a whole reply with the bytes of a proof was read, with this verdict, or
 -- there is none because of this fault

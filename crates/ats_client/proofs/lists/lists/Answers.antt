@@ -1,9 +1,11 @@
 use Rattle.std.proofs.Common.{◌≡◌, ◌<◌, ◌≤◌, ◌+◌, ◌++◌, ◌∙◌, ℕ, List, [], ◌∷◌, length, replicate, sym, ap, subst, arith}
-use Rattle.std.specs.List.{sum_by}
+use Rattle.std.specs.List.{All, sum_by}
+use Rattle.std.proofs.lemmas.List.Elements.{All-head, All-tail}
 use Rattle.ats_bound.specs.Work.{Marked, zero_mark}
+use Rattle.ats_proof.specs.Ranges.{IsPrefixInRange}
 use Rattle.ats_proof.specs.Value.{ShownEntry, Prefix, present_in, items_of_prefix}
 use Rattle.ats_proof.specs.declared.dict.DictView.{DictView}
-use Rattle.ats_client.specs.Lists.{prefixes_left, presented_of}
+use Rattle.ats_client.specs.Lists.{prefix_of, prefixes_left, presented_of}
 use Rattle.ats_client.specs.Seen.{entries_left}
 use Rattle.ats_dict.specs.declared.header.Header.{Header}
 use Rattle.ats_client.specs.declared.present_terms.PresentTerm.{PresentTerm}
@@ -27,6 +29,7 @@ loop-i-init g c =
     let zeros : c.begin.new.self.marks ≡ replicate (length proof.met) zero_mark = ap (λ (w : Marked). w.marks) c.begin.ensures.marks ∙ ap (λ (n : ℕ). replicate n zero_mark) c.met.ensures in
     record {
       passed = begins g.H.HashKind.hash c.args.query.now proof (prefixes_left c.lists-left.result) c.args.terms.now c.begin.new.self.marks all enough zeros c.requires.none;
+      ranges = subst (All IsPrefixInRange) (sym all) c.is_spelled.ensures.range.fronts;
       dict = ap entries_left c.over-walk.ensures.all ∙ c.dict.ensures.entries;
       room = ap (λ (w : Marked). w.room) c.begin.ensures.marks;
       cost = omega (arith, c.begin.ensures.steps, c.met.type_inv);
@@ -40,6 +43,10 @@ loop-i-init g c =
         ap (sum_by items_of_prefix) all,
       );
     }
+
+pub list-requires-clause-range : goal.list-requires-clause-range
+list-requires-clause-range g c =
+    All-head IsPrefixInRange (prefix_of c.in-Some.one.list) (prefixes_left c.present.new.left) (subst (All IsPrefixInRange) c.in-Some.ensures.taken c.loop-i.invariant.ranges)
 
 pub list-requires-clause-notes : goal.list-requires-clause-notes
 list-requires-clause-notes g c =
@@ -87,6 +94,7 @@ loop-i-preserved g c =
             passed = subst (λ (n : ℕ). IsPassed H query proof (i + 1) after c.match-present.terms n c.match-present.work.marks) (sym w.threshold-is)
                 (subst (λ (ts : List PresentTerm). IsPassed H query proof (i + 1) after ts (c.loop-i.threshold + w.in_ok-threshold.field-0) c.match-present.work.marks) (sym w.terms-is)
                 (subst (λ (m : Marked). IsPassed H query proof (i + 1) after w.push.new.self (c.loop-i.threshold + w.in_ok-threshold.field-0) m.marks) (sym w.work-is) passed));
+            ranges = All-tail IsPrefixInRange one.prefix after (subst (All IsPrefixInRange) w.in-Some.ensures.taken c.loop-i.invariant.ranges);
             dict = ap entries_left w.in-Some.ensures.dict ∙ c.loop-i.invariant.dict;
             room = ap (λ (m : Marked). m.room) w.work-is ∙ w.in_ok-threshold.ensures.room ∙ c.loop-i.invariant.room;
             cost = omega (arith, w.steps-is, w.in_ok-threshold.ensures.cost, w.in-Some.ensures.cost, c.loop-i.invariant.cost);
@@ -106,6 +114,7 @@ loop-i-preserved g c =
             passed = subst (λ (n : ℕ). IsPassed H query proof (i + 1) after c.match-present.terms n c.match-present.work.marks) (sym w.threshold-is)
                 (subst (λ (ts : List PresentTerm). IsPassed H query proof (i + 1) after ts c.loop-i.threshold c.match-present.work.marks) (sym w.terms-is)
                 (subst (λ (m : Marked). IsPassed H query proof (i + 1) after c.loop-i.terms c.loop-i.threshold m.marks) (sym w.work-is) passed));
+            ranges = subst (All IsPrefixInRange) (sym w.in_default.ensures.kept) c.loop-i.invariant.ranges;
             dict = ap entries_left w.in_default.ensures.dict ∙ c.loop-i.invariant.dict;
             room = ap (λ (m : Marked). m.room) w.work-is ∙ c.loop-i.invariant.room;
             cost = omega (arith, w.steps-is, w.in_default.ensures.cost, c.loop-i.invariant.cost);

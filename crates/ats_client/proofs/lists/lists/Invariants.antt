@@ -1,5 +1,6 @@
 use Rattle.std.proofs.Common.{◌≡◌, ◌+◌, ◌*◌, ◌≤◌, length}
-use Rattle.std.specs.List.{sum_by}
+use Rattle.std.specs.List.{All, sum_by}
+use Rattle.ats_proof.specs.Ranges.{IsPrefixInRange}
 use Rattle.ats_proof.specs.Value.{items_of_prefix}
 use Rattle.ats_client.specs.Lists.{prefixes_left}
 use Rattle.ats_client.specs.Seen.{entries_left}
@@ -10,6 +11,7 @@ use Rattle.ats_client.proofs.lists.lists.Given as goal
 abbrev pub invariant-loop-i : goal.invariant-loop-i
 invariant-loop-i g l = record {
   passed : IsPassed g.H.HashKind.hash l.query l.proof l.i (prefixes_left l.left) l.terms l.threshold l.work.marks;
+  ranges : All IsPrefixInRange (prefixes_left l.left);
   dict : entries_left l.walk.all ≡ l.proof.dict;
   room : l.work.room ≡ l.fn.work.room;
   cost : l.steps ≤ l.fn.steps + 4294967296 + l.i * 68720000000;

@@ -5,4 +5,4 @@ pub returns-clause-one : goal.returns-clause-one
 returns-clause-one c = one_fault
 
 pub returns-clause-none : goal.returns-clause-none
-returns-clause-none c format bytes fields fault spells bad = no_fault format bytes fault fields bad spells
+returns-clause-none c schema bytes fields fault spells bad = no_fault schema bytes fault fields bad spells

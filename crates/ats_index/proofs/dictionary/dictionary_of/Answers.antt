@@ -3,21 +3,21 @@ use Rattle.std.proofs.lemmas.List.{get_or-map}
 use Rattle.ats_tree.specs.Kept.{kept_digests}
 use Rattle.ats_lists.specs.Leaf.{leaf_bytes}
 use Rattle.ats_lists.specs.declared.entry.Entry.{Entry}
-use Rattle.ats_lists.specs.Layout.{whole_lists}
+use Rattle.ats_lists.specs.declared.format.Format.TheVariants.{One}
 use Rattle.ats_index.proofs.Entries.{next_above, next_entry}
 use Rattle.ats_index.proofs.dictionary.dictionary_of.Goals as goal
 
 pub push-requires-clause-above : goal.push-requires-clause-above
 push-requires-clause-above g c =
     rw c.loop-i.invariant
-    (next_above g.H.HashKind.hash whole_lists c.args.lists.now c.loop-i.i (omega (arith, c.loop-i-test.true, c.len-i-end.ensures.value)) c.len-i-end.ensures.lists.rise
+    (next_above g.H.HashKind.hash One c.args.lists.now c.loop-i.i (omega (arith, c.loop-i-test.true, c.len-i-end.ensures.value)) c.len-i-end.ensures.lists.rise
     c.term.result.now (c.term.ensures.value ([], [])))
 
 pub loop-i-preserved : goal.loop-i-preserved
 loop-i-preserved g c =
     let inside : c.loop-i.i < length c.args.lists.now = omega (arith, c.loop-i-test.true, c.len-i-end.ensures.value) in
     rw (c.in_ok-push.ensures.ok, c.loop-i.invariant)
-    (next_entry g.H.HashKind.hash whole_lists c.args.lists.now c.loop-i.i inside
+    (next_entry g.H.HashKind.hash One c.args.lists.now c.loop-i.i inside
     c.term.result.now c.list-entries.result.now c.root_of-root.result (c.term.ensures.value ([], [])) (c.list-entries.ensures.value ([], [])) c.root_of-root.ensures)
 
 pub root_of-root-requires : goal.root_of-root-requires

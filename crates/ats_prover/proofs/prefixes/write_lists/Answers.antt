@@ -2,7 +2,7 @@ use Rattle.std.proofs.Common.{◌≡◌, ◌<◌, ◌≤◌, ◌++◌, List, [],
 use Rattle.std.specs.List.{flat_map}
 use Rattle.std.proofs.lemmas.List.{length-map, get_or-map}
 use Rattle.ats_lists.specs.Lists.{IsList}
-use Rattle.ats_lists.specs.Layout.{whole_lists}
+use Rattle.ats_lists.specs.declared.format.Format.TheVariants.{One}
 use Rattle.ats_bound.specs.Schedule.{WholeLane, whole_lane, whole_lanes}
 use Rattle.ats_proof.specs.Parts.{counted}
 use Rattle.ats_proof.specs.Value.{Prefix, id_fields, prefix_fields}
@@ -47,7 +47,7 @@ write_prefix-requires-clause-nodes g c =
 pub loop-i-preserved : goal.loop-i-preserved
 loop-i-preserved g c =
     let inside : c.loop-i.i < length c.args.lanes.now = omega (arith, c.loop-i-test.true) in record {
-      fields = prefix_more g.H.HashKind.hash whole_lists c.args.met.now c.args.writer.now (counted 4 id_fields c.args.met.now) c.args.lanes.now c.args.cut.now c.loop-i.i _
+      fields = prefix_more g.H.HashKind.hash One c.args.met.now c.args.writer.now (counted 4 id_fields c.args.met.now) c.args.lanes.now c.args.cut.now c.loop-i.i _
           c.loop-i.writer c.write_prefix.new.writer c.requires.cut.size inside c.loop-i.invariant.fields c.in_ok-write_prefix.ensures.fields;
       size = omega (arith, c.in_ok-write_prefix.ensures.size, c.loop-i.invariant.size);
     }
@@ -56,7 +56,7 @@ pub returns-clause-fields : goal.returns-clause-fields
 returns-clause-fields g c =
     let H = g.H.HashKind.hash in
     let lanes = whole_lanes c.args.lanes.now in
-    let all : List Prefix = prefixes H whole_lists c.args.met.now lanes c.args.cut.now in
-    let each = prefix_each H whole_lists c.args.met.now lanes c.args.cut.now c.requires.cut.size in
+    let all : List Prefix = prefixes H One c.args.met.now lanes c.args.cut.now in
+    let each = prefix_each H One c.args.met.now lanes c.args.cut.now c.requires.cut.size in
     let whole : take c.loop-i.i all ≡ all = take_all c.loop-i.i all (omega (arith, each, c.loop-i-test.false, length-map c.args.lanes.now whole_lane)) in
     c.loop-i.invariant.fields ∙ ap (λ (ps : List Prefix). put c.args.writer.now (counted 4 id_fields c.args.met.now ++ flat_map prefix_fields ps)) whole

@@ -16,6 +16,7 @@ use Rattle.ats_commit.proofs.Public.{header_in_range}
 use Rattle.ats_bound.specs.Schedule.{WholeLane, AreBracketsBy, IsFirstSettledBy, shown, whole_lane, whole_lanes}
 use Rattle.ats_bound.specs.declared.lane.Lane.{Lane}
 use Rattle.ats_lists.specs.declared.entry.Entry.{Entry}
+use Rattle.ats_lists.specs.declared.format.Format.TheVariants.{One}
 use Rattle.ats_bound.specs.Schedule.{IsCut}
 use Rattle.ats_proof.specs.Written.{Written}
 use Rattle.ats_proof.specs.Parts.{counted}
@@ -155,8 +156,8 @@ returns g c =
       rows = rows;
     } in
     let front = c.in_ok-front.ensures.ok
-    ∙ front_put algorithm own.docs c.header.result.now (header_parts H archive) c.len-2.result (length (map (slot_of positions) spots)) c.args.writer.now
-    (kind_of_documents H texts (present texts query) (docs_of brackets) algorithm own.docs own.honest) c.header.ensures.parts number
+    ∙ front_put One archive.format algorithm own.docs c.header.result.now (header_parts H archive) c.len-2.result (length (map (slot_of positions) spots)) c.args.writer.now
+    (kind_of_documents H texts (present texts query) (docs_of brackets) algorithm own.docs own.honest) (sym c.header.ensures.format) c.header.ensures.parts number
     (omega (arith, range.numbers.few)) (omega (arith, range.numbers.terms)) (omega (arith, number, c.len-2.ensures.value, c.len-2.ensures.query.few)) in
     let proof = proof_of H archive query spots positions cut brackets own.docs picks in
     let honest = is_honest H archive query c.args.top algorithm spots positions cut brackets own.docs picks parts in

@@ -4,8 +4,8 @@ use Rattle.std.specs.List.Sorted.{IsStrictlyIncreasing}
 use Rattle.std.proofs.lemmas.Result.{on_ok_weaker}
 use Rattle.std.proofs.lemmas.List.{length-map}
 use Rattle.ats_lists.specs.Lists.{IsList}
-use Rattle.ats_lists.specs.Layout.{Layout, whole_lists}
-use Rattle.ats_commit.proofs.Public.{same_layout}
+use Rattle.ats_lists.specs.declared.format.Format.{Format}
+use Rattle.ats_lists.specs.declared.format.Format.TheVariants.{One}
 use Rattle.ats_bound.specs.declared.bracket.Bracket.{Bracket}
 use Rattle.ats_bound.specs.Schedule.{AreBracketsBy, Bounding, WholeLane, whole_lane, whole_lanes, shown}
 use Rattle.ats_proof.specs.Written.{Written}
@@ -76,10 +76,10 @@ returns g c =
     let ids : List ℕ = map (λ (b : Bracket). b.doc) c.args.walk.now.brackets in
     let met : c.deref.result.now ≡ ids = c.deref.ensures.value ∙ c.in_ok-met.ensures ∙ ap (map (λ (b : Bracket). b.doc)) c.as_slice.ensures in
     let again : c.deref-2.result.now ≡ ids = c.deref-2.ensures.value ∙ c.in_ok-met.ensures ∙ ap (map (λ (b : Bracket). b.doc)) c.as_slice.ensures in
-    let Front : Layout → List ℕ → List ℕ → List (List ℕ) = λ (layout : Layout) (ids cut : List ℕ). counted 4 id_fields ids ++ flat_map prefix_fields (prefixes H layout ids lanes cut) in
-    let front : List (List ℕ) = Front archive.layout ids c.args.walk.now.cut in
+    let Front : Format → List ℕ → List ℕ → List (List ℕ) = λ (format : Format) (ids cut : List ℕ). counted 4 id_fields ids ++ flat_map prefix_fields (prefixes H format ids lanes cut) in
+    let front : List (List ℕ) = Front archive.format ids c.args.walk.now.cut in
     let lists : c.write_lists.new.writer ≡ put w front = c.in_ok-write_lists.ensures.fields ∙ ap (put w)
-    (ap₂ (Front whole_lists) met c.as_slice-2.ensures ∙ ap (λ (layout : Layout). Front layout ids c.args.walk.now.cut) (same_layout whole_lists archive.layout)) in
+    (ap₂ (Front One) met c.as_slice-2.ensures ∙ ap (λ (format : Format). Front format ids c.args.walk.now.cut) (sym c.requires.format)) in
     let documents = subst (λ (m : List ℕ). AreDocumentsWritten algorithm H archive.texts terms m c.write_lists.new.writer c.write_documents.new.writer) again c.in_ok-write_documents.ensures.written in
     let shows : List (List ℕ) = documents_fields documents.docs in
     let so_far : c.write_documents.new.writer ≡ put w (front ++ shows) = documents.asked ∙ ap (λ (v : Written). put v shows) lists ∙ put_put w front shows in

@@ -1,6 +1,6 @@
 use Rattle.std.proofs.Common.{ℕ, List, ap, ◌∙◌}
 use Rattle.ats_tree.specs.Kept.{kept_digests}
-use Rattle.ats_lists.specs.Layout.{whole_lists}
+use Rattle.ats_lists.specs.declared.format.Format.TheVariants.{One}
 use Rattle.ats_dict.specs.Dictionary.{dict_leaves}
 use Rattle.ats_dict.specs.Entry.{DictEntry}
 use Rattle.ats_dict.specs.declared.header.Header.{Header}
@@ -17,7 +17,7 @@ invariant_of-result g c =
         own_terms = c.requires.terms;
         own_leaves = c.requires.leaves;
         own_header = c.header_of-header.ensures.parts;
-        own_root = c.root_of_header-root.ensures.value ∙ ap (λ (header : Header). header_root H whole_lists header) c.header_of-header.ensures.parts;
+        own_root = c.root_of_header-root.ensures.value ∙ ap (λ (header : Header). header_root H One header) c.header_of-header.ensures.parts;
       },
       record {
         own_lists = c.requires.list_nodes;

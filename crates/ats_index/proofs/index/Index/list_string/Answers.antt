@@ -8,7 +8,7 @@ returns-in-Some g c =
     let found = rw c.lists-lists.ensures at c.in-Some.ensures.found in
     let entries = rw c.lists-lists.ensures at (c.list.ensures.value ([], [])) in
     c.string_at.ensures
-    ∙ list_found g.H.HashKind.hash c.args.self.now c.args.term.now c.in-Some.i c.list.result.now (numbers_at c.args.place.now) found.0 found.1 entries
+    ∙ list_found g.H.HashKind.hash c.args.self.now c.args.term.now c.header-header.ensures.format c.in-Some.i c.list.result.now (numbers_at c.args.place.now) found.0 found.1 entries
 
 pub returns-in-None : goal.returns-in-None
 returns-in-None g c =

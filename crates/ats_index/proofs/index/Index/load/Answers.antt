@@ -1,4 +1,4 @@
-use Rattle.std.proofs.Common.{ℕ, List, subst, ◌∙◌}
+use Rattle.std.proofs.Common.{ℕ, List, subst, sym, ap, ◌∙◌}
 use Rattle.ats_commit.specs.Archive.{Archive}
 use Rattle.ats_commit.specs.Own.{AreTexts}
 use Rattle.ats_index.specs.LoadFaults.{BeginWith}
@@ -10,11 +10,16 @@ pub returns-in-None-clause-ok : goal.returns-in-None-clause-ok
 returns-in-None-clause-ok g c =
     let same = rw c.in-None.is at c.in_ok-at.ensures in
     let texts = subst (λ (archive : Archive). AreTexts archive.texts) c.index.view_is c.index.invariant.0.texts_within in
-    record { utf8 = texts.utf8; within = texts.within; same = same }
+    record {
+      utf8 = texts.utf8;
+      within = texts.within;
+      format = sym (ap (λ (archive : Archive). archive.format) c.index.view_is);
+      same = same;
+    }
 
 pub returns-in-None-clause-only : goal.returns-in-None-clause-only
 returns-in-None-clause-only g c archive spelling =
     let bytes : List ℕ = c.args.bytes.now in
     let begins : BeginWith bytes c.in-Ok.texts = rw c.in-Ok.is at c.in_ok-texts.ensures in
-    c.in_ok-index.ensures ∙ same_archive archive
+    c.in_ok-index.ensures ∙ same_archive archive spelling.format
     (c.in-Ok-new.ensures.same ∙ one_beginning bytes c.in-Ok.texts archive.texts begins (spelled_begins g.H.HashKind.hash bytes archive spelling))
