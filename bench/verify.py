@@ -4,8 +4,9 @@ usage: python3 bench/verify.py
 
 Prints, for queries of few and of many matches over 16 MiB of text, the bytes of the proof by each algorithm
 and number of rows; for ten rows also what one check takes, the ratio of that to the time of the digests that it makes,
-and the ratio of an audit to a check, without loading the index. Ends with status 0 if the first ratio is within its limit
-for each long TRA proof, and the second for each proof, and else with 1.
+and the ratio of an audit to a check, without loading the index. For ten rows it also prints the bytes of the proof over
+the migrated index, the ratio of its check to the other one, and that of its audit to its check. Ends with status 0 if the
+first ratio is within its limit for each long TRA proof, and the others for each proof, and else with 1.
 """
 
 import sys
@@ -27,6 +28,7 @@ LONG = 300_000  # bytes
 WORK = 3_000_000  # digests that are made in one run
 AUDIT_WANTED = 3.0  # ratio of an audit to a check of the same proof
 AUDITS = 20  # in one run, each with a check; the fastest counts
+BLOCKS_WANTED = 1.05  # ratio of a check in format Two to that of the same query and rows in format One
 
 # Words by their place in the order of frequency.
 QUERIES = {
@@ -105,7 +107,7 @@ class Proved(NamedTuple):
 
 
 def prove(program: str, index: Path, algorithm: str, rows: int, query: str) -> Proved:
-    path = index.with_name("proof")
+    path = index.with_suffix(".proof")
     measure.run([program, "prove", str(index), algorithm, str(rows), query, str(path)])
     return Proved(path, query, rows)
 
@@ -117,16 +119,21 @@ def seconds(bench: str, words: list[str], times: int) -> float:
     return (some - none) / times
 
 
-def ratio(bench: str, proved: Proved) -> float:
-    """Prints what one check takes. Returns the ratio of that to what its digests take."""
+def one_check(bench: str, proved: Proved, times: int) -> float:
+    """The seconds of one check."""
+    return seconds(bench, ["check", str(proved.rows), proved.query, str(proved.path)], times)
+
+
+def ratios(bench: str, proved: Proved, in_blocks: Proved) -> tuple[float, float]:
+    """Prints what one check takes. Returns the ratio of that to what its digests take, and that of a check in blocks to it."""
     sizes = strings(proved.path.read_bytes())
     listed = proved.path.with_name("sizes")
     listed.write_bytes(bytes(sizes))
     times = max(WORK // len(sizes), 1)
-    check = seconds(bench, ["check", str(proved.rows), proved.query, str(proved.path)], times)
+    check = one_check(bench, proved, times)
     hashed = seconds(bench, ["strings", str(listed)], times)
     print(f"    one check {check * 1e3:.3f} ms, its {len(sizes)} digests {hashed * 1e3:.3f} ms")
-    return check / hashed
+    return check / hashed, one_check(bench, in_blocks, times) / check
 
 
 def audit_ratio(bench: str, index: Path, proved: Proved) -> float:
@@ -138,8 +145,8 @@ def audit_ratio(bench: str, index: Path, proved: Proved) -> float:
     return audit / check
 
 
-def measured(program: str, bench: str, index: Path, name: str, query: str) -> bool:
-    """One query, by both algorithms and each number of rows."""
+def measured(program: str, bench: str, index: Path, blocks: Path, name: str, query: str) -> bool:
+    """One query, by both algorithms and each number of rows; with the timed number also over the index in blocks."""
     met = True
     for algorithm in ALGORITHMS:
         for rows in ROWS:
@@ -147,12 +154,16 @@ def measured(program: str, bench: str, index: Path, name: str, query: str) -> bo
             print(f"{name}, {algorithm}, {rows} rows: {proved.size():,} bytes")
             if rows != TIMED_ROWS:
                 continue
-            over = ratio(bench, proved)
+            in_blocks = prove(program, blocks, algorithm, rows, query)
+            over, over_one = ratios(bench, proved, in_blocks)
             if algorithm == "tra" and proved.size() >= LONG:
                 met &= measure.judge("    check / digests", over, WANTED)
             else:
                 print(f"    check / digests: {over:.2f}")
             met &= measure.judge("    audit / check", audit_ratio(bench, index, proved), AUDIT_WANTED)
+            print(f"    in blocks: {in_blocks.size():,} bytes")
+            met &= measure.judge("    check in blocks / check", over_one, BLOCKS_WANTED)
+            met &= measure.judge("    audit / check, in blocks", audit_ratio(bench, blocks, in_blocks), AUDIT_WANTED)
     return met
 
 
@@ -161,12 +172,13 @@ def main() -> int:
     words = corpora.vocabulary(SHAPE.vocabulary)
     met = True
     with tempfile.TemporaryDirectory() as folder:
-        collection, index = Path(folder) / "collection", Path(folder) / "index"
+        collection, index, blocks = (Path(folder) / name for name in ("collection", "index", "blocks"))
         documents = corpora.write(str(collection), SHAPE, MIB * corpora.MIB)
         measure.run([program, "build", str(collection), str(index)])
+        measure.run([program, "migrate", str(index), str(blocks)])
         print(f"{MIB} MiB of {SHAPE.says}, {documents} documents; best of {measure.RUNS} runs each")
         for name, places in QUERIES.items():
-            met &= measured(program, bench, index, name, " ".join(words[k] for k in places))
+            met &= measured(program, bench, index, blocks, name, " ".join(words[k] for k in places))
     return 0 if met else 1
 
 

@@ -181,8 +181,7 @@ def root_of_header(version, header):
 # Archives
 
 class Archive:
-    """What the bytes of an index say, with all trees made again. The root in an index is that of version ONE; no command
-    prints that of the same texts with lists in blocks."""
+    """What the bytes of an index of version ONE say, with all trees made again in the given version."""
 
     def __init__(self, index, version=ONE):
         self.index = index

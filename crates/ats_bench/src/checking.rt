@@ -41,7 +41,11 @@ pub(crate) fn check_proof(
     let query = Query::read(rt.alloc(), query).ok()?;
     let bytes = fs::read(rt, proof).ok()?;
     let proof = ProofView::read(&bytes).ok()?;
-    let root = root_of_header_in::<Sha>(proof.format(), &proof.header(), &mut Steps::new(rt.alloc()));
+    let root = root_of_header_in::<Sha>(
+        proof.format(),
+        &proof.header(),
+        &mut Steps::new(rt.alloc()),
+    );
     let mut work = Work::with_room(rt.alloc(), proof.met()).ok()?;
     let mut steps: u64 = 0;
     for _time in 0..times {

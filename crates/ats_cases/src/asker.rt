@@ -122,18 +122,19 @@ impl Asker {
         Ok(self.tally.count(self.alloc, shown)?)
     }
 
-    /// Has the proof made. It should have these bytes.
+    /// Has the proof made over the index of this name. It should have these bytes.
     pub(crate) fn prove(
         &mut self,
         threads: &(impl Threads + Sync),
         about: &str,
+        index: &str,
         entry: &Value,
         proof: &[u8],
     ) -> Result<(), Fault> {
-        let (archive, algorithm) = (text(entry, "archive")?, text(entry, "algorithm")?);
+        let algorithm = text(entry, "algorithm")?;
         let (r, size) = (whole(entry, "r")?, proof.len());
         let (r, query) = (format!(in self.alloc; "{r}")?, text(entry, "query")?);
-        let words = ["prove", archive, algorithm, r.as_str(), query, PROOF];
+        let words = ["prove", index, algorithm, r.as_str(), query, PROOF];
         let mut shown = self.ask(threads, about, &words)?;
         shown.want(format!(in self.alloc; "proof {size}\n")?.as_str())?;
         shown.note_fit(self.stage.shelf.bytes_of(PROOF) == Some(proof));

@@ -60,7 +60,7 @@ pub(crate) fn play_listed(
     Ok(())
 }
 
-// The printed root is also the header's digest. No command prints the root of the texts with lists in blocks.
+// Each printed root is also its header's digest.
 fn play_archive(
     threads: &(impl Threads + Sync),
     asker: &mut Asker,
@@ -71,10 +71,19 @@ fn play_archive(
     let mut shown = asker.ask(threads, name, &["build", collection, name])?;
     shown.want(text(entry, "root")?)?;
     shown.want("\n")?;
-    let alloc = asker.alloc;
-    shown.note_fit(is_tagged_digest(alloc, entry, 2, "header", "root")?);
-    shown.note_fit(is_tagged_digest(alloc, entry, 4, "header_in_blocks", "root_in_blocks")?);
+    shown.note_fit(is_tagged_digest(asker.alloc, entry, 2, "header", "root")?);
+    asker.count(&shown)?;
+    let blocks = in_blocks(asker.alloc, name)?;
+    let mut shown = asker.ask(threads, name, &["migrate", name, blocks.as_str()])?;
+    shown.want(text(entry, "root_in_blocks")?)?;
+    shown.want("\n")?;
+    shown.note_fit(is_tagged_digest(asker.alloc, entry, 4, "header_in_blocks", "root_in_blocks")?);
     asker.count(&shown)
+}
+
+// The name of the index of an archive with lists in blocks.
+fn in_blocks(alloc: Global, archive: &str) -> Result<String, Fault> {
+    Ok(format!(in alloc; "{archive} in blocks")?)
 }
 
 fn put_collection<'v>(asker: &mut Asker, entry: &'v Value) -> Result<&'v str, Fault> {
@@ -99,7 +108,7 @@ fn is_tagged_digest(
     Ok(digest.as_slice() == root.as_slice())
 }
 
-// A proof is counted as made and as checked. No command makes one with lists in blocks.
+// A proof is counted as made and as checked. Its version says by which index it is made.
 fn play_proof(
     threads: &(impl Threads + Sync),
     asker: &mut Asker,
@@ -107,8 +116,12 @@ fn play_proof(
     entry: &Value,
 ) -> Result<(), Fault> {
     let proof = bytes(asker.alloc, entry, "proof")?;
-    if proof.get(4) == Some(&1) {
-        asker.prove(threads, name, entry, &proof)?;
+    let archive = text(entry, "archive")?;
+    if proof.get(4) == Some(&2) {
+        let blocks = in_blocks(asker.alloc, archive)?;
+        asker.prove(threads, name, blocks.as_str(), entry, &proof)?;
+    } else {
+        asker.prove(threads, name, archive, entry, &proof)?;
     }
     asker.verify(threads, name, &Question::of(entry, entry)?, &proof, entry)
 }

@@ -6,14 +6,14 @@ use Rattle.std.proofs.Math.Seq.{take-suc}
 use Rattle.std.proofs.lemmas.List.{get_or-map, get_or-take, length-map, length-take-le, map-append}
 use Rattle.std.proofs.lemmas.Map.Keys.{Less-from_sorted}
 use Rattle.std.proofs.lemmas.Option.{slice_get-get_or}
-use Rattle.ats_tree.specs.Kept.{kept_digests}
 use Rattle.ats_terms.specs.Query.{byte_cmp}
 use Rattle.ats_lists.specs.Formats.{list_root}
-use Rattle.ats_lists.specs.Leaf.{leaf_bytes}
+use Rattle.ats_lists.specs.KeptList.{kept_list}
 use Rattle.ats_lists.specs.declared.entry.Entry.{Entry}
 use Rattle.ats_dict.specs.Dictionary.{IsBelow, IsAboveLast}
 use Rattle.ats_dict.specs.Entry.{DictEntry}
 use Rattle.ats_lists.specs.declared.format.Format.{Format}
+use Rattle.ats_lists.specs.declared.list_keeping.ListDigests.{ListDigests}
 use Rattle.ats_commit.specs.Trees.{dict_entry}
 use Rattle.ats_index.specs.Kept.{all_list_digests}
 
@@ -51,11 +51,11 @@ module _ (H : List ℕ → List ℕ) (format : Format) (lists : List (List ℕ �
       rw (add-one, take-suc lists i ([], []) inside, map-append (dict_entry H format) (take i lists) (get_or lists i ([], []) ∷ []))
       (ap (λ (e : DictEntry). map (dict_entry H format) (take i lists) ++ e ∷ []) same)
 
-  -- the digests of the lists' trees with those of the next list's
-  pub next_digests : (entries : List Entry) (kept : List (List ℕ)) → entries ≡ (get_or lists i ([], [])).1 → kept ≡ kept_digests H (map leaf_bytes entries)
-      → all_list_digests H (take i lists) ++ kept ∷ [] ≡ all_list_digests H (take (i + 1) lists)
+  -- the digests of the lists with those of the next list
+  pub next_digests : (entries : List Entry) (kept : ListDigests) → entries ≡ (get_or lists i ([], [])).1 → kept ≡ kept_list H format entries
+      → all_list_digests H format (take i lists) ++ kept ∷ [] ≡ all_list_digests H format (take (i + 1) lists)
   next_digests entries kept are_entries are_kept =
-      let of_list : List ℕ × List Entry → List (List ℕ) = λ list. kept_digests H (map leaf_bytes list.1) in
+      let of_list : List ℕ × List Entry → ListDigests = λ list. kept_list H format list.1 in
       let same : kept ≡ of_list (get_or lists i ([], [])) = rw (are_kept, are_entries) refl in
       rw (add-one, take-suc lists i ([], []) inside, map-append of_list (take i lists) (get_or lists i ([], []) ∷ []))
-      (ap (λ (one : List (List ℕ)). all_list_digests H (take i lists) ++ one ∷ []) same)
+      (ap (λ (one : ListDigests). all_list_digests H format (take i lists) ++ one ∷ []) same)

@@ -15,3 +15,4 @@ mod TermBytes
 mod Vocabulary
 mod Size
 mod StringLemmas
+mod FrontLemmas

@@ -5,11 +5,13 @@ use Rattle.std.proofs.lemmas.List.Elements.{All-tail}
 use Rattle.ats_impact.specs.Limits.{AllShort, AreWithin}
 use Rattle.ats_lists.specs.Lists.{lists_of}
 use Rattle.ats_lists.specs.declared.format.Format.{Format}
+use Rattle.ats_lists.specs.declared.format.Format.TheVariants.{One, Two}
 use Rattle.ats_commit.specs.Archive.{Archive}
 use Rattle.ats_commit.specs.Root.{root_of}
-use Rattle.ats_index.specs.Spelling.{IsSpelling, front_bytes, text_bytes, lists_bytes}
+use Rattle.ats_index.specs.Parts.{archive_in}
+use Rattle.ats_index.specs.Spelling.{IsSpelling, version_of, front_bytes, text_bytes, lists_bytes}
 use Rattle.ats_index.specs.LoadFaults.{BeginWith}
-use Rattle.ats_index.proofs.Reading.{front_number, front_rest, text_number, text_first, text_rest}
+use Rattle.ats_index.proofs.Reading.{front_number, front_rest, front_version, text_number, text_first, text_rest}
 use Rattle.ats_index.proofs.Loading.{texts_first}
 
 -- bytes that begin with a text determine it, and the bytes after it
@@ -41,7 +43,7 @@ abbrev behind_texts : (List ℕ → List ℕ) → Archive → List ℕ
 behind_texts H archive = lists_bytes (lists_of archive.texts) ++ root_of H archive
 
 -- the bytes of an index begin with its texts
-pub spelled_begins : (H : List ℕ → List ℕ) (bytes : List ℕ) (archive : Archive) → IsSpelling H bytes archive → BeginWith bytes archive.texts
+pub spelled_begins : (H : List ℕ → List ℕ) (bytes : List ℕ) (archive : Archive) → IsSpelling H bytes archive → BeginWith bytes archive.format archive.texts
 spelled_begins H bytes archive spelling = record {
   utf8 = spelling.utf8;
   within = spelling.within;
@@ -54,28 +56,36 @@ count_small : (texts : List (List ℕ)) → AreWithin texts → length texts < 2
 count_small texts within = omega (arith, within.few)
 
 -- the front, the texts, and the bytes after them
-pub front_first : (bytes : List ℕ) (texts : List (List ℕ)) (begins : BeginWith bytes texts)
-    → bytes ≡ front_bytes (length texts) ++ (flat_map text_bytes texts ++ begins.rest)
-front_first bytes texts begins = begins.same ∙ append_assoc (front_bytes (length texts)) (flat_map text_bytes texts) begins.rest
+pub front_first : (bytes : List ℕ) (format : Format) (texts : List (List ℕ)) (begins : BeginWith bytes format texts)
+    → bytes ≡ front_bytes format (length texts) ++ (flat_map text_bytes texts ++ begins.rest)
+front_first bytes format texts begins = begins.same ∙ append_assoc (front_bytes format (length texts)) (flat_map text_bytes texts) begins.rest
 
--- bytes begin with one collection at most
-pub one_beginning : (bytes : List ℕ) (texts others : List (List ℕ)) → BeginWith bytes texts → BeginWith bytes others → texts ≡ others
-one_beginning bytes texts others first second =
+-- formats with the same version are the same
+pub one_format : (format other : Format) → version_of format ≡ version_of other → format ≡ other
+one_format One One same = refl
+one_format One Two same = absurd (omega (arith, same))
+one_format Two One same = absurd (omega (arith, same))
+one_format Two Two same = refl
+
+-- bytes begin with one archive at most
+pub one_beginning : (bytes : List ℕ) (format format' : Format) (texts others : List (List ℕ)) → BeginWith bytes format texts → BeginWith bytes format' others
+    → archive_in format texts ≡ archive_in format' others
+one_beginning bytes format format' texts others first second =
     let rest : List ℕ = flat_map text_bytes texts ++ first.rest in
     let rest' : List ℕ = flat_map text_bytes others ++ second.rest in
     let few = count_small texts first.within in
     let few' = count_small others second.within in
-    let is = front_first bytes texts first in
-    let is' = front_first bytes others second in
+    let is = front_first bytes format texts first in
+    let is' = front_first bytes format' others second in
     let count : length texts ≡ length others =
-    sym (front_number bytes (length texts) rest few is) ∙ front_number bytes (length others) rest' few' is' in
-    let same : rest ≡ rest' = sym (front_rest bytes (length texts) rest few is) ∙ front_rest bytes (length others) rest' few' is' in
-    texts_tell texts others first.rest second.rest count first.within.short second.within.short same
+    sym (front_number bytes format (length texts) rest few is) ∙ front_number bytes format' (length others) rest' few' is' in
+    let same : rest ≡ rest' = sym (front_rest bytes format (length texts) rest few is) ∙ front_rest bytes format' (length others) rest' few' is' in
+    let version : version_of format ≡ version_of format' =
+    sym (front_version bytes format (length texts) rest few is) ∙ front_version bytes format' (length others) rest' few' is' in
+    ap₂ archive_in (one_format format format' version)
+    (texts_tell texts others first.rest second.rest count first.within.short second.within.short same)
 
 -- no two archives have the same index bytes
 pub one_archive : (H : List ℕ → List ℕ) (bytes : List ℕ) (archive other : Archive) → IsSpelling H bytes archive → IsSpelling H bytes other → archive ≡ other
 one_archive H bytes archive other first second =
-    let Made : List (List ℕ) → Format → Archive = λ (t : List (List ℕ)) (l : Format). record { texts = t; format = l } in
-    ap₂ Made
-    (one_beginning bytes archive.texts other.texts (spelled_begins H bytes archive first) (spelled_begins H bytes other second))
-    (first.format ∙ sym second.format)
+    one_beginning bytes archive.format other.format archive.texts other.texts (spelled_begins H bytes archive first) (spelled_begins H bytes other second)

@@ -1,5 +1,5 @@
 -- Bytes have at most one place of fault, and an archive's index has none.
-use Rattle.std.proofs.Common.{◌≡◌, ◌≢◌, ◌⊎◌, inl, inr, ◌<◌, ◌≤◌, ◌^◌, ◌∙◌, ℕ, List, [], ◌∷◌, ◌++◌, length, drop, refl, sym, ap, ap₂, subst, arith, append_assoc, length-append}
+use Rattle.std.proofs.Common.{◌≡◌, ◌≢◌, ◌⊎◌, inl, inr, ◌<◌, ◌≤◌, ◌^◌, ◌+◌, ◌∙◌, ℕ, List, [], ◌∷◌, ◌++◌, length, drop, refl, sym, ap, ap₂, subst, arith, append_assoc, length-append}
 use Rattle.std.specs.Prelude.{codes, sum_by, nat_eq}
 use Rattle.std.specs.Int.{to_be_bytes, w32}
 use Rattle.std.specs.List.{All, flat_map, common_prefix_len}
@@ -9,13 +9,15 @@ use Rattle.std.proofs.lemmas.List.Sums.{sum_by-append, sum_by-cons}
 use Rattle.byteorder.specs.Endian.{big_number}
 use Rattle.byteorder.specs.Numbers.{big_number-reads_back}
 use Rattle.ats_impact.specs.Limits.{AllShort}
-use Rattle.ats_commit.specs.Archive.{Archive, archive_of}
-use Rattle.ats_index.specs.Spelling.{IsSpelling, front_bytes, text_bytes, index_bytes}
+use Rattle.ats_commit.specs.Archive.{Archive}
+use Rattle.ats_lists.specs.declared.format.Format.{Format}
+use Rattle.ats_index.specs.Parts.{archive_in}
+use Rattle.ats_index.specs.Spelling.{IsSpelling, version_of, front_bytes, text_bytes, index_bytes}
 use Rattle.ats_index.specs.FirstPart.{Field, Magic, Version, Documents, TextLength, TextBytes, IsRoom, AreFirst, IsReached, IsGood, front_of}
 use Rattle.ats_index.specs.LoadFaults.{BeginWith, IsLoadFault}
 use Rattle.ats_index.specs.declared.load.LoadFault.TheVariants.{BadIndex}
 use Rattle.ats_index.proofs.Reading.{front_number, front_rest}
-use Rattle.ats_index.proofs.Loading.{same_archive}
+use Rattle.ats_index.proofs.Size.{front_size}
 use Rattle.ats_index.proofs.OneArchive.{text_tells, front_first, one_beginning, spelled_begins}
 
 -- ---- two runs of texts in the same bytes
@@ -112,13 +114,13 @@ numbers_tell m n a b small small' same = (
 )
 
 -- if one run of texts is longer, the field after the other is good
-length_stands : (texts others : List (List ℕ)) (n : ℕ) (b : List ℕ) → AreGood texts → Longer texts others b → NoneGood (TextLength n others) b → ⊥
-length_stands texts others n b good longer bad =
+length_stands : (texts others : List (List ℕ)) (f : Format) (n : ℕ) (b : List ℕ) → AreGood texts → Longer texts others b → NoneGood (TextLength f n others) b → ⊥
+length_stands texts others f n b good longer bad =
     bad (to_be_bytes w32 (length longer.text)) (longer.text ++ longer.rest) (length longer.text, more_room texts others b good longer, refl) (more_next texts others b good longer)
 
-bytes_stand : (texts others : List (List ℕ)) (n size : ℕ) (b : List ℕ) → AreGood texts → IsRoom others size → Longer texts others (to_be_bytes w32 size ++ b)
-    → NoneGood (TextBytes n others size) b → ⊥
-bytes_stand texts others n size b good room longer bad =
+bytes_stand : (texts others : List (List ℕ)) (f : Format) (n size : ℕ) (b : List ℕ) → AreGood texts → IsRoom others size → Longer texts others (to_be_bytes w32 size ++ b)
+    → NoneGood (TextBytes f n others size) b → ⊥
+bytes_stand texts others f n size b good room longer bad =
     let tail : List ℕ = to_be_bytes w32 size ++ b in
     let told = numbers_tell size (length longer.text) b (longer.text ++ longer.rest) (omega (arith, room.short)) (omega (arith, more_short texts others tail good longer))
     (more_next texts others tail good longer) in
@@ -130,148 +132,155 @@ bytes_stand texts others n size b good room longer bad =
 abbrev IsEarly : Field → Type 0
 IsEarly Magic = Unit {0}
 IsEarly Version = Unit {0}
-IsEarly Documents = Unit {0}
+IsEarly (Documents f) = Unit {0}
 IsEarly _ = ⊥
 
-early_good : (field : Field) (b : List ℕ) (n : ℕ) (rest : List ℕ) → IsEarly field → 1 ≤ n → n ≤ 65536 → NoneGood field b → front_of field ++ b ≡ front_bytes n ++ rest → ⊥
+early_good : (field : Field) (b : List ℕ) (format : Format) (n : ℕ) (rest : List ℕ) → IsEarly field → 1 ≤ n → n ≤ 65536 → NoneGood field b
+    → front_of field ++ b ≡ front_bytes format n ++ rest → ⊥
 unfolding front_bytes
-early_good Magic b n rest early some few bad same = bad (codes "ATSI") (1 ∷ to_be_bytes w32 n ++ rest) refl same
-early_good Version b n rest early some few bad same = bad (1 ∷ []) (to_be_bytes w32 n ++ rest) refl (ap (drop 4) same)
-early_good Documents b n rest early some few bad same = bad (to_be_bytes w32 n) rest (n, some, few, refl) (ap (drop 5) same)
-early_good (TextLength m texts) b n rest early some few bad same = early
-early_good (TextBytes m texts size) b n rest early some few bad same = early
+early_good Magic b format n rest early some few bad same = bad (codes "ATSI") (version_of format ∷ to_be_bytes w32 n ++ rest) refl same
+early_good Version b format n rest early some few bad same = bad (version_of format ∷ []) (to_be_bytes w32 n ++ rest) (format, refl) (ap (drop 4) same)
+early_good (Documents f) b format n rest early some few bad same = bad (to_be_bytes w32 n) rest (n, some, few, refl) (ap (drop 5) same)
+early_good (TextLength f m texts) b format n rest early some few bad same = early
+early_good (TextBytes f m texts size) b format n rest early some few bad same = early
 
 -- the bytes after the front
 abbrev behind_front : Field → List ℕ → List ℕ
-behind_front (TextLength n texts) b = flat_map text_bytes texts ++ b
-behind_front (TextBytes n texts size) b = flat_map text_bytes texts ++ (to_be_bytes w32 size ++ b)
+behind_front (TextLength f n texts) b = flat_map text_bytes texts ++ b
+behind_front (TextBytes f n texts size) b = flat_map text_bytes texts ++ (to_be_bytes w32 size ++ b)
 behind_front _ b = b
 
-late_length : (n : ℕ) (texts : List (List ℕ)) (b : List ℕ) → front_of (TextLength n texts) ++ b ≡ front_bytes n ++ (flat_map text_bytes texts ++ b)
-late_length n texts b = append_assoc (front_bytes n) (flat_map text_bytes texts) b
+late_length : (f : Format) (n : ℕ) (texts : List (List ℕ)) (b : List ℕ) → front_of (TextLength f n texts) ++ b ≡ front_bytes f n ++ (flat_map text_bytes texts ++ b)
+late_length f n texts b = append_assoc (front_bytes f n) (flat_map text_bytes texts) b
 
-late_bytes : (n : ℕ) (texts : List (List ℕ)) (size : ℕ) (b : List ℕ)
-    → front_of (TextBytes n texts size) ++ b ≡ front_bytes n ++ (flat_map text_bytes texts ++ (to_be_bytes w32 size ++ b))
-late_bytes n texts size b =
-    append_assoc (front_bytes n ++ flat_map text_bytes texts) (to_be_bytes w32 size) b
-    ∙ append_assoc (front_bytes n) (flat_map text_bytes texts) (to_be_bytes w32 size ++ b)
+late_bytes : (f : Format) (n : ℕ) (texts : List (List ℕ)) (size : ℕ) (b : List ℕ)
+    → front_of (TextBytes f n texts size) ++ b ≡ front_bytes f n ++ (flat_map text_bytes texts ++ (to_be_bytes w32 size ++ b))
+late_bytes f n texts size b =
+    append_assoc (front_bytes f n ++ flat_map text_bytes texts) (to_be_bytes w32 size) b
+    ∙ append_assoc (front_bytes f n) (flat_map text_bytes texts) (to_be_bytes w32 size ++ b)
 
 are_good : (n : ℕ) (texts : List (List ℕ)) → AreFirst n texts → AreGood texts
 are_good n texts first = record { utf8 = first.utf8; short = first.short; small = first.small }
 
 -- fronts with numbers of texts within the limits determine the bytes after them
-fronts_tell : (m n : ℕ) (a b : List ℕ) → m ≤ 65536 → n ≤ 65536 → front_bytes m ++ a ≡ front_bytes n ++ b → (m ≡ n) × (a ≡ b)
-fronts_tell m n a b few few' same =
-    let bytes : List ℕ = front_bytes m ++ a in (
-      sym (front_number bytes m a (omega arith) refl) ∙ front_number bytes n b (omega arith) same,
-      sym (front_rest bytes m a (omega arith) refl) ∙ front_rest bytes n b (omega arith) same,
+fronts_tell : (f g : Format) (m n : ℕ) (a b : List ℕ) → m ≤ 65536 → n ≤ 65536 → front_bytes f m ++ a ≡ front_bytes g n ++ b → (m ≡ n) × (a ≡ b)
+fronts_tell f g m n a b few few' same =
+    let bytes : List ℕ = front_bytes f m ++ a in (
+      sym (front_number bytes f m a (omega arith) refl) ∙ front_number bytes g n b (omega arith) same,
+      sym (front_rest bytes f m a (omega arith) refl) ∙ front_rest bytes g n b (omega arith) same,
     )
 
 -- the bytes up to the last of some texts
-abbrev up_to : ℕ → List (List ℕ) → List ℕ
-up_to n texts = front_bytes n ++ flat_map text_bytes texts
+abbrev up_to : Format → ℕ → List (List ℕ) → List ℕ
+up_to f n texts = front_bytes f n ++ flat_map text_bytes texts
 
-module _ (n m : ℕ) (texts others : List (List ℕ)) (first : AreFirst n texts) (second : AreFirst m others) where
+module _ (f g : Format) (n m : ℕ) (texts others : List (List ℕ)) (first : AreFirst n texts) (second : AreFirst m others) where
   good : AreGood texts
   good = are_good n texts first
 
   good' : AreGood others
   good' = are_good m others second
 
-  told : (a b : List ℕ) → front_bytes n ++ (flat_map text_bytes texts ++ a) ≡ front_bytes m ++ (flat_map text_bytes others ++ b) → (n ≡ m) × Meet texts others a b
+  told : (a b : List ℕ) → front_bytes f n ++ (flat_map text_bytes texts ++ a) ≡ front_bytes g m ++ (flat_map text_bytes others ++ b) → (n ≡ m) × Meet texts others a b
   told a b same =
-      let fronts = fronts_tell n m (flat_map text_bytes texts ++ a) (flat_map text_bytes others ++ b) first.few second.few same in
+      let fronts = fronts_tell f g n m (flat_map text_bytes texts ++ a) (flat_map text_bytes others ++ b) first.few second.few same in
       (fronts.0, meet texts others a b first.short second.short fronts.1)
 
-  of_lengths : (a b : List ℕ) → NoneGood (TextLength n texts) a → NoneGood (TextLength m others) b → (n ≡ m) × Meet texts others a b
-      → length (up_to n texts) ≡ length (up_to m others)
-  of_lengths a b bad bad' (same, inl is) = ap₂ (λ k some. length (up_to k some)) same is.0
-  of_lengths a b bad bad' (same, inr (inl longer)) = absurd (length_stands texts others m b good longer bad')
-  of_lengths a b bad bad' (same, inr (inr longer)) = absurd (length_stands others texts n a good' longer bad)
+  ends_alike : texts ≡ others → length (up_to f n texts) ≡ length (up_to g m others)
+  ends_alike is =
+      front_size f n (flat_map text_bytes texts)
+      ∙ ap (λ (some : List (List ℕ)). 9 + length (flat_map text_bytes some)) is
+      ∙ sym (front_size g m (flat_map text_bytes others))
+
+  of_lengths : (a b : List ℕ) → NoneGood (TextLength f n texts) a → NoneGood (TextLength g m others) b → (n ≡ m) × Meet texts others a b
+      → length (up_to f n texts) ≡ length (up_to g m others)
+  of_lengths a b bad bad' (same, inl is) = ends_alike is.0
+  of_lengths a b bad bad' (same, inr (inl longer)) = absurd (length_stands texts others g m b good longer bad')
+  of_lengths a b bad bad' (same, inr (inr longer)) = absurd (length_stands others texts f n a good' longer bad)
 
   -- either the length or the bytes after it are good
-  mixed : (size : ℕ) (a b : List ℕ) → IsRoom others size → NoneGood (TextLength n texts) a → NoneGood (TextBytes m others size) b
+  mixed : (size : ℕ) (a b : List ℕ) → IsRoom others size → NoneGood (TextLength f n texts) a → NoneGood (TextBytes g m others size) b
       → (n ≡ m) × Meet texts others a (to_be_bytes w32 size ++ b) → ⊥
   mixed size a b room bad bad' (same, inl is) =
       bad (to_be_bytes w32 size) b (size, subst (λ (some : List (List ℕ)). IsRoom some size) (sym is.0) room, refl) is.1
-  mixed size a b room bad bad' (same, inr (inl longer)) = bytes_stand texts others m size b good room longer bad'
-  mixed size a b room bad bad' (same, inr (inr longer)) = length_stands others texts n a good' longer bad
+  mixed size a b room bad bad' (same, inr (inl longer)) = bytes_stand texts others g m size b good room longer bad'
+  mixed size a b room bad bad' (same, inr (inr longer)) = length_stands others texts f n a good' longer bad
 
-  of_bytes : (size size' : ℕ) (a b : List ℕ) → IsRoom texts size → IsRoom others size' → NoneGood (TextBytes n texts size) a → NoneGood (TextBytes m others size') b
+  of_bytes : (size size' : ℕ) (a b : List ℕ) → IsRoom texts size → IsRoom others size' → NoneGood (TextBytes f n texts size) a → NoneGood (TextBytes g m others size') b
       → (n ≡ m) × Meet texts others (to_be_bytes w32 size ++ a) (to_be_bytes w32 size' ++ b)
-      → length (up_to n texts ++ to_be_bytes w32 size) ≡ length (up_to m others ++ to_be_bytes w32 size')
+      → length (up_to f n texts ++ to_be_bytes w32 size) ≡ length (up_to g m others ++ to_be_bytes w32 size')
   of_bytes size size' a b room room' bad bad' (same, inl is) =
-      let alike : length (up_to n texts) ≡ length (up_to m others) = ap₂ (λ k some. length (up_to k some)) same is.0 in
-      omega (arith, alike, length-append (up_to n texts) (to_be_bytes w32 size), length-append (up_to m others) (to_be_bytes w32 size'))
-  of_bytes size size' a b room room' bad bad' (same, inr (inl longer)) = absurd (bytes_stand texts others m size' b good room' longer bad')
-  of_bytes size size' a b room room' bad bad' (same, inr (inr longer)) = absurd (bytes_stand others texts n size a good' room longer bad)
+      let alike : length (up_to f n texts) ≡ length (up_to g m others) = ends_alike is.0 in
+      omega (arith, alike, length-append (up_to f n texts) (to_be_bytes w32 size), length-append (up_to g m others) (to_be_bytes w32 size'))
+  of_bytes size size' a b room room' bad bad' (same, inr (inl longer)) = absurd (bytes_stand texts others g m size' b good room' longer bad')
+  of_bytes size size' a b room room' bad bad' (same, inr (inr longer)) = absurd (bytes_stand others texts f n size a good' room longer bad)
 
 -- a field of the front that is bad, and one after the front
-early_late : (field : Field) (n : ℕ) (texts : List (List ℕ)) (a b : List ℕ) → IsEarly field → AreFirst n texts → NoneGood field a
-    → front_of field ++ a ≡ front_bytes n ++ b → ⊥
-early_late field n texts a b early first bad same = early_good field a n b early first.some first.few bad same
+early_late : (field : Field) (f : Format) (n : ℕ) (texts : List (List ℕ)) (a b : List ℕ) → IsEarly field → AreFirst n texts → NoneGood field a
+    → front_of field ++ a ≡ front_bytes f n ++ b → ⊥
+early_late field f n texts a b early first bad same = early_good field a f n b early first.some first.few bad same
 
 -- two first bad fields of the same bytes start at one place
 one_field : (f g : Field) (a b : List ℕ) → IsReached f → IsReached g → NoneGood f a → NoneGood g b → front_of f ++ a ≡ front_of g ++ b
     → length (front_of f) ≡ length (front_of g)
 one_field Magic Magic a b reached reached' bad bad' same = refl
 one_field Magic Version a b reached reached' bad bad' same = absurd (bad (codes "ATSI") b refl same)
-one_field Magic Documents a b reached reached' bad bad' same = absurd (bad (codes "ATSI") (1 ∷ b) refl same)
-one_field Magic (TextLength m others) a b reached reached' bad bad' same =
-    absurd (early_late Magic m others a (flat_map text_bytes others ++ b) tt reached' bad (same ∙ late_length m others b))
-one_field Magic (TextBytes m others size) a b reached reached' bad bad' same =
-    absurd (early_late Magic m others a (flat_map text_bytes others ++ (to_be_bytes w32 size ++ b)) tt reached'.0 bad (same ∙ late_bytes m others size b))
+one_field Magic (Documents g) a b reached reached' bad bad' same = absurd (bad (codes "ATSI") (version_of g ∷ b) refl same)
+one_field Magic (TextLength g m others) a b reached reached' bad bad' same =
+    absurd (early_late Magic g m others a (flat_map text_bytes others ++ b) tt reached' bad (same ∙ late_length g m others b))
+one_field Magic (TextBytes g m others size) a b reached reached' bad bad' same =
+    absurd (early_late Magic g m others a (flat_map text_bytes others ++ (to_be_bytes w32 size ++ b)) tt reached'.0 bad (same ∙ late_bytes g m others size b))
 one_field Version Magic a b reached reached' bad bad' same = absurd (bad' (codes "ATSI") a refl (sym same))
 one_field Version Version a b reached reached' bad bad' same = refl
-one_field Version Documents a b reached reached' bad bad' same = absurd (bad (1 ∷ []) b refl (ap (drop 4) same))
-one_field Version (TextLength m others) a b reached reached' bad bad' same =
-    absurd (early_late Version m others a (flat_map text_bytes others ++ b) tt reached' bad (same ∙ late_length m others b))
-one_field Version (TextBytes m others size) a b reached reached' bad bad' same =
-    absurd (early_late Version m others a (flat_map text_bytes others ++ (to_be_bytes w32 size ++ b)) tt reached'.0 bad (same ∙ late_bytes m others size b))
-one_field Documents Magic a b reached reached' bad bad' same = absurd (bad' (codes "ATSI") (1 ∷ a) refl (sym same))
-one_field Documents Version a b reached reached' bad bad' same = absurd (bad' (1 ∷ []) a refl (ap (drop 4) (sym same)))
-one_field Documents Documents a b reached reached' bad bad' same = refl
-one_field Documents (TextLength m others) a b reached reached' bad bad' same =
-    absurd (early_late Documents m others a (flat_map text_bytes others ++ b) tt reached' bad (same ∙ late_length m others b))
-one_field Documents (TextBytes m others size) a b reached reached' bad bad' same =
-    absurd (early_late Documents m others a (flat_map text_bytes others ++ (to_be_bytes w32 size ++ b)) tt reached'.0 bad (same ∙ late_bytes m others size b))
-one_field (TextLength n texts) (TextLength m others) a b reached reached' bad bad' same =
-    of_lengths n m texts others reached reached' a b bad bad'
-    (told n m texts others reached reached' a b (sym (late_length n texts a) ∙ same ∙ late_length m others b))
-one_field (TextLength n texts) (TextBytes m others size) a b reached reached' bad bad' same =
-    absurd (mixed n m texts others reached reached'.0 size a b reached'.1 bad bad'
-    (told n m texts others reached reached'.0 a (to_be_bytes w32 size ++ b) (sym (late_length n texts a) ∙ same ∙ late_bytes m others size b)))
-one_field (TextBytes n texts size) (TextLength m others) a b reached reached' bad bad' same =
-    absurd (mixed m n others texts reached' reached.0 size b a reached.1 bad' bad
-    (told m n others texts reached' reached.0 b (to_be_bytes w32 size ++ a) (sym (late_length m others b) ∙ sym same ∙ late_bytes n texts size a)))
-one_field (TextBytes n texts size) (TextBytes m others size') a b reached reached' bad bad' same =
-    of_bytes n m texts others reached.0 reached'.0 size size' a b reached.1 reached'.1 bad bad'
-    (told n m texts others reached.0 reached'.0 (to_be_bytes w32 size ++ a) (to_be_bytes w32 size' ++ b)
-    (sym (late_bytes n texts size a) ∙ same ∙ late_bytes m others size' b))
-one_field (TextLength n texts) Magic a b reached reached' bad bad' same =
-    absurd (early_late Magic n texts b (flat_map text_bytes texts ++ a) tt reached bad' (sym same ∙ late_length n texts a))
-one_field (TextBytes n texts size) Magic a b reached reached' bad bad' same =
-    absurd (early_late Magic n texts b (flat_map text_bytes texts ++ (to_be_bytes w32 size ++ a)) tt reached.0 bad' (sym same ∙ late_bytes n texts size a))
-one_field (TextLength n texts) Version a b reached reached' bad bad' same =
-    absurd (early_late Version n texts b (flat_map text_bytes texts ++ a) tt reached bad' (sym same ∙ late_length n texts a))
-one_field (TextBytes n texts size) Version a b reached reached' bad bad' same =
-    absurd (early_late Version n texts b (flat_map text_bytes texts ++ (to_be_bytes w32 size ++ a)) tt reached.0 bad' (sym same ∙ late_bytes n texts size a))
-one_field (TextLength n texts) Documents a b reached reached' bad bad' same =
-    absurd (early_late Documents n texts b (flat_map text_bytes texts ++ a) tt reached bad' (sym same ∙ late_length n texts a))
-one_field (TextBytes n texts size) Documents a b reached reached' bad bad' same =
-    absurd (early_late Documents n texts b (flat_map text_bytes texts ++ (to_be_bytes w32 size ++ a)) tt reached.0 bad' (sym same ∙ late_bytes n texts size a))
+one_field Version (Documents g) a b reached reached' bad bad' same = absurd (bad (version_of g ∷ []) b (g, refl) (ap (drop 4) same))
+one_field Version (TextLength g m others) a b reached reached' bad bad' same =
+    absurd (early_late Version g m others a (flat_map text_bytes others ++ b) tt reached' bad (same ∙ late_length g m others b))
+one_field Version (TextBytes g m others size) a b reached reached' bad bad' same =
+    absurd (early_late Version g m others a (flat_map text_bytes others ++ (to_be_bytes w32 size ++ b)) tt reached'.0 bad (same ∙ late_bytes g m others size b))
+one_field (Documents f) Magic a b reached reached' bad bad' same = absurd (bad' (codes "ATSI") (version_of f ∷ a) refl (sym same))
+one_field (Documents f) Version a b reached reached' bad bad' same = absurd (bad' (version_of f ∷ []) a (f, refl) (ap (drop 4) (sym same)))
+one_field (Documents f) (Documents g) a b reached reached' bad bad' same = refl
+one_field (Documents f) (TextLength g m others) a b reached reached' bad bad' same =
+    absurd (early_late (Documents f) g m others a (flat_map text_bytes others ++ b) tt reached' bad (same ∙ late_length g m others b))
+one_field (Documents f) (TextBytes g m others size) a b reached reached' bad bad' same =
+    absurd (early_late (Documents f) g m others a (flat_map text_bytes others ++ (to_be_bytes w32 size ++ b)) tt reached'.0 bad (same ∙ late_bytes g m others size b))
+one_field (TextLength f n texts) (TextLength g m others) a b reached reached' bad bad' same =
+    of_lengths f g n m texts others reached reached' a b bad bad'
+    (told f g n m texts others reached reached' a b (sym (late_length f n texts a) ∙ same ∙ late_length g m others b))
+one_field (TextLength f n texts) (TextBytes g m others size) a b reached reached' bad bad' same =
+    absurd (mixed f g n m texts others reached reached'.0 size a b reached'.1 bad bad'
+    (told f g n m texts others reached reached'.0 a (to_be_bytes w32 size ++ b) (sym (late_length f n texts a) ∙ same ∙ late_bytes g m others size b)))
+one_field (TextBytes f n texts size) (TextLength g m others) a b reached reached' bad bad' same =
+    absurd (mixed g f m n others texts reached' reached.0 size b a reached.1 bad' bad
+    (told g f m n others texts reached' reached.0 b (to_be_bytes w32 size ++ a) (sym (late_length g m others b) ∙ sym same ∙ late_bytes f n texts size a)))
+one_field (TextBytes f n texts size) (TextBytes g m others size') a b reached reached' bad bad' same =
+    of_bytes f g n m texts others reached.0 reached'.0 size size' a b reached.1 reached'.1 bad bad'
+    (told f g n m texts others reached.0 reached'.0 (to_be_bytes w32 size ++ a) (to_be_bytes w32 size' ++ b)
+    (sym (late_bytes f n texts size a) ∙ same ∙ late_bytes g m others size' b))
+one_field (TextLength f n texts) Magic a b reached reached' bad bad' same =
+    absurd (early_late Magic f n texts b (flat_map text_bytes texts ++ a) tt reached bad' (sym same ∙ late_length f n texts a))
+one_field (TextBytes f n texts size) Magic a b reached reached' bad bad' same =
+    absurd (early_late Magic f n texts b (flat_map text_bytes texts ++ (to_be_bytes w32 size ++ a)) tt reached.0 bad' (sym same ∙ late_bytes f n texts size a))
+one_field (TextLength f n texts) Version a b reached reached' bad bad' same =
+    absurd (early_late Version f n texts b (flat_map text_bytes texts ++ a) tt reached bad' (sym same ∙ late_length f n texts a))
+one_field (TextBytes f n texts size) Version a b reached reached' bad bad' same =
+    absurd (early_late Version f n texts b (flat_map text_bytes texts ++ (to_be_bytes w32 size ++ a)) tt reached.0 bad' (sym same ∙ late_bytes f n texts size a))
+one_field (TextLength f n texts) (Documents g) a b reached reached' bad bad' same =
+    absurd (early_late (Documents g) f n texts b (flat_map text_bytes texts ++ a) tt reached bad' (sym same ∙ late_length f n texts a))
+one_field (TextBytes f n texts size) (Documents g) a b reached reached' bad bad' same =
+    absurd (early_late (Documents g) f n texts b (flat_map text_bytes texts ++ (to_be_bytes w32 size ++ a)) tt reached.0 bad' (sym same ∙ late_bytes f n texts size a))
 
 -- ---- a field that is bad, and a collection
 
 -- bytes that begin with a collection have no bad field
-module _ (bytes : List ℕ) (others : List (List ℕ)) (begins : BeginWith bytes others) where
+module _ (bytes : List ℕ) (g : Format) (others : List (List ℕ)) (begins : BeginWith bytes g others) where
   all_good : AreGood others
   all_good = record { utf8 = begins.utf8; short = begins.within.short; small = begins.within.small }
 
-  met : (n : ℕ) (texts : List (List ℕ)) (a : List ℕ) → AreFirst n texts → bytes ≡ front_bytes n ++ (flat_map text_bytes texts ++ a) → Longer others texts a
-  met n texts a first is =
-      let fronts = fronts_tell n (length others) (flat_map text_bytes texts ++ a) (flat_map text_bytes others ++ begins.rest) first.few begins.within.few
-      (sym is ∙ front_first bytes others begins) in
+  met : (f : Format) (n : ℕ) (texts : List (List ℕ)) (a : List ℕ) → AreFirst n texts → bytes ≡ front_bytes f n ++ (flat_map text_bytes texts ++ a) → Longer others texts a
+  met f n texts a first is =
+      let fronts = fronts_tell f g n (length others) (flat_map text_bytes texts ++ a) (flat_map text_bytes others ++ begins.rest) first.few begins.within.few
+      (sym is ∙ front_first bytes g others begins) in
       shorter n texts a first fronts.0 (meet texts others a begins.rest first.short begins.within.short fronts.1)
     where
       shorter : (n : ℕ) (texts : List (List ℕ)) (a : List ℕ) → AreFirst n texts → n ≡ length others → Meet texts others a begins.rest → Longer others texts a
@@ -282,15 +291,15 @@ module _ (bytes : List ℕ) (others : List (List ℕ)) (begins : BeginWith bytes
 
   none_early : (field : Field) (a : List ℕ) → IsEarly field → NoneGood field a → bytes ≡ front_of field ++ a → ⊥
   none_early field a early bad is =
-      early_good field a (length others) (flat_map text_bytes others ++ begins.rest) early begins.within.some begins.within.few bad (sym is ∙ front_first bytes others begins)
+      early_good field a g (length others) (flat_map text_bytes others ++ begins.rest) early begins.within.some begins.within.few bad (sym is ∙ front_first bytes g others begins)
 
   none_bad : (field : Field) (a : List ℕ) → IsReached field → NoneGood field a → bytes ≡ front_of field ++ a → ⊥
   none_bad Magic a reached bad is = none_early Magic a tt bad is
   none_bad Version a reached bad is = none_early Version a tt bad is
-  none_bad Documents a reached bad is = none_early Documents a tt bad is
-  none_bad (TextLength n texts) a reached bad is = length_stands others texts n a all_good (met n texts a reached (is ∙ late_length n texts a)) bad
-  none_bad (TextBytes n texts size) a reached bad is =
-      bytes_stand others texts n size a all_good reached.1 (met n texts (to_be_bytes w32 size ++ a) reached.0 (is ∙ late_bytes n texts size a)) bad
+  none_bad (Documents f) a reached bad is = none_early (Documents f) a tt bad is
+  none_bad (TextLength f n texts) a reached bad is = length_stands others texts f n a all_good (met f n texts a reached (is ∙ late_length f n texts a)) bad
+  none_bad (TextBytes f n texts size) a reached bad is =
+      bytes_stand others texts f n size a all_good reached.1 (met f n texts (to_be_bytes w32 size ++ a) reached.0 (is ∙ late_bytes f n texts size a)) bad
 
 -- ---- the laws
 
@@ -299,16 +308,17 @@ module _ (H : List ℕ → List ℕ) (bytes : List ℕ) where
   pub one_place : (at other : ℕ) → IsLoadFault H bytes (BadIndex at) → IsLoadFault H bytes (BadIndex other) → at ≡ other
   one_place at other (inl is) (inl also) =
       is.place ∙ one_field is.field also.field is.behind also.behind is.reached also.reached is.bad also.bad (sym is.same ∙ also.same) ∙ sym also.place
-  one_place at other (inl is) (inr also) = absurd (none_bad bytes also.texts also.begins is.field is.behind is.reached is.bad is.same)
-  one_place at other (inr is) (inl also) = absurd (none_bad bytes is.texts is.begins also.field also.behind also.reached also.bad also.same)
+  one_place at other (inl is) (inr also) = absurd (none_bad bytes also.format also.texts also.begins is.field is.behind is.reached is.bad is.same)
+  one_place at other (inr is) (inl also) = absurd (none_bad bytes is.format is.texts is.begins also.field also.behind also.reached also.bad also.same)
   one_place at other (inr is) (inr also) =
-      let texts : is.texts ≡ also.texts = one_beginning bytes is.texts also.texts is.begins also.begins in
-      is.differs.prefix ∙ ap (λ some. common_prefix_len nat_eq bytes (index_bytes H (archive_of some))) texts ∙ sym also.differs.prefix
+      let same : archive_in is.format is.texts ≡ archive_in also.format also.texts = one_beginning bytes is.format also.format is.texts also.texts is.begins also.begins in
+      is.differs.prefix ∙ ap (λ (some : Archive). common_prefix_len nat_eq bytes (index_bytes H some)) same ∙ sym also.differs.prefix
 
   -- an archive's index has none
   pub no_place : (at : ℕ) (archive : Archive) → IsLoadFault H bytes (BadIndex at) → IsSpelling H bytes archive → ⊥
   no_place at archive (inl is) spelling =
-      none_bad bytes archive.texts (spelled_begins H bytes archive spelling) is.field is.behind is.reached is.bad is.same
+      none_bad bytes archive.format archive.texts (spelled_begins H bytes archive spelling) is.field is.behind is.reached is.bad is.same
   no_place at archive (inr is) spelling =
-      let texts : is.texts ≡ archive.texts = one_beginning bytes is.texts archive.texts is.begins (spelled_begins H bytes archive spelling) in
-      is.differs.other (spelling.same ∙ sym (ap (index_bytes H) (same_archive archive spelling.format texts)))
+      let same : archive_in is.format is.texts ≡ archive =
+      one_beginning bytes is.format archive.format is.texts archive.texts is.begins (spelled_begins H bytes archive spelling) in
+      is.differs.other (spelling.same ∙ sym (ap (index_bytes H) same))

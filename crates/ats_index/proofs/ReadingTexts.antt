@@ -5,26 +5,27 @@ use Rattle.std.specs.Int.{to_be_bytes, w32}
 use Rattle.std.specs.List.{flat_map}
 use Rattle.std.specs.Str.{IsUtf8}
 use Rattle.std.proofs.lemmas.List.{flat_map_more}
-use Rattle.ats_index.specs.Spelling.{front_bytes, text_bytes}
+use Rattle.ats_lists.specs.declared.format.Format.{Format}
+use Rattle.ats_index.specs.Spelling.{version_of, front_bytes, text_bytes}
 use Rattle.ats_index.specs.FirstPart.{TextLength, TextBytes, IsRoom, AreFirst, IsFirstBad}
 
 -- the magic, the version and the number of texts
-pub front_stands : (bytes versioned counted rest : List ℕ) (documents : ℕ) → bytes ≡ codes "ATSI" ++ versioned → versioned ≡ 1 ∷ counted
-    → counted ≡ to_be_bytes w32 documents ++ rest → bytes ≡ front_bytes documents ++ rest
+pub front_stands : (bytes versioned counted rest : List ℕ) (format : Format) (documents : ℕ) → bytes ≡ codes "ATSI" ++ versioned → versioned ≡ version_of format ∷ counted
+    → counted ≡ to_be_bytes w32 documents ++ rest → bytes ≡ front_bytes format documents ++ rest
 unfolding front_bytes
-front_stands bytes versioned counted rest documents magic version number =
-    magic ∙ ap (λ xs. codes "ATSI" ++ xs) (version ∙ ap (λ xs. 1 ∷ xs) number)
+front_stands bytes versioned counted rest format documents magic version number =
+    magic ∙ ap (λ xs. codes "ATSI" ++ xs) (version ∙ ap (λ xs. version_of format ∷ xs) number)
 
-module _ (bytes : List ℕ) (documents : ℕ) (texts : List (List ℕ)) (rest : List ℕ)
-    (is : bytes ≡ (front_bytes documents ++ flat_map text_bytes texts) ++ rest) where
-  place : length (front_bytes documents ++ flat_map text_bytes texts) + length rest ≡ length bytes
-  place = sym (ap (λ (xs : List ℕ). length xs) is ∙ length-append (front_bytes documents ++ flat_map text_bytes texts) rest)
+module _ (bytes : List ℕ) (format : Format) (documents : ℕ) (texts : List (List ℕ)) (rest : List ℕ)
+    (is : bytes ≡ (front_bytes format documents ++ flat_map text_bytes texts) ++ rest) where
+  place : length (front_bytes format documents ++ flat_map text_bytes texts) + length rest ≡ length bytes
+  place = sym (ap (λ (xs : List ℕ). length xs) is ∙ length-append (front_bytes format documents ++ flat_map text_bytes texts) rest)
 
   -- no good length follows
   pub length_bad : AreFirst documents texts → ((size : ℕ) (more : List ℕ) → IsRoom texts size → rest ≢ to_be_bytes w32 size ++ more)
       → IsFirstBad bytes (length bytes - length rest)
   length_bad first none = record {
-    field = TextLength documents texts;
+    field = TextLength format documents texts;
     behind = rest;
     reached = first;
     place = omega (arith, place);
@@ -37,23 +38,23 @@ module _ (bytes : List ℕ) (documents : ℕ) (texts : List (List ℕ)) (rest : 
       → ((text more : List ℕ) → length text ≡ size → IsUtf8 text → drop 4 rest ≢ text ++ more)
       → IsFirstBad bytes (length bytes - length rest + 4)
   bytes_bad size first room next none = record {
-    field = TextBytes documents texts size;
+    field = TextBytes format documents texts size;
     behind = drop 4 rest;
     reached = (first, room);
-    place = omega (arith, place, length-append (front_bytes documents ++ flat_map text_bytes texts) (to_be_bytes w32 size));
-    same = is ∙ ap (λ xs. (front_bytes documents ++ flat_map text_bytes texts) ++ xs) next
-        ∙ sym (append_assoc (front_bytes documents ++ flat_map text_bytes texts) (to_be_bytes w32 size) (drop 4 rest));
+    place = omega (arith, place, length-append (front_bytes format documents ++ flat_map text_bytes texts) (to_be_bytes w32 size));
+    same = is ∙ ap (λ xs. (front_bytes format documents ++ flat_map text_bytes texts) ++ xs) next
+        ∙ sym (append_assoc (front_bytes format documents ++ flat_map text_bytes texts) (to_be_bytes w32 size) (drop 4 rest));
     bad = λ text more good same. none text more good.0 good.1 same;
   }
 
   -- one text more is read
   pub text_read : (size : ℕ) (text behind : List ℕ) → length text ≡ size → rest ≡ to_be_bytes w32 size ++ drop 4 rest → drop 4 rest ≡ text ++ behind
-      → bytes ≡ (front_bytes documents ++ flat_map text_bytes (texts ++ text ∷ [])) ++ behind
+      → bytes ≡ (front_bytes format documents ++ flat_map text_bytes (texts ++ text ∷ [])) ++ behind
   unfolding text_bytes
   text_read size text behind long next found =
-      let front : List ℕ = front_bytes documents ++ flat_map text_bytes texts in
+      let front : List ℕ = front_bytes format documents ++ flat_map text_bytes texts in
       let head : rest ≡ text_bytes text ++ behind =
       next ∙ ap (λ xs. to_be_bytes w32 size ++ xs) found ∙ ap (λ n. to_be_bytes w32 n ++ (text ++ behind)) (sym long)
       ∙ sym (append_assoc (to_be_bytes w32 (length text)) text behind) in
       is ∙ ap (λ xs. front ++ xs) head ∙ sym (append_assoc front (text_bytes text) behind)
-      ∙ ap (λ xs. xs ++ behind) (flat_map_more text_bytes (front_bytes documents) texts text)
+      ∙ ap (λ xs. xs ++ behind) (flat_map_more text_bytes (front_bytes format documents) texts text)

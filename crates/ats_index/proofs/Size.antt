@@ -13,6 +13,7 @@ use Rattle.ats_lists.proofs.Public.{vocabulary_few, list_frequency}
 use Rattle.ats_commit.specs.Archive.{Archive, header_tag}
 use Rattle.ats_commit.specs.Root.{root_of, header_of}
 use Rattle.ats_commit.proofs.Public.{few_within}
+use Rattle.ats_lists.specs.declared.format.Format.{Format}
 use Rattle.ats_index.specs.Spelling.{IsSpelling, front_bytes, text_bytes, list_bytes, texts_bytes, lists_bytes}
 use Rattle.ats_index.proofs.Loading.{texts_first}
 use Rattle.ats_index.proofs.TermBytes.{term_bytes}
@@ -32,9 +33,10 @@ text_size : (text : List ℕ) → length (text_bytes text) ≡ 4 + length text
 unfolding text_bytes
 text_size text = omega arith
 
-front_size : (n : ℕ) (rest : List ℕ) → length (front_bytes n ++ rest) ≡ 9 + length rest
+-- nine bytes come first
+pub front_size : (format : Format) (n : ℕ) (rest : List ℕ) → length (front_bytes format n ++ rest) ≡ 9 + length rest
 unfolding front_bytes
-front_size n rest = omega arith
+front_size format n rest = omega arith
 
 all_texts : (texts : List (List ℕ)) → length (flat_map text_bytes texts) ≡ 4 * length texts + sum_by (λ (t : List ℕ). length t) texts
 all_texts [] = refl
@@ -62,8 +64,8 @@ all_lists texts (term ∷ some) =
       sum_by-cons (λ (t : List ℕ). frequency t texts) term some,
     )
 
-texts_size : (texts : List (List ℕ)) → length (texts_bytes texts) ≡ 9 + (4 * length texts + sum_by (λ (t : List ℕ). length t) texts)
-texts_size texts = front_size (length texts) (flat_map text_bytes texts) ∙ ap (λ n. 9 + n) (all_texts texts)
+texts_size : (format : Format) (texts : List (List ℕ)) → length (texts_bytes format texts) ≡ 9 + (4 * length texts + sum_by (λ (t : List ℕ). length t) texts)
+texts_size format texts = front_size format (length texts) (flat_map text_bytes texts) ∙ ap (λ n. 9 + n) (all_texts texts)
 
 lists_size : (texts : List (List ℕ))
     → length (lists_bytes (lists_of texts))
@@ -85,7 +87,7 @@ index_size H sized bytes archive is =
     let root : List ℕ = root_of H archive in
     let behind : length (lists ++ root) ≡ 4 + (5 * length (vocabulary texts) + sum_by Length (vocabulary texts) + 6 * sum_by (λ term. frequency term texts) (vocabulary texts)) + 32 =
     length-append lists root ∙ ap₂ (λ a b. a + b) (lists_size texts) (sized (header_tag archive.format ∷ header_of H archive)) in
-    let whole = ap length (is.same ∙ texts_first H archive) ∙ length-append (texts_bytes texts) (lists ++ root) ∙ ap₂ (λ a b. a + b) (texts_size texts) behind in
+    let whole = ap length (is.same ∙ texts_first H archive) ∙ length-append (texts_bytes archive.format texts) (lists ++ root) ∙ ap₂ (λ a b. a + b) (texts_size archive.format texts) behind in
     let spelled : sum_by Length (vocabulary texts) ≤ 12 * sum_by Length texts = omega (arith, distinct_within Length texts, term_bytes texts is.utf8) in
     subst (λ n. n ≤ 2 ^ 29) (sym whole)
     (sum_small (length texts) (sum_by Length texts) (total_terms texts) (length (vocabulary texts)) (sum_by Length (vocabulary texts))

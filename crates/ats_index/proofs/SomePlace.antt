@@ -15,9 +15,12 @@ use Rattle.std.proofs.Math.Seq.{take-append_seam, drop-append_seam}
 use Rattle.byteorder.specs.Endian.{big_number}
 use Rattle.byteorder.specs.Numbers.{big_number-reads_back}
 use Rattle.ats_impact.specs.Limits.{AllShort}
-use Rattle.ats_commit.specs.Archive.{Archive, archive_of}
-use Rattle.ats_index.specs.Spelling.{IsSpelling, front_bytes, text_bytes, index_bytes}
-use Rattle.ats_index.specs.FirstPart.{Magic, Version, Documents, IsRoom, AreFirst, IsFirstBad}
+use Rattle.ats_commit.specs.Archive.{Archive}
+use Rattle.ats_lists.specs.declared.format.Format.{Format}
+use Rattle.ats_lists.specs.declared.format.Format.TheVariants.{One, Two}
+use Rattle.ats_index.specs.Parts.{archive_in}
+use Rattle.ats_index.specs.Spelling.{IsSpelling, version_of, front_bytes, text_bytes, index_bytes}
+use Rattle.ats_index.specs.FirstPart.{Magic, Version, Documents, IsGood, IsRoom, AreFirst, IsFirstBad}
 use Rattle.ats_index.specs.LoadFaults.{BeginWith, IsLoadFault}
 use Rattle.ats_index.specs.declared.load.LoadFault.TheVariants.{BadIndex}
 use Rattle.ats_index.proofs.ReadingTexts.{front_stands, length_bad, bytes_bad, text_read}
@@ -135,27 +138,28 @@ module _ (bytes : List ℕ) (size : ℕ) where
 -- ---- the whole
 
 -- these texts are read, and these bytes are left
-record AreRead (bytes : List ℕ) (documents : ℕ) (texts : List (List ℕ)) (rest : List ℕ) : Type 0 where
+record AreRead (bytes : List ℕ) (format : Format) (documents : ℕ) (texts : List (List ℕ)) (rest : List ℕ) : Type 0 where
   some : 1 ≤ documents
   few : documents ≤ 65536
   utf8 : All IsUtf8 texts
   short : AllShort texts
   small : sum_by length texts ≤ 2 ^ 24
   left : AreBytes rest
-  same : bytes ≡ (front_bytes documents ++ flat_map text_bytes texts) ++ rest
+  same : bytes ≡ (front_bytes format documents ++ flat_map text_bytes texts) ++ rest
 
 abbrev IsIndexOrFault : (List ℕ → List ℕ) → List ℕ → Type 0
 IsIndexOrFault H bytes = ((archive : Archive) × IsSpelling H bytes archive) ⊎ ((at : ℕ) × IsLoadFault H bytes (BadIndex at))
 
 module _ (H : List ℕ → List ℕ) (bytes : List ℕ) where
-  last_by : (texts : List (List ℕ)) → BeginWith bytes texts → (equal : Bool) → bytes_eq bytes (index_bytes H (archive_of texts)) ≡ equal → IsIndexOrFault H bytes
-  last_by texts begins true test =
-      inl (archive_of texts, record { utf8 = begins.utf8; within = begins.within; format = refl; same = (bytes_eq-Decides bytes (index_bytes H (archive_of texts))).0 test })
-  last_by texts begins false test =
-      let all : List ℕ = index_bytes H (archive_of texts) in
+  last_by : (format : Format) (texts : List (List ℕ)) → BeginWith bytes format texts → (equal : Bool) → bytes_eq bytes (index_bytes H (archive_in format texts)) ≡ equal → IsIndexOrFault H bytes
+  last_by format texts begins true test =
+      inl (archive_in format texts, record { utf8 = begins.utf8; within = begins.within; same = (bytes_eq-Decides bytes (index_bytes H (archive_in format texts))).0 test })
+  last_by format texts begins false test =
+      let all : List ℕ = index_bytes H (archive_in format texts) in
       inr (
         common_prefix_len nat_eq bytes all,
         inr (record {
+          format = format;
           texts = texts;
           begins = begins;
           differs = record {
@@ -165,20 +169,20 @@ module _ (H : List ℕ → List ℕ) (bytes : List ℕ) where
         }),
       )
 
-  last : (texts : List (List ℕ)) → BeginWith bytes texts → IsIndexOrFault H bytes
-  last texts begins = last_by texts begins (bytes_eq bytes (index_bytes H (archive_of texts))) refl
+  last : (format : Format) (texts : List (List ℕ)) → BeginWith bytes format texts → IsIndexOrFault H bytes
+  last format texts begins = last_by format texts begins (bytes_eq bytes (index_bytes H (archive_in format texts))) refl
 
   bad_at : (at : ℕ) → IsFirstBad bytes at → IsIndexOrFault H bytes
   bad_at at bad = inr (at, inl bad)
 
-module _ (H : List ℕ → List ℕ) (bytes : List ℕ) (k documents : ℕ) (texts : List (List ℕ)) (rest : List ℕ) (count : length texts + suc k ≡ documents)
-    (so_far : AreRead bytes documents texts rest)
-    (next : (more : List (List ℕ)) (behind : List ℕ) → length more + k ≡ documents → AreRead bytes documents more behind → IsIndexOrFault H bytes) where
+module _ (H : List ℕ → List ℕ) (bytes : List ℕ) (format : Format) (k documents : ℕ) (texts : List (List ℕ)) (rest : List ℕ) (count : length texts + suc k ≡ documents)
+    (so_far : AreRead bytes format documents texts rest)
+    (next : (more : List (List ℕ)) (behind : List ℕ) → length more + k ≡ documents → AreRead bytes format documents more behind → IsIndexOrFault H bytes) where
   first : AreFirst documents texts
   first = record { some = so_far.some; few = so_far.few; more = omega (arith, count); utf8 = so_far.utf8; short = so_far.short; small = so_far.small }
 
   read_more : (size : ℕ) → IsRoom texts size → rest ≡ to_be_bytes w32 size ++ drop 4 rest → (found : TextStands (drop 4 rest) size)
-      → AreRead bytes documents (texts ++ found.text ∷ []) found.behind
+      → AreRead bytes format documents (texts ++ found.text ∷ []) found.behind
   read_more size room number found =
       let Length : List ℕ → ℕ = λ (t : List ℕ). length t in
       let passed : drop (length found.text) (drop 4 rest) ≡ found.behind = ap (drop (length found.text)) found.same ∙ drop-append_seam found.text found.behind in
@@ -189,13 +193,13 @@ module _ (H : List ℕ → List ℕ) (bytes : List ℕ) (k documents : ℕ) (tex
         short = All-push (λ (t : List ℕ). length t ≤ 2 ^ 20) texts found.text so_far.short (omega (arith, found.long, room.short));
         small = omega (arith, room.small, found.long, sum_by-append Length texts (found.text ∷ []), sum_by-cons Length found.text []);
         left = subst AreBytes passed (All-drop (λ (n : ℕ). n < 256) (length found.text) (drop 4 rest) (All-drop (λ (n : ℕ). n < 256) 4 rest so_far.left));
-        same = text_read bytes documents texts rest so_far.same size found.text found.behind found.long number found.same;
+        same = text_read bytes format documents texts rest so_far.same size found.text found.behind found.long number found.same;
       }
 
   text_next : (size : ℕ) → IsRoom texts size → rest ≡ to_be_bytes w32 size ++ drop 4 rest → TextStands (drop 4 rest) size ⊎ NoText (drop 4 rest) size → IsIndexOrFault H bytes
   text_next size room number (inl found) =
       next (texts ++ found.text ∷ []) found.behind (omega (arith, count, length-append texts (found.text ∷ []))) (read_more size room number found)
-  text_next size room number (inr none) = bad_at H bytes (length bytes - length rest + 4) (bytes_bad bytes documents texts rest so_far.same size first room number none)
+  text_next size room number (inr none) = bad_at H bytes (length bytes - length rest + 4) (bytes_bad bytes format documents texts rest so_far.same size first room number none)
 
   most : ℕ
   most = min (2 ^ 20) (2 ^ 24 - sum_by length texts)
@@ -215,43 +219,54 @@ module _ (H : List ℕ → List ℕ) (bytes : List ℕ) (k documents : ℕ) (tex
   length_next : Stands rest 0 most ⊎ NoneStands rest 0 most → IsIndexOrFault H bytes
   length_next (inl found) = text_next found.n (most_room found.n found.most) found.same (text_or_none (drop 4 rest) found.n)
   length_next (inr none) =
-      bad_at H bytes (length bytes - length rest) (length_bad bytes documents texts rest so_far.same first
+      bad_at H bytes (length bytes - length rest) (length_bad bytes format documents texts rest so_far.same first
       (λ size more room. none size more (omega arith) (room_most size room)))
 
   one_next : IsIndexOrFault H bytes
   one_next = length_next (number_or_none rest 0 most so_far.left most_small)
 
-all_from : (H : List ℕ → List ℕ) (bytes : List ℕ) (k documents : ℕ) (texts : List (List ℕ)) (rest : List ℕ) → length texts + k ≡ documents
-    → AreRead bytes documents texts rest → IsIndexOrFault H bytes
-all_from H bytes zero documents texts rest count so_far =
+all_from : (H : List ℕ → List ℕ) (bytes : List ℕ) (format : Format) (k documents : ℕ) (texts : List (List ℕ)) (rest : List ℕ) → length texts + k ≡ documents
+    → AreRead bytes format documents texts rest → IsIndexOrFault H bytes
+all_from H bytes format zero documents texts rest count so_far =
     let is : documents ≡ length texts = omega (arith, count) in
-    last H bytes texts (record {
+    last H bytes format texts (record {
       utf8 = so_far.utf8;
       within = record { some = omega (arith, is, so_far.some); few = omega (arith, is, so_far.few); short = so_far.short; small = so_far.small };
       rest = rest;
-      same = so_far.same ∙ ap (λ n. (front_bytes n ++ flat_map text_bytes texts) ++ rest) is;
+      same = so_far.same ∙ ap (λ n. (front_bytes format n ++ flat_map text_bytes texts) ++ rest) is;
     })
-all_from H bytes (suc k) documents texts rest count so_far =
-    one_next H bytes k documents texts rest count so_far (λ more behind count' read. all_from H bytes k documents more behind count' read)
+all_from H bytes format (suc k) documents texts rest count so_far =
+    one_next H bytes format k documents texts rest count so_far (λ more behind count' read. all_from H bytes format k documents more behind count' read)
 
 module _ (H : List ℕ → List ℕ) (bytes : List ℕ) (all : AreBytes bytes) where
-  counted_next : bytes ≡ codes "ATSI" ++ drop 4 bytes → drop 4 bytes ≡ (1 ∷ []) ++ drop 1 (drop 4 bytes)
+  number_next : Stands (drop 1 (drop 4 bytes)) 1 65536 ⊎ NoneStands (drop 1 (drop 4 bytes)) 1 65536
+  number_next =
+      let Byte : ℕ → Type 0 = λ n. n < 256 in
+      number_or_none (drop 1 (drop 4 bytes)) 1 65536 (All-drop Byte 1 (drop 4 bytes) (All-drop Byte 4 bytes all)) (omega arith)
+
+  -- neither version follows
+  no_version : ((rest : List ℕ) → drop 4 bytes ≢ (1 ∷ []) ++ rest) → ((rest : List ℕ) → drop 4 bytes ≢ (2 ∷ []) ++ rest)
+      → (good rest : List ℕ) → IsGood Version good → drop 4 bytes ≢ good ++ rest
+  no_version none none' good rest (One, is) same = none rest (same ∙ ap (λ xs. xs ++ rest) is)
+  no_version none none' good rest (Two, is) same = none' rest (same ∙ ap (λ xs. xs ++ rest) is)
+
+  counted_next : (format : Format) → bytes ≡ codes "ATSI" ++ drop 4 bytes → drop 4 bytes ≡ (version_of format ∷ []) ++ drop 1 (drop 4 bytes)
       → Stands (drop 1 (drop 4 bytes)) 1 65536 ⊎ NoneStands (drop 1 (drop 4 bytes)) 1 65536 → IsIndexOrFault H bytes
-  counted_next magic version (inl found) =
+  counted_next format magic version (inl found) =
       let Byte : ℕ → Type 0 = λ n. n < 256 in
       let rest : List ℕ = drop 4 (drop 1 (drop 4 bytes)) in
-      all_from H bytes found.n found.n [] rest (omega arith) (record {
+      all_from H bytes format found.n found.n [] rest (omega arith) (record {
         some = found.least;
         few = found.most;
         utf8 = All-nil IsUtf8;
         short = All-nil (λ (t : List ℕ). length t ≤ 2 ^ 20);
         small = omega arith;
         left = All-drop Byte 4 (drop 1 (drop 4 bytes)) (All-drop Byte 1 (drop 4 bytes) (All-drop Byte 4 bytes all));
-        same = front_stands bytes (drop 4 bytes) (drop 1 (drop 4 bytes)) rest found.n magic version found.same
-            ∙ ap (λ xs. xs ++ rest) (sym (append-nil (front_bytes found.n)));
+        same = front_stands bytes (drop 4 bytes) (drop 1 (drop 4 bytes)) rest format found.n magic version found.same
+            ∙ ap (λ xs. xs ++ rest) (sym (append-nil (front_bytes format found.n)));
       })
-  counted_next magic version (inr none) = bad_at H bytes 5 (record {
-    field = Documents;
+  counted_next format magic version (inr none) = bad_at H bytes 5 (record {
+    field = Documents format;
     behind = drop 1 (drop 4 bytes);
     reached = tt;
     place = refl;
@@ -259,22 +274,23 @@ module _ (H : List ℕ → List ℕ) (bytes : List ℕ) (all : AreBytes bytes) w
     bad = λ good rest (n, some, few, is) same. none n rest some few (same ∙ ap (λ xs. xs ++ rest) is);
   })
 
-  version_next : bytes ≡ codes "ATSI" ++ drop 4 bytes → (drop 4 bytes ≡ (1 ∷ []) ++ drop 1 (drop 4 bytes)) ⊎ ((rest : List ℕ) → drop 4 bytes ≢ (1 ∷ []) ++ rest)
+  version_next : bytes ≡ codes "ATSI" ++ drop 4 bytes
+      → (drop 4 bytes ≡ (1 ∷ []) ++ drop 1 (drop 4 bytes)) ⊎ ((rest : List ℕ) → drop 4 bytes ≢ (1 ∷ []) ++ rest)
+      → (drop 4 bytes ≡ (2 ∷ []) ++ drop 1 (drop 4 bytes)) ⊎ ((rest : List ℕ) → drop 4 bytes ≢ (2 ∷ []) ++ rest)
       → IsIndexOrFault H bytes
-  version_next magic (inl version) =
-      let Byte : ℕ → Type 0 = λ n. n < 256 in
-      counted_next magic version (number_or_none (drop 1 (drop 4 bytes)) 1 65536 (All-drop Byte 1 (drop 4 bytes) (All-drop Byte 4 bytes all)) (omega arith))
-  version_next magic (inr none) = bad_at H bytes 4 (record {
+  version_next magic (inl version) other = counted_next One magic version number_next
+  version_next magic (inr none) (inl version) = counted_next Two magic version number_next
+  version_next magic (inr none) (inr none') = bad_at H bytes 4 (record {
     field = Version;
     behind = drop 4 bytes;
     reached = tt;
     place = refl;
     same = magic;
-    bad = λ good rest is same. none rest (same ∙ ap (λ xs. xs ++ rest) is);
+    bad = no_version none none';
   })
 
   magic_next : (bytes ≡ codes "ATSI" ++ drop 4 bytes) ⊎ ((rest : List ℕ) → bytes ≢ codes "ATSI" ++ rest) → IsIndexOrFault H bytes
-  magic_next (inl magic) = version_next magic (fixed_or_none (drop 4 bytes) (1 ∷ []))
+  magic_next (inl magic) = version_next magic (fixed_or_none (drop 4 bytes) (1 ∷ [])) (fixed_or_none (drop 4 bytes) (2 ∷ []))
   magic_next (inr none) = bad_at H bytes 0 (record {
     field = Magic;
     behind = bytes;

@@ -4,24 +4,25 @@ use Rattle.std.specs.Int.{to_be_bytes, w32}
 use Rattle.std.specs.List.{All, flat_map}
 use Rattle.std.specs.Str.{IsUtf8}
 use Rattle.ats_impact.specs.Limits.{AllShort}
-use Rattle.ats_index.specs.Spelling.{front_bytes, text_bytes}
+use Rattle.ats_lists.specs.declared.format.Format.{Format}
+use Rattle.ats_index.specs.Spelling.{version_of, front_bytes, text_bytes}
 
--- the magic, the version, the number of texts; and, after some whole texts, the length of the next one, or its bytes,
--- `size` of them
+-- the magic, the version; and, after the version of a format, the number of texts, and, after some whole texts, the
+-- length of the next one, or its bytes, `size` of them
 pub data Field : Type 0 where
   Magic : Field
   Version : Field
-  Documents : Field
-  TextLength : (documents : ℕ) (texts : List (List ℕ)) → Field
-  TextBytes : (documents : ℕ) (texts : List (List ℕ)) (size : ℕ) → Field
+  Documents : (format : Format) → Field
+  TextLength : (format : Format) (documents : ℕ) (texts : List (List ℕ)) → Field
+  TextBytes : (format : Format) (documents : ℕ) (texts : List (List ℕ)) (size : ℕ) → Field
 
 -- the bytes of all fields before this one
 abbrev pub front_of : Field → List ℕ
 front_of Magic = []
 front_of Version = codes "ATSI"
-front_of Documents = codes "ATSI" ++ 1 ∷ []
-front_of (TextLength documents texts) = front_bytes documents ++ flat_map text_bytes texts
-front_of (TextBytes documents texts size) = front_bytes documents ++ flat_map text_bytes texts ++ to_be_bytes w32 size
+front_of (Documents format) = codes "ATSI" ++ version_of format ∷ []
+front_of (TextLength format documents texts) = front_bytes format documents ++ flat_map text_bytes texts
+front_of (TextBytes format documents texts size) = front_bytes format documents ++ flat_map text_bytes texts ++ to_be_bytes w32 size
 
 -- after these texts, one more of this length is within the limits
 pub record IsRoom (texts : List (List ℕ)) (size : ℕ) : Type 0 where
@@ -41,17 +42,17 @@ pub record AreFirst (documents : ℕ) (texts : List (List ℕ)) : Type 0 where
 abbrev pub IsReached : Field → Type 0
 IsReached Magic = Unit {0}
 IsReached Version = Unit {0}
-IsReached Documents = Unit {0}
-IsReached (TextLength documents texts) = AreFirst documents texts
-IsReached (TextBytes documents texts size) = AreFirst documents texts × IsRoom texts size
+IsReached (Documents format) = Unit {0}
+IsReached (TextLength format documents texts) = AreFirst documents texts
+IsReached (TextBytes format documents texts size) = AreFirst documents texts × IsRoom texts size
 
 -- these bytes are the field, and good
 abbrev pub IsGood : Field → List ℕ → Type 0
 IsGood Magic bytes = bytes ≡ codes "ATSI"
-IsGood Version bytes = bytes ≡ 1 ∷ []
-IsGood Documents bytes = (documents : ℕ) × (1 ≤ documents) × (documents ≤ 65536) × (bytes ≡ to_be_bytes w32 documents)
-IsGood (TextLength documents texts) bytes = (size : ℕ) × IsRoom texts size × (bytes ≡ to_be_bytes w32 size)
-IsGood (TextBytes documents texts size) bytes = (length bytes ≡ size) × IsUtf8 bytes
+IsGood Version bytes = (format : Format) × (bytes ≡ version_of format ∷ [])
+IsGood (Documents format) bytes = (documents : ℕ) × (1 ≤ documents) × (documents ≤ 65536) × (bytes ≡ to_be_bytes w32 documents)
+IsGood (TextLength format documents texts) bytes = (size : ℕ) × IsRoom texts size × (bytes ≡ to_be_bytes w32 size)
+IsGood (TextBytes format documents texts size) bytes = (length bytes ≡ size) × IsUtf8 bytes
 
 -- at this place begins the first bad field: the fields before it are good, and no good one is there, whether its bytes
 -- are wrong or cut off

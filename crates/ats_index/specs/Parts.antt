@@ -4,6 +4,7 @@ use Rattle.ats_terms.specs.Terms.{terms}
 use Rattle.ats_terms.specs.Query.{counted}
 use Rattle.ats_lists.specs.Lists.{lists_of}
 use Rattle.ats_lists.specs.declared.entry.Entry.{Entry}
+use Rattle.ats_lists.specs.declared.format.Format.{Format}
 use Rattle.ats_dict.specs.Entry.{DictEntry}
 use Rattle.ats_dict.specs.declared.header.Header.{Header}
 use Rattle.ats_doctree.specs.Impacts.{text_terms}
@@ -12,6 +13,10 @@ use Rattle.ats_commit.specs.Archive.{Archive}
 use Rattle.ats_commit.specs.Trees.{dictionary_of, leaf_of_terms}
 use Rattle.ats_commit.specs.Root.{header_parts, root_of}
 use Rattle.ats_commit.specs.Own.{AreTexts}
+
+-- the archive of these texts, with its lists in this format
+abbrev pub archive_in : Format → List (List ℕ) → Archive
+archive_in format texts = record { texts = texts; format = format }
 
 -- the counted terms of each document, in the order of documents
 abbrev pub all_counts : List (List ℕ) → List (List (List ℕ × ℕ))

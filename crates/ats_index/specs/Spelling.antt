@@ -7,13 +7,19 @@ use Rattle.ats_impact.specs.Limits.{AreWithin}
 use Rattle.ats_lists.specs.Leaf.{leaf_bytes}
 use Rattle.ats_lists.specs.Lists.{lists_of}
 use Rattle.ats_lists.specs.declared.entry.Entry.{Entry}
-use Rattle.ats_lists.specs.declared.format.Format.TheVariants.{One}
+use Rattle.ats_lists.specs.declared.format.Format.{Format}
+use Rattle.ats_lists.specs.declared.format.Format.TheVariants.{One, Two}
 use Rattle.ats_commit.specs.Archive.{Archive}
 use Rattle.ats_commit.specs.Root.{root_of}
 
--- ATSI, the version 1, and the number of texts in 4 bytes
-unfoldable pub front_bytes : ℕ → List ℕ
-front_bytes documents = codes "ATSI" ++ 1 ∷ to_be_bytes w32 documents
+-- the version of an index, by the format of its archive
+abbrev pub version_of : Format → ℕ
+version_of One = 1
+version_of Two = 2
+
+-- ATSI, the version, and the number of texts in 4 bytes
+unfoldable pub front_bytes : Format → ℕ → List ℕ
+front_bytes format documents = codes "ATSI" ++ version_of format ∷ to_be_bytes w32 documents
 
 -- the length of a text in 4 bytes, then the text
 unfoldable pub text_bytes : List ℕ → List ℕ
@@ -23,9 +29,9 @@ text_bytes text = to_be_bytes w32 (length text) ++ text
 unfoldable pub list_bytes : List ℕ × List Entry → List ℕ
 list_bytes list = length list.0 ∷ list.0 ++ to_be_bytes w32 (length list.1) ++ flat_map leaf_bytes list.1
 
--- the texts in their order
-abbrev pub texts_bytes : List (List ℕ) → List ℕ
-texts_bytes texts = front_bytes (length texts) ++ flat_map text_bytes texts
+-- the front, and the texts in their order
+abbrev pub texts_bytes : Format → List (List ℕ) → List ℕ
+texts_bytes format texts = front_bytes format (length texts) ++ flat_map text_bytes texts
 
 -- the number of lists in 4 bytes, then the lists in byte order of their terms
 abbrev pub lists_bytes : List (List ℕ × List Entry) → List ℕ
@@ -33,11 +39,10 @@ lists_bytes lists = to_be_bytes w32 (length lists) ++ flat_map list_bytes lists
 
 -- the texts, the lists and the root
 abbrev pub index_bytes : (List ℕ → List ℕ) → Archive → List ℕ
-index_bytes H archive = texts_bytes archive.texts ++ lists_bytes (lists_of archive.texts) ++ root_of H archive
+index_bytes H archive = texts_bytes archive.format archive.texts ++ lists_bytes (lists_of archive.texts) ++ root_of H archive
 
--- the bytes are the index of this archive, in which each list is one tree
+-- the bytes are the index of this archive
 pub record IsSpelling (H : List ℕ → List ℕ) (bytes : List ℕ) (archive : Archive) : Type 0 where
   pub utf8 : All IsUtf8 archive.texts
   pub within : AreWithin archive.texts
-  pub format : archive.format ≡ One
   pub same : bytes ≡ index_bytes H archive

@@ -4,10 +4,11 @@ ghost use Rattle.std.specs.Prelude.{◌≡◌};
 ghost use Rattle.ats_tree.specs.Kept.{kept_digests};
 ghost use Rattle.ats_tree.specs.Tree.{mth};
 ghost use Rattle.ats_dict.specs.Dictionary.{dict_leaves};
-ghost use Rattle.ats_commit.specs.Archive.{archive_of};
+ghost use Rattle.ats_lists.specs.declared.format.Format.{Format};
 ghost use Rattle.ats_commit.specs.Trees.{dictionary_of, documents_of};
 ghost use Rattle.ats_commit.specs.Root.{header_parts};
 ghost use Rattle.ats_commit.specs.Own.{AreTexts};
+ghost use Rattle.ats_index.specs.Parts.{archive_in};
 
 use crate::dictionary::DictionaryTree;
 use crate::doc_leaves::DocumentsTree;
@@ -33,11 +34,11 @@ pub(crate) fn header_of<H: HashKind>(
     documents: &DocumentsTree,
     texts_root: [u8; 32],
 ) -> Header
-    requires dictionary { dictionary.now.dictionary ≡ dictionary_of H.hash (archive_of collection.now) }
     requires dict_nodes { dictionary.now.nodes ≡ kept_digests H.hash (dict_leaves dictionary.now.dictionary) }
     requires docs_nodes { documents.now.nodes ≡ kept_digests H.hash (documents_of H.hash collection.now) }
     requires texts_root { texts_root ≡ mth H.hash collection.now }
-    ensures parts { result ≡ header_parts H.hash (archive_of collection.now) }
+    ensures parts { (format : Format) → dictionary.now.dictionary ≡ dictionary_of H.hash (archive_in format collection.now)
+        → result ≡ header_parts H.hash (archive_in format collection.now) }
     ensures texts { AreTexts collection.now }
 {
     Header {

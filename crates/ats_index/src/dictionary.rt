@@ -1,69 +1,61 @@
-//! The dictionary of some lists, and the nodes of its tree and of theirs.
+//! The dictionary of some lists with the nodes of its tree, and the digests of the lists.
 
 ghost use Rattle.std.specs.Prelude.{◌≡◌, ◌<◌, [], length, map, slice_index_or, IfOk};
 ghost use Rattle.ats_tree.specs.Kept.{kept_digests};
 ghost use Rattle.ats_dict.specs.Dictionary.{dict_leaves};
-ghost use Rattle.ats_lists.specs.Formats.{list_root};
-ghost use Rattle.ats_lists.specs.Leaf.{leaf_bytes};
-ghost use Rattle.ats_lists.specs.declared.format.Format.TheVariants.{One};
+ghost use Rattle.ats_lists.specs.KeptList.{kept_list};
 ghost use Rattle.ats_commit.specs.Trees.{dict_entry};
 ghost use Rattle.ats_index.specs.Kept.{all_list_digests};
 
 use crate::memory::OutOfMemory;
 use ats_dict::Dictionary;
 use ats_hash::{Hash32, HashKind, Steps};
-use ats_lists::{Entry, ListLeaves, Lists};
+use ats_lists::{Format, ListDigests, Lists};
 use ats_tree::{Leaves, Nodes};
 use std::alloc::Global;
 
-// The nodes of the tree of list `i`, counted from 0.
-fn nodes_of_list<H: Hash32>(alloc: Global, lists: &Lists, i: u32) -> Result<Nodes, OutOfMemory>
-    requires { i < length lists.now }
-    ensures { IfOk result (λ nodes.
-        nodes ≡ kept_digests H.hash (map leaf_bytes (slice_index_or lists.now i ([], [])).1)) }
-{
-    let leaves = ListLeaves {
-        entries: lists.list(i),
-    };
-    Ok(Nodes::of::<H, _>(alloc, &leaves, &mut Steps::new(alloc))?)
-}
-
-/// The nodes of the tree of each list, by one thread.
-pub(crate) fn nodes_of_lists<H: Hash32>(
+// The digests of list `i`, counted from 0, in this format.
+fn digests_of_list<H: Hash32>(
     alloc: Global,
+    format: Format,
     lists: &Lists,
-) -> Result<Vec<Nodes>, OutOfMemory>
-    ensures { IfOk result (λ nodes. nodes.items ≡ all_list_digests H.hash lists.now) }
+    i: u32,
+) -> Result<ListDigests, OutOfMemory>
+    requires { i < length lists.now }
+    ensures { IfOk result (λ kept. kept ≡ kept_list H.hash format (slice_index_or lists.now i ([], [])).1) }
 {
-    let mut nodes = Vec::with_capacity(alloc, lists.len() as usize)?;
+    Ok(ListDigests::of::<H>(alloc, format, lists.list(i), &mut Steps::new(alloc))?)
+}
+
+/// The digests of each list in this format, by one thread.
+pub(crate) fn digests_of_lists<H: Hash32>(
+    alloc: Global,
+    format: Format,
+    lists: &Lists,
+) -> Result<Vec<ListDigests>, OutOfMemory>
+    ensures { IfOk result (λ digests. digests.items ≡ all_list_digests H.hash format lists.now) }
+{
+    let mut digests = Vec::with_capacity(alloc, lists.len() as usize)?;
     for i in 0..lists.len() {
-        nodes.push(nodes_of_list::<H>(alloc, lists, i)?)?;
+        digests.push(digests_of_list::<H>(alloc, format, lists, i)?)?;
     }
-    Ok(nodes)
+    Ok(digests)
 }
 
-// The root of a list, which is the first of its nodes.
-fn root_of<H: HashKind>(entries: &[Entry], nodes: &Nodes) -> [u8; 32]
-    requires { nodes.now ≡ kept_digests H.hash (map leaf_bytes entries.now) }
-    ensures { result ≡ list_root H.hash One entries.now }
-{
-    nodes.root()
-}
-
-/// The dictionary that has an entry for each list, from the nodes of their trees.
+/// The dictionary that has an entry for each list, from their digests in this format.
 pub(crate) fn dictionary_of<H: HashKind>(
     alloc: Global,
+    format: Format,
     lists: &Lists,
-    nodes: &[Nodes],
+    digests: &[ListDigests],
 ) -> Result<Dictionary, OutOfMemory>
-    requires { nodes.now ≡ all_list_digests H.hash lists.now }
-    ensures { IfOk result (λ made. made ≡ map (dict_entry H.hash One) lists.now) }
+    requires { digests.now ≡ all_list_digests H.hash format lists.now }
+    ensures { IfOk result (λ made. made ≡ map (dict_entry H.hash format) lists.now) }
 {
     let mut dictionary = Dictionary::new(alloc);
     for i in 0..lists.len() {
-        let entries = lists.list(i);
-        let root = root_of::<H>(entries, &nodes[i as usize]);
-        dictionary.push(lists.term(i), entries.len() as u32, &root)?;
+        let root = digests[i as usize].root();
+        dictionary.push(lists.term(i), lists.list(i).len() as u32, &root)?;
     }
     Ok(dictionary)
 }
@@ -84,17 +76,18 @@ pub(crate) struct DictionaryTree {
     pub(crate) nodes: Nodes,
 }
 
-/// The dictionary of lists with its tree, from the nodes of their trees, by one thread.
+/// The dictionary of lists with its tree, from their digests in this format, by one thread.
 pub(crate) fn dictionary_tree<H: Hash32>(
     alloc: Global,
+    format: Format,
     lists: &Lists,
-    nodes: &[Nodes],
+    digests: &[ListDigests],
 ) -> Result<DictionaryTree, OutOfMemory>
-    requires { nodes.now ≡ all_list_digests H.hash lists.now }
-    ensures dictionary { IfOk result (λ made. made.dictionary ≡ map (dict_entry H.hash One) lists.now) }
+    requires { digests.now ≡ all_list_digests H.hash format lists.now }
+    ensures dictionary { IfOk result (λ made. made.dictionary ≡ map (dict_entry H.hash format) lists.now) }
     ensures nodes { IfOk result (λ made. made.nodes ≡ kept_digests H.hash (dict_leaves made.dictionary)) }
 {
-    let dictionary = dictionary_of::<H>(alloc, lists, nodes)?;
+    let dictionary = dictionary_of::<H>(alloc, format, lists, digests)?;
     let nodes = dictionary_nodes::<H>(alloc, &dictionary)?;
     Ok(DictionaryTree { dictionary, nodes })
 }

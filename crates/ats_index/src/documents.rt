@@ -1,4 +1,5 @@
-//! The lists of a collection and the terms of all documents, with the nodes of their trees, by one thread.
+//! The lists of a collection with their digests, and the terms of all documents with the nodes of their trees, by one
+//! thread.
 
 ghost use Rattle.std.specs.Prelude.{◌≡◌, ◌<◌, ◌++◌, ◌∷◌, [], length, IfOk, OnOk};
 ghost use Rattle.ats_terms.specs.Terms.{terms};
@@ -11,21 +12,21 @@ ghost use Rattle.ats_doctree.specs.Sentinels.{terms_leaves};
 ghost use Rattle.ats_index.specs.Kept.{all_list_digests, all_term_digests};
 ghost use Rattle.ats_index.specs.Parts.{all_terms};
 
-use crate::dictionary::nodes_of_lists;
+use crate::dictionary::digests_of_lists;
 use crate::memory::OutOfMemory;
 use ats_doctree::DocTerms;
 use ats_hash::{Hash32, Steps};
 use ats_impact::Collection;
-use ats_lists::{Lists, ListsBuilder};
+use ats_lists::{Format, ListDigests, Lists, ListsBuilder};
 use ats_terms::TermCounts;
 use ats_tree::{Leaves, Nodes};
 use std::alloc::Global;
 
-/// The lists with the nodes of their trees, and for each document its terms and the nodes of their tree.
+/// The lists with their digests, and for each document its terms and the nodes of their tree.
 #[derive(Drop)]
 pub(crate) struct DocumentParts {
     pub(crate) lists: Lists,
-    pub(crate) list_nodes: Vec<Nodes>,
+    pub(crate) list_digests: Vec<ListDigests>,
     pub(crate) terms: Vec<DocTerms>,
     pub(crate) term_nodes: Vec<Nodes>,
 }
@@ -60,14 +61,15 @@ fn put_document<H: Hash32>(
     Ok(())
 }
 
-/// Counts each document once, and hashes the trees of its terms and of the lists.
+/// Counts each document once, and hashes the trees of its terms, and the lists in this format.
 pub(crate) fn counted<H: Hash32>(
     alloc: Global,
+    format: Format,
     collection: &Collection,
 ) -> Result<DocumentParts, OutOfMemory>
     ensures lists { IfOk result (λ made. made.lists ≡ lists_of collection.now) }
-    ensures list_nodes { IfOk result (λ made.
-        made.list_nodes.items ≡ all_list_digests H.hash (lists_of collection.now)) }
+    ensures list_digests { IfOk result (λ made.
+        made.list_digests.items ≡ all_list_digests H.hash format (lists_of collection.now)) }
     ensures terms { IfOk result (λ made. made.terms.items ≡ all_terms collection.now) }
     ensures term_nodes { IfOk result (λ made. made.term_nodes.items ≡ all_term_digests H.hash collection.now) }
 {
@@ -81,10 +83,10 @@ pub(crate) fn counted<H: Hash32>(
         put_document::<H>(alloc, collection, doc, counts, &mut terms, &mut term_nodes)?;
     }
     let lists = builder.finish()?;
-    let list_nodes = nodes_of_lists::<H>(alloc, &lists)?;
+    let list_digests = digests_of_lists::<H>(alloc, format, &lists)?;
     Ok(DocumentParts {
         lists,
-        list_nodes,
+        list_digests,
         terms,
         term_nodes,
     })

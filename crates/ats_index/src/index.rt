@@ -3,10 +3,12 @@
 ghost use Rattle.std.specs.Prelude.{◌≡◌, ◌<◌, ◌≤◌, [], ℕ, List, length, map, slice_index_or, IfOk, OnOk, MatchOption};
 ghost use Rattle.ats_tree.specs.Kept.{kept_digests};
 ghost use Rattle.ats_tree.specs.Tree.{mth};
+ghost use Rattle.ats_lists.specs.KeptChain.{kept_chain};
+ghost use Rattle.ats_lists.specs.KeptList.{kept_list};
 ghost use Rattle.ats_lists.specs.Leaf.{leaf_bytes};
 ghost use Rattle.ats_lists.specs.Lists.{lists_of};
 ghost use Rattle.ats_lists.specs.declared.entry.Entry.{Entry};
-ghost use Rattle.ats_lists.specs.declared.format.Format.TheVariants.{One};
+ghost use Rattle.ats_lists.specs.declared.format.Format.TheVariants.{One, Two};
 ghost use Rattle.ats_dict.specs.Dictionary.{dict_leaves};
 ghost use Rattle.ats_doctree.specs.Impacts.{doc_terms};
 ghost use Rattle.ats_doctree.specs.Sentinels.{terms_leaves};
@@ -14,7 +16,7 @@ ghost use Rattle.ats_commit.specs.Archive.{archive_of};
 ghost use Rattle.ats_commit.specs.Trees.{dictionary_of, documents_of, leaf_of_terms};
 ghost use Rattle.ats_commit.specs.Root.{header_parts, root_of};
 ghost use Rattle.ats_commit.specs.Own.{AreTexts};
-ghost use Rattle.ats_index.specs.Parts.{all_leaves, all_terms};
+ghost use Rattle.ats_index.specs.Parts.{all_leaves, all_terms, archive_in};
 ghost use Rattle.ats_index.specs.Kept.{all_list_digests, all_term_digests};
 ghost use Rattle.ats_index.specs.Spelling.{IsSpelling, index_bytes};
 ghost use Rattle.ats_index.specs.LoadFaults.{IsDifference};
@@ -28,24 +30,26 @@ use crate::memory::OutOfMemory;
 use crate::parallel::{parts_and_texts, upper_trees};
 use crate::write::{put_lists, put_texts, room_of};
 use ats_base::Bytes;
-use ats_commit::root_of_header;
+use ats_commit::root_of_header_in;
 use ats_dict::{Dictionary, Header};
 use ats_doctree::{DocLeaf, DocTerms};
 use ats_hash::{Hash32, HashKind, Steps};
 use ats_impact::Collection;
-use ats_lists::Lists;
+use ats_lists::{Chain, Format, ListDigests, Lists};
 use ats_tree::Nodes;
 use std::alloc::Global;
 use std::marker::{Model, PhantomData};
 use std::thread::Threads;
 
-/// A collection of 1 to 65,536 texts with all that its root commits to, under a hash function. Each list is one tree.
+/// A collection of 1 to 65,536 texts with all that its root commits to, under a hash function. Its lists are hashed in one
+/// format.
 ///
-/// It keeps its allocator, and the digests of all nodes of its trees except those of the texts tree: about 64 bytes a
-/// leaf.
+/// It keeps its allocator, the digests of its lists, and those of all nodes of its trees except the texts tree: about 64
+/// bytes a leaf.
 #[derive(Drop)]
 pub struct Index<H: HashKind> {
     pub(crate) alloc: Global,
+    format: Format,
     collection: Collection,
     lists: Lists,
     dictionary: Dictionary,
@@ -53,7 +57,7 @@ pub struct Index<H: HashKind> {
     leaves: Vec<DocLeaf>,
     header: Header,
     root: [u8; 32],
-    list_nodes: Vec<Nodes>,
+    list_digests: Vec<ListDigests>,
     term_nodes: Vec<Nodes>,
     dict_nodes: Nodes,
     docs_nodes: Nodes,
@@ -61,17 +65,17 @@ pub struct Index<H: HashKind> {
 }
 
 impl<H: HashKind> Model for Index<H> {
-    ghost use Rattle.ats_commit.specs.Archive.{Archive, archive_of};
-    ghost use Rattle.ats_index.specs.Parts.{IsIndexOf};
+    ghost use Rattle.ats_commit.specs.Archive.{Archive};
+    ghost use Rattle.ats_index.specs.Parts.{IsIndexOf, archive_in};
     ghost use Rattle.ats_index.specs.Kept.{AreNodesOf};
 
     ghost Value = { Archive };
 
-    ghost view = { λ i. archive_of i.collection };
+    ghost view = { λ i. archive_in i.format i.collection };
 
     ghost invariant = { λ i.
-        IsIndexOf H.hash (archive_of i.collection) i.lists i.dictionary i.terms.items i.leaves.items i.header i.root
-        × AreNodesOf H.hash (archive_of i.collection) i.list_nodes.items i.term_nodes.items i.dict_nodes i.docs_nodes };
+        IsIndexOf H.hash (archive_in i.format i.collection) i.lists i.dictionary i.terms.items i.leaves.items i.header i.root
+        × AreNodesOf H.hash (archive_in i.format i.collection) i.list_digests.items i.term_nodes.items i.dict_nodes i.docs_nodes };
 }
 
 impl<H: HashKind> Index<H> {
@@ -82,10 +86,16 @@ impl<H: HashKind> Index<H> {
         self.root
     }
 
-    /// The header. The root is its digest, and each list is one tree.
+    /// How the lists are hashed.
+    pub fn format(&self) -> Format
+        ensures { result ≡ self.now.format }
+    {
+        self.format
+    }
+
+    /// The header. The root is its digest under the format's tag.
     pub fn header(&self) -> &Header
         ensures parts { result.now ≡ header_parts H.hash self.now }
-        ensures format { self.now.format ≡ One }
         ensures texts { AreTexts self.now.texts }
     {
         &self.header
@@ -97,6 +107,13 @@ impl<H: HashKind> Index<H> {
         ensures texts { AreTexts self.now.texts }
     {
         &self.collection
+    }
+
+    /// The texts, without the rest.
+    pub fn into_collection(self) -> Collection
+        ensures { result ≡ self.texts }
+    {
+        self.collection
     }
 
     /// The inverted lists.
@@ -137,13 +154,39 @@ impl<H: HashKind> Index<H> {
         &self.leaves
     }
 
-    /// The digests of the tree of list `i`, counted from 0.
-    pub fn list_nodes(&self, i: u32) -> &Nodes
+    /// The digests of list `i`, counted from 0.
+    pub fn list_digests(&self, i: u32) -> &ListDigests
         requires { i < length (lists_of self.now.texts) }
+        ensures { (d : List ℕ × List Entry)
+            → result.now ≡ kept_list H.hash self.now.format (slice_index_or (lists_of self.now.texts) i d).1 }
+    {
+        &self.list_digests[i as usize]
+    }
+
+    /// The digests of the tree of list `i`, counted from 0, if each list is one tree.
+    pub fn list_nodes(&self, i: u32) -> &Nodes
+        requires inside { i < length (lists_of self.now.texts) }
+        requires format { self.now.format ≡ One }
         ensures { (d : List ℕ × List Entry)
             → result.now ≡ kept_digests H.hash (map leaf_bytes (slice_index_or (lists_of self.now.texts) i d).1) }
     {
-        &self.list_nodes[i as usize]
+        match self.list_digests(i) {
+            ListDigests::Tree(nodes) => nodes,
+            ListDigests::Blocks(_) => unreachable!(),
+        }
+    }
+
+    /// The digests of list `i`, counted from 0, if the lists are in blocks.
+    pub fn list_chain(&self, i: u32) -> &Chain
+        requires inside { i < length (lists_of self.now.texts) }
+        requires format { self.now.format ≡ Two }
+        ensures { (d : List ℕ × List Entry)
+            → result.now ≡ kept_chain H.hash (map leaf_bytes (slice_index_or (lists_of self.now.texts) i d).1) }
+    {
+        match self.list_digests(i) {
+            ListDigests::Tree(_) => unreachable!(),
+            ListDigests::Blocks(chain) => chain,
+        }
     }
 
     /// The digests of the tree of a document's terms. Documents are counted from 0.
@@ -168,8 +211,8 @@ impl<H: HashKind> Index<H> {
         &self.docs_nodes
     }
 
-    /// The bytes of the index. Numbers are written high byte first: `ATSI`, the version 1 in one byte, the number of
-    /// texts in 4, and each text after its length in 4. Then the number of terms in 4 and, for each in byte order, its
+    /// The bytes of the index. Numbers are written high byte first: `ATSI`, the version in one byte, 1 for lists that are
+    /// trees and 2 for lists in blocks, the number of texts in 4, and each text after its length in 4. Then the number of terms in 4 and, for each in byte order, its
     /// length in one, the term, the number of its entries in 4, and each entry in 6. Then the root.
     pub fn bytes(&self) -> Result<Bytes, OutOfMemory>
         ensures { IfOk result (λ bytes. IsSpelling H.hash bytes self.now) }
@@ -185,7 +228,7 @@ impl<H: HashKind> Index<H> {
             → OnOk result (W.has to.new about (index_bytes H.hash self.now)) }
         ensures texts { AreTexts self.now.texts }
     {
-        put_texts(to, &self.collection)?;
+        put_texts(to, self.format, &self.collection)?;
         put_lists(to, &self.lists)?;
         to.put(&self.root)?;
         Ok(())
@@ -205,9 +248,10 @@ impl<H: HashKind> Index<H> {
 }
 
 impl<H: Hash32> Index<H> {
-    // The index of a collection from its lists, the terms of its documents, and the nodes of all its trees.
+    // The index of a collection in this format, from its lists, the terms of its documents, and the digests of all these.
     fn assembled(
         alloc: Global,
+        format: Format,
         collection: Collection,
         parts: DocumentParts,
         dictionary: DictionaryTree,
@@ -217,19 +261,19 @@ impl<H: Hash32> Index<H> {
         requires lists { parts.lists ≡ lists_of collection }
         requires terms { parts.terms.items ≡ all_terms collection }
         requires term_nodes { parts.term_nodes.items ≡ all_term_digests H.hash collection }
-        requires list_nodes { parts.list_nodes.items ≡ all_list_digests H.hash (lists_of collection) }
-        requires dictionary { dictionary.dictionary ≡ dictionary_of H.hash (archive_of collection) }
+        requires list_digests { parts.list_digests.items ≡ all_list_digests H.hash format (lists_of collection) }
+        requires dictionary { dictionary.dictionary ≡ dictionary_of H.hash (archive_in format collection) }
         requires dict_nodes { dictionary.nodes ≡ kept_digests H.hash (dict_leaves dictionary.dictionary) }
         requires leaves { documents.leaves.items ≡ all_leaves H.hash collection }
         requires docs_nodes { documents.nodes ≡ kept_digests H.hash (documents_of H.hash collection) }
         requires texts_root { texts_root ≡ mth H.hash collection }
-        ensures { result ≡ archive_of collection }
+        ensures { result ≡ archive_in format collection }
     {
         let header = header_of::<H>(&collection, &dictionary, &documents, texts_root);
-        let root = root_of_header::<H>(&header, &mut Steps::new(alloc));
+        let root = root_of_header_in::<H>(format, &header, &mut Steps::new(alloc));
         let DocumentParts {
             lists,
-            list_nodes,
+            list_digests,
             terms,
             term_nodes,
         } = parts;
@@ -243,6 +287,7 @@ impl<H: Hash32> Index<H> {
         } = documents;
         Index {
             alloc,
+            format,
             collection,
             lists,
             dictionary,
@@ -250,7 +295,7 @@ impl<H: Hash32> Index<H> {
             leaves,
             header,
             root,
-            list_nodes,
+            list_digests,
             term_nodes,
             dict_nodes,
             docs_nodes,
@@ -258,21 +303,34 @@ impl<H: Hash32> Index<H> {
         }
     }
 
-    /// The index of a collection, by one thread. If memory runs out, the collection is dropped.
+    /// The index of a collection in which each list is one tree, by one thread. If memory runs out, the collection is
+    /// dropped.
     pub fn build_plain(alloc: Global, collection: Collection) -> Result<Self, OutOfMemory>
         ensures { IfOk result (λ index. index ≡ archive_of collection) }
     {
-        let parts = counted::<H>(alloc, &collection)?;
-        let dictionary = dictionary_tree::<H>(alloc, &parts.lists, &parts.list_nodes)?;
+        Index::<H>::build_plain_in(alloc, collection, Format::One)
+    }
+
+    // The index of a collection in this format, by one thread.
+    fn build_plain_in(
+        alloc: Global,
+        collection: Collection,
+        format: Format,
+    ) -> Result<Self, OutOfMemory>
+        ensures { IfOk result (λ index. index ≡ archive_in format collection) }
+    {
+        let parts = counted::<H>(alloc, format, &collection)?;
+        let dictionary = dictionary_tree::<H>(alloc, format, &parts.lists, &parts.list_digests)?;
         let documents = documents_tree::<H>(alloc, &collection, &parts.terms, &parts.term_nodes)?;
         let texts_root = root_of_texts::<H>(alloc, &collection);
-        Ok(Index::<H>::assembled(alloc, collection, parts, dictionary, documents, texts_root))
+        Ok(Index::<H>::assembled(
+            alloc, format, collection, parts, dictionary, documents, texts_root,
+        ))
     }
 }
 
 impl<H: Hash32 + Sync> Index<H> {
-    /// The index of a collection, by as many threads as the machine runs at once. If memory runs out, the collection is
-    /// dropped.
+    /// The index of a collection in which each list is one tree: `build_in` with format One.
     pub fn build(
         rt: &(impl Threads + Sync),
         alloc: Global,
@@ -280,8 +338,23 @@ impl<H: Hash32 + Sync> Index<H> {
     ) -> Result<Self, OutOfMemory>
         ensures { IfOk result (λ index. index ≡ archive_of collection) }
     {
-        let (parts, texts_root) = parts_and_texts::<H, _>(rt, alloc, &collection)?;
-        let (dictionary, documents) = upper_trees::<H, _>(rt, alloc, &collection, &parts)?;
-        Ok(Index::<H>::assembled(alloc, collection, parts, dictionary, documents, texts_root))
+        Index::<H>::build_in(rt, alloc, collection, Format::One)
+    }
+
+    /// The index of a collection with its lists in this format, by as many threads as the machine runs at once. If memory
+    /// runs out, the collection is dropped.
+    pub fn build_in(
+        rt: &(impl Threads + Sync),
+        alloc: Global,
+        collection: Collection,
+        format: Format,
+    ) -> Result<Self, OutOfMemory>
+        ensures { IfOk result (λ index. index ≡ archive_in format collection) }
+    {
+        let (parts, texts_root) = parts_and_texts::<H, _>(rt, alloc, format, &collection)?;
+        let (dictionary, documents) = upper_trees::<H, _>(rt, alloc, format, &collection, &parts)?;
+        Ok(Index::<H>::assembled(
+            alloc, format, collection, parts, dictionary, documents, texts_root,
+        ))
     }
 }

@@ -2,8 +2,7 @@
 
 ghost use Rattle.std.specs.Prelude.{◌≡◌, ◌<◌, [], length, map, slice_index_or, IfOk};
 ghost use Rattle.ats_tree.specs.Kept.{kept_digests};
-ghost use Rattle.ats_lists.specs.declared.format.Format.TheVariants.{One};
-ghost use Rattle.ats_lists.specs.Leaf.{leaf_bytes};
+ghost use Rattle.ats_lists.specs.KeptList.{kept_list};
 ghost use Rattle.ats_dict.specs.Dictionary.{dict_leaves};
 ghost use Rattle.ats_doctree.specs.Sentinels.{terms_leaves};
 ghost use Rattle.ats_commit.specs.Trees.{dict_entry, documents_of};
@@ -15,9 +14,9 @@ use crate::doc_leaves::{DocumentsTree, leaves_of_documents};
 use crate::memory::OutOfMemory;
 use ats_commit::DocLeaves;
 use ats_doctree::DocTerms;
-use ats_hash::Hash32;
+use ats_hash::{Hash32, Steps};
 use ats_impact::Collection;
-use ats_lists::{ListLeaves, Lists};
+use ats_lists::{Format, ListDigests, ListLeaves, Lists};
 use ats_tree::{Leaves, Nodes};
 use std::alloc::Global;
 use std::thread::Threads;
@@ -47,36 +46,42 @@ pub(crate) fn nodes_of_terms<H: Hash32 + Sync, R: Threads + Sync>(
     Ok(Nodes::of_by_threads::<H, _, R>(rt, alloc, terms, halvings(terms.len(), BESIDE_OTHERS))?)
 }
 
-/// The nodes of the tree of list `i`, counted from 0.
-pub(crate) fn nodes_of_list<H: Hash32 + Sync, R: Threads + Sync>(
+/// The digests of list `i`, counted from 0, in this format.
+pub(crate) fn digests_of_list<H: Hash32 + Sync, R: Threads + Sync>(
     rt: &R,
     alloc: Global,
+    format: Format,
     lists: &Lists,
     i: u32,
-) -> Result<Nodes, OutOfMemory>
+) -> Result<ListDigests, OutOfMemory>
     requires { i < length lists.now }
-    ensures { IfOk result (λ nodes.
-        nodes ≡ kept_digests H.hash (map leaf_bytes (slice_index_or lists.now i ([], [])).1)) }
+    ensures { IfOk result (λ kept. kept ≡ kept_list H.hash format (slice_index_or lists.now i ([], [])).1) }
 {
-    let leaves = ListLeaves {
-        entries: lists.list(i),
-    };
-    let halvings = halvings(leaves.len(), BESIDE_OTHERS);
-    Ok(Nodes::of_by_threads::<H, _, R>(rt, alloc, &leaves, halvings)?)
+    let entries = lists.list(i);
+    match format {
+        Format::One => {
+            let leaves = ListLeaves { entries };
+            let halvings = halvings(leaves.len(), BESIDE_OTHERS);
+            let nodes = Nodes::of_by_threads::<H, _, R>(rt, alloc, &leaves, halvings)?;
+            Ok(ListDigests::Tree(nodes))
+        }
+        Format::Two => Ok(ListDigests::of::<H>(alloc, format, entries, &mut Steps::new(alloc))?),
+    }
 }
 
-/// The dictionary of lists with its tree, from the nodes of their trees.
+/// The dictionary of lists with its tree, from their digests in this format.
 pub(crate) fn dictionary_tree<H: Hash32 + Sync, R: Threads + Sync>(
     rt: &R,
     alloc: Global,
+    format: Format,
     lists: &Lists,
-    nodes: &[Nodes],
+    digests: &[ListDigests],
 ) -> Result<DictionaryTree, OutOfMemory>
-    requires { nodes.now ≡ all_list_digests H.hash lists.now }
-    ensures dictionary { IfOk result (λ made. made.dictionary ≡ map (dict_entry H.hash One) lists.now) }
+    requires { digests.now ≡ all_list_digests H.hash format lists.now }
+    ensures dictionary { IfOk result (λ made. made.dictionary ≡ map (dict_entry H.hash format) lists.now) }
     ensures nodes { IfOk result (λ made. made.nodes ≡ kept_digests H.hash (dict_leaves made.dictionary)) }
 {
-    let dictionary = dictionary_of::<H>(alloc, lists, nodes)?;
+    let dictionary = dictionary_of::<H>(alloc, format, lists, digests)?;
     // A dictionary has at most 2^24 terms.
     prove!(dictionary.len() >= 2);
     let halvings = halvings(dictionary.len(), ALONE);

@@ -5,7 +5,8 @@
 //! The room stands on `ats_lists`, `ats_dict` and `ats_doctree`, whose parts it makes, by one thread or by several,
 //! and on `ats_commit`, which defines what they are together. Each tree is hashed once, and the digests of its nodes
 //! are kept and lent, except those of the texts tree. Both builds return the same index: contracts see only its
-//! archive, and each part, digests included, is that archive's under the hash function. An index has one spelling in
+//! archive, and each part, digests included, is that archive's under the hash function. Lists are hashed in one of two formats
+//! (`ats_lists::Format`), which the bytes and the root say. An index has one spelling in
 //! bytes, and bytes are the spelling of at most one archive. Bytes are loaded exactly if they are the spelling of some
 //! archive. Else they are refused with the place of the first bad field up to the last text, or of the first
 //! difference from the index of the texts. The string at each place of the trees of an index is the archive's own. How
@@ -27,6 +28,7 @@ mod compare;
 mod dictionary;
 mod doc_leaves;
 mod documents;
+mod fronts;
 mod index;
 mod large_trees;
 mod laws;

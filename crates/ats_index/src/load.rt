@@ -17,9 +17,9 @@ use std::thread::Threads;
 #[derive(Clone, Copy, Debug, PartialEq, Eq)]
 pub enum LoadFault {
     /// The bytes are the index of no archive. If a field up to the last text is bad, the place is the start of the
-    /// first such field: it is cut off, has another magic or version, a number of texts or a length beyond the limits,
+    /// first such field: it is cut off, has another magic, a version that is not 1 or 2, a number of texts or a length beyond the limits,
     /// or is not UTF-8. If all of these fields are good, the place is the length of the longest common prefix with the
-    /// index of the texts.
+    /// index of the texts in the version's format.
     BadIndex { at: u64 },
     /// Memory ran out.
     OutOfMemory,
@@ -37,16 +37,16 @@ impl From<OutOfMemory> for LoadFault {
 }
 
 impl<H: Hash32 + Sync> Index<H> {
-    /// The index that these bytes are. Its lists and trees are made again from the texts, and the bytes must be the
-    /// same. A length is used only after as many bytes are found.
+    /// The index that these bytes are. Its lists and trees are made again from the texts, in the format of the version, and
+    /// the bytes must be the same. A length is used only after as many bytes are found.
     pub fn load(rt: &(impl Threads + Sync), alloc: Global, bytes: &[u8]) -> Result<Self, LoadFault>
         ensures ok { IfOk result (IsSpelling H.hash bytes.now) }
         ensures only { (archive : Archive)
             → IsSpelling H.hash bytes.now archive → IfOk result (λ index. index ≡ archive) }
         ensures fault { IfErr result (IsLoadFault H.hash bytes.now) }
     {
-        let texts = match read_texts(alloc, bytes)? {
-            Ok(texts) => texts,
+        let (format, texts) = match read_texts(alloc, bytes)? {
+            Ok(read) => read,
             Err(at) => return Err(LoadFault::BadIndex { at }),
         };
         let collection = match Collection::new(alloc, texts) {
@@ -54,7 +54,7 @@ impl<H: Hash32 + Sync> Index<H> {
             Err(CollectionFault::OutOfMemory) => return Err(LoadFault::OutOfMemory),
             Err(_) => unreachable!(),
         };
-        let index = Index::<H>::build(rt, alloc, collection)?;
+        let index = Index::<H>::build_in(rt, alloc, collection, format)?;
         match index.difference(bytes)? {
             Some(at) => Err(LoadFault::BadIndex { at }),
             None => Ok(index),

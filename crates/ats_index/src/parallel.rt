@@ -9,9 +9,8 @@ ghost use Rattle.ats_terms.specs.Query.{counted};
 ghost use Rattle.ats_tree.specs.Kept.{kept_digests};
 ghost use Rattle.ats_tree.specs.Tree.{mth};
 ghost use Rattle.ats_dict.specs.Dictionary.{dict_leaves};
-ghost use Rattle.ats_lists.specs.declared.format.Format.TheVariants.{One};
 ghost use Rattle.ats_commit.specs.Trees.{dict_entry, documents_of};
-ghost use Rattle.ats_lists.specs.Leaf.{leaf_bytes};
+ghost use Rattle.ats_lists.specs.KeptList.{kept_list};
 ghost use Rattle.ats_lists.specs.Lists.{lists_of};
 ghost use Rattle.ats_doctree.specs.Impacts.{doc_terms};
 ghost use Rattle.ats_doctree.specs.Sentinels.{terms_leaves};
@@ -22,12 +21,12 @@ use crate::build::root_of_texts;
 use crate::dictionary::DictionaryTree;
 use crate::doc_leaves::DocumentsTree;
 use crate::documents::DocumentParts;
-use crate::large_trees::{dictionary_tree, documents_tree, nodes_of_list, nodes_of_terms};
+use crate::large_trees::{dictionary_tree, digests_of_list, documents_tree, nodes_of_terms};
 use crate::memory::OutOfMemory;
 use ats_doctree::DocTerms;
 use ats_hash::Hash32;
 use ats_impact::Collection;
-use ats_lists::{Lists, ListsBuilder};
+use ats_lists::{Format, ListDigests, Lists, ListsBuilder};
 use ats_terms::TermCounts;
 use ats_tree::Nodes;
 use rayon::prelude::*;
@@ -196,84 +195,87 @@ fn nodes_of_documents_terms<H: Hash32 + Sync, R: Threads + Sync>(
     made
 }
 
-// The nodes of the tree of each list.
-fn nodes_of_all_lists<H: Hash32 + Sync, R: Threads + Sync>(
+// The digests of each list in this format.
+fn digests_of_all_lists<H: Hash32 + Sync, R: Threads + Sync>(
     rt: &R,
     alloc: Global,
+    format: Format,
     lists: &Lists,
-) -> Result<Vec<Nodes>, OutOfMemory>
-    ensures { IfOk result (λ nodes. nodes.items ≡ all_list_digests H.hash lists.now) }
+) -> Result<Vec<ListDigests>, OutOfMemory>
+    ensures { IfOk result (λ digests. digests.items ≡ all_list_digests H.hash format lists.now) }
 {
-    let made: Result<Vec<Nodes>, OutOfMemory> = (0..lists.len())
+    let made: Result<Vec<ListDigests>, OutOfMemory> = (0..lists.len())
         .into_par_iter()
         .with_min_len(1)
         .map(
-            |i: u32| -> Result<Nodes, OutOfMemory>
+            |i: u32| -> Result<ListDigests, OutOfMemory>
                 requires { i < length lists.now }
-                ensures { IfOk result (λ nodes.
-                    nodes ≡ kept_digests H.hash (map leaf_bytes (slice_index_or lists.entry.now i ([], [])).1)) }
-            { nodes_of_list::<H, R>(rt, alloc, lists, i) },
+                ensures { IfOk result (λ kept.
+                    kept ≡ kept_list H.hash format (slice_index_or lists.entry.now i ([], [])).1) }
+            { digests_of_list::<H, R>(rt, alloc, format, lists, i) },
         )
         .collect(rt, alloc)?;
     made
 }
 
-// The lists with the nodes of their trees, which are hashed as soon as the lists are made.
-fn lists_with_nodes<H: Hash32 + Sync, R: Threads + Sync>(
+// The lists with their digests in this format, which are hashed as soon as the lists are made.
+fn lists_with_digests<H: Hash32 + Sync, R: Threads + Sync>(
     rt: &R,
     alloc: Global,
+    format: Format,
     collection: &Collection,
     counts: &[TermCounts],
-) -> Result<(Lists, Vec<Nodes>), OutOfMemory>
+) -> Result<(Lists, Vec<ListDigests>), OutOfMemory>
     requires { counts.now ≡ all_counts collection.now }
     ensures lists { IfOk result (λ made. made.0 ≡ lists_of collection.now) }
-    ensures nodes { IfOk result (λ made. made.1.items ≡ all_list_digests H.hash (lists_of collection.now)) }
+    ensures digests { IfOk result (λ made. made.1.items ≡ all_list_digests H.hash format (lists_of collection.now)) }
 {
     let lists = lists_of_counts::<R>(rt, alloc, collection, counts)?;
-    let nodes = nodes_of_all_lists::<H, R>(rt, alloc, &lists)?;
-    Ok((lists, nodes))
+    let digests = digests_of_all_lists::<H, R>(rt, alloc, format, &lists)?;
+    Ok((lists, digests))
 }
 
-// The lists, and the nodes of their trees and of those of the documents' terms.
+// The lists with their digests, and the nodes of the trees of the documents' terms.
 #[derive(Drop)]
 struct Hashed {
     lists: Lists,
-    list_nodes: Vec<Nodes>,
+    list_digests: Vec<ListDigests>,
     term_nodes: Vec<Nodes>,
 }
 
-// The lists with the nodes of their trees and, in parallel, the nodes of the trees of the documents' terms.
+// The lists with their digests in this format and, in parallel, the nodes of the trees of the documents' terms.
 fn hashed_by_threads<H: Hash32 + Sync, R: Threads + Sync>(
     rt: &R,
     alloc: Global,
+    format: Format,
     collection: &Collection,
     counts: &[TermCounts],
 ) -> Result<Hashed, OutOfMemory>
     requires { counts.now ≡ all_counts collection.now }
     ensures lists { IfOk result (λ made. made.lists ≡ lists_of collection.now) }
-    ensures list_nodes { IfOk result (λ made.
-        made.list_nodes.items ≡ all_list_digests H.hash (lists_of collection.now)) }
+    ensures list_digests { IfOk result (λ made.
+        made.list_digests.items ≡ all_list_digests H.hash format (lists_of collection.now)) }
     ensures term_nodes { IfOk result (λ made. made.term_nodes.items ≡ all_term_digests H.hash collection.now) }
 {
     let (lists, term_nodes) = join(
         rt,
-        || -> Result<(Lists, Vec<Nodes>), OutOfMemory>
+        || -> Result<(Lists, Vec<ListDigests>), OutOfMemory>
             requires sync { IsSync R.row × IsSync H.row }
             requires counts { counts.now ≡ all_counts collection.now }
             ensures lists { IfOk result (λ made. made.0 ≡ lists_of collection.entry.now) }
-            ensures nodes { IfOk result (λ made.
-                made.1.items ≡ all_list_digests H.hash (lists_of collection.entry.now)) }
-        { lists_with_nodes::<H, R>(rt, alloc, collection, counts) },
+            ensures digests { IfOk result (λ made.
+                made.1.items ≡ all_list_digests H.hash format (lists_of collection.entry.now)) }
+        { lists_with_digests::<H, R>(rt, alloc, format, collection, counts) },
         || -> Result<Vec<Nodes>, OutOfMemory>
             requires sync { IsSync R.row × IsSync H.row }
             requires counts { counts.now ≡ all_counts collection.now }
             ensures { IfOk result (λ nodes. nodes.items ≡ all_term_digests H.hash collection.entry.now) }
         { nodes_of_documents_terms::<H, R>(rt, alloc, collection, counts) },
     );
-    let (lists, list_nodes) = lists?;
+    let (lists, list_digests) = lists?;
     Ok(Hashed {
         lists,
-        list_nodes,
+        list_digests,
         term_nodes: term_nodes?,
     })
 }
@@ -298,42 +300,46 @@ fn terms_of_documents(
     Ok(made)
 }
 
-// The lists and the terms of the documents, with the nodes of their trees. Each document is counted once.
+// The lists with their digests in this format, and the terms of the documents with the nodes of their trees. Each document
+// is counted once.
 fn counted_by_threads<H: Hash32 + Sync, R: Threads + Sync>(
     rt: &R,
     alloc: Global,
+    format: Format,
     collection: &Collection,
 ) -> Result<DocumentParts, OutOfMemory>
     ensures lists { IfOk result (λ made. made.lists ≡ lists_of collection.now) }
-    ensures list_nodes { IfOk result (λ made.
-        made.list_nodes.items ≡ all_list_digests H.hash (lists_of collection.now)) }
+    ensures list_digests { IfOk result (λ made.
+        made.list_digests.items ≡ all_list_digests H.hash format (lists_of collection.now)) }
     ensures terms { IfOk result (λ made. made.terms.items ≡ all_terms collection.now) }
     ensures term_nodes { IfOk result (λ made. made.term_nodes.items ≡ all_term_digests H.hash collection.now) }
 {
     let counts = counts_of_documents(rt, alloc, collection)?;
     let Hashed {
         lists,
-        list_nodes,
+        list_digests,
         term_nodes,
-    } = hashed_by_threads::<H, R>(rt, alloc, collection, &counts)?;
+    } = hashed_by_threads::<H, R>(rt, alloc, format, collection, &counts)?;
     let terms = terms_of_documents(alloc, collection, counts)?;
     Ok(DocumentParts {
         lists,
-        list_nodes,
+        list_digests,
         terms,
         term_nodes,
     })
 }
 
-/// The lists and the terms of the documents, with the nodes of their trees, and in parallel the root of the texts.
+/// The lists with their digests in this format, the terms of the documents with the nodes of their trees, and in parallel
+/// the root of the texts.
 pub(crate) fn parts_and_texts<H: Hash32 + Sync, R: Threads + Sync>(
     rt: &R,
     alloc: Global,
+    format: Format,
     collection: &Collection,
 ) -> Result<(DocumentParts, [u8; 32]), OutOfMemory>
     ensures lists { IfOk result (λ made. made.0.lists ≡ lists_of collection.now) }
-    ensures list_nodes { IfOk result (λ made.
-        made.0.list_nodes.items ≡ all_list_digests H.hash (lists_of collection.now)) }
+    ensures list_digests { IfOk result (λ made.
+        made.0.list_digests.items ≡ all_list_digests H.hash format (lists_of collection.now)) }
     ensures terms { IfOk result (λ made. made.0.terms.items ≡ all_terms collection.now) }
     ensures term_nodes { IfOk result (λ made. made.0.term_nodes.items ≡ all_term_digests H.hash collection.now) }
     ensures texts { IfOk result (λ made. made.1 ≡ mth H.hash collection.now) }
@@ -343,12 +349,12 @@ pub(crate) fn parts_and_texts<H: Hash32 + Sync, R: Threads + Sync>(
         || -> Result<DocumentParts, OutOfMemory>
             requires { IsSync R.row × IsSync H.row }
             ensures lists { IfOk result (λ made. made.lists ≡ lists_of collection.entry.now) }
-            ensures list_nodes { IfOk result (λ made.
-                made.list_nodes.items ≡ all_list_digests H.hash (lists_of collection.entry.now)) }
+            ensures list_digests { IfOk result (λ made.
+                made.list_digests.items ≡ all_list_digests H.hash format (lists_of collection.entry.now)) }
             ensures terms { IfOk result (λ made. made.terms.items ≡ all_terms collection.entry.now) }
             ensures term_nodes { IfOk result (λ made.
                 made.term_nodes.items ≡ all_term_digests H.hash collection.entry.now) }
-        { counted_by_threads::<H, R>(rt, alloc, collection) },
+        { counted_by_threads::<H, R>(rt, alloc, format, collection) },
         || -> [u8; 32]
             ensures { result ≡ mth H.hash collection.entry.now }
         { root_of_texts::<H>(alloc, collection) },
@@ -356,17 +362,18 @@ pub(crate) fn parts_and_texts<H: Hash32 + Sync, R: Threads + Sync>(
     Ok((parts?, texts_root))
 }
 
-/// The dictionary and the documents tree, in parallel.
+/// The dictionary and the documents tree, in parallel, from parts with lists in this format.
 pub(crate) fn upper_trees<H: Hash32 + Sync, R: Threads + Sync>(
     rt: &R,
     alloc: Global,
+    format: Format,
     collection: &Collection,
     parts: &DocumentParts,
 ) -> Result<(DictionaryTree, DocumentsTree), OutOfMemory>
     requires terms { parts.now.terms.items ≡ all_terms collection.now }
     requires term_nodes { parts.now.term_nodes.items ≡ all_term_digests H.hash collection.now }
-    requires list_nodes { parts.now.list_nodes.items ≡ all_list_digests H.hash parts.now.lists }
-    ensures dictionary { IfOk result (λ made. made.0.dictionary ≡ map (dict_entry H.hash One) parts.now.lists) }
+    requires list_digests { parts.now.list_digests.items ≡ all_list_digests H.hash format parts.now.lists }
+    ensures dictionary { IfOk result (λ made. made.0.dictionary ≡ map (dict_entry H.hash format) parts.now.lists) }
     ensures dict_nodes { IfOk result (λ made. made.0.nodes ≡ kept_digests H.hash (dict_leaves made.0.dictionary)) }
     ensures leaves { IfOk result (λ made. made.1.leaves.items ≡ all_leaves H.hash collection.now) }
     ensures docs_nodes { IfOk result (λ made. made.1.nodes ≡ kept_digests H.hash (documents_of H.hash collection.now)) }
@@ -375,11 +382,11 @@ pub(crate) fn upper_trees<H: Hash32 + Sync, R: Threads + Sync>(
         rt,
         || -> Result<DictionaryTree, OutOfMemory>
             requires sync { IsSync R.row × IsSync H.row }
-            requires nodes { parts.now.list_nodes.items ≡ all_list_digests H.hash parts.now.lists }
+            requires digests { parts.now.list_digests.items ≡ all_list_digests H.hash format parts.now.lists }
             ensures dictionary { IfOk result (λ made.
-                made.dictionary ≡ map (dict_entry H.hash One) parts.entry.now.lists) }
+                made.dictionary ≡ map (dict_entry H.hash format) parts.entry.now.lists) }
             ensures nodes { IfOk result (λ made. made.nodes ≡ kept_digests H.hash (dict_leaves made.dictionary)) }
-        { dictionary_tree::<H, R>(rt, alloc, &parts.lists, &parts.list_nodes) },
+        { dictionary_tree::<H, R>(rt, alloc, format, &parts.lists, &parts.list_digests) },
         || -> Result<DocumentsTree, OutOfMemory>
             requires sync { IsSync R.row × IsSync H.row }
             requires terms { parts.now.terms.items ≡ all_terms collection.now }

@@ -1,15 +1,17 @@
 //! The texts of an index's bytes.
 
-ghost use Rattle.std.specs.Prelude.{◌≡◌, ◌≢◌, ◌++◌, ◌≤◌, ◌^◌, ℕ, List, drop, length, IfOk, IfErr, IfSome, IfNone, MatchResult};
+ghost use Rattle.std.specs.Prelude.{◌≡◌, ◌≢◌, ◌∷◌, ◌++◌, ◌≤◌, ◌^◌, ℕ, List, drop, length, IfOk, IfErr, IfSome, IfNone, MatchResult};
 ghost use Rattle.std.specs.Int.{to_be_bytes, w32};
 ghost use Rattle.std.specs.Str.{IsUtf8};
-ghost use Rattle.ats_index.specs.Spelling.{front_bytes};
+ghost use Rattle.ats_lists.specs.declared.format.Format.{Format};
+ghost use Rattle.ats_index.specs.Spelling.{front_bytes, version_of};
 ghost use Rattle.ats_index.specs.FirstPart.{IsFirstBad};
 ghost use Rattle.ats_index.specs.LoadFaults.{BeginWith};
 
 use crate::memory::OutOfMemory;
-use crate::write::{MAGIC, VERSION};
+use crate::write::MAGIC;
 use ats_impact::Texts;
+use ats_lists::Format;
 use byteorder::{BigEndian, ByteOrder};
 use std::alloc::Global;
 
@@ -53,31 +55,47 @@ fn text_of(bytes: &[u8], size: usize) -> Option<(&str, &[u8])>
     }
 }
 
-// The number of texts and the bytes after it, or the place of the first bad field.
-fn front(bytes: &[u8]) -> Result<(u32, &[u8]), u64>
-    ensures some { IfOk result (λ found. 1 ≤ found.0) }
-    ensures few { IfOk result (λ found. found.0 ≤ 65536) }
-    ensures same { IfOk result (λ found. bytes.now ≡ front_bytes found.0 ++ found.1.now) }
+// The format whose version is at the front and the bytes after it, if it is there.
+fn format_of(bytes: &[u8]) -> Option<(Format, &[u8])>
+    ensures same { IfSome result (λ found. bytes.now ≡ version_of found.0 ∷ found.1.now) }
+    ensures none { IfNone result ((format : Format) (rest : List ℕ) → bytes.now ≢ version_of format ∷ rest) }
+{
+    if let Some(rest) = bytes.strip_prefix(&[1]) {
+        return Some((Format::One, rest));
+    }
+    let rest = bytes.strip_prefix(&[2])?;
+    Some((Format::Two, rest))
+}
+
+// The format, the number of texts and the bytes after it, or the place of the first bad field.
+fn front(bytes: &[u8]) -> Result<(Format, u32, &[u8]), u64>
+    ensures some { IfOk result (λ found. 1 ≤ found.1) }
+    ensures few { IfOk result (λ found. found.1 ≤ 65536) }
+    ensures same { IfOk result (λ found. bytes.now ≡ front_bytes found.0 found.1 ++ found.2.now) }
     ensures bad { IfErr result (IsFirstBad bytes.now) }
 {
     let Some(versioned) = bytes.strip_prefix(&MAGIC) else {
         return Err(0);
     };
-    let Some(counted) = versioned.strip_prefix(&[VERSION]) else {
+    let Some((format, counted)) = format_of(versioned) else {
         return Err(4);
     };
     let Some(documents) = number(counted, 1, MAX_DOCUMENTS) else {
         return Err(5);
     };
-    Ok((documents, &counted[4..]))
+    Ok((format, documents, &counted[4..]))
 }
 
-/// The texts that an index's bytes begin with, or the place of the first bad field up to the last of them. Nothing is
-/// allocated for a length before as many bytes are found.
-pub(crate) fn read_texts(alloc: Global, bytes: &[u8]) -> Result<Result<Texts, u64>, OutOfMemory>
-    ensures { IfOk result (λ found. MatchResult found (BeginWith bytes.now) (IsFirstBad bytes.now)) }
+/// The format and the texts that an index's bytes begin with, or the place of the first bad field up to the last text.
+/// Nothing is allocated for a length before as many bytes are found.
+pub(crate) fn read_texts(
+    alloc: Global,
+    bytes: &[u8],
+) -> Result<Result<(Format, Texts), u64>, OutOfMemory>
+    ensures { IfOk result (λ found.
+        MatchResult found (λ read. BeginWith bytes.now read.0 read.1) (IsFirstBad bytes.now)) }
 {
-    let (documents, mut rest) = match front(bytes) {
+    let (format, documents, mut rest) = match front(bytes) {
         Ok(found) => found,
         Err(at) => return Ok(Err(at)),
     };
@@ -96,5 +114,5 @@ pub(crate) fn read_texts(alloc: Global, bytes: &[u8]) -> Result<Result<Texts, u6
         all += size;
         rest = behind;
     }
-    Ok(Ok(texts))
+    Ok(Ok((format, texts)))
 }

@@ -4,16 +4,17 @@ ghost use Rattle.std.specs.Prelude.{◌≡◌, ◌↔◌, ◌^◌, ◌≤◌, []
 ghost use Rattle.ats_tree.specs.OwnShown.{IsOwnShown};
 ghost use Rattle.ats_tree.specs.declared.hashed.Tree.TheVariants.{Header as HeaderTree, Documents as DocumentsTree, Terms as TermsTree};
 ghost use Rattle.ats_lists.specs.Formats.{list_string};
-ghost use Rattle.ats_lists.specs.Leaf.{leaf_bytes};
 ghost use Rattle.ats_lists.specs.Lists.{list};
+ghost use Rattle.ats_commit.specs.OwnShown.{IsOwnListShown};
 ghost use Rattle.ats_commit.specs.Ours.{own_leaves, own_string, ours};
 ghost use Rattle.ats_commit.specs.Places.{numbers_at, IsOfQuery};
 ghost use Rattle.ats_commit.specs.Trees.{documents_of};
 
+use crate::fronts::list_has_shown;
 use crate::index::Index;
 use ats_commit::{DocLeaves, OwnStrings, string_of_header};
 use ats_hash::{Hash32, Steps};
-use ats_lists::{Format, ListLeaves};
+use ats_lists::Format;
 use ats_terms::Query;
 use ats_tree::{HashedString, Place, ShownTree, Tree};
 
@@ -45,25 +46,20 @@ impl<H: Hash32> Index<H> {
         if place.depth > 0 {
             return None;
         }
-        Some(string_of_header(Format::One, self.header()))
+        Some(string_of_header(self.format(), self.header()))
     }
 
-    // A string of the tree of a term's list.
+    // A string of a term's list.
     fn list_string(&self, term: &[u8], place: &Place) -> Option<HashedString>
         requires { place.now.depth ≤ 32 }
         ensures { result ≡ list_string H.hash self.now.format (list self.now.texts term.now)
             (numbers_at place.now) }
     {
-        // By the header's contract each list is one tree.
-        let _header = self.header();
         let lists = self.lists();
         match lists.find(term) {
             Some(i) => {
-                let leaves = ListLeaves {
-                    entries: lists.list(i),
-                };
-                self.list_nodes(i)
-                    .string_at::<H, _>(&leaves, place.depth, place.turns)
+                let digests = self.list_digests(i);
+                digests.string_at::<H>(lists.list(i), place.depth, place.turns)
             }
             None => None,
         }
@@ -94,7 +90,7 @@ impl<H: Hash32> Index<H> {
             .string_at::<H, _>(leaves, place.depth, place.turns)
     }
 
-    // Whether what is shown is of the tree of a term's list.
+    // Whether what is shown is of a term's list.
     fn has_entries<S: ShownTree>(
         &self,
         term: &[u8],
@@ -104,18 +100,12 @@ impl<H: Hash32> Index<H> {
     ) -> bool
         requires short { All (λ s. length s.1 ≤ 127) (S.shown shown.old) }
         requires room { steps.old ≤ 2 ^ 63 }
-        ensures { IsTrue result ↔ IsOwnShown H.hash (map leaf_bytes (list self.now.texts term.now)) n
+        ensures { IsTrue result ↔ IsOwnListShown H.hash self.now.format (list self.now.texts term.now) n
             (S.shown shown.old) (S.digests shown.old) }
     {
         let lists = self.lists();
         match lists.find(term) {
-            Some(i) => {
-                let leaves = ListLeaves {
-                    entries: lists.list(i),
-                };
-                self.list_nodes(i)
-                    .has_shown::<H, _, S>(&leaves, n, shown, steps)
-            }
+            Some(i) => list_has_shown::<H, S>(self.list_digests(i), lists.list(i), n, shown, steps),
             None => false,
         }
     }
@@ -174,10 +164,12 @@ impl<H: Hash32> OwnStrings<H> for Index<H> {
                 self.dict_nodes()
                     .has_shown::<H, _, S>(leaves, n, shown, &mut steps)
             }
-            Tree::List { term } => match format {
-                Format::One => self.has_entries(query.term(term as usize), n, shown, &mut steps),
-                Format::Two => false,
-            },
+            Tree::List { term } => {
+                if format != self.format() {
+                    return false;
+                }
+                self.has_entries(query.term(term as usize), n, shown, &mut steps)
+            }
             Tree::Documents => self.has_documents(n, shown, &mut steps),
             Tree::Terms { doc } => self.has_terms(doc, n, shown, &mut steps),
         }

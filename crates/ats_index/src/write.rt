@@ -4,17 +4,25 @@ ghost use Rattle.std.specs.Prelude.{◌≡◌, ◌++◌, ◌<◌, ◌≤◌, ◌
 ghost use Rattle.std.specs.Int.{to_be_bytes, w16, w32};
 ghost use Rattle.std.specs.List.{flat_map};
 ghost use Rattle.ats_lists.specs.Leaf.{leaf_bytes};
-ghost use Rattle.ats_index.specs.Spelling.{list_bytes, lists_bytes, text_bytes, texts_bytes};
+ghost use Rattle.ats_index.specs.Spelling.{list_bytes, lists_bytes, text_bytes, texts_bytes, version_of};
 
 use crate::compare::Takes;
 use crate::memory::OutOfMemory;
 use ats_impact::Collection;
-use ats_lists::{Entry, Lists};
+use ats_lists::{Entry, Format, Lists};
 use byteorder::{BigEndian, ByteOrder};
 
 pub(crate) const MAGIC: [u8; 4] = *b"ATSI";
 
-pub(crate) const VERSION: u8 = 1;
+// The version of an index, by the format of its archive.
+fn version_byte(format: Format) -> u8
+    ensures { result ≡ version_of format }
+{
+    match format {
+        Format::One => 1,
+        Format::Two => 2,
+    }
+}
 
 // Puts a number in 4 bytes.
 fn put_u32<W: Takes>(to: &mut W, number: u32) -> Result<(), OutOfMemory>
@@ -48,14 +56,18 @@ fn put_text<W: Takes>(to: &mut W, text: &[u8]) -> Result<(), OutOfMemory>
     Ok(())
 }
 
-/// Puts the first fields and then the texts of a collection.
-pub(crate) fn put_texts<W: Takes>(to: &mut W, collection: &Collection) -> Result<(), OutOfMemory>
+/// Puts the first fields of an index in this format and then the texts of a collection.
+pub(crate) fn put_texts<W: Takes>(
+    to: &mut W,
+    format: Format,
+    collection: &Collection,
+) -> Result<(), OutOfMemory>
     ensures { (about front : List ℕ) → W.has to.old about front
-        → OnOk result (W.has to.new about (front ++ texts_bytes collection.now)) }
+        → OnOk result (W.has to.new about (front ++ texts_bytes format collection.now)) }
 {
     let documents = collection.documents();
     to.put(&MAGIC)?;
-    to.put(&[VERSION])?;
+    to.put(&[version_byte(format)])?;
     put_u32(to, documents)?;
     for doc in 0..documents {
         put_text(to, collection.text(doc).as_bytes())?;

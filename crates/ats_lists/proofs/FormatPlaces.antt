@@ -9,7 +9,7 @@ use Rattle.ats_tree.specs.Nodes.{NodeNumbers, by_path}
 use Rattle.ats_tree.specs.Paths.{Path, path_of, number_of}
 use Rattle.ats_tree.specs.Strings.{string_at}
 use Rattle.ats_tree.proofs.Public.{length-path_of, node-ours, node-some, number_of-below}
-use Rattle.ats_lists.specs.Blocks.{block, blocks_in}
+use Rattle.ats_lists.specs.Blocks.{block}
 use Rattle.ats_lists.specs.Chain.{chain_string, IsAtBlock}
 use Rattle.ats_lists.specs.Formats.{deepest, list_string}
 use Rattle.ats_lists.specs.Leaf.{leaf_bytes}
@@ -75,6 +75,8 @@ list-turns H One entries at few there =
     in (same.0, same.1, ap (λ path. string_at H (tree_of (map leaf_bytes entries)) path) same.2)
 list-turns H Two entries at few there =
     let found = strings-only H (map leaf_bytes entries) at.depth at.turns there
-    in (at.turns,
-    omega (arith, block-turns found.0 at.depth at.turns found.2, found.1, few, length-map entries leaf_bytes),
-    refl)
+    in (
+      at.turns,
+      omega (arith, block-turns found.0 at.depth at.turns found.2, found.1, few, length-map entries leaf_bytes),
+      refl,
+    )

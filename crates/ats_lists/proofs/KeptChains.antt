@@ -1,10 +1,11 @@
 -- The digests of a list in blocks, as they stand in one run, and as they are seen.
-use Rattle.std.proofs.Common.{◌≡◌, ℕ, zero, suc, ◌+◌, ◌-◌, ◌*◌, ◌/◌, ◌%◌, ◌^◌, ◌<◌, ◌≤◌, List, [], ◌∷◌, ◌++◌, length, map, take, drop, get_or, min, refl, sym, ◌∙◌, ap, ap₂, arith, inl, inr, Result, Ok, Err, OnErr, Some, None, subst, nat_eq, nat_lt}
+use Rattle.std.proofs.Common.{◌≡◌, ℕ, zero, suc, ◌+◌, ◌-◌, ◌*◌, ◌/◌, ◌%◌, ◌^◌, ◌<◌, ◌≤◌, List, [], ◌∷◌, ◌++◌, length, map, take, drop, get_or, min, refl, sym, ◌∙◌, ap, ap₂, arith, inl, inr, Result, Ok, Err, OnErr, Some, None, Option, IsTrue, true, false, Bool, not, subst, nat_eq, nat_lt}
 use Rattle.std.specs.List.{range_with_len}
 use Rattle.std.proofs.Math.Nat.{lt-div-mul-add, div-eq_of_lt}
 use Rattle.std.proofs.lemmas.Nat.{pow_pos}
 use Rattle.std.proofs.lemmas.Bool.{cases_lt, cases_Bool, cond-true, cond-false, lt-ltb, le-ltb, eq-eqb, ne_eqb}
-use Rattle.std.specs.List.{All}
+use Rattle.std.specs.List.{All, slice_get}
+use Rattle.std.specs.Option.{is_none, is_some}
 use Rattle.std.proofs.lemmas.List.{append-nil, drop-drop, drop-take, get_or-take, get_or-drop, take_all, take_at, drop_at, drop_all, length-take, length-drop}
 use Rattle.std.proofs.lemmas.List.Elements.{All-cons}
 use Rattle.std.proofs.lemmas.Slice.{drop-put_mid}
@@ -111,9 +112,38 @@ take-range a n zero few = refl
 take-range a zero (suc k) few = absurd (omega arith)
 take-range a (suc n) (suc k) few = ap (λ (rest : List ℕ). a ∷ rest) (take-range (a + 1) n k (omega arith))
 
+-- of the positions of a block's leaves the first
+pub first-range : (all : List ℕ) (n : ℕ) → all ≡ range_with_len 0 64 → n ≤ 64 → take n all ≡ range_with_len 0 n
+first-range all n is few = ap (take n) is ∙ take-range 0 64 n few
+
 pub range-nodes : (n nodes : ℕ) → 2 * n ≤ nodes + 1 → All (λ p. 2 * p + 1 ≤ nodes) (range_with_len 0 n)
 range-nodes n nodes within k d inside =
     omega (arith, get_or-range_with_len 0 n k d (omega (arith, inside, length-range_with_len 0 n)), inside, length-range_with_len 0 n, within)
+
+-- ---- digests that are left
+
+-- none is left exactly if there is no first one
+pub none-left : (ds : List (List ℕ)) (first : Option (List ℕ)) → first ≡ slice_get ds 0
+    → (IsTrue (is_none first) → ds ≡ []) × (ds ≡ [] → IsTrue (is_none first))
+none-left [] first is = (λ holds. refl, λ same. ap is_none is)
+none-left (d ∷ ds) first is = (λ holds. let some : true ≡ false = sym holds ∙ ap is_none is in absurd (cc), λ same. absurd (cc))
+
+-- what `is_none` answers
+pub none-told : {X : Type 0} (answer : Bool) (o : Option X) → not answer ≡ is_some o → answer ≡ is_none o
+none-told true None is = refl
+none-told true (Some x) is = absurd (cc)
+none-told false None is = absurd (cc)
+none-told false (Some x) is = refl
+
+-- only this digest is left
+pub one-left : (ds : List (List ℕ)) (theirs : List ℕ) → Some theirs ≡ slice_get ds 0 → drop 1 ds ≡ [] → ds ≡ theirs ∷ []
+one-left [] theirs is last = absurd (cc)
+one-left (d ∷ ds) theirs is last = let same : theirs ≡ d = cc in ap₂ (λ (x : List ℕ) (xs : List (List ℕ)). x ∷ xs) (sym same) last
+
+-- and then it is the first one
+pub left-one : (ds : List (List ℕ)) (theirs own : List ℕ) → Some theirs ≡ slice_get ds 0 → ds ≡ own ∷ [] → (theirs ≡ own) × (drop 1 ds ≡ [])
+left-one [] theirs own is same = absurd (cc)
+left-one (d ∷ ds) theirs own is same = let first : d ≡ own = cc in let mine : theirs ≡ d = cc in (mine ∙ first, ap (drop 1) same)
 
 -- ---- what is appended
 

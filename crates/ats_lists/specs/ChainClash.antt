@@ -5,7 +5,6 @@ use Rattle.ats_tree.specs.Nodes.{Node, by_path, NodeNumbers}
 use Rattle.ats_tree.specs.Paths.{Path, number_of}
 use Rattle.ats_tree.specs.Differences.{Hashed, Difference, first_collision}
 use Rattle.ats_tree.specs.declared.clashing.Clash.{Clash}
-use Rattle.ats_lists.specs.Blocks.{blocks_in}
 use Rattle.ats_lists.specs.Chain.{link, chain_digest}
 use Rattle.ats_lists.specs.ChainPrefix.{tree_strings}
 

@@ -1,6 +1,6 @@
 //! The digests of a list in blocks, kept, so that showing its first entries needs no hashing.
 
-ghost use Rattle.std.specs.Prelude.{◌≡◌, ℕ, ◌+◌, ◌*◌, ◌^◌, ◌<◌, ◌≤◌, List, [], ◌∷◌, ◌++◌, length, map, take, drop, All, Some, IfOk, OnOk, OnErr, nat_lt, if◌then◌else◌, slice_get};
+ghost use Rattle.std.specs.Prelude.{◌≡◌, ℕ, ◌+◌, ◌*◌, ◌^◌, ◌<◌, ◌≤◌, ◌↔◌, List, [], ◌∷◌, ◌++◌, length, map, take, drop, All, Some, IsTrue, IfOk, OnOk, OnErr, nat_lt, if◌then◌else◌, slice_get};
 ghost use Rattle.std.specs.List.{range_with_len};
 ghost use Rattle.ats_tree.specs.Elided.{elided_digests};
 ghost use Rattle.ats_tree.specs.Kept.{kept_digests, IsNodeList};
@@ -17,7 +17,10 @@ use crate::entry::Entry;
 use crate::leaves::ListLeaves;
 use crate::memory::OutOfMemory;
 use ats_hash::{Hash32, HashKind, Steps};
-use ats_tree::{Digests, HashedString, Leaves, elide_kept, keep_part, string_of_part};
+use ats_tree::{
+    Digests, HashedString, Leaves, ShownTree, begins_with_elided, elide_kept, keep_part,
+    string_of_part,
+};
 use std::alloc::Global;
 use std::marker::Model;
 
@@ -91,6 +94,23 @@ impl Chain {
             out.truncate(before);
         }
         outcome
+    }
+
+    /// Whether the digests left are those that the first `k` entries need, as `elided` appends them. It only compares: nothing
+    /// is hashed, and no memory is taken.
+    pub fn has_digests<S: ShownTree>(&self, k: u32, shown: &mut S, steps: &mut Steps) -> bool
+        requires some { 1 ≤ k }
+        requires within { k ≤ self.now.entries }
+        requires theirs { All (λ d. length d ≡ 32) (S.digests shown.old) }
+        requires room { steps.old + 256 < 2 ^ 64 }
+        ensures { (H : List ℕ → List ℕ) (leaves : List (List ℕ)) → self.now ≡ kept_chain H leaves
+            → IsTrue result ↔ S.digests shown.old ≡ chain_elided H leaves k }
+    {
+        let blocks = k.div_ceil(BLOCK);
+        if !self.begins_with_nodes(blocks - 1, k - BLOCK * (blocks - 1), shown, steps) {
+            return false;
+        }
+        self.is_link(blocks, shown, steps)
     }
 
     /// The string that is hashed for the list and has these two numbers, if there is one. Block j has its own string at
@@ -188,6 +208,51 @@ impl Chain {
         let all = first_positions();
         elide_kept(self.nodes(j), &all[..count as usize], out)?;
         Ok(())
+    }
+
+    // Whether the digests left begin with those that the first `count` leaves of the tree of block `j` need. If they do,
+    // they are taken.
+    fn begins_with_nodes<S: ShownTree>(
+        &self,
+        j: u32,
+        count: u32,
+        shown: &mut S,
+        steps: &mut Steps,
+    ) -> bool
+        requires inside { j < blocks_in self.now.entries }
+        requires within { count ≤ items_in self.now.entries j }
+        requires theirs { All (λ d. length d ≡ 32) (S.digests shown.old) }
+        requires room { steps.old + 128 < 2 ^ 64 }
+        ensures exact { (H : List ℕ → List ℕ) (leaves : List (List ℕ)) → self.now ≡ kept_chain H leaves
+            → IsTrue result ↔ take (length (elided_digests H (block leaves j) (range_with_len 0 count))) (S.digests shown.old)
+            ≡ elided_digests H (block leaves j) (range_with_len 0 count) }
+        ensures left { (H : List ℕ → List ℕ) (leaves : List (List ℕ)) → self.now ≡ kept_chain H leaves → IsTrue result
+            → S.digests shown.new
+            ≡ drop (length (elided_digests H (block leaves j) (range_with_len 0 count))) (S.digests shown.old) }
+        ensures rest { IsTrue result → All (λ d. length d ≡ 32) (S.digests shown.new) }
+        ensures cost { steps.new ≤ steps.old + 128 }
+    {
+        let all = first_positions();
+        begins_with_elided::<S>(self.nodes(j), &all[..count as usize], shown, steps)
+    }
+
+    // Whether the digests left are that of block `j`, or none if there is no such block.
+    fn is_link<S: ShownTree>(&self, j: u32, shown: &mut S, steps: &mut Steps) -> bool
+        requires inside { j ≤ blocks_in self.now.entries }
+        requires theirs { All (λ d. length d ≡ 32) (S.digests shown.old) }
+        requires room { steps.old + 2 < 2 ^ 64 }
+        ensures { (H : List ℕ → List ℕ) (leaves : List (List ℕ)) → self.now ≡ kept_chain H leaves
+            → IsTrue result
+            ↔ S.digests shown.old ≡ (if nat_lt (64 * j) (length leaves) then chain_from H leaves j ∷ [] else []) }
+    {
+        let at = DIGESTS * j as usize;
+        if at >= self.digests.len() {
+            return shown.take_digest(steps).is_none();
+        }
+        match shown.take_digest(steps) {
+            Some(theirs) => theirs == self.digests[at] && shown.take_digest(steps).is_none(),
+            None => false,
+        }
     }
 
     // Appends the digest of block `j`, if there is such a block.

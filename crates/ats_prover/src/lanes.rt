@@ -1,4 +1,4 @@
-//! The lists of the query's terms, with the kept digests of their trees.
+//! The lists of the query's terms, with their kept digests.
 
 ghost use Rattle.std.specs.Prelude.{◌≡◌, ◌≤◌, ◌<◌, ◌*◌, ℕ, length, map, IfOk, OnOk};
 ghost use Rattle.std.specs.List.{All};
@@ -16,16 +16,15 @@ use ats_dict::Spot;
 use ats_hash::HashKind;
 use ats_impact::idf;
 use ats_index::Index;
-use ats_lists::Entry;
+use ats_lists::{Entry, ListDigests};
 use ats_terms::Query;
-use ats_tree::Nodes;
 use std::alloc::Global;
 
-/// The lists of a query's terms, in the query's order: their lanes, and for each the nodes of the list's tree.
+/// The lists of a query's terms, in the query's order: their lanes, and for each the digests of the list.
 #[derive(Drop)]
 pub(crate) struct QueryLists<'a> {
     pub(crate) lanes: Vec<Lane<'a>>,
-    pub(crate) nodes: Vec<&'a Nodes>,
+    pub(crate) digests: Vec<&'a ListDigests>,
 }
 
 // The lane of a term that occurs `weight` times in the query.
@@ -53,23 +52,23 @@ pub(crate) fn query_lists<'a, H: HashKind>(
 ) -> Result<QueryLists<'a>, OutOfMemory>
     requires { AreSpots (dictionary_of H.hash index.now) query.now spots.now }
     ensures lanes { IfOk result (λ made. whole_lanes made.lanes.items ≡ lanes_of index.now.texts query.now) }
-    ensures nodes { IfOk result (λ made. map (λ n. n.now) made.nodes.items
-        ≡ list_digests H.hash (whole_lanes made.lanes.items)) }
+    ensures digests { IfOk result (λ made. map (λ n. n.now) made.digests.items
+        ≡ list_digests H.hash index.now.format (whole_lanes made.lanes.items)) }
     ensures whole { OnOk result (AreWholeLanes (lanes_of index.now.texts query.now)) }
     ensures lists { OnOk result (All (λ lane. IsList 65536 lane.entries) (lanes_of index.now.texts query.now)) }
 {
     let documents = index.collection().documents();
     let lists = index.lists();
     let mut lanes = Vec::new(alloc);
-    let mut nodes = Vec::new(alloc);
+    let mut digests = Vec::new(alloc);
     for i in 0..query.len() {
         match spots[i] {
             Spot::At(p) => {
                 lanes.push(lane(lists.list(p - 1), query.weight(i), documents))?;
-                nodes.push(index.list_nodes(p - 1))?;
+                digests.push(index.list_digests(p - 1))?;
             }
             Spot::Between(_) => {}
         }
     }
-    Ok(QueryLists { lanes, nodes })
+    Ok(QueryLists { lanes, digests })
 }

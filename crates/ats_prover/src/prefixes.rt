@@ -1,12 +1,11 @@
 //! The fronts of the lists that a proof shows.
 
 ghost use Rattle.std.specs.Prelude.{◌≡◌, ◌+◌, ◌≤◌, ◌<◌, ◌*◌, ◌^◌, ◌++◌, ℕ, length, map, take, IfOk, OnOk};
-ghost use Rattle.std.specs.List.{All, flat_map, range_with_len};
+ghost use Rattle.std.specs.List.{All, flat_map};
 ghost use Rattle.std.specs.List.Sorted.{IsStrictlyIncreasing};
-ghost use Rattle.ats_tree.specs.Kept.{kept_digests};
-ghost use Rattle.ats_lists.specs.Leaf.{leaf_bytes};
+ghost use Rattle.ats_lists.specs.KeptList.{kept_list};
 ghost use Rattle.ats_lists.specs.Lists.{IsList};
-ghost use Rattle.ats_lists.specs.declared.format.Format.TheVariants.{One};
+ghost use Rattle.ats_lists.specs.declared.format.Format.{Format};
 ghost use Rattle.ats_bound.specs.Schedule.{whole_lanes};
 ghost use Rattle.ats_bound.specs.Schedule.{IsCut};
 ghost use Rattle.ats_bound.specs.Schedule.{AreWholeLanes};
@@ -21,9 +20,9 @@ use crate::fault::OutOfMemory;
 use crate::shown::{place, write_digests};
 use ats_bound::Lane;
 use ats_hash::HashKind;
-use ats_lists::Entry;
+use ats_lists::{Entry, ListDigests};
 use ats_proof::ProofWriter;
-use ats_tree::{Digests, Nodes};
+use ats_tree::Digests;
 use std::alloc::Global;
 
 // Writes the number of entries, then the entries, each with its document's place among the met ids.
@@ -48,40 +47,28 @@ fn write_entries(
     Ok(())
 }
 
-// The numbers below `count`.
-fn first(alloc: Global, count: u32) -> Result<Vec<u32>, OutOfMemory>
-    ensures { IfOk result (λ numbers. numbers.items ≡ range_with_len 0 count) }
-{
-    let mut numbers = Vec::with_capacity(alloc, count as usize)?;
-    for i in 0..count {
-        numbers.push(i)?;
-    }
-    Ok(numbers)
-}
-
-// Writes the first entries of a list, and the digests that its tree needs besides.
+// Writes the first entries of a list, and the digests that they need.
 fn write_prefix<H: HashKind>(
     alloc: Global,
     writer: &mut ProofWriter,
     met: &[u32],
     entries: &[Entry],
-    nodes: &Nodes,
+    kept: &ListDigests,
     count: u32,
 ) -> Result<(), OutOfMemory>
     requires rise { IsStrictlyIncreasing met.now }
     requires documents { length met.now ≤ 65536 }
     requires list { IsList 65536 entries.now }
-    requires nodes { nodes.now ≡ kept_digests H.hash (map leaf_bytes entries.now) }
+    requires kept { (format : Format) × (kept.now ≡ kept_list H.hash format entries.now) }
     requires some { 1 ≤ count }
     requires within { count ≤ length entries.now }
     requires room { writer.old.asked ≤ 2 ^ 59 }
-    ensures fields { OnOk result
-        (writer.new ≡ put writer.old (prefix_fields (prefix_of H.hash One met.now entries.now count))) }
+    ensures fields { (format : Format) → kept.now ≡ kept_list H.hash format entries.now → OnOk result
+        (writer.new ≡ put writer.old (prefix_fields (prefix_of H.hash format met.now entries.now count))) }
     ensures size { OnOk result (writer.new.asked ≤ writer.old.asked + 2 ^ 23) }
 {
-    let positions = first(alloc, count)?;
     let mut digests = Digests::new(alloc);
-    nodes.elided(&positions, &mut digests)?;
+    kept.front(alloc, count, &mut digests)?;
     write_entries(writer, met, &entries[..count as usize])?;
     write_digests(writer, &digests)
 }
@@ -92,23 +79,24 @@ pub(crate) fn write_lists<H: HashKind>(
     writer: &mut ProofWriter,
     met: &[u32],
     lanes: &[Lane<'_>],
-    nodes: &[&Nodes],
+    kept: &[&ListDigests],
     cut: &[u32],
 ) -> Result<(), OutOfMemory>
     requires rise { IsStrictlyIncreasing met.now }
     requires documents { length met.now ≤ 65536 }
     requires lanes { AreWholeLanes (whole_lanes lanes.now) }
     requires lists { All (λ lane. IsList 65536 lane.entries) (whole_lanes lanes.now) }
-    requires nodes { map (λ n. n.now) nodes.now ≡ list_digests H.hash (whole_lanes lanes.now) }
+    requires kept { (format : Format) × (map (λ n. n.now) kept.now ≡ list_digests H.hash format (whole_lanes lanes.now)) }
     requires cut { IsCut (whole_lanes lanes.now) cut.now }
     requires room { writer.old.asked ≤ 2 ^ 58 }
-    ensures fields { OnOk result (writer.new ≡ put writer.old (counted 4 id_fields met.now
-        ++ flat_map prefix_fields (prefixes H.hash One met.now (whole_lanes lanes.now) cut.now))) }
+    ensures fields { (format : Format) → map (λ n. n.now) kept.now ≡ list_digests H.hash format (whole_lanes lanes.now)
+        → OnOk result (writer.new ≡ put writer.old (counted 4 id_fields met.now
+        ++ flat_map prefix_fields (prefixes H.hash format met.now (whole_lanes lanes.now) cut.now))) }
     ensures size { OnOk result (writer.new.asked ≤ writer.old.asked + 2 ^ 29) }
 {
     write_met(writer, met)?;
     for (i, lane) in lanes.iter().enumerate() {
-        write_prefix::<H>(alloc, writer, met, lane.entries, nodes[i], cut[i])?;
+        write_prefix::<H>(alloc, writer, met, lane.entries, kept[i], cut[i])?;
     }
     Ok(())
 }

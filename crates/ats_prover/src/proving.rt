@@ -4,7 +4,6 @@ ghost use Rattle.std.specs.Prelude.{◌≡◌, ◌≤◌, ◌<◌, ◌^◌, ℕ,
 ghost use Rattle.std.specs.List.{All};
 ghost use Rattle.ats_lists.specs.Lists.{IsList};
 ghost use Rattle.ats_lists.specs.declared.entry.Entry.{Entry as Posting};
-ghost use Rattle.ats_lists.specs.declared.format.Format.TheVariants.{One};
 ghost use Rattle.ats_bound.specs.declared.bracket.Bracket.{Bracket as Bounds};
 ghost use Rattle.ats_bound.specs.Schedule.{AreBracketsBy, AreWholeLanes, shown, whole_lanes};
 ghost use Rattle.ats_bound.specs.Schedule.{IsCut};
@@ -32,9 +31,10 @@ use ats_grammar::MAX_PROOF;
 use ats_hash::HashKind;
 use ats_impact::Top;
 use ats_index::Index;
+use ats_lists::ListDigests;
 use ats_proof::{Algorithm, ProofWriter, records_are_joined};
 use ats_terms::Query;
-use ats_tree::{Leaves, Nodes};
+use ats_tree::Leaves;
 use std::alloc::Global;
 
 // Writes what a proof shows of the end of the walk: the met documents, the fronts of the lists, what is shown of the
@@ -45,17 +45,16 @@ fn write_walk<H: HashKind>(
     index: &Index<H>,
     present: &PresentTerms<'_>,
     lanes: &[Lane<'_>],
-    nodes: &[&Nodes],
+    kept: &[&ListDigests],
     walk: &Walk,
     algorithm: Algorithm,
 ) -> Result<(), OutOfMemory>
-    requires format { index.now.format ≡ One }
     requires lanes { AreWholeLanes (whole_lanes lanes.now) }
     requires terms { length present.now ≡ length lanes.now }
     requires lists { All (λ lane. IsList 65536 lane.entries) (whole_lanes lanes.now) }
     requires within { All (λ lane. All (λ (e : Posting). e.doc < length index.now.texts) lane.entries)
         (whole_lanes lanes.now) }
-    requires nodes { map (λ n. n.now) nodes.now ≡ list_digests H.hash (whole_lanes lanes.now) }
+    requires kept { map (λ n. n.now) kept.now ≡ list_digests H.hash index.now.format (whole_lanes lanes.now) }
     requires cut { IsCut (whole_lanes lanes.now) walk.now.cut }
     requires brackets { AreBracketsBy (bounding algorithm (whole_lanes lanes.now))
         (shown (whole_lanes lanes.now) walk.now.cut) walk.now.brackets }
@@ -66,7 +65,7 @@ fn write_walk<H: HashKind>(
         (map (λ (b : Bounds). b.doc) walk.now.brackets) walk.now.cut walk.now.picks writer.old writer.new) }
 {
     let met = documents(alloc, walk.brackets.as_slice())?;
-    write_lists::<H>(alloc, writer, &met, lanes, nodes, walk.cut.as_slice())?;
+    write_lists::<H>(alloc, writer, &met, lanes, kept, walk.cut.as_slice())?;
     write_documents(alloc, writer, index, present, &met, algorithm)?;
     write_answer(writer, walk.picks.as_slice())
 }
@@ -91,7 +90,12 @@ fn write_proof<H: HashKind>(
     let spots = spots(alloc, index.dictionary(), query)?;
     let mut positions = Vec::new(alloc);
     keep_positions(&spots, &mut positions)?;
-    writer.front(algorithm, index.header(), query.len() as u16)?;
+    writer.front_in(
+        index.format(),
+        algorithm,
+        index.header(),
+        query.len() as u16,
+    )?;
     write_terms::<H>(
         alloc,
         writer,
@@ -109,7 +113,7 @@ fn write_proof<H: HashKind>(
         index,
         &present,
         &lists.lanes,
-        &lists.nodes,
+        &lists.digests,
         &end,
         algorithm,
     )

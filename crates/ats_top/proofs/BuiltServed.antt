@@ -1,5 +1,5 @@
--- A file that is an index is served by `root` and by `prove`.
-use Rattle.std.proofs.Common.{◌≡◌, ◌≤◌, ◌^◌, ℕ, List, length, Option, Some, refl, inr, ap, ap₂, arith}
+-- A file that is an index is served by `root`, by `prove` and by `migrate`.
+use Rattle.std.proofs.Common.{◌≡◌, ◌∙◌, ◌≤◌, ◌^◌, ℕ, List, length, Option, Some, refl, sym, inr, ap, ap₂, arith}
 use Rattle.std.specs.Prelude.{codes, option_map, option_and_then}
 use Rattle.ats_base.specs.Outside.{Holds}
 use Rattle.ats_proof.specs.declared.record.Algorithm.{Algorithm}
@@ -7,13 +7,14 @@ use Rattle.ats_proof.specs.declared.record.Algorithm.TheVariants.{Tnra}
 use Rattle.ats_terms.specs.Terms.{terms}
 use Rattle.ats_terms.specs.Query.{IsQueryOf, counted}
 use Rattle.ats_commit.specs.Archive.{Archive}
-use Rattle.ats_index.specs.Spelling.{IsSpelling}
-use Rattle.ats_index.proofs.Public.{index_size}
+use Rattle.ats_index.specs.Spelling.{IsSpelling, index_bytes}
+use Rattle.ats_index.proofs.Public.{index_size, one_archive}
 use Rattle.ats_honest.specs.Honest.{IsProved}
 use Rattle.ats_honest.proofs.Public.{honest_short}
 use Rattle.ats_plan.specs.Files.{Files, IsFile}
-use Rattle.ats_top.specs.Words.{Command, Prove, Root, algorithm_of, command_of, number_of, root_words, prove_words}
+use Rattle.ats_top.specs.Words.{Command, Prove, Root, Migrate, algorithm_of, command_of, number_of, root_words, prove_words, migrate_words}
 use Rattle.ats_top.specs.Steps.{IsRowCount, AsksRanking}
+use Rattle.ats_top.specs.Commands.Migrate.{in_blocks}
 use Rattle.ats_top.specs.Commands.Prove.{IsNotTooLong}
 use Rattle.ats_top.specs.Run.{Said, IsCommandServed}
 use Rattle.ats_top.proofs.OneProof.{made_short}
@@ -35,6 +36,9 @@ module _ (H : List ℕ → List ℕ) (sized : (m : List ℕ) → length (H m) �
 
   pub root_served : Said (root_words name) (IsCommandServed H files)
   root_served = (Root (record { index = name }), refl, inr (bytes, file, (archive, spelling, tt)))
+
+  pub migrate_served : (migrated : List ℕ) → Said (migrate_words name migrated) (IsCommandServed H files)
+  migrate_served migrated = (Migrate (record { index = name; migrated = migrated }), refl, inr (bytes, file, (archive, spelling, λ made is. tt)))
 
   -- if the honest proof has no more bytes than a proof may have
   pub prove_fits : (algorithm : Algorithm) (asked : List (List ℕ × ℕ)) (rows : ℕ) (honest : List ℕ) → IsProved H archive asked rows algorithm honest → length honest ≤ 2 ^ 26
@@ -91,3 +95,10 @@ module _ (H : List ℕ → List ℕ) (sized : (m : List ℕ) → length (H m) �
           ),
         ),
       )
+
+-- what was migrated has the same bytes if it is migrated again
+pub migrated_stays : (H : List ℕ → List ℕ) (archive other : Archive) (bytes again : List ℕ) → IsSpelling H bytes (in_blocks archive) → IsSpelling H bytes other
+    → IsSpelling H again (in_blocks other) → again ≡ bytes
+migrated_stays H archive other bytes again first second third =
+    let same : in_blocks archive ≡ other = one_archive H bytes (in_blocks archive) other first second in
+    third.same ∙ sym (ap (λ (a : Archive). index_bytes H (in_blocks a)) same) ∙ sym first.same

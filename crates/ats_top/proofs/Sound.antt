@@ -33,7 +33,7 @@ use Rattle.ats_plan.specs.Runs.{IsStopped}
 use Rattle.ats_plan.specs.Sound.{IsExact, IsOne, IsSound}
 use Rattle.ats_plan.proofs.Public.{stops_otherwise}
 use Rattle.ats_top.specs.Input.{AreJsonTexts, IsFirstJsonFault}
-use Rattle.ats_top.specs.Words.{Command, Rank, Build, Root, Prove, Verify, Ask, Serve, Audit, Sweep, Trial, SweepWords}
+use Rattle.ats_top.specs.Words.{Command, Rank, Build, Root, Prove, Verify, Ask, Serve, Audit, Sweep, Trial, Migrate, SweepWords}
 use Rattle.ats_top.specs.RejectionLines.{line_of_rejection}
 use Rattle.ats_top.specs.CollisionLines.{lines_of_collision}
 use Rattle.ats_top.specs.Stops.{line_of_rows, line_of_bad_line, stop_of_query, stop_of_json, stop_of_collection, stop_of_load}
@@ -286,6 +286,7 @@ command_sound H (Audit words) =
     ranking_sound (λ query. index_sound (λ archive. reads (fails not_rejected) (λ bytes. checks_sound (λ proof. tries (collision_exact H archive query proof) (λ stops. not_collision stops.2) ends))))
 command_sound H (Sweep words) = index_sound (λ archive. reads (fails not_input) (λ bytes. sweeps_sound H words archive bytes))
 command_sound H (Trial words) = tries (trial_exact H words.number) (λ stops. not_input stops.2) ends
+command_sound H (Migrate words) = index_sound (λ archive. makes (λ a b is also. is.same ∙ sym also.same) (λ bytes. stores))
 
 pub plan_sound : (H : List ℕ → List ℕ) (command : Command) → IsSound (plan_of H command)
 plan_sound H command = (command_sound H command).so

@@ -13,6 +13,7 @@ use Rattle.ats_top.specs.Commands.Serve.{serve_plan}
 use Rattle.ats_top.specs.Commands.Audit.{audit_plan}
 use Rattle.ats_top.specs.Commands.Sweep.{sweep_plan}
 use Rattle.ats_top.specs.Commands.Trial.{trial_plan}
+use Rattle.ats_top.specs.Commands.Migrate.{migrate_plan}
 use Rattle.ats_top.specs.declared.stops.Stop.{Stop}
 pub mod Rank
 pub mod Build
@@ -24,6 +25,7 @@ pub mod Serve
 pub mod Audit
 pub mod Sweep
 pub mod Trial
+pub mod Migrate
 
 abbrev pub plan_of : (List ℕ → List ℕ) → Command → Plan Stop
 plan_of H (command.Rank words) = rank_plan words
@@ -36,3 +38,4 @@ plan_of H (command.Serve words) = serve_plan H words
 plan_of H (command.Audit words) = audit_plan H words
 plan_of H (command.Sweep words) = sweep_plan H words
 plan_of H (command.Trial words) = trial_plan H words
+plan_of H (command.Migrate words) = migrate_plan H words

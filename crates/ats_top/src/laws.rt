@@ -9,12 +9,13 @@ ghost use Rattle.ats_commit.specs.Root.{root_of};
 ghost use Rattle.ats_proof.specs.declared.record.Algorithm.{Algorithm};
 ghost use Rattle.ats_index.specs.Spelling.{IsSpelling};
 ghost use Rattle.ats_honest.specs.Honest.{IsProved};
-ghost use Rattle.ats_top.specs.Words.{AskWords, AuditWords, SweepWords, Command, Ask, Audit, Sweep, number_of, algorithm_of, root_word, root_words, prove_words, verify_words};
+ghost use Rattle.ats_top.specs.Words.{AskWords, AuditWords, SweepWords, Command, Ask, Audit, Sweep, number_of, algorithm_of, root_word, root_words, prove_words, migrate_words, verify_words};
 ghost use Rattle.ats_plan.specs.Files.{Files, IsFile};
 ghost use Rattle.ats_top.specs.Read.{HasIndex};
 ghost use Rattle.ats_top.specs.Steps.{IsRowCount, AsksRanking};
 ghost use Rattle.ats_plan.specs.Plan.{Refuses, Passes, IsKnown};
 ghost use Rattle.ats_top.specs.Commands.{plan_of};
+ghost use Rattle.ats_top.specs.Commands.Migrate.{in_blocks};
 ghost use Rattle.ats_top.specs.declared.stops.Stop.{Stop};
 ghost use Rattle.ats_top.specs.declared.stops.Stop.TheVariants.{Shelf as AtShelf};
 ghost use Rattle.ats_top.specs.Run.{Said, IsCommandServed};
@@ -59,7 +60,8 @@ pub fn honest_sweeps_are_served<H: HashKind>()
 
 /// If a file holds the index bytes of an archive, which `build` stores, `root` serves it. TNRA `prove` serves it too,
 /// for a query and a number of rows within the limits: no proof of these is too long. By either algorithm `prove`
-/// serves it if the honest proof has no more bytes than a proof may have.
+/// serves it if the honest proof has no more bytes than a proof may have. `migrate` serves it too. The same holds for what
+/// `migrate` stores, since it is the index of an archive.
 pub fn built_indexes_are_served<H: HashKind>()
     ensures root { (archive : Archive) (bytes : List ℕ) (files : Files) (name : List ℕ)
         → IsSpelling H.hash bytes archive → Holds files name bytes
@@ -75,6 +77,16 @@ pub fn built_indexes_are_served<H: HashKind>()
         → (word r query proof : List ℕ) → algorithm_of word ≡ Some algorithm → number_of r ≡ Some rows
         → IsRowCount rows → IsQueryOf query asked
         → Said (prove_words name word r query proof) (IsCommandServed H.hash files) }
+    ensures migrate { (archive : Archive) (bytes : List ℕ) (files : Files) (name migrated : List ℕ)
+        → IsSpelling H.hash bytes archive → Holds files name bytes
+        → Said (migrate_words name migrated) (IsCommandServed H.hash files) }
+{}
+
+/// An index in which lists stand in blocks has the same bytes if it is migrated again.
+pub fn migrated_indexes_stay<H: HashKind>()
+    ensures { (archive : Archive) (bytes again : List ℕ) (other : Archive)
+        → IsSpelling H.hash bytes (in_blocks archive) → IsSpelling H.hash bytes other
+        → IsSpelling H.hash again (in_blocks other) → again ≡ bytes }
 {}
 
 /// If the shelf reports its files, or the command comes to no file, then its words and files stop it in at most one way,

@@ -69,7 +69,7 @@ IsOf leaves s = slice_get leaves s.0 ≡ Some s.1
 
 -- ---- digests that begin with others
 
-begins-parts : (a b ds : List (List ℕ)) → take (length (a ++ b)) ds ≡ a ++ b
+pub begins-parts : (a b ds : List (List ℕ)) → take (length (a ++ b)) ds ≡ a ++ b
     → (take (length a) ds ≡ a) × (take (length b) (drop (length a) ds) ≡ b)
 begins-parts a b ds is =
     let both : take (length a + length b) ds ≡ a ++ b = ap (λ (n : ℕ). take n ds) (sym (length-append a b)) ∙ is
@@ -79,10 +79,19 @@ begins-parts a b ds is =
       sym (drop-take (length a) (length b) ds) ∙ ap (drop (length a)) both ∙ drop-append_seam a b,
     )
 
-parts-begin : (a b ds : List (List ℕ)) → take (length a) ds ≡ a → take (length b) (drop (length a) ds) ≡ b
+pub parts-begin : (a b ds : List (List ℕ)) → take (length a) ds ≡ a → take (length b) (drop (length a) ds) ≡ b
     → take (length (a ++ b)) ds ≡ a ++ b
 parts-begin a b ds first second =
     ap (λ (n : ℕ). take n ds) (length-append a b) ∙ take-add (length a) (length b) ds ∙ ap₂ ◌++◌ first second
+
+-- digests that begin with one
+pub begins-one : (d : List ℕ) (ds : List (List ℕ)) → slice_get ds 0 ≡ Some d → take 1 ds ≡ d ∷ []
+begins-one d [] got = absurd (cc)
+begins-one d (x ∷ xs) got = let same : x ≡ d = cc in ap (λ (y : List ℕ). y ∷ []) same
+
+pub one-begins : (d : List ℕ) (ds : List (List ℕ)) → take 1 ds ≡ d ∷ [] → slice_get ds 0 ≡ Some d
+one-begins d [] got = absurd (cc)
+one-begins d (x ∷ xs) got = let same : x ≡ d = cc in ap Some same
 
 -- ---- the returns
 
@@ -102,19 +111,11 @@ module _ (leaves nodes : List (List ℕ)) (from n : ℕ) (shown : List Shown) (d
   pub none-own : 1 ≤ n → RisesFrom (from + n) shown → slice_get ds 0 ≡ Some (get_or nodes 0 []) → Own
   none-own some rises first = record {
     own = past (IsOf leaves) (from + n) shown rises;
-    needed = subst (λ (e : List (List ℕ)). take (length e) ds ≡ e) (sym (part-none nodes from n shown some rises)) (one ds first);
+    needed = subst (λ (e : List (List ℕ)). take (length e) ds ≡ e) (sym (part-none nodes from n shown some rises)) (begins-one (get_or nodes 0 []) ds first);
   }
-    where
-      one : (xs : List (List ℕ)) → slice_get xs 0 ≡ Some (get_or nodes 0 []) → take 1 xs ≡ get_or nodes 0 [] ∷ []
-      one [] got = absurd (cc)
-      one (x ∷ xs) got = let same : x ≡ get_or nodes 0 [] = cc in ap (λ (d : List ℕ). d ∷ []) same
 
   pub own-none : 1 ≤ n → RisesFrom (from + n) shown → Own → slice_get ds 0 ≡ Some (get_or nodes 0 [])
-  own-none some rises is = one ds (subst (λ (e : List (List ℕ)). take (length e) ds ≡ e) (part-none nodes from n shown some rises) is.needed)
-    where
-      one : (xs : List (List ℕ)) → take 1 xs ≡ get_or nodes 0 [] ∷ [] → slice_get xs 0 ≡ Some (get_or nodes 0 [])
-      one [] got = absurd (cc)
-      one (x ∷ xs) got = let same : x ≡ get_or nodes 0 [] = cc in ap Some same
+  own-none some rises is = one-begins (get_or nodes 0 []) ds (subst (λ (e : List (List ℕ)). take (length e) ds ≡ e) (part-none nodes from n shown some rises) is.needed)
 
   pub none-digests : 1 ≤ n → RisesFrom (from + n) shown → drop 1 ds ≡ drop (length (elided_part nodes from n shown)) ds
   none-digests some rises = ap (λ (e : List (List ℕ)). drop (length e) ds) (sym (part-none nodes from n shown some rises))

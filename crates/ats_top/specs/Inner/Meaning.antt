@@ -1,5 +1,5 @@
 -- The command that a value of the program's own type means.
-use Rattle.ats_top.specs.Words.{Command, Rank, Build, Root, Prove, Verify, Ask, Serve, Audit, Sweep, Trial, ServeWords}
+use Rattle.ats_top.specs.Words.{Command, Rank, Build, Root, Prove, Verify, Ask, Serve, Audit, Sweep, Trial, Migrate, ServeWords}
 use Rattle.ats_top.specs.declared.words.Command.{Command as Said}
 use Rattle.ats_top.specs.declared.words.Command.TheVariants as said
 use Rattle.std.specs.Prelude.{Option, Some, None}
@@ -19,6 +19,7 @@ meaning (said.Audit index r query proof) =
     Audit (record { index = index.now; r = r; query = query.now; proof = proof.now })
 meaning (said.Sweep index list) = Sweep (record { index = index.now; list = list.now })
 meaning (said.Trial number) = Trial (record { number = number })
+meaning (said.Migrate index migrated) = Migrate (record { index = index.now; migrated = migrated.now })
 
 -- the words of `serve`, if the command is that one
 abbrev pub serving_of : Option Command → Option ServeWords

@@ -12,7 +12,7 @@ use Rattle.ats_index.proofs.read.read_texts.Goals as goal
 pub returns-in_default : goal.returns-in_default
 returns-in_default c =
     let so_far = c.loop-document.invariant in
-    length_bad c.args.bytes.now c.in-Ok.found.0 c.loop-document.texts c.loop-document.rest.now so_far.same
+    length_bad c.args.bytes.now c.in-Ok.found.0 c.in-Ok.found.1 c.loop-document.texts c.loop-document.rest.now so_far.same
     (record {
       some = c.in-Ok.ensures.some;
       few = c.in-Ok.ensures.few;
@@ -27,7 +27,7 @@ pub returns-in_default-text_of : goal.returns-in_default-text_of
 returns-in_default-text_of c =
     let so_far = c.loop-document.invariant in
     let rest : List ℕ = c.loop-document.rest.now in
-    bytes_bad c.args.bytes.now c.in-Ok.found.0 c.loop-document.texts rest so_far.same c.in-Some.size
+    bytes_bad c.args.bytes.now c.in-Ok.found.0 c.in-Ok.found.1 c.loop-document.texts rest so_far.same c.in-Some.size
     (record {
       some = c.in-Ok.ensures.some;
       few = c.in-Ok.ensures.few;
@@ -54,7 +54,7 @@ loop-document-preserved c =
     omega (arith, so_far.sum, c.in-Some-text_of.ensures.long, sum_by-append Length texts (text ∷ []), sum_by-cons Length text []) in
     rw c.in_ok-push.ensures
     (record {
-      same = text_read c.args.bytes.now c.in-Ok.found.0 texts rest so_far.same c.in-Some.size text c.in-Some-text_of.behind.now
+      same = text_read c.args.bytes.now c.in-Ok.found.0 c.in-Ok.found.1 texts rest so_far.same c.in-Some.size text c.in-Some-text_of.behind.now
           c.in-Some-text_of.ensures.long c.in-Some.ensures.same (sym (to_end 4 rest) ∙ c.in-Some-text_of.ensures.same);
       count = length-append texts (text ∷ []) ∙ omega (arith, so_far.count);
       utf8 = All-push IsUtf8 texts text so_far.utf8 c.in-Some-text_of.ensures.utf8;
@@ -66,7 +66,7 @@ loop-document-preserved c =
 pub returns : goal.returns
 returns c =
     let so_far = c.loop-document.invariant in
-    let count : c.in-Ok.found.0 ≡ length c.loop-document.texts = omega (arith, so_far.count, c.loop-document-test.false) in
+    let count : c.in-Ok.found.1 ≡ length c.loop-document.texts = omega (arith, so_far.count, c.loop-document-test.false) in
     record {
       utf8 = so_far.utf8;
       within = record {
@@ -76,5 +76,5 @@ returns c =
         small = omega (arith, so_far.sum, so_far.small);
       };
       rest = c.loop-document.rest.now;
-      same = so_far.same ∙ ap (λ n. (front_bytes n ++ flat_map text_bytes c.loop-document.texts) ++ c.loop-document.rest.now) count;
+      same = so_far.same ∙ ap (λ n. (front_bytes c.in-Ok.found.0 n ++ flat_map text_bytes c.loop-document.texts) ++ c.loop-document.rest.now) count;
     }

@@ -9,7 +9,7 @@ use Rattle.ats_index.proofs.read.read_texts.Given as goal
 -- the texts so far precede the rest, and are within the limits
 abbrev pub invariant-loop-document : goal.invariant-loop-document
 invariant-loop-document l = record {
-  same : l.bytes ≡ (front_bytes l.documents ++ flat_map text_bytes l.texts) ++ l.rest;
+  same : l.bytes ≡ (front_bytes l.format l.documents ++ flat_map text_bytes l.texts) ++ l.rest;
   count : length l.texts ≡ l._document;
   utf8 : All IsUtf8 l.texts;
   short : AllShort l.texts;

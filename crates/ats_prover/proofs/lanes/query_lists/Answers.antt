@@ -1,7 +1,7 @@
 use Rattle.std.proofs.Common.{◌≡◌, ◌-◌, ◌*◌, ◌<◌, ◌≤◌, ◌++◌, ℕ, suc, List, [], ◌∷◌, length, map, get_or, subst, sym, ap, ap₂, ◌∙◌, arith, take_all, length-append, Bor}
 use Rattle.std.specs.List.{All}
-use Rattle.ats_tree.specs.Kept.{kept_digests}
-use Rattle.ats_lists.specs.Leaf.{leaf_bytes}
+use Rattle.ats_lists.specs.KeptList.{kept_list}
+use Rattle.ats_lists.specs.declared.list_keeping.ListDigests.{ListDigests}
 use Rattle.ats_lists.specs.Lists.{IsList, lists_of}
 use Rattle.ats_impact.specs.Numbers.{idf}
 use Rattle.ats_lists.specs.declared.entry.Entry.{Entry}
@@ -45,8 +45,8 @@ list-requires g c =
     let p : c.in-At.p ≡ suc (c.in-At.p - 1) = omega (arith, is.some) in
     omega (arith, (standing_term g.H.HashKind.hash c.args.index.now term (c.in-At.p - 1) ([], []) (subst (StandsAt entries term) p is)).0, ap (λ (ls : List (List ℕ × List Entry)). length ls) c.lists-lists.ensures)
 
-pub list_nodes-requires : goal.list_nodes-requires
-list_nodes-requires g c =
+pub list_digests-requires : goal.list_digests-requires
+list_digests-requires g c =
     let entries = dictionary_of g.H.HashKind.hash c.args.index.now in
     let term = (get_or c.args.query.now c.loop-i.i ([], 0)).0 in
     let is = subst (IsSpot entries term) c.in-At.is
@@ -64,8 +64,8 @@ loop-i-preserved g c =
     let term = (get_or query i ([], 0)).0 in
     let inside : i < length query = omega (arith, c.loop-i-test.true, c.len-i-end.ensures.value) in
     let spot = spot_at entries query c.args.spots.now i ([], 0) _ c.requires inside in
-    let own : Bor (List (List ℕ)) → List (List ℕ) = λ n. n.now in
-    let made : WholeLane → List (List ℕ) = λ (l : WholeLane). kept_digests H (map leaf_bytes l.entries) in
+    let own : Bor ListDigests → ListDigests = λ n. n.now in
+    let made : WholeLane → ListDigests = λ (l : WholeLane). kept_list H archive.format l.entries in
     elim c.match-spots-i.branch [
       | in-At+in_ok-push-in-At+in_ok-push-in-At-2 w ↦
           let is = subst (IsSpot entries term) w.in-At.is spot in
@@ -79,12 +79,12 @@ loop-i-preserved g c =
           (w.lane.ensures.coefficient ∙ ap (λ (es : List Entry). w.weight.result * idf c.documents-documents.result (length es)) (sym w.lane.ensures.entries)) in
           let more : whole_lanes c.match-spots-i.lanes.items ≡ whole_lanes c.loop-i.lanes.items ++ lane ∷ [] =
           ap (λ v. map whole_lane v.items) w.lanes-is ∙ ap (map whole_lane) w.in_ok-push-in-At.ensures.items ∙ map-append whole_lane c.loop-i.lanes.items (w.lane.result ∷ []) in
-          let digests : w.list_nodes.result.now ≡ made lane = w.list_nodes.ensures ([], []) ∙ ap (λ (es : List Entry). kept_digests H (map leaf_bytes es)) (sym entries_are) in
+          let digests : w.list_digests.result.now ≡ made lane = w.list_digests.ensures ([], []) ∙ ap (λ (es : List Entry). kept_list H archive.format es) (sym entries_are) in
           let list : IsList 65536 lane.entries = subst (IsList 65536) (sym w.lane.ensures.entries) w.list.ensures.list in
           record {
             lanes = more ∙ ap (λ (ls : List WholeLane). ls ++ lane ∷ []) c.loop-i.invariant.lanes ∙ sym at.more;
-            nodes = ap (λ v. map own v.items) w.nodes-is ∙ ap (map own) w.in_ok-push-in-At-2.ensures.items ∙ map-append own c.loop-i.nodes.items (w.list_nodes.result ∷ [])
-                ∙ ap₂ (λ (front : List (List (List ℕ))) (d : List (List ℕ)). front ++ d ∷ []) c.loop-i.invariant.nodes digests
+            digests = ap (λ v. map own v.items) w.digests-is ∙ ap (map own) w.in_ok-push-in-At-2.ensures.items ∙ map-append own c.loop-i.digests.items (w.list_digests.result ∷ [])
+                ∙ ap₂ (λ (front : List ListDigests) (d : ListDigests). front ++ d ∷ []) c.loop-i.invariant.digests digests
                 ∙ sym (map-append made (whole_lanes c.loop-i.lanes.items) (lane ∷ [])) ∙ sym (ap (map made) more);
             few = omega (
               arith,
@@ -102,7 +102,7 @@ loop-i-preserved g c =
           let same : whole_lanes c.match-spots-i.lanes.items ≡ whole_lanes c.loop-i.lanes.items = ap (λ v. map whole_lane v.items) w.lanes-is in
           let none = absent_term H archive term w.in-Between.field-0 is in record {
             lanes = same ∙ c.loop-i.invariant.lanes ∙ sym (lane_none archive.texts query i ([], 0) inside none);
-            nodes = ap (λ v. map own v.items) w.nodes-is ∙ c.loop-i.invariant.nodes ∙ sym (ap (map made) same);
+            digests = ap (λ v. map own v.items) w.digests-is ∙ c.loop-i.invariant.digests ∙ sym (ap (map made) same);
             few = omega (arith, ap (λ (ls : List WholeLane). length ls) same, length-map c.loop-i.lanes.items whole_lane, length-map c.match-spots-i.lanes.items whole_lane, c.loop-i.invariant.few);
             each = subst (All IsWholeLane) (sym same) c.loop-i.invariant.each;
             lists = subst (All (λ (l : WholeLane). IsList 65536 l.entries)) (sym same) c.loop-i.invariant.lists;

@@ -10,7 +10,7 @@ use Rattle.ats_prover.proofs.lanes.query_lists.Given as goal
 abbrev pub invariant-loop-i : goal.invariant-loop-i
 invariant-loop-i g l = record {
   lanes : whole_lanes l.lanes.items ≡ lanes_of l.index.texts (take l.i l.query);
-  nodes : map (λ n. n.now) l.nodes.items ≡ list_digests g.H.HashKind.hash (whole_lanes l.lanes.items);
+  digests : map (λ n. n.now) l.digests.items ≡ list_digests g.H.HashKind.hash l.index.format (whole_lanes l.lanes.items);
   few : length l.lanes.items ≤ l.i;
   each : All IsWholeLane (whole_lanes l.lanes.items);
   lists : All (λ (lane : WholeLane). IsList 65536 lane.entries) (whole_lanes l.lanes.items);

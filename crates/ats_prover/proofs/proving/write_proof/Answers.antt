@@ -16,13 +16,13 @@ use Rattle.ats_commit.proofs.Public.{header_in_range}
 use Rattle.ats_bound.specs.Schedule.{WholeLane, AreBracketsBy, IsFirstSettledBy, shown, whole_lane, whole_lanes}
 use Rattle.ats_bound.specs.declared.lane.Lane.{Lane}
 use Rattle.ats_lists.specs.declared.entry.Entry.{Entry}
-use Rattle.ats_lists.specs.declared.format.Format.TheVariants.{One}
 use Rattle.ats_bound.specs.Schedule.{IsCut}
 use Rattle.ats_proof.specs.Written.{Written}
 use Rattle.ats_proof.specs.Parts.{counted}
 use Rattle.ats_proof.specs.Value.{digest_fields, entry_fields, slot_fields}
 use Rattle.ats_honest.specs.Terms.{AreNeeded, AreSpots, shown_entry, slot_of}
 use Rattle.ats_honest.specs.Lanes.{bounding, lane_of, lanes_of, present}
+use Rattle.ats_lists.specs.declared.list_keeping.ListDigests.{ListDigests}
 use Rattle.ats_prover.specs.Nodes.{list_digests}
 use Rattle.ats_honest.specs.Present.{standing}
 use Rattle.ats_honest.specs.Honest.{IsHonest}
@@ -39,11 +39,11 @@ pub write_terms-requires-clause-nodes : goal.write_terms-requires-clause-nodes
 write_terms-requires-clause-nodes g c =
     c.dict_nodes.ensures ∙ ap (λ (es : List DictEntry). kept_digests g.H.HashKind.hash (dict_leaves es)) (sym c.dictionary-3.ensures)
 
--- the nodes that are lent, of the lists of the lanes that are lent
-pub write_walk-requires-clause-nodes : goal.write_walk-requires-clause-nodes
-write_walk-requires-clause-nodes g c =
-    ap (map (λ (n : Bor (List (List ℕ))). n.now)) c.deref-8.ensures.value ∙ c.in_ok-lists.ensures.nodes
-    ∙ sym (ap (λ (ls : List Lane). list_digests g.H.HashKind.hash (whole_lanes ls)) c.deref-7.ensures.value)
+-- the digests that are lent, of the lists of the lanes that are lent
+pub write_walk-requires-clause-kept : goal.write_walk-requires-clause-kept
+write_walk-requires-clause-kept g c =
+    ap (map (λ (n : Bor ListDigests). n.now)) c.deref-8.ensures.value ∙ c.in_ok-lists.ensures.digests
+    ∙ sym (ap (λ (ls : List Lane). list_digests g.H.HashKind.hash c.args.index.now.format (whole_lanes ls)) c.deref-7.ensures.value)
 
 pub write_terms-requires-clause-within : goal.write_terms-requires-clause-within
 write_terms-requires-clause-within g c =
@@ -131,7 +131,7 @@ returns g c =
     let number : c.len-2.result ≡ length (map (slot_of positions) spots) =
     c.len-2.ensures.value ∙ sym (length-map spots (slot_of positions) ∙ spot_each entries query spots found) in
     let Terms : List DictEntry → List ℕ → List Spot → Written = λ (es : List DictEntry) (ps : List ℕ) (ss : List Spot).
-    put c.front.new.self (counted 2 entry_fields (map (shown_entry es) ps) ++ counted 2 digest_fields (elided_digests H (dict_leaves es) ps) ++ flat_map slot_fields (map (slot_of ps) ss)) in
+    put c.front_in.new.self (counted 2 entry_fields (map (shown_entry es) ps) ++ counted 2 digest_fields (elided_digests H (dict_leaves es) ps) ++ flat_map slot_fields (map (slot_of ps) ss)) in
     let terms : c.write_terms.new.writer ≡ Terms entries positions spots = c.in_ok-write_terms.ensures.fields
     ∙ ap (λ (es : List DictEntry). Terms es c.deref-2.result.now c.deref-3.result.now) c.dictionary-3.ensures
     ∙ ap₂ (λ (ps : List ℕ) (ss : List Spot). Terms entries ps ss) c.deref-2.ensures.value c.deref-3.ensures.value in
@@ -155,12 +155,12 @@ returns g c =
       chosen = c.in_ok-end.ensures.picks;
       rows = rows;
     } in
-    let front = c.in_ok-front.ensures.ok
-    ∙ front_put One archive.format algorithm own.docs c.header.result.now (header_parts H archive) c.len-2.result (length (map (slot_of positions) spots)) c.args.writer.now
-    (kind_of_documents H texts (present texts query) (docs_of brackets) algorithm own.docs own.honest) (sym c.header.ensures.format) c.header.ensures.parts number
+    let front = c.in_ok-front_in.ensures.ok
+    ∙ front_put c.format.result archive.format algorithm own.docs c.header.result.now (header_parts H archive) c.len-2.result (length (map (slot_of positions) spots)) c.args.writer.now
+    (kind_of_documents H texts (present texts query) (docs_of brackets) algorithm own.docs own.honest) c.format.ensures c.header.ensures.parts number
     (omega (arith, range.numbers.few)) (omega (arith, range.numbers.terms)) (omega (arith, number, c.len-2.ensures.value, c.len-2.ensures.query.few)) in
     let proof = proof_of H archive query spots positions cut brackets own.docs picks in
     let honest = is_honest H archive query c.args.top algorithm spots positions cut brackets own.docs picks parts in
     let short = λ (tnra : algorithm ≡ Tnra). honest_short H g.H.HashKind.sized archive query c.args.top proof c.header.ensures.texts c.len-2.ensures.query.few (omega (arith, c.get.ensures.value, c.get.ensures.few))
     (subst (λ (a : Algorithm). IsHonest H archive query c.args.top a proof) tnra honest) in
-    written H archive query c.args.top algorithm spots positions cut brackets own.docs picks c.args.writer.now c.front.new.self c.write_terms.new.writer c.write_walk.new.writer parts front terms own.asked short) c.write_walk.ensures
+    written H archive query c.args.top algorithm spots positions cut brackets own.docs picks c.args.writer.now c.front_in.new.self c.write_terms.new.writer c.write_walk.new.writer parts front terms own.asked short) c.write_walk.ensures

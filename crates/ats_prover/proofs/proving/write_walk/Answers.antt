@@ -4,8 +4,6 @@ use Rattle.std.specs.List.Sorted.{IsStrictlyIncreasing}
 use Rattle.std.proofs.lemmas.Result.{on_ok_weaker}
 use Rattle.std.proofs.lemmas.List.{length-map}
 use Rattle.ats_lists.specs.Lists.{IsList}
-use Rattle.ats_lists.specs.declared.format.Format.{Format}
-use Rattle.ats_lists.specs.declared.format.Format.TheVariants.{One}
 use Rattle.ats_bound.specs.declared.bracket.Bracket.{Bracket}
 use Rattle.ats_bound.specs.Schedule.{AreBracketsBy, Bounding, WholeLane, whole_lane, whole_lanes, shown}
 use Rattle.ats_proof.specs.Written.{Written}
@@ -63,7 +61,10 @@ write_documents-requires-clause-few g c =
     (c.deref-2.ensures.value ∙ c.in_ok-met.ensures ∙ ap (map (λ (b : Bracket). b.doc)) c.as_slice.ensures)
 
 pub write_documents-requires-clause-started : goal.write_documents-requires-clause-started
-write_documents-requires-clause-started g c = started c.args.writer.now c.write_lists.new.writer _ c.in_ok-write_lists.ensures.fields
+write_documents-requires-clause-started g c = started c.args.writer.now c.write_lists.new.writer _ (c.in_ok-write_lists.ensures.fields c.args.index.now.format c.requires.kept)
+
+pub write_lists-requires-clause-kept : goal.write_lists-requires-clause-kept
+write_lists-requires-clause-kept g c = (c.args.index.now.format, c.requires.kept)
 
 pub returns : goal.returns
 returns g c =
@@ -76,10 +77,9 @@ returns g c =
     let ids : List ℕ = map (λ (b : Bracket). b.doc) c.args.walk.now.brackets in
     let met : c.deref.result.now ≡ ids = c.deref.ensures.value ∙ c.in_ok-met.ensures ∙ ap (map (λ (b : Bracket). b.doc)) c.as_slice.ensures in
     let again : c.deref-2.result.now ≡ ids = c.deref-2.ensures.value ∙ c.in_ok-met.ensures ∙ ap (map (λ (b : Bracket). b.doc)) c.as_slice.ensures in
-    let Front : Format → List ℕ → List ℕ → List (List ℕ) = λ (format : Format) (ids cut : List ℕ). counted 4 id_fields ids ++ flat_map prefix_fields (prefixes H format ids lanes cut) in
-    let front : List (List ℕ) = Front archive.format ids c.args.walk.now.cut in
-    let lists : c.write_lists.new.writer ≡ put w front = c.in_ok-write_lists.ensures.fields ∙ ap (put w)
-    (ap₂ (Front One) met c.as_slice-2.ensures ∙ ap (λ (format : Format). Front format ids c.args.walk.now.cut) (sym c.requires.format)) in
+    let Front : List ℕ → List ℕ → List (List ℕ) = λ (ids cut : List ℕ). counted 4 id_fields ids ++ flat_map prefix_fields (prefixes H archive.format ids lanes cut) in
+    let front : List (List ℕ) = Front ids c.args.walk.now.cut in
+    let lists : c.write_lists.new.writer ≡ put w front = c.in_ok-write_lists.ensures.fields archive.format c.requires.kept ∙ ap (put w) (ap₂ Front met c.as_slice-2.ensures) in
     let documents = subst (λ (m : List ℕ). AreDocumentsWritten algorithm H archive.texts terms m c.write_lists.new.writer c.write_documents.new.writer) again c.in_ok-write_documents.ensures.written in
     let shows : List (List ℕ) = documents_fields documents.docs in
     let so_far : c.write_documents.new.writer ≡ put w (front ++ shows) = documents.asked ∙ ap (λ (v : Written). put v shows) lists ∙ put_put w front shows in

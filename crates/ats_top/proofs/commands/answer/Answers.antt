@@ -117,3 +117,15 @@ returns-in-Some-Ask-clause-called g c =
       | inl same ↦ inl same
       | inr called ↦ inr (_, sym is, called)
     ]
+
+pub returns-in-Some-Migrate-clause-ok : goal.returns-in-Some-Migrate-clause-ok
+returns-in-Some-Migrate-clause-ok g c =
+    let is = rw c.in-Some-Migrate.field-0-is at c.in-Some-Migrate.ensures in
+    done_ends g.H.HashKind.hash (g.S.Shelf.told c.args.shelf.now) (g.S.Shelf.told c.migrate.new.shelf) (g.C.Caller.told c.args.caller.now) (g.C.Caller.told c.args.caller.now)
+    (g.D.Door.told c.args.door.now) (map string_bytes c.args.words.now) _ (sym is) vec_items c.migrate.result (λ was now text. tt) c.migrate.ensures.ok
+
+pub returns-in-Some-Migrate-clause-stop : goal.returns-in-Some-Migrate-clause-stop
+returns-in-Some-Migrate-clause-stop g c =
+    let is = rw c.in-Some-Migrate.field-0-is at c.in-Some-Migrate.ensures in
+    plan_ends g.H.HashKind.hash (g.S.Shelf.told c.args.shelf.now) (g.S.Shelf.told c.migrate.new.shelf) (g.C.Caller.told c.args.caller.now) (g.C.Caller.told c.args.caller.now)
+    (g.D.Door.told c.args.door.now) (map string_bytes c.args.words.now) _ (sym is) c.migrate.result c.migrate.ensures.stop

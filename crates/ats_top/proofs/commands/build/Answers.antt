@@ -15,19 +15,20 @@ returns-in_err-texts-clause-stop g c =
 
 pub returns-in-Ok-clause-ok : goal.returns-in-Ok-clause-ok
 returns-in-Ok-clause-ok g c =
-    let leads = leads_make c.in_ok-bytes.bytes (leads_collection leads_none c.in_ok-texts.ensures.ok) c.in_ok-bytes.ensures.bytes in
+    let spelling = rw c.in_ok-built.ensures at c.in_ok-bytes.ensures.bytes in
+    let leads = leads_make c.in_ok-bytes.bytes (leads_collection leads_none c.in_ok-texts.ensures.ok) spelling in
     let collection = subst (λ (files : Files). HasCollection files c.args.collection.now c.in_ok-texts.texts) (sym (same_collection c.in_ok-texts.ensures.ok)) (has_collection c.in_ok-texts.ensures.ok) in
     let puts = rw c.as_slice.ensures at c.in-Ok.ensures.ok in
     stored leads c.in-Ok.ensures.asked c.in-Ok.ensures.cause.kept puts (record {
       texts = c.in_ok-texts.texts;
       bytes = c.in_ok-bytes.bytes;
       collection = collection;
-      spelling = c.in_ok-bytes.ensures.bytes;
+      spelling = spelling;
       stored = puts;
-      published = c.in_ok-bytes.ensures.line;
+      published = rw c.in_ok-built.ensures at c.in_ok-bytes.ensures.line;
     })
 
 pub returns-clause-stop : goal.returns-clause-stop
 returns-clause-stop g c =
-    let leads = leads_make c.in_ok-bytes.bytes (leads_collection leads_none c.in_ok-texts.ensures.ok) c.in_ok-bytes.ensures.bytes in
+    let leads = leads_make c.in_ok-bytes.bytes (leads_collection leads_none c.in_ok-texts.ensures.ok) (rw c.in_ok-built.ensures at c.in_ok-bytes.ensures.bytes) in
     not_stored leads c.in-Err.ensures.asked c.in-Err.ensures.cause.later c.in-Err.ensures.cause.failed (rw c.as_slice.ensures at c.in-Err.ensures.err)

@@ -1,4 +1,4 @@
-use Rattle.ats_top.proofs.BuiltServed.{root_served, prove_served, prove_fits}
+use Rattle.ats_top.proofs.BuiltServed.{root_served, prove_served, prove_fits, migrate_served}
 use Rattle.ats_top.proofs.laws.built_indexes_are_served.Goals as goal
 
 pub returns-clause-root : goal.returns-clause-root
@@ -9,3 +9,7 @@ returns-clause-prove g c archive bytes files = prove_served g.H.HashKind.hash g.
 
 pub returns-clause-either : goal.returns-clause-either
 returns-clause-either g c archive bytes files = prove_fits g.H.HashKind.hash g.H.HashKind.sized files archive bytes
+
+pub returns-clause-migrate : goal.returns-clause-migrate
+returns-clause-migrate g c archive bytes files name migrated spelling held =
+    migrate_served g.H.HashKind.hash g.H.HashKind.sized files archive bytes name spelling held migrated

@@ -1,6 +1,5 @@
 use Rattle.std.proofs.Common.{ℕ, List, ap, ◌∙◌}
 use Rattle.ats_tree.specs.Kept.{kept_digests}
-use Rattle.ats_lists.specs.declared.format.Format.TheVariants.{One}
 use Rattle.ats_dict.specs.Dictionary.{dict_leaves}
 use Rattle.ats_dict.specs.Entry.{DictEntry}
 use Rattle.ats_dict.specs.declared.header.Header.{Header}
@@ -16,11 +15,11 @@ invariant_of-result g c =
         own_dictionary = c.requires.dictionary;
         own_terms = c.requires.terms;
         own_leaves = c.requires.leaves;
-        own_header = c.header_of-header.ensures.parts;
-        own_root = c.root_of_header-root.ensures.value ∙ ap (λ (header : Header). header_root H One header) c.header_of-header.ensures.parts;
+        own_header = c.header_of-header.ensures.parts c.args.format c.requires.dictionary;
+        own_root = c.root_of_header_in-root.ensures.value ∙ ap (λ (header : Header). header_root H c.args.format header) (c.header_of-header.ensures.parts c.args.format c.requires.dictionary);
       },
       record {
-        own_lists = c.requires.list_nodes;
+        own_lists = c.requires.list_digests;
         own_terms = c.requires.term_nodes;
         own_dictionary = c.requires.dict_nodes ∙ ap (λ (entries : List DictEntry). kept_digests H (dict_leaves entries)) c.requires.dictionary;
         own_documents = c.requires.docs_nodes;

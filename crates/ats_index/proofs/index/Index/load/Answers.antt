@@ -1,8 +1,8 @@
-use Rattle.std.proofs.Common.{ℕ, List, subst, sym, ap, ◌∙◌}
+use Rattle.std.proofs.Common.{ℕ, List, subst, ap, ◌∙◌}
 use Rattle.ats_commit.specs.Archive.{Archive}
 use Rattle.ats_commit.specs.Own.{AreTexts}
 use Rattle.ats_index.specs.LoadFaults.{BeginWith}
-use Rattle.ats_index.proofs.Loading.{same_archive}
+use Rattle.ats_index.specs.Parts.{archive_in}
 use Rattle.ats_index.proofs.OneArchive.{one_beginning, spelled_begins}
 use Rattle.ats_index.proofs.index.Index.load.Goals as goal
 
@@ -13,13 +13,12 @@ returns-in-None-clause-ok g c =
     record {
       utf8 = texts.utf8;
       within = texts.within;
-      format = sym (ap (λ (archive : Archive). archive.format) c.index.view_is);
       same = same;
     }
 
 pub returns-in-None-clause-only : goal.returns-in-None-clause-only
 returns-in-None-clause-only g c archive spelling =
     let bytes : List ℕ = c.args.bytes.now in
-    let begins : BeginWith bytes c.in-Ok.texts = rw c.in-Ok.is at c.in_ok-texts.ensures in
-    c.in_ok-index.ensures ∙ same_archive archive spelling.format
-    (c.in-Ok-new.ensures.same ∙ one_beginning bytes c.in-Ok.texts archive.texts begins (spelled_begins g.H.HashKind.hash bytes archive spelling))
+    let begins : BeginWith bytes c.in-Ok.read.0 c.in-Ok.read.1 = rw c.in-Ok.is at c.in_ok-read.ensures in
+    c.in_ok-index.ensures ∙ ap (archive_in c.in-Ok.read.0) c.in-Ok-new.ensures.same
+    ∙ one_beginning bytes c.in-Ok.read.0 archive.format c.in-Ok.read.1 archive.texts begins (spelled_begins g.H.HashKind.hash bytes archive spelling)
