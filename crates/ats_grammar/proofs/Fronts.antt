@@ -146,7 +146,7 @@ pub reads : (schema : Schema) (bytes : List ℕ) (answer : Result (Unit {0}) Sha
 reads schema bytes (Ok x) bad fields spells = refl
 reads schema bytes (Err e) bad fields spells = absurd (no_fault schema bytes e fields bad spells)
 
-pub refuses : (schema : Schema) (bytes : List ℕ) (answer : Result (Unit {0}) ShapeFault) → OnOk answer (IsSpelling schema bytes) → IfErr answer (λ f. IsBad schema bytes f) → (fault : ShapeFault) → IsBad schema bytes fault → answer ≡ Err fault
+pub refuses : {T : Type 0} → (schema : Schema) (bytes : List ℕ) (answer : Result T ShapeFault) → OnOk answer (IsSpelling schema bytes) → IfErr answer (λ f. IsBad schema bytes f) → (fault : ShapeFault) → IsBad schema bytes fault → answer ≡ Err fault
 refuses schema bytes (Ok x) good bad fault is = absurd (no_fault schema bytes fault good.fields is good.spells)
 refuses schema bytes (Err e) good bad fault is = ap Err (one_fault schema bytes e fault bad is)
 

@@ -129,13 +129,13 @@ query_terms tra = Number 2 1 32 Count (λ n. dictionary tra n)
 
 -- ---- header: version, documents, dictionary leaves, three roots
 
-abbrev pub header : Bool → Table
-header tra = Number 1 1 1 Version (λ _. Number 4 1 65536 Count (λ _. Number 4 2 16777218 Count (λ _. Bytes 32 (Bytes 32 (Bytes 32 (query_terms tra))))))
+abbrev pub header : Table → Table
+header rest = Number 1 1 1 Version (λ _. Number 4 1 65536 Count (λ _. Number 4 2 16777218 Count (λ _. Bytes 32 (Bytes 32 (Bytes 32 rest)))))
 
 -- ---- front: magic ATSP, version by the format of the lists, algorithm
 
 abbrev pub proof : Table
-proof = Number 4 0x41545350 0x41545350 Magic (λ _. Number 1 1 2 Version (λ _. Number 1 1 2 Algorithm (λ a. header (a == 1))))
+proof = Number 4 0x41545350 0x41545350 Magic (λ _. Number 1 1 2 Version (λ _. Number 1 1 2 Algorithm (λ a. header (query_terms (a == 1)))))
 
 -- what the bytes of a proof must be: at most 2^26
 abbrev pub proof_schema : Schema

@@ -4,6 +4,7 @@ pub mod Front
 pub mod Pending
 pub mod State
 pub mod Reading
+pub mod Position
 pub mod Standing
 pub mod Inside
 pub mod Feeding

@@ -21,9 +21,9 @@ use Rattle.ats_grammar.specs.Grammar.{proof, header, query_terms, dictionary, di
 
 abbrev pub in_front : FrontPart → State → Table
 in_front front.Magic s = proof
-in_front front.Version s = Number 1 1 2 Version (λ _. Number 1 1 2 Algorithm (λ a. header (a == 1)))
-in_front front.Algorithm s = Number 1 1 2 Algorithm (λ a. header (a == 1))
-in_front front.HeaderVersion s = header s.tra
+in_front front.Version s = Number 1 1 2 Version (λ _. Number 1 1 2 Algorithm (λ a. header (query_terms (a == 1))))
+in_front front.Algorithm s = Number 1 1 2 Algorithm (λ a. header (query_terms (a == 1)))
+in_front front.HeaderVersion s = header (query_terms s.tra)
 in_front front.Documents s = Number 4 1 65536 Count (λ _. Number 4 2 16777218 Count (λ _. Bytes 32 (Bytes 32 (Bytes 32 (query_terms s.tra)))))
 in_front front.DictLeaves s = Number 4 2 16777218 Count (λ _. Bytes 32 (Bytes 32 (Bytes 32 (query_terms s.tra))))
 in_front front.DictRoot s = Bytes 32 (Bytes 32 (Bytes 32 (query_terms s.tra)))

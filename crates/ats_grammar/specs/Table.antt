@@ -1,5 +1,5 @@
 -- What may come next in the bytes of a proof, field by field.
-use Rattle.std.specs.Prelude.{◌≡◌, ◌⊎◌, ℕ, ◌≤◌, ◌+◌, ◌*◌, ◌^◌, List, [], ◌∷◌, length}
+use Rattle.std.specs.Prelude.{◌≡◌, ◌⊎◌, ℕ, zero, suc, ◌<◌, ◌≤◌, ◌+◌, ◌*◌, ◌/◌, ◌%◌, ◌^◌, List, [], ◌∷◌, length, get_or}
 use Rattle.ats_grammar.specs.declared.fault.ShapeKind.{ShapeKind}
 use Rattle.ats_grammar.specs.declared.next.Next.{Next}
 use Rattle.ats_grammar.specs.declared.next.Next.TheVariants as next
@@ -20,6 +20,15 @@ pub record Schema : Type 0 where
 abbrev pub number : List ℕ → ℕ
 number [] = 0
 number (b ∷ bs) = b * 256 ^ length bs + number bs
+
+-- `size` bytes with the value n, high byte first
+abbrev pub spelled : (size n : ℕ) → List ℕ
+spelled zero n = []
+spelled (suc k) n = n / 256 ^ k ∷ spelled k (n % 256 ^ k)
+
+-- each element is a byte
+abbrev pub AreBytes : List ℕ → Type 0
+AreBytes bytes = (i : ℕ) → get_or bytes i 0 < 256
 
 -- the first field
 abbrev pub head : Table → Next

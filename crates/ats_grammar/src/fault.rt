@@ -1,13 +1,13 @@
-//! Why bytes are no proof.
+//! Why bytes are no proof, or no file of another format.
 
-/// What is wrong with the bytes of a proof.
+/// What is wrong with bytes.
 #[derive(Clone, Copy, Debug, PartialEq, Eq)]
 pub enum ShapeKind {
-    /// There are more than 67,108,864 bytes.
+    /// There are too many bytes: of a proof, more than 67,108,864.
     Long,
     /// A field passes the end.
     Cut,
-    /// The first four bytes are not `ATSP`.
+    /// The first four bytes are not those of the format: of a proof, `ATSP`.
     Magic,
     /// The version of the proof is neither 1 nor 2, or that of the header is not 1.
     Version,
@@ -21,7 +21,7 @@ pub enum ShapeKind {
     Trailing,
 }
 
-/// The first place where the bytes of a proof are wrong, and how.
+/// The first place where bytes are wrong, and how.
 #[derive(Clone, Copy, Debug, PartialEq, Eq)]
 pub struct ShapeFault {
     /// The place of the first byte of the field, or of the first byte too many.

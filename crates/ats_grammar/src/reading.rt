@@ -1,13 +1,18 @@
 //! Reading a proof field by field.
 
 ghost use Rattle.std.specs.Prelude.{◌≡◌, ◌⊎◌, [], length, IfOk, IfErr, IfSome, IfNone};
-ghost use Rattle.ats_grammar.specs.Table.{IsSized, number};
+ghost use Rattle.ats_grammar.specs.Table.{AreBytes, IsSized, number};
 ghost use Rattle.ats_grammar.specs.declared.next.Next.TheVariants.{End};
 ghost use Rattle.ats_grammar.specs.Reading.{IsTaken, IsRefused};
 
 use crate::fault::ShapeKind;
 use crate::next::Next;
 use byteorder::{BigEndian, ByteOrder};
+
+/// A slice holds bytes.
+pub fn are_bytes(bytes: &[u8])
+    ensures { AreBytes bytes.now }
+{}
 
 // The number that these bytes are, high byte first.
 fn number_of(bytes: &[u8]) -> u32

@@ -326,3 +326,52 @@ fn faults_cross_threads() {
         kind: ShapeKind::Long,
     });
 }
+
+// A magic number, a length and a title, a header and one digest.
+fn song(alloc: Global) -> Result<Vec<u8>, AllocError> {
+    let mut out = Vec::new(alloc);
+    out.extend_from_slice(b"SONG\x04lark")?;
+    out.extend_from_slice(&[1, 0, 0, 0, 3, 0, 0, 0, 6])?;
+    out.extend_from_slice(&[7; 96])?;
+    out.extend_from_slice(&[1])?;
+    out.extend_from_slice(&[8; 32])?;
+    Ok(out)
+}
+
+#[test]
+fn a_reader_lends_the_fields_of_another_format(rt: HostRuntime) -> Result<(), Fail> {
+    let song = song(rt.alloc())?;
+    let mut reader = Reader::new(&song, 147)?;
+    let magic = 0x534f_4e47;
+    assert_eq!(rt;
+        reader.number(4, magic, 0x534f_4e47, ShapeKind::Magic)?,
+        0x534f_4e47
+    );
+    let size = reader.number(1, 0, 200, ShapeKind::Count)?;
+    assert_eq!(rt; reader.bytes(size)?, b"lark".as_slice());
+    assert_eq!(rt; Some(reader.header()?), song.get(9..114));
+    let count = reader.number(1, 0, 32, ShapeKind::Count)?;
+    assert_eq!(rt; reader.digests(count)?, [8; 32].as_slice());
+    assert_eq!(rt; reader.end(), Ok(()));
+    Ok(())
+}
+
+#[test]
+fn a_reader_stays_before_a_wrong_field(rt: HostRuntime) -> Result<(), Fail> {
+    let song = song(rt.alloc())?;
+    assert_eq!(rt;
+        Reader::new(&song, 146).err(),
+        fault(146, ShapeKind::Long).err()
+    );
+    let mut reader = Reader::new(&song, 147)?;
+    let _ = reader.bytes(9)?;
+    assert_eq!(rt;
+        reader.number(1, 2, 9, ShapeKind::Order).err(),
+        fault(9, ShapeKind::Order).err()
+    );
+    assert_eq!(rt; reader.digests(5).err(), fault(137, ShapeKind::Cut).err());
+    let _ = reader.header()?;
+    assert_eq!(rt; reader.header().err(), fault(115, ShapeKind::Count).err());
+    assert_eq!(rt; reader.end(), fault(114, ShapeKind::Trailing));
+    Ok(())
+}

@@ -177,7 +177,7 @@ come_front format docs h is =
         is_version format,
         (
           is_algorithm docs,
-          subst (λ (a : ℕ). Come rest (grammar.header (a == 1)) (grammar.query_terms (tra_of docs))) (sym (number-spelled 0 (number_of_algorithm docs))) (
+          subst (λ (a : ℕ). Come rest (grammar.header (grammar.query_terms (a == 1))) (grammar.query_terms (tra_of docs))) (sym (number-spelled 0 (number_of_algorithm docs))) (
             is_number 0 1 1 1 (omega arith) (omega arith),
             (
               is_number 3 h.documents 1 65536 is.numbers.some is.numbers.few,

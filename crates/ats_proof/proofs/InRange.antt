@@ -121,7 +121,7 @@ header_holds format docs h n after come =
     let tra = is_shown docs in
     let roots = h.dict_root ∷ h.docs_root ∷ h.texts_root ∷ spelled 2 n ∷ after in
     let numbers = spelled 4 h.documents ∷ spelled 4 h.dict_leaves ∷ roots in
-    let algorithm = number_holds 0 1 2 (number_of_algorithm docs) Algorithm (λ a. header (a == 1)) (spelled 1 1 ∷ numbers) come.1.1 in
+    let algorithm = number_holds 0 1 2 (number_of_algorithm docs) Algorithm (λ a. header (query_terms (a == 1))) (spelled 1 1 ∷ numbers) come.1.1 in
     let documents = number_holds 3 1 65536 h.documents Count (λ _. Number 4 2 16777218 Count (λ _. Bytes 32 (Bytes 32 (Bytes 32 (query_terms tra))))) (spelled 4 h.dict_leaves ∷ roots) algorithm.come.1 in
     let leaves = number_holds 3 2 16777218 h.dict_leaves Count (λ _. Bytes 32 (Bytes 32 (Bytes 32 (query_terms tra)))) roots documents.come in
     let terms = number_holds 1 1 32 n Count (λ m. dictionary tra m) after leaves.come.1.1.1 in

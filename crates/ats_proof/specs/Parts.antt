@@ -1,12 +1,8 @@
 -- Numbers as bytes, and like parts one after another in bytes.
-use Rattle.std.specs.Prelude.{◌<◌, get_or, ℕ, zero, suc, ◌+◌, ◌/◌, ◌%◌, ◌^◌, List, [], ◌∷◌, length, take, drop}
+use Rattle.std.specs.Prelude.{ℕ, zero, suc, ◌+◌, List, [], ◌∷◌, length, take, drop}
 use Rattle.std.specs.List.{flat_map}
 use Rattle.ats_grammar.specs.Table.{number}
-
--- `size` bytes with the value n, high byte first
-abbrev pub spelled : (size n : ℕ) → List ℕ
-spelled zero n = []
-spelled (suc k) n = n / 256 ^ k ∷ spelled k (n % 256 ^ k)
+pub use Rattle.ats_grammar.specs.Table.{spelled, AreBytes}
 
 -- the value of the first `size` bytes
 abbrev pub number_in : ℕ → List ℕ → ℕ
@@ -32,7 +28,3 @@ counted_size width size bytes = width + total_size size (number_in width bytes) 
 -- the fields of parts, after the field of their number
 abbrev pub counted : {X : Type 0} → ℕ → (X → List (List ℕ)) → List X → List (List ℕ)
 counted width spell xs = spelled width (length xs) ∷ flat_map spell xs
-
--- each element is a byte
-abbrev pub AreBytes : List ℕ → Type 0
-AreBytes bytes = (i : ℕ) → get_or bytes i 0 < 256

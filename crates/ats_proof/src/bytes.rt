@@ -1,7 +1,7 @@
 //! Numbers and digests at the front of bytes.
 
 ghost use Rattle.std.specs.Prelude.{◌≡◌, ◌≤◌, ◌<◌, ◌*◌, length, take, drop};
-ghost use Rattle.ats_proof.specs.Parts.{number_in, AreBytes};
+ghost use Rattle.ats_proof.specs.Parts.{number_in};
 
 use byteorder::{BigEndian, ByteOrder};
 
@@ -46,8 +46,3 @@ pub(crate) fn nth(bytes: &[u8], count: u32, size: usize, i: u32) -> &[u8]
     let (_, part) = bytes.split_at(size * i as usize);
     part
 }
-
-// A slice holds bytes.
-pub(crate) fn are_bytes(bytes: &[u8])
-    ensures { AreBytes bytes.now }
-{}

@@ -4,11 +4,12 @@ ghost use Rattle.std.specs.Prelude.{◌≡◌, ◌≤◌, ◌<◌, ◌+◌, ◌*
 ghost use Rattle.ats_proof.specs.Parts.{total_size};
 ghost use Rattle.ats_proof.specs.Runs.{AreNamed};
 
-use crate::bytes::{are_bytes, nth, number_4};
+use crate::bytes::{nth, number_4};
 use crate::digests::DigestRun;
 use crate::lists::ListView;
 use crate::record::ENTRY_BYTES;
 use crate::view::ProofView;
+use ats_grammar::are_bytes;
 use ats_hash::Steps;
 use ats_tree::Revealed;
 

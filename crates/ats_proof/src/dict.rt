@@ -2,10 +2,11 @@
 
 ghost use Rattle.std.specs.Prelude.{◌≡◌, ◌<◌, ◌+◌, ◌^◌, length, slice_get, option_map, map, drop};
 
-use crate::bytes::{are_bytes, digest, number_4};
+use crate::bytes::{digest, number_4};
 use crate::digests::DigestRun;
 use crate::leaves::LeafRun;
 use ats_dict::DictLeaf;
+use ats_grammar::are_bytes;
 use ats_hash::Steps;
 use ats_tree::Revealed;
 

@@ -5,9 +5,10 @@ ghost use Rattle.std.specs.List.Sorted.{IsStrictlyIncreasing};
 ghost use Rattle.ats_proof.specs.Parts.{parts_in};
 ghost use Rattle.ats_proof.specs.Reading.{id_size, id_in};
 
-use crate::bytes::{are_bytes, number_4};
+use crate::bytes::number_4;
 use crate::digests::DigestRun;
 use ats_doctree::DOC_LEAF_BYTES;
+use ats_grammar::are_bytes;
 use ats_hash::Steps;
 use ats_tree::Revealed;
 

@@ -2,10 +2,11 @@
 
 ghost use Rattle.std.specs.Prelude.{◌≡◌, ◌<◌, ◌+◌, ◌^◌, length, slice_get, option_map, map, drop};
 
-use crate::bytes::{are_bytes, number_2};
+use crate::bytes::number_2;
 use crate::digests::DigestRun;
 use crate::leaves::LeafRun;
 use crate::record::TermLeaf;
+use ats_grammar::are_bytes;
 use ats_hash::Steps;
 use ats_tree::Revealed;
 
