@@ -14,7 +14,7 @@ use Rattle.ats_client.specs.declared.refusal.Refusal.TheVariants.{OtherRoot, Slo
 use Rattle.ats_client.specs.Presented.{Presented}
 use Rattle.ats_client.specs.Indexes.{AreNames, IsOut, IsAgain}
 use Rattle.ats_client.specs.Groups.{IsOther, IsOpened, IsOpeningFault, IsDictionary, IsDictFault, AreSlotsRight, IsSlotsFault, IsListRooted, IsEntryFault, IsListRootFault, AreAllMet, IsMetFault, AreRowsRight, IsRowsFault, IsAnswerSettled, IsSettledFault, indexes_of}
-use Rattle.ats_client.proofs.FirstOf.{all_middle}
+use Rattle.ats_base.proofs.Public.{all_middle}
 
 pub not_other : (digest : Option (List ℕ)) (root : List ℕ) → IsOther digest root → digest ≡ Some root → ⊥
 not_other digest root other is = let rebuilt = other.rebuilt in other.differs (cc)

@@ -11,11 +11,9 @@ mod Lanes
 mod Passing
 mod Noting
 mod Bounding
-mod Rules
 mod Faults
 mod Bracketing
 mod Kept
-mod FirstOf
 mod Exact
 mod OneListFault
 mod Least

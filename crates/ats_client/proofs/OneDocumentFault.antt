@@ -7,11 +7,11 @@ use Rattle.ats_client.specs.declared.refusal.Refusal.{Refusal}
 use Rattle.ats_client.specs.declared.refusal.Refusal.TheVariants.{DocsMisfit, DocsRoot, TermsMisfit, TermsRoot, TermSlot}
 use Rattle.ats_client.specs.Groups.{IsOther, slot_at}
 use Rattle.ats_client.specs.Documents.{MetDocument, met_documents, docs_digest, AreDocsRooted, IsDocsRootFault, terms_digest, IsTermsTree, IsTermsFault, term_shown, present_numbers, IsTermSlotRight, AreTermSlotsRight, IsTermSlotsFault, document_rules, IsDocumentRight, AreDocumentsRight, IsDocumentsFault}
-use Rattle.ats_client.specs.Rules.{IsFirstFault}
+use Rattle.ats_base.specs.Rules.{IsFirstFault}
 use Rattle.ats_client.proofs.Exact.{not_other}
-use Rattle.ats_client.proofs.FirstOf.{not_first_of, one_first_of, kept_or_first_of}
+use Rattle.ats_base.proofs.Public.{not_first_of, one_first_of, kept_or_first_of}
 use Rattle.ats_client.proofs.Least.{one_least, all_or_first}
-use Rattle.ats_client.proofs.Rules.{AreExact, not_kept, one_first, kept_or_first}
+use Rattle.ats_base.proofs.Public.{AreExact, not_kept, one_first, kept_or_first}
 use Rattle.ats_client.proofs.Shows.{same_or_other, shows_term_or_not}
 
 -- ---- one digest

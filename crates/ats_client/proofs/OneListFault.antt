@@ -8,8 +8,8 @@ use Rattle.ats_client.specs.Presented.{Presented, presented}
 use Rattle.ats_client.specs.Indexes.{AreNames, IsOut, IsAgain}
 use Rattle.ats_client.specs.Groups.{IsListRight, IsListFault, IsEntryFault, IsListRootFault, AreListsRight, IsListsFault, indexes_of, list_rules}
 use Rattle.ats_client.proofs.Exact.{not_out, not_again, not_entries, not_rooted}
-use Rattle.ats_client.proofs.FirstOf.{one_front, not_first_of, one_first_of}
-use Rattle.ats_client.proofs.Rules.{AreExact, not_kept, one_first}
+use Rattle.ats_base.proofs.Public.{one_front, not_first_of, one_first_of}
+use Rattle.ats_base.proofs.Public.{AreExact, not_kept, one_first}
 
 -- ---- indexes
 

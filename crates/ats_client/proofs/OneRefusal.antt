@@ -14,7 +14,7 @@ use Rattle.ats_client.proofs.Exact.{not_opened, not_dictionary, not_slots, not_m
 use Rattle.ats_client.proofs.Least.{one_least}
 use Rattle.ats_client.proofs.OneListFault.{not_lists, one_out, one_again, out_or_again, one_lists}
 use Rattle.ats_client.proofs.OneDocumentFault.{not_docs, one_docs, not_documents, one_documents}
-use Rattle.ats_client.proofs.Rules.{AreExact, not_kept, one_first}
+use Rattle.ats_base.proofs.Public.{AreExact, not_kept, one_first}
 
 one_opening : (H : List ℕ → List ℕ) (root : List ℕ) (query : List (List ℕ × ℕ)) (proof : Proof) (a b : Refusal)
     → IsOpeningFault H root query proof a → IsOpeningFault H root query proof b → a ≡ b

@@ -4,7 +4,7 @@ use Rattle.ats_proof.specs.Value.{Proof}
 use Rattle.ats_client.specs.declared.refusal.Refusal.{Refusal}
 use Rattle.ats_client.specs.Presented.{lanes_of}
 use Rattle.ats_client.specs.Bracketing.{bounds_of}
-use Rattle.ats_client.specs.Rules.{Group, AreKept, IsFirstFault}
+use Rattle.ats_base.specs.Rules.{Group, AreKept, IsFirstFault}
 use Rattle.ats_client.specs.Documents.{IsDocsTree, IsDocsFault, AreDocumentsRight, IsDocumentsFault}
 use Rattle.ats_client.specs.Groups.{IsOpened, IsOpeningFault, IsDictionary, IsDictFault, AreSlotsRight, IsSlotsFault, AreListsRight, IsListsFault, AreAllMet, IsMetFault, AreRowsRight, IsRowsFault, IsAnswerSettled, IsSettledFault}
 

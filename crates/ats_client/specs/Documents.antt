@@ -10,7 +10,7 @@ use Rattle.ats_proof.specs.Value.{ShownTerm, TermsSection, Documents, Proof}
 use Rattle.ats_proof.specs.Runs.{shown_docs, shown_term}
 use Rattle.ats_client.specs.declared.refusal.Refusal.{Refusal}
 use Rattle.ats_client.specs.declared.refusal.Refusal.TheVariants.{DocsMisfit, DocsRoot, TermsMisfit, TermsRoot, TermSlot}
-use Rattle.ats_client.specs.Rules.{Group, IsFirstFault, IsFirstOf}
+use Rattle.ats_base.specs.Rules.{Group, IsFirstFault, IsFirstOf}
 use Rattle.ats_client.specs.Groups.{IsOther, slot_at}
 use Rattle.ats_client.specs.Slots.{Shown, ShowsTerm}
 

@@ -1,7 +1,6 @@
 pub mod Presented
 pub mod Slots
 pub mod Indexes
-pub mod Rules
 pub mod Groups
 pub mod Documents
 pub mod Bracketing

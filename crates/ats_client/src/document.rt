@@ -14,7 +14,7 @@ ghost use Rattle.ats_client.specs.Bracketing.{impact_shown};
 ghost use Rattle.ats_client.specs.Documents.{term_shown, IsTermsTree, IsTermsFault, AreTermSlotsRight, IsTermSlotsFault, IsDocumentRight, document_rules};
 ghost use Rattle.ats_client.specs.Groups.{slot_at};
 ghost use Rattle.ats_client.specs.PresentTerms.{numbers_of, bare_lanes};
-ghost use Rattle.ats_client.specs.Rules.{IsFirstFault};
+ghost use Rattle.ats_base.specs.Rules.{IsFirstFault};
 ghost use Rattle.ats_client.specs.SeenTerms.{terms_left, document_of};
 ghost use Rattle.ats_client.specs.Slots.{ShowsTerm};
 

@@ -11,7 +11,7 @@ use Rattle.ats_client.specs.declared.refusal.Refusal.{Refusal}
 use Rattle.ats_client.specs.Bracketing.{impact_shown}
 use Rattle.ats_client.specs.Documents.{present_numbers, IsDocumentRight, document_rules, IsDocumentsFault}
 use Rattle.ats_client.specs.PresentTerms.{numbers_of, bare_lanes}
-use Rattle.ats_client.specs.Rules.{IsFirstFault}
+use Rattle.ats_base.specs.Rules.{IsFirstFault}
 use Rattle.ats_client.specs.SeenTerms.{document_of}
 use Rattle.ats_client.proofs.Counts.{taken, sum_taken}
 use Rattle.ats_client.proofs.Faults.{passed_on}

@@ -1,6 +1,6 @@
 -- Laws of groups of rules that are checked one after another.
 use Rattle.std.proofs.Common.{◌≡◌, ◌⊎◌, List, [], ◌∷◌, inl, inr}
-use Rattle.ats_client.specs.Rules.{Group, AreKept, IsFirstFault}
+use Rattle.ats_base.specs.Rules.{Group, AreKept, IsFirstFault}
 
 -- a group that fails is not kept, and fails in one way
 pub record IsExact {F : Type 0} (group : Group F) : Type 0 where
