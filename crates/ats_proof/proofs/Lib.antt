@@ -17,3 +17,4 @@ mod Showing
 mod Unique
 mod InRange
 mod Appending
+mod SharedFields

@@ -1,6 +1,7 @@
 //! Runs of digests, one after another.
 
-ghost use Rattle.std.specs.Prelude.{◌≡◌, ◌+◌, ◌*◌, ◌^◌, ◌<◌, ◌≤◌, length, drop, All, slice_get};
+ghost use Rattle.std.specs.Prelude.{◌≡◌, ℕ, List, ◌+◌, ◌*◌, ◌^◌, ◌<◌, ◌≤◌, length, drop, All, slice_get};
+ghost use Rattle.ats_grammar.specs.Position.{AreDigests};
 ghost use Rattle.std.specs.Option.{option_copied};
 ghost use Rattle.ats_proof.specs.Parts.{parts_in, counted_in, counted_size};
 ghost use Rattle.ats_proof.specs.Reading.{digest_size, digest_in};
@@ -8,9 +9,9 @@ ghost use Rattle.ats_proof.specs.Reading.{digest_size, digest_in};
 use crate::bytes::{number_2, number_4};
 use ats_hash::Steps;
 
-/// The digests of a section that are left.
+/// The digests of a section, or of a file of another kind, that are left.
 #[derive(Clone, Copy)]
-pub(crate) struct DigestRun<'a> {
+pub struct DigestRun<'a> {
     pub(crate) left: u32,
     pub(crate) bytes: &'a [u8],
     pub ghost fits: { left * 32 ≤ length bytes.now },
@@ -54,8 +55,19 @@ pub(crate) fn counted_digests_4(bytes: &[u8]) -> (DigestRun<'_>, &[u8])
 impl<'a> DigestRun<'a> {
     ghost use Rattle.ats_proof.specs.Seen.{digests_of};
 
+    /// The digests that these bytes are, 32 bytes each.
+    pub fn of(bytes: &'a [u8]) -> DigestRun<'a>
+        requires { length bytes.now < 2 ^ 32 }
+        ensures digests { (count : ℕ) (all : List (List ℕ)) → AreDigests count bytes.now all → digests_of result ≡ all }
+    {
+        DigestRun {
+            left: (bytes.len() / 32) as u32,
+            bytes,
+        }
+    }
+
     /// Removes and returns the first digest left, `None` if none is left.
-    pub(crate) fn pass(&mut self, steps: &mut Steps) -> Option<&'a [u8]>
+    pub fn pass(&mut self, steps: &mut Steps) -> Option<&'a [u8]>
         requires { steps.old + 1 < 2 ^ 64 }
         ensures first { option_copied result ≡ slice_get (digests_of self.old) 0 }
         ensures passed { digests_of self.new ≡ drop 1 (digests_of self.old) }
@@ -72,7 +84,7 @@ impl<'a> DigestRun<'a> {
     }
 
     /// Each digest has 32 bytes.
-    pub(crate) fn are_sized(&self)
+    pub fn are_sized(&self)
         ensures { All (λ d. length d ≡ 32) (digests_of self.now) }
     {}
 }

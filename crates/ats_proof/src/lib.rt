@@ -28,6 +28,7 @@
 pub use ats_grammar::{Feeder, ShapeFault, ShapeKind};
 pub use cursor::ListCursor;
 pub use dict::DictView;
+pub use digests::DigestRun;
 pub use docs::{DocView, DocsView};
 pub use docs_cursor::DocsCursor;
 pub use laws::{
@@ -37,6 +38,7 @@ pub use laws::{
 pub use lists::{ListView, ListsView};
 pub use memory::OutOfMemory;
 pub use record::{Algorithm, Slot, TermLeaf};
+pub use shared_fields::{read_format, read_header};
 pub use terms::TermsView;
 pub use view::ProofView;
 pub use writer::ProofWriter;
@@ -56,6 +58,7 @@ mod packed;
 mod places;
 mod reading;
 mod record;
+mod shared_fields;
 mod sizes;
 mod terms;
 mod view;
