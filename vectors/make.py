@@ -2,9 +2,10 @@
 """Makes the files of this folder, and the copies that the gate plays: `vectors/make.py [PROGRAM]`, where PROGRAM is
 `./ats` at the top if it is not given.
 
-Roots and honest proofs come from the program. The changes of honest proofs, and the trees that no archive has, are
-made here. The expected results are those of `client.py`. If the program gives any other, this script stops and writes
-no further file. README.md explains the files. The script needs only Python's standard library.
+Roots and honest proofs of both formats come from the program. The roots, and the proofs of format Two, must be those
+that this script makes itself. The changes of honest proofs, and the trees that no archive has, are made here. The
+expected results are those of `client.py`. If the program gives any other, this script stops and writes no further
+file. README.md explains the files. The script needs only Python's standard library.
 """
 import copy
 import hashlib
@@ -52,6 +53,12 @@ class Program:
         """The bytes of the index, and the root in hexadecimal."""
         (self.folder / 'collection').write_text(json.dumps(texts), encoding='ascii')
         root = self.done('build', 'collection', 'index').strip()
+        return (self.folder / 'index').read_bytes(), root
+
+    def migrate(self, index):
+        """The bytes of the index of the same texts in format TWO, and the root in hexadecimal."""
+        (self.folder / 'index').write_bytes(index)
+        root = self.done('migrate', 'index', 'index').strip()
         return (self.folder / 'index').read_bytes(), root
 
     def rank(self, r, query):
@@ -181,11 +188,12 @@ def root_of_header(version, header):
 # Archives
 
 class Archive:
-    """What the bytes of an index of version ONE say, with all trees made again in the given version."""
+    """What the bytes of an index say, with all trees made again in the format of its version. Its root, which the
+    program has printed, must be the one that these trees give."""
 
-    def __init__(self, index, version=ONE):
+    def __init__(self, index, printed):
         self.index = index
-        self.version = version
+        self.version = index[4]
         self.at = 5
         self.texts = [self.take(self.number(4)) for _ in range(self.number(4))]
         self.lists = {}
@@ -194,7 +202,7 @@ class Archive:
             self.lists[term] = [(self.number(4), self.number(2)) for _ in range(self.number(4))]
         told = self.take(32).hex()
         self.make_trees()
-        if version == ONE and self.root != told:
+        if not self.root == told == printed:
             raise SystemExit('the root of this script is not the root of the program')
 
     def take(self, size):
@@ -229,6 +237,14 @@ class Archive:
         terms = self.documents[document]
         leaves = [(at, *terms[at]) for at in positions]
         return leaves, elided([terms_leaf(*leaf) for leaf in terms], positions)
+
+
+def migrated(program, archive):
+    """The same texts in format TWO. The bytes of the index may differ in the version and in the root alone."""
+    other = Archive(*program.migrate(archive.index))
+    if other.index != archive.index[:4] + number(TWO, 1) + archive.index[5:-32] + bytes.fromhex(other.root):
+        raise SystemExit('the program migrates otherwise than this script')
+    return other
 
 
 # Proofs
@@ -505,15 +521,23 @@ def honest(program, archives):
 
     for name, (archive, r, query) in QUESTIONS.items():
         for algorithm in ('tnra', 'tra'):
-            data = program.prove(archives[ONE][archive].index, algorithm, r, query)
-            tell(name, ONE, algorithm, data)
+            one, two = honest_in_both(program, archives, archive, algorithm, r, query)
+            tell(name, ONE, algorithm, one)
             if name in IN_BLOCKS:
-                tell(name, TWO, algorithm, in_blocks(data, archives[TWO][archive]).data())
+                tell(name, TWO, algorithm, two)
     return proofs
 
 
+def honest_in_both(program, archives, name, algorithm, r, query):
+    """The program's proofs of both formats. Only the lists' digests differ, and what follows from them."""
+    one, two = (program.prove(archives[version][name].index, algorithm, r, query) for version in (ONE, TWO))
+    if in_blocks(one, archives[TWO][name]).data() != two:
+        raise SystemExit(f'{name}, {algorithm}, {r}, {query}: the program proves otherwise in blocks than this script')
+    return one, two
+
+
 def in_blocks(data, archive):
-    """The same honest proof for this archive, whose lists are in blocks."""
+    """The honest proof of the same texts for this archive, whose lists are in blocks."""
     proof = Reader(data).proof()
     proof.version, proof.header = TWO, archive.header
     shown_leaves([leaf[0] for leaf in proof.leaves])(proof, archive)
@@ -550,7 +574,7 @@ WORDS = [
 
 def terms_of(program, text):
     """The terms of a text with their counts, read from the index of this one text."""
-    archive = Archive(program.build([text])[0])
+    archive = Archive(*program.build([text]))
     impacts = {1 + 22000 * count // (10 * count + 12): count for count in range(1, 50)}
     told = [(term, impacts[entries[0][1]]) for term, entries in sorted(archive.lists.items())]
     return [[term.decode(), count] for term, count in agreed(text, told, client.terms(text))]
@@ -571,8 +595,8 @@ NUMBERS = [
 def told_numbers(program, documents, having, count, others):
     """The score and the impact of a term: the program prints the score, and the impact is in its index."""
     with_term = ' '.join(['x'] * count + ['y'] * others)
-    index, _ = program.build([with_term] * having + ['y'] * (documents - having))
-    impact = Archive(index).lists[b'x'][0][1]
+    archive = Archive(*program.build([with_term] * having + ['y'] * (documents - having)))
+    impact = archive.lists[b'x'][0][1]
     score = int(program.rank(1, 'x').split()[2])
     length = count + others
     terms = having * length + documents - having
@@ -1436,7 +1460,7 @@ def large_proofs():
 def fronts(program, archives):
     """Proofs that show the first entries of a list of equal texts, in blocks. The best r texts need r entries."""
     def front(name, algorithm, r):
-        return in_blocks(program.prove(archives[ONE][name].index, algorithm, r, 'a'), archives[TWO][name])
+        return Reader(honest_in_both(program, archives, name, algorithm, r, 'a')[1]).proof()
 
     for algorithm in ('tnra', 'tra'):
         for r in (63, 64, 65, 128, 200):
@@ -1649,9 +1673,8 @@ def save(name, items):
 def main(words):
     with tempfile.TemporaryDirectory() as folder:
         program = Program(Path(words[0]).resolve() if words else TOP / 'ats', folder)
-        indexes = {name: program.build(texts)[0] for name, texts in COLLECTIONS.items()}
-        archives = {version: {name: Archive(index, version) for name, index in indexes.items()}
-                    for version in (ONE, TWO)}
+        built = {name: Archive(*program.build(texts)) for name, texts in COLLECTIONS.items()}
+        archives = {ONE: built, TWO: {name: migrated(program, one) for name, one in built.items()}}
         proofs = honest(program, archives)
         told = changed(program, archives, proofs)
         look_over(told)
