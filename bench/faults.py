@@ -25,6 +25,7 @@ import tracing
 from sockets import QUERY, REQUEST, ROW, TEXTS, framed, free_port
 
 ROOT = "297978110ffb580733eaf8938f9328114690e802ab3108a3bfabc34ba2db2490"
+ROOT_IN_BLOCKS = "2951f46d5980442cd63e807581d1fe33fdd82af7d29a0b4267f871c88b998e82"  # of the same texts
 NO_MEMORY = framed(b"\x01\x06")  # the reply if memory ran out for a proof
 BEFORE = b"before"  # the content of a file before another one is stored under its name
 
@@ -62,6 +63,8 @@ COMMANDS = [
     Command(["sweep", "I", "L"], "1 right 1\n"),
     Command(["ask", ROOT, "tnra", "1", QUERY, "ADDRESS"], ROW),
     Command(["serve", "I", "1", "ADDRESS"], "listening\n" + SERVED.format(1, "end")),
+    Command(["migrate", "I", "M"], ROOT_IN_BLOCKS + "\n", "M"),
+    Command(["migrate", "M", "N"], ROOT_IN_BLOCKS + "\n", "N"),  # an index in blocks is stored as it is
 ]
 
 
@@ -149,14 +152,15 @@ class Client(Peer):
 
 
 def build(program: str, folder: Path) -> House:
-    """The three short texts, their index and a proof, as the program makes them."""
+    """The three short texts, their indexes and a proof, as the program makes them."""
     (folder / "X").write_text(TEXTS, encoding="utf-8")
-    for words in (["build", "X", "I"], ["prove", "I", "tnra", "1", QUERY, "P"]):
+    made = [["build", "X", "I"], ["prove", "I", "tnra", "1", QUERY, "P"], ["migrate", "I", "M"], ["migrate", "M", "N"]]
+    for words in made:
         ended = tracing.run([program, *words], folder=str(folder))
         if ended.status != 0:
             sys.exit(f"{words[0]} ended with status {ended.status}: {ended.printed.decode()}")
     (folder / "L").write_text(f"1 P {QUERY}\n", encoding="utf-8")
-    files = {name: (folder / name).read_bytes() for name in "XIPL"}
+    files = {name: (folder / name).read_bytes() for name in "XIPLMN"}
     return House(program, folder, files, framed(b"\x00" + files["P"]))
 
 
@@ -404,17 +408,21 @@ def end_cases(command: Command) -> Iterator[Case]:
     yield Case([*links(command), f": end-fails {len(lines) + 1}"], command, command.answer)
 
 
+def reads_of(house: House, command: Command) -> int:
+    """How many calls read the files of a command, a byte in each and then their ends. A sweep also reads the proof of its list."""
+    read = [word for word in command.words if word in house.files and word != command.stores]
+    return sum(len(house.files[name]) + 1 for name in read + ["P"] * (command.name == "sweep"))
+
+
 def calls_in_memory(house: House, cases: str, folder: Path) -> bool:
     print("\nover objects in memory, a call of which fails, in pieces of one byte")
-    known = {command.name: command for command in COMMANDS}
-    texts_read, index_read, proof_read, list_read = (len(house.files[name]) + 1 for name in "XIPL")
-    reads = {"rank": texts_read, "build": texts_read, "root": index_read, "prove": index_read}
-    reads.update({"verify": proof_read, "audit": index_read + proof_read})
-    reads["sweep"] = index_read + list_read + proof_read
-    rows = [(name, "shelf", shelf_cases(house, known[name], count)) for name, count in reads.items()]
+    ends = {"ask": "caller", "serve": "door"}
+    linked = [command for command in COMMANDS if command.name in ends]
+    others = [command for command in COMMANDS if command.name not in ends]
+    rows = [(command.name, "shelf", shelf_cases(house, command, reads_of(house, command))) for command in others]
     rows += [(command.name, "sink", sink_cases(command)) for command in COMMANDS]
-    rows += [(name, "link", link_cases(house, known[name])) for name in ("ask", "serve")]
-    rows += [(name, end, end_cases(known[name])) for name, end in (("ask", "caller"), ("serve", "door"))]
+    rows += [(command.name, "link", link_cases(house, command)) for command in linked]
+    rows += [(command.name, ends[command.name], end_cases(command)) for command in linked]
     passed = True
     for name, what, some in rows:
         blocks = [block(house, case, 1) for case in some]

@@ -3,11 +3,12 @@
 usage: python3 bench/limits.py [PROGRAM]
 
 PROGRAM is the program; without it, it is proved and built if needed. Makes collections at the limits (65,536
-documents, texts of 2^20 bytes, 16 MiB of text), answers queries of up to 32 terms with up to 1,000 rows over them, and
-gives the program files that promise more than they hold, nest deeply or are as long as they may be. Prints for each run
-its status, its first line, its seconds and the most memory that it held, and whether that is as it should be. At the
-limits memory suffices: no run ends with status 6. A hostile file is refused in memory proportional to its length, at
-most the amount in its row. Ends with status 0 if all is as it should be. Needs 4 GiB of memory and 3 GiB of disk.
+documents, texts of 2^20 bytes, 16 MiB of text), migrates their indexes, answers queries of up to 32 terms with up to
+1,000 rows in both formats, and gives the program files that promise more than they hold, nest deeply or are as long as
+they may be. Prints for each run its status, its first line, its seconds and the most memory that it held, and whether
+that is as it should be. At the limits memory suffices: no run ends with status 6. A hostile file is refused in memory
+proportional to its length, at most the amount in its row. Ends with status 0 if all is as it should be. Needs 4 GiB of
+memory and 3 GiB of disk.
 """
 
 import json
@@ -125,11 +126,22 @@ def answers(table: Table, name: str, index: str, root: str, query: str, best: li
             ask(table, f"{name}: ask by {algorithm}", index, root, algorithm, query, rows)
 
 
+def migrate(table: Table, name: str) -> str:
+    """Migrates the index I to M, reads M, and migrates it again, which leaves its bytes. Returns its root."""
+    root = table.wanted(f"{name}: migrate", ["migrate", "I", "M"], rows=1).lines[0]
+    table.wanted(f"{name}, in blocks: root", ["root", "M"], first=root)
+    table.wanted(f"{name}, in blocks: migrate", ["migrate", "M", "N"], first=root)
+    table.same("the bytes of both migrated indexes", (table.folder / "N").read_bytes(), (table.folder / "M").read_bytes())
+    (table.folder / "N").unlink()
+    return root
+
+
 def most_text(table: Table) -> None:
     words = corpora.vocabulary(corpora.SHAPES["notes"].vocabulary)
     corpora.write(str(table.folder / "X"), corpora.SHAPES["notes"], corpora.MAX_TEXTS)
     root = table.wanted("16 MiB of notes: build", ["build", "X", "I"]).lines[0]
     table.wanted("16 MiB of notes: root", ["root", "I"], first=root)
+    in_blocks = migrate(table, "16 MiB of notes")
     for name, query, algorithms, served in (
         ("16 MiB of notes, 2 terms", " ".join(words[:2]), ("tnra", "tra"), True),
         ("16 MiB of notes, 32 terms", " ".join(words[:32]), ("tnra",), True),
@@ -137,6 +149,8 @@ def most_text(table: Table) -> None:
     ):
         best = table.wanted(f"{name}: rank", ["rank", "X", str(ROWS), query]).lines
         answers(table, name, "I", root, query, best, algorithms, served)
+        if len(algorithms) == 2:
+            answers(table, f"{name}, in blocks", "M", in_blocks, query, best, algorithms, served)
     table.wanted("16 MiB of notes, 33 terms: rank", ["rank", "X", "1", " ".join(words[:33])], 4, "input: query of 33 terms")
 
 
@@ -146,6 +160,8 @@ def most_documents(table: Table) -> None:
     query = " ".join(letter + "c" for letter in too_long.LETTERS[:10])
     best = table.wanted("65,536 documents, 10 terms: rank", ["rank", "X", str(ROWS), query], rows=ROWS).lines
     answers(table, "65,536 documents, 10 terms", "I", root, query, best, ("tra",), True)
+    in_blocks = migrate(table, "65,536 documents")
+    answers(table, "65,536 documents, 10 terms, in blocks", "M", in_blocks, query, best, ("tra",), False)
 
 
 def longest_texts(table: Table) -> None:
@@ -154,6 +170,8 @@ def longest_texts(table: Table) -> None:
     root = table.wanted("16 texts of 2^20 bytes: build", ["build", "X", "I"]).lines[0]
     best = table.wanted("16 texts of 2^20 bytes: rank", ["rank", "X", str(ROWS), "w7 w70000"], rows=16).lines
     answers(table, "16 texts of 2^20 bytes", "I", root, "w7 w70000", best, ("tnra", "tra"), True)
+    in_blocks = migrate(table, "16 texts of 2^20 bytes")
+    answers(table, "16 texts of 2^20 bytes, in blocks", "M", in_blocks, "w7 w70000", best, ("tnra", "tra"), False)
     (table.folder / "X").write_text(json.dumps([text + "x"]), encoding="utf-8")
     table.wanted("a text of 2^20 + 1 bytes: build", ["build", "X", "N"], 4, "input: text 0 too long")
 
@@ -194,6 +212,7 @@ def collections() -> Iterator[Hostile]:
 
 
 FRONT = b"ATSI\x01"
+IN_BLOCKS = b"ATSI\x02"
 
 
 def number(value: int) -> bytes:
@@ -210,8 +229,10 @@ def indexes() -> Iterator[Hostile]:
     yield Hostile("an index of a term of 2^32 - 1 entries", terms, "input: index at 20")
     yield Hostile("an index of 2^29 bytes of nothing", repeated(b"", b"\0", b"", MAX_INDEX), "input: index at 0")
     yield Hostile("an index of 2^29 + 1 bytes", repeated(b"", b"\0", b"", MAX_INDEX + 1), f"input: longer than {MAX_INDEX}")
-    behind = FRONT + number(1) + number(1) + b"a"
-    yield Hostile("a text and 2^29 bytes behind it", repeated(behind, b"\0", b"", MAX_INDEX), "input: index at 17")
+    yield Hostile("an index in blocks of 65,536 texts with none of them", IN_BLOCKS + number(65_536), "input: index at 9")
+    for says, front in (("a text and 2^29 bytes behind it", FRONT), ("the same in blocks", IN_BLOCKS)):
+        text = front + number(1) + number(1) + b"a"
+        yield Hostile(says, repeated(text, b"\0", b"", MAX_INDEX), "input: index at 17")
 
 
 HEADER = b"\x01" + number(65_536) + number(16_777_218) + b"\xaa" * 96
@@ -261,20 +282,22 @@ def greatest() -> Iterator[Hostile]:
 
 
 def hostile_files(table: Table) -> None:
-    words: list[tuple[Callable[[], Iterator[Hostile]], list[str], int]] = [
-        (collections, ["rank", "H", "1", "a"], 4),
-        (indexes, ["root", "H"], 4),
-        (greatest, ["verify", NO_ROOT, "1000", " ".join(f"q{at}" for at in range(32)), "H"], 1),
+    words: list[tuple[Callable[[], Iterator[Hostile]], list[list[str]], int]] = [
+        (collections, [["rank", "H", "1", "a"]], 4),
+        (indexes, [["root", "H"], ["migrate", "H", "N"]], 4),
+        (greatest, [["verify", NO_ROOT, "1000", " ".join(f"q{at}" for at in range(32)), "H"]], 1),
     ]
     path = table.folder / "H"
-    for kinds, command, status in words:
+    for kinds, commands, status in words:
         for one in kinds():
             with open(path, "wb") as file:
                 for piece in [one.pieces] if isinstance(one.pieces, bytes) else one.pieces:
                     file.write(piece)
             length = path.stat().st_size
-            table.wanted(f"{command[0]}: {one.says}", command, status, one.first, peak=16 * MIB + one.times * length)
+            for command in commands:
+                table.wanted(f"{command[0]}: {one.says}", command, status, one.first, peak=16 * MIB + one.times * length)
     path.unlink()
+    table.same("no file, and what a refused index leaves,", (table.folder / "N").exists(), False)
 
 
 def hostile_peers(table: Table) -> None:

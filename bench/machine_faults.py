@@ -29,7 +29,8 @@ import measure
 import tracing
 from sockets import QUERY, REQUEST, ROW, TEXTS, Differs, Skipped, expect, framed, free_port
 
-ROOT = "297978110ffb580733eaf8938f9328114690e802ab3108a3bfabc34ba2db2490"
+ROOT = faults.ROOT
+ROOT_IN_BLOCKS = faults.ROOT_IN_BLOCKS
 WAIT = 5  # seconds after which a command that waits is ended
 LIMIT = 120
 KILLS = 60
@@ -42,13 +43,25 @@ KILLED = -signal.SIGKILL
 
 
 class House(NamedTuple):
-    """The program in a folder that anyone may enter, three short texts, and a larger collection."""
+    """The program in a folder that anyone may enter, three short texts, and a larger collection. Of both the index, and
+    the migrated one; of the short texts also a proof."""
 
     program: str
     folder: Path
     index: bytes
+    blocks: bytes
     proof: bytes
     large_index: bytes
+    large_blocks: bytes
+
+    def stored(self, words: list[str]) -> bytes:
+        """What the words of a command store."""
+        if words[0] == "prove":
+            return self.proof
+        is_large = words[1] in ("LARGE", "L")
+        if words[0] == "build":
+            return self.large_index if is_large else self.index
+        return self.large_blocks if is_large else self.blocks
 
 
 class Done(NamedTuple):
@@ -76,15 +89,18 @@ def build(program: str, folder: Path) -> House:
     os.chmod(own, 0o755)
     (folder / "X").write_text(TEXTS, encoding="utf-8")
     corpora.write(str(folder / "LARGE"), corpora.SHAPES["notes"], LARGE)
-    house = House(own, folder, b"", b"", b"")
+    house = House(own, folder, b"", b"", b"", b"", b"")
     for words, printed in (
         (["build", "X", "I"], ROOT + "\n"),
+        (["migrate", "I", "M"], ROOT_IN_BLOCKS + "\n"),
         (["prove", "I", "tnra", "1", QUERY, "P"], "proof 365\n"),
         (["build", "LARGE", "L"], None),
+        (["migrate", "L", "LM"], None),
     ):
         done = run(house, *words)
         expect(" ".join(words), (done.status, printed or done.printed), (0, done.printed))
-    return house._replace(index=(folder / "I").read_bytes(), proof=(folder / "P").read_bytes(), large_index=(folder / "L").read_bytes())
+    index, blocks, proof, large_index, large_blocks = ((folder / name).read_bytes() for name in ("I", "M", "P", "L", "LM"))
+    return House(own, folder, index, blocks, proof, large_index, large_blocks)
 
 
 def left(path: Path, whole: bytes, before: Optional[bytes] = None) -> str:
@@ -104,8 +120,9 @@ def left(path: Path, whole: bytes, before: Optional[bytes] = None) -> str:
 def refused_prefix(house: House, path: Path, what: str, is_index: bool) -> None:
     """Every reader refuses a prefix."""
     if is_index:
-        done = run(house, "root", str(path))
-        expect(f"root of {what}", (done.status, done.printed.startswith("input: index at ")), (4, True))
+        for words in (["root", str(path)], ["migrate", str(path), str(path)]):
+            done = run(house, *words)
+            expect(f"{words[0]} of {what}", (done.status, done.printed.startswith("input: index at ")), (4, True))
     else:
         done = run(house, "verify", ROOT, "1", QUERY, str(path))
         expect(f"verify of {what}", (done.status, done.printed.startswith("refused: shape cut ")), (1, True))
@@ -118,7 +135,12 @@ COMMANDS = [
     (["prove", "I", "tnra", "1", QUERY, "N"], "proof 365\n"),
     (["verify", ROOT, "1", QUERY, "P"], ROW),
     (["audit", "I", "1", QUERY, "P"], ROW),
+    (["migrate", "I", "N"], ROOT_IN_BLOCKS + "\n"),
 ]
+
+# The commands that store, each over a large file and over a small one.
+STORES = [["build", "LARGE"], ["migrate", "L"], ["prove", "I", "tnra", "1", QUERY]]
+SMALL_STORES = [["build", "X"], ["migrate", "I"], ["prove", "I", "tnra", "1", QUERY]]
 
 
 def every_command(house: House, wanted: Done, **how: object) -> str:
@@ -129,8 +151,8 @@ def every_command(house: House, wanted: Done, **how: object) -> str:
         done = run(house, *words, **how)
         expect(" ".join(words[:1]), done, wanted)
         if "N" in words:
-            expect(f"{words[0]} leaves", left(new, house.index if words[0] == "build" else house.proof), "the whole file")
-    return f"status {wanted.status}, {wanted.printed!r}; build and prove leave the whole file"
+            expect(f"{words[0]} leaves", left(new, house.stored(words)), "the whole file")
+    return f"status {wanted.status}, {wanted.printed!r}; build, prove and migrate leave the whole file"
 
 
 def output_full(house: House) -> str:
@@ -172,13 +194,13 @@ def reader_output_closed(house: House) -> str:
     return "status 7; the server gets the request alone"
 
 
-def stores_into(house: House, path: Path, whole: bytes, words: list[str], **how: object) -> str:
+def stores_into(house: House, path: Path, words: list[str], **how: object) -> str:
     """A store that does not end: what is reported, what is left, and that it is refused."""
     before = path.read_bytes() if path.exists() else None
-    done = run(house, *words, **how)
-    what = left(path, whole, before)
+    done = run(house, *words, str(path), **how)
+    what = left(path, house.stored(words), before)
     if what.startswith(("a prefix", "an empty")):
-        refused_prefix(house, path, what, words[0] == "build")
+        refused_prefix(house, path, what, words[0] != "prove")
         what += ", which is refused where it is read"
     return f"{words[0]}: status {done.status}, {done.printed!r}, leaves {what}"
 
@@ -192,10 +214,13 @@ def full_disk(house: House) -> str:
     if mounted.returncode != 0:
         raise Skipped(f"no disk can be mounted here: {mounted.stderr.decode().strip()}")
     try:
-        said = [stores_into(house, disk / "L", house.large_index, ["build", "LARGE", str(disk / "L")])]
-        expect("the prefix", (disk / "L").read_bytes(), house.large_index[:DISK])
-        said.append(stores_into(house, disk / "P", house.proof, ["prove", "I", "tnra", "1", QUERY, str(disk / "P")]))
-        expect("the empty proof", (disk / "P").read_bytes(), b"")
+        said = []
+        for words in STORES:
+            path, room = disk / words[0], DISK - sum(each.stat().st_size for each in disk.iterdir())
+            said.append(stores_into(house, path, words))
+            expect("the prefix", path.read_bytes(), house.stored(words)[:room])
+            if words[0] == "build":
+                path.unlink()  # so that the next one has room
     finally:
         subprocess.run(["umount", str(disk)], check=True)
         disk.rmdir()
@@ -217,12 +242,10 @@ def long_file(house: House) -> str:
     """A file that may not grow further, with the system's signal for that ignored, and with the signal in effect."""
     path, said = house.folder / "N", []
     for handler, status in ((signal.SIG_IGN, "3, 'fault: shelf\\n'"), (signal.SIG_DFL, f"{-signal.SIGXFSZ}, ''")):
-        for words, whole, length in (
-            (["build", "LARGE", "N"], house.large_index, 100_000),
-            (["prove", "I", "tnra", "1", QUERY, "N"], house.proof, 100),
-        ):
+        for words in STORES:
+            length = 100 if words[0] == "prove" else 100_000
             path.write_bytes(BEFORE)
-            one = stores_into(house, path, whole, words, preexec_fn=limited(length, handler), restore_signals=False)
+            one = stores_into(house, path, words, preexec_fn=limited(length, handler), restore_signals=False)
             expect(words[0], f"status {status}," in one, True)
             said.append(f"{one} ({'signal ignored' if handler == signal.SIG_IGN else 'ended by the signal'})")
     return "; ".join(said)
@@ -236,10 +259,11 @@ def not_a_file(house: House) -> str:
     folder = house.folder / "folder"
     folder.mkdir(exist_ok=True)
     for name in ("folder", "X/below", "a" * 300, "nowhere/file", ""):
-        for words in (["rank", name, "1", QUERY], ["root", name], ["verify", ROOT, "1", QUERY, name], ["audit", "I", "1", QUERY, name]):
+        of_index = [["root", name], ["migrate", name, name]]
+        for words in (["rank", name, "1", QUERY], *of_index, ["verify", ROOT, "1", QUERY, name], ["audit", "I", "1", QUERY, name]):
             expect(f"{words[0]} of {name[:9]!r}", run(house, *words), FAULT)
-        for words in (["build", "X", name], ["prove", "I", "tnra", "1", QUERY, name]):
-            expect(f"{words[0]} into {name[:9]!r}", run(house, *words), FAULT)
+        for words in SMALL_STORES:
+            expect(f"{words[0]} into {name[:9]!r}", run(house, *words, name), FAULT)
     expect("the folder", list(folder.iterdir()), [])
     folder.rmdir()
     return "status 3, 'fault: shelf'; nothing is changed"
@@ -258,7 +282,7 @@ def permissions(house: House) -> str:
     hidden.chmod(0)
     fixed.chmod(0o444)
     expect("rank of what may not be read", run(house, "rank", "hidden", "1", QUERY, **how), FAULT)
-    for words in (["build", "X"], ["prove", "I", "tnra", "1", QUERY]):
+    for words in SMALL_STORES:
         expect(f"{words[0]} into what may not be written", run(house, *words, "open/fixed", **how), FAULT)
         if how:
             expect(f"{words[0]} into a folder of others", run(house, *words, "other", **how), FAULT)
@@ -304,7 +328,8 @@ def devices(house: House) -> str:
     expect("root of /dev/null", run(house, "root", "/dev/null"), Done(4, "input: index at 0\n"))
     expect("rank of /dev/zero", run(house, "rank", "/dev/zero", "1", QUERY), Done(4, "input: longer than 67108864\n"))
     expect("verify of /dev/zero", run(house, "verify", ROOT, "1", QUERY, "/dev/zero"), Done(1, "refused: shape long 67108864\n"))
-    expect("build into /dev/full", run(house, "build", "X", "/dev/full"), FAULT)
+    for words in SMALL_STORES:
+        expect(f"{words[0]} into /dev/full", run(house, *words, "/dev/full"), FAULT)
     return "/dev/null is an empty file, /dev/zero one that is too long, /dev/full a full disk"
 
 
@@ -321,6 +346,7 @@ def changes(house: House) -> str:
     for words, whole, answer in (
         (["rank", "C", "1", QUERY], TEXTS.encode(), ROW),
         (["root", "C"], house.index, ROOT + "\n"),
+        (["migrate", "C", "N"], house.index, ROOT_IN_BLOCKS + "\n"),
         (["verify", ROOT, "1", QUERY, "C"], house.proof, ROW),
     ):
         for kind, change in kinds.items():
@@ -340,24 +366,26 @@ def changes(house: House) -> str:
                     }
                     expect(f"{words[0]} of a file {kind} before call {call}, {ended}", fits.get(ended.status or 0, False), True)
                     counts[ended.status] = counts.get(ended.status, 0) + 1
-    path.unlink(missing_ok=True)
+    for name in ("C", "N"):
+        (house.folder / name).unlink(missing_ok=True)
     told = ", ".join(f"{count} with status {status}" for status, count in sorted(counts.items()))
     return f"{sum(counts.values())} runs: {told}; what was read is judged as it was read"
 
 
 def killed_at_each_call(house: House) -> str:
     """`kill -9` before each of the program's calls in turn, in pieces of one byte."""
-    path, found, refused = house.folder / "N", {}, set()
-    for words, whole in ((["build", "X", "N"], house.index), (["prove", "I", "tnra", "1", QUERY, "N"], house.proof)):
+    path, found = house.folder / "N", {}
+    for words in SMALL_STORES:
+        refused = set()
         for call in range(1, 1 << 20):
             path.write_bytes(BEFORE)
-            ended = tracing.run([house.program, *words], tracing.Plan(call=call, pieces=True, kill=True), str(house.folder))
+            ended = tracing.run([house.program, *words, "N"], tracing.Plan(call=call, pieces=True, kill=True), str(house.folder))
             if not ended.failed:
                 break
             expect("status", ended.status, KILLED)
-            what = left(path, whole, BEFORE)
+            what = left(path, house.stored(words), BEFORE)
             if what.startswith(("a prefix", "an empty")) and what not in refused:
-                refused_prefix(house, path, what, words[0] == "build")
+                refused_prefix(house, path, what, words[0] != "prove")
                 refused.add(what)
             kind = " ".join(what.split()[:2])
             found[kind] = found.get(kind, 0) + 1
@@ -371,15 +399,18 @@ def wait_for_store(path: Path, process: "subprocess.Popen[bytes]") -> None:
 
 
 def killed_at_random(house: House) -> str:
-    """`kill -9` at random times over a larger index: a third within the whole run, the others just after the store began."""
-    path, found, rng = house.folder / "N", {}, random.Random(corpora.SEED)
-    path.unlink(missing_ok=True)
-    start = time.monotonic()
-    root = run(house, "build", "LARGE", "N").printed
-    seconds = time.monotonic() - start
+    """`kill -9` at random times of `build` and `migrate` over a larger index, in turn: a third within the whole run, the
+    others just after the store began."""
+    path, found, rng, whole_runs = house.folder / "N", {}, random.Random(corpora.SEED), []
+    for words in STORES[:2]:
+        path.unlink(missing_ok=True)
+        start = time.monotonic()
+        root = run(house, *words, "N").printed
+        whole_runs.append((words, root, time.monotonic() - start))
     for turn in range(KILLS):
+        words, root, seconds = whole_runs[turn % 2]
         path.write_bytes(BEFORE)
-        process = subprocess.Popen([house.program, "build", "LARGE", "N"], stdout=subprocess.PIPE, cwd=house.folder)
+        process = subprocess.Popen([house.program, *words, "N"], stdout=subprocess.PIPE, cwd=house.folder)
         if turn % 3 == 0:
             time.sleep(rng.uniform(0, seconds))
         else:
@@ -387,7 +418,7 @@ def killed_at_random(house: House) -> str:
             time.sleep(rng.uniform(0, 0.002))
         process.kill()
         printed = process.communicate()[0].decode()
-        what = left(path, house.large_index, BEFORE)
+        what = left(path, house.stored(words), BEFORE)
         if what.startswith(("a prefix", "an empty")):
             refused_prefix(house, path, what, True)
         elif what == "the whole file":
@@ -413,8 +444,8 @@ TRIES: list[tuple[str, Callable[[House], str]]] = [
     ("a pipe in place of a file", pipes),
     ("a device in place of a file", devices),
     ("a file that changes while it is read", changes),
-    ("kill -9 before each call of build and prove", killed_at_each_call),
-    ("kill -9 at random times of a larger build", killed_at_random),
+    ("kill -9 before each call of build, migrate and prove", killed_at_each_call),
+    ("kill -9 at random times of a larger build and of its migration", killed_at_random),
 ]
 
 
