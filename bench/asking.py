@@ -1,14 +1,17 @@
 """Runs a server over loopback as a process of its own, and times requests over an open connection to it."""
 
+import contextlib
 import socket
 import struct
 import subprocess
 import sys
 import threading
 import time
-from typing import NamedTuple
+from typing import Iterator, NamedTuple
 
 CODES = {"tra": 1, "tnra": 2}  # of the algorithms in a request
+
+HEAD = 5  # bytes of a reply before its proof: a length and a kind
 
 RUNS = 5  # of each query; the fastest counts
 LOADING = 600  # seconds after which a server must listen
@@ -41,7 +44,7 @@ def receive(link: socket.socket, room: memoryview) -> int:
 
 def reply(link: socket.socket, asked: bytes) -> Reply:
     """The reply to a request over an open connection."""
-    head = bytearray(5)
+    head = bytearray(HEAD)
     start = time.perf_counter()
     link.sendall(asked)
     receive(link, memoryview(head))
@@ -79,3 +82,16 @@ def started(program: str, index: str, connections: int, address: tuple[str, int]
     # Its later output is read, so that it never blocks on that.
     threading.Thread(target=server.stdout.read).start()
     return server
+
+
+@contextlib.contextmanager
+def served(program: str, index: str) -> Iterator[socket.socket]:
+    """An open connection to a server of the index, which ends with it."""
+    address = free_address()
+    server = started(program, index, 1, address)
+    try:
+        with socket.create_connection(address, timeout=LIMIT) as link:
+            yield link
+        server.wait(LIMIT)
+    finally:
+        server.kill()

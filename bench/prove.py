@@ -2,11 +2,10 @@
 
 Prints, for each algorithm and number of rows, the longest walk and the largest ratio of a walk to going
 through the same entries once while summing into an ordered map; how the longest walk grows from 4 to 16 MiB;
-and what a proof takes compared with loading the index, from a request to a server until its last byte has arrived. Ends
-with status 0 if all limits are met.
+and what a proof takes compared with loading the index, from a request to a server until its last byte has arrived, in both
+formats of lists. Ends with status 0 if all limits are met.
 """
 
-import socket
 import sys
 import tempfile
 from pathlib import Path
@@ -32,6 +31,8 @@ GROWTH = 5.0
 PROVED = (7, 8)
 PROVED_ROWS = 10
 PROVED_MS = {"tra": 20.0, "tnra": 5.0}
+PROOFS = 20  # from each server, in turn; the fastest counts
+IN_BLOCKS = 1.05  # the time of a proof in format Two over that of the same query in format One
 
 # Walks that take less than this are not compared: the clock's own time is in them.
 LEAST = 0.001
@@ -82,23 +83,23 @@ def judge_rows(algorithm: str, rows: int, mib: int, found: list[Walk]) -> bool:
 
 
 def judge_proofs(program: str, folder: str) -> bool:
-    """A proof by each algorithm over the larger collection, from a server that has loaded its index."""
-    collection, index = (str(Path(folder) / name) for name in ("collection", "index"))
+    """A proof by each algorithm over the larger collection, from a server that has loaded its index, and from one that has
+    loaded the migrated index."""
+    collection, index, migrated = (str(Path(folder) / name) for name in ("collection", "index", "migrated"))
     corpora.write(collection, SHAPE, SIZES[-1] * corpora.MIB)
     measure.run([program, "build", collection, index])
+    measure.run([program, "migrate", index, migrated])
     words = corpora.vocabulary(SHAPE.vocabulary)
     query = " ".join(words[place] for place in PROVED)
-    address = asking.free_address()
-    server = asking.started(program, index, 1, address)
     met = True
-    try:
-        with socket.create_connection(address, timeout=asking.LIMIT) as link:
-            for algorithm, wanted in PROVED_MS.items():
-                proof = asking.fastest(link, asking.request(algorithm, PROVED_ROWS, query))
-                met &= measure.judge(f"{algorithm}, a proof of {proof.length - 5} bytes: ms", proof.seconds * 1e3, wanted)
-        server.wait(asking.LIMIT)
-    finally:
-        server.kill()
+    with asking.served(program, index) as link, asking.served(program, migrated) as other:
+        for algorithm, wanted in PROVED_MS.items():
+            asked = asking.request(algorithm, PROVED_ROWS, query)
+            turns = [(asking.reply(link, asked), asking.reply(other, asked)) for _ in range(PROOFS)]
+            proof, in_blocks = (min(replies, key=lambda one: one.seconds) for replies in zip(*turns))
+            name, other_name = (f"{algorithm}, a proof of {one.length - asking.HEAD} bytes" for one in (proof, in_blocks))
+            met &= measure.judge(f"{name}: ms", proof.seconds * 1e3, wanted)
+            met &= measure.judge(f"{other_name}, in blocks: over the other", in_blocks.seconds / proof.seconds, IN_BLOCKS)
     return met
 
 

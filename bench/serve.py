@@ -44,9 +44,9 @@ def sent_by_python(length: int) -> float:
     with link, other:
         sender = threading.Thread(target=other.sendall, args=(bytes(length),))
         sender.start()
-        asking.receive(link, memoryview(bytearray(5)))
+        asking.receive(link, memoryview(bytearray(asking.HEAD)))
         start = time.perf_counter()
-        asking.receive(link, memoryview(bytearray(length - 5)))
+        asking.receive(link, memoryview(bytearray(length - asking.HEAD)))
         seconds = time.perf_counter() - start
         sender.join()
     return seconds

@@ -4,9 +4,9 @@ usage: python3 bench/verify.py
 
 Prints, for queries of few and of many matches over 16 MiB of text, the bytes of the proof by each algorithm
 and number of rows; for ten rows also what one check takes, the ratio of that to the time of the digests that it makes,
-and the ratio of an audit to a check, without loading the index. For ten rows it also prints the bytes of the proof over
-the migrated index, the ratio of its check to the other one, and that of its audit to its check. Ends with status 0 if the
-first ratio is within its limit for each long TRA proof, and the others for each proof, and else with 1.
+and the ratio of an audit to a check, without loading the index. It also prints the bytes of each proof over the migrated
+index, and for ten rows the ratio of its check to the other one, and that of its audit to its check. Ends with status 0 if
+the first ratio is within its limit for each long TRA proof, and the others for each proof, and else with 1.
 """
 
 import sys
@@ -150,18 +150,16 @@ def measured(program: str, bench: str, index: Path, blocks: Path, name: str, que
     met = True
     for algorithm in ALGORITHMS:
         for rows in ROWS:
-            proved = prove(program, index, algorithm, rows, query)
-            print(f"{name}, {algorithm}, {rows} rows: {proved.size():,} bytes")
+            proved, in_blocks = (prove(program, each, algorithm, rows, query) for each in (index, blocks))
+            print(f"{name}, {algorithm}, {rows} rows: {proved.size():,} bytes, in blocks {in_blocks.size():,}")
             if rows != TIMED_ROWS:
                 continue
-            in_blocks = prove(program, blocks, algorithm, rows, query)
             over, over_one = ratios(bench, proved, in_blocks)
             if algorithm == "tra" and proved.size() >= LONG:
                 met &= measure.judge("    check / digests", over, WANTED)
             else:
                 print(f"    check / digests: {over:.2f}")
             met &= measure.judge("    audit / check", audit_ratio(bench, index, proved), AUDIT_WANTED)
-            print(f"    in blocks: {in_blocks.size():,} bytes")
             met &= measure.judge("    check in blocks / check", over_one, BLOCKS_WANTED)
             met &= measure.judge("    audit / check, in blocks", audit_ratio(bench, blocks, in_blocks), AUDIT_WANTED)
     return met

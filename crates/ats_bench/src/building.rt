@@ -1,10 +1,11 @@
-//! The index of some texts, built by one thread and by several, and loaded.
+//! The index of some texts, built by one thread and by several, and loaded, in both formats of lists.
 
 use crate::walking::micros;
 use ats_base::Bytes;
 use ats_hash::Sha;
 use ats_impact::{Collection, Texts};
 use ats_index::Index;
+use ats_lists::Format;
 use std::fs;
 use std::thread::Threads;
 use std::time::Instant;
@@ -31,16 +32,25 @@ fn time_build(
     rt: &HostRuntime,
     threads: &(impl Threads + Sync),
     texts: &str,
+    format: Format,
 ) -> Option<(u128, Bytes)> {
     let collection = collection(rt, texts)?;
     let start = Instant::now(rt).ok()?;
-    let index = Index::<Sha>::build(threads, rt.alloc(), collection).ok()?;
+    let index = Index::<Sha>::build_in(threads, rt.alloc(), collection, format).ok()?;
     let built = micros(rt, &start)?;
     Some((built, index.bytes().ok()?))
 }
 
-/// Builds the index of the texts of a file, one a line, by one thread and by several, and loads its bytes, `times`
-/// times each. Prints a line each time with the microseconds of the three. Returns how many bytes an index has.
+// The microseconds of one load.
+fn time_load(rt: &HostRuntime, threads: &(impl Threads + Sync), bytes: &Bytes) -> Option<u128> {
+    let start = Instant::now(rt).ok()?;
+    let _index = Index::<Sha>::load(threads, rt.alloc(), bytes.as_slice()).ok()?;
+    micros(rt, &start)
+}
+
+/// Builds the index of the texts of a file, one a line, by one thread and by several, and loads its bytes; then builds
+/// the index in blocks by several threads, and loads that; `times` times each. Prints a line each time with the
+/// microseconds of the five. Returns how many bytes an index has, which is the same in both formats.
 pub(crate) fn time_builds(
     rt: &HostRuntime,
     threads: &(impl Threads + Sync),
@@ -50,11 +60,11 @@ pub(crate) fn time_builds(
     let mut size: u64 = 0;
     for _time in 0..times {
         let plain = time_plain(rt, texts)?;
-        let (built, bytes) = time_build(rt, threads, texts)?;
-        let start = Instant::now(rt).ok()?;
-        let _index = Index::<Sha>::load(threads, rt.alloc(), bytes.as_slice()).ok()?;
-        let loaded = micros(rt, &start)?;
-        println!(rt; "{plain} {built} {loaded}").ok()?;
+        let (built, bytes) = time_build(rt, threads, texts, Format::One)?;
+        let loaded = time_load(rt, threads, &bytes)?;
+        let (blocks, bytes) = time_build(rt, threads, texts, Format::Two)?;
+        let blocks_loaded = time_load(rt, threads, &bytes)?;
+        println!(rt; "{plain} {built} {loaded} {blocks} {blocks_loaded}").ok()?;
         size = bytes.len() as u64;
     }
     Some(size)

@@ -14,8 +14,9 @@
 //!   number of digests.
 //! - `audit INDEX ROWS QUERY PROOF TIMES` checks the proof of a file TIMES times and audits it against the index of
 //!   another file. It prints for each time the microseconds of the check and of the audit.
-//! - `build TEXTS TIMES` builds the index of a file's texts, one a line, by one thread and by several, and loads it,
-//!   TIMES times. It prints for each time the microseconds of the three.
+//! - `build TEXTS TIMES` builds the index of a file's texts, one a line, by one thread and by several, and loads it; then
+//!   it builds the index in blocks by several threads, and loads that; TIMES times. It prints for each time the
+//!   microseconds of the five.
 //! - `blocks TIMES` rebuilds and keeps a list of 65,536 entries in blocks, TIMES times. It prints for each time the
 //!   microseconds of 4,000 fronts of one entry and of their strings, of the whole list in blocks and as one tree, and of
 //!   the digests kept and of as many strings.
