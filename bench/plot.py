@@ -128,8 +128,8 @@ class Axis(NamedTuple):
 
 BY_ROWS = Axis([(1, "1"), (10, "10"), (100, "100"), (1000, "1,000")])
 BY_LIST = Axis([(1, "1"), (100, "100"), (10_000, "10,000"), (60_000, "")])
-BYTES = Axis([(100, "100"), (1000, "1 kB"), (10_000, "10 kB"), (100_000, "100 kB"), (1_000_000, "1 MB"), (10_000_000, "10 MB")])
-FEW_BYTES = Axis([(0, "0"), (1000, "1 kB"), (2000, "2 kB"), (3000, "3 kB")], False)
+BYTES = Axis([(1000, "1 kB"), (10_000, "10 kB"), (100_000, "100 kB"), (1_000_000, "1 MB"), (10_000_000, "10 MB")])
+FEW_BYTES = Axis([(0, "0"), (500, "500"), (1000, "1 kB"), (1500, "1.5 kB"), (2000, "2 kB")], False)
 
 
 class Panel(NamedTuple):
@@ -196,20 +196,27 @@ def spread(wanted: list[float]) -> list[float]:
 
 def curves(panel: Panel, shapes: dict[str, list[Point]]) -> Iterator[str]:
     """A wide line in format One and a thin one in format Two for each shape, and its name at its end."""
-    ends = {}
+    ends, right = {}, panel.left + PANEL_WIDTH
     for name, points in shapes.items():
         one = [panel.place(point.at, point.one) for point in points]
         two = [panel.place(point.at, point.two) for point in points]
         yield line(f"one {name}", one)
         yield line(f"two {name}", two)
-        ends[name] = (one[-1][0], (one[-1][1] + two[-1][1]) / 2)
-    last = max(x for x, _ in ends.values())
-    early = {name: end for name, end in ends.items() if end[0] < last - PANEL_WIDTH / 4}
-    late = {name: end for name, end in ends.items() if name not in early}
-    for name, (x, y) in early.items():
-        yield text(x, y + LINE + 4, name, name, "middle")
-    for (name, (x, _)), y in zip(late.items(), spread([y for _, y in late.values()])):
-        yield text(max(x, panel.left + PANEL_WIDTH) + 6, y + 5, name, name)
+        if one[-1][0] > right - PANEL_WIDTH / 4:
+            ends[name] = (one[-1][1] + two[-1][1]) / 2
+        else:  # it ends early: the name stands below it
+            yield text((one[0][0] + one[-1][0]) / 2, max(y for _, y in one + two) + LINE + 2, name, name, "middle")
+    yield from formats_named(panel, max(shapes.values(), key=lambda points: points[-1].at)[-1])
+    for name, y in zip(ends, spread(list(ends.values()))):
+        yield text(right + 6, y + 5, name, name)
+
+
+def formats_named(panel: Panel, end: Point) -> Iterator[str]:
+    """The formats of the two lines that go furthest, if they end apart."""
+    (x, one), (_, two) = panel.place(end.at, end.one), panel.place(end.at, end.two)
+    if two - one > LINE / 2:
+        yield text(x, one - 8, "One", anchor="end")
+        yield text(x, two + LINE, "Two", anchor="end")
 
 
 def legend() -> Iterator[str]:
