@@ -1,0 +1,4 @@
+pub mod Clashes
+pub mod Compare
+pub mod Cursor
+pub mod Trees

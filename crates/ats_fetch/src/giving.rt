@@ -1,0 +1,98 @@
+//! The bytes that give the text of a document.
+
+ghost use Rattle.std.specs.Prelude.{◌≡◌, ◌∷◌, ◌++◌, ◌<◌, [], length, IfOk, OnOk};
+ghost use Rattle.std.specs.List.{concat};
+ghost use Rattle.ats_proof.specs.Value.{number_of_format};
+ghost use Rattle.ats_tree.specs.Elided.{elided_digests};
+ghost use Rattle.ats_fetch.specs.Given.{given_text};
+ghost use Rattle.ats_fetch.specs.Value.{IsTextProof, IsTextInRange};
+
+use crate::memory::OutOfMemory;
+use ats_base::Bytes;
+use ats_commit::TextLeaves;
+use ats_dict::Header;
+use ats_hash::{Hash32, Steps};
+use ats_impact::Collection;
+use ats_index::Index;
+use ats_lists::Format;
+use ats_tree::{Digests, elided};
+use std::alloc::Global;
+
+const MAGIC: [u8; 4] = *b"ATSF";
+
+// The bytes besides the text and the digests.
+const OTHER_BYTES: usize = 115;
+
+const DIGEST_BYTES: usize = 32;
+
+// The number of a format.
+fn format_byte(format: Format) -> u8
+    ensures { result ≡ number_of_format format }
+{
+    match format {
+        Format::One => 1,
+        Format::Two => 2,
+    }
+}
+
+/// The digests that the text of a document needs of the texts tree. All other texts are hashed.
+pub(crate) fn needed_digests<H: Hash32>(
+    alloc: Global,
+    collection: &Collection,
+    doc: u32,
+) -> Result<Digests, OutOfMemory>
+    requires { doc < length collection.now }
+    ensures { IfOk result (λ digests. digests ≡ elided_digests H.hash collection.now (doc ∷ [])) }
+{
+    let mut digests = Digests::new(alloc);
+    let texts = TextLeaves::new(collection, 0, collection.documents());
+    let mut steps = Steps::new(alloc);
+    elided::<H, _>(&texts, &[doc], &mut digests, &mut steps)?;
+    Ok(digests)
+}
+
+// Appends the digests.
+fn put_digests(bytes: &mut Bytes, digests: &Digests) -> Result<(), OutOfMemory>
+    ensures { OnOk result (bytes.new ≡ bytes.old ++ concat digests.now) }
+{
+    for digest in digests.as_slice() {
+        bytes.extend(digest)?;
+    }
+    Ok(())
+}
+
+// The bytes that spell these parts.
+fn spelled(
+    alloc: Global,
+    format: Format,
+    header: &Header,
+    text: &[u8],
+    digests: &Digests,
+) -> Result<Bytes, OutOfMemory>
+    requires { IsTextInRange (record { format = format; header = header.now; text = text.now; digests = digests.now }) }
+    ensures { IfOk result (λ bytes.
+        IsTextProof bytes (record { format = format; header = header.now; text = text.now; digests = digests.now })) }
+{
+    let room = OTHER_BYTES + text.len() + DIGEST_BYTES * digests.len();
+    let mut bytes = Bytes::with_room(alloc, room)?;
+    bytes.extend(&MAGIC)?;
+    bytes.push(format_byte(format))?;
+    bytes.extend(&header.bytes())?;
+    bytes.extend(&(text.len() as u32).to_be_bytes())?;
+    bytes.extend(text)?;
+    bytes.push(digests.len() as u8)?;
+    put_digests(&mut bytes, digests)?;
+    Ok(bytes)
+}
+
+/// The bytes that give the text of document `doc`, from 0: magic, the archive's format and header, the text after its
+/// length, and the digests that it needs of the texts tree after their number. Every other text is hashed once.
+pub fn give_text<H: Hash32>(alloc: Global, index: &Index<H>, doc: u32) -> Result<Bytes, OutOfMemory>
+    requires { doc < length index.now.texts }
+    ensures { IfOk result (λ bytes. IsTextProof bytes (given_text H.hash index.now doc)) }
+{
+    let collection = index.collection();
+    let digests = needed_digests::<H>(alloc, collection, doc)?;
+    let text = collection.text(doc).as_bytes();
+    spelled(alloc, index.format(), index.header(), text, &digests)
+}
