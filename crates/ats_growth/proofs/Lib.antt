@@ -1,0 +1,20 @@
+pub mod Public
+mod Leads
+mod Binds
+mod Trees
+mod Fits
+mod Sides
+mod SharedParts
+mod Digests
+mod Soundness
+mod Completeness
+mod Exactness
+mod PairLemmas
+mod OneGrowth
+mod CheckLemmas
+mod Spelled
+mod Prefixes
+mod DigestBytes
+mod Results
+mod Made
+mod LawLemmas

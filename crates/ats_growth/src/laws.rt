@@ -1,0 +1,96 @@
+//! The laws of growth, as contracts of functions that do nothing. A reader who believes these laws need not read how the
+//! definitions are made.
+
+ghost use Rattle.std.specs.Prelude.{◌≡◌, ◌+◌, ◌-◌, ◌*◌, ◌^◌, ◌<◌, ◌≤◌, ◌∷◌, ◌++◌, ℕ, List, [], length, take, drop, reverse, Bool, true, false};
+ghost use Rattle.ats_tree.specs.Tree.{mth, tree_of};
+ghost use Rattle.ats_commit.specs.Archive.{Archive};
+ghost use Rattle.ats_commit.specs.Own.{AreTexts};
+ghost use Rattle.ats_commit.specs.Root.{root_of};
+ghost use Rattle.ats_growth.specs.Headline.{IsGrownOrCollides};
+ghost use Rattle.ats_growth.specs.Honest.{shown, honest, IsPrefix, IsFirstApart};
+ghost use Rattle.ats_growth.specs.Pair.{roots};
+ghost use Rattle.ats_growth.specs.Rules.{AcceptsGrowth, IsFirstRefusal};
+ghost use Rattle.ats_growth.specs.Shape.{turns, need};
+ghost use Rattle.ats_growth.specs.Value.{Growth, IsGrowth, AreInRange};
+ghost use Rattle.ats_growth.specs.declared.refusal.GrowthRefusal.{GrowthRefusal};
+
+use ats_hash::HashKind;
+
+/// How many digests a growth from the first `m` of `n` leaves needs. If all leaves are old, it is none if their digest is
+/// known, and else one. Else the tree is cut at the largest power of two below `n`, here `2 ^ h`: one digest is that of
+/// the part without the last old leaf, and the others are those that the other part needs. To the right of the cut the
+/// digest of the old leaves is not known.
+pub fn growth_needs_digests()
+    ensures all_known { (m : ℕ) → need (turns m m) true ≡ 0 }
+    ensures all { (m : ℕ) → need (turns m m) false ≡ 1 }
+    ensures left { (m n h : ℕ) (known : Bool) → 2 ^ h < n → n ≤ 2 * 2 ^ h → m ≤ 2 ^ h
+        → need (turns m n) known ≡ 1 + need (turns m (2 ^ h)) known }
+    ensures right { (m n h : ℕ) (known : Bool) → n ≤ 2 * 2 ^ h → 2 ^ h < m → m < n
+        → need (turns m n) known ≡ 1 + need (turns (m - 2 ^ h) (n - 2 ^ h)) false }
+{}
+
+/// The two roots that digests give, as RFC 6962, section 2.1.4.2, builds them: the last digest is the one beside the root
+/// of the new tree. Left of the cut it extends the new tree only; right of the cut it begins both trees.
+pub fn digests_give_roots<H: HashKind>()
+    ensures all_known { (root : List ℕ) (m : ℕ) → ((roots H.hash root (turns m m) true []).old ≡ root)
+        × ((roots H.hash root (turns m m) true []).new ≡ root) }
+    ensures all { (root x : List ℕ) (m : ℕ) → ((roots H.hash root (turns m m) false (x ∷ [])).old ≡ x)
+        × ((roots H.hash root (turns m m) false (x ∷ [])).new ≡ x) }
+    ensures left { (root y : List ℕ) (others : List (List ℕ)) (m n h : ℕ) (known : Bool)
+        → 2 ^ h < n → n ≤ 2 * 2 ^ h → m ≤ 2 ^ h
+        → ((roots H.hash root (turns m n) known (reverse (others ++ y ∷ []))).old
+        ≡ (roots H.hash root (turns m (2 ^ h)) known (reverse others)).old)
+        × ((roots H.hash root (turns m n) known (reverse (others ++ y ∷ []))).new
+        ≡ H.hash (1 ∷ (roots H.hash root (turns m (2 ^ h)) known (reverse others)).new ++ y)) }
+    ensures right { (root y : List ℕ) (others : List (List ℕ)) (m n h : ℕ) (known : Bool)
+        → n ≤ 2 * 2 ^ h → 2 ^ h < m → m < n
+        → ((roots H.hash root (turns m n) known (reverse (others ++ y ∷ []))).old
+        ≡ H.hash (1 ∷ y ++ (roots H.hash root (turns (m - 2 ^ h) (n - 2 ^ h)) false (reverse others)).old))
+        × ((roots H.hash root (turns m n) known (reverse (others ++ y ∷ []))).new
+        ≡ H.hash (1 ∷ y ++ (roots H.hash root (turns (m - 2 ^ h) (n - 2 ^ h)) false (reverse others)).new)) }
+{}
+
+/// The digests of an honest growth are SUBPROOF of RFC 6962, section 2.1.2: of all leaves that are old, none if their
+/// digest is known, and else theirs. Left of the cut the digest of the right part comes last, and right of the cut that of
+/// the left part.
+pub fn honest_digests_are_subproofs<H: HashKind>()
+    ensures all_known { (texts : List (List ℕ)) → reverse (shown H.hash (turns (length texts) (length texts)) true (tree_of texts)) ≡ [] }
+    ensures all { (texts : List (List ℕ)) → reverse (shown H.hash (turns (length texts) (length texts)) false (tree_of texts))
+        ≡ mth H.hash texts ∷ [] }
+    ensures left { (texts : List (List ℕ)) (m h : ℕ) (known : Bool)
+        → 2 ^ h < length texts → length texts ≤ 2 * 2 ^ h → m ≤ 2 ^ h
+        → reverse (shown H.hash (turns m (length texts)) known (tree_of texts))
+        ≡ reverse (shown H.hash (turns m (2 ^ h)) known (tree_of (take (2 ^ h) texts))) ++ mth H.hash (drop (2 ^ h) texts) ∷ [] }
+    ensures right { (texts : List (List ℕ)) (m h : ℕ) (known : Bool)
+        → length texts ≤ 2 * 2 ^ h → 2 ^ h < m → m < length texts
+        → reverse (shown H.hash (turns m (length texts)) known (tree_of texts))
+        ≡ reverse (shown H.hash (turns (m - 2 ^ h) (length texts - 2 ^ h)) false (tree_of (drop (2 ^ h) texts)))
+        ++ mth H.hash (take (2 ^ h) texts) ∷ [] }
+{}
+
+/// Bytes spell at most one growth.
+pub fn bytes_say_one_growth()
+    ensures { (bytes : List ℕ) (g h : Growth) → IsGrowth bytes g → IsGrowth bytes h → g ≡ h }
+{}
+
+/// A growth is refused by at most one rule, and not if it is accepted.
+pub fn growths_are_refused_once<H: HashKind>()
+    ensures one { (old new : List ℕ) (g : Growth) (a b : GrowthRefusal)
+        → IsFirstRefusal H.hash old new g a → IsFirstRefusal H.hash old new g b → a ≡ b }
+    ensures apart { (old new : List ℕ) (g : Growth) (a : GrowthRefusal)
+        → AcceptsGrowth H.hash old new g → IsFirstRefusal H.hash old new g a → ⊥ }
+{}
+
+/// If the old texts are the first of the new ones, the honest growth is accepted under the two roots, whatever the two
+/// formats. If an old document is missing or differs, they are not the first.
+pub fn honest_growths_are_accepted<H: HashKind>()
+    ensures accepted { (older newer : Archive) → AreTexts older.texts → IsPrefix older.texts newer.texts
+        → AcceptsGrowth H.hash (root_of H.hash older) (root_of H.hash newer) (honest H.hash older newer) }
+    ensures differs { (old new : List (List ℕ)) (doc : ℕ) → IsFirstApart old new doc → IsPrefix old new → ⊥ }
+{}
+
+/// What an accepted growth says of all archives with its two roots.
+pub fn accepted_growths_are_right<H: HashKind>()
+    ensures { (old new : List ℕ) (g : Growth) → AreInRange g → AcceptsGrowth H.hash old new g
+        → IsGrownOrCollides H.hash old new g }
+{}
