@@ -1,4 +1,4 @@
-"""A second client: `verify`, `ask` and the answers of a server, by docs/client.md and docs/formats.md.
+"""A second client: `verify`, `ask`, `fetch`, `growth` and the answers of a server, by docs/client.md and docs/formats.md.
 
 `make.py` compares all that the program prints with this, which shares no code with the program. It is written to be
 compared with those pages, step by step. It is no client for other texts, since of Unicode it knows only what the
@@ -10,6 +10,9 @@ from collections import Counter
 from types import SimpleNamespace
 
 LONGEST = 2**26
+LONGEST_TEXT_FILE = 2**21
+LONGEST_TEXT = 2**20
+LONGEST_GROWTH = 4096
 LATER = 2**32 - 1
 BLOCK = 64
 NOTHING = bytes(32)
@@ -23,6 +26,11 @@ class Refused(Exception):
 
 def digest(data):
     return hashlib.sha256(data).digest()
+
+
+def cut(count):
+    """The largest power of two below the count."""
+    return 2 ** ((count - 1).bit_length() - 1)
 
 
 def rebuilt(count, leaves, digests, misfit):
@@ -41,8 +49,7 @@ def node(start, count, leaves, digests):
         return next(digests, None)
     if count == 1:
         return digest(b'\0' + leaves[0][1])
-    half = 2 ** ((count - 1).bit_length() - 1)
-    at = 0
+    half, at = cut(count), 0
     while at < len(leaves) and leaves[at][0] < start + half:
         at += 1
     left = node(start, half, leaves[:at], digests)
@@ -223,10 +230,16 @@ def impact(count, length, terms_of_all, documents):
 # Reading the bytes
 
 class Reader:
-    """Reads the fields of a proof. Each is tried whether it is there, and then for its range."""
+    """Reads the fields of a file. Each is tried whether it is there, and then for its range."""
 
-    def __init__(self, data):
+    def __init__(self, data, longest=LONGEST):
+        if len(data) > longest:
+            raise Refused(f'shape long {longest}')
         self.data, self.at = data, 0
+
+    def end(self):
+        if self.at < len(self.data):
+            raise Refused(f'shape trailing {self.at}')
 
     def take(self, size):
         if len(self.data) - self.at < size:
@@ -243,6 +256,17 @@ class Reader:
 
     def digests(self, size, most=LATER):
         return [self.take(32) for _ in range(self.number(size, 0, most))]
+
+    def format(self):
+        return self.number(1, 1, 2, 'version')
+
+    def header(self):
+        """The numbers and roots of a header, and its bytes."""
+        start = self.at
+        self.number(1, 1, 1, 'version')
+        documents, size = self.number(4, 1, 65536), self.number(4, 2, 16777218)
+        roots = [self.take(32) for _ in range(3)]
+        return SimpleNamespace(documents=documents, size=size, roots=roots, data=self.data[start:self.at])
 
     def term(self):
         """The term, and its bytes from its length on."""
@@ -285,15 +309,9 @@ class Reader:
         return SimpleNamespace(leaves=leaves, digests=self.digests(2), slots=self.slots(present))
 
     def proof(self):
-        if len(self.data) > LONGEST:
-            raise Refused(f'shape long {LONGEST}')
         self.number(4, 0x41545350, 0x41545350, 'magic')
-        version = self.number(1, 1, 2, 'version')
-        proof = SimpleNamespace(is_in_blocks=version == 2, is_tra=self.number(1, 1, 2, 'algorithm') == 1)
-        self.number(1, 1, 1, 'version')
-        proof.documents, proof.size = self.number(4, 1, 65536), self.number(4, 2, 16777218)
-        proof.roots = [self.take(32) for _ in range(3)]
-        proof.header = self.data[6:111]
+        proof = SimpleNamespace(format=self.format(), is_tra=self.number(1, 1, 2, 'algorithm') == 1)
+        proof.header = self.header()
         proof.terms = self.number(2, 1, 32)
         proof.dictionary = SimpleNamespace(leaves=self.leaves([4, 32]), digests=self.digests(2), slots=self.slots(proof.terms))
         present = sum(kind for kind, _ in proof.dictionary.slots)
@@ -304,12 +322,34 @@ class Reader:
             proof.document_digests = self.digests(4, 65536)
             proof.sections = [self.section(present) for _ in proof.met]
         proof.rows = [self.number(4) for _ in range(self.number(2, 0, 1000))]
-        if self.at < len(self.data):
-            raise Refused(f'shape trailing {self.at}')
+        self.end()
         return proof
+
+    def archive(self):
+        return SimpleNamespace(format=self.format(), header=self.header())
+
+    def text(self):
+        self.number(4, 0x41545346, 0x41545346, 'magic')
+        given = self.archive()
+        given.text = self.take(self.number(4, 0, LONGEST_TEXT))
+        given.digests = self.digests(1, 32)
+        self.end()
+        return given
+
+    def growth(self):
+        self.number(4, 0x41545347, 0x41545347, 'magic')
+        shown = SimpleNamespace(old=self.archive(), new=self.archive(), digests=self.digests(1, 64))
+        self.end()
+        return shown
 
 
 # The check
+
+def check_root(archive, root, why='other-root'):
+    """The archive's format and header are those of the root."""
+    if digest((b'\2' if archive.format == 1 else b'\4') + archive.header.data) != root:
+        raise Refused(why)
+
 
 def shows(section, slot, term):
     kind, index = slot
@@ -324,7 +364,7 @@ def check_dictionary(proof, found):
         raise Refused(f'slot-count {proof.terms}')
     section = proof.dictionary
     leaves = [(leaf.position, leaf.data) for leaf in section.leaves]
-    if rebuilt(proof.size, leaves, section.digests, 'dict-misfit') != proof.roots[0]:
+    if rebuilt(proof.header.size, leaves, section.digests, 'dict-misfit') != proof.header.roots[0]:
         raise Refused('dict-root')
     for at, (term, _) in enumerate(found):
         if not shows(section, section.slots[at], term):
@@ -342,7 +382,7 @@ def check_list(proof, at, shown, leaf):
     leaves = [(entry, met[place].to_bytes(4, 'big') + height.to_bytes(2, 'big'))
               for entry, (place, height) in enumerate(shown.entries)]
     count, root = leaf.values
-    rebuilt_list = rebuilt_chain if proof.is_in_blocks else rebuilt
+    rebuilt_list = rebuilt if proof.format == 1 else rebuilt_chain
     if rebuilt_list(int.from_bytes(count, 'big'), leaves, shown.digests, f'list-misfit {at}') != root:
         raise Refused(f'list-root {at}')
     return named
@@ -361,7 +401,7 @@ def check_documents(proof, present):
     if not proof.is_tra:
         return
     leaves = list(zip(proof.met, proof.document_leaves))
-    if rebuilt(proof.documents, leaves, proof.document_digests, 'docs-misfit') != proof.roots[1]:
+    if rebuilt(proof.header.documents, leaves, proof.document_digests, 'docs-misfit') != proof.header.roots[1]:
         raise Refused('docs-root')
     for document, own, section in zip(proof.met, proof.document_leaves, proof.sections):
         shown = [(leaf.position, leaf.data) for leaf in section.leaves]
@@ -411,9 +451,7 @@ def check_settled(proof, r, lows, highs, threshold):
 
 def answer(proof, root, r, found):
     """The rows of an accepted proof."""
-    tag = b'\4' if proof.is_in_blocks else b'\2'
-    if digest(tag + proof.header) != root:
-        raise Refused('other-root')
+    check_root(proof, root)
     check_dictionary(proof, found)
     slots, leaves = proof.dictionary.slots, proof.dictionary.leaves
     present = [(at, term, weight, leaves[index])
@@ -422,7 +460,7 @@ def answer(proof, root, r, found):
     check_documents(proof, present)
     check_rows(proof)
     counts = [int.from_bytes(leaf.values[0], 'big') for _, _, _, leaf in present]
-    coefficients = [weight * idf(proof.documents, count) for (_, _, weight, _), count in zip(present, counts)]
+    coefficients = [weight * idf(proof.header.documents, count) for (_, _, weight, _), count in zip(present, counts)]
     rests = [0 if len(shown.entries) == count else coefficient * shown.entries[-1][1]
              for count, coefficient, shown in zip(counts, coefficients, proof.lists)]
     lows, highs = bounds(proof, coefficients, rests)
@@ -440,6 +478,77 @@ def verify(root, r, query, data):
         return {'status': 0, 'lines': answer(Reader(data).proof(), bytes.fromhex(root), r, found)}
     except Refused as why:
         return {'status': 1, 'lines': [f'refused: {why}']}
+
+
+# The text of a document
+
+def own_text(given, root, document):
+    """The text, if it is that of the document under the root."""
+    header, digests = given.header, given.digests
+    check_root(given, root)
+    if document >= header.documents:
+        raise Refused(f'doc-out {header.documents}')
+    if rebuilt(header.documents, [(document, given.text)], digests, f'text-misfit {len(digests)}') != header.roots[2]:
+        raise Refused('text-root')
+    return given.text
+
+
+def fetch(root, document, data):
+    """The status, and the text or the lines. The text is printed as it is, with a line feed after it."""
+    try:
+        return {'status': 0, 'text': own_text(Reader(data, LONGEST_TEXT_FILE).text(), bytes.fromhex(root), document)}
+    except Refused as why:
+        return {'status': 1, 'lines': [f'refused: {why}']}
+
+
+# Growth
+
+def needed(old, new, is_known=True):
+    """How many digests show that the first `old` of `new` texts are the old ones."""
+    if old == new:
+        return 0 if is_known else 1
+    half = cut(new)
+    return 1 + (needed(old, half, is_known) if old <= half else needed(old - half, new - half, False))
+
+
+def pair(root, old, new, digests, is_known=True):
+    """The digests of the old part and of the new one. `root` is that of all old texts."""
+    if old == new:
+        whole = root if is_known else digests[0]
+        return whole, whole
+    half, others, last = cut(new), digests[:-1], digests[-1]
+    if old <= half:
+        before, after = pair(root, old, half, others, is_known)
+        return before, digest(b'\1' + after + last)
+    before, after = pair(root, old - half, new - half, others, False)
+    return digest(b'\1' + last + before), digest(b'\1' + last + after)
+
+
+def grown(shown, old_root, new_root):
+    """The two numbers of documents, if nothing was withdrawn."""
+    check_root(shown.old, old_root, 'other-old')
+    check_root(shown.new, new_root, 'other-new')
+    old, new = shown.old.header, shown.new.header
+    if old.documents > new.documents:
+        raise Refused(f'shrunk {old.documents} {new.documents}')
+    if len(shown.digests) != needed(old.documents, new.documents):
+        raise Refused(f'growth-misfit {len(shown.digests)}')
+    before, after = pair(old.roots[2], old.documents, new.documents, shown.digests)
+    if before != old.roots[2]:
+        raise Refused('old-texts')
+    if after != new.roots[2]:
+        raise Refused('new-texts')
+    return old.documents, new.documents
+
+
+def growth(old_root, new_root, data):
+    """The status and the lines."""
+    try:
+        shown = Reader(data, LONGEST_GROWTH).growth()
+        old, new = grown(shown, bytes.fromhex(old_root), bytes.fromhex(new_root))
+    except Refused as why:
+        return {'status': 1, 'lines': [f'refused: {why}']}
+    return {'status': 0, 'lines': [f'grown {old} {new}']}
 
 
 # Frames

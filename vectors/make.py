@@ -469,6 +469,10 @@ COLLECTIONS = {
     'planes': ['\uff21 \U00010400', '\U00010428'],
     'copies': ['a'] * 200,
     'one more than a block': ['a'] * 65,
+    'more foxes': ['red fox', 'red red hen', 'blue hen', 'fox hen'],
+    'three letters': list('abc'),
+    'six letters': list('abcdef'),
+    'seven letters': list('abcdefg'),
     'drawn': drawn_texts(),
     'sample': [item['text'] for item in json.loads((TOP / 'examples/archive.json').read_text(encoding='utf-8'))],
 }
@@ -1639,6 +1643,360 @@ def served(proofs):
     return told
 
 
+# Texts of documents. All come from the second client; the gate compares the program
+
+LONGEST_TEXT_FILE = 2**21
+LONGEST_TEXT = 2**20
+
+# Documents whose texts are given, by their collections.
+GIVEN = {
+    'foxes': [0, 1, 2], 'silent': [0], 'street': [0], 'ties': [3, 7, 8], 'beyond': [0, 8], 'copies': [0, 127, 128, 199],
+    'one more than a block': [0, 64], 'drawn': [20, 39], 'sample': [31],
+}
+
+
+@dataclass
+class Given:
+    """The fields of a file that gives a text."""
+    version: int
+    header: Header
+    text: bytes
+    digests: list
+
+    def root(self):
+        return root_of_header(self.version, self.header)
+
+    def data(self):
+        return b''.join(data for _, data in self.fields())
+
+    def fields(self):
+        yield 'magic', b'ATSF'
+        yield 'format', number(self.version, 1)
+        yield from self.header.fields()
+        yield 'length of the text', number(len(self.text), 4)
+        yield 'text', self.text
+        yield from digest_fields('texts', self.digests, 1)
+
+
+TEXT_RANGES = {
+    'magic': (0x41545346, 0x41545346), 'format': (1, 2), 'version of the header': (1, 1),
+    'number of documents': (1, 65536), 'number of dictionary leaves': (2, 16777218),
+    'length of the text': (0, LONGEST_TEXT), 'texts: number of digests': (0, 32),
+}
+
+
+def given(archive, document):
+    """The honest file."""
+    return Given(archive.version, archive.header, archive.texts[document], elided(archive.texts, [document]))
+
+
+def made_text(documents, document, text, digests, version=ONE):
+    """A file under a root that no archive has: all that the check does not ask of the header is 0 or least."""
+    root = rebuilt(documents, [(document, text)], list(digests))
+    return Given(version, Header(1, documents, 2, [NOTHING, NOTHING, root]), text, list(digests))
+
+
+def field_changes(whole, ranges):
+    """The bytes cut in each field, and the first number of each name just out of its range."""
+    data, seen = whole.data(), set()
+    for name, start, end in with_places(whole):
+        if start < end:
+            yield f'cut in: {name}', data[:end - 1]
+        if name in ranges and name not in seen:
+            for value in (ranges[name][0] - 1, ranges[name][1] + 1):
+                if 0 <= value < 256 ** (end - start):
+                    yield f'{name}: {value}', data[:start] + number(value, end - start) + data[end:]
+        seen.add(name)
+
+
+def text_shapes(honest):
+    """Faults of shape, by what they are."""
+    data = honest.data()
+    yield from field_changes(honest, TEXT_RANGES)
+    yield 'no bytes', b''
+    yield 'one byte more', data + b'\0'
+    yield 'the bytes twice', data + data
+    yield 'the magic of an index', b'ATSI' + data[4:]
+    yield 'the magic of a proof', b'ATSP' + data[4:]
+    yield 'two faults: the one in the first field is reported', data[:4] + b'\3' + data[5:110] + b'\xff' * 4
+    yield 'a field that is cut is not tried for its range', data[:110] + b'\xff'
+    yield 'the text is longer by a byte, and its length is not', data[:114] + b'x' + data[114:]
+    yield 'the largest length of a text, and the text is cut', data[:110] + number(LONGEST_TEXT, 4) + data[114:]
+    yield 'the largest number of bytes, which are 00', bytes(LONGEST_TEXT_FILE)
+    yield 'one byte more than the largest number', bytes(LONGEST_TEXT_FILE + 1)
+
+
+def changed_copy(honest, **parts):
+    """The same with other parts."""
+    changed = copy.deepcopy(honest)
+    for name, value in parts.items():
+        setattr(changed, name, value)
+    return changed
+
+
+def text_changes(honest):
+    """Changes of what the file says, by what they are."""
+    text, digests = honest.text, honest.digests
+    yield 'another first byte of the text', changed_copy(honest, text=b'X' + text[1:])
+    yield 'two bytes of the text exchanged', changed_copy(honest, text=text[1::-1] + text[2:])
+    yield 'the text without its last byte', changed_copy(honest, text=text[:-1])
+    yield 'the text with a byte more', changed_copy(honest, text=text + b' ')
+    yield 'no text', changed_copy(honest, text=b'')
+    yield 'another digest', changed_copy(honest, digests=[digest(digests[0]), *digests[1:]])
+    yield 'digests from the right to the left', changed_copy(honest, digests=digests[::-1])
+    yield 'a digest too few', changed_copy(honest, digests=digests[:-1])
+    yield 'no digest', changed_copy(honest, digests=[])
+    yield 'a digest too many', changed_copy(honest, digests=[*digests, NOTHING])
+    yield '32 digests', changed_copy(honest, digests=(digests * 32)[:32])
+    for name in ('documents', 'leaves'):
+        header = copy.deepcopy(honest.header)
+        setattr(header, name, getattr(header, name) + 1)
+        yield f'the header has one more of: {name}', changed_copy(honest, header=header)
+    for at, name in enumerate(('dictionary', 'documents', 'texts')):
+        header = copy.deepcopy(honest.header)
+        header.roots[at] = digest(header.roots[at])
+        yield f'the header has another root of the {name}', changed_copy(honest, header=header)
+    yield 'the other format', changed_copy(honest, version=ONE + TWO - honest.version)
+
+
+def leaf_up(count, position, digests):
+    """The same digests in the order of an audit path (RFC 6962 2.1.1): from the leaf up."""
+    if count == 1:
+        return []
+    middle = split(count)
+    if position < middle:
+        return leaf_up(middle, position, digests[:-1]) + digests[-1:]
+    return leaf_up(count - middle, position - middle, digests[1:]) + digests[:1]
+
+
+def made_texts():
+    """Files that are accepted under roots which no archive has, with what each shows, and its document."""
+    for version, blocks in ((ONE, ''), (TWO, 'in blocks: ')):
+        yield blocks + 'bytes that are no UTF-8', made_text(1, 0, b'\xff\x00red', [], version), 0
+    yield 'the longest text', made_text(2, 1, b'x' * LONGEST_TEXT, [OTHER]), 1
+    yield 'the first of the largest number of documents', made_text(65536, 0, b'red', made_digests(16)), 0
+    yield 'the last of the largest number of documents', made_text(65536, 65535, b'red', made_digests(16)), 65535
+    yield 'the last of 65,535 documents, which needs one digest less', made_text(65535, 65534, b'red', made_digests(15)), 65534
+    yield 'the last of 32,769 documents, which needs one digest', made_text(32769, 32768, b'red', made_digests(1)), 32768
+    yield 'digests of bytes 00', made_text(3, 1, b'red', [NOTHING, NOTHING]), 1
+
+
+def texts(archives):
+    """Honest files, changed ones and made ones, each with what `fetch` prints of it."""
+    told = []
+
+    def tell(about, root, document, data, **other):
+        answer = client.fetch(root, document, data)
+        if 'text' in answer:
+            answer['text'] = bytes_in_parts(answer['text'])
+        told.append({'about': about, **other, 'root': root, 'document': document, **answer, 'file': bytes_in_parts(data)})
+
+    for name, documents in GIVEN.items():
+        for version, blocks in ((ONE, ''), (TWO, ', in blocks')):
+            for document in documents:
+                archive = archives[version][name]
+                tell(f'document {document} of {name}{blocks}', archive.root, document, given(archive, document).data(),
+                     archive=name)
+    one, two = (given(archives[version]['foxes'], 1) for version in (ONE, TWO))
+    root = one.root()
+    for about, data in text_shapes(one):
+        tell(about, root, 1, data)
+    for whole, blocks in ((one, ''), (two, 'in blocks: ')):
+        for about, changed_one in text_changes(whole):
+            tell(blocks + about, whole.root(), 1, changed_one.data())
+    tell('under another root', NOTHING.hex(), 1, one.data())
+    tell('under the root of these texts with lists in blocks', two.root(), 1, one.data())
+    tell('in blocks: under the root of these texts with lists of one tree', root, 1, two.data())
+    for document in (0, 2, 3, 65536, 999999999):
+        tell(f'for document {document}', root, document, one.data())
+    drawn = given(archives[ONE]['drawn'], 20)
+    changed_one = changed_copy(drawn, digests=leaf_up(drawn.header.documents, 20, drawn.digests))
+    tell('digests from the leaf up', drawn.root(), 20, changed_one.data())
+    tell('two: under another root, and document 3', NOTHING.hex(), 3, one.data())
+    short = changed_copy(one, digests=one.digests[:1])
+    tell('two: document 3, and a digest too few', root, 3, short.data())
+    tell('two: a digest too few, and another text', root, 1, changed_copy(short, text=b'blue hen').data())
+    tell('two: under another root, and a byte more', NOTHING.hex(), 1, one.data() + b'\0')
+    for about, whole, document in made_texts():
+        tell(about, whole.root(), document, whole.data())
+    look_over_files('texts', told, {'other-root', 'doc-out', 'text-misfit', 'text-root'})
+    return told
+
+
+def look_over_files(name, told, refusals):
+    """Each refusal and each kind of fault must occur; these files have no algorithm and no order."""
+    words = [each['lines'][0].split() for each in told if each['status'] == 1]
+    kinds = {'long', 'cut', 'magic', 'version', 'count', 'trailing'}
+    missing = (refusals - {line[1] for line in words}) | (kinds - {line[2] for line in words if line[1] == 'shape'})
+    if missing:
+        raise SystemExit(f'{name}: no vector for {sorted(missing)}')
+
+
+# Growth between two archives. All comes from the second client; the gate compares the program
+
+LONGEST_GROWTH = 4096
+
+# Collections whose texts are the first ones of another, and the formats of both.
+GROWING = [
+    ('foxes', 'more foxes', ONE, ONE), ('foxes', 'more foxes', ONE, TWO), ('foxes', 'more foxes', TWO, ONE),
+    ('foxes', 'more foxes', TWO, TWO), ('foxes', 'foxes', ONE, ONE), ('foxes', 'foxes', ONE, TWO),
+    ('foxes', 'foxes', TWO, ONE), ('three letters', 'seven letters', ONE, ONE), ('six letters', 'seven letters', ONE, ONE),
+    ('three letters', 'six letters', TWO, TWO), ('one more than a block', 'copies', ONE, ONE),
+    ('one more than a block', 'copies', ONE, TWO), ('sample', 'sample', ONE, TWO), ('silent', 'silent', ONE, ONE),
+]
+
+
+@dataclass
+class Grown:
+    """The fields of a file that shows a growth."""
+    old_version: int
+    old: Header
+    new_version: int
+    new: Header
+    digests: list
+
+    def roots(self):
+        return root_of_header(self.old_version, self.old), root_of_header(self.new_version, self.new)
+
+    def data(self):
+        return b''.join(data for _, data in self.fields())
+
+    def fields(self):
+        yield 'magic', b'ATSG'
+        for which, version, header in (('old', self.old_version, self.old), ('new', self.new_version, self.new)):
+            yield f'{which}: format', number(version, 1)
+            for name, data in header.fields():
+                yield f'{which}: {name}', data
+        yield from digest_fields('growth', self.digests, 1)
+
+
+GROWTH_RANGES = {
+    'magic': (0x41545347, 0x41545347), 'growth: number of digests': (0, 64),
+    **{f'{which}: {name}': TEXT_RANGES[name] for which in ('old', 'new')
+       for name in ('format', 'version of the header', 'number of documents', 'number of dictionary leaves')},
+}
+
+
+def subproof(count, leaves, is_known=True):
+    """The digests of RFC 6962 2.1.2: the first `count` leaves are the old ones."""
+    if count == len(leaves):
+        return [] if is_known else [tree_root(leaves)]
+    middle = split(len(leaves))
+    left, right = leaves[:middle], leaves[middle:]
+    if count <= middle:
+        return subproof(count, left, is_known) + [tree_root(right)]
+    return subproof(count - middle, right, False) + [tree_root(left)]
+
+
+def grown(old, new):
+    """The honest file."""
+    return Grown(old.version, old.header, new.version, new.header, subproof(len(old.texts), new.texts))
+
+
+def made_growth(old, new, digests, root=NOTHING):
+    """A file under roots that no archive has. `root` is that of the old texts if they are a whole left part."""
+    roots = client.pair(root, old, new, list(digests))
+    headers = [Header(1, count, 2, [NOTHING, NOTHING, each]) for count, each in zip((old, new), roots)]
+    return Grown(ONE, headers[0], TWO, headers[1], list(digests))
+
+
+def growth_shapes(honest):
+    """Faults of shape, by what they are."""
+    data = honest.data()
+    yield from field_changes(honest, GROWTH_RANGES)
+    yield 'no bytes', b''
+    yield 'one byte more', data + b'\0'
+    yield 'the magic of a text', b'ATSF' + data[4:]
+    yield 'two faults: the one in the first field is reported', data[:4] + b'\3' + data[5:216] + b'\xff'
+    yield 'a field that is cut is not tried for its range', data[:116] + b'\xff'
+    yield 'the largest number of bytes', data.ljust(LONGEST_GROWTH, b'\0')
+    yield 'one byte more than the largest number', data.ljust(LONGEST_GROWTH + 1, b'\0')
+
+
+def growth_changes(honest):
+    """Changes of what the file says, by what they are."""
+    digests = honest.digests
+    for at, name in enumerate(('first', 'second', 'third')):
+        yield f'another {name} digest', changed_copy(honest, digests=[*digests[:at], digest(digests[at]), *digests[at + 1:]])
+    yield 'the digests in reverse order', changed_copy(honest, digests=digests[::-1])
+    yield 'without the last digest', changed_copy(honest, digests=digests[:-1])
+    yield 'without the first digest', changed_copy(honest, digests=digests[1:])
+    yield 'no digest', changed_copy(honest, digests=[])
+    yield 'a digest too many', changed_copy(honest, digests=[*digests, NOTHING])
+    yield '64 digests', changed_copy(honest, digests=(digests * 64)[:64])
+    for which in ('old', 'new'):
+        for name in ('documents', 'leaves'):
+            header = copy.deepcopy(getattr(honest, which))
+            setattr(header, name, getattr(header, name) + 1)
+            yield f'the {which} header has one more of: {name}', changed_copy(honest, **{which: header})
+        header = copy.deepcopy(getattr(honest, which))
+        header.roots[2] = digest(header.roots[2])
+        yield f'the {which} header has another root of the texts', changed_copy(honest, **{which: header})
+        version = f'{which}_version'
+        yield f'the other format of the {which} archive', changed_copy(honest, **{version: ONE + TWO - getattr(honest, version)})
+
+
+def made_growths():
+    """Files under roots that no archive has, with what each shows."""
+    for old, new in ((1, 2), (1, 65536), (32768, 65536), (32769, 65536), (65535, 65536), (65536, 65536), (5, 8), (7, 8)):
+        count = client.needed(old, new)
+        root = NOTHING if old & (old - 1) else OTHER
+        yield f'from {old} to {new} documents; digests: {count}', made_growth(old, new, made_digests(count), root)
+    whole = made_growth(4, 6, made_digests(1), OTHER)
+    yield 'an old part that is known has no digest: one more for it', changed_copy(whole, digests=[OTHER, *whole.digests])
+
+
+def growths(archives):
+    """Honest files, changed ones and made ones, each with what `growth` prints of it."""
+    told = []
+
+    def tell(about, roots, data, **other):
+        old, new = roots
+        told.append({'about': about, **other, 'old_root': old, 'new_root': new, **client.growth(old, new, data),
+                     'file': bytes_in_parts(data)})
+
+    for old, new, old_version, new_version in GROWING:
+        one, other = archives[old_version][old], archives[new_version][new]
+        blocks = [', in blocks' if version == TWO else '' for version in (old_version, new_version)]
+        tell(f'{old}{blocks[0]}, to {new}{blocks[1]}', (one.root, other.root), grown(one, other).data(), old=old, new=new)
+    one, two = archives[ONE]['foxes'], archives[ONE]['more foxes']
+    honest, roots = grown(one, two), (one.root, two.root)
+    for about, data in growth_shapes(honest):
+        tell(about, roots, data)
+    for about, changed_one in growth_changes(honest):
+        tell(about, roots, changed_one.data())
+    back = Grown(ONE, two.header, ONE, one.header, honest.digests)
+    tell('the two roots exchanged', roots[::-1], honest.data())
+    tell('the two headers exchanged', roots, back.data())
+    tell('fewer documents than before', roots[::-1], back.data())
+    tell('another old root', (NOTHING.hex(), roots[1]), honest.data())
+    tell('another new root', (roots[0], NOTHING.hex()), honest.data())
+    tell('the same texts with another first one, and the digests of the old ones', *withdrawn(one, two, True))
+    tell('the same texts with another first one, and the digests of the new ones', *withdrawn(one, two, False))
+    tell('two: another old root, and another new root', (NOTHING.hex(), NOTHING.hex()), honest.data())
+    tell('two: another new root, and fewer documents than before', (roots[1], NOTHING.hex()), back.data())
+    tell('two: fewer documents than before, and a digest too few', roots[::-1], changed_copy(back, digests=back.digests[1:]).data())
+    wrong = changed_copy(honest, digests=[NOTHING] * 2)
+    tell('two: a digest too few, and other digests', roots, wrong.data())
+    wrong = changed_copy(honest, digests=[NOTHING] * 3)
+    tell('two: the digests give neither root', roots, wrong.data())
+    tell('two: another old root, and a byte more', (NOTHING.hex(), roots[1]), honest.data() + b'\0')
+    for about, whole in made_growths():
+        tell(about, whole.roots(), whole.data())
+    look_over_files('growths', told, {'other-old', 'other-new', 'shrunk', 'growth-misfit', 'old-texts', 'new-texts'})
+    return told
+
+
+def withdrawn(one, two, has_old_digests):
+    """The roots and the file of a growth in which the first text was changed, with digests of the old or the new texts."""
+    texts = [b'red hen', *two.texts[1:]]
+    header = copy.deepcopy(two.header)
+    header.roots[2] = tree_root(texts)
+    digests = subproof(len(one.texts), two.texts if has_old_digests else texts)
+    whole = Grown(ONE, one.header, ONE, header, digests)
+    return whole.roots(), whole.data()
+
+
 # The files
 
 REFUSALS = {
@@ -1693,6 +2051,8 @@ def main(words):
         save('large.json', large(program, archives))
         save('asked.json', asked(proofs))
         save('served.json', served(proofs))
+        save('texts.json', texts(archives))
+        save('growths.json', growths(archives))
         save('fields.json', {
             name: [[start, end, label, proofs[name]['proof'][2 * start:2 * end]]
                    for label, start, end in with_places(Reader(bytes.fromhex(proofs[name]['proof'])).proof())]

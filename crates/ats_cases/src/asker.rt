@@ -2,13 +2,15 @@
 
 use crate::fault::Fault;
 use crate::json::{items, part, text, whole};
+use crate::parts::joined;
 use crate::stage::Stage;
 use ats_tally::{Shown, Tally};
 use serde_json::Value;
 use std::alloc::Global;
 use std::thread::Threads;
 
-const PROOF: &str = "proof";
+// A file that a command makes, or that another one checks.
+const MADE: &str = "made";
 
 const COMES: &str = "comes";
 
@@ -131,14 +133,11 @@ impl Asker {
         entry: &Value,
         proof: &[u8],
     ) -> Result<(), Fault> {
-        let algorithm = text(entry, "algorithm")?;
-        let (r, size) = (whole(entry, "r")?, proof.len());
-        let (r, query) = (format!(in self.alloc; "{r}")?, text(entry, "query")?);
-        let words = ["prove", index, algorithm, r.as_str(), query, PROOF];
-        let mut shown = self.ask(threads, about, &words)?;
-        shown.want(format!(in self.alloc; "proof {size}\n")?.as_str())?;
-        shown.note_fit(self.stage.shelf.bytes_of(PROOF) == Some(proof));
-        self.count(&shown)
+        let (algorithm, query) = (text(entry, "algorithm")?, text(entry, "query")?);
+        let r = whole(entry, "r")?;
+        let r = format!(in self.alloc; "{r}")?;
+        let words = ["prove", index, algorithm, r.as_str(), query, MADE];
+        self.make(threads, about, &words, "proof", proof)
     }
 
     /// Has these bytes checked. The program should return what the entry says.
@@ -150,19 +149,126 @@ impl Asker {
         proof: &[u8],
         entry: &Value,
     ) -> Result<(), Fault> {
-        self.put(PROOF, proof)?;
         let r = question.r;
         let r = format!(in self.alloc; "{r}")?;
-        let words = ["verify", question.root, r.as_str(), question.query, PROOF];
-        let mut shown = self.ask(threads, about, &words)?;
+        let words = ["verify", question.root, r.as_str(), question.query, MADE];
+        let mut shown = self.show(threads, about, &words, proof)?;
         want_answer(&mut shown, entry)?;
         self.count(&shown)
     }
+
+    /// Has the text of a document given over the index of this name. The file should have these bytes.
+    pub(crate) fn give(
+        &mut self,
+        threads: &(impl Threads + Sync),
+        about: &str,
+        index: &str,
+        document: &str,
+        file: &[u8],
+    ) -> Result<(), Fault> {
+        self.make(
+            threads,
+            about,
+            &["give", index, document, MADE],
+            "text",
+            file,
+        )
+    }
+
+    /// Has these bytes checked as the text of a document. The program should print the text, or the entry's line.
+    pub(crate) fn fetch(
+        &mut self,
+        threads: &(impl Threads + Sync),
+        about: &str,
+        document: &str,
+        file: &[u8],
+        entry: &Value,
+    ) -> Result<(), Fault> {
+        let words = ["fetch", text(entry, "root")?, document, MADE];
+        let mut shown = self.show(threads, about, &words, file)?;
+        want_text(self.alloc, &mut shown, entry)?;
+        self.count(&shown)
+    }
+
+    /// Has the growth between the indexes of these names shown. The file should have these bytes.
+    pub(crate) fn grow(
+        &mut self,
+        threads: &(impl Threads + Sync),
+        about: &str,
+        older: &str,
+        newer: &str,
+        file: &[u8],
+    ) -> Result<(), Fault> {
+        self.make(
+            threads,
+            about,
+            &["grow", older, newer, MADE],
+            "growth",
+            file,
+        )
+    }
+
+    /// Has these bytes checked as a growth. The program should return what the entry says.
+    pub(crate) fn growth(
+        &mut self,
+        threads: &(impl Threads + Sync),
+        about: &str,
+        file: &[u8],
+        entry: &Value,
+    ) -> Result<(), Fault> {
+        let (old_root, new_root) = (text(entry, "old_root")?, text(entry, "new_root")?);
+        let mut shown = self.show(threads, about, &["growth", old_root, new_root, MADE], file)?;
+        want_answer(&mut shown, entry)?;
+        self.count(&shown)
+    }
+
+    // Runs a command that makes the file. `noun` begins its line, which ends with the number of bytes.
+    fn make(
+        &mut self,
+        threads: &(impl Threads + Sync),
+        about: &str,
+        words: &[&str],
+        noun: &str,
+        bytes: &[u8],
+    ) -> Result<(), Fault> {
+        let size = bytes.len();
+        let mut shown = self.ask(threads, about, words)?;
+        shown.want(format!(in self.alloc; "{noun} {size}\n")?.as_str())?;
+        shown.note_fit(self.stage.shelf.bytes_of(MADE) == Some(bytes));
+        self.count(&shown)
+    }
+
+    // What the program shows for these words, if the file has these bytes.
+    fn show(
+        &mut self,
+        threads: &(impl Threads + Sync),
+        about: &str,
+        words: &[&str],
+        bytes: &[u8],
+    ) -> Result<Shown, Fault> {
+        self.put(MADE, bytes)?;
+        self.ask(threads, about, words)
+    }
+}
+
+fn want_status(shown: &mut Shown, entry: &Value) -> Result<(), Fault> {
+    let status = u8::try_from(whole(entry, "status")?).map_err(|_| Fault::Unread)?;
+    shown.want_status(status);
+    Ok(())
+}
+
+// A text is printed as it is, with a line feed after it. An entry without one has lines.
+fn want_text(alloc: Global, shown: &mut Shown, entry: &Value) -> Result<(), Fault> {
+    let Some(parts) = entry.get("text") else {
+        return want_answer(shown, entry);
+    };
+    want_status(shown, entry)?;
+    shown.want_bytes(joined(alloc, parts)?.as_slice())?;
+    Ok(shown.want("\n")?)
 }
 
 fn want_answer(shown: &mut Shown, entry: &Value) -> Result<(), Fault> {
-    let status = u8::try_from(whole(entry, "status")?).map_err(|_| Fault::Unread)?;
-    shown.want_status(status);
+    want_status(shown, entry)?;
     for line in items(part(entry, "lines")?)? {
         shown.want(line.as_str().ok_or(Fault::Unread)?)?;
         shown.want("\n")?;

@@ -36,7 +36,7 @@ use vectors::{play_listed, play_named};
 
 const NAMED: [&str; 3] = ["archives.json", "proofs.json", "fields.json"];
 
-const LISTED: [&str; 8] = [
+const LISTED: [&str; 10] = [
     "changed.json",
     "made.json",
     "words.json",
@@ -45,6 +45,8 @@ const LISTED: [&str; 8] = [
     "large.json",
     "asked.json",
     "served.json",
+    "texts.json",
+    "growths.json",
 ];
 
 fn tell(rt: &HostRuntime, tally: &Tally, what: &str) -> Result<bool, Fault> {

@@ -91,6 +91,7 @@ impl Player {
         match verb {
             "status" => self.want_status(rest),
             "part" => Ok(self.shown()?.want(rest)?),
+            "prints" => self.want_bytes(rest),
             "lines" => self.want_lines(rest),
             "holds" | "size" | "none" | "wrote" => self.want_file(verb, rest),
             _ => self.prepare(verb, rest),
@@ -101,6 +102,12 @@ impl Player {
         let status = rest.parse::<u8>().map_err(|_| Fault::Unread)?;
         self.shown()?.want_status(status);
         Ok(())
+    }
+
+    // These bytes, printed as they are.
+    fn want_bytes(&mut self, digits: &str) -> Result<(), Fault> {
+        let bytes = hex::decode(self.alloc, digits).map_err(|_| Fault::Unread)?;
+        Ok(self.shown()?.want_bytes(&bytes)?)
     }
 
     // `COUNT TEXT`: COUNT lines, each with its number.

@@ -54,6 +54,8 @@ pub(crate) fn play_listed(
             "large.json" => play_large(threads, asker, entry)?,
             "asked.json" => play_asked(threads, asker, entry)?,
             "served.json" => play_served(threads, asker, entry)?,
+            "texts.json" => play_text(threads, asker, entry)?,
+            "growths.json" => play_growth(threads, asker, entry)?,
             _ => play_input(threads, asker, entry)?,
         }
     }
@@ -116,13 +118,8 @@ fn play_proof(
     entry: &Value,
 ) -> Result<(), Fault> {
     let proof = bytes(asker.alloc, entry, "proof")?;
-    let archive = text(entry, "archive")?;
-    if proof.get(4) == Some(&2) {
-        let blocks = in_blocks(asker.alloc, archive)?;
-        asker.prove(threads, name, blocks.as_str(), entry, &proof)?;
-    } else {
-        asker.prove(threads, name, archive, entry, &proof)?;
-    }
+    let index = index_of_format(asker.alloc, text(entry, "archive")?, proof.get(4))?;
+    asker.prove(threads, name, index.as_str(), entry, &proof)?;
     asker.verify(threads, name, &Question::of(entry, entry)?, &proof, entry)
 }
 
@@ -299,4 +296,53 @@ fn play_served(
         replies.as_slice(),
         entry,
     )
+}
+
+// A text is counted as checked, and before that as given if it is that of an archive.
+fn play_text(
+    threads: &(impl Threads + Sync),
+    asker: &mut Asker,
+    entry: &Value,
+) -> Result<(), Fault> {
+    let (alloc, about) = (asker.alloc, text(entry, "about")?);
+    let file = joined(alloc, part(entry, "file")?)?;
+    let document = whole(entry, "document")?;
+    let document = format!(in alloc; "{document}")?;
+    if entry.get("archive").is_some() {
+        let index = index_of_format(alloc, text(entry, "archive")?, file.as_slice().get(4))?;
+        asker.give(
+            threads,
+            about,
+            index.as_str(),
+            document.as_str(),
+            file.as_slice(),
+        )?;
+    }
+    asker.fetch(threads, about, document.as_str(), file.as_slice(), entry)
+}
+
+// A growth is counted as checked, and before that as shown if it is that of two archives.
+fn play_growth(
+    threads: &(impl Threads + Sync),
+    asker: &mut Asker,
+    entry: &Value,
+) -> Result<(), Fault> {
+    let (alloc, about) = (asker.alloc, text(entry, "about")?);
+    let file = joined(alloc, part(entry, "file")?)?;
+    let bytes = file.as_slice();
+    if entry.get("old").is_some() {
+        let older = index_of_format(alloc, text(entry, "old")?, bytes.get(4))?;
+        let newer = index_of_format(alloc, text(entry, "new")?, bytes.get(110))?;
+        asker.grow(threads, about, older.as_str(), newer.as_str(), bytes)?;
+    }
+    asker.growth(threads, about, bytes, entry)
+}
+
+// The name of the index of an archive, in the format that this byte of a file names.
+fn index_of_format(alloc: Global, archive: &str, format: Option<&u8>) -> Result<String, Fault> {
+    if format == Some(&2) {
+        in_blocks(alloc, archive)
+    } else {
+        Ok(String::from_str(alloc, archive)?)
+    }
 }

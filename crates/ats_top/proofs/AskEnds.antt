@@ -13,18 +13,18 @@ use Rattle.ats_grammar.specs.declared.fault.ShapeFault.{ShapeFault}
 use Rattle.ats_wire.specs.Requests.{Question}
 use Rattle.ats_wire.specs.declared.feeding.Fed.{Fed}
 use Rattle.ats_wire.specs.declared.feeding.Fed.TheVariants.{Whole, Refused}
-use Rattle.ats_top.specs.Words.{AskWords}
-use Rattle.ats_top.specs.Print.{lines}
-use Rattle.ats_top.specs.RejectionLines.{line_of_rejection}
+use Rattle.ats_console.specs.Words.{AskWords}
+use Rattle.ats_console.specs.Print.{lines}
+use Rattle.ats_console.specs.RejectionLines.{line_of_rejection}
 use Rattle.ats_top.specs.Conversation.{Converses}
 use Rattle.ats_top.specs.Inner.Conversation.{ConversesFed, ConversationStop}
 use Rattle.ats_top.specs.Asked.{question_of, IsReplyRead, IsReplyRejected, IsReplyVerified, CallStop}
 use Rattle.ats_top.specs.Inner.Stops.{AskStop}
-use Rattle.ats_top.specs.Steps.{IsRowCount, AsksRanking, RejectsBytes}
-use Rattle.ats_top.specs.Stops.{line_of_rows, stop_of_query}
-use Rattle.ats_top.specs.declared.stops.Stop.{Stop}
-use Rattle.ats_top.specs.declared.stops.Stop.TheVariants.{Usage, Shelf, Input, Rejected, Memory, Link, Peer, Faults, Collision}
-use Rattle.ats_top.proofs.Fronts.{stops_by}
+use Rattle.ats_console.specs.Steps.{IsRowCount, AsksRanking, RejectsBytes}
+use Rattle.ats_console.specs.Stops.{line_of_rows, stop_of_query}
+use Rattle.ats_console.specs.declared.stops.Stop.{Stop}
+use Rattle.ats_console.specs.declared.stops.Stop.TheVariants.{Usage, Shelf, Input, Rejected, Memory, Link, Peer, Faults, Collision}
+use Rattle.ats_console.proofs.Public.{stops_by}
 
 module _ (address : List ℕ) (question : Question) (before now : CallerTold) where
   kept : (bytes : List ℕ) → ConversesFed address question before now (Whole bytes) → Converses address question before now (Ok bytes)

@@ -8,9 +8,9 @@ use Rattle.ats_wire.specs.Requests.{Question}
 use Rattle.ats_wire.specs.Connections.{is_fault}
 use Rattle.ats_wire.specs.declared.reply.Reply.{Reply}
 use Rattle.ats_wire.specs.declared.serving.Served.{Served}
-use Rattle.ats_top.specs.Words.{ServeWords}
+use Rattle.ats_console.specs.Words.{ServeWords}
 use Rattle.ats_plan.specs.Files.{Files}
-use Rattle.ats_top.specs.Read.{HasIndex}
+use Rattle.ats_console.specs.Read.{HasIndex}
 use Rattle.ats_top.specs.Answering.{gives}
 use Rattle.ats_top.specs.Serving.{Session, HadSessions, Took, FailedToTake, faults_of, line_of_session, session_lines}
 use Rattle.ats_top.specs.Inner.Serving.{DoorAndSink, IsUntold, EndsServing, ServesLinks, Attends}

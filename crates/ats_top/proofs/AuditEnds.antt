@@ -16,16 +16,16 @@ use Rattle.ats_plan.specs.Files.{IsFile}
 use Rattle.ats_plan.specs.Plan.{Finishes, Tries}
 use Rattle.ats_plan.specs.Runs.{IsDone, IsStopped}
 use Rattle.ats_plan.proofs.Public.{Leads, leads_get, done_get, done_try, done_end}
-use Rattle.ats_top.specs.Words.{AuditWords}
-use Rattle.ats_top.specs.Print.{lines}
-use Rattle.ats_top.specs.CollisionLines.{lines_of_collision}
-use Rattle.ats_top.specs.Read.{HasIndex}
-use Rattle.ats_top.specs.Steps.{AsksRanking, checks}
+use Rattle.ats_console.specs.Words.{AuditWords}
+use Rattle.ats_console.specs.Print.{lines}
+use Rattle.ats_console.specs.CollisionLines.{lines_of_collision}
+use Rattle.ats_console.specs.Read.{HasIndex}
+use Rattle.ats_console.specs.Steps.{AsksRanking, checks}
 use Rattle.ats_top.specs.Commands.Audit.{IsAuditedRight, StopsByCollision, audit_plan}
 use Rattle.ats_top.specs.Inner.Stops.{VerdictStop}
-use Rattle.ats_top.specs.declared.stops.Stop.{Stop}
-use Rattle.ats_top.specs.declared.stops.Stop.TheVariants.{Shelf, Memory, Collision}
-use Rattle.ats_top.proofs.Fronts.{memory_stops, get_stops, try_stops}
+use Rattle.ats_console.specs.declared.stops.Stop.{Stop}
+use Rattle.ats_console.specs.declared.stops.Stop.TheVariants.{Shelf, Memory, Collision}
+use Rattle.ats_console.proofs.Public.{memory_stops, get_stops, try_stops}
 
 module _ (H : List ℕ → List ℕ) (words : AuditWords) (before mid : ShelfTold) (query : List (List ℕ × ℕ)) (archive : Archive) (bytes : List ℕ)
     (leads : Leads Shelf Memory (audit_plan H words) before

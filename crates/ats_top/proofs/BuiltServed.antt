@@ -1,4 +1,4 @@
--- A file that is an index is served by `root`, by `prove` and by `migrate`.
+-- A file that is an index is served by each command that reads one.
 use Rattle.std.proofs.Common.{◌≡◌, ◌∙◌, ◌≤◌, ◌^◌, ℕ, List, length, Option, Some, refl, sym, inr, ap, ap₂, arith}
 use Rattle.std.specs.Prelude.{codes, option_map, option_and_then}
 use Rattle.ats_base.specs.Outside.{Holds}
@@ -12,8 +12,12 @@ use Rattle.ats_index.proofs.Public.{index_size, one_archive}
 use Rattle.ats_honest.specs.Honest.{IsProved}
 use Rattle.ats_honest.proofs.Public.{honest_short}
 use Rattle.ats_plan.specs.Files.{Files, IsFile}
-use Rattle.ats_top.specs.Words.{Command, Prove, Root, Migrate, algorithm_of, command_of, number_of, root_words, prove_words, migrate_words}
-use Rattle.ats_top.specs.Steps.{IsRowCount, AsksRanking}
+use Rattle.ats_console.specs.Words.{Command, Prove, Root, Migrate, Give, algorithm_of, command_of, number_of, root_words, prove_words, migrate_words}
+use Rattle.ats_plan.specs.Plan.{Passes}
+use Rattle.ats_console.specs.Read.{HasIndex}
+use Rattle.ats_console.specs.Steps.{IsRowCount, AsksRanking}
+use Rattle.ats_top.specs.Commands.Give.{HasDocument}
+use Rattle.ats_top.specs.Commands.Serve.{serve_plan}
 use Rattle.ats_top.specs.Commands.Migrate.{in_blocks}
 use Rattle.ats_top.specs.Commands.Prove.{IsNotTooLong}
 use Rattle.ats_top.specs.Run.{Said, IsCommandServed}
@@ -39,6 +43,16 @@ module _ (H : List ℕ → List ℕ) (sized : (m : List ℕ) → length (H m) �
 
   pub migrate_served : (migrated : List ℕ) → Said (migrate_words name migrated) (IsCommandServed H files)
   migrate_served migrated = (Migrate (record { index = name; migrated = migrated }), refl, inr (bytes, file, (archive, spelling, λ made is. tt)))
+
+  -- the named file is the index of the archive
+  pub has_index : HasIndex H files name archive
+  has_index = record { bytes = bytes; file = file; spelling = spelling }
+
+  pub serve_passes : (connections : ℕ) (address : List ℕ) → Passes files (serve_plan H (record { index = name; connections = connections; address = address }))
+  serve_passes connections address = inr (bytes, file, (archive, spelling, tt))
+
+  pub give_served : (doc : ℕ) (given : List ℕ) → HasDocument archive doc → IsCommandServed H files (Give (record { index = name; doc = doc; file = given }))
+  give_served doc given inside = inr (bytes, file, (archive, spelling, (inside, λ made is. tt)))
 
   -- if the honest proof has no more bytes than a proof may have
   pub prove_fits : (algorithm : Algorithm) (asked : List (List ℕ × ℕ)) (rows : ℕ) (honest : List ℕ) → IsProved H archive asked rows algorithm honest → length honest ≤ 2 ^ 26

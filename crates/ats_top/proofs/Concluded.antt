@@ -5,16 +5,16 @@ use Rattle.ats_plan.specs.Plan.{Refuses, Passes, ComesToShelf, IsKnown, LacksFir
 use Rattle.ats_plan.specs.Runs.{IsDone, IsStopped}
 use Rattle.ats_plan.specs.Sound.{IsSound}
 use Rattle.ats_plan.proofs.Public.{Cause, Refused, Wanted, Broken, stop_cause, one_refusal, passes_kept, does_passes, does_asked, does_counts, does_later, does_leaves, does_untouched, stops_asked, stops_alone, stops_counts, stops_files, stops_later, stops_leaves, stops_uncounted, stops_untouched}
-use Rattle.ats_top.specs.Words.{Command, command_of}
-use Rattle.ats_top.specs.Stops.{End, Done, Stopped, Unprinted, status_of, status_of_stop, text_of}
+use Rattle.ats_console.specs.Words.{Command, command_of}
+use Rattle.ats_console.specs.Stops.{End, Done, Stopped, Unprinted, status_of, status_of_stop, text_of}
 use Rattle.ats_top.specs.Outside.{Outside}
 use Rattle.ats_top.specs.Commands.{plan_of}
 use Rattle.ats_top.specs.Calling.{HasCalled, HasOpened}
 use Rattle.ats_top.specs.Counts.{CountsFaults}
 use Rattle.ats_top.specs.Serving.{Took}
 use Rattle.ats_top.specs.Run.{Said, IsCompleted, StoppedEarly, StoppedLate, IsHalted, RunEnds, Ended, IsStatus, StopDecides, PassingDecides, HeardDecides, Decides, Excuse, NoMemory, SinkFailed, ShelfFailed, CallerFailed, DoorBroke, HasAsked, Ran}
-use Rattle.ats_top.specs.declared.stops.Stop.{Stop}
-use Rattle.ats_top.specs.declared.stops.Stop.TheVariants.{Usage, Shelf, Input, Rejected, Memory, Link, Peer, Faults, Collision}
+use Rattle.ats_console.specs.declared.stops.Stop.{Stop}
+use Rattle.ats_console.specs.declared.stops.Stop.TheVariants.{Usage, Shelf, Input, Rejected, Memory, Link, Peer, Faults, Collision}
 use Rattle.ats_top.proofs.NoUsage.{halted_otherwise}
 use Rattle.ats_top.proofs.LinkEnds.{served_passes, links_wait, links_served, replied_calls, replied_passes, replied_unread, replied_done, replied_stop}
 

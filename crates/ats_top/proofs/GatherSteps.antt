@@ -7,14 +7,14 @@ use Rattle.ats_plan.specs.Plan.{Plan, Tries}
 use Rattle.ats_plan.specs.Runs.{IsDone, IsStopped}
 use Rattle.ats_plan.proofs.Public.{Leads, leads_none, leads_try, at_memory, at_try, done_end}
 use Rattle.ats_top.specs.Gathered.{content, size, total}
-use Rattle.ats_top.specs.Stops.{line_of_long_proofs}
-use Rattle.ats_top.specs.Inner.Steps.{no_more, comes_to}
+use Rattle.ats_console.specs.Stops.{line_of_long_proofs}
+use Rattle.ats_console.specs.Steps.{no_more, comes_to}
 use Rattle.ats_top.specs.Inner.Sweeping.{entry_names}
 use Rattle.ats_top.specs.Commands.Sweep.{reads_gathered, gathers, PassesRoom}
 use Rattle.ats_top.specs.declared.gathering.Gathered.{Gathered}
 use Rattle.ats_top.specs.declared.listing.Entry.{Entry}
-use Rattle.ats_top.specs.declared.stops.Stop.{Stop}
-use Rattle.ats_top.specs.declared.stops.Stop.TheVariants.{Shelf, Memory, Input}
+use Rattle.ats_console.specs.declared.stops.Stop.{Stop}
+use Rattle.ats_console.specs.declared.stops.Stop.TheVariants.{Shelf, Memory, Input}
 use Rattle.ats_top.proofs.Gathers.{leads_gathered, at_gathered}
 
 -- ---- what is left after the first entries

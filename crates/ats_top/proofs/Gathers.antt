@@ -7,13 +7,13 @@ use Rattle.ats_plan.specs.Plan.{Plan}
 use Rattle.ats_plan.specs.Runs.{Does, Stops, IsDone, IsStopped}
 use Rattle.ats_plan.proofs.Public.{Leads, leads_try, leads_read, leads_long}
 use Rattle.ats_top.specs.Gathered.{IsGathered, AreGathered, total}
-use Rattle.ats_top.specs.Inner.Steps.{no_more, comes_to}
+use Rattle.ats_console.specs.Steps.{no_more, comes_to}
 use Rattle.ats_top.specs.Commands.Sweep.{reads_gathered, gathers}
 use Rattle.ats_top.specs.declared.gathering.Gathered.{Gathered}
 use Rattle.ats_top.specs.declared.gathering.Gathered.TheVariants.{Whole, Long}
-use Rattle.ats_top.specs.declared.stops.Stop.{Stop}
-use Rattle.ats_top.specs.declared.stops.Stop.TheVariants.{Shelf, Memory}
-use Rattle.ats_top.proofs.Fronts.{lands, ran_out}
+use Rattle.ats_console.specs.declared.stops.Stop.{Stop}
+use Rattle.ats_console.specs.declared.stops.Stop.TheVariants.{Shelf, Memory}
+use Rattle.ats_console.proofs.Public.{lands, ran_out}
 
 -- ---- one proof
 

@@ -9,10 +9,10 @@ use Rattle.ats_commit.specs.Root.{root_of}
 use Rattle.ats_honest.specs.Honest.{IsProved}
 use Rattle.ats_client.specs.Bytes.{IsAcceptedBytes}
 use Rattle.ats_accepts.proofs.Public.{proved_accepted, proved_unclashing}
-use Rattle.ats_top.specs.Words.{AskWords, AuditWords, Command, Audit, Verify, number_of, root_word, verify_words, command_of}
+use Rattle.ats_console.specs.Words.{AskWords, AuditWords, Command, Audit, Verify, number_of, root_word, verify_words, command_of}
 use Rattle.ats_plan.specs.Files.{Files, IsFile}
-use Rattle.ats_top.specs.Read.{HasIndex}
-use Rattle.ats_top.specs.Steps.{IsRowCount}
+use Rattle.ats_console.specs.Read.{HasIndex}
+use Rattle.ats_console.specs.Steps.{IsRowCount}
 use Rattle.ats_top.specs.Conversation.{Converses}
 use Rattle.ats_top.specs.Asked.{question_of, Decides}
 use Rattle.ats_top.specs.Run.{Said, IsCommandServed}

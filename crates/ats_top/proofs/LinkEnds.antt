@@ -6,19 +6,19 @@ use Rattle.ats_terms.specs.Query.{IsQueryOf, counted}
 use Rattle.ats_plan.specs.Files.{Files}
 use Rattle.ats_plan.specs.Plan.{Passes, ComesToShelf}
 use Rattle.ats_plan.specs.Runs.{Does, Stops, IsDone, IsStopped}
-use Rattle.ats_top.specs.Words.{AskWords, ServeWords, Command, Ask, Serve}
-use Rattle.ats_top.specs.Inner.Meaning.{serving_of}
+use Rattle.ats_console.specs.Words.{AskWords, ServeWords, Command, Ask, Serve}
+use Rattle.ats_console.specs.Inner.Meaning.{serving_of}
 use Rattle.ats_top.specs.Outside.{Outside}
-use Rattle.ats_top.specs.Steps.{AsksRanking}
+use Rattle.ats_console.specs.Steps.{AsksRanking}
 use Rattle.ats_top.specs.Calling.{MayCall, MayOpen, ReplyDecides}
 use Rattle.ats_top.specs.Commands.{plan_of}
 use Rattle.ats_top.specs.Commands.Ask.{ask_plan}
 use Rattle.ats_top.specs.Commands.Serve.{serve_plan}
 use Rattle.ats_top.specs.Inner.Outcome.{HasLine}
-use Rattle.ats_top.specs.Stops.{status_of_stop}
+use Rattle.ats_console.specs.Stops.{status_of_stop}
 use Rattle.ats_top.specs.Run.{LinksDone, LinksStop, IsCommandServed, DoorFailed}
-use Rattle.ats_top.specs.declared.stops.Stop.{Stop}
-use Rattle.ats_top.specs.declared.stops.Stop.TheVariants.{Shelf, Memory}
+use Rattle.ats_console.specs.declared.stops.Stop.{Stop}
+use Rattle.ats_console.specs.declared.stops.Stop.TheVariants.{Shelf, Memory}
 use Rattle.ats_top.proofs.Linked.{serving_status, serving_line}
 use Rattle.ats_top.proofs.OneReply.{accepted_decides}
 use Rattle.ats_top.proofs.Replies.{decided_asks, stop_decides}

@@ -1,15 +1,15 @@
 -- What follows if serving stopped.
 use Rattle.std.proofs.Common.{◌≡◌, ◌⊎◌, ◌<◌, ℕ, List, refl, inl, inr, arith, is_some}
 use Rattle.ats_base.specs.Links.{DoorTold}
-use Rattle.ats_top.specs.Words.{ServeWords}
+use Rattle.ats_console.specs.Words.{ServeWords}
 use Rattle.ats_plan.specs.Files.{Files}
 use Rattle.ats_top.specs.Inner.Outcome.{HasLine}
-use Rattle.ats_top.specs.Stops.{status_of_stop}
+use Rattle.ats_console.specs.Stops.{status_of_stop}
 use Rattle.ats_top.specs.Answering.{gives}
 use Rattle.ats_top.specs.Served.{AreAllServed, ServingStop}
 use Rattle.ats_top.specs.Run.{HasRisen, DoorFailed}
-use Rattle.ats_top.specs.declared.stops.Stop.{Stop}
-use Rattle.ats_top.specs.declared.stops.Stop.TheVariants.{Usage, Shelf, Input, Rejected, Memory, Link, Peer, Faults, Collision}
+use Rattle.ats_console.specs.declared.stops.Stop.{Stop}
+use Rattle.ats_console.specs.declared.stops.Stop.TheVariants.{Usage, Shelf, Input, Rejected, Memory, Link, Peer, Faults, Collision}
 use Rattle.ats_top.proofs.Opened.{faults_rise}
 
 module _ (H : List ℕ → List ℕ) (files : Files) (words : ServeWords) (before now : DoorTold) (text : List ℕ) where

@@ -5,7 +5,7 @@ use Rattle.std.proofs.lemmas.Bool.{eqb-true}
 use Rattle.std.proofs.lemmas.List.Sums.{split_at_first}
 use Rattle.std.specs.Char.{is_ascii_digit}
 use Rattle.std.specs.Str.{IsUtf8}
-use Rattle.ats_top.specs.Words.{number_of}
+use Rattle.ats_console.specs.Words.{number_of}
 use Rattle.ats_top.specs.Listed.{Listed, IsSpelled, is_unspaced}
 use Rattle.ats_top.proofs.OneList.{parts_one, number_digits}
 

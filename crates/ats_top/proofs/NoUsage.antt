@@ -1,9 +1,9 @@
 -- Only words of no command stop for their words.
 use Rattle.std.proofs.Common.{ℕ, List, inl, inr}
-use Rattle.ats_top.specs.Words.{Command, Ask, Serve}
+use Rattle.ats_console.specs.Words.{Command, Ask, Serve}
 use Rattle.ats_top.specs.Outside.{Outside}
 use Rattle.ats_top.specs.Run.{LinksStop, IsHalted}
-use Rattle.ats_top.specs.declared.stops.Stop.TheVariants.{Usage}
+use Rattle.ats_console.specs.declared.stops.Stop.TheVariants.{Usage}
 use Rattle.ats_top.proofs.Sound.{plan_otherwise}
 
 module _ (H : List ℕ → List ℕ) (before now : Outside) where

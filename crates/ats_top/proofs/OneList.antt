@@ -4,7 +4,7 @@ use Rattle.std.specs.List.{AllZip, list_all}
 use Rattle.std.specs.Char.{is_ascii_digit}
 use Rattle.std.specs.Str.Parse.{digits_value}
 use Rattle.std.proofs.lemmas.Slice.Zip.{AllZip-long}
-use Rattle.ats_top.specs.Words.{is_number_word, number_of}
+use Rattle.ats_console.specs.Words.{is_number_word, number_of}
 use Rattle.ats_top.specs.Listed.{Listed, lines_of, IsSpelled, IsListed, IsListOf, IsBadLine}
 
 both : (x y : Bool) → (x && y) ≡ true → (x ≡ true) × (y ≡ true)

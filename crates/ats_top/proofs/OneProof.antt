@@ -7,9 +7,9 @@ use Rattle.ats_proof.specs.Value.{Proof, IsProof, fields_of}
 use Rattle.ats_honest.specs.Honest.{IsHonest, IsTooLong, length_of}
 use Rattle.ats_honest.proofs.Public.{one_proof}
 use Rattle.ats_top.specs.Commands.Prove.{IsMade, IsNotTooLong, IsUnmade}
-use Rattle.ats_top.specs.Stops.{line_of_long_proof}
-use Rattle.ats_top.specs.declared.stops.Stop.{Stop}
-use Rattle.ats_top.specs.declared.stops.Stop.TheVariants.{Input}
+use Rattle.ats_console.specs.Stops.{line_of_long_proof}
+use Rattle.ats_console.specs.declared.stops.Stop.{Stop}
+use Rattle.ats_console.specs.declared.stops.Stop.TheVariants.{Input}
 
 -- bytes that spell a proof are its fields
 spelled_fields : (bytes : List ℕ) (proof : Proof) → IsProof bytes proof → bytes ≡ concat (fields_of proof)

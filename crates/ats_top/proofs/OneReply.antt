@@ -4,7 +4,7 @@ use Rattle.ats_base.specs.Links.{CallerTold}
 use Rattle.ats_client.specs.Bytes.{IsAcceptedBytes}
 use Rattle.ats_client.specs.declared.fault.Rejection.{Rejection}
 use Rattle.ats_client.proofs.Public.{accepted_kept}
-use Rattle.ats_top.specs.Words.{AskWords, Command, Ask}
+use Rattle.ats_console.specs.Words.{AskWords, Command, Ask}
 use Rattle.ats_top.specs.Calling.{ReplyDecides}
 use Rattle.ats_top.specs.Asked.{question_of, IsReplyRead, IsReplyAccepted, IsReplyRejected, IsReplyFault, Decides}
 use Rattle.ats_top.proofs.Conversing.{one_reply}

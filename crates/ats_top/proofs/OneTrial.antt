@@ -9,10 +9,10 @@ use Rattle.ats_proof.specs.declared.record.Algorithm.{Algorithm}
 use Rattle.ats_proof.specs.declared.record.Algorithm.TheVariants.{Tra, Tnra}
 use Rattle.ats_honest.specs.Honest.{IsHonest, IsTooLong}
 use Rattle.ats_top.specs.Trial.{trial_archive, turn, IsTrialProof, AreQueries, IsTrialQueryRefused, IsTrialTooLong, IsTrialRefused, IsTrialServed, RefusesTrial}
-use Rattle.ats_top.specs.Stops.{line_of_long_proof, stop_of_query}
-use Rattle.ats_top.specs.declared.stops.Stop.{Stop}
-use Rattle.ats_top.specs.declared.stops.Stop.TheVariants.{Input, Memory}
-use Rattle.ats_top.proofs.OneFault.{no_query_fault, one_query_fault}
+use Rattle.ats_console.specs.Stops.{line_of_long_proof, stop_of_query}
+use Rattle.ats_console.specs.declared.stops.Stop.{Stop}
+use Rattle.ats_console.specs.declared.stops.Stop.TheVariants.{Input, Memory}
+use Rattle.ats_console.proofs.Public.{no_query_fault, one_query_fault}
 use Rattle.ats_top.proofs.OneProof.{honest_short, one_length}
 
 -- lines of one stop are one

@@ -9,7 +9,7 @@ use Rattle.ats_wire.specs.Requests.{Question}
 use Rattle.ats_wire.specs.Connections.{is_fault}
 use Rattle.ats_wire.specs.Moving.{FailsOnce}
 use Rattle.ats_wire.specs.declared.reply.Reply.{Reply}
-use Rattle.ats_top.specs.Words.{ServeWords}
+use Rattle.ats_console.specs.Words.{ServeWords}
 use Rattle.ats_plan.specs.Files.{Files}
 use Rattle.ats_top.specs.Serving.{Session, IsSession, after_session, broken_after, FailedToAccept, faults_of}
 use Rattle.ats_top.specs.Inner.Serving.{DoorAndSink, Attends}

@@ -2,12 +2,12 @@
 use Rattle.std.proofs.Common.{◌≡◌, ◌⊎◌, ℕ, List, IsSome, refl, inl, inr}
 use Rattle.ats_base.specs.Outside.{Rose}
 use Rattle.ats_base.specs.Links.{CallerTold}
-use Rattle.ats_top.specs.Words.{AskWords}
-use Rattle.ats_top.specs.Steps.{AsksRanking}
+use Rattle.ats_console.specs.Words.{AskWords}
+use Rattle.ats_console.specs.Steps.{AsksRanking}
 use Rattle.ats_top.specs.Asked.{CallStop, Decides}
-use Rattle.ats_top.specs.Stops.{status_of_stop}
-use Rattle.ats_top.specs.declared.stops.Stop.{Stop}
-use Rattle.ats_top.specs.declared.stops.Stop.TheVariants.{Rejected, Memory, Link, Peer}
+use Rattle.ats_console.specs.Stops.{status_of_stop}
+use Rattle.ats_console.specs.declared.stops.Stop.{Stop}
+use Rattle.ats_console.specs.declared.stops.Stop.TheVariants.{Rejected, Memory, Link, Peer}
 use Rattle.ats_top.proofs.OneReply.{rejected_decides, fault_decides}
 
 module _ (H : List ℕ → List ℕ) (before now : CallerTold) (words : AskWords) where

@@ -2,16 +2,15 @@
 use Rattle.std.proofs.Common.{◌≡◌, ◌≢◌, ◌≤◌, ◌∙◌, ℕ, List, [], Result, Ok, Err, Some, refl, sym, subst, inl, inr, arith}
 use Rattle.ats_base.specs.Outside.{ShelfTold, SinkTold}
 use Rattle.ats_base.specs.Links.{CallerTold, DoorTold}
-use Rattle.ats_top.specs.Words.{ServeWords, Serve, command_of}
+use Rattle.ats_console.specs.Words.{ServeWords, Serve, command_of}
 use Rattle.ats_top.specs.Outside.{Outside}
 use Rattle.ats_commit.specs.Archive.{Archive}
 use Rattle.ats_plan.specs.Files.{Files}
 use Rattle.ats_plan.specs.Runs.{IsDone, IsStopped}
 use Rattle.ats_plan.proofs.Public.{leads_none, done_end}
-use Rattle.ats_top.specs.Steps.{reads_index}
-use Rattle.ats_top.specs.Inner.Steps.{no_more, comes_to}
+use Rattle.ats_console.specs.Steps.{reads_index, no_more, comes_to}
 use Rattle.ats_top.specs.Commands.Serve.{serve_plan}
-use Rattle.ats_top.specs.Stops.{Done, Unprinted}
+use Rattle.ats_console.specs.Stops.{Done, Unprinted}
 use Rattle.ats_top.specs.Inner.Serving.{DoorAndSink, Attends}
 use Rattle.ats_top.specs.Serving.{Took, FailedToTake}
 use Rattle.ats_top.specs.Served.{AreAllServed}
@@ -19,9 +18,9 @@ use Rattle.ats_top.specs.Inner.Outcome.{PrintsStop, PrintsOutcome}
 use Rattle.ats_top.specs.Run.{Ended}
 use Rattle.ats_top.specs.declared.serving.Halt.{Halt}
 use Rattle.ats_top.specs.declared.serving.Halt.TheVariants.{Door, Sink, Memory}
-use Rattle.ats_top.specs.declared.stops.Stop.{Stop}
-use Rattle.ats_top.specs.declared.stops.Stop.TheVariants as stop
-use Rattle.ats_top.proofs.Fronts.{leads_index, at_index, memory_stops}
+use Rattle.ats_console.specs.declared.stops.Stop.{Stop}
+use Rattle.ats_console.specs.declared.stops.Stop.TheVariants as stop
+use Rattle.ats_console.proofs.Public.{leads_index, at_index, memory_stops}
 use Rattle.ats_top.proofs.Stopped.{stop_ended, stopped_after}
 
 -- the count of the sink did not fall

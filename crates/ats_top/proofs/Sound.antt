@@ -1,6 +1,6 @@
 -- The plan of each command goes one way at most, and stops none for its words.
-use Rattle.std.proofs.Common.{◌≡◌, ◌≢◌, ◌≤◌, ◌^◌, ◌++◌, ◌∷◌, ◌∙◌, ℕ, Bool, true, false, List, [], None, sym, ap, arith, true≢false}
-use Rattle.std.specs.List.{list_any}
+use Rattle.std.proofs.Common.{◌≡◌, ◌≢◌, ◌≤◌, ◌^◌, ◌++◌, ◌∷◌, ◌∙◌, append-nil, ℕ, Bool, true, false, List, [], None, sym, ap, arith, true≢false}
+use Rattle.std.specs.List.{concat, list_any}
 use Rattle.ats_base.specs.Outside.{ShelfTold}
 use Rattle.ats_terms.specs.declared.query.QueryFault.{QueryFault}
 use Rattle.ats_terms.specs.declared.query.QueryFault.TheVariants as query
@@ -8,8 +8,8 @@ use Rattle.ats_impact.specs.declared.collection.CollectionFault.{CollectionFault
 use Rattle.ats_impact.specs.declared.collection.CollectionFault.TheVariants as collection
 use Rattle.ats_index.specs.declared.load.LoadFault.{LoadFault}
 use Rattle.ats_index.specs.declared.load.LoadFault.TheVariants as index
-use Rattle.ats_top.specs.declared.input.JsonFault.{JsonFault}
-use Rattle.ats_top.specs.declared.input.JsonFault.TheVariants as json
+use Rattle.ats_console.specs.declared.input.JsonFault.{JsonFault}
+use Rattle.ats_console.specs.declared.input.JsonFault.TheVariants as json
 use Rattle.ats_terms.specs.Query.{IsQueryOf}
 use Rattle.ats_terms.specs.Faults.{IsFirstFault}
 use Rattle.ats_impact.specs.Limits.{AreWithin}
@@ -17,6 +17,8 @@ use Rattle.ats_impact.specs.CollectionFaults.{IsFirstCollectionFault}
 use Rattle.ats_tree.specs.Differences.{Difference}
 use Rattle.ats_tree.specs.declared.hashed.Place.{Place}
 use Rattle.ats_commit.specs.Archive.{Archive}
+use Rattle.ats_commit.specs.Root.{root_of}
+use Rattle.ats_grammar.specs.declared.fault.ShapeFault.{ShapeFault}
 use Rattle.ats_index.specs.Spelling.{IsSpelling}
 use Rattle.ats_index.specs.LoadFaults.{IsLoadFault}
 use Rattle.ats_index.proofs.Public.{one_archive}
@@ -32,30 +34,38 @@ use Rattle.ats_plan.specs.Avoids.{Avoids}
 use Rattle.ats_plan.specs.Runs.{IsStopped}
 use Rattle.ats_plan.specs.Sound.{IsExact, IsOne, IsSound}
 use Rattle.ats_plan.proofs.Public.{stops_otherwise}
-use Rattle.ats_top.specs.Input.{AreJsonTexts, IsFirstJsonFault}
-use Rattle.ats_top.specs.Words.{Command, Rank, Build, Root, Prove, Verify, Ask, Serve, Audit, Sweep, Trial, Migrate, SweepWords}
-use Rattle.ats_top.specs.RejectionLines.{line_of_rejection}
-use Rattle.ats_top.specs.CollisionLines.{lines_of_collision}
-use Rattle.ats_top.specs.Stops.{line_of_rows, line_of_bad_line, stop_of_query, stop_of_json, stop_of_collection, stop_of_load}
+use Rattle.ats_console.specs.Input.{AreJsonTexts, IsFirstJsonFault}
+use Rattle.ats_console.specs.Words.{Command, Rank, Build, Root, Prove, Verify, Ask, Serve, Audit, Sweep, Trial, Migrate, Give, Fetch, AuditFetch, Grow, Growth, SweepWords}
+use Rattle.ats_console.specs.RejectionLines.{line_of_rejection}
+use Rattle.ats_console.specs.CollisionLines.{lines_of_collision}
+use Rattle.ats_console.specs.Stops.{line_of_rows, line_of_bad_line, stop_of_query, stop_of_json, stop_of_collection, stop_of_load}
 use Rattle.ats_top.specs.Listed.{Listed, lines_of, IsListOf, names_of}
 use Rattle.ats_top.specs.Gathered.{total}
 use Rattle.ats_top.specs.Findings.{Finding, is_refused, is_collision, lines_of_findings}
 use Rattle.ats_top.specs.Trial.{IsTrialServed, RefusesTrial}
-use Rattle.ats_top.specs.Steps.{StopsBy, IsRowCount, asks_ranking, reads_collection, reads_index, RejectsBytes, checks}
+use Rattle.ats_console.specs.Steps.{StopsBy, IsRowCount, asks_ranking, reads_collection, reads_index, RejectsBytes, checks, checks_file}
 use Rattle.ats_top.specs.Commands.{plan_of}
 use Rattle.ats_top.specs.Commands.Prove.{IsNotTooLong, IsUnmade}
 use Rattle.ats_top.specs.Commands.Audit.{StopsByCollision}
+use Rattle.ats_top.specs.Commands.Give.{HasDocument, LacksDocument}
+use Rattle.ats_top.specs.TextLines.{text_refusal_words}
 use Rattle.ats_top.specs.Commands.Sweep.{IsListStop, PassesRoom, gathers, concludes, audits, sweeps}
 use Rattle.ats_top.specs.declared.gathering.Gathered.{Gathered}
 use Rattle.ats_top.specs.declared.gathering.Gathered.TheVariants.{Whole, Long}
-use Rattle.ats_top.specs.declared.stops.Stop.{Stop}
-use Rattle.ats_top.specs.declared.stops.Stop.TheVariants.{Usage, Shelf, Input, Rejected, Memory, Collision}
-use Rattle.ats_top.proofs.JsonLemmas.{same_texts, no_json_fault}
-use Rattle.ats_top.proofs.OneFault.{no_query_fault, one_query_fault, one_json_fault, no_collection_fault, one_collection_fault, no_load_fault, one_load_fault}
+use Rattle.ats_console.specs.declared.stops.Stop.{Stop}
+use Rattle.ats_console.specs.declared.stops.Stop.TheVariants.{Usage, Shelf, Input, Rejected, Memory, Collision}
+use Rattle.ats_console.proofs.Public.{same_texts, no_json_fault, no_query_fault, one_query_fault, one_json_fault, no_collection_fault, one_collection_fault, no_load_fault, one_load_fault}
 use Rattle.ats_top.proofs.OneList.{one_list, no_bad_line, one_bad_line}
 use Rattle.ats_top.proofs.OneFinding.{none_found, one_found, one_accepted, one_findings}
 use Rattle.ats_top.proofs.OneProof.{one_made, one_unmade}
 use Rattle.ats_top.proofs.OneTrial.{trial_kept, one_trial}
+use Rattle.ats_top.proofs.OneFile.{IsFileOne, file_one, not_usage}
+use Rattle.ats_top.proofs.OneText.{text_file_one, text_collision_exact}
+use Rattle.ats_top.proofs.OneGrowth.{growth_file_one, kept_exact}
+use Rattle.ats_top.specs.GrowthLines.{growth_refusal_words}
+use Rattle.ats_growth.specs.Honest.{honest}
+use Rattle.ats_growth.specs.Value.{Growth as GrowthValue, IsGrowth, fields_of as growth_fields}
+use Rattle.ats_fetch.proofs.Public.{one_join}
 
 -- ---- steps
 
@@ -207,6 +217,11 @@ checks_sound : {H : List ℕ → List ℕ} {root : List ℕ} {query : List (List
     → ((proof : Proof) → Sound (rest proof)) → Sound (checks H root query r bytes rest)
 checks_sound {H = H} {root = root} {query = query} {r = r} {bytes = bytes} later = gets (proof_one H root query r bytes) (λ stops. not_rejected stops.2) later
 
+-- a file of another kind
+file_sound : {V F : Type 0} {accepted : V → Type 0} {bad : ShapeFault → Type 0} {refused : F → Type 0} {rest : V → Plan Stop} (words_of : F → List ℕ)
+    → IsFileOne accepted bad refused → ((v : V) → Sound (rest v)) → Sound (checks_file accepted bad refused words_of rest)
+file_sound words_of is later = gets (file_one words_of is) (not_usage words_of) later
+
 -- ---- the steps of one command
 
 module _ (H : List ℕ → List ℕ) (archive : Archive) (query : List (List ℕ × ℕ)) where
@@ -271,6 +286,16 @@ sweeps_sound H words archive bytes =
 trial_exact : (H : List ℕ → List ℕ) (number : ℕ) → IsExact (IsTrialServed H number) (RefusesTrial H number)
 trial_exact H number = record { breaks = trial_kept H number; one = one_trial H number }
 
+document_exact : (archive : Archive) (doc : ℕ) → IsExact (HasDocument archive doc) (LacksDocument archive doc)
+document_exact archive doc = record {
+  breaks = λ stop lacks has. lacks.0 has;
+  one = λ a b is also. is.1 ∙ sym also.1;
+}
+
+-- bytes that show a growth are its fields
+growth_bytes : (growth : GrowthValue) (bytes : List ℕ) → IsGrowth bytes growth → bytes ≡ concat (growth_fields growth)
+growth_bytes growth bytes is = is.whole.parts ∙ append-nil (concat (growth_fields growth))
+
 -- ---- the commands
 
 command_sound : (H : List ℕ → List ℕ) (command : Command) → Sound (plan_of H command)
@@ -287,6 +312,14 @@ command_sound H (Audit words) =
 command_sound H (Sweep words) = index_sound (λ archive. reads (fails not_input) (λ bytes. sweeps_sound H words archive bytes))
 command_sound H (Trial words) = tries (trial_exact H words.number) (λ stops. not_input stops.2) ends
 command_sound H (Migrate words) = index_sound (λ archive. makes (λ a b is also. is.same ∙ sym also.same) (λ bytes. stores))
+command_sound H (Give words) = index_sound (λ archive. tries (document_exact archive words.doc) (λ stops. not_input stops.1)
+    (makes (λ a b is also. one_join a b _ is also) (λ bytes. stores)))
+command_sound H (Fetch words) = reads (fails not_rejected) (λ bytes. file_sound text_refusal_words (text_file_one H words.root words.doc bytes) (λ proof. ends))
+command_sound H (AuditFetch words) = index_sound (λ archive. reads (fails not_rejected) (λ bytes. file_sound text_refusal_words (text_file_one H (root_of H archive) words.doc bytes)
+    (λ proof. tries (text_collision_exact H archive words.doc proof) (λ stops. not_collision stops.2) ends)))
+command_sound H (Grow words) = index_sound (λ older. index_sound (λ newer. tries (kept_exact older newer) (λ stops. not_input stops.2)
+    (makes (λ a b is also. growth_bytes (honest H older newer) a is ∙ sym (growth_bytes (honest H older newer) b also)) (λ bytes. stores))))
+command_sound H (Growth words) = reads (fails not_rejected) (λ bytes. file_sound growth_refusal_words (growth_file_one H words.old words.new bytes) (λ growth. ends))
 
 pub plan_sound : (H : List ℕ → List ℕ) (command : Command) → IsSound (plan_of H command)
 plan_sound H command = (command_sound H command).so

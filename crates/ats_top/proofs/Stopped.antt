@@ -6,18 +6,18 @@ use Rattle.ats_base.specs.Links.{CallerTold, DoorTold}
 use Rattle.ats_plan.specs.Plan.{Refuses}
 use Rattle.ats_plan.specs.Runs.{IsDone, IsStopped}
 use Rattle.ats_plan.proofs.Public.{at_memory, stops_memory}
-use Rattle.ats_top.specs.Words.{AskWords, Command, Ask, command_of}
+use Rattle.ats_console.specs.Words.{AskWords, Command, Ask, command_of}
 use Rattle.ats_top.specs.Outside.{Outside}
 use Rattle.ats_top.specs.Commands.{plan_of}
 use Rattle.ats_top.specs.Commands.Ask.{ask_plan}
 use Rattle.ats_top.specs.Asked.{IsReplyVerified}
 use Rattle.ats_top.specs.Inner.Stops.{AskStop}
 use Rattle.ats_top.specs.Serving.{Took}
-use Rattle.ats_top.specs.Stops.{End, Done, Stopped, status_of_stop, text_of_stop}
+use Rattle.ats_console.specs.Stops.{End, Done, Stopped, status_of_stop, text_of_stop}
 use Rattle.ats_top.specs.Inner.Outcome.{HasLine, PrintsStop}
 use Rattle.ats_top.specs.Run.{LinksDone, StoppedEarly, IsHalted, RunEnds, Prints, Ended}
-use Rattle.ats_top.specs.declared.stops.Stop.{Stop}
-use Rattle.ats_top.specs.declared.stops.Stop.TheVariants.{Usage, Shelf, Memory}
+use Rattle.ats_console.specs.declared.stops.Stop.{Stop}
+use Rattle.ats_console.specs.declared.stops.Stop.TheVariants.{Usage, Shelf, Memory}
 use Rattle.ats_top.proofs.LinkEnds.{ask_done, links_memory}
 use Rattle.ats_top.proofs.Sessions.{took_then, failed_then}
 

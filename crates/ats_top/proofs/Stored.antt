@@ -5,8 +5,8 @@ use Rattle.ats_plan.specs.Files.{Files}
 use Rattle.ats_plan.specs.Plan.{Plan, Stores}
 use Rattle.ats_plan.specs.Runs.{IsDone, IsStopped}
 use Rattle.ats_plan.proofs.Public.{Leads, done_store, at_store}
-use Rattle.ats_top.specs.declared.stops.Stop.{Stop}
-use Rattle.ats_top.specs.declared.stops.Stop.TheVariants.{Shelf, Memory}
+use Rattle.ats_console.specs.declared.stops.Stop.{Stop}
+use Rattle.ats_console.specs.declared.stops.Stop.TheVariants.{Shelf, Memory}
 
 module _ {plan : Plan Stop} {before mid now : ShelfTold} {name bytes : List ℕ} {says : Files → Files → List ℕ → Type 0}
     (leads : Leads Shelf Memory plan before (Stores name bytes says) mid) (asked : Asked mid.asked now.asked (StoresOnce name)) where

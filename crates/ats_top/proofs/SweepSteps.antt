@@ -11,21 +11,20 @@ use Rattle.ats_plan.specs.Files.{Files, IsFile}
 use Rattle.ats_plan.specs.Plan.{Plan, Finishes}
 use Rattle.ats_plan.specs.Runs.{IsDone, IsStopped}
 use Rattle.ats_plan.proofs.Public.{Leads, leads_none, leads_try, leads_get, leads_make, at_memory, at_try, done_end}
-use Rattle.ats_top.specs.Words.{SweepWords}
-use Rattle.ats_top.specs.Read.{HasIndex}
+use Rattle.ats_console.specs.Words.{SweepWords}
+use Rattle.ats_console.specs.Read.{HasIndex}
 use Rattle.ats_top.specs.Listed.{Listed, lines_of, IsListOf, names_of}
 use Rattle.ats_top.specs.Inner.Sweeping.{IsEntry, AreJobs, entry_names, findings_of, IsReport, ConclusionStop}
 use Rattle.ats_top.specs.Gathered.{AreGathered}
 use Rattle.ats_top.specs.Findings.{Finding, AreFound, AreFindings, IsSwept}
-use Rattle.ats_top.specs.Steps.{reads_file, reads_index}
-use Rattle.ats_top.specs.Inner.Steps.{no_more, comes_to}
+use Rattle.ats_console.specs.Steps.{reads_file, reads_index, no_more, comes_to}
 use Rattle.ats_top.specs.Commands.Sweep.{IsListStop, gathers, concludes, audits, sweeps, sweep_plan}
 use Rattle.ats_top.specs.declared.gathering.Gathered.{Gathered}
 use Rattle.ats_top.specs.declared.listing.Entry.{Entry}
 use Rattle.ats_top.specs.declared.sweeping.Report.{Report}
-use Rattle.ats_top.specs.declared.stops.Stop.{Stop}
-use Rattle.ats_top.specs.declared.stops.Stop.TheVariants.{Usage, Shelf, Input, Rejected, Memory, Link, Peer, Faults, Collision}
-use Rattle.ats_top.proofs.Fronts.{leads_index, leads_bytes, has_index, has_bytes, same_index, same_bytes, at_bytes, at_index, get_stops}
+use Rattle.ats_console.specs.declared.stops.Stop.{Stop}
+use Rattle.ats_console.specs.declared.stops.Stop.TheVariants.{Usage, Shelf, Input, Rejected, Memory, Link, Peer, Faults, Collision}
+use Rattle.ats_console.proofs.Public.{leads_index, leads_bytes, has_index, has_bytes, same_index, same_bytes, at_bytes, at_index, get_stops}
 use Rattle.ats_top.proofs.ListEntries.{listed_of, listed_names, list_is}
 use Rattle.ats_top.proofs.Gathers.{leads_gathers, at_gathers, has_gathers, same_gathers}
 use Rattle.ats_top.proofs.JobSteps.{found_each}

@@ -31,12 +31,12 @@ use Rattle.ats_base.specs.Outside.{ShelfTold}
 use Rattle.ats_plan.specs.Runs.{IsDone, IsStopped}
 use Rattle.ats_plan.proofs.Public.{done_try, done_end, at_memory, at_try}
 use Rattle.ats_top.specs.Commands.Trial.{trial_plan}
-use Rattle.ats_top.specs.Stops.{stop_of_query, line_of_long_proof}
-use Rattle.ats_top.specs.Print.{line_of_root}
+use Rattle.ats_console.specs.Stops.{stop_of_query, line_of_long_proof}
+use Rattle.ats_console.specs.Print.{line_of_root}
 use Rattle.ats_top.specs.Trial.{line_of_proofs, lines_of_trial, shown_entries, trial_archive, turn, IsTried, AreQueries, AreTrialProofs, IsTrialProof, IsTrial, IsTrialTooLong, IsTrialServed}
 use Rattle.ats_top.specs.Inner.Trial.{tally_of, counted, AreTried, AreTriedLines, AreTrialQueries, is_right, IsTryStop, IsTriesStop, IsTrialStop}
-use Rattle.ats_top.specs.declared.stops.Stop.{Stop}
-use Rattle.ats_top.specs.declared.stops.Stop.TheVariants.{Shelf, Input, Memory}
+use Rattle.ats_console.specs.declared.stops.Stop.{Stop}
+use Rattle.ats_console.specs.declared.stops.Stop.TheVariants.{Shelf, Input, Memory}
 use Rattle.ats_top.specs.declared.trial.Tally.{Tally}
 use Rattle.ats_top.proofs.OneTrial.{tried_short}
 

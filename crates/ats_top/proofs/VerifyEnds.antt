@@ -10,13 +10,13 @@ use Rattle.ats_plan.specs.Files.{IsFile}
 use Rattle.ats_plan.specs.Plan.{Finishes}
 use Rattle.ats_plan.specs.Runs.{IsDone, IsStopped}
 use Rattle.ats_plan.proofs.Public.{Leads, done_get, done_end}
-use Rattle.ats_top.specs.Words.{VerifyWords}
-use Rattle.ats_top.specs.Print.{lines}
-use Rattle.ats_top.specs.Steps.{IsRowCount, AsksRanking, RejectsBytes, checks}
+use Rattle.ats_console.specs.Words.{VerifyWords}
+use Rattle.ats_console.specs.Print.{lines}
+use Rattle.ats_console.specs.Steps.{IsRowCount, AsksRanking, RejectsBytes, checks}
 use Rattle.ats_top.specs.Commands.Verify.{IsVerified, verify_plan}
-use Rattle.ats_top.specs.declared.stops.Stop.{Stop}
-use Rattle.ats_top.specs.declared.stops.Stop.TheVariants.{Shelf, Memory}
-use Rattle.ats_top.proofs.Fronts.{get_stops}
+use Rattle.ats_console.specs.declared.stops.Stop.{Stop}
+use Rattle.ats_console.specs.declared.stops.Stop.TheVariants.{Shelf, Memory}
+use Rattle.ats_console.proofs.Public.{get_stops}
 
 pub rows_of_range : (r : ℕ) → (1 ≤ r) × (r ≤ 1000) → IsRowCount r
 rows_of_range r within = record { some = within.0; few = within.1 }

@@ -9,13 +9,13 @@ use Rattle.ats_client.specs.Headline.{IsTopOrCollides}
 use Rattle.ats_client.specs.Rows.{rows_of}
 use Rattle.ats_audit.specs.Verdicts.{IsTopOrTold}
 use Rattle.ats_client.specs.declared.fault.Rejection.{Rejection}
-use Rattle.ats_top.specs.Words.{AskWords}
-use Rattle.ats_top.specs.Print.{lines}
+use Rattle.ats_console.specs.Words.{AskWords}
+use Rattle.ats_console.specs.Print.{lines}
 use Rattle.ats_top.specs.Conversation.{Converses, LosesLink, HearsFault}
-use Rattle.ats_top.specs.Steps.{AsksRanking}
-use Rattle.ats_top.specs.RejectionLines.{IsRejectionLine}
-use Rattle.ats_top.specs.declared.stops.Stop.{Stop}
-use Rattle.ats_top.specs.declared.stops.Stop.TheVariants.{Rejected, Memory, Link, Peer}
+use Rattle.ats_console.specs.Steps.{AsksRanking}
+use Rattle.ats_console.specs.RejectionLines.{IsRejectionLine}
+use Rattle.ats_console.specs.declared.stops.Stop.{Stop}
+use Rattle.ats_console.specs.declared.stops.Stop.TheVariants.{Rejected, Memory, Link, Peer}
 
 -- the question of these words
 abbrev pub question_of : AskWords → Question

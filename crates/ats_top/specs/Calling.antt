@@ -1,8 +1,8 @@
 -- Which commands call, which open the door, and what they leave of the caller and of the door.
 use Rattle.std.specs.Prelude.{ℕ, List}
 use Rattle.ats_base.specs.Links.{CallerTold, DoorTold}
-use Rattle.ats_top.specs.Words.{Command, Ask, Serve}
-use Rattle.ats_top.specs.Steps.{AsksRanking}
+use Rattle.ats_console.specs.Words.{Command, Ask, Serve}
+use Rattle.ats_console.specs.Steps.{AsksRanking}
 use Rattle.ats_top.specs.Conversation.{Calls}
 use Rattle.ats_top.specs.Asked.{question_of, Decides}
 use Rattle.ats_top.specs.Served.{Opens}

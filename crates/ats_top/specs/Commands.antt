@@ -1,8 +1,8 @@
 -- The plan of each command. What `ask` and `serve` do after it, over links, is in Asked and Served.
 use Rattle.std.specs.Prelude.{ℕ, List}
 use Rattle.ats_plan.specs.Plan.{Plan}
-use Rattle.ats_top.specs.Words.{Command}
-use Rattle.ats_top.specs.Words as command
+use Rattle.ats_console.specs.Words.{Command}
+use Rattle.ats_console.specs.Words as command
 use Rattle.ats_top.specs.Commands.Rank.{rank_plan}
 use Rattle.ats_top.specs.Commands.Build.{build_plan}
 use Rattle.ats_top.specs.Commands.Root.{root_plan}
@@ -14,7 +14,12 @@ use Rattle.ats_top.specs.Commands.Audit.{audit_plan}
 use Rattle.ats_top.specs.Commands.Sweep.{sweep_plan}
 use Rattle.ats_top.specs.Commands.Trial.{trial_plan}
 use Rattle.ats_top.specs.Commands.Migrate.{migrate_plan}
-use Rattle.ats_top.specs.declared.stops.Stop.{Stop}
+use Rattle.ats_top.specs.Commands.Give.{give_plan}
+use Rattle.ats_top.specs.Commands.Fetch.{fetch_plan}
+use Rattle.ats_top.specs.Commands.AuditFetch.{audit_fetch_plan}
+use Rattle.ats_top.specs.Commands.Grow.{grow_plan}
+use Rattle.ats_top.specs.Commands.Growth.{growth_plan}
+use Rattle.ats_console.specs.declared.stops.Stop.{Stop}
 pub mod Rank
 pub mod Build
 pub mod Root
@@ -26,6 +31,11 @@ pub mod Audit
 pub mod Sweep
 pub mod Trial
 pub mod Migrate
+pub mod Give
+pub mod Fetch
+pub mod AuditFetch
+pub mod Grow
+pub mod Growth
 
 abbrev pub plan_of : (List ℕ → List ℕ) → Command → Plan Stop
 plan_of H (command.Rank words) = rank_plan words
@@ -39,3 +49,8 @@ plan_of H (command.Audit words) = audit_plan H words
 plan_of H (command.Sweep words) = sweep_plan H words
 plan_of H (command.Trial words) = trial_plan H words
 plan_of H (command.Migrate words) = migrate_plan H words
+plan_of H (command.Give words) = give_plan H words
+plan_of H (command.Fetch words) = fetch_plan H words
+plan_of H (command.AuditFetch words) = audit_fetch_plan H words
+plan_of H (command.Grow words) = grow_plan H words
+plan_of H (command.Growth words) = growth_plan H words

@@ -1,13 +1,27 @@
 -- A conversation: an address is called, one question is asked over the link, and the link is given back.
-use Rattle.std.specs.Prelude.{◌≡◌, ◌⊎◌, ℕ, true, List, is_some, option_map, Result, Err}
+use Rattle.std.specs.Prelude.{◌≡◌, ◌⊎◌, ◌++◌, ℕ, true, List, codes, decimal, is_some, option_map, Result, Err}
 use Rattle.ats_base.specs.Outside.{Rose}
 use Rattle.ats_base.specs.Links.{LinkTold, CallerTold, IsNew, IsCalledAt, MayNoteCall, calling_out, called_back, counted_broken}
 use Rattle.ats_wire.specs.Requests.{Question}
 use Rattle.ats_wire.specs.Asking.{IsAsked, IsHeard}
 use Rattle.ats_wire.specs.declared.asking.AskFault.{AskFault}
 use Rattle.ats_wire.specs.declared.asking.AskFault.TheVariants.{ReadFault, WriteFault}
-use Rattle.ats_top.specs.Stops.{stop_of_asking}
-use Rattle.ats_top.specs.declared.stops.Stop.TheVariants.{Peer}
+use Rattle.ats_wire.specs.declared.asking.AskFault.TheVariants as asking
+use Rattle.ats_console.specs.Stops.{peer_line}
+use Rattle.ats_console.specs.declared.stops.Stop.{Stop}
+use Rattle.ats_console.specs.declared.stops.Stop.TheVariants.{Memory, Link, Peer}
+
+-- the stop of each fault of asking, with its line
+abbrev pub stop_of_asking : AskFault → Stop
+stop_of_asking (asking.ShortReply got wanted) =
+    Peer (peer_line (codes "short " ++ (decimal got ++ (codes " " ++ decimal wanted))))
+stop_of_asking (asking.LongReply size) = Peer (peer_line (codes "long " ++ decimal size))
+stop_of_asking (asking.BadReply size kind) =
+    Peer (peer_line (codes "bad " ++ (decimal size ++ (codes " " ++ decimal kind))))
+stop_of_asking (asking.PeerRefused code) = Peer (peer_line (codes "refused " ++ decimal code))
+stop_of_asking asking.ReadFault = Link
+stop_of_asking asking.WriteFault = Link
+stop_of_asking asking.OutOfMemory = Memory
 
 -- The address was called, the question was asked over the link, with this result, and the link was given back. The
 -- record has the link as it was received and as it was given back.

@@ -13,12 +13,12 @@ use Rattle.ats_client.specs.Bytes.{IsRejectedBytes}
 use Rattle.ats_client.specs.declared.fault.Rejection.{Rejection}
 use Rattle.ats_audit.specs.Verdicts.{IsFoundRight, IsFoundCollision}
 use Rattle.ats_plan.specs.Files.{Files, IsFile}
-use Rattle.ats_top.specs.Words.{SweepWords}
-use Rattle.ats_top.specs.Read.{HasIndex}
-use Rattle.ats_top.specs.RejectionLines.{rejection_words}
+use Rattle.ats_console.specs.Words.{SweepWords}
+use Rattle.ats_console.specs.Read.{HasIndex}
+use Rattle.ats_console.specs.RejectionLines.{rejection_words}
 use Rattle.ats_top.specs.Listed.{Listed, IsList, names_of}
 use Rattle.ats_top.specs.Gathered.{AreGathered}
-use Rattle.ats_top.specs.Steps.{too_long}
+use Rattle.ats_console.specs.Steps.{too_long}
 use Rattle.ats_top.specs.declared.gathering.Gathered.{Gathered}
 use Rattle.ats_top.specs.declared.gathering.Gathered.TheVariants.{Whole, Long}
 
@@ -38,7 +38,7 @@ IsFinding H archive line (Whole bytes) (FoundRefused rejection) = (query : List 
 IsFinding H archive line (Whole bytes) (FoundCollision collision) = (query : List (List ℕ × ℕ))
     × IsQueryOf line.query query × IsFoundCollision H archive query line.r bytes collision
     × (collision.ours ≢ collision.theirs) × (H collision.ours ≡ H collision.theirs)
-IsFinding H archive line Long (FoundRefused rejection) = rejection ≡ too_long
+IsFinding H archive line Long (FoundRefused rejection) = rejection ≡ too_long (2 ^ 26)
 IsFinding H archive line Long _ = ⊥
 
 -- the findings for these proofs, in the order of their lines

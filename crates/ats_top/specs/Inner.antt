@@ -1,12 +1,10 @@
 -- What the functions of the room promise one another. No public contract rests on it.
 
 pub mod Conversation
-pub mod Line
-pub mod Meaning
 pub mod Outcome
-pub mod Phrase
 pub mod Serving
-pub mod Steps
 pub mod Stops
+pub mod Texts
+pub mod Growths
 pub mod Sweeping
 pub mod Trial

@@ -3,7 +3,7 @@ use Rattle.std.specs.Prelude.{◌≡◌, ◌==◌, ◌⊎◌, ◌+◌, ◌<◌, 
 use Rattle.std.specs.Str.{IsUtf8}
 use Rattle.std.specs.List.{AllZip, list_all}
 use Rattle.ats_terms.specs.Query.{HasQuery}
-use Rattle.ats_top.specs.Words.{number_of}
+use Rattle.ats_console.specs.Words.{number_of}
 use Rattle.ats_plan.specs.Files.{Files, IsFile}
 
 -- one more byte at the front of the first line

@@ -3,13 +3,13 @@ use Rattle.std.specs.Prelude.{◌≡◌, ◌⊎◌, ◌<◌, ◌≤◌, ◌+◌,
 use Rattle.ats_base.specs.Outside.{Rose}
 use Rattle.ats_base.specs.Links.{Opening, DoorTold, MayNoteListen, noting_listen}
 use Rattle.ats_commit.specs.Archive.{Archive}
-use Rattle.ats_top.specs.Words.{ServeWords}
+use Rattle.ats_console.specs.Words.{ServeWords}
 use Rattle.ats_plan.specs.Files.{Files}
-use Rattle.ats_top.specs.Read.{HasIndex}
+use Rattle.ats_console.specs.Read.{HasIndex}
 use Rattle.ats_top.specs.Answering.{gives}
 use Rattle.ats_top.specs.Serving.{Session, HadSessions, FailedToAccept, faults_of, session_lines}
-use Rattle.ats_top.specs.declared.stops.Stop.{Stop}
-use Rattle.ats_top.specs.declared.stops.Stop.TheVariants as stop
+use Rattle.ats_console.specs.declared.stops.Stop.{Stop}
+use Rattle.ats_console.specs.declared.stops.Stop.TheVariants as stop
 
 -- The door listened at the address, and there was no other call on it.
 pub record Listened (address : List ℕ) (before now : DoorTold) : Type 0 where

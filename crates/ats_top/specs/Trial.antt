@@ -12,10 +12,10 @@ use Rattle.ats_proof.specs.Value.{Prefix, Proof}
 use Rattle.ats_client.specs.Accepts.{Accepts}
 use Rattle.ats_client.specs.Strings.{extract}
 use Rattle.ats_honest.specs.Honest.{IsHonest, IsTooLong, length_of}
-use Rattle.ats_top.specs.Print.{line_of_root}
-use Rattle.ats_top.specs.Stops.{line_of_long_proof, stop_of_query}
-use Rattle.ats_top.specs.declared.stops.Stop.{Stop}
-use Rattle.ats_top.specs.declared.stops.Stop.TheVariants.{Input}
+use Rattle.ats_console.specs.Print.{line_of_root}
+use Rattle.ats_console.specs.Stops.{line_of_long_proof, stop_of_query}
+use Rattle.ats_console.specs.declared.stops.Stop.{Stop}
+use Rattle.ats_console.specs.declared.stops.Stop.TheVariants.{Input}
 
 -- how many entries of the lists a proof shows
 abbrev pub shown_entries : Proof → ℕ

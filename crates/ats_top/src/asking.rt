@@ -1,18 +1,17 @@
 //! `ask`: one question over the network, and the check of its reply.
 
 ghost use Rattle.std.specs.Prelude.{◌≡◌, ◌⊎◌, ◌≤◌, length, IfOk, IfErr};
-ghost use Rattle.ats_top.specs.Steps.{AsksRanking};
+ghost use Rattle.ats_console.specs.Steps.{AsksRanking};
 ghost use Rattle.ats_top.specs.Inner.Conversation.{ConversesFed, ConversationStop, IsRanged, KeepsCallerCount};
 ghost use Rattle.ats_top.specs.Conversation.{Calls};
 ghost use Rattle.ats_top.specs.Asked.{IsReplyVerified};
 ghost use Rattle.ats_top.specs.Inner.Stops.{AskStop};
-ghost use Rattle.ats_top.specs.Stops.{stop_of_asking};
+ghost use Rattle.ats_top.specs.Conversation.{stop_of_asking};
 
-use crate::phrase::Phrase;
-use crate::stops::{Stop, peer, rejected};
 use crate::verifying::verify_to_lines;
 use ats_base::Caller;
 use ats_client::Rejection;
+use ats_console::{Phrase, Stop, peer, rejected};
 use ats_hash::Hash32;
 use ats_impact::Top;
 use ats_prover::Algorithm;

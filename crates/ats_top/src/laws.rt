@@ -5,19 +5,26 @@ ghost use Rattle.ats_base.specs.Outside.{Holds};
 ghost use Rattle.ats_base.specs.Links.{CallerTold};
 ghost use Rattle.ats_terms.specs.Query.{IsQueryOf};
 ghost use Rattle.ats_commit.specs.Archive.{Archive};
+ghost use Rattle.ats_commit.specs.Own.{AreTexts};
 ghost use Rattle.ats_commit.specs.Root.{root_of};
+ghost use Rattle.ats_fetch.specs.Given.{given_text};
+ghost use Rattle.ats_fetch.specs.Value.{IsTextProof};
+ghost use Rattle.ats_growth.specs.Honest.{honest};
+ghost use Rattle.ats_growth.specs.Value.{IsGrowth};
 ghost use Rattle.ats_proof.specs.declared.record.Algorithm.{Algorithm};
 ghost use Rattle.ats_index.specs.Spelling.{IsSpelling};
 ghost use Rattle.ats_honest.specs.Honest.{IsProved};
-ghost use Rattle.ats_top.specs.Words.{AskWords, AuditWords, SweepWords, Command, Ask, Audit, Sweep, number_of, algorithm_of, root_word, root_words, prove_words, migrate_words, verify_words};
+ghost use Rattle.ats_console.specs.Words.{AskWords, ServeWords, AuditWords, SweepWords, GiveWords, AuditFetchWords, GrowWords, Command, Ask, Serve, Audit, Sweep, Give, AuditFetch, Grow, number_of, algorithm_of, root_word, root_words, prove_words, migrate_words, verify_words, fetch_words, growth_words};
 ghost use Rattle.ats_plan.specs.Files.{Files, IsFile};
-ghost use Rattle.ats_top.specs.Read.{HasIndex};
-ghost use Rattle.ats_top.specs.Steps.{IsRowCount, AsksRanking};
+ghost use Rattle.ats_console.specs.Read.{HasIndex};
+ghost use Rattle.ats_console.specs.Steps.{IsRowCount, AsksRanking};
 ghost use Rattle.ats_plan.specs.Plan.{Refuses, Passes, IsKnown};
 ghost use Rattle.ats_top.specs.Commands.{plan_of};
 ghost use Rattle.ats_top.specs.Commands.Migrate.{in_blocks};
-ghost use Rattle.ats_top.specs.declared.stops.Stop.{Stop};
-ghost use Rattle.ats_top.specs.declared.stops.Stop.TheVariants.{Shelf as AtShelf};
+ghost use Rattle.ats_top.specs.Commands.Give.{HasDocument};
+ghost use Rattle.ats_top.specs.Commands.Grow.{HasKept};
+ghost use Rattle.ats_console.specs.declared.stops.Stop.{Stop};
+ghost use Rattle.ats_console.specs.declared.stops.Stop.TheVariants.{Shelf as AtShelf};
 ghost use Rattle.ats_top.specs.Run.{Said, IsCommandServed};
 ghost use Rattle.ats_top.specs.Listed.{Listed, IsList, names_of};
 ghost use Rattle.ats_top.specs.Gathered.{AreAllThere};
@@ -60,8 +67,9 @@ pub fn honest_sweeps_are_served<H: HashKind>()
 
 /// If a file holds the index bytes of an archive, which `build` stores, `root` serves it. TNRA `prove` serves it too,
 /// for a query and a number of rows within the limits: no proof of these is too long. By either algorithm `prove`
-/// serves it if the honest proof has no more bytes than a proof may have. `migrate` serves it too. The same holds for what
-/// `migrate` stores, since it is the index of an archive.
+/// serves it if the honest proof has no more bytes than a proof may have. `migrate` serves it too, `serve` comes to its
+/// links with it, `audit` serves it with the honest proof of a query, and `give` for each of its documents. The same holds
+/// for what `migrate` stores, since it is the index of an archive.
 pub fn built_indexes_are_served<H: HashKind>()
     ensures root { (archive : Archive) (bytes : List ℕ) (files : Files) (name : List ℕ)
         → IsSpelling H.hash bytes archive → Holds files name bytes
@@ -80,6 +88,42 @@ pub fn built_indexes_are_served<H: HashKind>()
     ensures migrate { (archive : Archive) (bytes : List ℕ) (files : Files) (name migrated : List ℕ)
         → IsSpelling H.hash bytes archive → Holds files name bytes
         → Said (migrate_words name migrated) (IsCommandServed H.hash files) }
+    ensures serve { (archive : Archive) (bytes : List ℕ) (files : Files) (words : ServeWords)
+        → IsSpelling H.hash bytes archive → Holds files words.index bytes → Passes files (plan_of H.hash (Serve words)) }
+    ensures audit { (archive : Archive) (bytes : List ℕ) (files : Files) (words : AuditWords)
+        (asked : List (List ℕ × ℕ)) (algorithm : Algorithm) (honest : List ℕ)
+        → IsSpelling H.hash bytes archive → Holds files words.index bytes → IsRowCount words.r
+        → IsQueryOf words.query asked → IsProved H.hash archive asked words.r algorithm honest
+        → IsFile files words.proof (2 ^ 26) honest → IsCommandServed H.hash files (Audit words) }
+    ensures give { (archive : Archive) (bytes : List ℕ) (files : Files) (words : GiveWords)
+        → IsSpelling H.hash bytes archive → Holds files words.index bytes → HasDocument archive words.doc
+        → IsCommandServed H.hash files (Give words) }
+{}
+
+/// If a file gives the text of a document of an archive, as `give` stores it, `fetch` serves it under the word of the
+/// archive's root, and `audit-fetch` against an index of the archive: it has no collision with the archive.
+pub fn given_texts_are_served<H: HashKind>()
+    ensures fetch { (archive : Archive) (doc : ℕ) (bytes : List ℕ) (files : Files) (root word name : List ℕ)
+        → AreTexts archive.texts → HasDocument archive doc → IsTextProof bytes (given_text H.hash archive doc)
+        → IsFile files name (2 ^ 21) bytes → root_word root ≡ Some (root_of H.hash archive)
+        → number_of word ≡ Some doc → Said (fetch_words root word name) (IsCommandServed H.hash files) }
+    ensures audit { (archive : Archive) (bytes : List ℕ) (files : Files) (words : AuditFetchWords)
+        → HasIndex H.hash files words.index archive → HasDocument archive words.doc
+        → IsTextProof bytes (given_text H.hash archive words.doc) → IsFile files words.file (2 ^ 21) bytes
+        → IsCommandServed H.hash files (AuditFetch words) }
+{}
+
+/// If the texts of an archive are the first of another one's, `grow` serves their indexes. A file that shows this, as `grow`
+/// stores it, is served by `growth` under the words of the two roots.
+pub fn shown_growths_are_served<H: HashKind>()
+    ensures grow { (older newer : Archive) (files : Files) (words : GrowWords)
+        → HasIndex H.hash files words.old older → HasIndex H.hash files words.new newer → HasKept older newer
+        → IsCommandServed H.hash files (Grow words) }
+    ensures growth { (older newer : Archive) (bytes : List ℕ) (files : Files) (old new name : List ℕ)
+        → AreTexts older.texts → AreTexts newer.texts → HasKept older newer
+        → IsGrowth bytes (honest H.hash older newer) → IsFile files name 4096 bytes
+        → root_word old ≡ Some (root_of H.hash older) → root_word new ≡ Some (root_of H.hash newer)
+        → Said (growth_words old new name) (IsCommandServed H.hash files) }
 {}
 
 /// An index in which lists stand in blocks has the same bytes if it is migrated again.

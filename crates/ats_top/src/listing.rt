@@ -5,10 +5,9 @@ ghost use Rattle.std.specs.List.{AllZip};
 ghost use Rattle.ats_top.specs.Listed.{Listed, IsSpelled, IsListed, lines_of};
 ghost use Rattle.ats_top.specs.Inner.Sweeping.{IsEntry, IsSpelledAs};
 ghost use Rattle.ats_top.specs.Commands.Sweep.{IsListStop};
-ghost use Rattle.ats_top.specs.declared.stops.Stop.TheVariants.{Memory};
+ghost use Rattle.ats_console.specs.declared.stops.Stop.TheVariants.{Memory};
 
-use crate::stops::{Stop, bad_line};
-use crate::words::number;
+use ats_console::{Stop, bad_line, number};
 use ats_impact::Top;
 use ats_terms::{Query, QueryFault};
 use std::alloc::Global;

@@ -8,16 +8,15 @@ ghost use Rattle.ats_top.specs.Serving.{Session, HadSessions, FailedToAccept, To
 ghost use Rattle.ats_top.specs.Inner.Serving.{IsUntold, ServesLinks, Attends};
 ghost use Rattle.ats_top.specs.Served.{Opens};
 ghost use Rattle.ats_plan.specs.Files.{Files};
-ghost use Rattle.ats_top.specs.Read.{HasIndex};
-ghost use Rattle.ats_top.specs.Words.{Serve, command_of};
+ghost use Rattle.ats_console.specs.Read.{HasIndex};
+ghost use Rattle.ats_console.specs.Words.{Serve, command_of};
 ghost use Rattle.ats_top.specs.Run.{Ended};
 ghost use Rattle.ats_top.specs.Inner.Outcome.{PrintsOutcome};
 
 use crate::answering::IndexAnswerer;
 use crate::commands::print_stop;
-use crate::read;
-use crate::stops::Stop;
 use ats_base::{Door, Failed, Shelf, Sink, write_all};
+use ats_console::{Stop, read};
 use ats_hash::Hash32;
 use ats_index::Index;
 use ats_wire::{ConnectionEnd, FrameRoom, Served, serve_connection};

@@ -1,24 +1,23 @@
 //! `sweep`: the audits of the proofs of a list against an index, and their lines.
 
 ghost use Rattle.std.specs.Prelude.{◌≡◌, ◌^◌, ◌++◌, ◌||◌, false, IfOk, IfErr, OnOk, length, string_bytes};
+ghost use Rattle.std.specs.List.{AllZip};
+ghost use Rattle.ats_audit.specs.Sweeps.{IsVerdictOf};
 ghost use Rattle.ats_plan.specs.Files.{IsFile};
 ghost use Rattle.ats_plan.specs.Runs.{IsDone, IsStopped};
-ghost use Rattle.ats_top.specs.Words.{SweepWords};
-ghost use Rattle.ats_top.specs.Read.{HasIndex};
+ghost use Rattle.ats_console.specs.Words.{SweepWords};
+ghost use Rattle.ats_console.specs.Read.{HasIndex};
 ghost use Rattle.ats_top.specs.Findings.{FoundRefused, is_refused, is_collision, line_of_finding};
 ghost use Rattle.ats_top.specs.Inner.Sweeping.{AreJobs, IsReport, ConclusionStop, finding_of, found_by};
 ghost use Rattle.ats_top.specs.Commands.Sweep.{sweeps, sweep_plan};
-ghost use Rattle.ats_top.specs.declared.stops.Stop.TheVariants.{Shelf as AtShelf, Memory};
+ghost use Rattle.ats_console.specs.declared.stops.Stop.TheVariants.{Shelf as AtShelf, Memory};
 
 use crate::gathering::{Gathered, gather_all};
-use crate::line::Line;
 use crate::listing::{Entry, read_entries};
-use crate::read;
-use crate::rejection::rejection_words;
-use crate::stops::Stop;
-use ats_audit::{Job, Verdict};
+use ats_audit::{Job, Verdict, Verdicts};
 use ats_base::Shelf;
 use ats_client::Rejection;
+use ats_console::{Line, Stop, read, rejection_words};
 use ats_hash::Hash32;
 use ats_index::Index;
 use std::alloc::{AllocError, Global};
@@ -170,6 +169,22 @@ fn conclusion(report: Report) -> Result<Vec<u8>, Stop>
     Ok(report.lines)
 }
 
+// The verdicts of all jobs.
+fn audit_jobs<H: Hash32 + Sync, R: Threads + Sync>(
+    rt: &R,
+    alloc: Global,
+    index: &Index<H>,
+    jobs: &[Job<'_>],
+) -> Result<Verdicts, Stop>
+    ensures ok { IfOk result (AllZip (IsVerdictOf H.hash index.now) jobs.now) }
+    ensures stop { IfErr result (λ stop. stop ≡ Memory) }
+{
+    match ats_audit::sweep::<H, R>(rt, alloc, index, jobs) {
+        Ok(verdicts) => Ok(verdicts),
+        Err(_) => Err(Stop::Memory),
+    }
+}
+
 // The lines of a sweep of a list against an index, after both were read.
 fn sweep_to_lines<H: Hash32 + Sync, R: Threads + Sync, S: Shelf>(
     rt: &R,
@@ -189,7 +204,7 @@ fn sweep_to_lines<H: Hash32 + Sync, R: Threads + Sync, S: Shelf>(
     let entries = read_entries(alloc, list)?;
     let proofs = gather_all(alloc, entries.as_slice(), shelf)?;
     let jobs = jobs(alloc, entries, proofs.as_slice())?;
-    let verdicts = ats_audit::sweep::<H, R>(rt, alloc, index, jobs.as_slice())?;
+    let verdicts = audit_jobs::<H, R>(rt, alloc, index, jobs.as_slice())?;
     conclusion(report_of(alloc, proofs.as_slice(), verdicts.as_slice())?)
 }
 

@@ -12,19 +12,17 @@ ghost use Rattle.ats_plan.specs.Runs.{IsDone, IsStopped};
 ghost use Rattle.ats_top.specs.Commands.Trial.{trial_plan};
 ghost use Rattle.ats_top.specs.Trial.{shown_entries, IsTried, line_of_proofs, lines_of_trial};
 ghost use Rattle.ats_top.specs.Inner.Trial.{is_right, tally_of, counted, IsSmall, IsTryStop, IsTriesStop, AreTried, AreTriedLines, AreTrialQueries, IsTrialStop};
-ghost use Rattle.ats_top.specs.declared.stops.Stop.TheVariants.{Shelf as AtShelf, Memory};
+ghost use Rattle.ats_console.specs.declared.stops.Stop.TheVariants.{Shelf as AtShelf, Memory};
 
-use crate::print::root_line;
-use crate::stops::Stop;
+use crate::making::make_proof;
 use ats_audit::Verdict;
 use ats_bound::Work;
 use ats_client::check;
-use ats_grammar::MAX_PROOF;
+use ats_console::{Stop, root_line};
 use ats_hash::{Hash32, Steps};
 use ats_impact::{Collection, Top, trial_query, trial_texts};
 use ats_index::Index;
-use ats_proof::ProofView;
-use ats_prover::{Algorithm, prove_within};
+use ats_proof::{Algorithm, ProofView};
 use ats_terms::Query;
 use std::alloc::{AllocError, Global};
 use std::thread::Threads;
@@ -106,7 +104,7 @@ fn count<H: Hash32>(
     ensures small { OnOk result (IsSmall tally.new) }
     ensures stop { IfErr result (IsTryStop H.hash index.now query.now algorithm) }
 {
-    let bytes = prove_within(alloc, index, query, top, algorithm, MAX_PROOF)?;
+    let bytes = make_proof::<H>(alloc, index, query, top, algorithm)?;
     let bytes = bytes.as_slice();
     let Ok(proof) = ProofView::read(bytes) else {
         return Ok(());

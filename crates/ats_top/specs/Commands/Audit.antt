@@ -12,13 +12,13 @@ use Rattle.ats_client.specs.Rows.{rows_of}
 use Rattle.ats_client.specs.Strings.{extract}
 use Rattle.ats_plan.specs.Files.{Files, IsFile}
 use Rattle.ats_plan.specs.Plan.{Plan, Finishes, Tries}
-use Rattle.ats_top.specs.Words.{AuditWords}
-use Rattle.ats_top.specs.Print.{lines}
-use Rattle.ats_top.specs.Read.{HasIndex}
-use Rattle.ats_top.specs.CollisionLines.{lines_of_collision}
-use Rattle.ats_top.specs.Steps.{AsksRanking, asks_ranking, reads_index, reads_proof, checks}
-use Rattle.ats_top.specs.declared.stops.Stop.{Stop}
-use Rattle.ats_top.specs.declared.stops.Stop.TheVariants.{Collision}
+use Rattle.ats_console.specs.Words.{AuditWords}
+use Rattle.ats_console.specs.Print.{lines}
+use Rattle.ats_console.specs.Read.{HasIndex}
+use Rattle.ats_console.specs.CollisionLines.{lines_of_collision}
+use Rattle.ats_console.specs.Steps.{AsksRanking, asks_ranking, reads_index, reads_proof, checks}
+use Rattle.ats_console.specs.declared.stops.Stop.{Stop}
+use Rattle.ats_console.specs.declared.stops.Stop.TheVariants.{Collision}
 
 -- The first named file is the index of an archive, and the bytes of the second are accepted as a proof under its root.
 -- This is the first collision of the proof with the archive, or there is none.

@@ -6,11 +6,11 @@ use Rattle.ats_commit.specs.Root.{root_of}
 use Rattle.ats_index.specs.Spelling.{IsSpelling}
 use Rattle.ats_plan.specs.Files.{Files}
 use Rattle.ats_plan.specs.Plan.{Plan, Makes, Stores}
-use Rattle.ats_top.specs.Words.{BuildWords}
-use Rattle.ats_top.specs.Print.{IsPublished}
-use Rattle.ats_top.specs.Read.{HasCollection}
-use Rattle.ats_top.specs.Steps.{reads_collection}
-use Rattle.ats_top.specs.declared.stops.Stop.{Stop}
+use Rattle.ats_console.specs.Words.{BuildWords}
+use Rattle.ats_console.specs.Print.{IsPublished}
+use Rattle.ats_console.specs.Read.{HasCollection}
+use Rattle.ats_console.specs.Steps.{reads_collection}
+use Rattle.ats_console.specs.declared.stops.Stop.{Stop}
 
 -- INDEX holds the index bytes of the archive of the named file's texts, and its root was published
 pub record IsBuilt (H : List ℕ → List ℕ) (before now : Files) (words : BuildWords) (text : List ℕ) : Type 0 where

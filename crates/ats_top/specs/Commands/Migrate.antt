@@ -7,11 +7,11 @@ use Rattle.ats_commit.specs.Root.{root_of}
 use Rattle.ats_index.specs.Spelling.{IsSpelling}
 use Rattle.ats_plan.specs.Files.{Files}
 use Rattle.ats_plan.specs.Plan.{Plan, Makes, Stores}
-use Rattle.ats_top.specs.Words.{MigrateWords}
-use Rattle.ats_top.specs.Print.{IsPublished}
-use Rattle.ats_top.specs.Read.{HasIndex}
-use Rattle.ats_top.specs.Steps.{reads_index}
-use Rattle.ats_top.specs.declared.stops.Stop.{Stop}
+use Rattle.ats_console.specs.Words.{MigrateWords}
+use Rattle.ats_console.specs.Print.{IsPublished}
+use Rattle.ats_console.specs.Read.{HasIndex}
+use Rattle.ats_console.specs.Steps.{reads_index}
+use Rattle.ats_console.specs.declared.stops.Stop.{Stop}
 
 -- the archive of the same texts whose lists stand in blocks
 abbrev pub in_blocks : Archive → Archive

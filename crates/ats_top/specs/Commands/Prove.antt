@@ -7,13 +7,13 @@ use Rattle.ats_proof.specs.declared.record.Algorithm.{Algorithm}
 use Rattle.ats_honest.specs.Honest.{IsProved, IsTooLong}
 use Rattle.ats_plan.specs.Files.{Files}
 use Rattle.ats_plan.specs.Plan.{Plan, Tries, Makes, Stores}
-use Rattle.ats_top.specs.Words.{ProveWords}
-use Rattle.ats_top.specs.Print.{line_of_proof}
-use Rattle.ats_top.specs.Read.{HasIndex}
-use Rattle.ats_top.specs.Steps.{AsksRanking, asks_ranking, reads_index}
-use Rattle.ats_top.specs.Stops.{line_of_long_proof}
-use Rattle.ats_top.specs.declared.stops.Stop.{Stop}
-use Rattle.ats_top.specs.declared.stops.Stop.TheVariants.{Input}
+use Rattle.ats_console.specs.Words.{ProveWords}
+use Rattle.ats_console.specs.Print.{line_of_proof}
+use Rattle.ats_console.specs.Read.{HasIndex}
+use Rattle.ats_console.specs.Steps.{AsksRanking, asks_ranking, reads_index}
+use Rattle.ats_console.specs.Stops.{line_of_long_proof}
+use Rattle.ats_console.specs.declared.stops.Stop.{Stop}
+use Rattle.ats_console.specs.declared.stops.Stop.TheVariants.{Input}
 
 -- the bytes are the honest proof of the query over the archive of the named index, and at most as long as a proof may
 -- be

@@ -5,11 +5,11 @@ use Rattle.ats_impact.specs.Rank.{IsRanking, IsTop}
 use Rattle.ats_impact.specs.declared.rank.Row.{Row}
 use Rattle.ats_plan.specs.Files.{Files}
 use Rattle.ats_plan.specs.Plan.{Plan, Finishes}
-use Rattle.ats_top.specs.Words.{RankWords}
-use Rattle.ats_top.specs.Print.{lines}
-use Rattle.ats_top.specs.Read.{HasCollection}
-use Rattle.ats_top.specs.Steps.{AsksRanking, asks_ranking, reads_collection}
-use Rattle.ats_top.specs.declared.stops.Stop.{Stop}
+use Rattle.ats_console.specs.Words.{RankWords}
+use Rattle.ats_console.specs.Print.{lines}
+use Rattle.ats_console.specs.Read.{HasCollection}
+use Rattle.ats_console.specs.Steps.{AsksRanking, asks_ranking, reads_collection}
+use Rattle.ats_console.specs.declared.stops.Stop.{Stop}
 
 -- the text is the lines of the ranking of the named file's collection, and its documents are a top answer
 pub record IsRanked (files : Files) (words : RankWords) (text : List ℕ) : Type 0 where

@@ -3,16 +3,16 @@ use Rattle.std.specs.Prelude.{◌≡◌, ◌<◌, ◌≤◌, ◌^◌, ◌++◌, 
 use Rattle.std.specs.List.{list_any}
 use Rattle.ats_commit.specs.Archive.{Archive}
 use Rattle.ats_plan.specs.Plan.{Plan, Finishes, Tries, Gets, Makes, Reads}
-use Rattle.ats_top.specs.Words.{SweepWords}
+use Rattle.ats_console.specs.Words.{SweepWords}
 use Rattle.ats_top.specs.Listed.{Listed, lines_of, IsListOf, IsBadLine, names_of}
 use Rattle.ats_top.specs.Gathered.{total}
 use Rattle.ats_top.specs.Findings.{Finding, AreFindings, IsSwept, is_refused, is_collision, lines_of_findings}
-use Rattle.ats_top.specs.Steps.{reads_file, reads_index}
-use Rattle.ats_top.specs.Stops.{line_of_bad_line, line_of_long_proofs}
+use Rattle.ats_console.specs.Steps.{reads_file, reads_index}
+use Rattle.ats_console.specs.Stops.{line_of_bad_line, line_of_long_proofs}
 use Rattle.ats_top.specs.declared.gathering.Gathered.{Gathered}
 use Rattle.ats_top.specs.declared.gathering.Gathered.TheVariants.{Whole, Long}
-use Rattle.ats_top.specs.declared.stops.Stop.{Stop}
-use Rattle.ats_top.specs.declared.stops.Stop.TheVariants.{Input, Rejected, Collision}
+use Rattle.ats_console.specs.declared.stops.Stop.{Stop}
+use Rattle.ats_console.specs.declared.stops.Stop.TheVariants.{Input, Rejected, Collision}
 
 -- the line is that of the first line of the list that is out of form
 abbrev pub IsListStop : (bytes : List ℕ) → Stop → Type 0

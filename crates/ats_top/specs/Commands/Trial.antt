@@ -1,9 +1,9 @@
 -- `trial NUMBER`
 use Rattle.std.specs.Prelude.{ℕ, List}
 use Rattle.ats_plan.specs.Plan.{Plan, Finishes, Tries}
-use Rattle.ats_top.specs.Words.{TrialWords}
+use Rattle.ats_console.specs.Words.{TrialWords}
 use Rattle.ats_top.specs.Trial.{IsTrial, IsTrialServed, RefusesTrial}
-use Rattle.ats_top.specs.declared.stops.Stop.{Stop}
+use Rattle.ats_console.specs.declared.stops.Stop.{Stop}
 
 abbrev pub trial_plan : (List ℕ → List ℕ) → TrialWords → Plan Stop
 trial_plan H words =

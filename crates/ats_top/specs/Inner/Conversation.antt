@@ -6,8 +6,8 @@ use Rattle.ats_wire.specs.Feeding.{IsFed}
 use Rattle.ats_wire.specs.declared.asking.AskFault.{AskFault}
 use Rattle.ats_wire.specs.declared.asking.AskFault.TheVariants.{LongReply, BadReply}
 use Rattle.ats_wire.specs.declared.feeding.Fed.{Fed}
-use Rattle.ats_top.specs.declared.stops.Stop.{Stop}
-use Rattle.ats_top.specs.declared.stops.Stop.TheVariants.{Memory, Link, Peer}
+use Rattle.ats_console.specs.declared.stops.Stop.{Stop}
+use Rattle.ats_console.specs.declared.stops.Stop.TheVariants.{Memory, Link, Peer}
 use Rattle.ats_top.specs.Conversation.{Converses, HearsFault, LosesLink}
 
 -- a whole reply with the bytes of a proof was read, with this verdict

@@ -3,10 +3,10 @@ use Rattle.std.specs.Prelude.{◌≡◌, ◌⊎◌, ◌<◌, ℕ, Result, Ok, Er
 use Rattle.ats_base.specs.Outside.{SinkTold}
 use Rattle.ats_top.specs.declared.serving.Halt.{Halt}
 use Rattle.ats_top.specs.declared.serving.Halt.TheVariants.{Door, Sink, Memory}
-use Rattle.ats_top.specs.declared.stops.Stop.TheVariants as stop
-use Rattle.ats_top.specs.Stops.{status_of_stop, text_of_stop}
-use Rattle.ats_top.specs.declared.stops.Stop.{Stop}
-use Rattle.ats_top.specs.declared.stops.Stop.TheVariants.{Usage, Shelf, Memory, Input, Rejected, Link, Peer, Faults, Collision}
+use Rattle.ats_console.specs.declared.stops.Stop.TheVariants as stop
+use Rattle.ats_console.specs.Stops.{status_of_stop, text_of_stop}
+use Rattle.ats_console.specs.declared.stops.Stop.{Stop}
+use Rattle.ats_console.specs.declared.stops.Stop.TheVariants.{Usage, Shelf, Memory, Input, Rejected, Link, Peer, Faults, Collision}
 use Rattle.ats_top.specs.Run.{Prints}
 
 -- the text is a line that needs memory

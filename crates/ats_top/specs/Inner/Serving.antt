@@ -6,7 +6,7 @@ use Rattle.ats_wire.specs.Requests.{Question}
 use Rattle.ats_wire.specs.declared.reply.Reply.{Reply}
 use Rattle.ats_top.specs.declared.serving.Halt.{Halt}
 use Rattle.ats_top.specs.declared.serving.Halt.TheVariants.{Door, Sink, Memory}
-use Rattle.ats_top.specs.Words.{ServeWords}
+use Rattle.ats_console.specs.Words.{ServeWords}
 use Rattle.ats_plan.specs.Files.{Files}
 use Rattle.ats_top.specs.Answering.{gives}
 use Rattle.ats_top.specs.Serving.{Session, HadSessions, FailedToAccept, Took, FailedToTake, faults_of, session_lines}

@@ -3,16 +3,16 @@ use Rattle.std.specs.Prelude.{◌≡◌, ◌⊎◌, ℕ, List, None}
 use Rattle.ats_base.specs.Links.{CallerTold}
 use Rattle.ats_proof.specs.Value.{Proof}
 use Rattle.ats_client.specs.Bytes.{IsAcceptedBytes}
-use Rattle.ats_top.specs.Words.{AskWords}
+use Rattle.ats_console.specs.Words.{AskWords}
 use Rattle.ats_plan.specs.Plan.{Refuses}
-use Rattle.ats_top.specs.Steps.{AsksRanking, RejectsBytes}
+use Rattle.ats_console.specs.Steps.{AsksRanking, RejectsBytes}
 use Rattle.ats_top.specs.Commands.Ask.{ask_plan}
-use Rattle.ats_top.specs.declared.stops.Stop.{Stop}
-use Rattle.ats_top.specs.declared.stops.Stop.TheVariants.{Shelf, Memory, Input}
+use Rattle.ats_console.specs.declared.stops.Stop.{Stop}
+use Rattle.ats_console.specs.declared.stops.Stop.TheVariants.{Shelf, Memory, Input}
 use Rattle.ats_commit.specs.Archive.{Archive}
 use Rattle.ats_commit.specs.Root.{root_of}
 use Rattle.ats_proof.specs.declared.record.Algorithm.{Algorithm}
-use Rattle.ats_top.specs.Stops.{line_of_long_proof}
+use Rattle.ats_console.specs.Stops.{line_of_long_proof}
 use Rattle.ats_prover.specs.declared.fault.ProveFault.{ProveFault}
 use Rattle.ats_prover.specs.declared.fault.ProveFault.TheVariants as proof
 use Rattle.ats_top.specs.Asked.{CallStop}

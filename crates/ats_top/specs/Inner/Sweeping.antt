@@ -13,8 +13,8 @@ use Rattle.ats_top.specs.declared.gathering.Gathered.{Gathered}
 use Rattle.ats_top.specs.declared.gathering.Gathered.TheVariants.{Whole, Long}
 use Rattle.ats_top.specs.declared.listing.Entry.{Entry}
 use Rattle.ats_top.specs.declared.sweeping.Report.{Report}
-use Rattle.ats_top.specs.declared.stops.Stop.{Stop}
-use Rattle.ats_top.specs.declared.stops.Stop.TheVariants.{Rejected, Collision}
+use Rattle.ats_console.specs.declared.stops.Stop.{Stop}
+use Rattle.ats_console.specs.declared.stops.Stop.TheVariants.{Rejected, Collision}
 use Rattle.ats_terms.specs.Query.{IsQueryOf}
 
 -- the line spells this number, this name and this query

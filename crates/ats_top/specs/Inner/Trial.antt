@@ -11,8 +11,8 @@ use Rattle.ats_audit.specs.declared.auditing.Verdict.{Verdict}
 use Rattle.ats_audit.specs.declared.auditing.Verdict.TheVariants.{Right}
 use Rattle.ats_honest.specs.Honest.{length_of}
 use Rattle.ats_top.specs.Inner.Stops.{MakingStop}
-use Rattle.ats_top.specs.declared.stops.Stop.{Stop}
-use Rattle.ats_top.specs.declared.stops.Stop.TheVariants.{Memory}
+use Rattle.ats_console.specs.declared.stops.Stop.{Stop}
+use Rattle.ats_console.specs.declared.stops.Stop.TheVariants.{Memory}
 use Rattle.ats_top.specs.declared.trial.Tally.{Tally}
 use Rattle.ats_top.specs.Trial.{IsTried, RefusesTrial, lines_of_trial, shown_entries, turn}
 

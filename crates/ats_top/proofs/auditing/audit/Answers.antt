@@ -2,8 +2,8 @@ use Rattle.std.proofs.Common.{◌^◌, vec_items, sym, subst, ◌∙◌}
 use Rattle.std.proofs.lemmas.Result.{err_from_is_err_and}
 use Rattle.ats_plan.specs.Files.{Files, IsFile}
 use Rattle.ats_plan.proofs.Public.{leads_none}
-use Rattle.ats_top.specs.Read.{HasIndex}
-use Rattle.ats_top.proofs.Fronts.{passed_on, rows_stops, query_stops, leads_ranking, leads_bytes, leads_index, has_bytes, same_bytes, has_index, same_index, at_bytes, at_index}
+use Rattle.ats_console.specs.Read.{HasIndex}
+use Rattle.ats_console.proofs.Public.{passed_on, rows_stops, query_stops, leads_ranking, leads_bytes, leads_index, has_bytes, same_bytes, has_index, same_index, at_bytes, at_index}
 use Rattle.ats_top.proofs.VerifyEnds.{rows_of_range, asks_of}
 use Rattle.ats_top.proofs.AuditEnds.{verdict_stops, verdict_end}
 use Rattle.ats_top.proofs.auditing.audit.Goals as goal

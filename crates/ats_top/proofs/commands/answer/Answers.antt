@@ -129,3 +129,63 @@ returns-in-Some-Migrate-clause-stop g c =
     let is = rw c.in-Some-Migrate.field-0-is at c.in-Some-Migrate.ensures in
     plan_ends g.H.HashKind.hash (g.S.Shelf.told c.args.shelf.now) (g.S.Shelf.told c.migrate.new.shelf) (g.C.Caller.told c.args.caller.now) (g.C.Caller.told c.args.caller.now)
     (g.D.Door.told c.args.door.now) (map string_bytes c.args.words.now) _ (sym is) c.migrate.result c.migrate.ensures.stop
+
+pub returns-in-Some-Give-clause-ok : goal.returns-in-Some-Give-clause-ok
+returns-in-Some-Give-clause-ok g c =
+    let is = rw c.in-Some-Give.field-0-is at c.in-Some-Give.ensures in
+    done_ends g.H.HashKind.hash (g.S.Shelf.told c.args.shelf.now) (g.S.Shelf.told c.give.new.shelf) (g.C.Caller.told c.args.caller.now) (g.C.Caller.told c.args.caller.now)
+    (g.D.Door.told c.args.door.now) (map string_bytes c.args.words.now) _ (sym is) vec_items c.give.result (λ was now text. tt) c.give.ensures.ok
+
+pub returns-in-Some-Give-clause-stop : goal.returns-in-Some-Give-clause-stop
+returns-in-Some-Give-clause-stop g c =
+    let is = rw c.in-Some-Give.field-0-is at c.in-Some-Give.ensures in
+    plan_ends g.H.HashKind.hash (g.S.Shelf.told c.args.shelf.now) (g.S.Shelf.told c.give.new.shelf) (g.C.Caller.told c.args.caller.now) (g.C.Caller.told c.args.caller.now)
+    (g.D.Door.told c.args.door.now) (map string_bytes c.args.words.now) _ (sym is) c.give.result c.give.ensures.stop
+
+pub returns-in-Some-Fetch-clause-ok : goal.returns-in-Some-Fetch-clause-ok
+returns-in-Some-Fetch-clause-ok g c =
+    let is = rw c.in-Some-Fetch.field-0-is at c.in-Some-Fetch.ensures in
+    done_ends g.H.HashKind.hash (g.S.Shelf.told c.args.shelf.now) (g.S.Shelf.told c.fetch.new.shelf) (g.C.Caller.told c.args.caller.now) (g.C.Caller.told c.args.caller.now)
+    (g.D.Door.told c.args.door.now) (map string_bytes c.args.words.now) _ (sym is) vec_items c.fetch.result (λ was now text. tt) c.fetch.ensures.ok
+
+pub returns-in-Some-Fetch-clause-stop : goal.returns-in-Some-Fetch-clause-stop
+returns-in-Some-Fetch-clause-stop g c =
+    let is = rw c.in-Some-Fetch.field-0-is at c.in-Some-Fetch.ensures in
+    plan_ends g.H.HashKind.hash (g.S.Shelf.told c.args.shelf.now) (g.S.Shelf.told c.fetch.new.shelf) (g.C.Caller.told c.args.caller.now) (g.C.Caller.told c.args.caller.now)
+    (g.D.Door.told c.args.door.now) (map string_bytes c.args.words.now) _ (sym is) c.fetch.result c.fetch.ensures.stop
+
+pub returns-in-Some-AuditFetch-clause-ok : goal.returns-in-Some-AuditFetch-clause-ok
+returns-in-Some-AuditFetch-clause-ok g c =
+    let is = rw c.in-Some-AuditFetch.field-0-is at c.in-Some-AuditFetch.ensures in
+    done_ends g.H.HashKind.hash (g.S.Shelf.told c.args.shelf.now) (g.S.Shelf.told c.audit_fetch.new.shelf) (g.C.Caller.told c.args.caller.now) (g.C.Caller.told c.args.caller.now)
+    (g.D.Door.told c.args.door.now) (map string_bytes c.args.words.now) _ (sym is) vec_items c.audit_fetch.result (λ was now text. tt) c.audit_fetch.ensures.ok
+
+pub returns-in-Some-AuditFetch-clause-stop : goal.returns-in-Some-AuditFetch-clause-stop
+returns-in-Some-AuditFetch-clause-stop g c =
+    let is = rw c.in-Some-AuditFetch.field-0-is at c.in-Some-AuditFetch.ensures in
+    plan_ends g.H.HashKind.hash (g.S.Shelf.told c.args.shelf.now) (g.S.Shelf.told c.audit_fetch.new.shelf) (g.C.Caller.told c.args.caller.now) (g.C.Caller.told c.args.caller.now)
+    (g.D.Door.told c.args.door.now) (map string_bytes c.args.words.now) _ (sym is) c.audit_fetch.result c.audit_fetch.ensures.stop
+
+pub returns-in-Some-Grow-clause-ok : goal.returns-in-Some-Grow-clause-ok
+returns-in-Some-Grow-clause-ok g c =
+    let is = rw c.in-Some-Grow.field-0-is at c.in-Some-Grow.ensures in
+    done_ends g.H.HashKind.hash (g.S.Shelf.told c.args.shelf.now) (g.S.Shelf.told c.grow.new.shelf) (g.C.Caller.told c.args.caller.now) (g.C.Caller.told c.args.caller.now)
+    (g.D.Door.told c.args.door.now) (map string_bytes c.args.words.now) _ (sym is) vec_items c.grow.result (λ was now text. tt) c.grow.ensures.ok
+
+pub returns-in-Some-Grow-clause-stop : goal.returns-in-Some-Grow-clause-stop
+returns-in-Some-Grow-clause-stop g c =
+    let is = rw c.in-Some-Grow.field-0-is at c.in-Some-Grow.ensures in
+    plan_ends g.H.HashKind.hash (g.S.Shelf.told c.args.shelf.now) (g.S.Shelf.told c.grow.new.shelf) (g.C.Caller.told c.args.caller.now) (g.C.Caller.told c.args.caller.now)
+    (g.D.Door.told c.args.door.now) (map string_bytes c.args.words.now) _ (sym is) c.grow.result c.grow.ensures.stop
+
+pub returns-in-Some-Growth-clause-ok : goal.returns-in-Some-Growth-clause-ok
+returns-in-Some-Growth-clause-ok g c =
+    let is = rw c.in-Some-Growth.field-0-is at c.in-Some-Growth.ensures in
+    done_ends g.H.HashKind.hash (g.S.Shelf.told c.args.shelf.now) (g.S.Shelf.told c.growth.new.shelf) (g.C.Caller.told c.args.caller.now) (g.C.Caller.told c.args.caller.now)
+    (g.D.Door.told c.args.door.now) (map string_bytes c.args.words.now) _ (sym is) vec_items c.growth.result (λ was now text. tt) c.growth.ensures.ok
+
+pub returns-in-Some-Growth-clause-stop : goal.returns-in-Some-Growth-clause-stop
+returns-in-Some-Growth-clause-stop g c =
+    let is = rw c.in-Some-Growth.field-0-is at c.in-Some-Growth.ensures in
+    plan_ends g.H.HashKind.hash (g.S.Shelf.told c.args.shelf.now) (g.S.Shelf.told c.growth.new.shelf) (g.C.Caller.told c.args.caller.now) (g.C.Caller.told c.args.caller.now)
+    (g.D.Door.told c.args.door.now) (map string_bytes c.args.words.now) _ (sym is) c.growth.result c.growth.ensures.stop

@@ -2,8 +2,8 @@ use Rattle.std.proofs.Common.{sym, subst}
 use Rattle.std.proofs.lemmas.Result.{err_from_is_err_and}
 use Rattle.ats_plan.specs.Files.{Files}
 use Rattle.ats_plan.proofs.Public.{leads_none, leads_make}
-use Rattle.ats_top.specs.Read.{HasCollection}
-use Rattle.ats_top.proofs.Fronts.{passed_on, at_collection, leads_collection, has_collection, same_collection}
+use Rattle.ats_console.specs.Read.{HasCollection}
+use Rattle.ats_console.proofs.Public.{passed_on, at_collection, leads_collection, has_collection, same_collection}
 use Rattle.ats_top.proofs.Stored.{stored, not_stored}
 use Rattle.ats_top.proofs.commands.build.Goals as goal
 

@@ -1,5 +1,5 @@
 use Rattle.std.proofs.Common.{map, string_bytes, inl, inr}
-use Rattle.ats_top.specs.Stops.{Done}
+use Rattle.ats_console.specs.Stops.{Done}
 use Rattle.ats_top.proofs.LinkEnds.{serving_said}
 use Rattle.ats_top.proofs.Stopped.{stop_ended}
 use Rattle.ats_top.proofs.commands.perform.Goals as goal

@@ -2,8 +2,8 @@ use Rattle.std.proofs.Common.{sym, subst}
 use Rattle.std.proofs.lemmas.Result.{err_from_is_err_and}
 use Rattle.ats_plan.specs.Files.{Files}
 use Rattle.ats_plan.proofs.Public.{leads_none, leads_try, leads_make}
-use Rattle.ats_top.specs.Read.{HasIndex}
-use Rattle.ats_top.proofs.Fronts.{passed_on, leads_ranking, at_index, leads_index, has_index, same_index, try_stops}
+use Rattle.ats_console.specs.Read.{HasIndex}
+use Rattle.ats_console.proofs.Public.{passed_on, leads_ranking, at_index, leads_index, has_index, same_index, try_stops}
 use Rattle.ats_top.proofs.OneProof.{made_short}
 use Rattle.ats_top.proofs.Stored.{stored, not_stored}
 use Rattle.ats_top.proofs.VerifyEnds.{rows_of_range, asks_of}

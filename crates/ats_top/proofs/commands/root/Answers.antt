@@ -1,8 +1,8 @@
 use Rattle.std.proofs.Common.{rules, sym, subst}
 use Rattle.ats_plan.specs.Files.{Files}
 use Rattle.ats_plan.proofs.Public.{leads_none, done_end}
-use Rattle.ats_top.specs.Read.{HasIndex}
-use Rattle.ats_top.proofs.Fronts.{leads_index, has_index, same_index}
+use Rattle.ats_console.specs.Read.{HasIndex}
+use Rattle.ats_console.proofs.Public.{leads_index, has_index, same_index}
 use Rattle.ats_top.proofs.commands.root.Goals as goal
 
 pub returns-clause-ok : goal.returns-clause-ok

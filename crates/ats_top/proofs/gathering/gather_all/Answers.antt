@@ -1,11 +1,11 @@
 use Rattle.std.proofs.Common.{ℕ, [], arith}
 use Rattle.std.proofs.lemmas.Result.{err_from_is_err_and}
 use Rattle.ats_plan.specs.Runs.{IsStopped}
-use Rattle.ats_top.specs.Inner.Steps.{no_more}
+use Rattle.ats_console.specs.Steps.{no_more}
 use Rattle.ats_top.specs.Inner.Sweeping.{entry_names}
 use Rattle.ats_top.specs.Commands.Sweep.{gathers}
-use Rattle.ats_top.specs.declared.stops.Stop.TheVariants.{Shelf, Memory}
-use Rattle.ats_top.proofs.Fronts.{passed_on}
+use Rattle.ats_console.specs.declared.stops.Stop.TheVariants.{Shelf, Memory}
+use Rattle.ats_console.proofs.Public.{passed_on}
 use Rattle.ats_top.proofs.GatherSteps.{none_so_far, stops_at, passes_at, memory_at, so_far_more, gathered_all}
 use Rattle.ats_top.proofs.gathering.gather_all.Goals as goal
 

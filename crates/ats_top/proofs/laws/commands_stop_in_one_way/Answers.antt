@@ -1,6 +1,6 @@
 use Rattle.ats_plan.proofs.Public.{one_refusal, passes_kept}
 use Rattle.ats_top.specs.Commands.{plan_of}
-use Rattle.ats_top.specs.declared.stops.Stop.TheVariants.{Shelf}
+use Rattle.ats_console.specs.declared.stops.Stop.TheVariants.{Shelf}
 use Rattle.ats_top.proofs.Sound.{plan_sound}
 use Rattle.ats_top.proofs.laws.commands_stop_in_one_way.Goals as goal
 

@@ -1,6 +1,6 @@
 use Rattle.std.proofs.Common.{◌∙◌, [], refl, sym, inl, arith}
 use Rattle.ats_wire.proofs.Public.{err_part, ok_part}
-use Rattle.ats_top.specs.Words.{ServeWords}
+use Rattle.ats_console.specs.Words.{ServeWords}
 use Rattle.ats_top.specs.Served.{Listened, serving_text}
 use Rattle.ats_top.proofs.Sessions.{had_none, took_none, took_as, failed_as}
 use Rattle.ats_top.proofs.Attending.{attends, served_of}

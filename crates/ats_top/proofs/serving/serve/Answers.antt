@@ -1,5 +1,5 @@
 use Rattle.std.proofs.Common.{inr, refl, arith}
-use Rattle.ats_top.proofs.Fronts.{has_index}
+use Rattle.ats_console.proofs.Public.{has_index}
 use Rattle.ats_top.proofs.Opened.{attends_opens}
 use Rattle.ats_top.proofs.ServeEnds.{attends_later, attends_door, unloaded, roomless, served}
 use Rattle.ats_top.proofs.serving.serve.Goals as goal

@@ -1,11 +1,10 @@
 use Rattle.std.proofs.Common.{◌^◌, ℕ, List, [], sym, subst}
 use Rattle.std.proofs.lemmas.Result.{err_from_is_err_and}
 use Rattle.ats_plan.specs.Runs.{IsDone, IsStopped}
-use Rattle.ats_top.specs.Steps.{reads_file}
-use Rattle.ats_top.specs.Inner.Steps.{comes_to}
+use Rattle.ats_console.specs.Steps.{reads_file, comes_to}
 use Rattle.ats_top.specs.Commands.Sweep.{sweep_plan}
-use Rattle.ats_top.specs.declared.stops.Stop.TheVariants.{Shelf, Memory}
-use Rattle.ats_top.proofs.Fronts.{passed_on}
+use Rattle.ats_console.specs.declared.stops.Stop.TheVariants.{Shelf, Memory}
+use Rattle.ats_console.proofs.Public.{passed_on}
 use Rattle.ats_top.proofs.SweepSteps.{index_stops, file_stops, index_there, list_there, sweep_done, sweep_stops}
 use Rattle.ats_top.proofs.sweeping.sweep.Goals as goal
 

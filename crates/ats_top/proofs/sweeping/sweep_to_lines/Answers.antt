@@ -1,15 +1,15 @@
-use Rattle.std.proofs.Common.{◌≡◌, List, [], length, sym, subst}
+use Rattle.std.proofs.Common.{◌≡◌, ◌∙◌, List, [], length, sym, subst}
 use Rattle.std.proofs.lemmas.Result.{err_from_is_err_and}
 use Rattle.std.specs.List.{AllZip}
 use Rattle.ats_audit.specs.Sweeps.{IsVerdictOf}
 use Rattle.ats_plan.specs.Runs.{IsDone, IsStopped}
-use Rattle.ats_top.specs.Inner.Steps.{no_more, comes_to}
+use Rattle.ats_console.specs.Steps.{no_more, comes_to}
 use Rattle.ats_top.specs.Inner.Sweeping.{AreJobs, IsReport, entry_names}
 use Rattle.ats_top.specs.Commands.Sweep.{gathers, sweeps}
 use Rattle.ats_top.specs.declared.gathering.Gathered.{Gathered}
 use Rattle.ats_top.specs.declared.listing.Entry.{Entry}
-use Rattle.ats_top.specs.declared.stops.Stop.TheVariants.{Shelf, Memory}
-use Rattle.ats_top.proofs.Fronts.{passed_on}
+use Rattle.ats_console.specs.declared.stops.Stop.TheVariants.{Shelf, Memory}
+use Rattle.ats_console.proofs.Public.{passed_on}
 use Rattle.ats_top.proofs.Gathers.{has_gathers}
 use Rattle.ats_top.proofs.JobSteps.{as_many, as_many_verdicts}
 use Rattle.ats_top.proofs.SweepSteps.{done_of, jobs_of, verdicts_of, list_stops, gather_stops, runs_out, swept_right, swept_stops}
@@ -42,7 +42,7 @@ returns-in_err-verdicts-clause-stop g c words =
     let done : IsDone (gathers [] (entry_names c.in_ok-entries.entries.items) (comes_to c.in_ok-proofs.proofs.items)) (g.S.Shelf.told c.args.shelf.now) (g.S.Shelf.told c.gather_all.new.shelf) [] =
     done_of (g.S.Shelf.told c.args.shelf.now) (g.S.Shelf.told c.gather_all.new.shelf) c.in_ok-proofs.proofs.items _ _ c.as_slice.ensures.value c.in_ok-proofs.ensures.ok in
     let told = err_from_is_err_and c.from_residual-in_err-verdicts.result c.from_residual-in_err-verdicts.ensures.1 in
-    passed_on (IsStopped Shelf Memory (sweeps g.H.HashKind.hash words c.args.index.now c.args.list.now) (g.S.Shelf.told c.args.shelf.now) (g.S.Shelf.told c.gather_all.new.shelf)) _ told.0 Memory told.1 told.2
+    passed_on (IsStopped Shelf Memory (sweeps g.H.HashKind.hash words c.args.index.now c.args.list.now) (g.S.Shelf.told c.args.shelf.now) (g.S.Shelf.told c.gather_all.new.shelf)) _ told.0 Memory told.1 (told.2 ∙ c.in_err-verdicts.ensures.stop)
     (runs_out g.H.HashKind.hash words c.args.index.now c.args.list.now c.in_ok-entries.entries.items c.in_ok-entries.ensures.ok c.in_ok-entries.ensures.some c.in_ok-entries.ensures.few (g.S.Shelf.told c.args.shelf.now) (g.S.Shelf.told c.gather_all.new.shelf) c.in_ok-proofs.proofs.items done)
 
 pub returns-in_err-report_of-clause-stop : goal.returns-in_err-report_of-clause-stop
@@ -65,7 +65,7 @@ report_of-requires g c =
     done_of (g.S.Shelf.told c.args.shelf.now) (g.S.Shelf.told c.gather_all.new.shelf) c.in_ok-proofs.proofs.items _ _ c.as_slice.ensures.value c.in_ok-proofs.ensures.ok in
     let its : AreJobs c.in_ok-entries.entries.items c.in_ok-proofs.proofs.items c.in_ok-jobs.jobs.items = jobs_of c.in_ok-entries.entries.items _ _ c.in_ok-jobs.jobs.items c.as_slice-2.ensures.value c.in_ok-jobs.ensures in
     let found : AllZip (IsVerdictOf g.H.HashKind.hash c.args.index.now) c.in_ok-jobs.jobs.items c.as_slice-5.result.now =
-    verdicts_of g.H.HashKind.hash c.args.index.now _ _ _ _ c.as_slice-3.ensures.value c.as_slice-5.ensures c.in_ok-verdicts.ensures in
+    verdicts_of g.H.HashKind.hash c.args.index.now _ _ _ _ c.as_slice-3.ensures.value c.as_slice-5.ensures c.in_ok-verdicts.ensures.ok in
     subst (λ (ps : List Gathered). length c.as_slice-5.result.now ≡ length ps) (sym c.as_slice-4.ensures.value)
     (as_many_verdicts c.in_ok-entries.entries.items c.in_ok-proofs.proofs.items c.in_ok-jobs.jobs.items c.as_slice-5.result.now g.H.HashKind.hash c.args.index.now (as_many c.in_ok-entries.entries.items c.in_ok-proofs.proofs.items (g.S.Shelf.told c.args.shelf.now).files (has_gathers (entry_names c.in_ok-entries.entries.items) c.in_ok-proofs.proofs.items (g.S.Shelf.told c.args.shelf.now) (g.S.Shelf.told c.gather_all.new.shelf) done).each) its found)
 
@@ -75,7 +75,7 @@ returns-clause-ok g c words index file =
     done_of (g.S.Shelf.told c.args.shelf.now) (g.S.Shelf.told c.gather_all.new.shelf) c.in_ok-proofs.proofs.items _ _ c.as_slice.ensures.value c.in_ok-proofs.ensures.ok in
     let its : AreJobs c.in_ok-entries.entries.items c.in_ok-proofs.proofs.items c.in_ok-jobs.jobs.items = jobs_of c.in_ok-entries.entries.items _ _ c.in_ok-jobs.jobs.items c.as_slice-2.ensures.value c.in_ok-jobs.ensures in
     let found : AllZip (IsVerdictOf g.H.HashKind.hash c.args.index.now) c.in_ok-jobs.jobs.items c.as_slice-5.result.now =
-    verdicts_of g.H.HashKind.hash c.args.index.now _ _ _ _ c.as_slice-3.ensures.value c.as_slice-5.ensures c.in_ok-verdicts.ensures in
+    verdicts_of g.H.HashKind.hash c.args.index.now _ _ _ _ c.as_slice-3.ensures.value c.as_slice-5.ensures c.in_ok-verdicts.ensures.ok in
     let is : IsReport c.in_ok-proofs.proofs.items c.as_slice-5.result.now c.in_ok-report_of.field-0 =
     subst (λ (ps : List Gathered). IsReport ps c.as_slice-5.result.now c.in_ok-report_of.field-0) c.as_slice-4.ensures.value c.in_ok-report_of.ensures in
     swept_right g.H.HashKind.hash words c.args.index.now c.args.list.now c.in_ok-entries.entries.items c.in_ok-entries.ensures.ok c.in_ok-entries.ensures.some c.in_ok-entries.ensures.few (g.S.Shelf.told c.args.shelf.now) (g.S.Shelf.told c.gather_all.new.shelf) c.in_ok-proofs.proofs.items done
@@ -87,7 +87,7 @@ returns-clause-stop g c words =
     done_of (g.S.Shelf.told c.args.shelf.now) (g.S.Shelf.told c.gather_all.new.shelf) c.in_ok-proofs.proofs.items _ _ c.as_slice.ensures.value c.in_ok-proofs.ensures.ok in
     let its : AreJobs c.in_ok-entries.entries.items c.in_ok-proofs.proofs.items c.in_ok-jobs.jobs.items = jobs_of c.in_ok-entries.entries.items _ _ c.in_ok-jobs.jobs.items c.as_slice-2.ensures.value c.in_ok-jobs.ensures in
     let found : AllZip (IsVerdictOf g.H.HashKind.hash c.args.index.now) c.in_ok-jobs.jobs.items c.as_slice-5.result.now =
-    verdicts_of g.H.HashKind.hash c.args.index.now _ _ _ _ c.as_slice-3.ensures.value c.as_slice-5.ensures c.in_ok-verdicts.ensures in
+    verdicts_of g.H.HashKind.hash c.args.index.now _ _ _ _ c.as_slice-3.ensures.value c.as_slice-5.ensures c.in_ok-verdicts.ensures.ok in
     let is : IsReport c.in_ok-proofs.proofs.items c.as_slice-5.result.now c.in_ok-report_of.field-0 =
     subst (λ (ps : List Gathered). IsReport ps c.as_slice-5.result.now c.in_ok-report_of.field-0) c.as_slice-4.ensures.value c.in_ok-report_of.ensures in
     swept_stops g.H.HashKind.hash words c.args.index.now c.args.list.now c.in_ok-entries.entries.items c.in_ok-entries.ensures.ok c.in_ok-entries.ensures.some c.in_ok-entries.ensures.few (g.S.Shelf.told c.args.shelf.now) (g.S.Shelf.told c.gather_all.new.shelf) c.in_ok-proofs.proofs.items done

@@ -3,7 +3,7 @@ use Rattle.std.proofs.lemmas.List.{length-append}
 use Rattle.std.proofs.lemmas.Result.{err_from_is_err_and}
 use Rattle.ats_terms.specs.Query.{IsQueryOf}
 use Rattle.ats_impact.specs.Trial.{trial_query}
-use Rattle.ats_top.specs.Stops.{stop_of_query}
+use Rattle.ats_console.specs.Stops.{stop_of_query}
 use Rattle.ats_top.specs.Inner.Trial.{AreTrialQueries, IsTrialStop}
 use Rattle.ats_top.proofs.Tried.{are_queries, passed_on, queries_more, query_stops}
 use Rattle.ats_top.proofs.trial.queries.Goals as goal

@@ -1,7 +1,7 @@
 use Rattle.std.proofs.lemmas.Result.{err_from_is_err_and}
 use Rattle.ats_plan.specs.Runs.{IsStopped}
 use Rattle.ats_top.specs.Commands.Trial.{trial_plan}
-use Rattle.ats_top.specs.declared.stops.Stop.TheVariants.{Shelf, Memory}
+use Rattle.ats_console.specs.declared.stops.Stop.TheVariants.{Shelf, Memory}
 use Rattle.ats_top.proofs.Tried.{passed_on, trial_stopped, tried_ok, tried_stop}
 use Rattle.ats_top.proofs.trial.trial.Goals as goal
 

@@ -2,8 +2,8 @@ use Rattle.std.proofs.Common.{◌≡◌, ◌⊎◌, ℕ, List, Vec, Global, ap, 
 use Rattle.std.proofs.lemmas.Result.{err_from_is_err_and}
 use Rattle.ats_top.specs.Inner.Trial.{IsTriesStop}
 use Rattle.ats_top.specs.Trial.{lines_of_trial}
-use Rattle.ats_top.specs.declared.stops.Stop.{Stop}
-use Rattle.ats_top.specs.declared.stops.Stop.TheVariants.{Memory}
+use Rattle.ats_console.specs.declared.stops.Stop.{Stop}
+use Rattle.ats_console.specs.declared.stops.Stop.TheVariants.{Memory}
 use Rattle.ats_top.proofs.Tried.{passed_on}
 use Rattle.ats_top.proofs.trial.try_to_lines.Goals as goal
 

@@ -2,7 +2,7 @@ use Rattle.std.proofs.Common.{◌^◌, vec_items, sym, subst}
 use Rattle.std.proofs.lemmas.Result.{err_from_is_err_and}
 use Rattle.ats_plan.specs.Files.{Files, IsFile}
 use Rattle.ats_plan.proofs.Public.{leads_none}
-use Rattle.ats_top.proofs.Fronts.{passed_on, rows_stops, query_stops, leads_ranking, leads_bytes, has_bytes, same_bytes, at_bytes}
+use Rattle.ats_console.proofs.Public.{passed_on, rows_stops, query_stops, leads_ranking, leads_bytes, has_bytes, same_bytes, at_bytes}
 use Rattle.ats_top.proofs.VerifyEnds.{rows_of_range, asks_of, bytes_stops, bytes_end}
 use Rattle.ats_top.proofs.verifying.verify.Goals as goal
 

@@ -1,0 +1,5 @@
+pub mod Public
+mod JsonLemmas
+mod OneFault
+mod Fronts
+mod RootWords

@@ -1,0 +1,35 @@
+-- What other rooms may cite of the proofs of this one. All other files here are private.
+
+-- where a step ended, and the value that it came to, lead on to what comes after it
+pub use Rattle.ats_console.proofs.Fronts.{lands}
+-- the stop of a first fault is for out of memory, or it stops by that fault
+pub use Rattle.ats_console.proofs.Fronts.{stops_by}
+-- a number of rows in range and a query lead past the first two steps of a ranking
+pub use Rattle.ats_console.proofs.Fronts.{leads_ranking}
+-- a file, a collection or an index that was read leads past its step
+pub use Rattle.ats_console.proofs.Fronts.{leads_bytes, leads_collection, leads_index}
+-- what such a step found
+pub use Rattle.ats_console.proofs.Fronts.{has_bytes, has_collection, has_index}
+-- such a step left the files
+pub use Rattle.ats_console.proofs.Fronts.{same_bytes, same_collection, same_index}
+-- memory may run out after some steps, whatever comes after them
+pub use Rattle.ats_console.proofs.Fronts.{ran_out, memory_stops}
+-- if such a step stopped, what it is the first step of stopped there
+pub use Rattle.ats_console.proofs.Fronts.{at_bytes, at_collection, at_index}
+-- a stop that is passed on keeps its cause
+pub use Rattle.ats_console.proofs.Fronts.{passed_on}
+-- a step that finds no value, or does not hold, stops what comes to it
+pub use Rattle.ats_console.proofs.Fronts.{get_stops, try_stops}
+-- so does a number of rows out of range, and a text that is no query
+pub use Rattle.ats_console.proofs.Fronts.{rows_stops, query_stops}
+-- a query has no fault, and a text has at most one
+pub use Rattle.ats_console.proofs.OneFault.{no_query_fault, one_query_fault}
+-- texts of JSON bytes have no fault, and bytes have at most one
+pub use Rattle.ats_console.proofs.JsonLemmas.{no_json_fault}
+pub use Rattle.ats_console.proofs.OneFault.{one_json_fault}
+-- bytes have at most one list of texts
+pub use Rattle.ats_console.proofs.JsonLemmas.{same_texts}
+-- texts within the limits have no fault, and others at most one
+pub use Rattle.ats_console.proofs.OneFault.{no_collection_fault, one_collection_fault}
+-- the bytes of an index have no fault, and others at most one
+pub use Rattle.ats_console.proofs.OneFault.{no_load_fault, one_load_fault}

@@ -1,0 +1,25 @@
+-- The lines of two different strings with the same digest.
+use Rattle.std.specs.Prelude.{◌++◌, ℕ, List, codes, decimal}
+use Rattle.hex.specs.Hex.{encode_lower}
+use Rattle.ats_tree.specs.declared.hashed.Place.{Place}
+use Rattle.ats_tree.specs.declared.hashed.Tree.{Tree}
+use Rattle.ats_tree.specs.declared.hashed.Tree.TheVariants.{Header, Dictionary, List as ListOf, Documents, Terms}
+
+abbrev pub tree_words : Tree → List ℕ
+tree_words Header = codes "header"
+tree_words Dictionary = codes "dictionary"
+tree_words (ListOf term) = codes "list " ++ decimal term
+tree_words Documents = codes "documents"
+tree_words (Terms doc) = codes "terms " ++ decimal doc
+
+-- the place by the words of its tree and its two numbers, the archive's own string, and the string that was checked, a
+-- line each; strings as lower-case hexadecimal digits
+abbrev pub lines_of_strings : (tree : List ℕ) → (depth turns : ℕ) → (ours theirs : List ℕ) → List ℕ
+lines_of_strings tree depth turns ours theirs =
+    codes "collision " ++ (tree
+    ++ (codes " depth " ++ (decimal depth ++ (codes " turns " ++ (decimal turns
+    ++ (codes "\nours " ++ (encode_lower ours ++ (codes "\ntheirs " ++ (encode_lower theirs ++ codes "\n")))))))))
+
+-- those of a proof's string
+abbrev pub lines_of_collision : Place → List ℕ → List ℕ → List ℕ
+lines_of_collision place ours theirs = lines_of_strings (tree_words place.tree) place.depth place.turns ours theirs

@@ -1,0 +1,9 @@
+pub mod Input
+pub mod Words
+pub mod Print
+pub mod RejectionLines
+pub mod CollisionLines
+pub mod Stops
+pub mod Read
+pub mod Steps
+pub mod Inner

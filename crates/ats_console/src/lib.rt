@@ -1,0 +1,38 @@
+//! What is typed, read and printed: the words of a command, the files that commands read, the lines that they print, and
+//! why a command stops.
+//!
+//! The room stands on `ats_plan` for the steps of a command, on `ats_base` for files, on `ats_terms` and `ats_impact` for
+//! queries and collections, on `ats_index` for indexes, and on `ats_client` for the reasons why a proof is rejected.
+//! Words mean the command that `specs/Words.antt` says, or none. Each call of [`read`] is a step of a plan
+//! (`specs/Steps.antt`): it comes to what the named file holds, or stops as the step does. Each fault has one stop
+//! ([`Stop`]) with one line, in one table for each type of fault (`specs/Stops.antt`). The commands themselves, and what
+//! they promise, are in `ats_top`. How words and files are read may change freely; forms, lines and the order in which a
+//! file is refused may not.
+//!
+//! ```
+//! // words: "rank", "X", "1" and "red hen"
+//! let command = read_words(&words); // Some(Command::Rank { collection: "X", r: 1, query: "red hen" })
+//! let texts = read::collection(alloc, "X", shelf)?; // the texts of the file, or the stop that refuses it
+//! ```
+#![tactic(auto)]
+
+mod collision;
+mod input;
+mod phrases;
+mod print;
+pub mod read;
+mod rejection;
+mod stop_lines;
+mod stops;
+mod words;
+
+pub use collision::{collision_lines, strings_lines};
+pub use input::{JsonFault, read_collection};
+pub use phrases::{Phrase, Said};
+pub use print::{lines, proof_line, root_line};
+pub use rejection::{refused_line, rejection_line, rejection_words};
+pub use stop_lines::Line;
+pub use stops::{
+    Stop, bad_line, faults_line, file_too_long, input_stop, peer, proofs_too_long, rejected,
+};
+pub use words::{Command, number, read_words, serving_of};

@@ -1,0 +1,46 @@
+//! The lines of rows, of a root and of a size.
+
+ghost use Rattle.std.specs.Prelude.{◌≡◌, string_bytes, IfOk, Some};
+ghost use Rattle.hex.specs.Hex.{encode_lower};
+ghost use Rattle.ats_console.specs.Words.{root_word};
+ghost use Rattle.ats_console.specs.Print.{line_of, lines, line_of_root, line_of_proof};
+
+use ats_impact::{Row, Rows};
+use std::alloc::{AllocError, Global};
+
+fn line(alloc: Global, rank: u64, row: &Row) -> Result<String, AllocError>
+    ensures { IfOk result (λ text. string_bytes text ≡ line_of rank row.now) }
+{
+    let (doc, lower, upper) = (row.doc, row.lower, row.upper);
+    format!(in alloc; "{rank} {doc} {lower} {upper}\n")
+}
+
+/// A line for each row, in order.
+pub fn lines(alloc: Global, rows: &Rows) -> Result<Vec<u8>, AllocError>
+    ensures { IfOk result (λ text. text.items ≡ lines rows.now) }
+{
+    let mut text = Vec::new(alloc);
+    let rows = rows.as_slice();
+    for i in 0..rows.len() {
+        let line = line(alloc, i as u64 + 1, &rows[i])?;
+        text.extend_from_slice(line.as_bytes())?;
+    }
+    Ok(text)
+}
+
+/// The digits of a root, in a line. They are the word for this root.
+#[tactic(auto, using(crate::proofs::RootWords::digits_spell_roots))]
+pub fn root_line(alloc: Global, root: &[u8; 32]) -> Result<String, AllocError>
+    ensures line { IfOk result (λ text. string_bytes text ≡ line_of_root root.now) }
+    ensures word { root_word (encode_lower root.now) ≡ Some root.now }
+{
+    let digits = hex::encode(alloc, root)?;
+    format!(in alloc; "{digits}\n")
+}
+
+/// The number of a proof's bytes, in a line.
+pub fn proof_line(alloc: Global, bytes: usize) -> Result<String, AllocError>
+    ensures { IfOk result (λ text. string_bytes text ≡ line_of_proof bytes) }
+{
+    format!(in alloc; "proof {bytes}\n")
+}

@@ -1,0 +1,65 @@
+-- The bytes that show a growth are accepted or refused in one way; and a text is the first that was withdrawn in one
+-- way.
+use Rattle.std.proofs.Common.{◌≡◌, ◌∙◌, ◌<◌, ℕ, List, sym, ap, subst, inl, inr}
+use Rattle.std.proofs.lemmas.Bool.{cases_order}
+use Rattle.ats_commit.specs.Archive.{Archive}
+use Rattle.ats_grammar.specs.Front.{IsBad}
+use Rattle.ats_grammar.specs.declared.fault.ShapeFault.{ShapeFault}
+use Rattle.ats_grammar.proofs.Public.{no_fault, one_fault}
+use Rattle.ats_growth.specs.Grammar.{growth_schema}
+use Rattle.ats_growth.specs.Honest.{IsFirstApart}
+use Rattle.ats_growth.specs.Rules.{IsFirstRefusal}
+use Rattle.ats_growth.specs.Value.{Growth, IsGrowth, fields_of}
+use Rattle.ats_growth.specs.Verdicts.{IsAcceptedGrowth, IsRefusedGrowth}
+use Rattle.ats_growth.specs.declared.refusal.GrowthRefusal.{GrowthRefusal}
+use Rattle.ats_growth.proofs.Public.{one_growth, one_refusal, accepted_kept, not_prefix}
+use Rattle.ats_plan.specs.Sound.{IsExact}
+use Rattle.ats_console.specs.declared.stops.Stop.{Stop}
+use Rattle.ats_console.specs.declared.stops.Stop.TheVariants.{Input}
+use Rattle.ats_top.specs.GrowthLines.{line_of_differing}
+use Rattle.ats_top.specs.Commands.Grow.{HasKept, Withdraws}
+use Rattle.ats_top.proofs.OneFile.{IsFileOne}
+
+module _ (H : List ℕ → List ℕ) (old new : List ℕ) (bytes : List ℕ) where
+  no_shape : (growth : Growth) (fault : ShapeFault) → IsGrowth bytes growth → IsBad growth_schema bytes fault → ⊥
+  no_shape growth fault says bad = no_fault growth_schema bytes fault (fields_of growth) bad says
+
+  not_both : (growth : Growth) (refusal : GrowthRefusal) → IsAcceptedGrowth H old new bytes growth → IsRefusedGrowth H old new bytes refusal → ⊥
+  not_both growth refusal accepted refused =
+      accepted_kept H old new growth refusal accepted.accepts
+      (subst (λ (g : Growth). IsFirstRefusal H old new g refusal) (one_growth bytes refused.growth growth refused.says accepted.says) refused.refused)
+
+  one_rule : (a b : GrowthRefusal) → IsRefusedGrowth H old new bytes a → IsRefusedGrowth H old new bytes b → a ≡ b
+  one_rule a b is also =
+      one_refusal H old new is.growth a b is.refused
+      (subst (λ (g : Growth). IsFirstRefusal H old new g b) (one_growth bytes also.growth is.growth also.says is.says) also.refused)
+
+  pub growth_file_one : IsFileOne (IsAcceptedGrowth H old new bytes) (IsBad growth_schema bytes) (IsRefusedGrowth H old new bytes)
+  growth_file_one = record {
+    single = λ a b is also. one_growth bytes a b is.says also.says;
+    whole = λ growth fault is bad. no_shape growth fault is.says bad;
+    kept = not_both;
+    apart = λ fault refusal bad refused. no_shape refused.growth fault refused.says bad;
+    one_shape = one_fault growth_schema bytes;
+    one_rule = one_rule;
+  }
+
+-- ---- what was withdrawn
+
+-- of two first texts that were withdrawn none is before the other
+not_before : (old new : List (List ℕ)) (a b : ℕ) → IsFirstApart old new a → IsFirstApart old new b → a < b → ⊥
+not_before old new a b is also less = is.apart (also.before a less)
+
+one_apart : (old new : List (List ℕ)) (a b : ℕ) → IsFirstApart old new a → IsFirstApart old new b → a ≡ b
+one_apart old new a b is also = elim (cases_order a b) [
+  | inl same ↦ same
+  | inr (inl less) ↦ absurd (not_before old new a b is also less)
+  | inr (inr less) ↦ absurd (not_before old new b a also is less)
+]
+
+-- the old texts are kept, or one is the first that was withdrawn
+pub kept_exact : (older newer : Archive) → IsExact (HasKept older newer) (Withdraws older newer)
+kept_exact older newer = record {
+  breaks = λ stop lacks kept. not_prefix older.texts newer.texts lacks.0 lacks.1 kept;
+  one = λ a b is also. is.2 ∙ ap (λ (doc : ℕ). Input (line_of_differing doc)) (one_apart older.texts newer.texts is.0 also.0 is.1 also.1) ∙ sym also.2;
+}

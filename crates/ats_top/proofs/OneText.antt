@@ -1,0 +1,57 @@
+-- The bytes that give a text are accepted or refused in one way, and collide in one way at most.
+use Rattle.std.proofs.Common.{◌≡◌, ◌∙◌, ℕ, List, Some, None, sym, ap, subst}
+use Rattle.ats_commit.specs.Archive.{Archive}
+use Rattle.ats_tree.specs.Differences.{Difference}
+use Rattle.ats_grammar.specs.Front.{IsBad}
+use Rattle.ats_grammar.specs.declared.fault.ShapeFault.{ShapeFault}
+use Rattle.ats_grammar.proofs.Public.{no_fault, one_fault}
+use Rattle.ats_fetch.specs.Grammar.{text_schema}
+use Rattle.ats_fetch.specs.Strings.{TextPlace, text_extract}
+use Rattle.ats_fetch.specs.Value.{TextProof, IsTextProof, fields_of}
+use Rattle.ats_fetch.specs.Accepts.{IsFirstTextRefusal}
+use Rattle.ats_fetch.specs.Verdicts.{IsAcceptedText, IsRefusedText}
+use Rattle.ats_fetch.specs.declared.refusal.TextRefusal.{TextRefusal}
+use Rattle.ats_fetch.proofs.Public.{one_text, one_refusal, not_refused}
+use Rattle.ats_plan.specs.Sound.{IsExact}
+use Rattle.ats_console.specs.declared.stops.Stop.{Stop}
+use Rattle.ats_console.specs.declared.stops.Stop.TheVariants.{Collision}
+use Rattle.ats_top.specs.TextLines.{lines_of_text_collision}
+use Rattle.ats_top.specs.Commands.AuditFetch.{StopsByTextCollision}
+use Rattle.ats_top.proofs.OneFile.{IsFileOne}
+
+module _ (H : List ℕ → List ℕ) (root : List ℕ) (doc : ℕ) (bytes : List ℕ) where
+  no_shape : (proof : TextProof) (fault : ShapeFault) → IsTextProof bytes proof → IsBad text_schema bytes fault → ⊥
+  no_shape proof fault says bad = no_fault text_schema bytes fault (fields_of proof) bad says.spells
+
+  not_both : (proof : TextProof) (refusal : TextRefusal) → IsAcceptedText H root doc bytes proof → IsRefusedText H root doc bytes refusal → ⊥
+  not_both proof refusal accepted refused =
+      not_refused H root doc proof refusal accepted.accepts
+      (subst (λ (p : TextProof). IsFirstTextRefusal H root doc p refusal) (one_text bytes refused.proof proof refused.says accepted.says) refused.refused)
+
+  one_rule : (a b : TextRefusal) → IsRefusedText H root doc bytes a → IsRefusedText H root doc bytes b → a ≡ b
+  one_rule a b is also =
+      one_refusal H root doc is.proof a b is.refused
+      (subst (λ (p : TextProof). IsFirstTextRefusal H root doc p b) (one_text bytes also.proof is.proof also.says is.says) also.refused)
+
+  pub text_file_one : IsFileOne (IsAcceptedText H root doc bytes) (IsBad text_schema bytes) (IsRefusedText H root doc bytes)
+  text_file_one = record {
+    single = λ a b is also. one_text bytes a b is.says also.says;
+    whole = λ proof fault is bad. no_shape proof fault is.says bad;
+    kept = not_both;
+    apart = λ fault refusal bad refused. no_shape refused.proof fault refused.says bad;
+    one_shape = one_fault text_schema bytes;
+    one_rule = one_rule;
+  }
+
+module _ (H : List ℕ → List ℕ) (archive : Archive) (doc : ℕ) (proof : TextProof) where
+  none_found : (collision : Difference TextPlace) → None ≡ Some collision → ⊥
+  none_found collision is = cc
+
+  one_found : (a b : Difference TextPlace) → Some a ≡ Some b → a ≡ b
+  one_found a b is = cc
+
+  pub text_collision_exact : IsExact (text_extract H archive doc proof ≡ None) (StopsByTextCollision H archive doc proof)
+  text_collision_exact = record {
+    breaks = λ stop stops none. none_found stops.0 (sym none ∙ stops.1.found);
+    one = λ a b is also. is.2 ∙ ap (λ (c : Difference TextPlace). Collision (lines_of_text_collision c)) (one_found is.0 also.0 (sym is.1.found ∙ also.1.found)) ∙ sym also.2;
+  }

@@ -1,0 +1,88 @@
+-- How `fetch` and `audit-fetch` end, from the results of their steps.
+use Rattle.std.proofs.Common.{◌≡◌, ◌∙◌, ◌⊎◌, ◌^◌, ℕ, List, None, length, Result, Ok, Err, ap, subst, inl, inr}
+use Rattle.std.specs.Prelude.{IfOk, IfErr}
+use Rattle.ats_base.specs.Outside.{ShelfTold}
+use Rattle.ats_commit.specs.Archive.{Archive}
+use Rattle.ats_commit.specs.Root.{root_of}
+use Rattle.ats_fetch.specs.Strings.{text_extract}
+use Rattle.ats_fetch.specs.Value.{TextProof, IsTextProof}
+use Rattle.ats_fetch.specs.Verdicts.{IsAcceptedText, IsFoundOwn, IsFoundClash, difference_of}
+use Rattle.ats_fetch.specs.declared.verdict.TextClash.{TextClash}
+use Rattle.ats_fetch.proofs.Public.{one_text, in_range, own_or_collides, told, extract-collides}
+use Rattle.ats_plan.specs.Files.{IsFile}
+use Rattle.ats_plan.specs.Plan.{Finishes, Tries}
+use Rattle.ats_plan.specs.Runs.{IsDone, IsStopped}
+use Rattle.ats_plan.proofs.Public.{Leads, leads_get, done_get, done_try, done_end}
+use Rattle.ats_console.specs.Words.{FetchWords, AuditFetchWords}
+use Rattle.ats_console.specs.Read.{HasIndex}
+use Rattle.ats_console.specs.declared.stops.Stop.{Stop}
+use Rattle.ats_console.specs.declared.stops.Stop.TheVariants.{Shelf, Memory, Collision}
+use Rattle.ats_console.proofs.Public.{memory_stops, get_stops, try_stops}
+use Rattle.ats_top.specs.TextLines.{printed_text, lines_of_text_collision}
+use Rattle.ats_top.specs.TextSteps.{RejectsText, checks_text}
+use Rattle.ats_top.specs.Commands.Fetch.{IsFetched, fetch_plan}
+use Rattle.ats_top.specs.Commands.AuditFetch.{IsFetchAudited, StopsByTextCollision, audit_fetch_plan}
+use Rattle.ats_top.specs.Inner.Texts.{TextVerdictStop}
+
+module _ (H : List ℕ → List ℕ) (words : FetchWords) (before mid : ShelfTold) (bytes : List ℕ)
+    (leads : Leads Shelf Memory (fetch_plan H words) before
+    (checks_text H words.root words.doc bytes (λ proof. Finishes (λ files text. IsFetched H files words text))) mid) where
+  -- bytes that were refused
+  pub fetch_stops : {T : Type 0} (result : Result T Stop) → IfErr result (λ stop. (stop ≡ Memory) ⊎ RejectsText H words.root words.doc bytes stop)
+      → IfErr result (IsStopped Shelf Memory (fetch_plan H words) before mid)
+  fetch_stops (Ok text) stops = tt
+  fetch_stops (Err stop) stops = get_stops leads stops
+
+  -- bytes that were accepted
+  pub fetch_end : IsFile mid.files words.file (2 ^ 21) bytes → ((m : List ℕ) → length (H m) ≡ 32) → {T : Type 0} (bytes_of : T → List ℕ) (result : Result T Stop)
+      → IfOk result (λ text. (proof : TextProof) × IsAcceptedText H words.root words.doc bytes proof × (bytes_of text ≡ printed_text proof.text))
+      → IfOk result (λ text. IsDone (fetch_plan H words) before mid (bytes_of text))
+  fetch_end file sized bytes_of (Ok text) (proof, accepted, printed) =
+      leads.does mid (bytes_of text) (done_get proof accepted (done_end (record {
+        bytes = bytes;
+        file = file;
+        proof = proof;
+        accepted = accepted;
+        headline = own_or_collides H sized words.root words.doc proof (in_range bytes proof accepted.says) accepted.accepts;
+        audited = told H sized words.root words.doc bytes proof accepted.says accepted.accepts;
+        printed = printed;
+      })))
+  fetch_end file sized bytes_of (Err stop) is = tt
+
+module _ (H : List ℕ → List ℕ) (words : AuditFetchWords) (before mid : ShelfTold) (archive : Archive) (bytes : List ℕ)
+    (leads : Leads Shelf Memory (audit_fetch_plan H words) before
+    (checks_text H (root_of H archive) words.doc bytes (λ proof.
+    Tries (text_extract H archive words.doc proof ≡ None) (StopsByTextCollision H archive words.doc proof)
+    (Finishes (λ files text. IsFetchAudited H files words text)))) mid) where
+  -- bytes that were refused, or have a collision
+  pub audit_fetch_stops : {T : Type 0} (result : Result T Stop) → IfErr result (TextVerdictStop H archive words.doc bytes)
+      → IfErr result (IsStopped Shelf Memory (audit_fetch_plan H words) before mid)
+  audit_fetch_stops (Ok text) stops = tt
+  audit_fetch_stops (Err stop) (inl memory) = memory_stops leads memory
+  audit_fetch_stops (Err stop) (inr (inl rejects)) = get_stops leads (inr rejects)
+  audit_fetch_stops (Err stop) (inr (inr (proof, accepted, collides))) = try_stops (leads_get proof leads accepted) (inr collides)
+
+  -- bytes that were accepted and have none
+  pub audit_fetch_end : HasIndex H mid.files words.index archive → IsFile mid.files words.file (2 ^ 21) bytes → {T : Type 0} (bytes_of : T → List ℕ) (result : Result T Stop)
+      → IfOk result (λ text. (proof : TextProof) × IsTextProof bytes proof × IsFoundOwn H archive words.doc bytes × (bytes_of text ≡ printed_text proof.text))
+      → IfOk result (λ text. IsDone (audit_fetch_plan H words) before mid (bytes_of text))
+  audit_fetch_end index file bytes_of (Ok text) (proof, says, found, printed) =
+      leads.does mid (bytes_of text) (done_get found.proof found.accepted (done_try found.none (done_end (record {
+        archive = archive;
+        index = index;
+        bytes = bytes;
+        file = file;
+        proof = found.proof;
+        accepted = found.accepted;
+        none = found.none;
+        own = found.own;
+        printed = printed ∙ ap (λ (p : TextProof). printed_text p.text) (one_text bytes proof found.proof says found.accepted.says);
+      }))))
+  audit_fetch_end index file bytes_of (Err stop) is = tt
+
+-- the first collision stops it by its lines
+pub text_collision_stops : (H : List ℕ → List ℕ) (archive : Archive) (doc : ℕ) (bytes : List ℕ) (clash : TextClash) (stop : Stop)
+    → IsFoundClash H archive doc bytes clash → stop ≡ Collision (lines_of_text_collision (difference_of clash)) → TextVerdictStop H archive doc bytes stop
+text_collision_stops H archive doc bytes clash stop found is =
+    let two = extract-collides H archive doc found.proof (difference_of clash) found.found in
+    inr (inr (found.proof, found.accepted, (difference_of clash, record { found = found.found; differ = two.0; equal = two.1 }, is)))

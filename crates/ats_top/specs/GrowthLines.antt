@@ -1,0 +1,25 @@
+-- The lines of the commands that show, check and audit the growth of an archive.
+use Rattle.std.specs.Prelude.{◌++◌, ℕ, List, codes, decimal}
+use Rattle.ats_growth.specs.declared.refusal.GrowthRefusal.{GrowthRefusal}
+use Rattle.ats_growth.specs.declared.refusal.GrowthRefusal.TheVariants.{OtherOld, OtherNew, Shrunk, GrowthMisfit, OldTexts, NewTexts}
+use Rattle.ats_console.specs.Stops.{input_line}
+
+-- growth LENGTH
+abbrev pub line_of_growth_size : ℕ → List ℕ
+line_of_growth_size bytes = codes "growth " ++ (decimal bytes ++ codes "\n")
+
+-- the first old document that the new archive does not have with the same text
+abbrev pub line_of_differing : ℕ → List ℕ
+line_of_differing doc = input_line (codes "document " ++ (decimal doc ++ codes " differs"))
+
+-- grown M N: the numbers of documents of the old and of the new archive
+abbrev pub line_of_grown : ℕ → ℕ → List ℕ
+line_of_grown old new = codes "grown " ++ (decimal old ++ (codes " " ++ (decimal new ++ codes "\n")))
+
+abbrev pub growth_refusal_words : GrowthRefusal → List ℕ
+growth_refusal_words OtherOld = codes "other-old"
+growth_refusal_words OtherNew = codes "other-new"
+growth_refusal_words (Shrunk old new) = codes "shrunk " ++ (decimal old ++ (codes " " ++ decimal new))
+growth_refusal_words (GrowthMisfit digests) = codes "growth-misfit " ++ decimal digests
+growth_refusal_words OldTexts = codes "old-texts"
+growth_refusal_words NewTexts = codes "new-texts"

@@ -1,9 +1,0 @@
--- The text of a line.
-use Rattle.std.specs.Prelude.{ℕ, List}
-use Rattle.ats_top.specs.declared.line.Text.{Text}
-use Rattle.ats_top.specs.declared.line.Text.TheVariants.{Said, Made}
-
--- a line of a phrase, or bytes that were made before
-abbrev pub text_of_line : Text → List ℕ
-text_of_line (Said line) = line
-text_of_line (Made bytes) = bytes.items
