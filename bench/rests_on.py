@@ -41,6 +41,12 @@ COMMANDS = {
     "audit": "IsAuditedRight",
     "sweep": "IsSwept",
     "trial": "IsTrial",
+    "migrate": "IsMigrated",
+    "give": "IsTextStored",
+    "fetch": "IsFetched",
+    "audit-fetch": "IsFetchAudited",
+    "grow": "IsGrowthStored",
+    "growth": "IsGrowthChecked",
 }
 
 WORD = r"[^\W\d](?:[\w']|-(?=\w))*"
