@@ -20,6 +20,12 @@
 //! - `blocks TIMES` rebuilds and keeps a list of 65,536 entries in blocks, TIMES times. It prints for each time the
 //!   microseconds of 4,000 fronts of one entry and of their strings, of the whole list in blocks and as one tree, and of
 //!   the digests kept and of as many strings.
+//! - `text INDEX DOC TIMES` gives the text of document DOC of the index of a file, audits and checks it, TIMES times. It
+//!   prints for each time the microseconds of giving, of the audit, of all texts hashed as leaves of their tree, of as
+//!   many inner nodes as the tree has, of the check, and of one digest of the text.
+//! - `growth OLD NEW TIMES` makes a growth between the indexes of two files and checks it, TIMES times. It prints for
+//!   each time the microseconds of making it, of all new texts hashed as leaves of their tree, of as many inner nodes as
+//!   the tree has, and of many checks; then how many checks these are.
 //!
 //! The program stands on the rooms below it and promises nothing of its own. Each kind of work may change as a script
 //! needs it.
@@ -31,7 +37,9 @@ mod auditing;
 mod blocks;
 mod building;
 mod checking;
+mod growing;
 mod reading;
+mod texts;
 mod walking;
 
 use ats_hash::{Hash32, Sha, Steps};
@@ -39,11 +47,13 @@ use auditing::time_audits;
 use blocks::time_blocks;
 use building::time_builds;
 use checking::{check_proof, hash_strings};
+use growing::time_growths;
 use reading::{feed_proof, hash_proof, read_proof};
 use std::alloc::Global;
 use std::process::ExitCode;
 use std::thread::Threads;
 use std::{env, io};
+use texts::time_texts;
 use walking::time_walks;
 
 fn words(rt: &HostRuntime) -> io::Result<Vec<String>> {
@@ -115,6 +125,12 @@ fn work(rt: &HostRuntime, threads: &(impl Threads + Sync), words: &[String]) -> 
         [job, times] if job.as_str() == "blocks" => time_blocks(rt, number(times)?),
         [job, texts, times] if job.as_str() == "build" => {
             time_builds(rt, threads, texts.as_str(), number(times)?)
+        }
+        [job, index, doc, times] if job.as_str() == "text" => {
+            time_texts(rt, threads, index.as_str(), number(doc)?, number(times)?)
+        }
+        [job, old, new, times] if job.as_str() == "growth" => {
+            time_growths(rt, threads, old.as_str(), new.as_str(), number(times)?)
         }
         _ => None,
     }
