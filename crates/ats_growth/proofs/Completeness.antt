@@ -19,7 +19,7 @@ use Rattle.ats_growth.proofs.Trees.{length-digest}
 abbrev both_of : (List ℕ → List ℕ) → Tree (List ℕ) → Tree (List ℕ) → Roots
 both_of H t u = record { old = digest_of H t; new = digest_of H u }
 
-shown-roots : (H : List ℕ → List ℕ) (root : List ℕ) (path : Path) (known : Bool) (t u : Tree (List ℕ)) → Shares path t u → IsKnown H root known t
+pub shown-roots : (H : List ℕ → List ℕ) (root : List ℕ) (path : Path) (known : Bool) (t u : Tree (List ℕ)) → Shares path t u → IsKnown H root known t
     → roots H root path known (shown H path known u) ≡ both_of H t u
 shown-roots H root [] true t u same is = ap₂ (λ (a b : List ℕ). let both : Roots = record { old = a; new = b } in both) is (is ∙ ap (digest_of H) same)
 shown-roots H root [] false t u same is = ap (λ (a : List ℕ). let both : Roots = record { old = a; new = digest_of H u } in both) (ap (digest_of H) (sym same))
@@ -73,7 +73,7 @@ module _ (H : List ℕ → List ℕ) (older newer : Archive) (is : IsPrefix olde
   path = turns (length older.texts) (length newer.texts)
 
   -- the digests of the honest growth, from the last to the first
-  back : reverse (digests_of H (length older.texts) newer.texts) ≡ shown H path true (tree_of newer.texts)
+  pub back : reverse (digests_of H (length older.texts) newer.texts) ≡ shown H path true (tree_of newer.texts)
   back = reverse-reverse (shown H path true (tree_of newer.texts))
 
   both-roots : roots H (mth H older.texts) path true (reverse (digests_of H (length older.texts) newer.texts)) ≡ both_of H (tree_of older.texts) (tree_of newer.texts)

@@ -36,7 +36,7 @@ module _ (texts : List (List ℕ)) (from n k : ℕ) (below : k < n) (inside : fr
       in ap (λ (j : ℕ). drop k (take j (drop from texts))) (sym split) ∙ drop-take k (n - k) (drop from texts)
       ∙ ap (take (n - k)) (drop-drop k from texts)
 
-  cut-range : IsPowerOfTwo k → n ≤ 2 * k → tree_of (take n (drop from texts)) ≡ node (tree_of (take k (drop from texts))) (tree_of (take (n - k) (drop (from + k) texts)))
+  pub cut-range : IsPowerOfTwo k → n ≤ 2 * k → tree_of (take n (drop from texts)) ≡ node (tree_of (take k (drop from texts))) (tree_of (take (n - k) (drop (from + k) texts)))
   cut-range (h, power) largest =
       let long : 2 ^ h < length (take n (drop from texts)) = omega (arith, length-range)
       in let few : length (take n (drop from texts)) ≤ 2 * 2 ^ h = omega (arith, length-range)

@@ -18,3 +18,11 @@ mod DigestBytes
 mod Results
 mod Made
 mod LawLemmas
+mod Unlikes
+mod Compares
+mod Ranging
+mod Told
+mod HonestStrings
+mod Finding
+mod InRange
+mod Verdicts

@@ -14,3 +14,15 @@ pub use Rattle.ats_growth.proofs.Made.{honest_in_range}
 pub use Rattle.ats_growth.proofs.Prefixes.{not_prefix}
 -- what an accepted growth says of all archives with its two roots
 pub use Rattle.ats_growth.proofs.Soundness.{grown_or_collides}
+-- the numbers, roots and digests of a growth that bytes spell are in their ranges
+pub use Rattle.ats_growth.proofs.InRange.{growth_range}
+-- for all archives with the two roots nothing was withdrawn, or each verdict on an accepted growth tells a collision
+pub use Rattle.ats_growth.proofs.Verdicts.{told}
+-- the first collision is two different strings with equal digests
+pub use Rattle.ats_growth.proofs.Verdicts.{extract-collides}
+-- the honest growth of archives whose texts allow it has no collision with them
+pub use Rattle.ats_growth.proofs.HonestStrings.{honest-none}
+-- the only verdict on such a growth is that it is right
+pub use Rattle.ats_growth.proofs.Verdicts.{honest-right}
+-- without a collision with two archives an accepted growth says what they are
+pub use Rattle.ats_growth.proofs.Finding.{grown_or_none}

@@ -31,7 +31,7 @@ use Rattle.ats_growth.proofs.Trees.{leaves-of}
 
 -- ---- the headers
 
-tail-same : (x y : ℕ) (xs ys : List ℕ) → x ∷ xs ≡ y ∷ ys → ys ≡ xs
+pub tail-same : (x y : ℕ) (xs ys : List ℕ) → x ∷ xs ≡ y ∷ ys → ys ≡ xs
 tail-same x y xs ys same = cc
 
 header-binds : (H : List ℕ → List ℕ) → ((m : List ℕ) → length (H m) ≡ 32) → (part : ℕ) (archive : Archive) (format : Format) (header : Header)

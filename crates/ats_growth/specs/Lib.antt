@@ -8,3 +8,6 @@ pub mod Honest
 pub mod Strings
 pub mod Headline
 pub mod Verdicts
+pub mod Unlike
+pub mod Compared
+pub mod Found

@@ -1,8 +1,20 @@
--- When bytes are accepted as a growth under two roots, and by which rule they are refused otherwise.
-use Rattle.std.specs.Prelude.{ℕ, List}
+-- When bytes are accepted as a growth under two roots, by which rule they are refused otherwise, and what an audit of them
+-- against two archives finds.
+use Rattle.std.specs.Prelude.{◌≡◌, ◌≢◌, ◌⊎◌, ℕ, List, None, Some}
+use Rattle.ats_commit.specs.Archive.{Archive}
+use Rattle.ats_commit.specs.Own.{AreTexts}
+use Rattle.ats_commit.specs.Root.{root_of}
+use Rattle.ats_grammar.specs.Front.{IsBad}
+use Rattle.ats_tree.specs.Differences.{Difference}
+use Rattle.ats_growth.specs.Grammar.{growth_schema}
+use Rattle.ats_growth.specs.Headline.{HasGrown}
 use Rattle.ats_growth.specs.Rules.{AcceptsGrowth, IsFirstRefusal}
+use Rattle.ats_growth.specs.Strings.{Beside, extract}
 use Rattle.ats_growth.specs.Value.{Growth, IsGrowth}
+use Rattle.ats_growth.specs.declared.checking.Grown.{Grown}
 use Rattle.ats_growth.specs.declared.refusal.GrowthRefusal.{GrowthRefusal}
+use Rattle.ats_growth.specs.declared.verdict.GrowthVerdict.{GrowthVerdict}
+use Rattle.ats_growth.specs.declared.verdict.GrowthVerdict.TheVariants.{BadShape, Refused, Right, Collision}
 
 -- the bytes spell a growth that is accepted under these roots
 pub record IsAcceptedGrowth (H : List ℕ → List ℕ) (old new : List ℕ) (bytes : List ℕ) (growth : Growth) : Type 0 where
@@ -14,3 +26,50 @@ pub record IsRefusedGrowth (H : List ℕ → List ℕ) (old new : List ℕ) (byt
   pub growth : Growth
   pub says : IsGrowth bytes growth
   pub refused : IsFirstRefusal H old new growth refusal
+
+-- two strings of a pair in this part
+abbrev pub collision_of : ℕ → List ℕ → List ℕ → Difference Beside
+collision_of part first second =
+    record { place = record { part = part; second = Some second }; ours = second; theirs = first }
+
+-- the bytes are accepted under the roots of both archives and have no collision with them, and the new archive has grown
+-- from the old one, with these numbers of documents
+pub record IsFoundGrown (H : List ℕ → List ℕ) (older newer : Archive) (bytes : List ℕ) (grown : Grown) : Type 0 where
+  pub growth : Growth
+  pub accepted : IsAcceptedGrowth H (root_of H older) (root_of H newer) bytes growth
+  pub none : extract H older newer growth ≡ None
+  pub grows : HasGrown older newer grown.old grown.new
+
+-- the bytes are accepted under the roots of both archives, and this is their first collision with them
+pub record IsFoundCollision (H : List ℕ → List ℕ) (older newer : Archive) (bytes : List ℕ) (part : ℕ)
+    (first second : List ℕ) : Type 0 where
+  pub growth : Growth
+  pub accepted : IsAcceptedGrowth H (root_of H older) (root_of H newer) bytes growth
+  pub found : extract H older newer growth ≡ Some (collision_of part first second)
+
+-- the verdict on the bytes against the two archives
+abbrev pub IsGrowthVerdict : (List ℕ → List ℕ) → Archive → Archive → List ℕ → GrowthVerdict → Type 0
+IsGrowthVerdict H older newer bytes (BadShape fault) = IsBad growth_schema bytes fault
+IsGrowthVerdict H older newer bytes (Refused refusal) = IsRefusedGrowth H (root_of H older) (root_of H newer) bytes refusal
+IsGrowthVerdict H older newer bytes (Right grown) = IsFoundGrown H older newer bytes grown
+IsGrowthVerdict H older newer bytes (Collision part first second) = IsFoundCollision H older newer bytes part first second
+
+-- the verdict contains two different strings with equal digests
+abbrev pub TellsGrowthCollision : (List ℕ → List ℕ) → GrowthVerdict → Type 0
+TellsGrowthCollision H (Collision part first second) = (first ≢ second) × (H first ≡ H second)
+TellsGrowthCollision H (BadShape fault) = ⊥
+TellsGrowthCollision H (Refused refusal) = ⊥
+TellsGrowthCollision H (Right grown) = ⊥
+
+-- a collision, if there is one, has two different strings with equal digests
+abbrev pub IsWellTold : (List ℕ → List ℕ) → GrowthVerdict → Type 0
+IsWellTold H (Collision part first second) = TellsGrowthCollision H (Collision part first second)
+IsWellTold H _ = Unit {0}
+
+-- The headline for an audit: for all archives with the two roots, either nothing was withdrawn, or every verdict on the
+-- bytes against these archives contains two different strings with equal digests.
+abbrev pub IsGrownOrTold : (List ℕ → List ℕ) → List ℕ → List ℕ → List ℕ → Growth → Type 0
+IsGrownOrTold H old new bytes g = (older newer : Archive) → AreTexts older.texts → AreTexts newer.texts
+    → root_of H older ≡ old → root_of H newer ≡ new
+    → HasGrown older newer g.old.documents g.new.documents
+    ⊎ ((verdict : GrowthVerdict) → IsGrowthVerdict H older newer bytes verdict → TellsGrowthCollision H verdict)

@@ -52,7 +52,7 @@ fn is_kept(old: &Collection, new: &Collection, doc: u32) -> bool
 }
 
 // The first old document that the new texts do not have with the same text.
-fn first_apart(old: &Collection, new: &Collection) -> Option<u32>
+pub(crate) fn first_apart(old: &Collection, new: &Collection) -> Option<u32>
     ensures apart { IfSome result (IsFirstApart old.now new.now) }
     ensures none { IfNone result (IsPrefix old.now new.now) }
 {

@@ -1,7 +1,7 @@
 //! The laws of growth, as contracts of functions that do nothing. A reader who believes these laws need not read how the
 //! definitions are made.
 
-ghost use Rattle.std.specs.Prelude.{◌≡◌, ◌+◌, ◌-◌, ◌*◌, ◌^◌, ◌<◌, ◌≤◌, ◌∷◌, ◌++◌, ℕ, List, [], length, take, drop, reverse, Bool, true, false};
+ghost use Rattle.std.specs.Prelude.{◌≡◌, ◌+◌, ◌-◌, ◌*◌, ◌^◌, ◌<◌, ◌≤◌, ◌∷◌, ◌++◌, ℕ, List, [], length, take, drop, reverse, Bool, true, false, None};
 ghost use Rattle.ats_tree.specs.Tree.{mth, tree_of};
 ghost use Rattle.ats_commit.specs.Archive.{Archive};
 ghost use Rattle.ats_commit.specs.Own.{AreTexts};
@@ -11,8 +11,12 @@ ghost use Rattle.ats_growth.specs.Honest.{shown, honest, IsPrefix, IsFirstApart}
 ghost use Rattle.ats_growth.specs.Pair.{roots};
 ghost use Rattle.ats_growth.specs.Rules.{AcceptsGrowth, IsFirstRefusal};
 ghost use Rattle.ats_growth.specs.Shape.{turns, need};
+ghost use Rattle.ats_growth.specs.Strings.{extract};
 ghost use Rattle.ats_growth.specs.Value.{Growth, IsGrowth, AreInRange};
+ghost use Rattle.ats_growth.specs.Verdicts.{IsGrowthVerdict, IsGrownOrTold};
 ghost use Rattle.ats_growth.specs.declared.refusal.GrowthRefusal.{GrowthRefusal};
+ghost use Rattle.ats_growth.specs.declared.verdict.GrowthVerdict.{GrowthVerdict};
+ghost use Rattle.ats_growth.specs.declared.verdict.GrowthVerdict.TheVariants.{Right};
 
 use ats_hash::HashKind;
 
@@ -82,10 +86,17 @@ pub fn growths_are_refused_once<H: HashKind>()
 {}
 
 /// If the old texts are the first of the new ones, the honest growth is accepted under the two roots, whatever the two
-/// formats. If an old document is missing or differs, they are not the first.
+/// formats, and has no collision with the two archives. So the only verdict on its bytes is that it is right, with the
+/// numbers of both. If an old document is missing or differs, the old texts are not the first.
 pub fn honest_growths_are_accepted<H: HashKind>()
     ensures accepted { (older newer : Archive) → AreTexts older.texts → IsPrefix older.texts newer.texts
         → AcceptsGrowth H.hash (root_of H.hash older) (root_of H.hash newer) (honest H.hash older newer) }
+    ensures none { (older newer : Archive) → AreTexts older.texts → IsPrefix older.texts newer.texts
+        → extract H.hash older newer (honest H.hash older newer) ≡ None }
+    ensures right { (older newer : Archive) (bytes : List ℕ) (verdict : GrowthVerdict)
+        → AreTexts older.texts → IsPrefix older.texts newer.texts → IsGrowth bytes (honest H.hash older newer)
+        → IsGrowthVerdict H.hash older newer bytes verdict
+        → verdict ≡ Right (record { old = length older.texts; new = length newer.texts }) }
     ensures differs { (old new : List (List ℕ)) (doc : ℕ) → IsFirstApart old new doc → IsPrefix old new → ⊥ }
 {}
 
@@ -93,4 +104,11 @@ pub fn honest_growths_are_accepted<H: HashKind>()
 pub fn accepted_growths_are_right<H: HashKind>()
     ensures { (old new : List ℕ) (g : Growth) → AreInRange g → AcceptsGrowth H.hash old new g
         → IsGrownOrCollides H.hash old new g }
+{}
+
+/// For all archives with the two roots, either nothing was withdrawn, or every verdict on the bytes of an accepted growth
+/// against these archives contains two different strings with equal digests.
+pub fn accepted_growths_are_audited<H: HashKind>()
+    ensures { (old new : List ℕ) (bytes : List ℕ) (g : Growth) → IsGrowth bytes g → AcceptsGrowth H.hash old new g
+        → IsGrownOrTold H.hash old new bytes g }
 {}

@@ -9,8 +9,9 @@
 //! reader of `ats_grammar` for the bytes. `specs/Shape.antt` has the turns that lead to the end of the old texts; all else is
 //! a recursion along them. [`GrowthView::read`] reads bytes exactly if they spell a growth. A growth is accepted exactly if
 //! all rules hold. Then, for all archives with the two roots, the old texts are the first of the new ones and the numbers
-//! are right, or the growth and the two archives contain two different strings with equal digests. What `grow` makes is
-//! accepted. What a view keeps may change freely; the bytes, the rules and their order may not.
+//! are right, or the growth and the two archives contain two different strings with equal digests, which
+//! [`audit_growth`] returns. What `grow` makes is accepted and found right. What a view keeps may change freely; the
+//! bytes, the rules and their order may not.
 //!
 //! ```
 //! use ats_hash::{Sha, Steps};
@@ -22,18 +23,26 @@
 //! ```
 #![tactic(auto)]
 
+pub use auditing::audit_growth;
 pub use checking::{Grown, check_growth};
 pub use growing::{GrowFault, grow};
 pub use laws::{
-    accepted_growths_are_right, bytes_say_one_growth, digests_give_roots, growth_needs_digests,
-    growths_are_refused_once, honest_digests_are_subproofs, honest_growths_are_accepted,
+    accepted_growths_are_audited, accepted_growths_are_right, bytes_say_one_growth,
+    digests_give_roots, growth_needs_digests, growths_are_refused_once,
+    honest_digests_are_subproofs, honest_growths_are_accepted,
 };
 pub use refusal::GrowthRefusal;
+pub use verdict::GrowthVerdict;
 pub use view::GrowthView;
 
+mod auditing;
 mod checking;
+mod comparing;
 mod growing;
+mod joining;
 mod laws;
 mod pairing;
+mod ranges;
 mod refusal;
+mod verdict;
 mod view;

@@ -1,10 +1,14 @@
 use Rattle.ats_growth.proofs.Completeness.{honest_accepted}
+use Rattle.ats_growth.proofs.HonestStrings.{honest-none}
 use Rattle.ats_growth.proofs.Prefixes.{not_prefix}
+use Rattle.ats_growth.proofs.Verdicts.{honest-right}
 use Rattle.ats_growth.proofs.laws.honest_growths_are_accepted.Goals as goal
 
 pub returns : goal.returns
 returns g c =
     let H = g.H.HashKind.hash in record {
       accepted = λ older newer are is. honest_accepted H older newer is are.within.some;
+      none = λ older newer are is. honest-none H older newer is are.within.some;
+      right = honest-right H;
       differs = not_prefix;
     }

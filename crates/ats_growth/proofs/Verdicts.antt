@@ -1,0 +1,122 @@
+-- What the verdicts on a growth tell.
+use Rattle.std.proofs.Common.{◌≡◌, ◌≢◌, ◌||◌, ℕ, Bool, true, false, not, List, [], ◌∷◌, length, Option, Some, None, IfSome, IsSome, refl, sym, ap, subst, inl, inr}
+use Rattle.std.specs.Str.{bytes_eq}
+use Rattle.std.proofs.lemmas.Bool.{cases_Bool, cond-true, cond-false}
+use Rattle.std.proofs.lemmas.Slice.Eq.{bytes_eq-Decides}
+use Rattle.ats_commit.specs.Archive.{Archive}
+use Rattle.ats_commit.specs.Own.{AreTexts}
+use Rattle.ats_commit.specs.Root.{root_of}
+use Rattle.ats_grammar.proofs.Public.{no_fault}
+use Rattle.ats_tree.specs.Differences.{Hashed, Difference, collision_or, first_collision}
+use Rattle.ats_growth.specs.Grammar.{growth_schema}
+use Rattle.ats_growth.specs.Honest.{honest, IsPrefix}
+use Rattle.ats_growth.specs.Rules.{AcceptsGrowth}
+use Rattle.ats_growth.specs.Strings.{Beside, pairs, second_of, extract}
+use Rattle.ats_growth.specs.Value.{Growth, fields_of, IsGrowth}
+use Rattle.ats_growth.specs.Verdicts.{collision_of, IsAcceptedGrowth, IsGrowthVerdict, TellsGrowthCollision, IsGrownOrTold}
+use Rattle.ats_growth.specs.declared.checking.Grown.{Grown}
+use Rattle.ats_growth.specs.declared.verdict.GrowthVerdict.{GrowthVerdict}
+use Rattle.ats_growth.specs.declared.verdict.GrowthVerdict.TheVariants.{BadShape, Refused, Right, Collision}
+use Rattle.ats_growth.proofs.Completeness.{honest_accepted}
+use Rattle.ats_growth.proofs.Exactness.{accepted_kept}
+use Rattle.ats_growth.proofs.HonestStrings.{honest-none}
+use Rattle.ats_growth.proofs.InRange.{growth_range}
+use Rattle.ats_growth.proofs.OneGrowth.{one_growth}
+use Rattle.ats_growth.proofs.Soundness.{grown_or_collides}
+
+-- ---- a collision is two different strings with equal digests
+
+abbrev pub AreColliding : (List ℕ → List ℕ) → Difference Beside → Type 0
+AreColliding H c = (c.ours ≢ c.theirs) × (H c.ours ≡ H c.theirs)
+
+differs : (a b : List ℕ) → bytes_eq a b ≡ false → a ≢ b
+differs a b other same = let equal : bytes_eq a b ≡ true = (bytes_eq-Decides a b).1 same in cc
+
+neither : (a b : Bool) → (a || not b) ≡ false → (a ≡ false) × (b ≡ true)
+neither true b e = absurd (cc)
+neither false true e = (refl, refl)
+neither false false e = absurd (cc)
+
+or-collides : (H : List ℕ → List ℕ) (o : Option (List ℕ)) (s : Hashed Beside) (later : Option (Difference Beside))
+    → IfSome later (AreColliding H) → IfSome (collision_or H o s later) (AreColliding H)
+or-collides H None s later known = known
+or-collides H (Some own) s later known =
+    let test : Bool = bytes_eq own s.text || not (bytes_eq (H own) (H s.text))
+    in let Goal : Option (Difference Beside) → Type 0 = λ c. IfSome c (AreColliding H)
+    in elim (cases_Bool test) [
+      | inl meets ↦ subst Goal (sym (cond-true test _ _ meets)) known
+      | inr fails ↦
+          let parts = neither (bytes_eq own s.text) (bytes_eq (H own) (H s.text)) fails
+          in subst Goal (sym (cond-false test _ _ fails)) (differs own s.text parts.0, (bytes_eq-Decides (H own) (H s.text)).0 parts.1)
+    ]
+
+first-collides : (H : List ℕ → List ℕ) (ss : List (Hashed Beside)) → IfSome (first_collision H second_of ss) (AreColliding H)
+first-collides H [] = tt
+first-collides H (s ∷ rest) = or-collides H (second_of s.place) s (first_collision H second_of rest) (first-collides H rest)
+
+pub extract-collides : (H : List ℕ → List ℕ) (older newer : Archive) (g : Growth) (c : Difference Beside) → extract H older newer g ≡ Some c → AreColliding H c
+extract-collides H older newer g c is =
+    subst (λ (found : Option (Difference Beside)). IfSome found (AreColliding H)) is (first-collides H (pairs H older newer g))
+
+not_same : (a b : List ℕ) → a ≢ b → b ≢ a
+not_same a b other same = other (sym same)
+
+-- the two strings of the first collision, in the order of the pair
+pub told-strings : (H : List ℕ → List ℕ) (older newer : Archive) (g : Growth) (part : ℕ) (first second : List ℕ) → extract H older newer g ≡ Some (collision_of part first second)
+    → (first ≢ second) × (H first ≡ H second)
+told-strings H older newer g part first second is =
+    let two = extract-collides H older newer g (collision_of part first second) is
+    in (not_same second first two.0, sym two.1)
+
+-- ---- the verdict on an accepted growth
+
+none_some : (o : Option (Difference Beside)) → o ≡ None → IsSome o → ⊥
+none_some None is some = absurd (cc)
+none_some (Some c) is some = absurd (cc)
+
+same_numbers : (grown : Grown) (m n : ℕ) → m ≡ grown.old → n ≡ grown.new → grown ≡ record { old = m; new = n }
+same_numbers grown m n old new = λ i. record { old = (sym old) i; new = (sym new) i }
+
+module _ (H : List ℕ → List ℕ) (older newer : Archive) (bytes : List ℕ) (g : Growth) (accepted : IsAcceptedGrowth H (root_of H older) (root_of H newer) bytes g) where
+  no_refusal : (other : Growth) → IsGrowth bytes other → AcceptsGrowth H (root_of H older) (root_of H newer) other
+  no_refusal other says = subst (AcceptsGrowth H (root_of H older) (root_of H newer)) (one_growth bytes g other accepted.says says) accepted.accepts
+
+  tells : IsSome (extract H older newer g) → (verdict : GrowthVerdict) → IsGrowthVerdict H older newer bytes verdict → TellsGrowthCollision H verdict
+  tells some (BadShape fault) found = no_fault growth_schema bytes fault (fields_of g) found accepted.says
+  tells some (Refused refusal) found =
+      accepted_kept H (root_of H older) (root_of H newer) found.growth refusal (no_refusal found.growth found.says) found.refused
+  tells some (Right grown) found =
+      none_some (extract H older newer found.growth) found.none
+      (subst (λ (other : Growth). IsSome (extract H older newer other)) (one_growth bytes g found.growth accepted.says found.accepted.says) some)
+  tells some (Collision part first second) found = told-strings H older newer found.growth part first second found.found
+
+  -- if there is no collision, the growth is found right
+  only_right : extract H older newer g ≡ None → (verdict : GrowthVerdict) → IsGrowthVerdict H older newer bytes verdict
+      → verdict ≡ Right (record { old = length older.texts; new = length newer.texts })
+  only_right none (BadShape fault) found = absurd (no_fault growth_schema bytes fault (fields_of g) found accepted.says)
+  only_right none (Refused refusal) found =
+      absurd (accepted_kept H (root_of H older) (root_of H newer) found.growth refusal (no_refusal found.growth found.says) found.refused)
+  only_right none (Right grown) found = ap Right (same_numbers grown (length older.texts) (length newer.texts) found.grows.old found.grows.new)
+  only_right none (Collision part first second) found =
+      let there : extract H older newer found.growth ≡ None =
+      subst (λ (other : Growth). extract H older newer other ≡ None) (one_growth bytes g found.growth accepted.says found.accepted.says) none
+      in let is = found.found
+      in absurd (cc)
+
+pub told : (H : List ℕ → List ℕ) → ((m : List ℕ) → length (H m) ≡ 32) → (old new bytes : List ℕ) (g : Growth)
+    → IsGrowth bytes g → AcceptsGrowth H old new g → IsGrownOrTold H old new bytes g
+told H sized old new bytes g says accepts older newer old_are new_are is_old is_new =
+    elim (grown_or_collides H sized old new g (growth_range bytes g says) accepts older newer old_are new_are is_old is_new) [
+      | inl grown ↦ inl grown
+      | inr some ↦
+          let under : AcceptsGrowth H (root_of H older) (root_of H newer) g =
+          subst (λ (root : List ℕ). AcceptsGrowth H root (root_of H newer) g) (sym is_old) (subst (λ (root : List ℕ). AcceptsGrowth H old root g) (sym is_new) accepts)
+          in inr (tells H older newer bytes g (record { says = says; accepts = under }) some)
+    ]
+
+-- the only verdict on an honest growth
+pub honest-right : (H : List ℕ → List ℕ) (older newer : Archive) (bytes : List ℕ) (verdict : GrowthVerdict) → AreTexts older.texts → IsPrefix older.texts newer.texts
+    → IsGrowth bytes (honest H older newer) → IsGrowthVerdict H older newer bytes verdict → verdict ≡ Right (record { old = length older.texts; new = length newer.texts })
+honest-right H older newer bytes verdict are is says found =
+    only_right H older newer bytes (honest H older newer) (record { says = says; accepts = honest_accepted H older newer is are.within.some })
+    (honest-none H older newer is are.within.some) verdict found

@@ -1,0 +1,5 @@
+use Rattle.ats_growth.proofs.Verdicts.{told}
+use Rattle.ats_growth.proofs.laws.accepted_growths_are_audited.Goals as goal
+
+pub returns : goal.returns
+returns g c = told g.H.HashKind.hash g.H.HashKind.sized
