@@ -12,13 +12,18 @@ tree_words (ListOf term) = codes "list " ++ decimal term
 tree_words Documents = codes "documents"
 tree_words (Terms doc) = codes "terms " ++ decimal doc
 
--- the place by the words of its tree and its two numbers, the archive's own string, and the string that was checked, a
--- line each; strings as lower-case hexadecimal digits
+-- the place of two strings, and each of them after its name, a line each; strings as lower-case hexadecimal digits
+abbrev pub lines_of_pair : (place : List ℕ) → (name text other_name other : List ℕ) → List ℕ
+lines_of_pair place name text other_name other =
+    codes "collision " ++ (place
+    ++ (codes "\n" ++ (name ++ (codes " " ++ (encode_lower text
+    ++ (codes "\n" ++ (other_name ++ (codes " " ++ (encode_lower other ++ codes "\n")))))))))
+
+-- the place by the words of its tree and its two numbers, the archive's own string, and the string that was checked
 abbrev pub lines_of_strings : (tree : List ℕ) → (depth turns : ℕ) → (ours theirs : List ℕ) → List ℕ
 lines_of_strings tree depth turns ours theirs =
-    codes "collision " ++ (tree
-    ++ (codes " depth " ++ (decimal depth ++ (codes " turns " ++ (decimal turns
-    ++ (codes "\nours " ++ (encode_lower ours ++ (codes "\ntheirs " ++ (encode_lower theirs ++ codes "\n")))))))))
+    lines_of_pair (tree ++ (codes " depth " ++ (decimal depth ++ (codes " turns " ++ decimal turns))))
+    (codes "ours") ours (codes "theirs") theirs
 
 -- those of a proof's string
 abbrev pub lines_of_collision : Place → List ℕ → List ℕ → List ℕ

@@ -127,6 +127,12 @@ pub record GrowthWords : Type 0 where
   pub new : List ℕ
   pub file : List ℕ
 
+-- the words of `audit-growth OLDINDEX NEWINDEX FILE`
+pub record AuditGrowthWords : Type 0 where
+  pub old : List ℕ
+  pub new : List ℕ
+  pub file : List ℕ
+
 -- what words may ask for
 pub data Command : Type 0 where
   Rank : RankWords → Command
@@ -145,6 +151,7 @@ pub data Command : Type 0 where
   AuditFetch : AuditFetchWords → Command
   Grow : GrowWords → Command
   Growth : GrowthWords → Command
+  AuditGrowth : AuditGrowthWords → Command
 
 -- the command from the words after its own word, if they have its shape
 abbrev pub as_rank : List (List ℕ) → Option Command
@@ -228,10 +235,15 @@ as_growth (old ∷ (new ∷ (file ∷ []))) =
     (root_word new)) (root_word old)
 as_growth _ = None
 
+abbrev pub as_audit_growth : List (List ℕ) → Option Command
+as_audit_growth (old ∷ (new ∷ (file ∷ []))) = Some (AuditGrowth (record { old = old; new = new; file = file }))
+as_audit_growth _ = None
+
 -- the command is one of a text or of a growth
 abbrev pub is_file_word : List ℕ → Bool
 is_file_word word = bytes_eq word (codes "give") || (bytes_eq word (codes "fetch")
-    || (bytes_eq word (codes "audit-fetch") || (bytes_eq word (codes "grow") || bytes_eq word (codes "growth"))))
+    || (bytes_eq word (codes "audit-fetch") || (bytes_eq word (codes "grow") || (bytes_eq word (codes "growth")
+    || bytes_eq word (codes "audit-growth")))))
 
 abbrev pub command_of_file : (word : List ℕ) → (arguments : List (List ℕ)) → Option Command
 command_of_file word arguments =
@@ -240,6 +252,7 @@ command_of_file word arguments =
     else if bytes_eq word (codes "audit-fetch") then as_audit_fetch arguments
     else if bytes_eq word (codes "grow") then as_grow arguments
     else if bytes_eq word (codes "growth") then as_growth arguments
+    else if bytes_eq word (codes "audit-growth") then as_audit_growth arguments
     else None
 
 -- the command of a collection, an index or a proof

@@ -1,7 +1,7 @@
-//! The lines that are printed if a proof and an archive contain two different strings with the same digest.
+//! The lines that are printed if what is accepted and an archive contain two different strings with the same digest.
 
 ghost use Rattle.std.specs.Prelude.{◌≡◌, IfOk, string_bytes};
-ghost use Rattle.ats_console.specs.CollisionLines.{tree_words, lines_of_strings, lines_of_collision};
+ghost use Rattle.ats_console.specs.CollisionLines.{tree_words, lines_of_pair, lines_of_strings, lines_of_collision};
 
 use ats_tree::{Place, Tree};
 use std::alloc::{AllocError, Global};
@@ -18,6 +18,23 @@ fn tree_words(alloc: Global, tree: Tree) -> Result<String, AllocError>
     }
 }
 
+/// The place of two strings, and each of them after its name, a line each. The strings may have any length.
+pub fn pair_lines(
+    alloc: Global,
+    place: &str,
+    name: &str,
+    text: &[u8],
+    other_name: &str,
+    other: &[u8],
+) -> Result<Vec<u8>, AllocError>
+    ensures { IfOk result (λ lines. lines.items ≡ lines_of_pair place.now name.now text.now other_name.now other.now) }
+{
+    let text = hex::encode(alloc, text)?;
+    let other = hex::encode(alloc, other)?;
+    let lines = format!(in alloc; "collision {place}\n{name} {text}\n{other_name} {other}\n")?;
+    Ok(lines.into_bytes())
+}
+
 /// A place by the words of its tree and its two numbers, the archive's own string, and the string that was checked, a line
 /// each. The strings may have any length.
 pub fn strings_lines(
@@ -30,12 +47,8 @@ pub fn strings_lines(
 ) -> Result<Vec<u8>, AllocError>
     ensures { IfOk result (λ lines. lines.items ≡ lines_of_strings tree.now depth turns ours.now theirs.now) }
 {
-    let ours = hex::encode(alloc, ours)?;
-    let theirs = hex::encode(alloc, theirs)?;
-    let lines = format!(in alloc;
-        "collision {tree} depth {depth} turns {turns}\nours {ours}\ntheirs {theirs}\n"
-    )?;
-    Ok(lines.into_bytes())
+    let place = format!(in alloc; "{tree} depth {depth} turns {turns}")?;
+    pair_lines(alloc, place.as_str(), "ours", ours, "theirs", theirs)
 }
 
 /// Those of a proof's string.

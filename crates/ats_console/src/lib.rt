@@ -26,7 +26,7 @@ mod stop_lines;
 mod stops;
 mod words;
 
-pub use collision::{collision_lines, strings_lines};
+pub use collision::{collision_lines, pair_lines, strings_lines};
 pub use input::{JsonFault, read_collection};
 pub use phrases::{Phrase, Said};
 pub use print::{lines, proof_line, root_line};

@@ -3,7 +3,7 @@
 ghost use Rattle.std.specs.Prelude.{◌≡◌, map, string_bytes, option_map};
 ghost use Rattle.std.specs.List.{list_all, list_any};
 ghost use Rattle.std.specs.Char.{is_ascii_digit, is_ascii_uppercase};
-ghost use Rattle.ats_console.specs.Words.{is_number_word, number_of, connections_of, algorithm_of, root_word, as_rank, as_build, as_root, as_prove, as_verify, as_ask, as_serve, as_audit, as_sweep, as_trial, as_migrate, as_give, as_fetch, as_audit_fetch, as_grow, as_growth, is_file_word, command_of_file, command_of_archive, command_of};
+ghost use Rattle.ats_console.specs.Words.{is_number_word, number_of, connections_of, algorithm_of, root_word, as_rank, as_build, as_root, as_prove, as_verify, as_ask, as_serve, as_audit, as_sweep, as_trial, as_migrate, as_give, as_fetch, as_audit_fetch, as_grow, as_growth, as_audit_growth, is_file_word, command_of_file, command_of_archive, command_of};
 ghost use Rattle.ats_console.specs.Inner.Meaning.{serving_of, meaning};
 
 use ats_proof::Algorithm;
@@ -168,6 +168,12 @@ pub enum Command<'a> {
     Growth {
         old: [u8; 32],
         new: [u8; 32],
+        file: &'a str,
+    },
+    /// `audit-growth OLDINDEX NEWINDEX FILE`
+    AuditGrowth {
+        old: &'a str,
+        new: &'a str,
         file: &'a str,
     },
 }
@@ -379,11 +385,29 @@ fn growth<'a>(arguments: &'a [String]) -> Option<Command<'a>>
     })
 }
 
+fn audit_growth<'a>(arguments: &'a [String]) -> Option<Command<'a>>
+    ensures { option_map meaning result ≡ as_audit_growth (map string_bytes arguments.now) }
+{
+    let [old, new, file] = arguments else {
+        return None;
+    };
+    Some(Command::AuditGrowth {
+        old: old.as_str(),
+        new: new.as_str(),
+        file: file.as_str(),
+    })
+}
+
 // Whether the command is one of a text or of a growth.
 fn is_file_word(word: &str) -> bool
     ensures { result ≡ is_file_word word.now }
 {
-    word == "give" || word == "fetch" || word == "audit-fetch" || word == "grow" || word == "growth"
+    word == "give"
+        || word == "fetch"
+        || word == "audit-fetch"
+        || word == "grow"
+        || word == "growth"
+        || word == "audit-growth"
 }
 
 // The command of a text or of a growth.
@@ -396,6 +420,7 @@ fn read_file_words<'a>(word: &str, arguments: &'a [String]) -> Option<Command<'a
         "audit-fetch" => audit_fetch(arguments),
         "grow" => grow(arguments),
         "growth" => growth(arguments),
+        "audit-growth" => audit_growth(arguments),
         _ => None,
     }
 }

@@ -1,5 +1,6 @@
--- Indexes of which one has grown from the other are served by `grow`, and a file that shows this by `growth`.
-use Rattle.std.proofs.Common.{◌≡◌, ℕ, List, length, Option, Some, refl, inr, ap₂}
+-- Indexes of which one has grown from the other are served by `grow`, and a file that shows this by `growth` and by
+-- `audit-growth`.
+use Rattle.std.proofs.Common.{◌≡◌, ℕ, List, length, Option, Some, inr, ap₂}
 use Rattle.std.specs.Prelude.{option_map, option_and_then}
 use Rattle.ats_commit.specs.Archive.{Archive}
 use Rattle.ats_commit.specs.Own.{AreTexts}
@@ -7,9 +8,9 @@ use Rattle.ats_commit.specs.Root.{root_of}
 use Rattle.ats_growth.specs.Honest.{honest}
 use Rattle.ats_growth.specs.Value.{IsGrowth}
 use Rattle.ats_growth.specs.Verdicts.{IsAcceptedGrowth}
-use Rattle.ats_growth.proofs.Public.{honest_accepted}
+use Rattle.ats_growth.proofs.Public.{honest_accepted, honest-none}
 use Rattle.ats_plan.specs.Files.{Files, IsFile}
-use Rattle.ats_console.specs.Words.{Command, Grow, Growth, root_word, growth_words, command_of}
+use Rattle.ats_console.specs.Words.{Command, Grow, Growth, AuditGrowth, root_word, growth_words, command_of}
 use Rattle.ats_console.specs.Read.{HasIndex}
 use Rattle.ats_top.specs.Commands.Grow.{HasKept}
 use Rattle.ats_top.specs.Run.{Said, IsCommandServed}
@@ -40,3 +41,8 @@ module _ (H : List ℕ → List ℕ) (sized : (m : List ℕ) → length (H m) �
       growth_said old (root_of H older) new (root_of H newer) name is_old is_new,
       inr (bytes, file, (honest H older newer, accepted, tt)),
     )
+
+    pub audit_growth_served : (files : Files) (old new name : List ℕ) → HasIndex H files old older → HasIndex H files new newer → IsFile files name 4096 bytes
+        → IsCommandServed H files (AuditGrowth (record { old = old; new = new; file = name }))
+    audit_growth_served files old new name has also file =
+        inr (has.bytes, has.file, (older, has.spelling, inr (also.bytes, also.file, (newer, also.spelling, inr (bytes, file, (honest H older newer, accepted, (honest-none H older newer kept old_texts.within.some, tt)))))))

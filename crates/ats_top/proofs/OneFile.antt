@@ -1,5 +1,5 @@
 -- A file that is checked is accepted or refused in one way.
-use Rattle.std.proofs.Common.{◌≡◌, ◌∙◌, ◌≢◌, List, ℕ, sym, ap, inl, inr}
+use Rattle.std.proofs.Common.{◌≡◌, ◌∙◌, List, ℕ, sym, ap, inl, inr}
 use Rattle.ats_client.specs.declared.fault.Rejection.TheVariants.{Shape}
 use Rattle.ats_grammar.specs.declared.fault.ShapeFault.{ShapeFault}
 use Rattle.ats_plan.specs.Sound.{IsOne}

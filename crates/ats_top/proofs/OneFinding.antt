@@ -1,9 +1,7 @@
 -- What an audit finds for a proof is one finding.
-use Rattle.std.proofs.Common.{◌≡◌, ◌∙◌, ℕ, List, Some, None, sym, ap, subst}
+use Rattle.std.proofs.Common.{◌≡◌, ◌∙◌, ℕ, List, sym, ap, subst}
 use Rattle.std.specs.List.{zip}
 use Rattle.ats_terms.specs.Query.{IsQueryOf}
-use Rattle.ats_tree.specs.Differences.{Difference}
-use Rattle.ats_tree.specs.declared.hashed.Place.{Place}
 use Rattle.ats_commit.specs.Archive.{Archive}
 use Rattle.ats_commit.specs.Root.{root_of}
 use Rattle.ats_proof.specs.Value.{Proof}
@@ -17,15 +15,8 @@ use Rattle.ats_top.specs.Listed.{Listed}
 use Rattle.ats_top.specs.Findings.{Finding, FoundRight, FoundRefused, FoundCollision, IsFinding, AreFindings}
 use Rattle.ats_top.specs.declared.gathering.Gathered.{Gathered}
 use Rattle.ats_top.specs.declared.gathering.Gathered.TheVariants.{Whole, Long}
+use Rattle.ats_top.proofs.OneCollision.{none_found, one_found}
 use Rattle.ats_top.proofs.OneList.{same_zip}
-
--- no collision is none
-pub none_found : (collision : Difference Place) → None ≡ Some collision → ⊥
-none_found collision is = cc
-
--- a collision that was found is one
-pub one_found : (a b : Difference Place) → Some a ≡ Some b → a ≡ b
-one_found a b is = cc
 
 -- bytes are accepted as one proof
 pub one_accepted : (H : List ℕ → List ℕ) (root : List ℕ) (query : List (List ℕ × ℕ)) (r : ℕ) (bytes : List ℕ) (a b : Proof)

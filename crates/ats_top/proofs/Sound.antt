@@ -35,7 +35,7 @@ use Rattle.ats_plan.specs.Runs.{IsStopped}
 use Rattle.ats_plan.specs.Sound.{IsExact, IsOne, IsSound}
 use Rattle.ats_plan.proofs.Public.{stops_otherwise}
 use Rattle.ats_console.specs.Input.{AreJsonTexts, IsFirstJsonFault}
-use Rattle.ats_console.specs.Words.{Command, Rank, Build, Root, Prove, Verify, Ask, Serve, Audit, Sweep, Trial, Migrate, Give, Fetch, AuditFetch, Grow, Growth, SweepWords}
+use Rattle.ats_console.specs.Words.{Command, Rank, Build, Root, Prove, Verify, Ask, Serve, Audit, Sweep, Trial, Migrate, Give, Fetch, AuditFetch, Grow, Growth, AuditGrowth, SweepWords}
 use Rattle.ats_console.specs.RejectionLines.{line_of_rejection}
 use Rattle.ats_console.specs.CollisionLines.{lines_of_collision}
 use Rattle.ats_console.specs.Stops.{line_of_rows, line_of_bad_line, stop_of_query, stop_of_json, stop_of_collection, stop_of_load}
@@ -46,7 +46,7 @@ use Rattle.ats_top.specs.Trial.{IsTrialServed, RefusesTrial}
 use Rattle.ats_console.specs.Steps.{StopsBy, IsRowCount, asks_ranking, reads_collection, reads_index, RejectsBytes, checks, checks_file}
 use Rattle.ats_top.specs.Commands.{plan_of}
 use Rattle.ats_top.specs.Commands.Prove.{IsNotTooLong, IsUnmade}
-use Rattle.ats_top.specs.Commands.Audit.{StopsByCollision}
+use Rattle.ats_top.specs.Commands.Audit.{Collides, StopsByCollision}
 use Rattle.ats_top.specs.Commands.Give.{HasDocument, LacksDocument}
 use Rattle.ats_top.specs.TextLines.{text_refusal_words}
 use Rattle.ats_top.specs.Commands.Sweep.{IsListStop, PassesRoom, gathers, concludes, audits, sweeps}
@@ -56,12 +56,13 @@ use Rattle.ats_console.specs.declared.stops.Stop.{Stop}
 use Rattle.ats_console.specs.declared.stops.Stop.TheVariants.{Usage, Shelf, Input, Rejected, Memory, Collision}
 use Rattle.ats_console.proofs.Public.{same_texts, no_json_fault, no_query_fault, one_query_fault, one_json_fault, no_collection_fault, one_collection_fault, no_load_fault, one_load_fault}
 use Rattle.ats_top.proofs.OneList.{one_list, no_bad_line, one_bad_line}
-use Rattle.ats_top.proofs.OneFinding.{none_found, one_found, one_accepted, one_findings}
+use Rattle.ats_top.proofs.OneFinding.{one_accepted, one_findings}
+use Rattle.ats_top.proofs.OneCollision.{collision_exact}
 use Rattle.ats_top.proofs.OneProof.{one_made, one_unmade}
 use Rattle.ats_top.proofs.OneTrial.{trial_kept, one_trial}
 use Rattle.ats_top.proofs.OneFile.{IsFileOne, file_one, not_usage}
 use Rattle.ats_top.proofs.OneText.{text_file_one, text_collision_exact}
-use Rattle.ats_top.proofs.OneGrowth.{growth_file_one, kept_exact}
+use Rattle.ats_top.proofs.OneGrowth.{growth_file_one, growth_collision_exact, kept_exact}
 use Rattle.ats_top.specs.GrowthLines.{growth_refusal_words}
 use Rattle.ats_growth.specs.Honest.{honest}
 use Rattle.ats_growth.specs.Value.{Growth as GrowthValue, IsGrowth, fields_of as growth_fields}
@@ -231,16 +232,10 @@ module _ (H : List ℕ → List ℕ) (archive : Archive) (query : List (List ℕ
     one = one_unmade H archive query r algorithm;
   }
 
-  module _ (proof : Proof) where
-    collision_kept : (stop : Stop) → StopsByCollision H archive query proof stop → extract H archive query proof ≡ None → ⊥
-    collision_kept stop (collision, collides, same) none = none_found collision (sym none ∙ collides.found)
-
-    one_collision : (a b : Stop) → StopsByCollision H archive query proof a → StopsByCollision H archive query proof b → a ≡ b
-    one_collision a b (collision, is, same) (other, also, like) =
-        same ∙ ap (λ (c : Difference Place). Collision (lines_of_collision c.place c.ours c.theirs)) (one_found collision other (sym is.found ∙ also.found)) ∙ sym like
-
-    collision_exact : IsExact (extract H archive query proof ≡ None) (StopsByCollision H archive query proof)
-    collision_exact = record { breaks = collision_kept; one = one_collision }
+  proof_collision_exact : (proof : Proof) → IsExact (extract H archive query proof ≡ None) (StopsByCollision H archive query proof)
+  proof_collision_exact proof =
+      collision_exact (extract H archive query proof) (Collides H archive query proof)
+      (λ (c : Difference Place). lines_of_collision c.place c.ours c.theirs) (λ collision is. is.found)
 
 list_kept : (bytes : List ℕ) (listed : List Listed) (stop : Stop) → IsListStop bytes stop → IsListOf bytes listed → ⊥
 list_kept bytes listed stop (number, bad, same) is = no_bad_line bytes listed is number bad
@@ -308,7 +303,7 @@ command_sound H (Verify words) = ranking_sound (λ query. reads (fails not_rejec
 command_sound H (Ask words) = ranking_sound (λ query. ends)
 command_sound H (Serve words) = index_sound (λ archive. ends)
 command_sound H (Audit words) =
-    ranking_sound (λ query. index_sound (λ archive. reads (fails not_rejected) (λ bytes. checks_sound (λ proof. tries (collision_exact H archive query proof) (λ stops. not_collision stops.2) ends))))
+    ranking_sound (λ query. index_sound (λ archive. reads (fails not_rejected) (λ bytes. checks_sound (λ proof. tries (proof_collision_exact H archive query proof) (λ stops. not_collision stops.2) ends))))
 command_sound H (Sweep words) = index_sound (λ archive. reads (fails not_input) (λ bytes. sweeps_sound H words archive bytes))
 command_sound H (Trial words) = tries (trial_exact H words.number) (λ stops. not_input stops.2) ends
 command_sound H (Migrate words) = index_sound (λ archive. makes (λ a b is also. is.same ∙ sym also.same) (λ bytes. stores))
@@ -320,6 +315,9 @@ command_sound H (AuditFetch words) = index_sound (λ archive. reads (fails not_r
 command_sound H (Grow words) = index_sound (λ older. index_sound (λ newer. tries (kept_exact older newer) (λ stops. not_input stops.2)
     (makes (λ a b is also. growth_bytes (honest H older newer) a is ∙ sym (growth_bytes (honest H older newer) b also)) (λ bytes. stores))))
 command_sound H (Growth words) = reads (fails not_rejected) (λ bytes. file_sound growth_refusal_words (growth_file_one H words.old words.new bytes) (λ growth. ends))
+command_sound H (AuditGrowth words) = index_sound (λ older. index_sound (λ newer. reads (fails not_rejected) (λ bytes.
+    file_sound growth_refusal_words (growth_file_one H (root_of H older) (root_of H newer) bytes)
+    (λ growth. tries (growth_collision_exact H older newer growth) (λ stops. not_collision stops.2) ends))))
 
 pub plan_sound : (H : List ℕ → List ℕ) (command : Command) → IsSound (plan_of H command)
 plan_sound H command = (command_sound H command).so

@@ -1,5 +1,5 @@
 -- How `fetch` and `audit-fetch` end, from the results of their steps.
-use Rattle.std.proofs.Common.{◌≡◌, ◌∙◌, ◌⊎◌, ◌^◌, ℕ, List, None, length, Result, Ok, Err, ap, subst, inl, inr}
+use Rattle.std.proofs.Common.{◌≡◌, ◌∙◌, ◌⊎◌, ◌^◌, ℕ, List, None, length, Result, Ok, Err, ap, inl, inr}
 use Rattle.std.specs.Prelude.{IfOk, IfErr}
 use Rattle.ats_base.specs.Outside.{ShelfTold}
 use Rattle.ats_commit.specs.Archive.{Archive}

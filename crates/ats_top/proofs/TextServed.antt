@@ -1,5 +1,5 @@
 -- A file that gives a text is served by `fetch` and by `audit-fetch`.
-use Rattle.std.proofs.Common.{◌≡◌, ◌^◌, ℕ, List, length, Option, Some, refl, inr, ap₂}
+use Rattle.std.proofs.Common.{◌≡◌, ◌^◌, ℕ, List, length, Option, Some, inr, ap₂}
 use Rattle.std.specs.Prelude.{option_map, option_and_then}
 use Rattle.ats_commit.specs.Archive.{Archive}
 use Rattle.ats_commit.specs.Own.{AreTexts}
@@ -9,7 +9,7 @@ use Rattle.ats_fetch.specs.Value.{IsTextProof}
 use Rattle.ats_fetch.specs.Verdicts.{IsAcceptedText}
 use Rattle.ats_fetch.proofs.Public.{given-accepted, given-none}
 use Rattle.ats_plan.specs.Files.{Files, IsFile}
-use Rattle.ats_console.specs.Words.{Command, Fetch, AuditFetch, AuditFetchWords, number_of, root_word, fetch_words, command_of}
+use Rattle.ats_console.specs.Words.{Command, Fetch, AuditFetch, number_of, root_word, fetch_words, command_of}
 use Rattle.ats_console.specs.Read.{HasIndex}
 use Rattle.ats_top.specs.Commands.Give.{HasDocument}
 use Rattle.ats_top.specs.Run.{Said, IsCommandServed}

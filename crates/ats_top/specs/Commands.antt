@@ -19,6 +19,7 @@ use Rattle.ats_top.specs.Commands.Fetch.{fetch_plan}
 use Rattle.ats_top.specs.Commands.AuditFetch.{audit_fetch_plan}
 use Rattle.ats_top.specs.Commands.Grow.{grow_plan}
 use Rattle.ats_top.specs.Commands.Growth.{growth_plan}
+use Rattle.ats_top.specs.Commands.AuditGrowth.{audit_growth_plan}
 use Rattle.ats_console.specs.declared.stops.Stop.{Stop}
 pub mod Rank
 pub mod Build
@@ -36,6 +37,7 @@ pub mod Fetch
 pub mod AuditFetch
 pub mod Grow
 pub mod Growth
+pub mod AuditGrowth
 
 abbrev pub plan_of : (List ℕ → List ℕ) → Command → Plan Stop
 plan_of H (command.Rank words) = rank_plan words
@@ -54,3 +56,4 @@ plan_of H (command.Fetch words) = fetch_plan H words
 plan_of H (command.AuditFetch words) = audit_fetch_plan H words
 plan_of H (command.Grow words) = grow_plan H words
 plan_of H (command.Growth words) = growth_plan H words
+plan_of H (command.AuditGrowth words) = audit_growth_plan H words

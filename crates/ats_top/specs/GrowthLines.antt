@@ -1,7 +1,10 @@
 -- The lines of the commands that show, check and audit the growth of an archive.
 use Rattle.std.specs.Prelude.{◌++◌, ℕ, List, codes, decimal}
+use Rattle.ats_tree.specs.Differences.{Difference}
+use Rattle.ats_growth.specs.Strings.{Beside}
 use Rattle.ats_growth.specs.declared.refusal.GrowthRefusal.{GrowthRefusal}
 use Rattle.ats_growth.specs.declared.refusal.GrowthRefusal.TheVariants.{OtherOld, OtherNew, Shrunk, GrowthMisfit, OldTexts, NewTexts}
+use Rattle.ats_console.specs.CollisionLines.{lines_of_pair}
 use Rattle.ats_console.specs.Stops.{input_line}
 
 -- growth LENGTH
@@ -23,3 +26,9 @@ growth_refusal_words (Shrunk old new) = codes "shrunk " ++ (decimal old ++ (code
 growth_refusal_words (GrowthMisfit digests) = codes "growth-misfit " ++ decimal digests
 growth_refusal_words OldTexts = codes "old-texts"
 growth_refusal_words NewTexts = codes "new-texts"
+
+-- the part of a pair of strings, and the two in their order
+abbrev pub lines_of_growth_collision : Difference Beside → List ℕ
+lines_of_growth_collision collision =
+    lines_of_pair (codes "growth " ++ decimal collision.place.part) (codes "first") collision.theirs (codes "second")
+    collision.ours

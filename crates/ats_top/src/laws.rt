@@ -14,7 +14,7 @@ ghost use Rattle.ats_growth.specs.Value.{IsGrowth};
 ghost use Rattle.ats_proof.specs.declared.record.Algorithm.{Algorithm};
 ghost use Rattle.ats_index.specs.Spelling.{IsSpelling};
 ghost use Rattle.ats_honest.specs.Honest.{IsProved};
-ghost use Rattle.ats_console.specs.Words.{AskWords, ServeWords, AuditWords, SweepWords, GiveWords, AuditFetchWords, GrowWords, Command, Ask, Serve, Audit, Sweep, Give, AuditFetch, Grow, number_of, algorithm_of, root_word, root_words, prove_words, migrate_words, verify_words, fetch_words, growth_words};
+ghost use Rattle.ats_console.specs.Words.{AskWords, ServeWords, AuditWords, SweepWords, GiveWords, AuditFetchWords, GrowWords, AuditGrowthWords, Command, Ask, Serve, Audit, Sweep, Give, AuditFetch, Grow, AuditGrowth, number_of, algorithm_of, root_word, root_words, prove_words, migrate_words, verify_words, fetch_words, growth_words};
 ghost use Rattle.ats_plan.specs.Files.{Files, IsFile};
 ghost use Rattle.ats_console.specs.Read.{HasIndex};
 ghost use Rattle.ats_console.specs.Steps.{IsRowCount, AsksRanking};
@@ -114,7 +114,8 @@ pub fn given_texts_are_served<H: HashKind>()
 {}
 
 /// If the texts of an archive are the first of another one's, `grow` serves their indexes. A file that shows this, as `grow`
-/// stores it, is served by `growth` under the words of the two roots.
+/// stores it, is served by `growth` under the words of the two roots, and by `audit-growth` against indexes of the two
+/// archives: it has no collision with them.
 pub fn shown_growths_are_served<H: HashKind>()
     ensures grow { (older newer : Archive) (files : Files) (words : GrowWords)
         → HasIndex H.hash files words.old older → HasIndex H.hash files words.new newer → HasKept older newer
@@ -124,6 +125,10 @@ pub fn shown_growths_are_served<H: HashKind>()
         → IsGrowth bytes (honest H.hash older newer) → IsFile files name 4096 bytes
         → root_word old ≡ Some (root_of H.hash older) → root_word new ≡ Some (root_of H.hash newer)
         → Said (growth_words old new name) (IsCommandServed H.hash files) }
+    ensures audit { (older newer : Archive) (bytes : List ℕ) (files : Files) (words : AuditGrowthWords)
+        → HasIndex H.hash files words.old older → HasIndex H.hash files words.new newer → HasKept older newer
+        → IsGrowth bytes (honest H.hash older newer) → IsFile files words.file 4096 bytes
+        → IsCommandServed H.hash files (AuditGrowth words) }
 {}
 
 /// An index in which lists stand in blocks has the same bytes if it is migrated again.

@@ -1,5 +1,5 @@
 -- The command that a value of the program's own type means.
-use Rattle.ats_console.specs.Words.{Command, Rank, Build, Root, Prove, Verify, Ask, Serve, Audit, Sweep, Trial, Migrate, Give, Fetch, AuditFetch, Grow, Growth, ServeWords}
+use Rattle.ats_console.specs.Words.{Command, Rank, Build, Root, Prove, Verify, Ask, Serve, Audit, Sweep, Trial, Migrate, Give, Fetch, AuditFetch, Grow, Growth, AuditGrowth, ServeWords}
 use Rattle.ats_console.specs.declared.words.Command.{Command as Said}
 use Rattle.ats_console.specs.declared.words.Command.TheVariants as said
 use Rattle.std.specs.Prelude.{Option, Some, None}
@@ -25,6 +25,7 @@ meaning (said.Fetch root doc file) = Fetch (record { root = root; doc = doc; fil
 meaning (said.AuditFetch index doc file) = AuditFetch (record { index = index.now; doc = doc; file = file.now })
 meaning (said.Grow old new file) = Grow (record { old = old.now; new = new.now; file = file.now })
 meaning (said.Growth old new file) = Growth (record { old = old; new = new; file = file.now })
+meaning (said.AuditGrowth old new file) = AuditGrowth (record { old = old.now; new = new.now; file = file.now })
 
 -- the words of `serve`, if the command is that one
 abbrev pub serving_of : Option Command → Option ServeWords

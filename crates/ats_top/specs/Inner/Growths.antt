@@ -1,10 +1,29 @@
 -- Why a step of the commands of a growth stops, as its function returns it.
-use Rattle.std.specs.Prelude.{◌≡◌, ◌⊎◌}
+use Rattle.std.specs.Prelude.{◌≡◌, ◌⊎◌, ℕ, List}
 use Rattle.ats_commit.specs.Archive.{Archive}
+use Rattle.ats_commit.specs.Root.{root_of}
+use Rattle.ats_growth.specs.Value.{Growth}
+use Rattle.ats_growth.specs.Verdicts.{IsAcceptedGrowth, IsFoundGrown}
+use Rattle.ats_growth.specs.declared.checking.Grown.{Grown}
 use Rattle.ats_console.specs.declared.stops.Stop.{Stop}
 use Rattle.ats_console.specs.declared.stops.Stop.TheVariants.{Memory}
+use Rattle.ats_top.specs.GrowthLines.{line_of_grown}
+use Rattle.ats_top.specs.GrowthSteps.{RejectsGrowth}
 use Rattle.ats_top.specs.Commands.Grow.{Withdraws}
+use Rattle.ats_top.specs.Commands.AuditGrowth.{StopsByGrowthCollision}
 
 -- why no growth is shown: memory ran out, or a text was withdrawn
 abbrev pub GrowingStop : (older newer : Archive) → Stop → Type 0
 GrowingStop older newer stop = (stop ≡ Memory) ⊎ Withdraws older newer stop
+
+-- the bytes are found to show that nothing was withdrawn, and the text is the line of the numbers that were found
+abbrev pub TellsGrown : (List ℕ → List ℕ) → (older newer : Archive) → (bytes : List ℕ) → (text : List ℕ) → Type 0
+TellsGrown H older newer bytes text =
+    (grown : Grown) × IsFoundGrown H older newer bytes grown × (text ≡ line_of_grown grown.old grown.new)
+
+-- why the bytes are not found to show this: memory ran out, or they are rejected, or they have a collision
+abbrev pub GrowthVerdictStop : (List ℕ → List ℕ) → (older newer : Archive) → (bytes : List ℕ) → Stop → Type 0
+GrowthVerdictStop H older newer bytes stop =
+    (stop ≡ Memory) ⊎ (RejectsGrowth H (root_of H older) (root_of H newer) bytes stop
+    ⊎ ((growth : Growth) × IsAcceptedGrowth H (root_of H older) (root_of H newer) bytes growth
+    × StopsByGrowthCollision H older newer growth stop))

@@ -189,3 +189,15 @@ returns-in-Some-Growth-clause-stop g c =
     let is = rw c.in-Some-Growth.field-0-is at c.in-Some-Growth.ensures in
     plan_ends g.H.HashKind.hash (g.S.Shelf.told c.args.shelf.now) (g.S.Shelf.told c.growth.new.shelf) (g.C.Caller.told c.args.caller.now) (g.C.Caller.told c.args.caller.now)
     (g.D.Door.told c.args.door.now) (map string_bytes c.args.words.now) _ (sym is) c.growth.result c.growth.ensures.stop
+
+pub returns-in-Some-AuditGrowth-clause-ok : goal.returns-in-Some-AuditGrowth-clause-ok
+returns-in-Some-AuditGrowth-clause-ok g c =
+    let is = rw c.in-Some-AuditGrowth.field-0-is at c.in-Some-AuditGrowth.ensures in
+    done_ends g.H.HashKind.hash (g.S.Shelf.told c.args.shelf.now) (g.S.Shelf.told c.audit_growth.new.shelf) (g.C.Caller.told c.args.caller.now) (g.C.Caller.told c.args.caller.now)
+    (g.D.Door.told c.args.door.now) (map string_bytes c.args.words.now) _ (sym is) vec_items c.audit_growth.result (λ was now text. tt) c.audit_growth.ensures.ok
+
+pub returns-in-Some-AuditGrowth-clause-stop : goal.returns-in-Some-AuditGrowth-clause-stop
+returns-in-Some-AuditGrowth-clause-stop g c =
+    let is = rw c.in-Some-AuditGrowth.field-0-is at c.in-Some-AuditGrowth.ensures in
+    plan_ends g.H.HashKind.hash (g.S.Shelf.told c.args.shelf.now) (g.S.Shelf.told c.audit_growth.new.shelf) (g.C.Caller.told c.args.caller.now) (g.C.Caller.told c.args.caller.now)
+    (g.D.Door.told c.args.door.now) (map string_bytes c.args.words.now) _ (sym is) c.audit_growth.result c.audit_growth.ensures.stop

@@ -23,4 +23,4 @@ returns-clause-ok g c =
     let leads = leads_bytes leads_none c.in_ok-bytes.ensures.ok in
     let file = subst (λ (files : Files). IsFile files c.args.file.now 4096 c.in_ok-bytes.bytes) (sym (same_bytes c.in_ok-bytes.ensures.ok)) (has_bytes c.in_ok-bytes.ensures.ok) in
     growth_end g.H.HashKind.hash (record { old = c.args.old.now; new = c.args.new.now; file = c.args.file.now }) _ _ c.in_ok-bytes.bytes leads file
-    vec_items c.growth_to_line.result (rw c.as_slice.ensures at c.growth_to_line.ensures.ok)
+    g.H.HashKind.sized vec_items c.growth_to_line.result (rw c.as_slice.ensures at c.growth_to_line.ensures.ok)

@@ -1,3 +1,4 @@
+use Rattle.ats_top.proofs.IndexTexts.{texts_of}
 use Rattle.ats_top.proofs.TextServed.{fetch_served, audit_fetch_served}
 use Rattle.ats_top.proofs.laws.given_texts_are_served.Goals as goal
 
@@ -7,4 +8,4 @@ returns-clause-fetch g c archive doc bytes files root word name texts inside giv
 
 pub returns-clause-audit : goal.returns-clause-audit
 returns-clause-audit g c archive bytes files words index inside given =
-    audit_fetch_served g.H.HashKind.hash g.H.HashKind.sized archive words.doc bytes (record { utf8 = index.spelling.utf8; within = index.spelling.within }) inside given files words.index words.file index
+    audit_fetch_served g.H.HashKind.hash g.H.HashKind.sized archive words.doc bytes (texts_of index) inside given files words.index words.file index
