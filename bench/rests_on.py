@@ -47,6 +47,7 @@ COMMANDS = {
     "audit-fetch": "IsFetchAudited",
     "grow": "IsGrowthStored",
     "growth": "IsGrowthChecked",
+    "audit-growth": "IsGrowthAudited",
 }
 
 WORD = r"[^\W\d](?:[\w']|-(?=\w))*"
