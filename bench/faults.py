@@ -26,6 +26,8 @@ from sockets import QUERY, REQUEST, ROW, TEXTS, framed, free_port
 
 ROOT = "297978110ffb580733eaf8938f9328114690e802ab3108a3bfabc34ba2db2490"
 ROOT_IN_BLOCKS = "2951f46d5980442cd63e807581d1fe33fdd82af7d29a0b4267f871c88b998e82"  # of the same texts
+MORE_TEXTS = TEXTS[:-1] + ',"fox hen"]'
+MORE_ROOT = "158bee81463a856290f8c62a370947e939a44b77a87bbd3c1d0dfe924202cd3c"
 NO_MEMORY = framed(b"\x01\x06")  # the reply if memory ran out for a proof
 BEFORE = b"before"  # the content of a file before another one is stored under its name
 
@@ -65,6 +67,12 @@ COMMANDS = [
     Command(["serve", "I", "1", "ADDRESS"], "listening\n" + SERVED.format(1, "end")),
     Command(["migrate", "I", "M"], ROOT_IN_BLOCKS + "\n", "M"),
     Command(["migrate", "M", "N"], ROOT_IN_BLOCKS + "\n", "N"),  # an index in blocks is stored as it is
+    Command(["give", "I", "1", "T"], "text 190\n", "T"),
+    Command(["fetch", ROOT, "1", "T"], "red red hen\n"),
+    Command(["audit-fetch", "I", "1", "T"], "red red hen\n"),
+    Command(["grow", "I", "J", "G"], "growth 313\n", "G"),
+    Command(["growth", ROOT, MORE_ROOT, "G"], "grown 3 4\n"),
+    Command(["audit-growth", "I", "J", "G"], "grown 3 4\n"),
 ]
 
 
@@ -152,15 +160,15 @@ class Client(Peer):
 
 
 def build(program: str, folder: Path) -> House:
-    """The three short texts, their indexes and a proof, as the program makes them."""
+    """The three short texts, the same with a fourth, and what the commands store of them, as the program makes it."""
     (folder / "X").write_text(TEXTS, encoding="utf-8")
-    made = [["build", "X", "I"], ["prove", "I", "tnra", "1", QUERY, "P"], ["migrate", "I", "M"], ["migrate", "M", "N"]]
-    for words in made:
+    (folder / "Y").write_text(MORE_TEXTS, encoding="utf-8")
+    for words in [["build", "Y", "J"], *(command.words for command in COMMANDS if command.stores)]:
         ended = tracing.run([program, *words], folder=str(folder))
         if ended.status != 0:
             sys.exit(f"{words[0]} ended with status {ended.status}: {ended.printed.decode()}")
     (folder / "L").write_text(f"1 P {QUERY}\n", encoding="utf-8")
-    files = {name: (folder / name).read_bytes() for name in "XIPLMN"}
+    files = {name: (folder / name).read_bytes() for name in "XYIJPLMNTG"}
     return House(program, folder, files, framed(b"\x00" + files["P"]))
 
 
@@ -240,7 +248,7 @@ def tell(name: str, what: str, runs: collections.Counter[str]) -> bool:
     """Prints a line of the table, and below it each run that is wrong."""
     right = {end: count for end, count in runs.items() if end.isdigit()}
     counts = "".join(f"{right.get(status, 0) or '-':>6}" for status in ("0", "3", "6", "7", "8", "10"))
-    print(f"{name:8}{what:27}{sum(runs.values()):>6}{counts}", flush=True)
+    print(f"{name:14}{what:27}{sum(runs.values()):>6}{counts}", flush=True)
     for end, count in runs.items():
         if end not in right:
             print(f"    {count} times {end}", flush=True)
@@ -248,7 +256,7 @@ def tell(name: str, what: str, runs: collections.Counter[str]) -> bool:
 
 
 def head(says: str) -> None:
-    print(f"\n{says}\n{'command':8}{'what fails':27}{'runs':>6}{'0':>6}{'3':>6}{'6':>6}{'7':>6}{'8':>6}{'10':>6}")
+    print(f"\n{says}\n{'command':14}{'what fails':27}{'runs':>6}{'0':>6}{'3':>6}{'6':>6}{'7':>6}{'8':>6}{'10':>6}")
 
 
 def fail_in_turn(house: House, command: Command, what: str, plans: Iterator[tracing.Plan]) -> bool:
@@ -308,7 +316,7 @@ def block(house: House, case: Case, moves: int) -> str:
 
 # The player plays the vectors too, and there are none here.
 NO_VECTORS = [(f"{name}.json", "{}") for name in ("archives", "proofs", "fields")]
-LISTED = ("changed", "made", "words", "numbers", "inputs", "large", "asked", "served")
+LISTED = ("changed", "made", "words", "numbers", "inputs", "large", "asked", "served", "texts", "growths")
 NO_VECTORS += [(f"{name}.json", "[]") for name in LISTED]
 NO_VECTOR = "0 vectors passed\n"
 
@@ -429,7 +437,7 @@ def calls_in_memory(house: House, cases: str, folder: Path) -> bool:
         ended = play(cases, folder, "".join(blocks))
         text = ended.printed.decode()
         is_right = ended.status == 0 and text == f"{len(blocks)} cases passed\n" + NO_VECTOR
-        print(f"{name:8}{what:8}{len(blocks):>6} cases: {'each as wanted' if is_right else 'WRONG: ' + text[:2000]}", flush=True)
+        print(f"{name:14}{what:8}{len(blocks):>6} cases: {'each as wanted' if is_right else 'WRONG: ' + text[:2000]}", flush=True)
         passed = is_right and passed
     return passed
 

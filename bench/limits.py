@@ -34,6 +34,8 @@ MEMORY = 4 << 30  # bytes of address space of one run
 ROWS = 1000
 MAX_PROOF = 1 << 26
 MAX_INDEX = 1 << 29
+MAX_TEXT_FILE = 1 << 21
+MAX_GROWTH = 1 << 12
 NO_ROOT = "00" * 32
 
 
@@ -136,6 +138,16 @@ def migrate(table: Table, name: str) -> str:
     return root
 
 
+def texts_and_growth(table: Table, name: str, root: str, in_blocks: str, documents: int, doc: int) -> None:
+    """Gives and fetches one text, and shows the growth of the index I into itself in blocks, M; both are audited too."""
+    table.wanted(f"{name}: give", ["give", "I", str(doc), "T"], rows=1)
+    text = table.wanted(f"{name}: fetch", ["fetch", root, str(doc), "T"]).lines
+    table.same("the text of audit-fetch", table.wanted(f"{name}: audit-fetch", ["audit-fetch", "I", str(doc), "T"]).lines, text)
+    table.wanted(f"{name}: grow", ["grow", "I", "M", "G"], first="growth 217")
+    table.wanted(f"{name}: growth", ["growth", root, in_blocks, "G"], first=f"grown {documents} {documents}")
+    table.wanted(f"{name}: audit-growth", ["audit-growth", "I", "M", "G"], first=f"grown {documents} {documents}")
+
+
 def most_text(table: Table) -> None:
     words = corpora.vocabulary(corpora.SHAPES["notes"].vocabulary)
     corpora.write(str(table.folder / "X"), corpora.SHAPES["notes"], corpora.MAX_TEXTS)
@@ -151,6 +163,8 @@ def most_text(table: Table) -> None:
         answers(table, name, "I", root, query, best, algorithms, served)
         if len(algorithms) == 2:
             answers(table, f"{name}, in blocks", "M", in_blocks, query, best, algorithms, served)
+    documents = len(json.loads((table.folder / "X").read_text(encoding="utf-8")))
+    texts_and_growth(table, "16 MiB of notes", root, in_blocks, documents, documents // 2)
     table.wanted("16 MiB of notes, 33 terms: rank", ["rank", "X", "1", " ".join(words[:33])], 4, "input: query of 33 terms")
 
 
@@ -162,6 +176,7 @@ def most_documents(table: Table) -> None:
     answers(table, "65,536 documents, 10 terms", "I", root, query, best, ("tra",), True)
     in_blocks = migrate(table, "65,536 documents")
     answers(table, "65,536 documents, 10 terms, in blocks", "M", in_blocks, query, best, ("tra",), False)
+    texts_and_growth(table, "65,536 documents", root, in_blocks, 65_536, 65_535)
 
 
 def longest_texts(table: Table) -> None:
@@ -172,6 +187,7 @@ def longest_texts(table: Table) -> None:
     answers(table, "16 texts of 2^20 bytes", "I", root, "w7 w70000", best, ("tnra", "tra"), True)
     in_blocks = migrate(table, "16 texts of 2^20 bytes")
     answers(table, "16 texts of 2^20 bytes, in blocks", "M", in_blocks, "w7 w70000", best, ("tnra", "tra"), False)
+    texts_and_growth(table, "16 texts of 2^20 bytes", root, in_blocks, 16, 15)
     (table.folder / "X").write_text(json.dumps([text + "x"]), encoding="utf-8")
     table.wanted("a text of 2^20 + 1 bytes: build", ["build", "X", "N"], 4, "input: text 0 too long")
 
@@ -281,11 +297,35 @@ def greatest() -> Iterator[Hostile]:
     yield Hostile("2^26 + 1 bytes", repeated(whole, b"\0", b"", MAX_PROOF + 1), f"refused: shape long {MAX_PROOF}")
 
 
+ARCHIVE = b"\x01" + HEADER
+
+
+def given() -> Iterator[Hostile]:
+    """Files of a text."""
+    told = b"ATSF" + ARCHIVE
+    yield Hostile("a text of 2^32 - 1 bytes", told + b"\xff" * 4, f"refused: shape count {len(told)}")
+    yield Hostile("a text of 2^20 bytes with none of them", told + number(MIB), f"refused: shape cut {len(told) + 4}")
+    text = told + number(MIB) + b"a" * MIB
+    yield Hostile("a text of 32 digests with none of them", text + b"\x20", f"refused: shape cut {len(text) + 1}")
+    yield Hostile("2^21 + 1 bytes", repeated(text, b"\0", b"", MAX_TEXT_FILE + 1), f"refused: shape long {MAX_TEXT_FILE}")
+
+
+def grown() -> Iterator[Hostile]:
+    """Files of a growth."""
+    told = b"ATSG" + ARCHIVE + ARCHIVE
+    yield Hostile("a growth of 255 digests", told + b"\xff", f"refused: shape count {len(told)}")
+    yield Hostile("a growth of 64 digests with none of them", told + b"\x40", f"refused: shape cut {len(told) + 1}")
+    yield Hostile("a growth of 64 digests", told + b"\x40" + b"\xcc" * 2048, "refused: other-old")
+    yield Hostile("64 MiB", repeated(told, b"\0", b"", 1 << 26), f"refused: shape long {MAX_GROWTH}")
+
+
 def hostile_files(table: Table) -> None:
     words: list[tuple[Callable[[], Iterator[Hostile]], list[list[str]], int]] = [
         (collections, [["rank", "H", "1", "a"]], 4),
         (indexes, [["root", "H"], ["migrate", "H", "N"]], 4),
         (greatest, [["verify", NO_ROOT, "1000", " ".join(f"q{at}" for at in range(32)), "H"]], 1),
+        (given, [["fetch", NO_ROOT, "0", "H"]], 1),
+        (grown, [["growth", NO_ROOT, NO_ROOT, "H"]], 1),
     ]
     path = table.folder / "H"
     for kinds, commands, status in words:

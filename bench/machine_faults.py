@@ -31,6 +31,7 @@ from sockets import QUERY, REQUEST, ROW, TEXTS, Differs, Skipped, expect, framed
 
 ROOT = faults.ROOT
 ROOT_IN_BLOCKS = faults.ROOT_IN_BLOCKS
+MORE_ROOT = faults.MORE_ROOT
 WAIT = 5  # seconds after which a command that waits is ended
 LIMIT = 120
 KILLS = 60
@@ -44,7 +45,7 @@ KILLED = -signal.SIGKILL
 
 class House(NamedTuple):
     """The program in a folder that anyone may enter, three short texts, and a larger collection. Of both the index, and
-    the migrated one; of the short texts also a proof."""
+    the migrated one; of the short texts also a proof, the file of a text, and that of a growth."""
 
     program: str
     folder: Path
@@ -53,11 +54,13 @@ class House(NamedTuple):
     proof: bytes
     large_index: bytes
     large_blocks: bytes
+    text: bytes
+    growth: bytes
 
     def stored(self, words: list[str]) -> bytes:
         """What the words of a command store."""
-        if words[0] == "prove":
-            return self.proof
+        if words[0] in ("prove", "give", "grow"):
+            return {"prove": self.proof, "give": self.text, "grow": self.growth}[words[0]]
         is_large = words[1] in ("LARGE", "L")
         if words[0] == "build":
             return self.large_index if is_large else self.index
@@ -89,18 +92,21 @@ def build(program: str, folder: Path) -> House:
     os.chmod(own, 0o755)
     (folder / "X").write_text(TEXTS, encoding="utf-8")
     corpora.write(str(folder / "LARGE"), corpora.SHAPES["notes"], LARGE)
-    house = House(own, folder, b"", b"", b"", b"", b"")
+    (folder / "Y").write_text(faults.MORE_TEXTS, encoding="utf-8")
+    house = House(own, folder, *[b""] * 7)
     for words, printed in (
         (["build", "X", "I"], ROOT + "\n"),
         (["migrate", "I", "M"], ROOT_IN_BLOCKS + "\n"),
         (["prove", "I", "tnra", "1", QUERY, "P"], "proof 365\n"),
         (["build", "LARGE", "L"], None),
         (["migrate", "L", "LM"], None),
+        (["build", "Y", "J"], MORE_ROOT + "\n"),
+        (["give", "I", "1", "T"], "text 190\n"),
+        (["grow", "I", "J", "G"], "growth 313\n"),
     ):
         done = run(house, *words)
         expect(" ".join(words), (done.status, printed or done.printed), (0, done.printed))
-    index, blocks, proof, large_index, large_blocks = ((folder / name).read_bytes() for name in ("I", "M", "P", "L", "LM"))
-    return House(own, folder, index, blocks, proof, large_index, large_blocks)
+    return House(own, folder, *((folder / name).read_bytes() for name in ("I", "M", "P", "L", "LM", "T", "G")))
 
 
 def left(path: Path, whole: bytes, before: Optional[bytes] = None) -> str:
@@ -136,6 +142,12 @@ COMMANDS = [
     (["verify", ROOT, "1", QUERY, "P"], ROW),
     (["audit", "I", "1", QUERY, "P"], ROW),
     (["migrate", "I", "N"], ROOT_IN_BLOCKS + "\n"),
+    (["give", "I", "1", "N"], "text 190\n"),
+    (["fetch", ROOT, "1", "T"], "red red hen\n"),
+    (["audit-fetch", "I", "1", "T"], "red red hen\n"),
+    (["grow", "I", "J", "N"], "growth 313\n"),
+    (["growth", ROOT, MORE_ROOT, "G"], "grown 3 4\n"),
+    (["audit-growth", "I", "J", "G"], "grown 3 4\n"),
 ]
 
 # The commands that store, each over a large file and over a small one.
@@ -152,7 +164,7 @@ def every_command(house: House, wanted: Done, **how: object) -> str:
         expect(" ".join(words[:1]), done, wanted)
         if "N" in words:
             expect(f"{words[0]} leaves", left(new, house.stored(words)), "the whole file")
-    return f"status {wanted.status}, {wanted.printed!r}; build, prove and migrate leave the whole file"
+    return f"status {wanted.status}, {wanted.printed!r}; those that store leave the whole file"
 
 
 def output_full(house: House) -> str:
@@ -254,13 +266,19 @@ def long_file(house: House) -> str:
 FAULT = Done(3, "fault: shelf\n")
 
 
+def of_files(name: str) -> list[list[str]]:
+    """The commands that read the file of a text or of a growth, with that file of this name, or an index."""
+    texts = [["fetch", ROOT, "1", name], ["audit-fetch", "I", "1", name], ["give", name, "1", "N"]]
+    return [*texts, ["growth", ROOT, MORE_ROOT, name], ["audit-growth", "I", "J", name], ["audit-growth", "I", name, "G"], ["grow", "I", name, "N"]]
+
+
 def not_a_file(house: House) -> str:
     """A folder, a name below a file, and a name that is too long: in place of a file that is read, and of one that is stored."""
     folder = house.folder / "folder"
     folder.mkdir(exist_ok=True)
     for name in ("folder", "X/below", "a" * 300, "nowhere/file", ""):
         of_index = [["root", name], ["migrate", name, name]]
-        for words in (["rank", name, "1", QUERY], *of_index, ["verify", ROOT, "1", QUERY, name], ["audit", "I", "1", QUERY, name]):
+        for words in (["rank", name, "1", QUERY], *of_index, ["verify", ROOT, "1", QUERY, name], ["audit", "I", "1", QUERY, name], *of_files(name)):
             expect(f"{words[0]} of {name[:9]!r}", run(house, *words), FAULT)
         for words in SMALL_STORES:
             expect(f"{words[0]} into {name[:9]!r}", run(house, *words, name), FAULT)
@@ -328,6 +346,8 @@ def devices(house: House) -> str:
     expect("root of /dev/null", run(house, "root", "/dev/null"), Done(4, "input: index at 0\n"))
     expect("rank of /dev/zero", run(house, "rank", "/dev/zero", "1", QUERY), Done(4, "input: longer than 67108864\n"))
     expect("verify of /dev/zero", run(house, "verify", ROOT, "1", QUERY, "/dev/zero"), Done(1, "refused: shape long 67108864\n"))
+    expect("fetch of /dev/zero", run(house, "fetch", ROOT, "1", "/dev/zero"), Done(1, "refused: shape long 2097152\n"))
+    expect("audit-growth of /dev/zero", run(house, "audit-growth", "I", "J", "/dev/zero"), Done(1, "refused: shape long 4096\n"))
     for words in SMALL_STORES:
         expect(f"{words[0]} into /dev/full", run(house, *words, "/dev/full"), FAULT)
     return "/dev/null is an empty file, /dev/zero one that is too long, /dev/full a full disk"
@@ -348,6 +368,8 @@ def changes(house: House) -> str:
         (["root", "C"], house.index, ROOT + "\n"),
         (["migrate", "C", "N"], house.index, ROOT_IN_BLOCKS + "\n"),
         (["verify", ROOT, "1", QUERY, "C"], house.proof, ROW),
+        (["fetch", ROOT, "1", "C"], house.text, "red red hen\n"),
+        (["audit-growth", "I", "J", "C"], house.growth, "grown 3 4\n"),
     ):
         for kind, change in kinds.items():
             for pieces in (False, True):

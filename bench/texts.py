@@ -6,8 +6,10 @@ Prints, for many short texts and for few of 1 MiB, the ratio of giving a text an
 index, to the time that hashing all texts takes; for a text of 1 MiB also the ratio of its check to one digest of it, and
 how much more memory `fetch` holds for each byte that its file is longer. Then it prints, for an archive that has one text
 more than another, the ratio of making the growth, without loading the indexes, to the time that hashing the new texts
-takes, and the milliseconds of one check of the growth. The fastest of some times counts on each side. Ends with status 0
-if each value is within its limit, and else with 1. Needs Linux, for the memory.
+takes, the milliseconds of one check of the growth, and the ratio of its audit, without loading the indexes, to the time
+that hashing the texts of both archives takes; also the memory of `audit-growth` over that of `grow`, which loads the same
+indexes. The fastest of some times counts on each side. Ends with status 0 if each value is within its limit, and else
+with 1. Needs Linux, for the memory.
 """
 
 import itertools
@@ -27,10 +29,13 @@ LONG_TEXTS = 15
 FIRST = 1 << 17  # bytes of a first text that is shorter than the others; it is longer than a pipe holds
 TIMES = 10  # of each kind of work in one run
 
-AGAINST_TEXTS = 1.3  # giving, auditing and growing, over hashing the texts
+AGAINST_TEXTS = 1.3  # giving, auditing and growing, over hashing the texts; the audit of a growth, over those of both archives
 AGAINST_DIGEST = 1.2  # the check of a text of 1 MiB, over one digest of it
 HELD = 3.0  # bytes of memory that `fetch` holds for each byte of its file
 CHECK = 0.1  # milliseconds of one check of a growth
+AGAINST_GROW = 1.1  # memory of `audit-growth` over that of `grow`
+ONE_RUN = str(Path(__file__).resolve().parent / "one_run.py")
+MEMORY = 8 << 30  # bytes of address space of one run
 
 
 class Text(NamedTuple):
@@ -51,6 +56,9 @@ class Growth(NamedTuple):
     leaves: int  # all new texts
     inner: int
     checked: int  # as many checks as the last line says
+    audited: int
+    old_leaves: int  # all old texts
+    old_inner: int
 
 
 class Archive(NamedTuple):
@@ -125,13 +133,33 @@ def judge_memory(program: str, of: Archive, short: int, long: int) -> bool:
     return measure.judge("    more memory / more bytes of the file", (most - peak) / (more - length), HELD)
 
 
+def held(command: list[str]) -> int:
+    """The most bytes of memory that a run held, started by a small process."""
+    started = [sys.executable, ONE_RUN, str(measure.LIMIT), str(MEMORY), *command]
+    told = subprocess.run(started, stdout=subprocess.DEVNULL, stderr=subprocess.PIPE, text=True, check=False).stderr
+    status, _, peak = told.split()[-3:]
+    if status != "0":
+        sys.exit(f"{command[:2]} ended with status {status}")
+    return int(peak)
+
+
+def judge_held(program: str, old: Archive, new: Archive) -> bool:
+    """The memory of the audit of a growth, over that of making it: both load the two indexes."""
+    words = [str(old.index), str(new.index), str(new.index.with_suffix(".growth"))]
+    grown, audited = held([program, "grow", *words]), held([program, "audit-growth", *words])
+    print(f"    grow holds {grown:,} bytes, audit-growth {audited:,}")
+    return measure.judge("    memory of audit-growth / that of grow", audited / grown, AGAINST_GROW)
+
+
 def measured_growth(bench: str, old: Archive, new: Archive) -> bool:
-    """Making one growth, and its check."""
+    """Making one growth, its check, and its audit against both archives."""
     printed = measure.run([bench, "growth", str(old.index), str(new.index), str(TIMES)]).printed.splitlines()
     lines = [Growth(*map(int, line.split())) for line in printed[:TIMES]]
     least = Growth(*map(min, zip(*lines)))
     met = judge_against_texts("grow", least.grown, least.leaves, least.inner)
-    return met & measure.judge("    milliseconds of one check", least.checked / 1e3 / int(printed[TIMES]), CHECK)
+    met &= measure.judge("    milliseconds of one check", least.checked / 1e3 / int(printed[TIMES]), CHECK)
+    leaves, inner = least.leaves + least.old_leaves, least.inner + least.old_inner
+    return met & judge_against_texts("audit-growth, both archives", least.audited, leaves, inner)
 
 
 def main() -> int:
@@ -150,6 +178,7 @@ def main() -> int:
         met &= judge_memory(program, long, 0, LONG_TEXTS)
         print(f"growth from {old.documents} to {short.documents} documents")
         met &= measured_growth(bench, old, short)
+        met &= judge_held(program, old, short)
     return 0 if met else 1
 
 

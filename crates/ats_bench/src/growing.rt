@@ -1,8 +1,8 @@
-//! A growth between two archives made and checked, beside hashing the strings of the new texts.
+//! A growth between two archives made, checked and audited, beside hashing the strings of the texts.
 
 use crate::texts::{load, time_hashes};
 use crate::walking::micros;
-use ats_growth::{GrowthView, check_growth, grow};
+use ats_growth::{GrowthVerdict, GrowthView, audit_growth, check_growth, grow};
 use ats_hash::{Sha, Steps};
 use ats_index::Index;
 use std::alloc::Global;
@@ -25,8 +25,20 @@ fn check_often(
     Some(())
 }
 
-// One line: the microseconds of making a growth, of the new texts as leaves, of the inner nodes of their tree, and of the
-// checks. `None` if the growth cannot be made or is refused.
+// The microseconds of one audit of a growth. `None` if it is not found right.
+fn time_audit(rt: &HostRuntime, old: &Index<Sha>, new: &Index<Sha>, bytes: &[u8]) -> Option<u128> {
+    let start = Instant::now(rt).ok()?;
+    let verdict = audit_growth::<Sha>(rt.alloc(), old, new, bytes).ok()?;
+    let audited = micros(rt, &start)?;
+    match verdict {
+        GrowthVerdict::Right(_) => Some(audited),
+        _ => None,
+    }
+}
+
+// One line: the microseconds of making a growth, of the new texts as leaves, of the inner nodes of their tree, of the
+// checks, of one audit, and of the old texts as leaves and the inner nodes of their tree. `None` if the growth cannot be
+// made or is not found right.
 fn time_once(rt: &HostRuntime, old: &Index<Sha>, new: &Index<Sha>) -> Option<()> {
     let start = Instant::now(rt).ok()?;
     let bytes = grow::<Sha>(rt.alloc(), old, new).ok()?;
@@ -37,10 +49,12 @@ fn time_once(rt: &HostRuntime, old: &Index<Sha>, new: &Index<Sha>) -> Option<()>
     let start = Instant::now(rt).ok()?;
     check_often(rt.alloc(), &old_root, &new_root, &growth)?;
     let checked = micros(rt, &start)?;
-    println!(rt; "{grown} {leaves} {inner} {checked}").ok()
+    let audited = time_audit(rt, old, new, bytes.as_slice())?;
+    let (old_leaves, old_inner) = time_hashes(rt, old.collection())?;
+    println!(rt; "{grown} {leaves} {inner} {checked} {audited} {old_leaves} {old_inner}").ok()
 }
 
-/// Makes a growth between the indexes of two files and checks it, `times` times. Prints a line for each time, and returns
+/// Makes a growth between the indexes of two files, checks and audits it, `times` times. Prints a line for each time, and returns
 /// how many checks a line stands for.
 pub(crate) fn time_growths(
     rt: &HostRuntime,

@@ -23,9 +23,10 @@
 //! - `text INDEX DOC TIMES` gives the text of document DOC of the index of a file, audits and checks it, TIMES times. It
 //!   prints for each time the microseconds of giving, of the audit, of all texts hashed as leaves of their tree, of as
 //!   many inner nodes as the tree has, of the check, and of one digest of the text.
-//! - `growth OLD NEW TIMES` makes a growth between the indexes of two files and checks it, TIMES times. It prints for
-//!   each time the microseconds of making it, of all new texts hashed as leaves of their tree, of as many inner nodes as
-//!   the tree has, and of many checks; then how many checks these are.
+//! - `growth OLD NEW TIMES` makes a growth between the indexes of two files, checks and audits it, TIMES times. It prints
+//!   for each time the microseconds of making it, of all new texts hashed as leaves of their tree, of as many inner nodes
+//!   as the tree has, of many checks, of one audit, and of the old texts as leaves and as many inner nodes; then how many
+//!   checks these are.
 //!
 //! The program stands on the rooms below it and promises nothing of its own. Each kind of work may change as a script
 //! needs it.
