@@ -315,14 +315,11 @@ def block(house: House, case: Case, moves: int) -> str:
 
 
 # The player plays the vectors too, and there are none here.
-NO_VECTORS = [(f"{name}.json", "{}") for name in ("archives", "proofs", "fields")]
-LISTED = ("changed", "made", "words", "numbers", "inputs", "large", "asked", "served", "texts", "growths")
-NO_VECTORS += [(f"{name}.json", "[]") for name in LISTED]
 NO_VECTOR = "0 vectors passed\n"
 
 
 def play(cases: str, folder: Path, document: str, plan: tracing.Plan = tracing.Plan()) -> tracing.Ended:
-    for name, text in (("archive.json", "[]"), ("cases.md", document), ("QUERIES.md", ""), *NO_VECTORS):
+    for name, text in (("archive.json", "[]"), ("cases.md", document), ("QUERIES.md", ""), ("vectors.md", "")):
         (folder / name).write_text(text, encoding="utf-8")
     return tracing.run([cases], plan, str(folder))
 

@@ -1,6 +1,6 @@
 #!/usr/bin/env python3
-"""Makes the files of this folder, and the copies that the gate plays: `vectors/make.py [PROGRAM]`, where PROGRAM is
-`./ats` at the top if it is not given.
+"""Makes the files of this folder, and the cases of them that the gate plays: `vectors/make.py [PROGRAM]`, where PROGRAM
+is `./ats` at the top if it is not given.
 
 Roots and honest proofs of both formats come from the program. The roots, and the proofs of format Two, must be those
 that this script makes itself. The changes of honest proofs, and the trees that no archive has, are made here. The
@@ -16,11 +16,11 @@ import tempfile
 from dataclasses import dataclass, field
 from pathlib import Path
 
+import blocks
 import client
 
 HERE = Path(__file__).resolve().parent
 TOP = HERE.parent
-PLAYED = TOP / 'crates' / 'ats_cases' / 'data'
 LONGEST = 2**26
 NOTHING = bytes(32)
 BLOCK = 64
@@ -2024,8 +2024,7 @@ def save(name, items):
     else:
         lines, ends = [json.dumps(item) for item in items], '[]'
     text = ends[0] + '\n' + ',\n'.join(lines) + '\n' + ends[1] + '\n'
-    for folder in (HERE, PLAYED):
-        (folder / name).write_text(text, encoding='ascii')
+    (HERE / name).write_text(text, encoding='ascii')
 
 
 def main(words):
@@ -2058,6 +2057,7 @@ def main(words):
                    for label, start, end in with_places(Reader(bytes.fromhex(proofs[name]['proof'])).proof())]
             for name in (f'{FOXES} by tnra', f'{FOXES} by tra', f'{COPIES}, in blocks, by tnra')
         })
+    blocks.save()
 
 
 if __name__ == '__main__':

@@ -1,8 +1,7 @@
 //! Plays the blocks of a document: its odd parts between fences. The rest is for people.
 
-use crate::fault::Fault;
-use crate::player::Player;
-use crate::said::number;
+use crate::running::run_line;
+use ats_play::{Fault, Player, number};
 use std::thread::Threads;
 
 /// Plays each block of the document.
@@ -49,7 +48,7 @@ fn play_lines<R: Threads + Sync>(
 ) -> Result<(), Fault> {
     player.begin(moves)?;
     for line in block.lines().skip(1) {
-        player.line(rt, line)?;
+        run_line(rt, player, line)?;
     }
     player.settle()
 }

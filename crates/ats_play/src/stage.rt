@@ -6,22 +6,23 @@ ghost use Rattle.ats_base.specs.MemoryLinks.{IsUnused};
 use crate::fault::Fault;
 use crate::said::{number, two};
 use ats_base::{Bytes, MemCaller, MemDoor, MemLink, MemShelf, MemSink};
-use ats_hash::Weak;
 use ats_tally::Shown;
-use ats_top::{run, run_with};
 use std::alloc::Global;
-use std::thread::Threads;
 
 /// The shelf, the links of the next command, how these and the sink behave, and the last command that was run.
 #[derive(Drop)]
-pub(crate) struct Stage {
-    pub(crate) shelf: MemShelf,
-    caller: MemCaller,
-    door: MemDoor,
+pub struct Stage {
+    /// The files.
+    pub shelf: MemShelf,
+    /// The links of the next command that calls.
+    pub caller: MemCaller,
+    /// The links of the next command that listens.
+    pub door: MemDoor,
     pub(crate) moves: usize,
     pub(crate) sink_fails: Option<u64>,
-    pub(crate) is_weak: bool,
-    pub(crate) shown: Option<Shown>,
+    /// Whether the sum of bytes is the hash function, and not SHA-256.
+    pub is_weak: bool,
+    shown: Option<Shown>,
 }
 
 impl Stage {
@@ -37,6 +38,57 @@ impl Stage {
             sink_fails: None,
             is_weak: false,
             shown: None,
+        }
+    }
+
+    /// What was shown instead of a command.
+    pub(crate) fn show(&mut self, shown: Shown) {
+        self.shown = Some(shown);
+    }
+
+    /// The last command should have printed this next.
+    pub(crate) fn want(&mut self, text: &str) -> Result<(), Fault> {
+        match self.shown.as_mut() {
+            Some(shown) => Ok(shown.want(text)?),
+            None => Err(Fault::Unread),
+        }
+    }
+
+    /// The last command should have printed these bytes next.
+    pub(crate) fn want_bytes(&mut self, bytes: &[u8]) -> Result<(), Fault> {
+        match self.shown.as_mut() {
+            Some(shown) => Ok(shown.want_bytes(bytes)?),
+            None => Err(Fault::Unread),
+        }
+    }
+
+    /// The last command should have printed the bytes of this file next.
+    pub(crate) fn want_file(&mut self, name: &str) -> Result<(), Fault> {
+        match (self.shown.as_mut(), self.shelf.bytes_of(name)) {
+            (Some(shown), Some(bytes)) => Ok(shown.want_bytes(bytes)?),
+            _ => Err(Fault::Unread),
+        }
+    }
+
+    /// The last command should have had this status.
+    pub(crate) fn want_status(&mut self, status: u8) -> Result<(), Fault> {
+        match self.shown.as_mut() {
+            Some(shown) => {
+                shown.want_status(status);
+                Ok(())
+            }
+            None => Err(Fault::Unread),
+        }
+    }
+
+    /// Whether a file or a link is as the last command should have left it.
+    pub(crate) fn note_fit(&mut self, fits: bool) -> Result<(), Fault> {
+        match self.shown.as_mut() {
+            Some(shown) => {
+                shown.note_fit(fits);
+                Ok(())
+            }
+            None => Err(Fault::Unread),
         }
     }
 
@@ -74,7 +126,8 @@ impl Stage {
         Ok(link.is_some_and(|link| link.written() == wanted))
     }
 
-    fn sink(&self, alloc: Global) -> Result<MemSink, Fault> {
+    /// The sink of the next command.
+    pub fn sink(&self, alloc: Global) -> Result<MemSink, Fault> {
         let mut sink = MemSink::new(alloc);
         sink.piece(self.moves.max(1));
         if let Some(call) = self.sink_fails {
@@ -83,25 +136,16 @@ impl Stage {
         Ok(sink)
     }
 
-    /// Runs a command over the shelf and the links, to be compared with what its case wants.
-    pub(crate) fn run<R: Threads + Sync>(
+    /// A command was run over the stage, with this status and these printed bytes. It is to be compared with what its
+    /// case wants.
+    pub fn ran(
         &mut self,
-        rt: &R,
         alloc: Global,
         said: &str,
-        words: &[String],
+        status: u8,
+        printed: &[u8],
     ) -> Result<(), Fault> {
-        let mut sink = self.sink(alloc)?;
-        let shelf = &mut self.shelf;
-        let (caller, door) = (&mut self.caller, &mut self.door);
-        let status = if self.is_weak {
-            run_with::<Weak, R, MemShelf, MemSink, MemCaller, MemDoor>(
-                rt, alloc, words, shelf, &mut sink, caller, door,
-            )
-        } else {
-            run(rt, alloc, words, shelf, &mut sink, caller, door)
-        };
-        self.shown = Some(Shown::new(alloc, said, status, sink.bytes())?);
+        self.shown = Some(Shown::new(alloc, said, status, printed)?);
         Ok(())
     }
 }

@@ -16,7 +16,8 @@ pub(crate) fn three(line: &str) -> Result<(&str, &str, &str), Fault> {
     Ok((first, second, rest))
 }
 
-pub(crate) fn number(word: &str) -> Result<usize, Fault> {
+/// A number in decimal digits.
+pub fn number(word: &str) -> Result<usize, Fault> {
     word.parse::<usize>().map_err(|_| Fault::Unread)
 }
 

@@ -32,6 +32,34 @@ fn with(alloc: Global, start: &[u8], times: usize, more: &[u8]) -> Result<Bytes,
     Ok(bytes)
 }
 
+/// `NAME TIMES FIRST HEX`: appends these bytes to the file, TIMES times, each time after a number in 4 bytes: FIRST, and
+/// then one more each time.
+pub(crate) fn count(alloc: Global, shelf: &mut MemShelf, line: &str) -> Result<(), Fault> {
+    let (name, times, rest) = three(line)?;
+    let (first, digits) = two(rest)?;
+    let more = hex::decode(alloc, digits).map_err(|_| Fault::Unread)?;
+    let start = shelf.bytes_of(name).ok_or(Fault::Unread)?;
+    let bytes = numbered(alloc, start, number(times)?, number(first)?, &more)?;
+    shelf.put(name, bytes.as_slice())?;
+    Ok(())
+}
+
+fn numbered(
+    alloc: Global,
+    start: &[u8],
+    times: usize,
+    first: usize,
+    more: &[u8],
+) -> Result<Bytes, Fault> {
+    let mut bytes = Bytes::of(alloc, start)?;
+    for time in 0..times {
+        let number = u32::try_from(first.wrapping_add(time)).map_err(|_| Fault::Unread)?;
+        bytes.extend(&number.to_be_bytes())?;
+        bytes.extend(more)?;
+    }
+    Ok(bytes)
+}
+
 /// `NAME HEX`: the file becomes these bytes.
 pub(crate) fn bytes(alloc: Global, shelf: &mut MemShelf, line: &str) -> Result<(), Fault> {
     let (name, digits) = two(line)?;
@@ -52,7 +80,7 @@ pub(crate) fn patch(alloc: Global, shelf: &mut MemShelf, line: &str) -> Result<(
 }
 
 /// These bytes with others in place of those from one place to another.
-pub(crate) fn spliced(
+fn spliced(
     alloc: Global,
     whole: &[u8],
     from: usize,

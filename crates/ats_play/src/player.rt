@@ -4,24 +4,27 @@ use crate::fault::Fault;
 use crate::files;
 use crate::said::{number, two, words};
 use crate::stage::Stage;
+use crate::texts::show_terms;
 use ats_base::MemShelf;
-use ats_tally::{Shown, Tally};
+use ats_tally::Tally;
 use std::alloc::Global;
-use std::thread::Threads;
 
 const ARCHIVE: &str = "examples/archive.json";
 
 /// Plays lines. Notes are kept from block to block.
 #[derive(Drop)]
-pub(crate) struct Player {
-    alloc: Global,
+pub struct Player {
+    /// What all that is played allocates from.
+    pub alloc: Global,
     notes: MemShelf,
-    stage: Stage,
+    /// What the next command is run over.
+    pub stage: Stage,
     tally: Tally,
 }
 
 impl Player {
-    pub(crate) fn new(alloc: Global, archive: &[u8]) -> Result<Self, Fault> {
+    /// A player whose shelves have the archive.
+    pub fn new(alloc: Global, archive: &[u8]) -> Result<Self, Fault> {
         let mut notes = MemShelf::new(alloc);
         notes.put(ARCHIVE, archive)?;
         Ok(Player {
@@ -32,12 +35,13 @@ impl Player {
         })
     }
 
-    pub(crate) fn tally(&self) -> &Tally {
+    /// The count of the commands that were settled.
+    pub fn tally(&self) -> &Tally {
         &self.tally
     }
 
     /// Begins a block, with a shelf that has the archive and no other file.
-    pub(crate) fn begin(&mut self, moves: usize) -> Result<(), Fault> {
+    pub fn begin(&mut self, moves: usize) -> Result<(), Fault> {
         self.stage = Stage::new(self.alloc, moves);
         let archive = self.notes.bytes_of(ARCHIVE).ok_or(Fault::Unread)?;
         self.stage.shelf.put(ARCHIVE, archive)?;
@@ -45,99 +49,110 @@ impl Player {
     }
 
     /// Counts the last command, if there is one that is not counted.
-    pub(crate) fn settle(&mut self) -> Result<(), Fault> {
+    pub fn settle(&mut self) -> Result<(), Fault> {
         match self.stage.take_shown(self.alloc) {
             Some(shown) => Ok(self.tally.count(self.alloc, &shown)?),
             None => Ok(()),
         }
     }
 
-    /// Does what the line says, or reports it.
-    pub(crate) fn line<R: Threads + Sync>(&mut self, rt: &R, line: &str) -> Result<(), Fault> {
-        match self.try_line(rt, line) {
-            Err(Fault::Unread) => Ok(self.tally.refuse(line)?),
+    /// Does what the line says, or reports it. If the line is that of a command, returns its words, which are then to be
+    /// run over the stage.
+    pub fn line(&mut self, line: &str) -> Result<Option<Vec<String>>, Fault> {
+        match self.try_line(line) {
+            Err(Fault::Unread) => {
+                self.tally.refuse(line)?;
+                Ok(None)
+            }
             done => done,
         }
     }
 
-    fn try_line<R: Threads + Sync>(&mut self, rt: &R, line: &str) -> Result<(), Fault> {
+    fn try_line(&mut self, line: &str) -> Result<Option<Vec<String>>, Fault> {
+        if let Some(said) = line.strip_prefix("$ ./ats") {
+            self.settle()?;
+            Ok(Some(words(self.alloc, &self.notes, said)?))
+        } else {
+            self.other_line(line)?;
+            Ok(None)
+        }
+    }
+
+    // A line that is no command.
+    fn other_line(&mut self, line: &str) -> Result<(), Fault> {
+        match line.strip_prefix(": ") {
+            Some(said) => {
+                let (verb, rest) = said.split_once(' ').unwrap_or((said, ""));
+                self.prepare_or_want(verb, rest)
+            }
+            None => self.want_line(line),
+        }
+    }
+
+    // An empty line is for people.
+    fn want_line(&mut self, line: &str) -> Result<(), Fault> {
         if line.is_empty() {
             return Ok(());
         }
-        if let Some(said) = line.strip_prefix("$ ./ats") {
-            return self.run(rt, said);
-        }
-        if let Some(said) = line.strip_prefix(": ") {
-            let (verb, rest) = said.split_once(' ').unwrap_or((said, ""));
-            return self.prepare_or_want(verb, rest);
-        }
-        let shown = self.shown()?;
-        shown.want(line)?;
-        Ok(shown.want("\n")?)
-    }
-
-    fn run<R: Threads + Sync>(&mut self, rt: &R, said: &str) -> Result<(), Fault> {
-        self.settle()?;
-        let words = words(self.alloc, &self.notes, said)?;
-        self.stage.run(rt, self.alloc, said, &words)
-    }
-
-    fn shown(&mut self) -> Result<&mut Shown, Fault> {
-        self.stage.shown.as_mut().ok_or(Fault::Unread)
+        self.stage.want(line)?;
+        self.stage.want("\n")
     }
 
     // Expectations of the last command are tried before the verbs that prepare the next.
     fn prepare_or_want(&mut self, verb: &str, rest: &str) -> Result<(), Fault> {
         match verb {
             "status" => self.want_status(rest),
-            "part" => Ok(self.shown()?.want(rest)?),
+            "part" => self.stage.want(rest),
             "prints" => self.want_bytes(rest),
+            "prints-file" => self.stage.want_file(rest),
             "lines" => self.want_lines(rest),
-            "holds" | "size" | "none" | "wrote" => self.want_file(verb, rest),
+            "holds" | "size" | "none" | "wrote" => self.want_left(verb, rest),
             _ => self.prepare(verb, rest),
         }
     }
 
     fn want_status(&mut self, rest: &str) -> Result<(), Fault> {
         let status = rest.parse::<u8>().map_err(|_| Fault::Unread)?;
-        self.shown()?.want_status(status);
-        Ok(())
+        self.stage.want_status(status)
     }
 
     // These bytes, printed as they are.
     fn want_bytes(&mut self, digits: &str) -> Result<(), Fault> {
         let bytes = hex::decode(self.alloc, digits).map_err(|_| Fault::Unread)?;
-        Ok(self.shown()?.want_bytes(&bytes)?)
+        self.stage.want_bytes(&bytes)
     }
 
     // `COUNT TEXT`: COUNT lines, each with its number.
     fn want_lines(&mut self, rest: &str) -> Result<(), Fault> {
         let (count, text) = two(rest)?;
-        let alloc = self.alloc;
-        let shown = self.shown()?;
         for at in 0..number(count)? {
             let place = at + 1;
-            let line = format!(in alloc; "{place} {text}\n")?;
-            shown.want(line.as_str())?;
+            let line = format!(in self.alloc; "{place} {text}\n")?;
+            self.stage.want(line.as_str())?;
         }
         Ok(())
     }
 
-    fn want_file(&mut self, verb: &str, rest: &str) -> Result<(), Fault> {
+    // Whether a file or a link is as it should be after the last command.
+    fn want_left(&mut self, verb: &str, rest: &str) -> Result<(), Fault> {
         let fits = match verb {
             "holds" => files::holds(&self.stage.shelf, &self.notes, rest)?,
             "size" => files::has_size(&self.stage.shelf, rest)?,
             "wrote" => self.stage.wrote(rest)?,
             _ => self.stage.shelf.bytes_of(rest).is_none(),
         };
-        self.shown()?.note_fit(fits);
-        Ok(())
+        self.stage.note_fit(fits)
     }
 
     fn prepare(&mut self, verb: &str, rest: &str) -> Result<(), Fault> {
         self.settle()?;
         match verb {
             "moves" => Ok(()),
+            "terms" => {
+                let shown = show_terms(self.alloc, rest)?;
+                self.stage.show(shown);
+                Ok(())
+            }
             "weak" => {
                 self.stage.is_weak = true;
                 Ok(())
@@ -166,6 +181,7 @@ impl Player {
             "keep" => files::copy(&mut self.notes, shelf, rest),
             "add" => files::add(alloc, shelf, rest),
             "join" => files::join(alloc, shelf, rest),
+            "count" => files::count(alloc, shelf, rest),
             "patch" => files::patch(alloc, shelf, rest),
             _ => Err(Fault::Unread),
         }

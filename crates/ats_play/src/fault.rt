@@ -4,7 +4,7 @@ use std::alloc::{AllocError, AllocFailed};
 
 /// Why a line of a document, or a file, was not played.
 #[derive(Clone, Copy, Debug, PartialEq, Eq)]
-pub(crate) enum Fault {
+pub enum Fault {
     /// Memory ran out.
     OutOfMemory,
     /// The line or the file cannot be read, or names something that is not there.
@@ -32,12 +32,6 @@ impl From<ats_base::OutOfMemory> for Fault {
 impl From<ats_terms::OutOfMemory> for Fault {
     fn from(_: ats_terms::OutOfMemory) -> Self {
         Fault::OutOfMemory
-    }
-}
-
-impl From<serde_json::Error> for Fault {
-    fn from(_: serde_json::Error) -> Self {
-        Fault::Unread
     }
 }
 
