@@ -28,55 +28,20 @@
 //!   as the tree has, of many checks, of one audit, and of the old texts as leaves and as many inner nodes; then how many
 //!   checks these are.
 //!
-//! The program stands on the rooms below it and promises nothing of its own. Each kind of work may change as a script
-//! needs it.
+//! The program stands on `ats_bench_parts` and `ats_bench_index`, which do the work, and promises nothing of its own.
 #![tactic(auto)]
 
-ghost use Rattle.std.specs.Prelude.{◌≡◌, ◌+◌, ◌<◌, ◌^◌};
-
-mod auditing;
-mod blocks;
-mod building;
-mod checking;
-mod growing;
-mod reading;
-mod texts;
-mod walking;
-
-use ats_hash::{Hash32, Sha, Steps};
-use auditing::time_audits;
-use blocks::time_blocks;
-use building::time_builds;
-use checking::{check_proof, hash_strings};
-use growing::time_growths;
-use reading::{feed_proof, hash_proof, read_proof};
-use std::alloc::Global;
+use ats_bench_index::{check_proof, time_audits, time_builds, time_growths, time_texts};
+use ats_bench_parts::{
+    feed_proof, hash_inner_nodes, hash_proof, hash_strings, read_proof, time_blocks, time_walks,
+};
 use std::process::ExitCode;
 use std::thread::Threads;
 use std::{env, io};
-use texts::time_texts;
-use walking::time_walks;
 
 fn words(rt: &HostRuntime) -> io::Result<Vec<String>> {
     let words = env::args(rt)?.skip(1).collect(rt.alloc())?;
     Ok(words)
-}
-
-// Hashes `count` inner nodes, each over the digest before it, twice.
-fn hash_nodes(count: u32, steps: &mut Steps)
-    requires { steps.old < 2 ^ 63 }
-    ensures { steps.new ≡ steps.old + count }
-{
-    let mut digest = [0u8; 32];
-    for _node in 0..count {
-        digest = Sha::digest2(1, &digest, &digest, steps);
-    }
-}
-
-fn nodes(alloc: Global, count: u32) -> u64 {
-    let mut steps = Steps::new(alloc);
-    hash_nodes(count, &mut steps);
-    steps.count()
 }
 
 fn number(word: &String) -> Option<u32> {
@@ -94,7 +59,7 @@ fn work(rt: &HostRuntime, threads: &(impl Threads + Sync), words: &[String]) -> 
             texts.as_str(),
             queries.as_str(),
         ),
-        [job, count] if job.as_str() == "nodes" => Some(nodes(alloc, number(count)?)),
+        [job, count] if job.as_str() == "nodes" => Some(hash_inner_nodes(alloc, number(count)?)),
         [job, entries, times] if job.as_str() == "read" => {
             read_proof(alloc, number(entries)?, number(times)?)
         }

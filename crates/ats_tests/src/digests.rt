@@ -1,35 +1,7 @@
-//! Digests as hexadecimal text, and those of two examples.
-
-use ats_hash::{Hash32, Sha, Steps, Weak};
-use std::alloc::Global;
+//! Digests as hexadecimal text.
 
 /// Whether the digest is the one of these hexadecimal digits.
-pub(crate) fn is_digest(digest: &[u8; 32], text: &str) -> bool {
+pub fn is_digest(digest: &[u8; 32], text: &str) -> bool {
     let mut bytes = [0; 32];
     hex::decode_to_slice(text, &mut bytes).is_ok() && *digest == bytes
-}
-
-fn is_sha_of_abc(alloc: Global) -> bool {
-    let mut steps = Steps::new(alloc);
-    let digest = Sha::digest2(0x61, b"b", b"c", &mut steps);
-    is_digest(
-        &digest,
-        "ba7816bf8f01cfea414140de5dae2223b00361a396177a9cb410ff61f20015ad",
-    )
-}
-
-fn is_weak_sum(alloc: Global) -> bool {
-    let mut steps = Steps::new(alloc);
-    let digest = Weak::digest2(1, &[2], &[3], &mut steps);
-    is_digest(
-        &digest,
-        "0006000000000000000000000000000000000000000000000000000000000000",
-    )
-}
-
-// FIPS 180-4: the digest of the example message "abc".
-#[test]
-fn digests_of_three_bytes(rt: HostRuntime) {
-    assert!(rt; is_sha_of_abc(rt.alloc()));
-    assert!(rt; is_weak_sum(rt.alloc()));
 }

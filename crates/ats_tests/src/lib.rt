@@ -1,28 +1,24 @@
-//! The tests of the rooms below the commands.
+//! The tests of the rooms below the index, and what these share with the tests of the rooms above.
 //!
-//! They cover what no contract says and no case of the commands prints: values of other implementations, weights at
-//! their ends, refusals at limits, a collision that an audit finds, and which types cross threads. They show that the
-//! calls that no command makes succeed while memory is available, and that several threads build what one thread
-//! builds. The cases of the commands are in `ats_cases`. A crate with tests of its own is proved twice, once with them,
-//! so these are in a crate of their own and use only public calls. Each is a table of data that one helper without a
-//! contract goes through, since tests are proved too. The room has no code of its own and promises nothing.
+//! They cover what no contract says and no case of the commands prints: values of other implementations, and weights at
+//! their ends. They show that calls which no command makes succeed while memory is available. The cases of the commands
+//! are in `ats_cases`. A crate with tests of its own is proved twice, once with them, so these are in a crate of their
+//! own and use only public calls. Each is a table of data that one helper without a contract goes through, since tests
+//! are proved too. The room promises nothing.
 #![tactic(auto)]
 
-#[cfg(test)]
-mod auditing;
-#[cfg(test)]
-mod building;
 #[cfg(test)]
 mod calls;
 #[cfg(test)]
 mod chains;
-#[cfg(test)]
 mod digests;
+mod examples;
 #[cfg(test)]
-mod foxes;
+mod hashes;
 #[cfg(test)]
 mod numbers;
 #[cfg(test)]
-mod sharing;
-#[cfg(test)]
 mod trees;
+
+pub use digests::is_digest;
+pub use examples::foxes;
