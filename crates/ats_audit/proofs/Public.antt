@@ -1,7 +1,5 @@
 -- What other rooms may cite of the proofs of this one. All other files here are private.
 
--- a collision extracted from a proof is two different strings with equal digests
-pub use Rattle.ats_audit.proofs.Told.{extract-collides}
 -- if a proof has right rows or a collision, and extraction finds no collision, its rows are right
 pub use Rattle.ats_audit.proofs.Told.{right_rows}
 -- for each archive with the root, an accepted proof has right rows or its audit reports a collision

@@ -18,12 +18,16 @@ use Rattle.ats_proof.specs.Ranges.{IsInRange}
 use Rattle.ats_client.specs.Presented.{Presented, presented, lane_of, lanes_of}
 use Rattle.ats_client.specs.Groups.{IsListRight}
 use Rattle.ats_client.specs.Bracketing.{bounds_of}
-use Rattle.ats_client.specs.Accepts.{Accepts}
+use Rattle.ats_base.specs.Rules.{AreKept}
+use Rattle.ats_client.specs.Accepts.{section_rules, Accepts}
+use Rattle.ats_client.specs.Rooted.{AreRooted}
 use Rattle.ats_client.specs.Rows.{rows_of}
 use Rattle.ats_client.specs.Strings.{strings_of, extract, IsOwn, IsBound}
 use Rattle.ats_client.specs.Headline.{AreRight, IsTopOrCollides}
 use Rattle.ats_client.proofs.Bracketing.{own_doc}
 use Rattle.ats_client.proofs.Kept as kept
+use Rattle.ats_client.proofs.Kept.{sections_rooted}
+use Rattle.ats_client.proofs.Sectioned.{accepted_sections}
 use Rattle.ats_client.proofs.Descent.{whole-binds, whole-extracts}
 use Rattle.ats_client.proofs.HeadlineBrackets.{brackets_hold}
 use Rattle.ats_client.proofs.HeadlineRows.{NamesMet, settled_rows_right}
@@ -62,14 +66,24 @@ holds_or_some : (P : Type 0) (Q : Difference Place → Type 0) (difference : Opt
 holds_or_some P Q None holds = inl holds
 holds_or_some P Q (Some c) holds = inr refl
 
+-- if the rules of what a proof shows are kept, all of it is the archive's own, or there is a collision
+pub own_or_collides : (H : List ℕ → List ℕ) → ((m : List ℕ) → length (H m) ≡ 32) → (root : List ℕ) (query : List (List ℕ × ℕ)) (proof : Proof) → IsQuery query → IsInRange proof
+    → length proof.lists ≡ present_in proof.slots → AreKept (section_rules H root query proof) → (archive : Archive) → AreTexts archive.texts → root_of H archive ≡ root
+    → IsOwn H archive query proof ⊎ IsSome (extract H archive query proof)
+own_or_collides H sized root query proof asked range size kept archive are same =
+    let under : AreRooted H (root_of H archive) query proof = subst (λ (digest : List ℕ). AreRooted H digest query proof) (sym same) (sections_rooted H root query proof kept) in
+    let bound : IsBound H archive query proof = whole-binds H sized archive query proof are asked range (sym size) under in
+    let found : extract H archive query proof ≡ first_difference (ours H archive query) (strings_of H query proof) = whole-extracts H archive query proof bound in
+    elim (holds_or_some (IsOwn H archive query proof) (λ c. H c.theirs ≡ H c.ours) (first_difference (ours H archive query) (strings_of H query proof)) bound) [
+      | inl own ↦ inl own
+      | inr some ↦ inr (subst (λ (difference : Option (Difference Place)). IsSome difference) (sym found) some)
+    ]
+
 -- the headline
 pub top_or_collides : (H : List ℕ → List ℕ) → ((m : List ℕ) → length (H m) ≡ 32) → (root : List ℕ) (query : List (List ℕ × ℕ)) (r : ℕ) (proof : Proof)
     → IsQuery query → IsInRange proof → length proof.lists ≡ present_in proof.slots → AreDocumentsOf proof proof.docs → Accepts H root query r proof → IsTopOrCollides H root query r proof
 top_or_collides H sized root query r proof asked range size parts accepts archive are same =
-    let under : Accepts H (root_of H archive) query r proof = subst (λ (digest : List ℕ). Accepts H digest query r proof) (sym same) accepts in
-    let bound : IsBound H archive query proof = whole-binds H sized archive query proof are asked range (sym size) (kept.rooted H (root_of H archive) query r proof under) in
-    let found : extract H archive query proof ≡ first_difference (ours H archive query) (strings_of H query proof) = whole-extracts H archive query proof bound in
-    elim (holds_or_some (IsOwn H archive query proof) (λ c. H c.theirs ≡ H c.ours) (first_difference (ours H archive query) (strings_of H query proof)) bound) [
+    elim (own_or_collides H sized root query proof asked range size (accepted_sections H root query proof r accepts) archive are same) [
       | inl own ↦ inl (own_rows_right H archive query r root proof are asked range size parts accepts own)
-      | inr some ↦ inr (subst (λ (difference : Option (Difference Place)). IsSome difference) (sym found) some)
+      | inr some ↦ inr some
     ]

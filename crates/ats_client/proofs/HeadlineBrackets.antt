@@ -1,10 +1,8 @@
 -- If all that is shown is the archive's own, the brackets of met documents contain their scores, by either algorithm.
 use Rattle.std.proofs.Common.{◌≡◌, ◌<◌, ◌+◌, ◌*◌, ◌∙◌, ℕ, zero, suc, List, [], ◌∷◌, length, map, get_or, slice_get, Option, Some, None, refl, sym, ap, ap₂, subst, arith, add-zero}
-use Rattle.std.specs.List.{All}
 use Rattle.std.proofs.lemmas.List.{length-map, get_or-map}
 use Rattle.std.proofs.lemmas.Option.{get_or_from_slice_get}
 use Rattle.std.proofs.lemmas.Simd.{map-map}
-use Rattle.ats_terms.specs.Terms.{IsTerm}
 use Rattle.ats_terms.specs.Query.{IsQuery}
 use Rattle.ats_lists.specs.Lists.{list}
 use Rattle.ats_lists.specs.declared.entry.Entry.{Entry}
@@ -15,22 +13,18 @@ use Rattle.ats_bound.specs.Lookup.{Table, looked_score, looked_score_from, looke
 use Rattle.ats_bound.specs.Ranked.{CutLane, AreScores, HoldsScore, cut_of, impact_in}
 use Rattle.ats_bound.proofs.Public.{lookup_holds, bracket_holds}
 use Rattle.ats_commit.specs.Archive.{Archive}
-use Rattle.ats_commit.specs.Own.{AreTexts, IsDocumentOf}
+use Rattle.ats_commit.specs.Own.{AreTexts}
 use Rattle.ats_commit.specs.Ours.{asked_term}
 use Rattle.ats_proof.specs.Value.{TermsSection, Documents, Proof, AreDocuments, AreDocumentsOf, present_in}
-use Rattle.ats_proof.specs.Ranges.{IsInRange, IsSectionInRange}
+use Rattle.ats_proof.specs.Ranges.{IsInRange}
 use Rattle.ats_client.specs.Bracketing.{impact_shown, impacts_shown, bounds_in}
-use Rattle.ats_client.specs.Documents.{MetDocument, documents_from, documents_in, term_shown, present_numbers, IsDocumentRight, AreDocumentsRight}
-use Rattle.ats_client.specs.Groups.{AreSlotsRight, met_at, slot_at}
+use Rattle.ats_client.specs.Documents.{MetDocument, documents_from, AreDocumentsRight}
+use Rattle.ats_client.specs.Groups.{AreSlotsRight, met_at}
 use Rattle.ats_client.specs.Presented.{Presented, presented, lane_of, lanes_of}
-use Rattle.ats_client.specs.Slots.{ShowsTerm}
-use Rattle.ats_client.specs.Strings.{IsOwnDocument, IsOwn}
-use Rattle.ats_client.proofs.Descent.{IsAsked, asked-terms}
-use Rattle.ats_client.proofs.DescentDocuments.{each-known, each-ranged}
+use Rattle.ats_client.specs.Strings.{IsOwn}
 use Rattle.ats_client.proofs.OwnImpacts.{impact_own}
 use Rattle.ats_client.proofs.OwnLanes.{own_lane, own_lanes}
-use Rattle.ats_client.proofs.PresentNumbers.{presented_numbers}
-use Rattle.ats_client.proofs.Presents.{at_place}
+use Rattle.ats_client.proofs.OwnSlots.{HasOwnSlot, own_slot}
 use Rattle.ats_client.proofs.Scored.{impacts_at}
 
 -- the met document at a place, with its leaf and its section
@@ -84,34 +78,17 @@ module _ (H : List ℕ → List ℕ) (archive : Archive) (query : List (List ℕ
     known : AreDocuments (length proof.met) (present_in proof.slots) docs
     known = subst (AreDocumentsOf proof) shown parts
 
-    each_right : All (IsDocumentRight H query (present_numbers proof)) (documents_from proof.met docs.leaves docs.sections)
-    each_right = subst (λ (d : Option Documents). All (IsDocumentRight H query (present_numbers proof)) (documents_in proof.met d)) shown right
-
     -- the impact of a present term in a met document
     true_impact : (i : ℕ) → i < length proof.met → (k : ℕ) → k < length ones → impacts_shown proof.met docs.sections k (met_at proof.met i) ≡ impact_in (met_at proof.met i) (entries_at k)
     true_impact i low k inside =
         let d : Presented = record { number = 0; weight = 0; entry = record { term = []; f = 0; root = [] }; prefix = record { entries = []; digests = [] } } in
-        let number : ℕ = (get_or ones k d).number in
-        let term : List ℕ = asked_term query number in
+        let term : List ℕ = asked_term query (get_or ones k d).number in
         let at = one_at proof.met docs.leaves docs.sections i known.leaf_each known.section_each low in
         let one : MetDocument = at.one in
         let doc : met_at proof.met i ≡ one.doc = get_or_from_slice_get proof.met i one.doc 0 at.doc in
-        let numbers = presented_numbers query proof size in
-        let named : get_or (present_numbers proof) k 0 ≡ number =
-        ap (λ (ns : List ℕ). get_or ns k 0) (sym numbers) ∙ get_or-map (λ (one : Presented). one.number) ones k d 0 inside in
-        let many : k < length (present_numbers proof) = omega (arith, inside, length-map ones (λ (one : Presented). one.number), ap (λ (ns : List ℕ). length ns) numbers) in
-        let is_asked : IsAsked query proof.dict (get_or ones k d) = asked-terms query proof asked slots range enough k d inside in
-        let is_term : IsTerm term = subst IsTerm is_asked.same is_asked.term in
-        let ranges = range.shown docs shown in
-        let owns = own.documents docs shown in
-        let is_right = at_place (IsDocumentRight H query (present_numbers proof)) (documents_from proof.met docs.leaves docs.sections) i one each_right at.there in
-        let is_known = at_place (λ (o : MetDocument). IsDocumentOf H texts o.doc o.leaf) (documents_from proof.met docs.leaves docs.sections) i one
-        (each-known H archive are proof.met docs.leaves docs.sections ranges.each owns.leaves) at.there in
-        let is_ranged : IsSectionInRange one.section = at_place (λ (o : MetDocument). IsSectionInRange o.section) (documents_from proof.met docs.leaves docs.sections) i one
-        (each-ranged proof.met docs.leaves docs.sections ranges.sections) at.there in
-        let is_own : IsOwnDocument texts one = at_place (IsOwnDocument texts) (documents_from proof.met docs.leaves docs.sections) i one owns.each at.there in
-        let shows = subst (λ n. ShowsTerm (map term_shown one.section.leaves) (asked_term query n) (slot_at one.section.slots k)) named (is_right.slots k many) in
-        let own_impact : impact_shown one.section k ≡ impact_in one.doc (list texts term) = impact_own texts one.doc is_known.inside one.section is_ranged.each is_own k term is_term shows in
+        let slot : HasOwnSlot texts one k term = own_slot H archive query proof are asked range enough slots size own right docs shown i one at.there k inside d in
+        let own_impact : impact_shown one.section k ≡ impact_in one.doc (list texts term) =
+        impact_own texts one.doc slot.inside one.section slot.ranges slot.leaves k term slot.is_term slot.shows in
         ap (impacts_shown proof.met docs.sections k) doc
         ∙ impacts_at proof.met docs.sections i one.doc one.section k range.ids.rise at.doc at.part
         ∙ own_impact

@@ -8,9 +8,35 @@ use Rattle.ats_client.specs.Groups.{IsOpened, IsDictionary, AreSlotsRight, IsLis
 use Rattle.ats_client.specs.Documents.{IsTermsTree, met_documents, present_numbers, IsDocumentRight, IsDocsTree, IsDocsFault, AreDocumentsRight, IsDocumentsFault}
 use Rattle.ats_client.specs.Rooted.{AreRooted}
 use Rattle.ats_client.specs.Sections.{AreRebuilt}
-use Rattle.ats_client.specs.Accepts.{Accepts, IsFirstRefusal}
+use Rattle.ats_base.specs.Rules.{AreKept}
+use Rattle.ats_client.specs.Accepts.{section_rules, Accepts, IsFirstRefusal}
 use Rattle.ats_client.specs.declared.refusal.Refusal.{Refusal}
 use Rattle.ats_client.specs.declared.refusal.Refusal.TheVariants.{NotSettled}
+use Rattle.ats_client.proofs.Sectioned.{accepted_sections}
+
+-- ---- the rules of what a proof shows
+
+module _ (H : List ℕ → List ℕ) (root : List ℕ) (query : List (List ℕ × ℕ)) (proof : Proof) (kept : AreKept (section_rules H root query proof)) where
+  -- each section rebuilds to the root that the proof has for it
+  pub sections_rooted : AreRooted H root query proof
+  sections_rooted = record {
+    header = kept.0.commits;
+    dictionary = kept.1.0;
+    slots = kept.1.1.0;
+    lists = All-weaker (IsListRight H proof.format proof.met) (IsListRooted H proof.format proof.met) (λ one right. right.root) (presented query proof) kept.1.1.1.0;
+    documents = kept.1.1.1.1.1.0;
+    terms = All-weaker (IsDocumentRight H query (present_numbers proof)) (IsTermsTree H) (λ one right. right.tree) (met_documents proof) kept.1.1.1.1.1.1.0;
+  }
+
+  pub sections_rebuilt : AreRebuilt H query proof
+  sections_rebuilt = record {
+    count = kept.0.slots;
+    dictionary = kept.1.0;
+    slots = kept.1.1.0;
+    lists = kept.1.1.1.0;
+    documents = kept.1.1.1.1.1.0;
+    terms = sections_rooted.terms;
+  }
 
 module _ (H : List ℕ → List ℕ) (root : List ℕ) (query : List (List ℕ × ℕ)) (r : ℕ) (proof : Proof) where
   pub accepts_each : IsOpened H root query proof → IsDictionary H proof → AreSlotsRight query proof → AreListsRight H query proof
@@ -75,21 +101,7 @@ module _ (H : List ℕ → List ℕ) (root : List ℕ) (query : List (List ℕ �
 
     -- each section rebuilds to the root that the proof has for it
     pub rooted : AreRooted H root query proof
-    rooted = record {
-      header = opened.commits;
-      dictionary = dictionary;
-      slots = slots;
-      lists = All-weaker (IsListRight H proof.format proof.met) (IsListRooted H proof.format proof.met) (λ one right. right.root) (presented query proof) lists;
-      documents = tree;
-      terms = All-weaker (IsDocumentRight H query (present_numbers proof)) (IsTermsTree H) (λ one right. right.tree) (met_documents proof) documents;
-    }
+    rooted = sections_rooted H root query proof (accepted_sections H root query proof r accepts)
 
     pub rebuilt : AreRebuilt H query proof
-    rebuilt = record {
-      count = opened.slots;
-      dictionary = dictionary;
-      slots = slots;
-      lists = lists;
-      documents = tree;
-      terms = All-weaker (IsDocumentRight H query (present_numbers proof)) (IsTermsTree H) (λ one right. right.tree) (met_documents proof) documents;
-    }
+    rebuilt = sections_rebuilt H root query proof (accepted_sections H root query proof r accepts)

@@ -13,6 +13,8 @@ mod Noting
 mod Bounding
 mod Faults
 mod Bracketing
+mod TwoRuns
+mod Sectioned
 mod Kept
 mod Exact
 mod OneListFault
@@ -25,6 +27,8 @@ mod HeadlineTerms
 mod HeadlineRows
 mod OwnLanes
 mod OwnImpacts
+mod OwnSlots
+mod OwnCounts
 mod HeadlineBrackets
 mod Headline
 mod AnswerRows
@@ -39,3 +43,5 @@ mod DescentTrees
 mod DescentDocuments
 mod Descent
 mod Sections
+mod FewItems
+mod Collisions

@@ -9,11 +9,13 @@ use Rattle.ats_client.specs.declared.refusal.Refusal.TheVariants.{OtherRoot, Slo
 use Rattle.ats_client.specs.Bracketing.{bounds_of}
 use Rattle.ats_client.specs.Presented.{lanes_of}
 use Rattle.ats_client.specs.Groups.{IsOpeningFault, IsDictFault, IsSlotsFault, IsSlotRight, IsMetFault, IsRowsFault, IsSettledFault, met_at}
-use Rattle.ats_client.specs.Accepts.{rules, Accepts, IsFirstRefusal}
+use Rattle.ats_client.specs.Accepts.{section_rules, row_rules, rules, Accepts, IsFirstRefusal}
 use Rattle.ats_client.proofs.Exact.{not_opened, not_dictionary, not_slots, not_met, not_rows, not_settled}
 use Rattle.ats_client.proofs.Least.{one_least}
 use Rattle.ats_client.proofs.OneListFault.{not_lists, one_out, one_again, out_or_again, one_lists}
 use Rattle.ats_client.proofs.OneDocumentFault.{not_docs, one_docs, not_documents, one_documents}
+use Rattle.ats_client.proofs.TwoRuns.{exact_both}
+use Rattle.ats_base.specs.Rules.{AreKept, IsFirstFault}
 use Rattle.ats_base.proofs.Public.{AreExact, not_kept, one_first}
 
 one_opening : (H : List ℕ → List ℕ) (root : List ℕ) (query : List (List ℕ × ℕ)) (proof : Proof) (a b : Refusal)
@@ -60,8 +62,8 @@ one_settled bounds lanes met answer r NotSettled _ is also = absurd also
 one_settled bounds lanes met answer r _ b is also = absurd is
 
 -- each group of rules fails in one way, and is then not kept
-exact : (H : List ℕ → List ℕ) (root : List ℕ) (query : List (List ℕ × ℕ)) (r : ℕ) (proof : Proof) → AreExact (rules H root query r proof)
-exact H root query r proof =
+exact_sections : (H : List ℕ → List ℕ) (root : List ℕ) (query : List (List ℕ × ℕ)) (proof : Proof) → AreExact (section_rules H root query proof)
+exact_sections H root query proof =
     let lanes : List ShownLane = lanes_of query proof in (
       record { breaks = not_opened H root query proof; one = one_opening H root query proof },
       (
@@ -74,19 +76,32 @@ exact H root query r proof =
               record { breaks = not_met lanes proof.met; one = one_unmet lanes proof.met },
               (
                 record { breaks = not_docs H proof.header proof.met proof.docs; one = one_docs H proof.header proof.met proof.docs },
-                (
-                  record { breaks = not_documents H query proof; one = one_documents H query proof },
-                  (
-                    record { breaks = not_rows proof.met proof.answer; one = one_row proof.met proof.answer },
-                    (record { breaks = not_settled (bounds_of proof) lanes proof.met proof.answer r; one = one_settled (bounds_of proof) lanes proof.met proof.answer r }, tt),
-                  ),
-                ),
+                (record { breaks = not_documents H query proof; one = one_documents H query proof }, tt),
               ),
             ),
           ),
         ),
       ),
     )
+
+exact_rows : (query : List (List ℕ × ℕ)) (r : ℕ) (proof : Proof) → AreExact (row_rules query r proof)
+exact_rows query r proof =
+    let lanes : List ShownLane = lanes_of query proof in (
+      record { breaks = not_rows proof.met proof.answer; one = one_row proof.met proof.answer },
+      (record { breaks = not_settled (bounds_of proof) lanes proof.met proof.answer r; one = one_settled (bounds_of proof) lanes proof.met proof.answer r }, tt),
+    )
+
+exact : (H : List ℕ → List ℕ) (root : List ℕ) (query : List (List ℕ × ℕ)) (r : ℕ) (proof : Proof) → AreExact (rules H root query r proof)
+exact H root query r proof = exact_both (section_rules H root query proof) (row_rules query r proof) (exact_sections H root query proof) (exact_rows query r proof)
+
+-- the rules of what a proof shows: one fails first, and then not all are kept
+pub one_section : (H : List ℕ → List ℕ) (root : List ℕ) (query : List (List ℕ × ℕ)) (proof : Proof) (a b : Refusal)
+    → IsFirstFault (section_rules H root query proof) a → IsFirstFault (section_rules H root query proof) b → a ≡ b
+one_section H root query proof a b is also = one_first (section_rules H root query proof) a b (exact_sections H root query proof) is also
+
+pub section_not_kept : (H : List ℕ → List ℕ) (root : List ℕ) (query : List (List ℕ × ℕ)) (proof : Proof) (refusal : Refusal)
+    → IsFirstFault (section_rules H root query proof) refusal → AreKept (section_rules H root query proof) → ⊥
+section_not_kept H root query proof refusal is kept = not_kept (section_rules H root query proof) refusal (exact_sections H root query proof) is kept
 
 pub one_refusal : (H : List ℕ → List ℕ) (root : List ℕ) (query : List (List ℕ × ℕ)) (r : ℕ) (proof : Proof) (a b : Refusal)
     → IsFirstRefusal H root query r proof a → IsFirstRefusal H root query r proof b → a ≡ b

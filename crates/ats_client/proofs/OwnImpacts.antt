@@ -1,4 +1,5 @@
--- The impacts that are shown of a document whose shown leaves are its own: they are those of the lists.
+-- What is shown of a document whose shown leaves are its own: which terms it has, and their impacts, which are those of the
+-- lists.
 use Rattle.std.proofs.Common.{◌≡◌, ◌<◌, ◌+◌, ◌∙◌, ℕ, true, false, nat_lt, cond, List, [], length, map, get_or, slice_get, Some, option_map, sym, ap, subst, inl, inr}
 use Rattle.std.specs.List.{All}
 use Rattle.std.proofs.lemmas.Bool.{cases_Bool, cond-true, cond-false, lt-ltb}
@@ -47,21 +48,30 @@ module _ (texts : List (List ℕ)) (doc : ℕ) (low : doc < length texts) where
     abbrev impact_there : ℕ
     impact_there = get_or (map (λ (leaf : ShownTerm). leaf.term.1) section.leaves) slot.index 0
 
-    present_impact : slot.present ≡ true → impact_shown section i ≡ impact_in doc (list texts term)
-    present_impact present =
+    -- the leaf that shows the term, with its impact in the document
+    record ShowsImpact : Type 0 where
+      leaf : ShownTerm
+      there : slice_get section.leaves slot.index ≡ Some leaf
+      same : leaf.term.0 ≡ term
+      is : IsImpactOf texts doc leaf.term
+
+    present_leaf_own : slot.present ≡ true → ShowsImpact
+    present_leaf_own present =
         let was = present_leaf term_shown section.leaves term slot shows present in
         let t : ShownTerm = was.0 in
-        let there : impact_there ≡ t.term.1 =
-        get_or_from_slice_get (map (λ (leaf : ShownTerm). leaf.term.1) section.leaves) slot.index t.term.1 0
-        (slice_get-map (λ (leaf : ShownTerm). leaf.term.1) section.leaves slot.index ∙ ap (option_map (λ (leaf : ShownTerm). leaf.term.1)) was.1) in
         let range : IsTermInRange t = at_place IsTermInRange section.leaves slot.index t ranges was.1 in
-        let is : IsImpactOf texts doc t.term =
-        leaf_tells_impact texts doc t.position t.term (subst IsTerm (sym was.2) is_term) range.small
-        (leaf_own shown_term (terms_leaves (doc_terms texts doc)) section.leaves slot.index t own was.1) in
-        cond-true slot.present impact_there 0 present ∙ there ∙ sym (impact_listed t.term is) ∙ ap (λ s. impact_in doc (list texts s)) was.2
+        record {
+          leaf = t;
+          there = was.1;
+          same = was.2;
+          is =
+              leaf_tells_impact texts doc t.position t.term (subst IsTerm (sym was.2) is_term) range.small
+              (leaf_own shown_term (terms_leaves (doc_terms texts doc)) section.leaves slot.index t own was.1);
+        }
 
-    absent_impact : slot.present ≡ false → impact_shown section i ≡ impact_in doc (list texts term)
-    absent_impact absent =
+    -- if the slot says that the term is absent, the document does not have it
+    absent_none : slot.present ≡ false → count term (get_or texts doc []) ≡ 0
+    absent_none absent =
         let around = absent_leaves term_shown section.leaves term slot shows absent in
         let lower : ShownTerm = around.0 in
         let upper : ShownTerm = around.1 in
@@ -76,9 +86,29 @@ module _ (texts : List (List ℕ)) (doc : ℕ) (low : doc < length texts) where
               subst (λ p. slice_get leaves p ≡ Some (leaf_bytes upper.term)) around.2.neighbours
               (leaf_own shown_term leaves section.leaves (slot.index + 1) upper own around.2.second);
         } in
-        let none : count term (get_or texts doc []) ≡ 0 =
-        neighbours_tell_document texts doc lower.position lower.term upper.term term neighbours around.2.above around.2.below in
-        cond-false slot.present impact_there 0 absent ∙ sym (none_listed term none)
+        neighbours_tell_document texts doc lower.position lower.term upper.term term neighbours around.2.above around.2.below
+
+    -- a slot says whether the document has the term
+    pub slot_own : slot.present ≡ nat_lt 0 (count term (get_or texts doc []))
+    slot_own = elim (cases_Bool slot.present) [
+      | inl present ↦
+          let shown = present_leaf_own present in
+          let some : 0 < count term (get_or texts doc []) = subst (λ (t : List ℕ). 0 < count t (get_or texts doc [])) shown.same shown.is.some in
+          present ∙ sym (lt-ltb 0 (count term (get_or texts doc [])) some)
+      | inr absent ↦ absent ∙ sym (ap (nat_lt 0) (absent_none absent))
+    ]
+
+    present_impact : slot.present ≡ true → impact_shown section i ≡ impact_in doc (list texts term)
+    present_impact present =
+        let shown = present_leaf_own present in
+        let t : ShownTerm = shown.leaf in
+        let there : impact_there ≡ t.term.1 =
+        get_or_from_slice_get (map (λ (leaf : ShownTerm). leaf.term.1) section.leaves) slot.index t.term.1 0
+        (slice_get-map (λ (leaf : ShownTerm). leaf.term.1) section.leaves slot.index ∙ ap (option_map (λ (leaf : ShownTerm). leaf.term.1)) shown.there) in
+        cond-true slot.present impact_there 0 present ∙ there ∙ sym (impact_listed t.term shown.is) ∙ ap (λ s. impact_in doc (list texts s)) shown.same
+
+    absent_impact : slot.present ≡ false → impact_shown section i ≡ impact_in doc (list texts term)
+    absent_impact absent = cond-false slot.present impact_there 0 absent ∙ sym (none_listed term (absent_none absent))
 
     -- what a slot shows is the term's impact in the document
     pub impact_own : impact_shown section i ≡ impact_in doc (list texts term)

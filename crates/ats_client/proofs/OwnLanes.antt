@@ -146,7 +146,7 @@ module _ (H : List ℕ → List ℕ) (format : Format) (texts : List (List ℕ))
   abbrev pub AllOf : List Presented → Type 0
   AllOf terms = All (HasOwnList texts query) terms × All (IsOwnList texts query met) terms × All (IsListRight H format met) terms
 
-  front_is : (one : Presented) → HasOwnList texts query one → IsOwnList texts query met one → IsListRight H format met one
+  pub front_is : (one : Presented) → HasOwnList texts query one → IsOwnList texts query met one → IsListRight H format met one
       → map (named met) one.prefix.entries ≡ take (length one.prefix.entries) (list texts (asked_term query one.number))
   front_is one is own right =
       let entries : List Entry = one.prefix.entries in

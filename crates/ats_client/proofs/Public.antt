@@ -10,3 +10,37 @@ pub use Rattle.ats_client.proofs.OneRejection.{one_rejection}
 pub use Rattle.ats_client.proofs.HeadlineBrackets.{looked_same}
 -- an accepted proof in range has, for each archive with the root, right rows or a collision
 pub use Rattle.ats_client.proofs.Headline.{top_or_collides}
+-- if the rules of what a proof shows are kept, all of it is the archive's own or there is a collision
+pub use Rattle.ats_client.proofs.Headline.{own_or_collides}
+-- if the rules of what a proof shows are kept, each section rebuilds to the root that the proof has for it
+pub use Rattle.ats_client.proofs.Kept.{sections_rebuilt}
+-- if a rule of what a proof shows fails first, not all are kept
+pub use Rattle.ats_client.proofs.OneRefusal.{section_not_kept}
+-- one rule of what a proof shows fails first
+pub use Rattle.ats_client.proofs.OneRefusal.{one_section}
+-- no rule of what a proof shows fails as not settled
+pub use Rattle.ats_client.proofs.Sectioned.{never_unsettled}
+-- an accepted proof keeps the rules of what it shows
+pub use Rattle.ats_client.proofs.Sectioned.{accepted_sections}
+-- a refused proof without rows breaks a rule of what it shows, or keeps them and is not settled
+pub use Rattle.ats_client.proofs.Sectioned.{refused_sections}
+-- the rules of what a proof shows are kept, and all of that is the archive's own
+pub use Rattle.ats_client.proofs.OwnCounts.{ShowsOwn}
+-- a number below n is one of the numbers from 0 on, n of them
+pub use Rattle.ats_client.proofs.OwnCounts.{below_in}
+-- no document has a term whose slot says that it is absent
+pub use Rattle.ats_client.proofs.OwnCounts.{absent_lacks}
+-- each document with all terms of the query is met, if a whole list is shown
+pub use Rattle.ats_client.proofs.OwnCounts.{whole_meets}
+-- a met document is one of the texts
+pub use Rattle.ats_client.proofs.OwnCounts.{met_inside}
+-- the slots of a met document say which of the present terms it has
+pub use Rattle.ats_client.proofs.OwnCounts.{slots_tell}
+-- a proof that bytes spell has at most 2^26 items
+pub use Rattle.ats_client.proofs.FewItems.{few_items}
+-- a collision extracted from a proof is two different strings with equal digests
+pub use Rattle.ats_client.proofs.Collisions.{extract-collides}
+-- a list whose first item was taken is that item before the rest
+pub use Rattle.ats_client.proofs.Counts.{taken}
+-- if extraction finds no collision, there is none
+pub use Rattle.ats_client.proofs.Collisions.{none_some}

@@ -1,5 +1,5 @@
 -- When a proof is accepted, and by which rule it is refused otherwise.
-use Rattle.std.specs.Prelude.{ℕ, List, [], ◌∷◌}
+use Rattle.std.specs.Prelude.{ℕ, List, [], ◌∷◌, ◌++◌}
 use Rattle.ats_proof.specs.Value.{Proof}
 use Rattle.ats_client.specs.declared.refusal.Refusal.{Refusal}
 use Rattle.ats_client.specs.Presented.{lanes_of}
@@ -8,9 +8,9 @@ use Rattle.ats_base.specs.Rules.{Group, AreKept, IsFirstFault}
 use Rattle.ats_client.specs.Documents.{IsDocsTree, IsDocsFault, AreDocumentsRight, IsDocumentsFault}
 use Rattle.ats_client.specs.Groups.{IsOpened, IsOpeningFault, IsDictionary, IsDictFault, AreSlotsRight, IsSlotsFault, AreListsRight, IsListsFault, AreAllMet, IsMetFault, AreRowsRight, IsRowsFault, IsAnswerSettled, IsSettledFault}
 
--- the rules of a proof, in their order; those of the documents hold for every TNRA proof
-abbrev pub rules : (List ℕ → List ℕ) → List ℕ → List (List ℕ × ℕ) → ℕ → Proof → List (Group Refusal)
-rules H root query r proof =
+-- the rules of what a proof shows, in their order; those of the documents hold for every TNRA proof
+abbrev pub section_rules : (List ℕ → List ℕ) → List ℕ → List (List ℕ × ℕ) → Proof → List (Group Refusal)
+section_rules H root query proof =
     record { kept = IsOpened H root query proof; fault = IsOpeningFault H root query proof }
     ∷ record { kept = IsDictionary H proof; fault = IsDictFault H proof }
     ∷ record { kept = AreSlotsRight query proof; fault = IsSlotsFault query proof }
@@ -18,12 +18,21 @@ rules H root query r proof =
     ∷ record { kept = AreAllMet (lanes_of query proof) proof.met; fault = IsMetFault (lanes_of query proof) proof.met }
     ∷ record { kept = IsDocsTree H proof; fault = IsDocsFault H proof }
     ∷ record { kept = AreDocumentsRight H query proof; fault = IsDocumentsFault H query proof }
-    ∷ record { kept = AreRowsRight proof.met proof.answer; fault = IsRowsFault proof.met proof.answer }
+    ∷ []
+
+-- the rules of the rows of an answer, in their order
+abbrev pub row_rules : List (List ℕ × ℕ) → ℕ → Proof → List (Group Refusal)
+row_rules query r proof =
+    record { kept = AreRowsRight proof.met proof.answer; fault = IsRowsFault proof.met proof.answer }
     ∷ record {
       kept = IsAnswerSettled (bounds_of proof) (lanes_of query proof) proof.met proof.answer r;
       fault = IsSettledFault (bounds_of proof) (lanes_of query proof) proof.met proof.answer r;
     }
     ∷ []
+
+-- the rules of a proof, in their order
+abbrev pub rules : (List ℕ → List ℕ) → List ℕ → List (List ℕ × ℕ) → ℕ → Proof → List (Group Refusal)
+rules H root query r proof = section_rules H root query proof ++ row_rules query r proof
 
 -- all rules hold
 pub record Accepts (H : List ℕ → List ℕ) (root : List ℕ) (query : List (List ℕ × ℕ)) (r : ℕ) (proof : Proof) : Type 0 where

@@ -1,4 +1,5 @@
 pub mod Presented
+pub mod WholeLists
 pub mod Slots
 pub mod Indexes
 pub mod Groups

@@ -5,7 +5,8 @@
 //! documents. [`check`] rebuilds each part up to the root, and decides from what the lists and the documents show
 //! whether the answer is settled; [`row`] then returns each document of the answer with its bounds. These two allocate
 //! nothing. [`first_clash`] is for whoever has the archive's own strings: it finds the first place where the archive's
-//! string differs from the proof's and has an equal digest.
+//! string differs from the proof's and has an equal digest. [`shows_whole_list`] is for whoever wants all documents that
+//! have a term: it finds out whether a list is shown whole.
 //!
 //! The room stands on the proof that `ats_proof` reads from bytes, on the trees of `ats_tree`, and on the cuts and
 //! settled answers of `ats_bound`. A proof is accepted exactly if all rules of `specs/Accepts.antt` hold, else refused
@@ -52,6 +53,7 @@ mod taken;
 mod term;
 mod verifying;
 mod walk;
+mod whole;
 
 pub use answer::row;
 pub use checking::check;
@@ -65,3 +67,4 @@ pub use laws::{
 pub use memory::OutOfMemory;
 pub use refusal::Refusal;
 pub use verifying::{check_rows, verify};
+pub use whole::shows_whole_list;

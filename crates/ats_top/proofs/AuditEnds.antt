@@ -11,7 +11,7 @@ use Rattle.ats_commit.specs.Root.{root_of}
 use Rattle.ats_client.specs.Headline.{AreRight}
 use Rattle.ats_client.specs.Strings.{extract}
 use Rattle.ats_audit.specs.Verdicts.{IsFoundRight, IsFoundCollision}
-use Rattle.ats_audit.proofs.Public.{extract-collides}
+use Rattle.ats_client.proofs.Public.{extract-collides}
 use Rattle.ats_plan.specs.Files.{IsFile}
 use Rattle.ats_plan.specs.Plan.{Finishes, Tries}
 use Rattle.ats_plan.specs.Runs.{IsDone, IsStopped}

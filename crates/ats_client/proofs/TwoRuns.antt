@@ -1,0 +1,33 @@
+-- Groups of rules in two runs, one after the other.
+use Rattle.std.proofs.Common.{◌⊎◌, List, [], ◌∷◌, ◌++◌, inl, inr}
+use Rattle.ats_base.specs.Rules.{Group, AreKept, IsFirstFault}
+use Rattle.ats_base.proofs.Public.{AreExact}
+
+-- if each group of both runs fails in one way, and is then not kept, so does each of all
+pub exact_both : {F : Type 0} (a b : List (Group F)) → AreExact a → AreExact b → AreExact (a ++ b)
+exact_both [] b first second = second
+exact_both (group ∷ a) b first second = (first.0, exact_both a b first.1 second)
+
+-- if all groups are kept, those of the first run are
+pub first_kept : {F : Type 0} (a b : List (Group F)) → AreKept (a ++ b) → AreKept a
+first_kept [] b kept = tt
+first_kept (group ∷ a) b kept = (kept.0, first_kept a b kept.1)
+
+-- the first failure is one of the first run, or the first run is kept and it is one of the second
+pub first_or_second : {F : Type 0} (a b : List (Group F)) (fault : F) → IsFirstFault (a ++ b) fault → IsFirstFault a fault ⊎ (AreKept a × IsFirstFault b fault)
+first_or_second [] b fault is = inr (tt, is)
+first_or_second (group ∷ a) b fault (inl here) = inl (inl here)
+first_or_second (group ∷ a) b fault (inr later) = elim (first_or_second a b fault later.1) [
+  | inl first ↦ inl (inr (later.0, first))
+  | inr second ↦ inr ((later.0, second.0), second.1)
+]
+
+-- no group fails in this way
+abbrev pub NoneFails : {F : Type 0} → List (Group F) → F → Type 0
+NoneFails [] fault = Unit {0}
+NoneFails (group ∷ groups) fault = (group.fault fault → ⊥) × NoneFails groups fault
+
+pub none_first : {F : Type 0} (groups : List (Group F)) (fault : F) → NoneFails groups fault → IsFirstFault groups fault → ⊥
+none_first [] fault none is = is
+none_first (group ∷ groups) fault none (inl here) = none.0 here
+none_first (group ∷ groups) fault none (inr later) = none_first groups fault none.1 later.1
