@@ -1,4 +1,4 @@
--- The check accepts what an honest proof shows of the met documents.
+-- The check accepts what a proof of a cut shows of the met documents.
 use Rattle.std.proofs.Common.{◌≡◌, ◌<◌, ◌≤◌, ℕ, List, [], ◌∷◌, length, map, get_or, Option, None, Some, refl, sym, ap, ap₂, subst, ◌∙◌, arith}
 use Rattle.std.specs.List.{All}
 use Rattle.std.specs.List.Sorted.{IsStrictlyIncreasing}
@@ -56,13 +56,13 @@ module _ (H : List ℕ → List ℕ) (texts : List (List ℕ)) where
       ∙ positions_rebuild H leaves met (omega (arith, size, some)) rise (λ k d inside. omega (arith, low k d inside, size))
 
   module _ (terms : List (List ℕ × ℕ)) where
-    pub honest_tree : (algorithm : Algorithm) (met : List ℕ) (docs : Option Documents) (header : Header) → header.documents ≡ length texts → header.docs_root ≡ mth H (documents_of H texts)
+    pub shown_tree : (algorithm : Algorithm) (met : List ℕ) (docs : Option Documents) (header : Header) → header.documents ≡ length texts → header.docs_root ≡ mth H (documents_of H texts)
         → HasDocuments algorithm H texts terms met docs → (algorithm ≡ Tra → 1 ≤ length texts) → IsStrictlyIncreasing met → All (λ doc. doc < length texts) met
         → AreDocsRooted H header met docs
-    honest_tree Tnra met None header many root has some rise low = tt
-    honest_tree Tnra met (Some docs) header many root has some rise low = absurd (cc)
-    honest_tree Tra met None header many root has some rise low = absurd has
-    honest_tree Tra met (Some docs) header many root has some rise low =
+    shown_tree Tnra met None header many root has some rise low = tt
+    shown_tree Tnra met (Some docs) header many root has some rise low = absurd (cc)
+    shown_tree Tra met None header many root has some rise low = absurd has
+    shown_tree Tra met (Some docs) header many root has some rise low =
         ap (λ (n : ℕ). rebuilt H n (shown_docs met docs.leaves) docs.digests) many
         ∙ ap₂ (λ (leaves : List DocLeaf) (digests : List (List ℕ)). rebuilt H (length texts) (shown_docs met leaves) digests) has.leaves has.digests
         ∙ documents_rebuild met (some refl) rise low
@@ -82,11 +82,11 @@ module _ (H : List ℕ → List ℕ) (texts : List (List ℕ)) where
           (record { tree = section_rebuilds H items terms section are.0; slots = section_shows H items terms section are.0 query numbers named })
           (sections_right met sections are.1)
 
-      pub honest_documents : (algorithm : Algorithm) (met : List ℕ) (docs : Option Documents) → HasDocuments algorithm H texts terms met docs
+      pub shown_documents : (algorithm : Algorithm) (met : List ℕ) (docs : Option Documents) → HasDocuments algorithm H texts terms met docs
           → All (IsDocumentRight H query numbers) (documents_in met docs)
-      honest_documents Tnra met None has = All-nil (IsDocumentRight H query numbers)
-      honest_documents Tnra met (Some docs) has = absurd (cc)
-      honest_documents Tra met None has = absurd has
-      honest_documents Tra met (Some docs) has =
+      shown_documents Tnra met None has = All-nil (IsDocumentRight H query numbers)
+      shown_documents Tnra met (Some docs) has = absurd (cc)
+      shown_documents Tra met None has = absurd has
+      shown_documents Tra met (Some docs) has =
           subst (λ (leaves : List DocLeaf). All (IsDocumentRight H query numbers) (documents_from met leaves docs.sections)) (sym has.leaves)
           (sections_right met docs.sections has.sections)

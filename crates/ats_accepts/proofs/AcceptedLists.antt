@@ -1,4 +1,4 @@
--- What a check sees of the lists of an honest proof: the honest cut, which it accepts.
+-- What a check sees of the lists of a proof of a cut: that cut, which it accepts.
 use Rattle.std.proofs.Common.{◌≡◌, ◌≢◌, ◌+◌, ◌*◌, ◌<◌, ◌≤◌, ◌||◌, ℕ, suc, Bool, true, false, nat_eq, List, [], ◌∷◌, length, map, take, get_or, Some, refl, sym, ap, ap₂, subst, ◌∙◌, arith, inl, inr}
 use Rattle.std.specs.List.{All, list_any, range_with_len}
 use Rattle.std.specs.List.Sorted.{IsStrictlyIncreasing}

@@ -1,4 +1,4 @@
--- The check accepts what an honest proof shows of the header, the dictionary and the terms.
+-- The check accepts what a proof of a cut shows of the header, the dictionary and the terms.
 use Rattle.std.proofs.Common.{◌≡◌, ℕ, zero, suc, Bool, true, false, cond, nat_lt, List, [], ◌∷◌, length, map, get_or, Some, refl, sym, ap, ap₂, subst, ◌∙◌, arith}
 use Rattle.std.specs.List.Sorted.{IsStrictlyIncreasing}
 use Rattle.std.proofs.lemmas.List.{length-map, get_or-map}
@@ -33,7 +33,7 @@ use Rattle.ats_client.specs.Slots.{ShowsTerm}
 use Rattle.ats_proof.specs.declared.record.Algorithm.{Algorithm}
 use Rattle.ats_honest.specs.Terms.{has, place, shown_entry, slot_of}
 use Rattle.ats_honest.specs.Lanes.{lane_of}
-use Rattle.ats_honest.specs.Honest.{IsHonest}
+use Rattle.ats_honest.specs.Honest.{IsShownAt}
 use Rattle.ats_honest.proofs.Public.{spot_each, positions_below, list_at, standing_term, lanes_each}
 use Rattle.ats_bound.proofs.Public.{has_contained}
 use Rattle.ats_accepts.proofs.ShownPlaces.{made_at_place}
@@ -41,43 +41,43 @@ use Rattle.ats_accepts.proofs.ShownTrees.{leaves_shown, positions_rebuild}
 use Rattle.ats_accepts.proofs.AcceptedSlots.{IsShown, LiesBy, leaf_at, slots_show}
 
 -- the header is the archive's, and each term has a slot
-pub honest_opened : (H : List ℕ → List ℕ) (archive : Archive) (query : List (List ℕ × ℕ)) (r : ℕ) (algorithm : Algorithm) (proof : Proof)
-    → IsHonest H archive query r algorithm proof → IsOpened H (root_of H archive) query proof
-honest_opened H archive query r algorithm proof honest = record {
-  commits = ap₂ (λ (format : Format) (h : Header). header_root H format h) honest.format honest.header;
-  slots = ap (λ (all : List Slot). length all) honest.slots ∙ length-map honest.spots (slot_of honest.positions) ∙ spot_each (dictionary_of H archive) query honest.spots honest.found;
+pub shown_opened : (H : List ℕ → List ℕ) (archive : Archive) (query : List (List ℕ × ℕ)) (algorithm : Algorithm) (cut documents : List ℕ) (proof : Proof)
+    → IsShownAt H archive query algorithm cut documents proof → IsOpened H (root_of H archive) query proof
+shown_opened H archive query algorithm cut documents proof is = record {
+  commits = ap₂ (λ (format : Format) (h : Header). header_root H format h) is.format is.header;
+  slots = ap (λ (all : List Slot). length all) is.slots ∙ length-map is.spots (slot_of is.positions) ∙ spot_each (dictionary_of H archive) query is.spots is.found;
 }
 
 -- ---- the dictionary
 
 -- its leaves are those at the needed positions
-pub dictionary_shown : (H : List ℕ → List ℕ) (archive : Archive) (query : List (List ℕ × ℕ)) (r : ℕ) (algorithm : Algorithm) (proof : Proof)
-    → (honest : IsHonest H archive query r algorithm proof)
-    → map runs.shown_entry proof.dict ≡ shown_with (dict_leaves (dictionary_of H archive)) honest.positions
-dictionary_shown H archive query r algorithm proof honest =
+pub dictionary_shown : (H : List ℕ → List ℕ) (archive : Archive) (query : List (List ℕ × ℕ)) (algorithm : Algorithm) (cut documents : List ℕ) (proof : Proof)
+    → (is : IsShownAt H archive query algorithm cut documents proof)
+    → map runs.shown_entry proof.dict ≡ shown_with (dict_leaves (dictionary_of H archive)) is.positions
+dictionary_shown H archive query algorithm cut documents proof is =
     let entries = dictionary_of H archive in
-    let positions = honest.positions in
+    let positions = is.positions in
     let size = length-dict_leaves entries in
-    let below = positions_below entries query honest.spots positions honest.found honest.needed in
+    let below = positions_below entries query is.spots positions is.found is.needed in
     let made : ℕ → Shown = λ p. runs.shown_entry (shown_entry entries p) in
-    ap (λ (shown : List ShownEntry). map runs.shown_entry shown) honest.dict ∙ map-map runs.shown_entry (shown_entry entries) positions
+    ap (λ (shown : List ShownEntry). map runs.shown_entry shown) is.dict ∙ map-map runs.shown_entry (shown_entry entries) positions
     ∙ leaves_shown (dict_leaves entries) made positions
     (λ p inside. ap (λ (bytes : List ℕ). let leaf : Shown = (p, bytes) in leaf) (sym (get_or-dict_leaves entries p (omega (arith, inside, size)))))
     (λ k d inside. omega (arith, below k d inside, size))
 
-pub honest_dictionary : (H : List ℕ → List ℕ) (archive : Archive) (query : List (List ℕ × ℕ)) (r : ℕ) (algorithm : Algorithm) (proof : Proof)
-    → IsHonest H archive query r algorithm proof → IsDictionary H proof
-honest_dictionary H archive query r algorithm proof honest =
+pub shown_dictionary : (H : List ℕ → List ℕ) (archive : Archive) (query : List (List ℕ × ℕ)) (algorithm : Algorithm) (cut documents : List ℕ) (proof : Proof)
+    → IsShownAt H archive query algorithm cut documents proof → IsDictionary H proof
+shown_dictionary H archive query algorithm cut documents proof is =
     let entries = dictionary_of H archive in
     let leaves = dict_leaves entries in
-    let positions = honest.positions in
+    let positions = is.positions in
     let size = length-dict_leaves entries in
-    let below = positions_below entries query honest.spots positions honest.found honest.needed in
-    ap₂ (λ n (shown : List Shown). rebuilt H n shown proof.dict_digests) (ap (λ (h : Header). h.dict_leaves) honest.header)
-    (dictionary_shown H archive query r algorithm proof honest)
-    ∙ ap (λ (digests : List (List ℕ)). rebuilt H (length leaves) (shown_with leaves positions) digests) honest.dict_digests
-    ∙ positions_rebuild H leaves positions (omega (arith, size)) honest.needed.rise (λ k d inside. omega (arith, below k d inside, size))
-    ∙ ap (λ (h : Header). Some h.dict_root) (sym honest.header)
+    let below = positions_below entries query is.spots positions is.found is.needed in
+    ap₂ (λ n (shown : List Shown). rebuilt H n shown proof.dict_digests) (ap (λ (h : Header). h.dict_leaves) is.header)
+    (dictionary_shown H archive query algorithm cut documents proof is)
+    ∙ ap (λ (digests : List (List ℕ)). rebuilt H (length leaves) (shown_with leaves positions) digests) is.dict_digests
+    ∙ positions_rebuild H leaves positions (omega (arith, size)) is.needed.rise (λ k d inside. omega (arith, below k d inside, size))
+    ∙ ap (λ (h : Header). Some h.dict_root) (sym is.header)
 
 -- ---- the slots
 
@@ -85,16 +85,16 @@ entry_lies : (entries : List DictEntry) (term : List ℕ) (spot : Spot) → IsSp
 entry_lies entries term (At p) is = is.same
 entry_lies entries term (Between p) is = (is.above, is.below)
 
-pub honest_slots : (H : List ℕ → List ℕ) (archive : Archive) (query : List (List ℕ × ℕ)) (r : ℕ) (algorithm : Algorithm) (proof : Proof)
-    → IsHonest H archive query r algorithm proof → AreSlotsRight query proof
-honest_slots H archive query r algorithm proof honest i inside =
+pub shown_slots : (H : List ℕ → List ℕ) (archive : Archive) (query : List (List ℕ × ℕ)) (algorithm : Algorithm) (cut documents : List ℕ) (proof : Proof)
+    → IsShownAt H archive query algorithm cut documents proof → AreSlotsRight query proof
+shown_slots H archive query algorithm cut documents proof is i inside =
     let entries = dictionary_of H archive in
     let term = asked_term query i in
     let made : ℕ → slots.Shown = leaf_at (term_at entries) in
-    let leaves : dict_terms proof.dict ≡ map made honest.positions = ap dict_terms honest.dict ∙ map-map slots.entry_shown (shown_entry entries) honest.positions in
+    let leaves : dict_terms proof.dict ≡ map made is.positions = ap dict_terms is.dict ∙ map-map slots.entry_shown (shown_entry entries) is.positions in
     subst (λ (all : List slots.Shown). ShowsTerm all term (slot_at proof.slots i)) (sym leaves)
-    (subst (λ (all : List Slot). ShowsTerm (map made honest.positions) term (slot_at all i)) (sym honest.slots)
-    (slots_show (term_at entries) (IsSpot entries) (entry_lies entries) query honest.spots honest.positions honest.found honest.needed i inside))
+    (subst (λ (all : List Slot). ShowsTerm (map made is.positions) term (slot_at all i)) (sym is.slots)
+    (slots_show (term_at entries) (IsSpot entries) (entry_lies entries) query is.spots is.positions is.found is.needed i inside))
 
 -- ---- the entries of present terms
 

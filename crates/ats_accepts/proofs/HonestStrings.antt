@@ -1,4 +1,4 @@
--- The strings that are hashed from an honest proof are the archive's own.
+-- The strings that are hashed from a proof of a cut are the archive's own, and so are those of an honest proof.
 use Rattle.std.proofs.Common.{◌≡◌, ◌+◌, ◌<◌, ◌≤◌, ℕ, suc, Bool, cond, List, [], ◌∷◌, ◌++◌, length, map, take, drop, get_or, Option, None, Some, IfSome, refl, sym, ap, ap₂, subst, ◌∙◌, arith}
 use Rattle.std.specs.List.{All, flat_map}
 use Rattle.std.proofs.lemmas.Bool.{lt-ltb}
@@ -44,14 +44,14 @@ use Rattle.ats_client.specs.Documents.{documents_from}
 use Rattle.ats_client.specs.Presented.{Presented, presented, presented_from}
 use Rattle.ats_client.specs.Strings.{hashed_header, strings_in, list_strings, terms_strings, documents_strings, strings_of, extract}
 use Rattle.ats_honest.specs.Documents.{AreHonestSections, HasDocuments, IsHonestSection, document_leaf}
-use Rattle.ats_honest.specs.Honest.{IsHonest, IsProved}
+use Rattle.ats_honest.specs.Honest.{AreMet, IsHonest, IsProved, IsShownAt}
 use Rattle.ats_honest.specs.Lanes.{lanes_of, present}
 use Rattle.ats_honest.specs.Terms.{AreSpots, slot_of}
-use Rattle.ats_honest.proofs.Public.{documents_each, with_lane, with_none}
+use Rattle.ats_honest.proofs.Public.{docs_of, documents_each, honest_cut, honest_met, honest_shown, with_lane, with_none}
 use Rattle.ats_accepts.proofs.Accepted.{has_documents}
 use Rattle.ats_accepts.proofs.AcceptedDocuments.{documents_shown}
 use Rattle.ats_accepts.proofs.AcceptedLists.{AreFronts, AreIn, IsEntryIn, IsFront, first_in, front_shown, later_in, tail_cut}
-use Rattle.ats_accepts.proofs.AcceptedRows.{are_in, honest_presented, is_cut, met_low}
+use Rattle.ats_accepts.proofs.AcceptedCut.{are_in, met_within, shown_presented}
 use Rattle.ats_accepts.proofs.AcceptedSections.{section_shown}
 use Rattle.ats_accepts.proofs.AcceptedTerms.{dictionary_shown, honest_present}
 
@@ -195,46 +195,58 @@ module _ (H : List ℕ → List ℕ) (archive : Archive) (query : List (List ℕ
 
   -- ---- the whole proof
 
-  module _ (r : ℕ) (algorithm : Algorithm) (proof : Proof) (some : algorithm ≡ Tra → 1 ≤ length archive.texts) (honest : IsHonest H archive query r algorithm proof) where
+  module _ (algorithm : Algorithm) (cut documents : List ℕ) (proof : Proof) (is_cut : IsCut (lanes_of archive.texts query) cut)
+      (are_met : AreMet (shown (lanes_of archive.texts query) cut) documents) (is : IsShownAt H archive query algorithm cut documents proof) where
     lists_own : All Own (flat_map (list_strings H proof.format proof.met) (presented query proof))
     lists_own =
-        subst (λ (format : Format). All Own (flat_map (list_strings H format proof.met) (presented query proof))) (sym honest.format)
-        (fronts_own (length archive.texts) proof.met (lanes_of archive.texts query) honest.cut (presented query proof) (honest_presented H archive query r algorithm proof some honest)
-        names (is_cut H archive query r algorithm proof some honest) (are_in H archive query r algorithm proof some honest))
+        subst (λ (format : Format). All Own (flat_map (list_strings H format proof.met) (presented query proof))) (sym is.format)
+        (fronts_own (length archive.texts) proof.met (lanes_of archive.texts query) cut (presented query proof) (shown_presented H archive query algorithm cut documents proof is_cut are_met is)
+        names is_cut (are_in H archive query algorithm cut documents proof is_cut are_met is))
       where
         names : AreNumbered archive.texts query (lanes_of archive.texts query) (presented query proof)
         names =
-            subst (λ (slots : List Slot). AreNumbered archive.texts query (lanes_of archive.texts query) (presented_from proof.dict 0 query slots proof.lists)) (sym honest.slots)
-            (numbered H archive query honest.positions proof.dict 0 query honest.spots proof.lists
+            subst (λ (slots : List Slot). AreNumbered archive.texts query (lanes_of archive.texts query) (presented_from proof.dict 0 query slots proof.lists)) (sym is.slots)
+            (numbered H archive query is.positions proof.dict 0 query is.spots proof.lists
             (λ i d inside.
             let from : 0 + i ≡ i = omega arith in
             ap (asked_term query) from ∙ ap (λ (pair : List ℕ × ℕ). pair.0) (get_or_default query i ([], 0) d inside))
-            honest.found)
+            is.found)
 
     dictionary_own : All Own (strings_in H Dictionary proof.header.dict_leaves (map runs.shown_entry proof.dict) proof.dict_digests)
     dictionary_own =
         tree_own H archive query Dictionary (dict_leaves (dictionary_of H archive)) (λ at. refl)
-        proof.header.dict_leaves (map runs.shown_entry proof.dict) proof.dict_digests honest.positions
-        (ap (λ (h : Header). h.dict_leaves) honest.header) (dictionary_shown H archive query r algorithm proof honest) honest.dict_digests
+        proof.header.dict_leaves (map runs.shown_entry proof.dict) proof.dict_digests is.positions
+        (ap (λ (h : Header). h.dict_leaves) is.header) (dictionary_shown H archive query algorithm cut documents proof is) is.dict_digests
 
-    pub honest_own : All Own (strings_of H query proof)
-    honest_own =
+    pub shown_own : All Own (strings_of H query proof)
+    shown_own =
         let header : Hashed Place = hashed_header proof.format proof.header in
         let dictionary : List (Hashed Place) = strings_in H Dictionary proof.header.dict_leaves (map runs.shown_entry proof.dict) proof.dict_digests in
         let lists : List (Hashed Place) = flat_map (list_strings H proof.format proof.met) (presented query proof) in
-        let documents : List (Hashed Place) = documents_strings H proof.header proof.met proof.docs in
-        All-cons Own header (dictionary ++ (lists ++ documents)) (ap₂ (λ (format : Format) (h : Header). header_string format h) (sym honest.format) (sym honest.header))
-        (All-append Own dictionary (lists ++ documents) dictionary_own
-        (All-append Own lists documents lists_own
-        (documents_own (present archive.texts query) algorithm proof.met proof.docs proof.header (ap (λ (h : Header). h.documents) honest.header) honest.docs
-        (met_low H archive query r algorithm proof some honest))))
+        let of_documents : List (Hashed Place) = documents_strings H proof.header proof.met proof.docs in
+        All-cons Own header (dictionary ++ (lists ++ of_documents)) (ap₂ (λ (format : Format) (h : Header). header_string format h) (sym is.format) (sym is.header))
+        (All-append Own dictionary (lists ++ of_documents) dictionary_own
+        (All-append Own lists of_documents lists_own
+        (documents_own (present archive.texts query) algorithm proof.met proof.docs proof.header (ap (λ (h : Header). h.documents) is.header) is.docs
+        (met_within H archive query algorithm cut documents proof is_cut are_met is))))
 
--- ---- no clash
+    -- so none of them clashes
+    pub shown_unclashing : extract H archive query proof ≡ None
+    shown_unclashing = own-none H (ours H archive query) (strings_of H query proof) shown_own
+
+-- ---- an honest proof
+
+pub honest_own : (H : List ℕ → List ℕ) (archive : Archive) (query : List (List ℕ × ℕ)) (r : ℕ) (algorithm : Algorithm) (proof : Proof)
+    → (algorithm ≡ Tra → 1 ≤ length archive.texts) → IsHonest H archive query r algorithm proof → All (IsOurs (ours H archive query)) (strings_of H query proof)
+honest_own H archive query r algorithm proof some honest =
+    shown_own H archive query algorithm honest.cut (docs_of honest.brackets) proof (honest_cut H archive query r algorithm proof honest)
+    (honest_met H archive query r algorithm proof honest) (honest_shown H archive query r algorithm proof honest)
 
 pub honest_unclashing : (H : List ℕ → List ℕ) (archive : Archive) (query : List (List ℕ × ℕ)) (r : ℕ) (algorithm : Algorithm) (proof : Proof)
     → (algorithm ≡ Tra → 1 ≤ length archive.texts) → IsHonest H archive query r algorithm proof → extract H archive query proof ≡ None
 honest_unclashing H archive query r algorithm proof some honest =
-    own-none H (ours H archive query) (strings_of H query proof) (honest_own H archive query r algorithm proof some honest)
+    shown_unclashing H archive query algorithm honest.cut (docs_of honest.brackets) proof (honest_cut H archive query r algorithm proof honest)
+    (honest_met H archive query r algorithm proof honest) (honest_shown H archive query r algorithm proof honest)
 
 pub proved_unclashing : (H : List ℕ → List ℕ) (archive : Archive) (query : List (List ℕ × ℕ)) (r : ℕ) (algorithm : Algorithm) (bytes : List ℕ)
     → IsProved H archive query r algorithm bytes → (proof : Proof) → IsProof bytes proof → extract H archive query proof ≡ None

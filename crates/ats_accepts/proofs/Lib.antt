@@ -7,6 +7,8 @@ mod AcceptedLists
 mod AcceptedSections
 mod AcceptedDocuments
 mod AcceptedImpacts
+mod AcceptedCut
+mod AcceptedWhole
 mod AcceptedRows
 mod Accepted
 mod HonestStrings

@@ -62,6 +62,14 @@ pub use Rattle.ats_bound.proofs.Gathered.{brackets_exist}
 pub use Rattle.ats_bound.proofs.Sorted.{chosen_exists}
 -- each list has a sorted permutation under a test that never holds both ways
 pub use Rattle.ats_bound.proofs.Sorted.{sorts}
+-- the shown lane at a position of a cut is made from the lane given to the call and the cut's count
+pub use Rattle.ats_bound.proofs.Shown.{at_lane}
+-- a cut of lanes given to a call shows from one to all entries of each
+pub use Rattle.ats_bound.proofs.Shown.{count_at}
+-- a cut of lanes given to a call has as many counts as there are lanes
+pub use Rattle.ats_bound.proofs.Shown.{cut_size}
+-- a cut of lanes given to a call shows as many lanes as there are
+pub use Rattle.ats_bound.proofs.Shown.{shown_size}
 -- showing one more entry of a lane that has hidden entries lowers the number of hidden entries in all
 pub use Rattle.ats_bound.proofs.Shown.{fewer_hidden}
 -- each of a query's whole lanes has at least one entry

@@ -20,6 +20,8 @@ use Rattle.ats_doctree.specs.Sentinels.{terms_leaves}
 use Rattle.ats_commit.specs.Archive.{Archive}
 use Rattle.ats_commit.specs.Own.{AreTexts}
 use Rattle.ats_commit.specs.Trees.{documents_of}
+use Rattle.ats_bound.specs.Chosen.{IsChosen}
+use Rattle.ats_bound.specs.Cut.{ShownLane, bracket}
 use Rattle.ats_bound.specs.Narrow.{AreNarrow}
 use Rattle.ats_bound.specs.Schedule.{AreWholeLanes, IsWholeLane, WholeLane, shown}
 use Rattle.ats_bound.proofs.Public.{brackets_are_narrow, first_settled_exists, looked_up_are_narrow, brackets_exist, chosen_exists, sorts}
@@ -29,9 +31,11 @@ use Rattle.ats_proof.specs.Value.{Documents, Proof, TermsSection}
 use Rattle.ats_honest.specs.Terms.{AreNeeded, needs, slot_of}
 use Rattle.ats_honest.specs.Lanes.{bounding, impacts_of, lane_of, lanes_of, present}
 use Rattle.ats_honest.specs.Documents.{AreHonestSections, HasDocuments, IsHonestSection, document_leaf, shown_term}
-use Rattle.ats_honest.specs.Honest.{IsHonest}
+use Rattle.ats_honest.specs.Honest.{IsCutShown, IsHonest, IsShownAt}
+use Rattle.ats_honest.proofs.MetDocuments.{brackets_met}
 use Rattle.ats_honest.proofs.Needed.{are_needed}
 use Rattle.ats_honest.proofs.Present.{few_idf, lanes_few, lanes_have_lists, some_idf}
+use Rattle.ats_honest.proofs.ShownCut.{is_honest}
 use Rattle.ats_honest.proofs.Standing.{HasTerm, entry_spots, item_spots}
 use Rattle.ats_honest.proofs.Whole.{docs_of, proof_of}
 
@@ -131,29 +135,20 @@ documents_exist Tra H texts terms met all =
 
 -- ---- all together
 
-pub honest_exists : (H : List ℕ → List ℕ) (archive : Archive) (query : List (List ℕ × ℕ)) (r : ℕ) (algorithm : Algorithm) → AreTexts archive.texts → IsQuery query
-    → (proof : Proof) × IsHonest H archive query r algorithm proof
-honest_exists H archive query r algorithm are is =
-    let lanes : List WholeLane = lanes_of archive.texts query in
-    let terms : List (List ℕ × ℕ) = present archive.texts query in
+-- a proof of any cut, with any documents as the met ones and any rows
+shown_exists : (H : List ℕ → List ℕ) (archive : Archive) (query : List (List ℕ × ℕ)) (algorithm : Algorithm) (cut documents picks : List ℕ) → IsQuery query
+    → (proof : Proof) × IsShownAt H archive query algorithm cut documents proof × (proof.answer ≡ picks)
+shown_exists H archive query algorithm cut documents picks is =
     let has : List ℕ × ℕ → Bool = λ (pair : List ℕ × ℕ). nat_lt 0 (frequency pair.0 archive.texts) in
     let spots = entry_spots H archive query is.terms in
     let positions = needed_exist spots.0 in
-    let ending = first_settled_exists (bounding algorithm lanes) lanes r (narrow algorithm lanes) (lanes_are_whole archive.texts query are.within.few is) in
-    let made = brackets_exist (bounding algorithm lanes) (shown lanes ending.0) (λ doc. (narrow algorithm lanes (shown lanes ending.0) doc).of) in
-    let docs = documents_exist algorithm H archive.texts terms (docs_of made.0) (All-filter has HasTerm query is.terms) in
-    let answer = chosen_exists made.0 r in
-    let proof : Proof = proof_of H archive query spots.0 positions.0 ending.0 made.0 docs.0 answer.0 in (
-      proof,
+    let docs = documents_exist algorithm H archive.texts (present archive.texts query) documents (All-filter has HasTerm query is.terms) in (
+      proof_of H archive query spots.0 positions.0 cut documents docs.0 picks,
       record {
         spots = spots.0;
         found = spots.1;
         positions = positions.0;
         needed = positions.1;
-        cut = ending.0;
-        first = ending.1;
-        brackets = made.0;
-        bounds = made.1;
         format = refl;
         header = refl;
         dict = refl;
@@ -162,6 +157,25 @@ honest_exists H archive query r algorithm are is =
         met = refl;
         lists = refl;
         docs = docs.1;
-        answer = answer.1;
       },
+      refl,
     )
+
+-- the proof of any cut that has no answer
+pub cut_shown_exists : (H : List ℕ → List ℕ) (archive : Archive) (query : List (List ℕ × ℕ)) (algorithm : Algorithm) (cut : List ℕ) → IsQuery query
+    → (proof : Proof) × IsCutShown H archive query algorithm cut proof
+cut_shown_exists H archive query algorithm cut is =
+    let lanes : List ShownLane = shown (lanes_of archive.texts query) cut in
+    let made = brackets_exist bracket lanes (λ doc. refl) in
+    let shows = shown_exists H archive query algorithm cut (docs_of made.0) [] is in
+    (shows.0, record { documents = docs_of made.0; met = brackets_met lanes made.0 made.1; shows = shows.1; empty = shows.2 })
+
+pub honest_exists : (H : List ℕ → List ℕ) (archive : Archive) (query : List (List ℕ × ℕ)) (r : ℕ) (algorithm : Algorithm) → AreTexts archive.texts → IsQuery query
+    → (proof : Proof) × IsHonest H archive query r algorithm proof
+honest_exists H archive query r algorithm are is =
+    let lanes : List WholeLane = lanes_of archive.texts query in
+    let ending = first_settled_exists (bounding algorithm lanes) lanes r (narrow algorithm lanes) (lanes_are_whole archive.texts query are.within.few is) in
+    let made = brackets_exist (bounding algorithm lanes) (shown lanes ending.0) (λ doc. (narrow algorithm lanes (shown lanes ending.0) doc).of) in
+    let answer = chosen_exists made.0 r in
+    let shows = shown_exists H archive query algorithm ending.0 (docs_of made.0) answer.0 is in
+    (shows.0, is_honest H archive query r algorithm ending.0 made.0 shows.0 shows.1 ending.1 made.1 (subst (IsChosen made.0 r) (sym shows.2) answer.1))

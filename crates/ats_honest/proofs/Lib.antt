@@ -14,6 +14,7 @@ mod Items
 mod Sections
 mod MetLeaves
 mod Whole
+mod ShownCut
 mod Positions
 mod OneProof
 mod OwnEntries

@@ -1,7 +1,7 @@
 -- The positions that some terms need, each once.
 use Rattle.std.proofs.Common.{◌≡◌, ◌==◌, Bool, ◌+◌, ◌*◌, ◌≤◌, ◌++◌, ℕ, zero, suc, nat_eq, List, [], ◌∷◌, length, sym, ap, ◌∙◌, arith}
 use Rattle.std.specs.List.{dedup, flat_map, list_any}
-use Rattle.std.specs.List.Sorted.{IsPermutation, IsSorted}
+use Rattle.std.specs.List.Sorted.{IsPermutation, IsSorted, IsStrictlyIncreasing}
 use Rattle.std.specs.Ordering.{eq_by_cmp, nat_cmp}
 use Rattle.std.proofs.lemmas.Bool.Decides.{nat_tests}
 use Rattle.std.proofs.lemmas.Cmp.{eq_by_cmp_equiv, nat_cmp_total}
@@ -14,13 +14,19 @@ use Rattle.ats_dict.specs.declared.spot.Spot.TheVariants.{At, Between}
 use Rattle.ats_bound.proofs.Public.{has_deduped}
 use Rattle.ats_honest.specs.Terms.{AreNeeded, has, needs}
 
--- sorted, and each once
+-- what sorting leaves, if each number is kept once: they rise, and are the same numbers
+pub each_once : (all sorted kept : List ℕ) → IsPermutation all sorted → IsSorted nat_cmp sorted → kept ≡ dedup nat_eq sorted
+    → IsStrictlyIncreasing kept × ((n : ℕ) → has n kept ≡ has n all)
+each_once all sorted kept same ordered left = (
+  rw left (IsStrictlyIncreasing-dedup sorted ordered),
+  λ n. ap (has n) left ∙ has_deduped n sorted ∙ sym (list_any-IsPermutation (λ m. nat_eq m n) all sorted same),
+)
+
 pub are_needed : (spots : List Spot) (all sorted positions : List ℕ) → all ≡ flat_map needs spots → IsPermutation all sorted → IsSorted nat_cmp sorted
     → positions ≡ dedup nat_eq sorted → AreNeeded spots positions
-are_needed spots all sorted positions is same ordered left = record {
-  rise = rw left (IsStrictlyIncreasing-dedup sorted ordered);
-  needed = λ p. ap (has p) left ∙ has_deduped p sorted ∙ sym (list_any-IsPermutation (λ m. nat_eq m p) all sorted same) ∙ ap (has p) is;
-}
+are_needed spots all sorted positions is same ordered left =
+    let once = each_once all sorted positions same ordered left in
+    record { rise = once.0; needed = λ p. once.1 p ∙ ap (has p) is }
 
 pub needs_few : (spots : List Spot) → length (flat_map needs spots) ≤ 2 * length spots
 needs_few [] = omega arith

@@ -1,7 +1,7 @@
 -- The honest proof of a query is one value.
 use Rattle.std.proofs.Common.{◌≡◌, ◌<◌, ◌≤◌, ◌==◌, ℕ, zero, suc, Bool, List, [], ◌∷◌, length, map, get_or, Option, Some, None, refl, sym, ap, ap₂, subst, ◌∙◌, arith}
 use Rattle.std.specs.List.{list_any}
-use Rattle.std.specs.List.Sorted.{IsStrictlySortedBy}
+use Rattle.std.specs.List.Sorted.{IsStrictlyIncreasing, IsStrictlySortedBy}
 use Rattle.std.specs.Ordering.{nat_cmp, eq_by_cmp}
 use Rattle.std.specs.declared.cmp.Ordering.TheVariants.{Less}
 use Rattle.std.proofs.lemmas.Cmp.{nat_cmp_total}
@@ -20,6 +20,7 @@ use Rattle.ats_commit.specs.Trees.{dictionary_of}
 use Rattle.ats_commit.proofs.Public.{dictionary_terms}
 use Rattle.ats_bound.specs.declared.bracket.Bracket.{Bracket}
 use Rattle.ats_bound.specs.Chosen.{IsChosen}
+use Rattle.ats_bound.specs.Cut.{ShownLane}
 use Rattle.ats_bound.specs.Schedule.{AreBracketsBy, Bounding, WholeLane, shown}
 use Rattle.ats_bound.proofs.Public.{one_bracketing, risen_are_distinct, one_first_settled, one_chosen}
 use Rattle.ats_proof.specs.declared.record.Algorithm.{Algorithm}
@@ -31,12 +32,14 @@ use Rattle.ats_doctree.specs.Sentinels as tree
 use Rattle.ats_doctree.specs.Sentinels.{terms_leaves}
 use Rattle.ats_doctree.specs.Impacts.{doc_terms}
 use Rattle.ats_doctree.proofs.Public.{doc_terms_rise, item_at-suc}
-use Rattle.ats_honest.specs.Terms.{AreNeeded, HaveSpots, shown_entry, slot_of}
+use Rattle.ats_honest.specs.Terms.{AreNeeded, HaveSpots, has, shown_entry, slot_of}
 use Rattle.ats_honest.specs.Documents.{AreHonestSections, HasDocuments, IsHonestSection, IsTermSpot, shown_term}
 use Rattle.ats_honest.specs.Lanes.{bounding, lanes_of, present}
-use Rattle.ats_honest.specs.Honest.{IsHonest, prefixes}
+use Rattle.ats_honest.specs.Honest.{AreMet, IsCutShown, IsHonest, IsShownAt, prefixes}
 use Rattle.ats_honest.proofs.Needed.{same_test}
 use Rattle.ats_honest.proofs.Positions.{Lies, Stands, one_lie, one_stand}
+use Rattle.ats_honest.proofs.ShownCut.{honest_shown}
+use Rattle.ats_honest.proofs.Whole.{docs_of}
 use Rattle.ats_tree.specs.Elided.{elided_digests}
 
 -- ---- spots
@@ -122,11 +125,19 @@ module _ (texts : List (List ℕ)) (doc : ℕ) where
 
 -- ---- positions
 
-one_needed : (spots : List Spot) (a b : List ℕ) → AreNeeded spots a → AreNeeded spots b → a ≡ b
-one_needed spots a b first second =
+-- two lists that rise and have the same numbers
+one_rising : (a b : List ℕ) → IsStrictlyIncreasing a → IsStrictlyIncreasing b → ((q : ℕ) → has q a ≡ has q b) → a ≡ b
+one_rising a b first second same =
     let tests : (q : ℕ) → eq_by_cmp nat_cmp q ≡ (λ (m : ℕ). m == q) = λ q. λ i. λ m. same_test q m i in
-    same_members nat_cmp_total exact_unsigned a b (sorted_from_strictly_increasing a first.rise) (sorted_from_strictly_increasing b second.rise)
-    (λ q. ap (λ (f : ℕ → Bool). list_any f a) (tests q) ∙ first.needed q ∙ sym (second.needed q) ∙ ap (λ (f : ℕ → Bool). list_any f b) (sym (tests q)))
+    same_members nat_cmp_total exact_unsigned a b (sorted_from_strictly_increasing a first) (sorted_from_strictly_increasing b second)
+    (λ q. ap (λ (f : ℕ → Bool). list_any f a) (tests q) ∙ same q ∙ ap (λ (f : ℕ → Bool). list_any f b) (sym (tests q)))
+
+one_needed : (spots : List Spot) (a b : List ℕ) → AreNeeded spots a → AreNeeded spots b → a ≡ b
+one_needed spots a b first second = one_rising a b first.rise second.rise (λ q. first.needed q ∙ sym (second.needed q))
+
+-- a cut meets one list of documents
+one_met : (lanes : List ShownLane) (a b : List ℕ) → AreMet lanes a → AreMet lanes b → a ≡ b
+one_met lanes a b first second = one_rising a b first.rise second.rise (λ q. first.named q ∙ sym (second.named q))
 
 -- ---- documents
 
@@ -165,27 +176,22 @@ one_documents Tra H texts terms met (Some a) (Some b) x y =
 
 -- ---- all together
 
-pub one_proof : (H : List ℕ → List ℕ) (archive : Archive) (query : List (List ℕ × ℕ)) (r : ℕ) (algorithm : Algorithm) (a b : Proof)
-    → IsHonest H archive query r algorithm a → IsHonest H archive query r algorithm b → a ≡ b
-one_proof H archive query r algorithm a b x y =
+-- two proofs of the same cut that have the same answer
+one_shown : (H : List ℕ → List ℕ) (archive : Archive) (query : List (List ℕ × ℕ)) (algorithm : Algorithm) (cut documents : List ℕ) (a b : Proof)
+    → IsShownAt H archive query algorithm cut documents a → IsShownAt H archive query algorithm cut documents b → a.answer ≡ b.answer → a ≡ b
+one_shown H archive query algorithm cut documents a b x y answer =
     let entries : List DictEntry = dictionary_of H archive in
     let lanes : List WholeLane = lanes_of archive.texts query in
-    let by : Bounding = bounding algorithm lanes in
     let spots : x.spots ≡ y.spots = one_spots (IsSpot entries) (one_spot H archive) query x.spots y.spots x.found y.found in
     let positions : x.positions ≡ y.positions =
     one_needed y.spots x.positions y.positions (subst (λ (ss : List Spot). AreNeeded ss x.positions) spots x.needed) y.needed in
-    let cut : x.cut ≡ y.cut = one_first_settled by lanes r x.cut y.cut x.first y.first in
-    let brackets : x.brackets ≡ y.brackets =
-    one_bracketing by (shown lanes y.cut) x.brackets y.brackets (subst (λ (c : List ℕ). AreBracketsBy by (shown lanes c) x.brackets) cut x.bounds) y.bounds in
-    let answer : a.answer ≡ b.answer =
-    one_chosen y.brackets r a.answer b.answer (risen_are_distinct y.brackets y.bounds.rise) (subst (λ (bs : List Bracket). IsChosen bs r a.answer) brackets x.answer) y.answer in
     let format : a.format ≡ b.format = x.format ∙ sym y.format in
     let header : a.header ≡ b.header = x.header ∙ sym y.header in
     let dict : a.dict ≡ b.dict = x.dict ∙ ap (λ (ps : List ℕ). map (shown_entry entries) ps) positions ∙ sym y.dict in
     let digests : a.dict_digests ≡ b.dict_digests = x.dict_digests ∙ ap (elided_digests H (dict_leaves entries)) positions ∙ sym y.dict_digests in
     let slots : a.slots ≡ b.slots = x.slots ∙ ap₂ (λ (ps : List ℕ) (ss : List Spot). map (slot_of ps) ss) positions spots ∙ sym y.slots in
-    let met : a.met ≡ b.met = x.met ∙ ap (λ (bs : List Bracket). map (λ (b : Bracket). b.doc) bs) brackets ∙ sym y.met in
-    let lists : a.lists ≡ b.lists = x.lists ∙ ap₂ (λ (ids c : List ℕ). prefixes H archive.format ids lanes c) met cut ∙ sym y.lists in
+    let met : a.met ≡ b.met = x.met ∙ sym y.met in
+    let lists : a.lists ≡ b.lists = x.lists ∙ ap (λ (ids : List ℕ). prefixes H archive.format ids lanes cut) met ∙ sym y.lists in
     let docs : a.docs ≡ b.docs =
     one_documents algorithm H archive.texts (present archive.texts query) b.met a.docs b.docs (subst (λ (ids : List ℕ). HasDocuments algorithm H archive.texts (present archive.texts query) ids a.docs) met x.docs) y.docs in
     λ i. record {
@@ -199,3 +205,26 @@ one_proof H archive query r algorithm a b x y =
       docs = docs i;
       answer = answer i;
     }
+
+pub one_proof : (H : List ℕ → List ℕ) (archive : Archive) (query : List (List ℕ × ℕ)) (r : ℕ) (algorithm : Algorithm) (a b : Proof)
+    → IsHonest H archive query r algorithm a → IsHonest H archive query r algorithm b → a ≡ b
+one_proof H archive query r algorithm a b x y =
+    let lanes : List WholeLane = lanes_of archive.texts query in
+    let by : Bounding = bounding algorithm lanes in
+    let cut : x.cut ≡ y.cut = one_first_settled by lanes r x.cut y.cut x.first y.first in
+    let brackets : x.brackets ≡ y.brackets =
+    one_bracketing by (shown lanes y.cut) x.brackets y.brackets (subst (λ (c : List ℕ). AreBracketsBy by (shown lanes c) x.brackets) cut x.bounds) y.bounds in
+    let answer : a.answer ≡ b.answer =
+    one_chosen y.brackets r a.answer b.answer (risen_are_distinct y.brackets y.bounds.rise) (subst (λ (bs : List Bracket). IsChosen bs r a.answer) brackets x.answer) y.answer in
+    one_shown H archive query algorithm y.cut (docs_of y.brackets) a b
+    (subst (λ (bs : List Bracket). IsShownAt H archive query algorithm y.cut (docs_of bs) a) brackets
+    (subst (λ (c : List ℕ). IsShownAt H archive query algorithm c (docs_of x.brackets) a) cut (honest_shown H archive query r algorithm a x)))
+    (honest_shown H archive query r algorithm b y) answer
+
+-- two proofs of the same cut that have no answer
+pub one_cut_shown : (H : List ℕ → List ℕ) (archive : Archive) (query : List (List ℕ × ℕ)) (algorithm : Algorithm) (cut : List ℕ) (a b : Proof)
+    → IsCutShown H archive query algorithm cut a → IsCutShown H archive query algorithm cut b → a ≡ b
+one_cut_shown H archive query algorithm cut a b x y =
+    let same = one_met (shown (lanes_of archive.texts query) cut) x.documents y.documents x.met y.met in
+    one_shown H archive query algorithm cut y.documents a b (subst (λ (docs : List ℕ). IsShownAt H archive query algorithm cut docs a) same x.shows) y.shows
+    (x.empty ∙ sym y.empty)

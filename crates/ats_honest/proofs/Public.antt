@@ -72,12 +72,18 @@ pub use Rattle.ats_honest.proofs.StandingTerms.{standing_rises}
 pub use Rattle.ats_honest.proofs.StandingTerms.{standing_same}
 -- all entries of lanes with inverted lists over 65536 documents name documents below 65536
 pub use Rattle.ats_honest.proofs.MetDocuments.{lists_below}
--- if a cut has at least one bracket, there is at least one lane
-pub use Rattle.ats_honest.proofs.MetDocuments.{lists_some}
--- if all entries name documents below n, the documents of a cut's brackets are below n
-pub use Rattle.ats_honest.proofs.MetDocuments.{met_below}
--- the documents of a cut's brackets rise strictly
-pub use Rattle.ats_honest.proofs.MetDocuments.{met_rises}
+-- all documents that shown entries name, sorted and without duplicates, are those that the cut meets
+pub use Rattle.ats_honest.proofs.MetDocuments.{are_met}
+-- the documents that the shown entries of a lane name
+pub use Rattle.ats_honest.proofs.MetDocuments.{docs_in}
+-- the documents of a cut's brackets are those that the cut meets
+pub use Rattle.ats_honest.proofs.MetDocuments.{brackets_met}
+-- if a cut meets a document, there is at least one lane
+pub use Rattle.ats_honest.proofs.MetDocuments.{met_lists}
+-- if all entries name documents below n, the documents that a cut meets are below n
+pub use Rattle.ats_honest.proofs.MetDocuments.{met_low}
+-- a shown entry of the cut names each of the documents that it meets
+pub use Rattle.ats_honest.proofs.MetDocuments.{met_named}
 -- a strictly increasing list of numbers below n has at most n numbers
 pub use Rattle.ats_honest.proofs.MetDocuments.{rising_few}
 -- positions that spots need are below n + 2, if each spot's lower position is at most n
@@ -96,21 +102,21 @@ pub use Rattle.ats_honest.proofs.MetLeaves.{IsSmall}
 pub use Rattle.ats_honest.proofs.MetLeaves.{documents_come}
 -- the documents tree has one leaf for each text
 pub use Rattle.ats_honest.proofs.MetLeaves.{documents_each}
--- the spots, positions, cut, brackets, documents and picks are those of an honest proof, within the limits
+-- the spots, positions, cut, documents and rows are those of a proof of the cut, within the limits
 pub use Rattle.ats_honest.proofs.Whole.{HasParts}
 -- the documents of a list of brackets, in the order of the brackets
 pub use Rattle.ats_honest.proofs.Whole.{docs_of}
--- an honest TRA proof has a leaf and a section per met document, with a slot per present term
+-- a TRA proof of a cut has a leaf and a section per met document, with a slot per present term
 pub use Rattle.ats_honest.proofs.Whole.{documents_are}
--- the proof built from the right spots, positions, cut, brackets, documents and picks is honest
-pub use Rattle.ats_honest.proofs.Whole.{is_honest}
+-- the proof built from the right spots, positions, cut and documents is a proof of the cut
+pub use Rattle.ats_honest.proofs.Whole.{is_shown}
 -- a query has as many lanes as slots that say that their term is present
 pub use Rattle.ats_honest.proofs.Whole.{lanes_each}
 -- a proof built from the right parts has one list front for each slot whose term is present
 pub use Rattle.ats_honest.proofs.Whole.{lists_each}
 -- the fields of a proof built from the right parts are in the grammar's order
 pub use Rattle.ats_honest.proofs.Whole.{proof_comes}
--- the proof over an archive made of spots, leaf positions, a cut, brackets, documents and picks
+-- the proof over an archive made of spots, leaf positions, a cut, met documents, what is shown of them, and rows
 pub use Rattle.ats_honest.proofs.Whole.{proof_of}
 -- an honest TNRA proof for at most 32 query terms and 1000 rows has at most 2^26 bytes
 pub use Rattle.ats_honest.proofs.Short.{honest_short}
@@ -124,5 +130,15 @@ pub use Rattle.ats_honest.proofs.Lookups.{looked_up_in}
 pub use Rattle.ats_honest.proofs.Lookups.{looked_up_out}
 -- the impact looked up by a number past the last term is 0
 pub use Rattle.ats_honest.proofs.Lookups.{looked_up_past}
+-- the cut of an honest proof shows from one to all entries of each lane
+pub use Rattle.ats_honest.proofs.ShownCut.{honest_cut}
+-- the documents of an honest proof's brackets are those that its cut meets
+pub use Rattle.ats_honest.proofs.ShownCut.{honest_met}
+-- an honest proof shows its cut, with the documents of its brackets
+pub use Rattle.ats_honest.proofs.ShownCut.{honest_shown}
+-- a proof of the first settled cut, with the rows that are chosen there, is honest
+pub use Rattle.ats_honest.proofs.ShownCut.{is_honest}
+-- two proofs of one cut without an answer are equal
+pub use Rattle.ats_honest.proofs.OneProof.{one_cut_shown}
 -- two honest proofs for one archive, query, row limit and algorithm are equal
 pub use Rattle.ats_honest.proofs.OneProof.{one_proof}

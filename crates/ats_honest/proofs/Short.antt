@@ -1,5 +1,5 @@
 -- No honest TNRA proof has more than 2^26 bytes.
-use Rattle.std.proofs.Common.{◌≡◌, ◌+◌, ◌*◌, ◌^◌, ◌<◌, ◌≤◌, ◌++◌, ℕ, zero, suc, List, [], ◌∷◌, length, map, take, get_or, Option, None, refl, sym, ap, subst, ◌∙◌, arith, length-append, length-take}
+use Rattle.std.proofs.Common.{◌≡◌, ◌+◌, ◌*◌, ◌^◌, ◌<◌, ◌≤◌, ◌++◌, ℕ, zero, suc, List, [], ◌∷◌, length, take, get_or, Option, None, refl, sym, ap, subst, ◌∙◌, arith, length-append, length-take}
 use Rattle.std.specs.List.{All, concat, flat_map}
 use Rattle.std.proofs.lemmas.List.{length-map, length-take-le}
 use Rattle.std.proofs.lemmas.List.Elements.{All-head, All-map, All-tail}
@@ -21,9 +21,7 @@ use Rattle.ats_commit.specs.Archive.{Archive}
 use Rattle.ats_commit.specs.Own.{AreTexts}
 use Rattle.ats_commit.specs.Trees.{dictionary_of}
 use Rattle.ats_commit.proofs.Public.{header_in_range, few_within}
-use Rattle.ats_bound.specs.declared.bracket.Bracket.{Bracket}
-use Rattle.ats_bound.specs.Schedule.{IsCut, WholeLane, shown}
-use Rattle.ats_bound.proofs.Public.{scheduled_is_cut}
+use Rattle.ats_bound.specs.Schedule.{IsCut, WholeLane}
 use Rattle.ats_proof.specs.declared.record.Algorithm.TheVariants.{Tnra}
 use Rattle.ats_proof.specs.declared.record.Slot.{Slot}
 use Rattle.ats_proof.specs.Parts.{counted, spelled}
@@ -34,12 +32,14 @@ use Rattle.ats_honest.specs.Honest.{IsHonest, length_of, placed, prefix_of, pref
 use Rattle.ats_honest.proofs.Coming.{AreDigests}
 use Rattle.ats_honest.proofs.Elided.{dictionary_few}
 use Rattle.ats_honest.proofs.Fronts.{prefix_each}
-use Rattle.ats_honest.proofs.MetDocuments.{lists_below, met_below, met_rises, rising_few}
+use Rattle.ats_honest.proofs.MetDocuments.{lists_below, met_low, rising_few}
 use Rattle.ats_honest.proofs.Needed.{positions_few}
 use Rattle.ats_honest.proofs.OwnEntries.{own_few, own_leaves}
 use Rattle.ats_honest.proofs.Present.{HasList, lanes_few, lists_within}
 use Rattle.ats_honest.proofs.Ranges.{positions_below}
+use Rattle.ats_honest.proofs.ShownCut.{honest_cut, honest_met}
 use Rattle.ats_honest.proofs.Spots.{IsLeaf, leaf_among, spot_each}
+use Rattle.ats_honest.proofs.Whole.{docs_of}
 
 -- ---- how many bytes fields have
 
@@ -237,13 +237,13 @@ module _ (H : List ℕ → List ℕ) (sized : (bytes : List ℕ) → length (H b
   lists = lists_within archive.texts query are.within.few
 
   is_cut : IsCut lanes honest.cut
-  is_cut = scheduled_is_cut lanes honest.first.turns honest.cut (λ i d inside. (lists i d inside).some) honest.first.scheduled
+  is_cut = honest_cut H archive query r Tnra proof honest
 
   met : length proof.met ≤ 65536
   met =
-      let docs : List ℕ = map (λ (b : Bracket). b.doc) honest.brackets in
-      let few = rising_few 65536 docs (met_rises (shown lanes honest.cut) honest.brackets honest.bounds)
-      (met_below 65536 lanes honest.cut honest.brackets (lists_below lanes lists) honest.bounds) in
+      let docs : List ℕ = docs_of honest.brackets in
+      let are_met = honest_met H archive query r Tnra proof honest in
+      let few = rising_few 65536 docs are_met.rise (met_low 65536 lanes honest.cut docs (lists_below lanes lists) are_met) in
       omega (arith, few, ap (λ (ids : List ℕ). length ids) honest.met)
 
   has_few : HasFew proof

@@ -10,13 +10,12 @@ use Rattle.ats_lists.specs.declared.format.Format.TheVariants.{Two}
 use Rattle.ats_lists.proofs.Public.{elided-few}
 use Rattle.ats_commit.specs.Archive.{Archive}
 use Rattle.ats_bound.specs.Schedule.{IsCut, WholeLane}
-use Rattle.ats_bound.proofs.Public.{scheduled_is_cut}
 use Rattle.ats_proof.specs.declared.record.Algorithm.{Algorithm}
 use Rattle.ats_proof.specs.Value.{Prefix, Proof}
 use Rattle.ats_honest.specs.Lanes.{lanes_of}
 use Rattle.ats_honest.specs.Honest.{IsHonest}
 use Rattle.ats_honest.proofs.Fronts.{prefix_at, prefix_each}
-use Rattle.ats_honest.proofs.Present.{lanes_have_lists}
+use Rattle.ats_honest.proofs.ShownCut.{honest_cut}
 
 in_blocks : (H : List ℕ → List ℕ) (format : Format) (entries : List Entry) (count : ℕ) → format ≡ Two → 1 ≤ count → count ≤ length entries
     → length (prefix_digests H format entries count) ≤ 7
@@ -32,8 +31,7 @@ pub fronts_short : (H : List ℕ → List ℕ) (archive : Archive) (query : List
     → archive.format ≡ Two → IsHonest H archive query r algorithm proof → All (λ (prefix : Prefix). length prefix.digests ≤ 7) proof.lists
 fronts_short H archive query r algorithm proof blocks honest =
     let lanes : List WholeLane = lanes_of archive.texts query in
-    let is_cut : IsCut lanes honest.cut =
-    scheduled_is_cut lanes honest.first.turns honest.cut (λ i d inside. (lanes_have_lists archive.texts query i d inside).some) honest.first.scheduled in
+    let is_cut : IsCut lanes honest.cut = honest_cut H archive query r algorithm proof honest in
     let each = prefix_each H archive.format proof.met lanes honest.cut is_cut.size in
     subst (All HasFew) (sym honest.lists) (λ k d inside.
     let none : WholeLane = record { coefficient = 0; entries = [] } in

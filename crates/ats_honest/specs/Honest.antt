@@ -1,6 +1,7 @@
 -- The proof of a query's best documents that an honest server makes, by each algorithm.
 use Rattle.std.specs.Prelude.{◌≡◌, ◌<◌, ℕ, List, [], ◌∷◌, length, map, take}
-use Rattle.std.specs.List.{concat}
+use Rattle.std.specs.List.{concat, list_any}
+use Rattle.std.specs.List.Sorted.{IsStrictlyIncreasing}
 use Rattle.ats_tree.specs.Elided.{elided_digests}
 use Rattle.ats_lists.specs.declared.entry.Entry.{Entry}
 use Rattle.ats_dict.specs.declared.spot.Spot.{Spot}
@@ -12,10 +13,11 @@ use Rattle.ats_commit.specs.Root.{header_parts}
 use Rattle.ats_commit.specs.Trees.{dictionary_of}
 use Rattle.ats_bound.specs.declared.bracket.Bracket.{Bracket}
 use Rattle.ats_bound.specs.Chosen.{IsChosen}
+use Rattle.ats_bound.specs.Cut.{ShownLane, names}
 use Rattle.ats_bound.specs.Schedule.{WholeLane, AreBracketsBy, IsFirstSettledBy, shown}
 use Rattle.ats_proof.specs.declared.record.Algorithm.{Algorithm}
 use Rattle.ats_proof.specs.Value.{Prefix, Proof, IsProof, fields_of}
-use Rattle.ats_honest.specs.Terms.{AreSpots, AreNeeded, place, shown_entry, slot_of}
+use Rattle.ats_honest.specs.Terms.{AreSpots, AreNeeded, has, place, shown_entry, slot_of}
 use Rattle.ats_honest.specs.Lanes.{bounding, lanes_of, present}
 use Rattle.ats_honest.specs.Documents.{HasDocuments}
 
@@ -35,6 +37,27 @@ abbrev pub prefixes : (List ℕ → List ℕ) → Format → List ℕ → List W
 prefixes H format met [] cut = []
 prefixes H format met (lane ∷ lanes) [] = []
 prefixes H format met (lane ∷ lanes) (count ∷ cut) = prefix_of H format met lane.entries count ∷ prefixes H format met lanes cut
+
+-- the documents that the shown entries name, each once, ascending
+pub record AreMet (lanes : List ShownLane) (documents : List ℕ) : Type 0 where
+  pub rise : IsStrictlyIncreasing documents
+  pub named : (doc : ℕ) → has doc documents ≡ list_any (names doc) lanes
+
+-- The proof shows the leaves that prove where the query's terms are; the lists up to this cut; and these documents as
+-- the met ones, with what is shown of them. Its answer may be any.
+pub record IsShownAt (H : List ℕ → List ℕ) (archive : Archive) (query : List (List ℕ × ℕ)) (algorithm : Algorithm) (cut documents : List ℕ) (proof : Proof) : Type 0 where
+  pub spots : List Spot
+  pub found : AreSpots (dictionary_of H archive) query spots
+  pub positions : List ℕ
+  pub needed : AreNeeded spots positions
+  pub format : proof.format ≡ archive.format
+  pub header : proof.header ≡ header_parts H archive
+  pub dict : proof.dict ≡ map (shown_entry (dictionary_of H archive)) positions
+  pub dict_digests : proof.dict_digests ≡ elided_digests H (dict_leaves (dictionary_of H archive)) positions
+  pub slots : proof.slots ≡ map (slot_of positions) spots
+  pub met : proof.met ≡ documents
+  pub lists : proof.lists ≡ prefixes H archive.format proof.met (lanes_of archive.texts query) cut
+  pub docs : HasDocuments algorithm H archive.texts (present archive.texts query) proof.met proof.docs
 
 -- The honest proof shows the leaves that prove where the query's terms are; the first cut of the schedule at which an
 -- answer is settled by the algorithm's brackets, with the documents that it meets and what is shown of them; and the
@@ -73,5 +96,25 @@ pub record IsProved (H : List ℕ → List ℕ) (archive : Archive) (query : Lis
 pub record IsTooLong (H : List ℕ → List ℕ) (archive : Archive) (query : List (List ℕ × ℕ)) (r : ℕ) (algorithm : Algorithm) (limit bytes : ℕ) : Type 0 where
   pub proof : Proof
   pub honest : IsHonest H archive query r algorithm proof
+  pub bytes_are : bytes ≡ length_of proof
+  pub beyond : limit < bytes
+
+-- The proof that shows a cut, with the documents that it meets, and has no answer.
+pub record IsCutShown (H : List ℕ → List ℕ) (archive : Archive) (query : List (List ℕ × ℕ)) (algorithm : Algorithm) (cut : List ℕ) (proof : Proof) : Type 0 where
+  pub documents : List ℕ
+  pub met : AreMet (shown (lanes_of archive.texts query) cut) documents
+  pub shows : IsShownAt H archive query algorithm cut documents proof
+  pub empty : proof.answer ≡ []
+
+-- the bytes spell that proof
+pub record IsCutProved (H : List ℕ → List ℕ) (archive : Archive) (query : List (List ℕ × ℕ)) (algorithm : Algorithm) (cut : List ℕ) (bytes : List ℕ) : Type 0 where
+  pub proof : Proof
+  pub shows : IsCutShown H archive query algorithm cut proof
+  pub spells : IsProof bytes proof
+
+-- that proof has this many bytes, and they are more than the limit
+pub record IsCutTooLong (H : List ℕ → List ℕ) (archive : Archive) (query : List (List ℕ × ℕ)) (algorithm : Algorithm) (cut : List ℕ) (limit bytes : ℕ) : Type 0 where
+  pub proof : Proof
+  pub shows : IsCutShown H archive query algorithm cut proof
   pub bytes_are : bytes ≡ length_of proof
   pub beyond : limit < bytes

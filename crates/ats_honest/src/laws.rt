@@ -14,7 +14,7 @@ ghost use Rattle.ats_proof.specs.declared.record.Algorithm.TheVariants.{Tnra};
 ghost use Rattle.ats_proof.specs.Value.{Proof};
 ghost use Rattle.ats_bound.specs.Ranked.{impact_in};
 ghost use Rattle.ats_honest.specs.Documents.{IsTermSpot};
-ghost use Rattle.ats_honest.specs.Honest.{IsHonest, length_of};
+ghost use Rattle.ats_honest.specs.Honest.{IsCutShown, IsHonest, length_of};
 
 use ats_hash::HashKind;
 
@@ -30,6 +30,15 @@ pub fn honest_proofs_exist<H: HashKind>()
 pub fn honest_proofs_are_one<H: HashKind>()
     ensures { (archive : Archive) (query : List (List ℕ × ℕ)) (r : ℕ) (algorithm : Algorithm) (a b : Proof)
         → IsHonest H.hash archive query r algorithm a → IsHonest H.hash archive query r algorithm b → a ≡ b }
+{}
+
+/// Every query over every archive has one proof by either algorithm that shows a given cut of its lists, with the
+/// documents that the cut meets, and has no answer.
+pub fn cuts_have_one_proof<H: HashKind>()
+    ensures exists { (archive : Archive) (query : List (List ℕ × ℕ)) (algorithm : Algorithm) (cut : List ℕ)
+        → IsQuery query → (proof : Proof) × IsCutShown H.hash archive query algorithm cut proof }
+    ensures one { (archive : Archive) (query : List (List ℕ × ℕ)) (algorithm : Algorithm) (cut : List ℕ) (a b : Proof)
+        → IsCutShown H.hash archive query algorithm cut a → IsCutShown H.hash archive query algorithm cut b → a ≡ b }
 {}
 
 /// No honest TNRA proof has more bytes than a proof may have: 2^26, for a query of at most 32 terms over an archive,

@@ -1,5 +1,5 @@
--- The fields of the honest proof, appended one after another.
-use Rattle.std.proofs.Common.{◌≡◌, ◌^◌, ◌<◌, ◌≤◌, ◌++◌, ℕ, List, [], ◌∷◌, length, map, Option, Some, None, refl, sym, ap, ap₂, ◌∙◌, append-nil}
+-- The fields of a proof, appended one after another.
+use Rattle.std.proofs.Common.{◌≡◌, ◌^◌, ◌<◌, ◌≤◌, ◌++◌, ℕ, List, [], ◌∷◌, length, map, Option, Some, None, refl, sym, ap, ap₂, subst, ◌∙◌, append-nil}
 use Rattle.std.specs.List.{concat, flat_map}
 use Rattle.ats_tree.specs.Elided.{elided_digests}
 use Rattle.ats_lists.specs.declared.format.Format.{Format}
@@ -9,48 +9,62 @@ use Rattle.ats_dict.specs.declared.spot.Spot.{Spot}
 use Rattle.ats_commit.specs.Archive.{Archive}
 use Rattle.ats_commit.specs.Root.{header_parts}
 use Rattle.ats_commit.specs.Trees.{dictionary_of}
-use Rattle.ats_bound.specs.declared.bracket.Bracket.{Bracket}
 use Rattle.ats_proof.specs.Records.{front_record}
 use Rattle.ats_proof.specs.Written.{Written, after, writing}
 use Rattle.ats_proof.specs.declared.record.Algorithm.{Algorithm}
 use Rattle.ats_proof.specs.declared.record.Algorithm.TheVariants.{Tra, Tnra}
 use Rattle.ats_proof.specs.Parts.{counted, spelled}
-use Rattle.ats_proof.specs.Value.{Documents, documents_fields, fields_of, front_fields, header_fields, entry_fields, digest_fields, slot_fields, id_fields, prefix_fields, number_of_algorithm}
+use Rattle.ats_proof.specs.Value.{Documents, IsProof, Proof, documents_fields, fields_of, front_fields, header_fields, entry_fields, digest_fields, slot_fields, id_fields, prefix_fields, number_of_algorithm}
 use Rattle.ats_honest.specs.Terms.{shown_entry, slot_of}
 use Rattle.ats_honest.specs.Documents.{HasDocuments}
 use Rattle.ats_honest.specs.Lanes.{lanes_of}
-use Rattle.ats_honest.specs.Honest.{IsProved, length_of, prefixes}
-use Rattle.ats_honest.proofs.Public.{HasParts, docs_of, documents_are, is_honest, lists_each, proof_comes, proof_of}
-use Rattle.ats_prover.specs.Writing.{IsWritten, put}
+use Rattle.ats_honest.specs.Honest.{prefixes}
+use Rattle.ats_honest.proofs.Public.{HasParts, documents_are, is_shown, lists_each, proof_comes, proof_of}
+use Rattle.ats_prover.specs.Writing.{IsShownWith, IsWritten, put}
 use Rattle.ats_prover.proofs.Putting.{put_all}
 use Rattle.ats_prover.proofs.Records.{IsKindOf, front_is}
 
--- the parts of the honest proof were appended, one after another
-pub written : (H : List ℕ → List ℕ) (archive : Archive) (query : List (List ℕ × ℕ)) (r : ℕ) (algorithm : Algorithm) (spots : List Spot) (positions cut : List ℕ) (brackets : List Bracket) (docs : Option Documents) (picks : List ℕ) (w x y z : Written)
-    → HasParts H archive query r algorithm spots positions cut brackets docs picks
+-- the parts of a proof of a cut were appended, one after another
+pub written : (H : List ℕ → List ℕ) (archive : Archive) (query : List (List ℕ × ℕ)) (algorithm : Algorithm) (spots : List Spot) (positions cut documents : List ℕ) (docs : Option Documents) (picks : List ℕ) (w x y z : Written)
+    → HasParts H archive query algorithm spots positions cut documents docs picks
     → x ≡ put w (front_fields archive.format docs ++ header_fields (header_parts H archive) ++ spelled 2 (length (map (slot_of positions) spots)) ∷ [])
     → y ≡ put x (counted 2 entry_fields (map (shown_entry (dictionary_of H archive)) positions) ++ counted 2 digest_fields (elided_digests H (dict_leaves (dictionary_of H archive)) positions)
     ++ flat_map slot_fields (map (slot_of positions) spots))
-    → z ≡ put y (counted 4 id_fields (docs_of brackets) ++ flat_map prefix_fields (prefixes H archive.format (docs_of brackets) (lanes_of archive.texts query) cut) ++ documents_fields docs ++ counted 2 id_fields picks)
-    → (algorithm ≡ Tnra → length_of (proof_of H archive query spots positions cut brackets docs picks) ≤ 2 ^ 26)
-    → IsWritten H archive query r algorithm w z
-written H archive query r algorithm spots positions cut brackets docs picks w x y z parts front terms walk short =
-    let proof = proof_of H archive query spots positions cut brackets docs picks in
+    → z ≡ put y (counted 4 id_fields documents ++ flat_map prefix_fields (prefixes H archive.format documents (lanes_of archive.texts query) cut) ++ documents_fields docs ++ counted 2 id_fields picks)
+    → IsWritten (IsShownWith H archive query algorithm cut documents picks) w z
+written H archive query algorithm spots positions cut documents docs picks w x y z parts front terms walk =
+    let proof = proof_of H archive query spots positions cut documents docs picks in
+    let shows = is_shown H archive query algorithm spots positions cut documents docs picks parts in
     let a : List (List ℕ) = front_fields archive.format docs ++ header_fields (header_parts H archive) ++ spelled 2 (length (map (slot_of positions) spots)) ∷ [] in
     let b : List (List ℕ) = counted 2 entry_fields (map (shown_entry (dictionary_of H archive)) positions) in
     let c : List (List ℕ) = counted 2 digest_fields (elided_digests H (dict_leaves (dictionary_of H archive)) positions) in
     let d : List (List ℕ) = flat_map slot_fields (map (slot_of positions) spots) in
-    let e : List (List ℕ) = counted 4 id_fields (docs_of brackets) in
-    let f : List (List ℕ) = flat_map prefix_fields (prefixes H archive.format (docs_of brackets) (lanes_of archive.texts query) cut) in
+    let e : List (List ℕ) = counted 4 id_fields documents in
+    let f : List (List ℕ) = flat_map prefix_fields (prefixes H archive.format documents (lanes_of archive.texts query) cut) in
     let g : List (List ℕ) = documents_fields docs in
     let h : List (List ℕ) = counted 2 id_fields picks in record {
       proof = proof;
-      honest = is_honest H archive query r algorithm spots positions cut brackets docs picks parts;
-      come = proof_comes H archive query r algorithm spots positions cut brackets docs picks parts;
-      prefix_each = lists_each H archive query r algorithm spots positions cut brackets docs picks parts;
+      such = record { shows = shows; rows = refl };
+      come = proof_comes H archive query algorithm spots positions cut documents docs picks parts;
+      prefix_each = lists_each H archive query algorithm spots positions cut documents docs picks parts;
+      documents = documents_are H archive query algorithm cut documents proof shows;
       asked = walk ∙ ap (λ (v : Written). put v (e ++ f ++ g ++ h)) (terms ∙ ap (λ (v : Written). put v (b ++ c ++ d)) front) ∙ put_all w a b c d e f g h;
-      short = short;
     }
+
+-- a proof of one kind is one of another
+pub written_as : (IsSuch IsOther : Proof → Type 0) (before now : Written) → ((proof : Proof) → IsSuch proof → IsOther proof) → IsWritten IsSuch before now → IsWritten IsOther before now
+written_as IsSuch IsOther before now as_other is = record {
+  proof = is.proof;
+  such = as_other is.proof is.such;
+  come = is.come;
+  prefix_each = is.prefix_each;
+  documents = is.documents;
+  asked = is.asked;
+}
+
+-- a writer that was new
+pub from_new : (IsSuch : Proof → Type 0) (limit : ℕ) (new now : Written) → new ≡ writing limit [] → IsWritten IsSuch new now → IsWritten IsSuch (writing limit []) now
+from_new IsSuch limit new now made is = subst (λ (v : Written). IsWritten IsSuch v now) made is
 
 -- which algorithm's proofs have documents
 pub kind_of_documents : (H : List ℕ → List ℕ) (texts : List (List ℕ)) (terms : List (List ℕ × ℕ)) (met : List ℕ) (algorithm : Algorithm) (docs : Option Documents)
@@ -73,18 +87,20 @@ front_put f format algorithm docs h own n m w kind same header number documents 
 abbrev pub AreJoined : Type 0
 AreJoined = (limit : ℕ) (bytes more : List ℕ) → after (writing limit bytes) more ≡ writing limit (bytes ++ more)
 
-pub all_asked : AreJoined → (H : List ℕ → List ℕ) (archive : Archive) (query : List (List ℕ × ℕ)) (r : ℕ) (algorithm : Algorithm) (limit : ℕ) (w : Written) (is : IsWritten H archive query r algorithm (writing limit []) w)
-    → w ≡ writing limit (concat (fields_of is.proof))
-all_asked joined H archive query r algorithm limit w is = is.asked ∙ joined limit [] (concat (fields_of is.proof))
+module _ (IsSuch : Proof → Type 0) (limit : ℕ) (w : Written) (is : IsWritten IsSuch (writing limit []) w) where
+  pub all_asked : AreJoined → w ≡ writing limit (concat (fields_of is.proof))
+  all_asked joined = is.asked ∙ joined limit [] (concat (fields_of is.proof))
 
-pub is_proved : (H : List ℕ → List ℕ) (archive : Archive) (query : List (List ℕ × ℕ)) (r : ℕ) (algorithm : Algorithm) (limit : ℕ) (w : Written) (bytes : List ℕ) (is : IsWritten H archive query r algorithm (writing limit []) w)
-    → bytes ≡ concat (fields_of is.proof) → length bytes ≤ 2 ^ 26 → IsProved H archive query r algorithm bytes
-is_proved H archive query r algorithm limit w bytes is same few = record {
-  proof = is.proof;
-  honest = is.honest;
-  spells = record {
+  -- what a writer within its limit returns
+  pub whole_bytes : AreJoined → (bytes : List ℕ) → ((all : List ℕ) → w ≡ writing w.limit all → bytes ≡ all) → bytes ≡ concat (fields_of is.proof)
+  whole_bytes joined bytes returns =
+      let asked = all_asked joined in
+      let under : w.limit ≡ limit = ap (λ (v : Written). v.limit) asked in
+      returns (concat (fields_of is.proof)) (subst (λ (n : ℕ). w ≡ writing n (concat (fields_of is.proof))) (sym under) asked)
+
+  pub is_spelled : (bytes : List ℕ) → bytes ≡ concat (fields_of is.proof) → length bytes ≤ 2 ^ 26 → IsProof bytes is.proof
+  is_spelled bytes same few = record {
     spells = record { whole = record { come = is.come; parts = same ∙ sym (append-nil (concat (fields_of is.proof))) }; few = few };
     prefix_each = is.prefix_each;
-    documents = documents_are H archive query r algorithm is.proof is.honest;
-  };
-}
+    documents = is.documents;
+  }

@@ -5,3 +5,4 @@ mod Fronts
 mod MetLeaves
 mod Asked
 mod Sizes
+mod Named

@@ -1,12 +1,9 @@
--- The size of one honest proof, as appended to a writer, is the size of any.
-use Rattle.std.proofs.Common.{◌≡◌, ◌<◌, ◌≤◌, ℕ, List, [], ap, ◌∙◌, arith}
-use Rattle.ats_commit.specs.Archive.{Archive}
+-- The size of one proof, as appended to a writer, is the size of each, if such proofs are one.
+use Rattle.std.proofs.Common.{◌≡◌, ◌<◌, ◌≤◌, ℕ, [], ap, ◌∙◌, arith}
 use Rattle.ats_proof.specs.Written.{Written, writing}
-use Rattle.ats_proof.specs.declared.record.Algorithm.{Algorithm}
 use Rattle.ats_proof.specs.Value.{Proof}
-use Rattle.ats_honest.specs.Honest.{IsHonest, length_of}
+use Rattle.ats_honest.specs.Honest.{length_of}
 use Rattle.ats_prover.specs.Writing.{IsWritten}
-use Rattle.ats_honest.proofs.Public.{one_proof}
 use Rattle.ats_prover.proofs.Asked.{AreJoined, all_asked}
 
 -- `size` bytes were appended, under this limit
@@ -14,11 +11,11 @@ pub record IsAsked (limit size : ℕ) (w : Written) : Type 0 where
   pub all : w.asked ≡ size
   pub under : w.limit ≡ limit
 
-pub is_asked : AreJoined → (H : List ℕ → List ℕ) (archive : Archive) (query : List (List ℕ × ℕ)) (r : ℕ) (algorithm : Algorithm) (limit : ℕ) (w : Written) → IsWritten H archive query r algorithm (writing limit []) w
-    → (proof : Proof) → IsHonest H archive query r algorithm proof → IsAsked limit (length_of proof) w
-is_asked joined H archive query r algorithm limit w is proof honest =
-    let asked = all_asked joined H archive query r algorithm limit w is in record {
-      all = ap (λ (v : Written). v.asked) asked ∙ ap length_of (one_proof H archive query r algorithm is.proof proof is.honest honest);
+pub is_asked : AreJoined → (IsSuch : Proof → Type 0) → ((a b : Proof) → IsSuch a → IsSuch b → a ≡ b) → (limit : ℕ) (w : Written) → IsWritten IsSuch (writing limit []) w
+    → (proof : Proof) → IsSuch proof → IsAsked limit (length_of proof) w
+is_asked joined IsSuch one limit w is proof such =
+    let asked = all_asked IsSuch limit w is joined in record {
+      all = ap (λ (v : Written). v.asked) asked ∙ ap length_of (one is.proof proof is.such such);
       under = ap (λ (v : Written). v.limit) asked;
     }
 

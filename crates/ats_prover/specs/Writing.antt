@@ -1,18 +1,17 @@
 -- Fields that are appended to a writer.
-use Rattle.std.specs.Prelude.{◌≡◌, ◌≤◌, ◌^◌, ◌++◌, ℕ, List, [], length, Option}
+use Rattle.std.specs.Prelude.{◌≡◌, ◌++◌, ℕ, List, [], length, Option}
 use Rattle.std.specs.List.{All, concat, flat_map}
 use Rattle.ats_commit.specs.Archive.{Archive}
 use Rattle.ats_bound.specs.Schedule.{WholeLane}
 use Rattle.ats_proof.specs.Written.{Written, after}
 use Rattle.ats_proof.specs.declared.record.Algorithm.{Algorithm}
-use Rattle.ats_proof.specs.declared.record.Algorithm.TheVariants.{Tnra}
 use Rattle.ats_grammar.specs.Table.{End}
 use Rattle.ats_grammar.specs.Front.{Come}
 use Rattle.ats_grammar.specs.Grammar as grammar
 use Rattle.ats_proof.specs.Parts.{counted}
-use Rattle.ats_proof.specs.Value.{Documents, Proof, TermsSection, documents_fields, fields_of, id_fields, prefix_fields, present_in, section_fields}
+use Rattle.ats_proof.specs.Value.{AreDocumentsOf, Documents, Proof, TermsSection, documents_fields, fields_of, id_fields, prefix_fields, present_in, section_fields}
 use Rattle.ats_honest.specs.Documents.{AreHonestSections, HasDocuments, IsHonestSection}
-use Rattle.ats_honest.specs.Honest.{IsHonest, length_of, prefixes}
+use Rattle.ats_honest.specs.Honest.{IsShownAt, prefixes}
 use Rattle.ats_honest.specs.Order.{AreInOrder, ComesIn}
 
 -- the writer after these fields were appended, one after another
@@ -44,9 +43,9 @@ pub record AreDocumentsWritten (algorithm : Algorithm) (H : List ℕ → List �
   pub come : AreInOrder (length met) (length terms) docs
   pub asked : now ≡ put before (documents_fields docs)
 
--- the fields of the met documents, the fronts of the lists, what is shown of the documents, and the answer were
--- appended
-pub record IsWalkWritten
+-- the fields of what a proof shows at a cut were appended: the met documents, the fronts of the lists, and what is shown
+-- of the documents; and then those of the answer
+pub record IsCutWritten
     (algorithm : Algorithm)
     (H : List ℕ → List ℕ)
     (archive : Archive)
@@ -60,12 +59,16 @@ pub record IsWalkWritten
   pub come : AreInOrder (length met) (length terms) docs
   pub asked : now ≡ put before (counted 4 id_fields met ++ flat_map prefix_fields (prefixes H archive.format met lanes cut) ++ documents_fields docs ++ counted 2 id_fields picks)
 
--- all fields of the honest proof were appended, in the grammar's order
-pub record IsWritten (H : List ℕ → List ℕ) (archive : Archive) (query : List (List ℕ × ℕ)) (r : ℕ) (algorithm : Algorithm) (before now : Written) : Type 0 where
+-- a proof of a cut with these rows
+pub record IsShownWith (H : List ℕ → List ℕ) (archive : Archive) (query : List (List ℕ × ℕ)) (algorithm : Algorithm) (cut documents picks : List ℕ) (proof : Proof) : Type 0 where
+  pub shows : IsShownAt H archive query algorithm cut documents proof
+  pub rows : proof.answer ≡ picks
+
+-- all fields of a proof that is such were appended, in the grammar's order
+pub record IsWritten (IsSuch : Proof → Type 0) (before now : Written) : Type 0 where
   pub proof : Proof
-  pub honest : IsHonest H archive query r algorithm proof
+  pub such : IsSuch proof
   pub come : Come (fields_of proof) grammar.proof End
   pub prefix_each : length proof.lists ≡ present_in proof.slots
+  pub documents : AreDocumentsOf proof proof.docs
   pub asked : now ≡ put before (fields_of proof)
-  -- no honest TNRA proof has more bytes
-  pub short : algorithm ≡ Tnra → length_of proof ≤ 2 ^ 26

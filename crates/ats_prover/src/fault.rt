@@ -43,6 +43,12 @@ impl From<ats_tree::OutOfMemory> for OutOfMemory {
     }
 }
 
+impl From<ats_bound::OutOfMemory> for OutOfMemory {
+    fn from(_: ats_bound::OutOfMemory) -> Self {
+        OutOfMemory
+    }
+}
+
 impl From<ats_lists::OutOfMemory> for OutOfMemory {
     fn from(_: ats_lists::OutOfMemory) -> Self {
         OutOfMemory

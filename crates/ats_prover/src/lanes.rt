@@ -11,7 +11,7 @@ ghost use Rattle.ats_honest.specs.Lanes.{lanes_of};
 ghost use Rattle.ats_prover.specs.Nodes.{list_digests};
 
 use crate::fault::OutOfMemory;
-use ats_bound::Lane;
+use ats_bound::{Cut, Lane};
 use ats_dict::Spot;
 use ats_hash::HashKind;
 use ats_impact::idf;
@@ -71,4 +71,16 @@ pub(crate) fn query_lists<'a, H: HashKind>(
         }
     }
     Ok(QueryLists { lanes, digests })
+}
+
+/// How many entries each list has.
+pub(crate) fn list_counts(alloc: Global, lanes: &[Lane<'_>]) -> Result<Cut, OutOfMemory>
+    requires { AreWholeLanes (whole_lanes lanes.now) }
+    ensures { IfOk result (λ counts. counts ≡ map (λ lane. length lane.entries) (whole_lanes lanes.now)) }
+{
+    let mut counts = Cut::new(alloc);
+    for lane in lanes {
+        counts.push(lane.entries.len() as u32)?;
+    }
+    Ok(counts)
 }

@@ -2,14 +2,14 @@
 //!
 //! A proof shows where the query's terms are in the dictionary, the fronts of their lists up to the cut at which the
 //! walk ends, and the chosen answer. It has the digests that bind all of this to the root. A TRA proof also shows
-//! where the terms are in each met document. Nothing is hashed here: the hash function is a type without a call, and
-//! the index lends the digests of all nodes of its trees.
+//! where the terms are in each met document. A caller can also give the cut; such a proof has no answer. Nothing is
+//! hashed here: the hash function is a type without a call, and the index lends the digests of all nodes of its trees.
 //!
 //! The room stands on `ats_honest`, which defines honest proofs, on `ats_index` for the archive, on `ats_tnra` and
-//! `ats_tra` for the walks, and on `ats_proof` for the bytes. The bytes spell the one honest proof. Unless memory runs
-//! out, a proof is refused exactly if it is longer than the limit. A TNRA proof never has more than 2^26 bytes. That
-//! the check accepts these proofs is the law of `ats_accepts`. The order in which the parts are made may change
-//! freely; the bytes may not.
+//! `ats_tra` for the walks, and on `ats_proof` for the bytes. The bytes spell the one honest proof, or the one proof of
+//! the cut. Unless memory runs out, a proof is refused exactly if it is longer than the limit. An honest TNRA proof
+//! never has more than 2^26 bytes. That the check accepts honest proofs, and what a proof of a cut shows, is the law of
+//! `ats_accepts`. The order in which the parts are made may change freely; the bytes may not.
 //!
 //! ```
 //! use ats_impact::Top;
@@ -28,7 +28,9 @@ mod answer;
 mod dictionary;
 mod documents;
 mod fault;
+mod found;
 mod lanes;
+mod met;
 mod prefixes;
 mod present_terms;
 mod proving;
@@ -38,4 +40,5 @@ mod walking;
 
 pub use ats_proof::Algorithm;
 pub use fault::ProveFault;
-pub use proving::{prove, prove_within};
+pub use found::entry_counts;
+pub use proving::{prove, prove_within, show_within};

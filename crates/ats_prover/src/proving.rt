@@ -4,29 +4,30 @@ ghost use Rattle.std.specs.Prelude.{◌≡◌, ◌≤◌, ◌<◌, ◌^◌, ℕ,
 ghost use Rattle.std.specs.List.{All};
 ghost use Rattle.ats_lists.specs.Lists.{IsList};
 ghost use Rattle.ats_lists.specs.declared.entry.Entry.{Entry as Posting};
-ghost use Rattle.ats_bound.specs.declared.bracket.Bracket.{Bracket as Bounds};
-ghost use Rattle.ats_bound.specs.Schedule.{AreBracketsBy, AreWholeLanes, shown, whole_lanes};
-ghost use Rattle.ats_bound.specs.Schedule.{IsCut};
+ghost use Rattle.ats_commit.specs.Own.{AreTexts};
+ghost use Rattle.ats_bound.specs.Schedule.{AreWholeLanes, IsCut, shown, whole_lanes};
 ghost use Rattle.ats_proof.specs.declared.record.Algorithm.TheVariants.{Tnra};
 ghost use Rattle.ats_proof.specs.Value.{Proof};
 ghost use Rattle.ats_prover.specs.declared.fault.ProveFault.TheVariants.{OutOfMemory as MemoryWanted};
-ghost use Rattle.ats_honest.specs.Lanes.{bounding};
-ghost use Rattle.ats_honest.specs.Honest.{IsHonest, IsProved, length_of};
+ghost use Rattle.ats_honest.specs.Lanes.{lanes_of};
+ghost use Rattle.ats_honest.specs.Honest.{AreMet, IsCutProved, IsCutShown, IsHonest, IsProved, length_of};
+ghost use Rattle.ats_prover.specs.Found.{AreFound};
 ghost use Rattle.ats_prover.specs.Nodes.{list_digests};
-ghost use Rattle.ats_prover.specs.Fault.{IsFault, IsAnswerWithin};
-ghost use Rattle.ats_prover.specs.Writing.{IsWalkWritten, IsWritten};
+ghost use Rattle.ats_prover.specs.Fault.{IsAnswerWithin, IsCutFault, IsFault};
+ghost use Rattle.ats_prover.specs.Writing.{IsCutWritten, IsShownWith, IsWritten};
 
 use crate::answer::{documents, write_answer};
-use crate::dictionary::{spots, write_terms};
+use crate::dictionary::write_terms;
 use crate::documents::write_documents;
 use crate::fault::{OutOfMemory, ProveFault};
-use crate::lanes::query_lists;
+use crate::found::{QueryTerms, query_terms};
+use crate::met::met_documents;
 use crate::prefixes::write_lists;
 use crate::present_terms::PresentTerms;
 use crate::shown::keep_positions;
 use crate::walking::walk;
 use ats_base::Bytes;
-use ats_bound::{Lane, Walk};
+use ats_bound::Lane;
 use ats_grammar::MAX_PROOF;
 use ats_hash::HashKind;
 use ats_impact::Top;
@@ -37,16 +38,18 @@ use ats_terms::Query;
 use ats_tree::Leaves;
 use std::alloc::Global;
 
-// Writes what a proof shows of the end of the walk: the met documents, the fronts of the lists, what is shown of the
-// documents, and the answer.
-fn write_walk<H: HashKind>(
+// Writes what a proof shows at a cut: the met documents, the fronts of the lists, and what is shown of the documents.
+// Then it writes the answer.
+fn write_cut<H: HashKind>(
     alloc: Global,
     writer: &mut ProofWriter,
     index: &Index<H>,
     present: &PresentTerms<'_>,
     lanes: &[Lane<'_>],
     kept: &[&ListDigests],
-    walk: &Walk,
+    met: &[u32],
+    cut: &[u32],
+    picks: &[u32],
     algorithm: Algorithm,
 ) -> Result<(), OutOfMemory>
     requires lanes { AreWholeLanes (whole_lanes lanes.now) }
@@ -55,41 +58,48 @@ fn write_walk<H: HashKind>(
     requires within { All (λ lane. All (λ (e : Posting). e.doc < length index.now.texts) lane.entries)
         (whole_lanes lanes.now) }
     requires kept { map (λ n. n.now) kept.now ≡ list_digests H.hash index.now.format (whole_lanes lanes.now) }
-    requires cut { IsCut (whole_lanes lanes.now) walk.now.cut }
-    requires brackets { AreBracketsBy (bounding algorithm (whole_lanes lanes.now))
-        (shown (whole_lanes lanes.now) walk.now.cut) walk.now.brackets }
-    requires rows { length walk.now.picks ≤ 1000 }
+    requires cut { IsCut (whole_lanes lanes.now) cut.now }
+    requires met { AreMet (shown (whole_lanes lanes.now) cut.now) met.now }
+    requires rows { length picks.now ≤ 1000 }
     requires room { writer.old.asked ≤ 2 ^ 55 }
     ensures { OnOk result
-        (IsWalkWritten algorithm H.hash index.now present.now (whole_lanes lanes.now)
-        (map (λ (b : Bounds). b.doc) walk.now.brackets) walk.now.cut walk.now.picks writer.old writer.new) }
+        (IsCutWritten algorithm H.hash index.now present.now (whole_lanes lanes.now)
+        met.now cut.now picks.now writer.old writer.new) }
 {
-    let met = documents(alloc, walk.brackets.as_slice())?;
-    write_lists::<H>(alloc, writer, &met, lanes, kept, walk.cut.as_slice())?;
-    write_documents(alloc, writer, index, present, &met, algorithm)?;
-    write_answer(writer, walk.picks.as_slice())
+    write_lists::<H>(alloc, writer, met, lanes, kept, cut)?;
+    write_documents(alloc, writer, index, present, met, algorithm)?;
+    write_answer(writer, picks)
 }
 
-// Writes the whole honest proof.
-fn write_proof<H: HashKind>(
+// Writes a whole proof: what it shows at a cut, with these met documents, and these rows.
+fn write_shown<H: HashKind>(
     alloc: Global,
     writer: &mut ProofWriter,
     index: &Index<H>,
     query: &Query,
-    top: Top,
+    terms: &QueryTerms<'_>,
+    met: &[u32],
+    cut: &[u32],
+    picks: &[u32],
     algorithm: Algorithm,
 ) -> Result<(), OutOfMemory>
+    requires terms { AreFound H.hash index.now query.now terms.now.spots.items terms.now.present
+        (whole_lanes terms.now.lists.lanes.items) (map (λ n. n.now) terms.now.lists.digests.items) }
+    requires cut { IsCut (lanes_of index.now.texts query.now) cut.now }
+    requires met { AreMet (shown (lanes_of index.now.texts query.now) cut.now) met.now }
+    requires rows { length picks.now ≤ 1000 }
     requires room { writer.old.asked ≡ 0 }
-    ensures { OnOk result (IsWritten H.hash index.now query.now top algorithm writer.old writer.new) }
+    ensures written { OnOk result
+        (IsWritten (IsShownWith H.hash index.now query.now algorithm cut.now met.now picks.now)
+        writer.old writer.new) }
+    ensures texts { OnOk result (AreTexts index.now.texts) }
 {
-    // A collection's header is in range, its dictionary is sorted, and an answer has few rows.
+    // A collection's header is in range, and its dictionary is sorted.
     prove!(index.collection().documents() >= 1);
     prove!(index.collection().total() <= 1 << 24);
     prove!(index.dictionary().len() >= 2);
-    prove!(top.get() <= 1000);
-    let spots = spots(alloc, index.dictionary(), query)?;
     let mut positions = Vec::new(alloc);
-    keep_positions(&spots, &mut positions)?;
+    keep_positions(&terms.spots, &mut positions)?;
     writer.front_in(
         index.format(),
         algorithm,
@@ -102,19 +112,88 @@ fn write_proof<H: HashKind>(
         index.dictionary(),
         index.dict_nodes(),
         &positions,
-        &spots,
+        &terms.spots,
     )?;
-    let present = PresentTerms::of(alloc, query, &spots)?;
-    let lists = query_lists(alloc, index, query, &spots)?;
-    let end = walk(alloc, index, &present, &lists.lanes, top, algorithm)?;
-    write_walk(
+    write_cut(
         alloc,
         writer,
         index,
-        &present,
-        &lists.lanes,
-        &lists.digests,
-        &end,
+        &terms.present,
+        &terms.lists.lanes,
+        &terms.lists.digests,
+        met,
+        cut,
+        picks,
+        algorithm,
+    )
+}
+
+// Writes the whole honest proof.
+fn write_proof<H: HashKind>(
+    alloc: Global,
+    writer: &mut ProofWriter,
+    index: &Index<H>,
+    query: &Query,
+    top: Top,
+    algorithm: Algorithm,
+) -> Result<(), OutOfMemory>
+    requires room { writer.old.asked ≡ 0 }
+    ensures written { OnOk result
+        (IsWritten (IsHonest H.hash index.now query.now top algorithm) writer.old writer.new) }
+    ensures short { (proof : Proof) → algorithm ≡ Tnra → IsHonest H.hash index.now query.now top algorithm proof
+        → OnOk result (length_of proof ≤ 2 ^ 26) }
+{
+    // An answer has few rows, and a query few terms.
+    prove!(top.get() <= 1000);
+    prove!(query.len() <= 32);
+    let terms = query_terms(alloc, index, query)?;
+    let end = walk(
+        alloc,
+        index,
+        &terms.present,
+        &terms.lists.lanes,
+        top,
+        algorithm,
+    )?;
+    let met = documents(alloc, end.brackets.as_slice())?;
+    write_shown(
+        alloc,
+        writer,
+        index,
+        query,
+        &terms,
+        &met,
+        end.cut.as_slice(),
+        end.picks.as_slice(),
+        algorithm,
+    )
+}
+
+// Writes the whole proof of a cut, with no answer.
+fn write_unanswered<H: HashKind>(
+    alloc: Global,
+    writer: &mut ProofWriter,
+    index: &Index<H>,
+    query: &Query,
+    cut: &[u32],
+    algorithm: Algorithm,
+) -> Result<(), OutOfMemory>
+    requires cut { IsCut (lanes_of index.now.texts query.now) cut.now }
+    requires room { writer.old.asked ≡ 0 }
+    ensures { OnOk result
+        (IsWritten (IsCutShown H.hash index.now query.now algorithm cut.now) writer.old writer.new) }
+{
+    let terms = query_terms(alloc, index, query)?;
+    let met = met_documents(alloc, &terms.lists.lanes, cut)?;
+    write_shown(
+        alloc,
+        writer,
+        index,
+        query,
+        &terms,
+        &met,
+        cut,
+        &[],
         algorithm,
     )
 }
@@ -156,6 +235,33 @@ pub fn prove_within<H: HashKind>(
     records_are_joined();
     let mut writer = ProofWriter::new(alloc, limit);
     write_proof(alloc, &mut writer, index, query, top, algorithm)?;
+    match writer.finish() {
+        Ok(bytes) => Ok(bytes),
+        Err(length) => Err(ProveFault::ProofTooLong { length }),
+    }
+}
+
+/// The proof that shows a cut of the lists of a query's terms and has no answer, of at most `limit` bytes. The cut says
+/// for each term that some text has, in the query's order, how many entries of its list are shown.
+pub fn show_within<H: HashKind>(
+    alloc: Global,
+    index: &Index<H>,
+    query: &Query,
+    cut: &[u32],
+    algorithm: Algorithm,
+    limit: u64,
+) -> Result<Bytes, ProveFault>
+    requires cut { IsCut (lanes_of index.now.texts query.now) cut.now }
+    requires limit { limit ≤ 2 ^ 26 }
+    ensures ok { IfOk result (IsCutProved H.hash index.now query.now algorithm cut.now) }
+    ensures within { IfOk result (λ bytes. length bytes ≤ limit) }
+    ensures err { IfErr result (IsCutFault H.hash index.now query.now algorithm cut.now limit) }
+    ensures size { (proof : Proof) → IsCutShown H.hash index.now query.now algorithm cut.now proof
+        → IsAnswerWithin limit (length_of proof) result }
+{
+    records_are_joined();
+    let mut writer = ProofWriter::new(alloc, limit);
+    write_unanswered(alloc, &mut writer, index, query, cut, algorithm)?;
     match writer.finish() {
         Ok(bytes) => Ok(bytes),
         Err(length) => Err(ProveFault::ProofTooLong { length }),
