@@ -10,7 +10,7 @@ use Rattle.ats_plan.specs.Plan.{Plan, Fails, Tries, Gets, Reads}
 use Rattle.ats_plan.specs.Runs.{Does, Stops, IsDone, IsStopped}
 use Rattle.ats_plan.proofs.Public.{Leads, leads_try, leads_get, leads_read, at_memory, at_get, at_try}
 use Rattle.ats_console.specs.Read.{HasCollection, HasIndex}
-use Rattle.ats_console.specs.Steps.{StopsBy, IsRowCount, asks_ranking, reads_collection, reads_index}
+use Rattle.ats_console.specs.Steps.{StopsBy, IsRowCount, asks_query, asks_ranking, reads_collection, reads_index}
 use Rattle.ats_console.specs.Steps.{no_more, comes_to}
 use Rattle.ats_console.specs.Stops.{line_of_rows, stop_of_query}
 use Rattle.ats_console.specs.declared.stops.Stop.{Stop}
@@ -40,10 +40,14 @@ stops_by first stop_of fault stop is same = elim (other_stop stop) [
 -- ---- the first steps are taken
 
 module _ {plan : Plan Stop} {before mid : ShelfTold} where
+  pub leads_query : {text : List ℕ} {query : List (List ℕ × ℕ)} {rest : List (List ℕ × ℕ) → Plan Stop}
+      → Leads Shelf Memory plan before (asks_query text rest) mid → IsQueryOf text query → Leads Shelf Memory plan before (rest query) mid
+  leads_query {query = query} leads asked = leads_get query leads asked
+
   pub leads_ranking : {r : ℕ} {text : List ℕ} {query : List (List ℕ × ℕ)} {rest : List (List ℕ × ℕ) → Plan Stop}
       → Leads Shelf Memory plan before (asks_ranking r text rest) mid → IsRowCount r → IsQueryOf text query
       → Leads Shelf Memory plan before (rest query) mid
-  leads_ranking {query = query} leads rows asked = leads_get query (leads_try leads rows) asked
+  leads_ranking leads rows asked = leads_query (leads_try leads rows) asked
 
 -- where a step ended, and the value that it came to
 pub lands : {A : Type 0} {plan : Plan Stop} {before mid next : ShelfTold} (rest : A → Plan Stop) (found value : A)
@@ -235,7 +239,13 @@ module _ {plan : Plan Stop} {before mid : ShelfTold} where
       try_stops leads (inr ((λ (rows : IsRowCount r). omega (arith, rows.some, rows.few, range)), ap (λ (n : ℕ). Input (line_of_rows n)) same))
 
   -- the text is no query
+  pub text_stops : {text : List ℕ} {rest : List (List ℕ × ℕ) → Plan Stop}
+      → Leads Shelf Memory plan before (asks_query text rest) mid → (fault : QueryFault) → IsFirstFault text fault
+      → IsStopped Shelf Memory plan before mid (stop_of_query fault)
+  text_stops leads fault is = get_faults leads fault is
+
+  -- after the rows
   pub query_stops : {r : ℕ} {text : List ℕ} {rest : List (List ℕ × ℕ) → Plan Stop}
       → Leads Shelf Memory plan before (asks_ranking r text rest) mid → IsRowCount r → (fault : QueryFault) → IsFirstFault text fault
       → IsStopped Shelf Memory plan before mid (stop_of_query fault)
-  query_stops leads rows fault is = get_faults (leads_try leads rows) fault is
+  query_stops leads rows fault is = text_stops (leads_try leads rows) fault is

@@ -4,6 +4,8 @@
 pub use Rattle.ats_console.proofs.Fronts.{lands}
 -- the stop of a first fault is for out of memory, or it stops by that fault
 pub use Rattle.ats_console.proofs.Fronts.{stops_by}
+-- a query leads past its step
+pub use Rattle.ats_console.proofs.Fronts.{leads_query}
 -- a number of rows in range and a query lead past the first two steps of a ranking
 pub use Rattle.ats_console.proofs.Fronts.{leads_ranking}
 -- a file, a collection or an index that was read leads past its step
@@ -20,7 +22,9 @@ pub use Rattle.ats_console.proofs.Fronts.{at_bytes, at_collection, at_index}
 pub use Rattle.ats_console.proofs.Fronts.{passed_on}
 -- a step that finds no value, or does not hold, stops what comes to it
 pub use Rattle.ats_console.proofs.Fronts.{get_stops, try_stops}
--- so does a number of rows out of range, and a text that is no query
+-- so does a text that is no query
+pub use Rattle.ats_console.proofs.Fronts.{text_stops}
+-- so does a number of rows out of range, and then a text that is no query
 pub use Rattle.ats_console.proofs.Fronts.{rows_stops, query_stops}
 -- a query has no fault, and a text has at most one
 pub use Rattle.ats_console.proofs.OneFault.{no_query_fault, one_query_fault}

@@ -18,6 +18,15 @@ lines_from rank (row ∷ rows) = line_of rank row ++ lines_from (rank + 1) rows
 abbrev pub lines : List Row → List ℕ
 lines rows = lines_from 1 rows
 
+-- DOC
+abbrev pub line_of_document : ℕ → List ℕ
+line_of_document doc = decimal doc ++ codes "\n"
+
+-- a line for each document, in order
+abbrev pub lines_of_documents : List ℕ → List ℕ
+lines_of_documents [] = []
+lines_of_documents (doc ∷ documents) = line_of_document doc ++ lines_of_documents documents
+
 -- the bytes of a root, as lower-case hexadecimal digits
 abbrev pub line_of_root : List ℕ → List ℕ
 line_of_root root = encode_lower root ++ codes "\n"

@@ -35,11 +35,15 @@ pub record AsksRanking (r : ℕ) (text : List ℕ) : Type 0 where
   pub rows : IsRowCount r
   pub query : HasQuery text
 
+-- the query of a text
+abbrev pub asks_query : (text : List ℕ) → (List (List ℕ × ℕ) → Plan Stop) → Plan Stop
+asks_query text rest = Gets (List (List ℕ × ℕ)) (IsQueryOf text) (StopsBy (IsFirstFault text) stop_of_query) rest
+
 -- the rows, then the query
 abbrev pub asks_ranking : (r : ℕ) → (text : List ℕ) → (List (List ℕ × ℕ) → Plan Stop) → Plan Stop
 asks_ranking r text rest =
     Tries (IsRowCount r) (λ stop. (IsRowCount r → ⊥) × (stop ≡ Input (line_of_rows r)))
-    (Gets (List (List ℕ × ℕ)) (IsQueryOf text) (StopsBy (IsFirstFault text) stop_of_query) rest)
+    (asks_query text rest)
 
 -- a file of at most so many bytes
 abbrev pub reads_file : (name : List ℕ) → (limit : ℕ) → (List ℕ → Plan Stop) → Plan Stop

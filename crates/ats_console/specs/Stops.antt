@@ -57,7 +57,7 @@ status_of_stop (Faults count) = 10
 status_of_stop (Collision lines) = 5
 
 abbrev pub text_of_stop : Stop → List ℕ
-text_of_stop Usage = codes "usage: rank build root prove verify ask serve audit sweep trial migrate give fetch audit-fetch grow growth audit-growth\n"
+text_of_stop Usage = codes "usage: rank build root prove verify ask serve audit sweep trial migrate give fetch audit-fetch prove-both both audit-both grow growth audit-growth\n"
 text_of_stop Shelf = codes "fault: shelf\n"
 text_of_stop (Input line) = line
 text_of_stop (Rejected line) = line

@@ -115,6 +115,24 @@ pub record AuditFetchWords : Type 0 where
   pub doc : ℕ
   pub file : List ℕ
 
+-- the words of `prove-both INDEX QUERY PROOF`
+pub record ProveBothWords : Type 0 where
+  pub index : List ℕ
+  pub query : List ℕ
+  pub proof : List ℕ
+
+-- the words of `both ROOT QUERY PROOF`
+pub record BothWords : Type 0 where
+  pub root : List ℕ
+  pub query : List ℕ
+  pub proof : List ℕ
+
+-- the words of `audit-both INDEX QUERY PROOF`
+pub record AuditBothWords : Type 0 where
+  pub index : List ℕ
+  pub query : List ℕ
+  pub proof : List ℕ
+
 -- the words of `grow OLDINDEX NEWINDEX FILE`
 pub record GrowWords : Type 0 where
   pub old : List ℕ
@@ -149,6 +167,9 @@ pub data Command : Type 0 where
   Give : GiveWords → Command
   Fetch : FetchWords → Command
   AuditFetch : AuditFetchWords → Command
+  ProveBoth : ProveBothWords → Command
+  Both : BothWords → Command
+  AuditBoth : AuditBothWords → Command
   Grow : GrowWords → Command
   Growth : GrowthWords → Command
   AuditGrowth : AuditGrowthWords → Command
@@ -225,6 +246,21 @@ as_audit_fetch (index ∷ (doc ∷ (file ∷ []))) =
     option_map (λ n. AuditFetch (record { index = index; doc = n; file = file })) (number_of doc)
 as_audit_fetch _ = None
 
+abbrev pub as_prove_both : List (List ℕ) → Option Command
+as_prove_both (index ∷ (query ∷ (proof ∷ []))) =
+    Some (ProveBoth (record { index = index; query = query; proof = proof }))
+as_prove_both _ = None
+
+abbrev pub as_both : List (List ℕ) → Option Command
+as_both (root ∷ (query ∷ (proof ∷ []))) =
+    option_map (λ digest. Both (record { root = digest; query = query; proof = proof })) (root_word root)
+as_both _ = None
+
+abbrev pub as_audit_both : List (List ℕ) → Option Command
+as_audit_both (index ∷ (query ∷ (proof ∷ []))) =
+    Some (AuditBoth (record { index = index; query = query; proof = proof }))
+as_audit_both _ = None
+
 abbrev pub as_grow : List (List ℕ) → Option Command
 as_grow (old ∷ (new ∷ (file ∷ []))) = Some (Grow (record { old = old; new = new; file = file }))
 as_grow _ = None
@@ -239,17 +275,21 @@ abbrev pub as_audit_growth : List (List ℕ) → Option Command
 as_audit_growth (old ∷ (new ∷ (file ∷ []))) = Some (AuditGrowth (record { old = old; new = new; file = file }))
 as_audit_growth _ = None
 
--- the command is one of a text or of a growth
+-- the command is one of a text, of all documents with every term, or of a growth
 abbrev pub is_file_word : List ℕ → Bool
 is_file_word word = bytes_eq word (codes "give") || (bytes_eq word (codes "fetch")
-    || (bytes_eq word (codes "audit-fetch") || (bytes_eq word (codes "grow") || (bytes_eq word (codes "growth")
-    || bytes_eq word (codes "audit-growth")))))
+    || (bytes_eq word (codes "audit-fetch") || (bytes_eq word (codes "prove-both") || (bytes_eq word (codes "both")
+    || (bytes_eq word (codes "audit-both") || (bytes_eq word (codes "grow") || (bytes_eq word (codes "growth")
+    || bytes_eq word (codes "audit-growth"))))))))
 
 abbrev pub command_of_file : (word : List ℕ) → (arguments : List (List ℕ)) → Option Command
 command_of_file word arguments =
     if bytes_eq word (codes "give") then as_give arguments
     else if bytes_eq word (codes "fetch") then as_fetch arguments
     else if bytes_eq word (codes "audit-fetch") then as_audit_fetch arguments
+    else if bytes_eq word (codes "prove-both") then as_prove_both arguments
+    else if bytes_eq word (codes "both") then as_both arguments
+    else if bytes_eq word (codes "audit-both") then as_audit_both arguments
     else if bytes_eq word (codes "grow") then as_grow arguments
     else if bytes_eq word (codes "growth") then as_growth arguments
     else if bytes_eq word (codes "audit-growth") then as_audit_growth arguments
@@ -300,6 +340,10 @@ give_words index doc file = codes "give" ∷ index ∷ doc ∷ file ∷ []
 -- the words that check the text of a document
 abbrev pub fetch_words : List ℕ → List ℕ → List ℕ → List (List ℕ)
 fetch_words root doc file = codes "fetch" ∷ root ∷ doc ∷ file ∷ []
+
+-- the words that check a proof of all documents with every term
+abbrev pub both_words : List ℕ → List ℕ → List ℕ → List (List ℕ)
+both_words root query name = codes "both" ∷ root ∷ query ∷ name ∷ []
 
 -- the words that check the growth from one root to another
 abbrev pub growth_words : List ℕ → List ℕ → List ℕ → List (List ℕ)

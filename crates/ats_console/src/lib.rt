@@ -29,7 +29,7 @@ mod words;
 pub use collision::{collision_lines, pair_lines, strings_lines};
 pub use input::{JsonFault, read_collection};
 pub use phrases::{Phrase, Said};
-pub use print::{lines, proof_line, root_line};
+pub use print::{document_lines, lines, proof_line, root_line};
 pub use rejection::{refused_line, rejection_line, rejection_words};
 pub use stop_lines::Line;
 pub use stops::{

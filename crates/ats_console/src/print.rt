@@ -1,10 +1,11 @@
-//! The lines of rows, of a root and of a size.
+//! The lines of rows, of documents, of a root and of a size.
 
 ghost use Rattle.std.specs.Prelude.{◌≡◌, string_bytes, IfOk, Some};
 ghost use Rattle.hex.specs.Hex.{encode_lower};
 ghost use Rattle.ats_console.specs.Words.{root_word};
-ghost use Rattle.ats_console.specs.Print.{line_of, lines, line_of_root, line_of_proof};
+ghost use Rattle.ats_console.specs.Print.{line_of, lines, line_of_document, lines_of_documents, line_of_root, line_of_proof};
 
+use ats_bound::Picks;
 use ats_impact::{Row, Rows};
 use std::alloc::{AllocError, Global};
 
@@ -23,6 +24,25 @@ pub fn lines(alloc: Global, rows: &Rows) -> Result<Vec<u8>, AllocError>
     let rows = rows.as_slice();
     for i in 0..rows.len() {
         let line = line(alloc, i as u64 + 1, &rows[i])?;
+        text.extend_from_slice(line.as_bytes())?;
+    }
+    Ok(text)
+}
+
+fn document_line(alloc: Global, doc: u32) -> Result<String, AllocError>
+    ensures { IfOk result (λ text. string_bytes text ≡ line_of_document doc) }
+{
+    format!(in alloc; "{doc}\n")
+}
+
+/// A line for each document, in order.
+pub fn document_lines(alloc: Global, documents: &Picks) -> Result<Vec<u8>, AllocError>
+    ensures { IfOk result (λ text. text.items ≡ lines_of_documents documents.now) }
+{
+    let mut text = Vec::new(alloc);
+    let documents = documents.as_slice();
+    for i in 0..documents.len() {
+        let line = document_line(alloc, documents[i])?;
         text.extend_from_slice(line.as_bytes())?;
     }
     Ok(text)

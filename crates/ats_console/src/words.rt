@@ -3,7 +3,7 @@
 ghost use Rattle.std.specs.Prelude.{◌≡◌, map, string_bytes, option_map};
 ghost use Rattle.std.specs.List.{list_all, list_any};
 ghost use Rattle.std.specs.Char.{is_ascii_digit, is_ascii_uppercase};
-ghost use Rattle.ats_console.specs.Words.{is_number_word, number_of, connections_of, algorithm_of, root_word, as_rank, as_build, as_root, as_prove, as_verify, as_ask, as_serve, as_audit, as_sweep, as_trial, as_migrate, as_give, as_fetch, as_audit_fetch, as_grow, as_growth, as_audit_growth, is_file_word, command_of_file, command_of_archive, command_of};
+ghost use Rattle.ats_console.specs.Words.{is_number_word, number_of, connections_of, algorithm_of, root_word, as_rank, as_build, as_root, as_prove, as_verify, as_ask, as_serve, as_audit, as_sweep, as_trial, as_migrate, as_give, as_fetch, as_audit_fetch, as_prove_both, as_both, as_audit_both, as_grow, as_growth, as_audit_growth, is_file_word, command_of_file, command_of_archive, command_of};
 ghost use Rattle.ats_console.specs.Inner.Meaning.{serving_of, meaning};
 
 use ats_proof::Algorithm;
@@ -157,6 +157,24 @@ pub enum Command<'a> {
         index: &'a str,
         doc: u32,
         file: &'a str,
+    },
+    /// `prove-both INDEX QUERY PROOF`
+    ProveBoth {
+        index: &'a str,
+        query: &'a str,
+        proof: &'a str,
+    },
+    /// `both ROOT QUERY PROOF`
+    Both {
+        root: [u8; 32],
+        query: &'a str,
+        proof: &'a str,
+    },
+    /// `audit-both INDEX QUERY PROOF`
+    AuditBoth {
+        index: &'a str,
+        query: &'a str,
+        proof: &'a str,
     },
     /// `grow OLDINDEX NEWINDEX FILE`
     Grow {
@@ -359,6 +377,45 @@ fn audit_fetch<'a>(arguments: &'a [String]) -> Option<Command<'a>>
     })
 }
 
+fn prove_both<'a>(arguments: &'a [String]) -> Option<Command<'a>>
+    ensures { option_map meaning result ≡ as_prove_both (map string_bytes arguments.now) }
+{
+    let [index, query, proof] = arguments else {
+        return None;
+    };
+    Some(Command::ProveBoth {
+        index: index.as_str(),
+        query: query.as_str(),
+        proof: proof.as_str(),
+    })
+}
+
+fn both<'a>(arguments: &'a [String]) -> Option<Command<'a>>
+    ensures { option_map meaning result ≡ as_both (map string_bytes arguments.now) }
+{
+    let [root, query, proof] = arguments else {
+        return None;
+    };
+    Some(Command::Both {
+        root: root_word(root.as_str())?,
+        query: query.as_str(),
+        proof: proof.as_str(),
+    })
+}
+
+fn audit_both<'a>(arguments: &'a [String]) -> Option<Command<'a>>
+    ensures { option_map meaning result ≡ as_audit_both (map string_bytes arguments.now) }
+{
+    let [index, query, proof] = arguments else {
+        return None;
+    };
+    Some(Command::AuditBoth {
+        index: index.as_str(),
+        query: query.as_str(),
+        proof: proof.as_str(),
+    })
+}
+
 fn grow<'a>(arguments: &'a [String]) -> Option<Command<'a>>
     ensures { option_map meaning result ≡ as_grow (map string_bytes arguments.now) }
 {
@@ -398,19 +455,22 @@ fn audit_growth<'a>(arguments: &'a [String]) -> Option<Command<'a>>
     })
 }
 
-// Whether the command is one of a text or of a growth.
+// Whether the command is one of a text, of all documents with every term, or of a growth.
 fn is_file_word(word: &str) -> bool
     ensures { result ≡ is_file_word word.now }
 {
     word == "give"
         || word == "fetch"
         || word == "audit-fetch"
+        || word == "prove-both"
+        || word == "both"
+        || word == "audit-both"
         || word == "grow"
         || word == "growth"
         || word == "audit-growth"
 }
 
-// The command of a text or of a growth.
+// The command of a text, of all documents with every term, or of a growth.
 fn read_file_words<'a>(word: &str, arguments: &'a [String]) -> Option<Command<'a>>
     ensures { option_map meaning result ≡ command_of_file word.now (map string_bytes arguments.now) }
 {
@@ -418,6 +478,9 @@ fn read_file_words<'a>(word: &str, arguments: &'a [String]) -> Option<Command<'a
         "give" => give(arguments),
         "fetch" => fetch(arguments),
         "audit-fetch" => audit_fetch(arguments),
+        "prove-both" => prove_both(arguments),
+        "both" => both(arguments),
+        "audit-both" => audit_both(arguments),
         "grow" => grow(arguments),
         "growth" => growth(arguments),
         "audit-growth" => audit_growth(arguments),

@@ -7,7 +7,7 @@ use Rattle.ats_audit.specs.Sweeps.{IsVerdictOf}
 use Rattle.ats_audit.specs.declared.auditing.Verdict.{Verdict}
 use Rattle.ats_audit.specs.declared.auditing.Verdict.TheVariants as verdict
 use Rattle.ats_audit.specs.declared.sweeping.Job.{Job}
-use Rattle.ats_audit.proofs.Public.{extract-collides}
+use Rattle.ats_client.proofs.Public.{extract-collides}
 use Rattle.ats_terms.specs.Query.{IsQueryOf}
 use Rattle.ats_plan.specs.Files.{Files}
 use Rattle.ats_top.specs.Listed.{Listed}

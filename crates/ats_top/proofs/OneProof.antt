@@ -12,7 +12,7 @@ use Rattle.ats_console.specs.declared.stops.Stop.{Stop}
 use Rattle.ats_console.specs.declared.stops.Stop.TheVariants.{Input}
 
 -- bytes that spell a proof are its fields
-spelled_fields : (bytes : List ℕ) (proof : Proof) → IsProof bytes proof → bytes ≡ concat (fields_of proof)
+pub spelled_fields : (bytes : List ℕ) (proof : Proof) → IsProof bytes proof → bytes ≡ concat (fields_of proof)
 spelled_fields bytes proof is = is.spells.whole.parts ∙ append-nil (concat (fields_of proof))
 
 module _ (H : List ℕ → List ℕ) (archive : Archive) (query : List (List ℕ × ℕ)) (r : ℕ) (algorithm : Algorithm) where

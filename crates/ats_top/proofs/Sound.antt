@@ -35,7 +35,7 @@ use Rattle.ats_plan.specs.Runs.{IsStopped}
 use Rattle.ats_plan.specs.Sound.{IsExact, IsOne, IsSound}
 use Rattle.ats_plan.proofs.Public.{stops_otherwise}
 use Rattle.ats_console.specs.Input.{AreJsonTexts, IsFirstJsonFault}
-use Rattle.ats_console.specs.Words.{Command, Rank, Build, Root, Prove, Verify, Ask, Serve, Audit, Sweep, Trial, Migrate, Give, Fetch, AuditFetch, Grow, Growth, AuditGrowth, SweepWords}
+use Rattle.ats_console.specs.Words.{Command, Rank, Build, Root, Prove, Verify, Ask, Serve, Audit, Sweep, Trial, Migrate, Give, Fetch, AuditFetch, ProveBoth, Both, AuditBoth, Grow, Growth, AuditGrowth, SweepWords}
 use Rattle.ats_console.specs.RejectionLines.{line_of_rejection}
 use Rattle.ats_console.specs.CollisionLines.{lines_of_collision}
 use Rattle.ats_console.specs.Stops.{line_of_rows, line_of_bad_line, stop_of_query, stop_of_json, stop_of_collection, stop_of_load}
@@ -43,7 +43,7 @@ use Rattle.ats_top.specs.Listed.{Listed, lines_of, IsListOf, names_of}
 use Rattle.ats_top.specs.Gathered.{total}
 use Rattle.ats_top.specs.Findings.{Finding, is_refused, is_collision, lines_of_findings}
 use Rattle.ats_top.specs.Trial.{IsTrialServed, RefusesTrial}
-use Rattle.ats_console.specs.Steps.{StopsBy, IsRowCount, asks_ranking, reads_collection, reads_index, RejectsBytes, checks, checks_file}
+use Rattle.ats_console.specs.Steps.{StopsBy, IsRowCount, asks_query, asks_ranking, reads_collection, reads_index, RejectsBytes, checks, checks_file}
 use Rattle.ats_top.specs.Commands.{plan_of}
 use Rattle.ats_top.specs.Commands.Prove.{IsNotTooLong, IsUnmade}
 use Rattle.ats_top.specs.Commands.Audit.{Collides, StopsByCollision}
@@ -62,7 +62,9 @@ use Rattle.ats_top.proofs.OneProof.{one_made, one_unmade}
 use Rattle.ats_top.proofs.OneTrial.{trial_kept, one_trial}
 use Rattle.ats_top.proofs.OneFile.{IsFileOne, file_one, not_usage}
 use Rattle.ats_top.proofs.OneText.{text_file_one, text_collision_exact}
+use Rattle.ats_top.proofs.OneBoth.{both_file_one, both_length_exact, one_both_bytes}
 use Rattle.ats_top.proofs.OneGrowth.{growth_file_one, growth_collision_exact, kept_exact}
+use Rattle.ats_top.specs.BothLines.{both_refusal_words}
 use Rattle.ats_top.specs.GrowthLines.{growth_refusal_words}
 use Rattle.ats_growth.specs.Honest.{honest}
 use Rattle.ats_growth.specs.Value.{Growth as GrowthValue, IsGrowth, fields_of as growth_fields}
@@ -200,10 +202,13 @@ module _ (H : List ℕ → List ℕ) (root : List ℕ) (query : List (List ℕ �
   proof_one : IsOne (IsAcceptedBytes H root query r bytes) (RejectsBytes H root query r bytes)
   proof_one = record { single = one_accepted H root query r bytes; breaks = rejected_kept; one = one_reject }
 
+query_sound : {text : List ℕ} {rest : List (List ℕ × ℕ) → Plan Stop} → ((query : List (List ℕ × ℕ)) → Sound (rest query)) → Sound (asks_query text rest)
+query_sound {text = text} later = gets (query_one text) (λ stops. not_query stops.0 stops.2) later
+
 ranking_sound : {r : ℕ} {text : List ℕ} {rest : List (List ℕ × ℕ) → Plan Stop} → ((query : List (List ℕ × ℕ)) → Sound (rest query))
     → Sound (asks_ranking r text rest)
 ranking_sound {r = r} {text = text} later =
-    tries (rows_exact r) (λ stops. not_input stops.1) (gets (query_one text) (λ stops. not_query stops.0 stops.2) later)
+    tries (rows_exact r) (λ stops. not_input stops.1) (query_sound {text = text} later)
 
 collection_sound : {name : List ℕ} {rest : List (List ℕ) → Plan Stop} → ((texts : List (List ℕ)) → Sound (rest texts))
     → Sound (reads_collection name rest)
@@ -312,6 +317,13 @@ command_sound H (Give words) = index_sound (λ archive. tries (document_exact ar
 command_sound H (Fetch words) = reads (fails not_rejected) (λ bytes. file_sound text_refusal_words (text_file_one H words.root words.doc bytes) (λ proof. ends))
 command_sound H (AuditFetch words) = index_sound (λ archive. reads (fails not_rejected) (λ bytes. file_sound text_refusal_words (text_file_one H (root_of H archive) words.doc bytes)
     (λ proof. tries (text_collision_exact H archive words.doc proof) (λ stops. not_collision stops.2) ends)))
+command_sound H (ProveBoth words) = query_sound (λ query. index_sound (λ archive. tries (both_length_exact H archive query) (λ stops. not_input stops.2)
+    (makes (one_both_bytes H archive query) (λ bytes. stores))))
+command_sound H (Both words) = query_sound (λ query. reads (fails not_rejected) (λ bytes.
+    file_sound both_refusal_words (both_file_one H words.root query bytes) (λ proof. ends)))
+command_sound H (AuditBoth words) = query_sound (λ query. index_sound (λ archive. reads (fails not_rejected) (λ bytes.
+    file_sound both_refusal_words (both_file_one H (root_of H archive) query bytes)
+    (λ proof. tries (proof_collision_exact H archive query proof) (λ stops. not_collision stops.2) ends))))
 command_sound H (Grow words) = index_sound (λ older. index_sound (λ newer. tries (kept_exact older newer) (λ stops. not_input stops.2)
     (makes (λ a b is also. growth_bytes (honest H older newer) a is ∙ sym (growth_bytes (honest H older newer) b also)) (λ bytes. stores))))
 command_sound H (Growth words) = reads (fails not_rejected) (λ bytes. file_sound growth_refusal_words (growth_file_one H words.old words.new bytes) (λ growth. ends))

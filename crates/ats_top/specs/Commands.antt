@@ -17,6 +17,9 @@ use Rattle.ats_top.specs.Commands.Migrate.{migrate_plan}
 use Rattle.ats_top.specs.Commands.Give.{give_plan}
 use Rattle.ats_top.specs.Commands.Fetch.{fetch_plan}
 use Rattle.ats_top.specs.Commands.AuditFetch.{audit_fetch_plan}
+use Rattle.ats_top.specs.Commands.ProveBoth.{prove_both_plan}
+use Rattle.ats_top.specs.Commands.Both.{both_plan}
+use Rattle.ats_top.specs.Commands.AuditBoth.{audit_both_plan}
 use Rattle.ats_top.specs.Commands.Grow.{grow_plan}
 use Rattle.ats_top.specs.Commands.Growth.{growth_plan}
 use Rattle.ats_top.specs.Commands.AuditGrowth.{audit_growth_plan}
@@ -35,6 +38,9 @@ pub mod Migrate
 pub mod Give
 pub mod Fetch
 pub mod AuditFetch
+pub mod ProveBoth
+pub mod Both
+pub mod AuditBoth
 pub mod Grow
 pub mod Growth
 pub mod AuditGrowth
@@ -54,6 +60,9 @@ plan_of H (command.Migrate words) = migrate_plan H words
 plan_of H (command.Give words) = give_plan H words
 plan_of H (command.Fetch words) = fetch_plan H words
 plan_of H (command.AuditFetch words) = audit_fetch_plan H words
+plan_of H (command.ProveBoth words) = prove_both_plan H words
+plan_of H (command.Both words) = both_plan H words
+plan_of H (command.AuditBoth words) = audit_both_plan H words
 plan_of H (command.Grow words) = grow_plan H words
 plan_of H (command.Growth words) = growth_plan H words
 plan_of H (command.AuditGrowth words) = audit_growth_plan H words

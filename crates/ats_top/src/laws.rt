@@ -7,6 +7,7 @@ ghost use Rattle.ats_terms.specs.Query.{IsQueryOf};
 ghost use Rattle.ats_commit.specs.Archive.{Archive};
 ghost use Rattle.ats_commit.specs.Own.{AreTexts};
 ghost use Rattle.ats_commit.specs.Root.{root_of};
+ghost use Rattle.ats_both.specs.Made.{IsBothProof};
 ghost use Rattle.ats_fetch.specs.Given.{given_text};
 ghost use Rattle.ats_fetch.specs.Value.{IsTextProof};
 ghost use Rattle.ats_growth.specs.Honest.{honest};
@@ -14,7 +15,7 @@ ghost use Rattle.ats_growth.specs.Value.{IsGrowth};
 ghost use Rattle.ats_proof.specs.declared.record.Algorithm.{Algorithm};
 ghost use Rattle.ats_index.specs.Spelling.{IsSpelling};
 ghost use Rattle.ats_honest.specs.Honest.{IsProved};
-ghost use Rattle.ats_console.specs.Words.{AskWords, ServeWords, AuditWords, SweepWords, GiveWords, AuditFetchWords, GrowWords, AuditGrowthWords, Command, Ask, Serve, Audit, Sweep, Give, AuditFetch, Grow, AuditGrowth, number_of, algorithm_of, root_word, root_words, prove_words, migrate_words, verify_words, fetch_words, growth_words};
+ghost use Rattle.ats_console.specs.Words.{AskWords, ServeWords, AuditWords, SweepWords, GiveWords, AuditFetchWords, ProveBothWords, AuditBothWords, GrowWords, AuditGrowthWords, Command, Ask, Serve, Audit, Sweep, Give, AuditFetch, ProveBoth, AuditBoth, Grow, AuditGrowth, number_of, algorithm_of, root_word, root_words, prove_words, migrate_words, verify_words, fetch_words, both_words, growth_words};
 ghost use Rattle.ats_plan.specs.Files.{Files, IsFile};
 ghost use Rattle.ats_console.specs.Read.{HasIndex};
 ghost use Rattle.ats_console.specs.Steps.{IsRowCount, AsksRanking};
@@ -111,6 +112,23 @@ pub fn given_texts_are_served<H: HashKind>()
         → HasIndex H.hash files words.index archive → HasDocument archive words.doc
         → IsTextProof bytes (given_text H.hash archive words.doc) → IsFile files words.file (2 ^ 21) bytes
         → IsCommandServed H.hash files (AuditFetch words) }
+{}
+
+/// `prove-both` serves the index of an archive and a query if its proof of all documents with every term has no more bytes
+/// than a proof may have. A file that is this proof is served by `both` under the word of the archive's root, and by
+/// `audit-both` against an index of the archive: it has no collision with the archive.
+pub fn made_boths_are_served<H: HashKind>()
+    ensures prove { (archive : Archive) (asked : List (List ℕ × ℕ)) (bytes : List ℕ) (files : Files) (words : ProveBothWords)
+        → HasIndex H.hash files words.index archive → IsQueryOf words.query asked
+        → IsBothProof H.hash archive asked bytes → length bytes ≤ 2 ^ 26
+        → IsCommandServed H.hash files (ProveBoth words) }
+    ensures both { (archive : Archive) (asked : List (List ℕ × ℕ)) (bytes : List ℕ) (files : Files) (root query name : List ℕ)
+        → IsQueryOf query asked → IsBothProof H.hash archive asked bytes → IsFile files name (2 ^ 26) bytes
+        → root_word root ≡ Some (root_of H.hash archive) → Said (both_words root query name) (IsCommandServed H.hash files) }
+    ensures audit { (archive : Archive) (asked : List (List ℕ × ℕ)) (bytes : List ℕ) (files : Files) (words : AuditBothWords)
+        → HasIndex H.hash files words.index archive → IsQueryOf words.query asked
+        → IsBothProof H.hash archive asked bytes → IsFile files words.proof (2 ^ 26) bytes
+        → IsCommandServed H.hash files (AuditBoth words) }
 {}
 
 /// If the texts of an archive are the first of another one's, `grow` serves their indexes. A file that shows this, as `grow`

@@ -3,6 +3,8 @@
 ghost use Rattle.std.specs.Prelude.{◌≡◌, ◌≤◌, ◌^◌, length, IfOk, IfErr};
 ghost use Rattle.ats_honest.specs.Honest.{IsHonest, IsProved, length_of};
 ghost use Rattle.ats_proof.specs.Value.{Proof};
+ghost use Rattle.ats_console.specs.Stops.{line_of_long_proof};
+ghost use Rattle.ats_console.specs.declared.stops.Stop.TheVariants.{Input};
 ghost use Rattle.ats_top.specs.Inner.Stops.{MakingStop, stop_of_proof};
 
 use ats_base::Bytes;
@@ -15,16 +17,19 @@ use ats_prover::{Algorithm, ProveFault, prove_within};
 use ats_terms::Query;
 use std::alloc::Global;
 
+/// The stop of a proof that would have more bytes than a proof may have.
+pub(crate) fn proof_too_long(length: u64) -> Stop
+    ensures { result ≡ Input (line_of_long_proof length) }
+{
+    input_stop(Phrase::around("proof of ", length, " bytes"))
+}
+
 // The stop of a fault of the prover.
 fn stop_of_proof(fault: ProveFault) -> Stop
     ensures { result ≡ stop_of_proof fault }
 {
     match fault {
-        ProveFault::ProofTooLong { length } => input_stop(Phrase::around(
-            "proof of ",
-            length,
-            " bytes",
-        )),
+        ProveFault::ProofTooLong { length } => proof_too_long(length),
         ProveFault::OutOfMemory => Stop::Memory,
     }
 }

@@ -1,5 +1,5 @@
 -- The command that a value of the program's own type means.
-use Rattle.ats_console.specs.Words.{Command, Rank, Build, Root, Prove, Verify, Ask, Serve, Audit, Sweep, Trial, Migrate, Give, Fetch, AuditFetch, Grow, Growth, AuditGrowth, ServeWords}
+use Rattle.ats_console.specs.Words.{Command, Rank, Build, Root, Prove, Verify, Ask, Serve, Audit, Sweep, Trial, Migrate, Give, Fetch, AuditFetch, ProveBoth, Both, AuditBoth, Grow, Growth, AuditGrowth, ServeWords}
 use Rattle.ats_console.specs.declared.words.Command.{Command as Said}
 use Rattle.ats_console.specs.declared.words.Command.TheVariants as said
 use Rattle.std.specs.Prelude.{Option, Some, None}
@@ -23,6 +23,11 @@ meaning (said.Migrate index migrated) = Migrate (record { index = index.now; mig
 meaning (said.Give index doc file) = Give (record { index = index.now; doc = doc; file = file.now })
 meaning (said.Fetch root doc file) = Fetch (record { root = root; doc = doc; file = file.now })
 meaning (said.AuditFetch index doc file) = AuditFetch (record { index = index.now; doc = doc; file = file.now })
+meaning (said.ProveBoth index query proof) =
+    ProveBoth (record { index = index.now; query = query.now; proof = proof.now })
+meaning (said.Both root query proof) = Both (record { root = root; query = query.now; proof = proof.now })
+meaning (said.AuditBoth index query proof) =
+    AuditBoth (record { index = index.now; query = query.now; proof = proof.now })
 meaning (said.Grow old new file) = Grow (record { old = old.now; new = new.now; file = file.now })
 meaning (said.Growth old new file) = Growth (record { old = old; new = new; file = file.now })
 meaning (said.AuditGrowth old new file) = AuditGrowth (record { old = old.now; new = new.now; file = file.now })

@@ -166,6 +166,42 @@ returns-in-Some-AuditFetch-clause-stop g c =
     plan_ends g.H.HashKind.hash (g.S.Shelf.told c.args.shelf.now) (g.S.Shelf.told c.audit_fetch.new.shelf) (g.C.Caller.told c.args.caller.now) (g.C.Caller.told c.args.caller.now)
     (g.D.Door.told c.args.door.now) (map string_bytes c.args.words.now) _ (sym is) c.audit_fetch.result c.audit_fetch.ensures.stop
 
+pub returns-in-Some-ProveBoth-clause-ok : goal.returns-in-Some-ProveBoth-clause-ok
+returns-in-Some-ProveBoth-clause-ok g c =
+    let is = rw c.in-Some-ProveBoth.field-0-is at c.in-Some-ProveBoth.ensures in
+    done_ends g.H.HashKind.hash (g.S.Shelf.told c.args.shelf.now) (g.S.Shelf.told c.prove_both.new.shelf) (g.C.Caller.told c.args.caller.now) (g.C.Caller.told c.args.caller.now)
+    (g.D.Door.told c.args.door.now) (map string_bytes c.args.words.now) _ (sym is) vec_items c.prove_both.result (λ was now text. tt) c.prove_both.ensures.ok
+
+pub returns-in-Some-ProveBoth-clause-stop : goal.returns-in-Some-ProveBoth-clause-stop
+returns-in-Some-ProveBoth-clause-stop g c =
+    let is = rw c.in-Some-ProveBoth.field-0-is at c.in-Some-ProveBoth.ensures in
+    plan_ends g.H.HashKind.hash (g.S.Shelf.told c.args.shelf.now) (g.S.Shelf.told c.prove_both.new.shelf) (g.C.Caller.told c.args.caller.now) (g.C.Caller.told c.args.caller.now)
+    (g.D.Door.told c.args.door.now) (map string_bytes c.args.words.now) _ (sym is) c.prove_both.result c.prove_both.ensures.stop
+
+pub returns-in-Some-Both-clause-ok : goal.returns-in-Some-Both-clause-ok
+returns-in-Some-Both-clause-ok g c =
+    let is = rw c.in-Some-Both.field-0-is at c.in-Some-Both.ensures in
+    done_ends g.H.HashKind.hash (g.S.Shelf.told c.args.shelf.now) (g.S.Shelf.told c.both.new.shelf) (g.C.Caller.told c.args.caller.now) (g.C.Caller.told c.args.caller.now)
+    (g.D.Door.told c.args.door.now) (map string_bytes c.args.words.now) _ (sym is) vec_items c.both.result (λ was now text. tt) c.both.ensures.ok
+
+pub returns-in-Some-Both-clause-stop : goal.returns-in-Some-Both-clause-stop
+returns-in-Some-Both-clause-stop g c =
+    let is = rw c.in-Some-Both.field-0-is at c.in-Some-Both.ensures in
+    plan_ends g.H.HashKind.hash (g.S.Shelf.told c.args.shelf.now) (g.S.Shelf.told c.both.new.shelf) (g.C.Caller.told c.args.caller.now) (g.C.Caller.told c.args.caller.now)
+    (g.D.Door.told c.args.door.now) (map string_bytes c.args.words.now) _ (sym is) c.both.result c.both.ensures.stop
+
+pub returns-in-Some-AuditBoth-clause-ok : goal.returns-in-Some-AuditBoth-clause-ok
+returns-in-Some-AuditBoth-clause-ok g c =
+    let is = rw c.in-Some-AuditBoth.field-0-is at c.in-Some-AuditBoth.ensures in
+    done_ends g.H.HashKind.hash (g.S.Shelf.told c.args.shelf.now) (g.S.Shelf.told c.audit_both.new.shelf) (g.C.Caller.told c.args.caller.now) (g.C.Caller.told c.args.caller.now)
+    (g.D.Door.told c.args.door.now) (map string_bytes c.args.words.now) _ (sym is) vec_items c.audit_both.result (λ was now text. tt) c.audit_both.ensures.ok
+
+pub returns-in-Some-AuditBoth-clause-stop : goal.returns-in-Some-AuditBoth-clause-stop
+returns-in-Some-AuditBoth-clause-stop g c =
+    let is = rw c.in-Some-AuditBoth.field-0-is at c.in-Some-AuditBoth.ensures in
+    plan_ends g.H.HashKind.hash (g.S.Shelf.told c.args.shelf.now) (g.S.Shelf.told c.audit_both.new.shelf) (g.C.Caller.told c.args.caller.now) (g.C.Caller.told c.args.caller.now)
+    (g.D.Door.told c.args.door.now) (map string_bytes c.args.words.now) _ (sym is) c.audit_both.result c.audit_both.ensures.stop
+
 pub returns-in-Some-Grow-clause-ok : goal.returns-in-Some-Grow-clause-ok
 returns-in-Some-Grow-clause-ok g c =
     let is = rw c.in-Some-Grow.field-0-is at c.in-Some-Grow.ensures in

@@ -1,0 +1,43 @@
+-- `audit-both INDEX QUERY PROOF`
+use Rattle.std.specs.Prelude.{◌≡◌, ◌^◌, ℕ, List, None}
+use Rattle.ats_terms.specs.Query.{IsQueryOf}
+use Rattle.ats_commit.specs.Archive.{Archive}
+use Rattle.ats_commit.specs.Root.{root_of}
+use Rattle.ats_proof.specs.Value.{Proof}
+use Rattle.ats_client.specs.Strings.{extract}
+use Rattle.ats_both.specs.Documents.{both, documents_shown}
+use Rattle.ats_both.specs.Verdicts.{AreAcceptedBytes}
+use Rattle.ats_plan.specs.Files.{Files, IsFile}
+use Rattle.ats_plan.specs.Plan.{Plan, Finishes, Tries}
+use Rattle.ats_console.specs.Words.{AuditBothWords}
+use Rattle.ats_console.specs.Print.{lines_of_documents}
+use Rattle.ats_console.specs.Read.{HasIndex}
+use Rattle.ats_console.specs.Steps.{asks_query, reads_index, reads_proof}
+use Rattle.ats_console.specs.declared.stops.Stop.{Stop}
+use Rattle.ats_top.specs.BothSteps.{checks_both}
+use Rattle.ats_top.specs.Commands.Audit.{StopsByCollision}
+
+-- The archive is that of the named index, the second file is accepted under its root as a proof of all documents with every
+-- term of the query and has no collision with it, and the text is a line for each document that the proof shows. These are
+-- all documents of the archive that have every term.
+pub record IsBothAudited (H : List ℕ → List ℕ) (files : Files) (words : AuditBothWords) (text : List ℕ) : Type 0 where
+  pub query : List (List ℕ × ℕ)
+  pub asked : IsQueryOf words.query query
+  pub archive : Archive
+  pub index : HasIndex H files words.index archive
+  pub bytes : List ℕ
+  pub file : IsFile files words.proof (2 ^ 26) bytes
+  pub proof : Proof
+  pub accepted : AreAcceptedBytes H (root_of H archive) query bytes proof
+  pub none : extract H archive query proof ≡ None
+  pub right : documents_shown proof ≡ both archive.texts query
+  pub printed : text ≡ lines_of_documents (documents_shown proof)
+
+abbrev pub audit_both_plan : (List ℕ → List ℕ) → AuditBothWords → Plan Stop
+audit_both_plan H words =
+    asks_query words.query (λ query.
+    reads_index H words.index (λ archive.
+    reads_proof words.proof (λ bytes.
+    checks_both H (root_of H archive) query bytes (λ proof.
+    Tries (extract H archive query proof ≡ None) (StopsByCollision H archive query proof)
+    (Finishes (λ files text. IsBothAudited H files words text))))))

@@ -1,0 +1,35 @@
+-- Why a step of the commands for all documents with every term stops, as its function returns it.
+use Rattle.std.specs.Prelude.{◌≡◌, ◌⊎◌, ℕ, List}
+use Rattle.ats_commit.specs.Archive.{Archive}
+use Rattle.ats_commit.specs.Root.{root_of}
+use Rattle.ats_proof.specs.Value.{Proof}
+use Rattle.ats_both.specs.Documents.{documents_shown}
+use Rattle.ats_both.specs.Headline.{AreBothOrCollide}
+use Rattle.ats_both.specs.Verdicts.{AreAcceptedBytes, AreFoundRight}
+use Rattle.ats_console.specs.Print.{lines_of_documents}
+use Rattle.ats_console.specs.declared.stops.Stop.{Stop}
+use Rattle.ats_console.specs.declared.stops.Stop.TheVariants.{Memory}
+use Rattle.ats_top.specs.BothSteps.{RejectsBoth}
+use Rattle.ats_top.specs.Commands.Audit.{StopsByCollision}
+use Rattle.ats_top.specs.Commands.ProveBoth.{IsBothUnmade}
+
+-- why no proof is made: memory ran out, or it is too long
+abbrev pub BothMakingStop : (List ℕ → List ℕ) → Archive → List (List ℕ × ℕ) → Stop → Type 0
+BothMakingStop H archive query stop = (stop ≡ Memory) ⊎ IsBothUnmade H archive query stop
+
+-- the bytes are accepted as this proof, of which the theorem holds, and the text is the lines of its documents
+abbrev pub TellsBoth : (List ℕ → List ℕ) → (root : List ℕ) → List (List ℕ × ℕ) → (bytes : List ℕ) → (text : List ℕ) → Type 0
+TellsBoth H root query bytes text =
+    (proof : Proof) × AreAcceptedBytes H root query bytes proof × AreBothOrCollide H root query proof
+    × (text ≡ lines_of_documents (documents_shown proof))
+
+-- the bytes are found to show these documents, and the text is their lines
+abbrev pub TellsRight : (List ℕ → List ℕ) → Archive → List (List ℕ × ℕ) → (bytes : List ℕ) → (text : List ℕ) → Type 0
+TellsRight H archive query bytes text =
+    (documents : List ℕ) × AreFoundRight H archive query bytes documents × (text ≡ lines_of_documents documents)
+
+-- why the bytes are not found to do so: memory ran out, or they are rejected, or their proof has a collision
+abbrev pub BothVerdictStop : (List ℕ → List ℕ) → Archive → List (List ℕ × ℕ) → (bytes : List ℕ) → Stop → Type 0
+BothVerdictStop H archive query bytes stop = (stop ≡ Memory) ⊎ (RejectsBoth H (root_of H archive) query bytes stop
+    ⊎ ((proof : Proof) × AreAcceptedBytes H (root_of H archive) query bytes proof
+    × StopsByCollision H archive query proof stop))
