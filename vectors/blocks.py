@@ -163,6 +163,15 @@ def growth(entry):
     return [*lines, f'$ ./ats growth {entry["old_root"]} {entry["new_root"]} F', *result(entry)]
 
 
+def both(entry):
+    lines = fill('P', entry['proof'])
+    query = word(entry['query'], lines)
+    if 'archive' in entry:
+        lines += [': keep proof P', index_of('I', entry['archive'], byte(entry['proof'], 4))]
+        lines += [f'$ ./ats prove-both I {query} P', f'both {length(entry["proof"])}', ': holds P proof']
+    return [*lines, f'$ ./ats both {entry["root"]} {query} P', *result(entry)]
+
+
 def block(lines):
     return '```\n' + '\n'.join(lines) + '\n```\n'
 
@@ -178,7 +187,7 @@ def document():
     pages['proofs'] = [proof(entry) for entry in proofs.values()]
     pages['changed'] = [changed(entry, proofs) for entry in read('changed')]
     lists = [('made', made), ('words', words), ('numbers', numbers), ('inputs', inputs), ('large', large), ('asked', asked)]
-    for name, as_lines in [*lists, ('served', served), ('texts', text), ('growths', growth)]:
+    for name, as_lines in [*lists, ('served', served), ('texts', text), ('growths', growth), ('both', both)]:
         pages[name] = [as_lines(entry) for entry in read(name)]
     return HEAD + ''.join(f'\n## {name}.json\n\n' + '\n'.join(block(lines) for lines in page) for name, page in pages.items())
 

@@ -1,4 +1,5 @@
-"""A second client: `verify`, `ask`, `fetch`, `growth` and the answers of a server, by docs/client.md and docs/formats.md.
+"""A second client: `verify`, `ask`, `fetch`, `growth`, `both` and the answers of a server, by docs/client.md and
+docs/formats.md.
 
 `make.py` compares all that the program prints with this, which shares no code with the program. It is written to be
 compared with those pages, step by step. It is no client for other texts, since of Unicode it knows only what the
@@ -196,9 +197,7 @@ def terms(text):
     return sorted(counts.items())
 
 
-def terms_of_query(r, query):
-    if not 1 <= r <= 1000:
-        raise Refused(f'r {r}')
+def terms_of_query(query):
     size = len(query.encode())
     if size > 4000:
         raise Refused(f'query of {size} bytes')
@@ -211,6 +210,12 @@ def terms_of_query(r, query):
     if len(found) > 32:
         raise Refused(f'query of {len(found)} terms')
     return found
+
+
+def terms_of_question(r, query):
+    if not 1 <= r <= 1000:
+        raise Refused(f'r {r}')
+    return terms_of_query(query)
 
 
 # The numbers of a term
@@ -449,8 +454,8 @@ def check_settled(proof, r, lows, highs, threshold):
         raise Refused('not-settled')
 
 
-def answer(proof, root, r, found):
-    """The rows of an accepted proof."""
+def check_shown(proof, root, found):
+    """Checks all before the rows. Returns number, term, weight and leaf of each present term, and how many documents have it."""
     check_root(proof, root)
     check_dictionary(proof, found)
     slots, leaves = proof.dictionary.slots, proof.dictionary.leaves
@@ -458,8 +463,13 @@ def answer(proof, root, r, found):
                for at, ((term, weight), (kind, index)) in enumerate(zip(found, slots)) if kind == 1]
     check_lists(proof, present)
     check_documents(proof, present)
+    return present, [int.from_bytes(leaf.values[0], 'big') for _, _, _, leaf in present]
+
+
+def answer(proof, root, r, found):
+    """The rows of an accepted proof."""
+    present, counts = check_shown(proof, root, found)
     check_rows(proof)
-    counts = [int.from_bytes(leaf.values[0], 'big') for _, _, _, leaf in present]
     coefficients = [weight * idf(proof.header.documents, count) for (_, _, weight, _), count in zip(present, counts)]
     rests = [0 if len(shown.entries) == count else coefficient * shown.entries[-1][1]
              for count, coefficient, shown in zip(counts, coefficients, proof.lists)]
@@ -471,13 +481,47 @@ def answer(proof, root, r, found):
 def verify(root, r, query, data):
     """The status and the lines."""
     try:
-        found = terms_of_query(r, query)
+        found = terms_of_question(r, query)
     except Refused as why:
         return {'status': 4, 'lines': [f'input: {why}']}
     try:
         return {'status': 0, 'lines': answer(Reader(data).proof(), bytes.fromhex(root), r, found)}
     except Refused as why:
         return {'status': 1, 'lines': [f'refused: {why}']}
+
+
+# All documents with every term
+
+def check_both(proof, root, found):
+    if not proof.is_tra:
+        raise Refused('not-tra')
+    if proof.rows:
+        raise Refused(f'answer-shown {len(proof.rows)}')
+    _, counts = check_shown(proof, root, found)
+    is_whole = any(len(shown.entries) == count for count, shown in zip(counts, proof.lists))
+    if len(counts) == len(found) and not is_whole:
+        raise Refused('no-whole-list')
+
+
+def both_documents(proof):
+    """The met documents that have every term of the query: none if a term is absent."""
+    if any(kind == 0 for kind, _ in proof.dictionary.slots):
+        return []
+    return [document for document, section in zip(proof.met, proof.sections) if all(kind == 1 for kind, _ in section.slots)]
+
+
+def both(root, query, data):
+    """The status and the lines."""
+    try:
+        found = terms_of_query(query)
+    except Refused as why:
+        return {'status': 4, 'lines': [f'input: {why}']}
+    try:
+        proof = Reader(data).proof()
+        check_both(proof, bytes.fromhex(root), found)
+    except Refused as why:
+        return {'status': 1, 'lines': [f'refused: {why}']}
+    return {'status': 0, 'lines': [str(document) for document in both_documents(proof)]}
 
 
 # The text of a document
@@ -618,7 +662,7 @@ def question(body):
     if not 1 <= r <= 1000:
         return 4
     try:
-        terms_of_query(r, query)
+        terms_of_question(r, query)
     except Refused as why:
         return 2 if str(why) == 'query has no term' else 3
     return ('tra' if algorithm == 1 else 'tnra'), r, query

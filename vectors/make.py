@@ -8,6 +8,7 @@ expected results are those of `client.py`. If the program gives any other, this 
 file. README.md explains the files. The script needs only Python's standard library.
 """
 import copy
+import functools
 import hashlib
 import json
 import subprocess
@@ -788,12 +789,15 @@ def show_documents(proof, archive, terms):
     proof.document_digests = elided(leaves, proof.met)
     proof.sections = []
     for document in proof.met:
-        own = [leaf[0] for leaf in archive.documents[document]]
-        spots = [own.index(term) if term in own else max(at for at, each in enumerate(own) if each < term) for term in terms]
-        positions = sorted({at for term, spot in zip(terms, spots) for at in ([spot] if term in own else [spot, spot + 1])})
-        section = Section(*archive.terms_section(document, positions), [])
-        section.slots = [(int(term in own), positions.index(spot)) for term, spot in zip(terms, spots)]
-        proof.sections.append(section)
+        positions, slots = shown_terms([leaf[0] for leaf in archive.documents[document]], terms)
+        proof.sections.append(Section(*archive.terms_section(document, positions), slots))
+
+
+def shown_terms(own, terms):
+    """The positions of the leaves that show which of the terms are there, and the slots."""
+    spots = [own.index(term) if term in own else max(at for at, each in enumerate(own) if each < term) for term in terms]
+    positions = sorted({at for term, spot in zip(terms, spots) for at in ([spot] if term in own else [spot, spot + 1])})
+    return positions, [(int(term in own), positions.index(spot)) for term, spot in zip(terms, spots)]
 
 
 def more_terms(which):
@@ -1199,7 +1203,10 @@ def two_lists(fronts, rows):
 
 def random_access(documents, entries, counts, sections, digests, rows=(0,), term=b'x'):
     """The same by random access: each met document has this number of leaves of terms, and this section."""
-    made = one_list(documents, len(entries), entries, rows=rows, term=term)
+    return looked_up(one_list(documents, len(entries), entries, rows=rows, term=term), counts, sections, digests)
+
+
+def looked_up(made, counts, sections, digests):
     leaves = []
     for count, section in zip(counts, sections):
         shown = [(leaf[0], terms_leaf(*leaf[1:])) for leaf in section.leaves]
@@ -1997,6 +2004,281 @@ def withdrawn(one, two, has_old_digests):
     return whole.roots(), whole.data()
 
 
+# All documents with every term. All comes from the second client; the gate compares the program
+
+# Queries by their collections.
+BOTH_ASKED = {
+    'foxes': [
+        'red hen', 'RED hen', 'red hen hen', 'fox', 'hen', 'red fox', 'fox hen', 'blue red', 'hen blue red fox', 'zebra', 'aaa zebra',
+        'red zebra', 'aaa hen', 'aaa red hen zebra', 'red ' * 255, 'red ' + ' '.join(f'a{at}' for at in range(31)),
+    ],
+    'silent': ['red'], 'street': ['STRASSE'], 'dogs': ['the', 'The dog', 'dog lazy sleeps'],
+    'ties': ['ant bee', 'bee cat', 'cat dog', 'ant bee cat', 'bee'],
+    'beyond': ['strasse gasse', '\u03bf\u03b4\u03bf\u03c3', 'na\u00efve nai\u0308ve'], 'planes': ['\U00010428 \uff41'],
+    'copies': ['a'], 'one more than a block': ['a', 'a b'], 'three letters': ['a', 'a b'],
+    'drawn': ['w0 w3', 'w1 w8', 'w3 w5 w11'], 'sample': ['blood count', 'the court'],
+}
+BOTH_ASKED_IN_BLOCKS = ['foxes', 'silent', 'copies', 'one more than a block', 'sample']
+
+
+def both_counts(archive, terms):
+    """How many entries are shown of each list: the first of the shortest is whole if all terms are present."""
+    counts = [len(archive.lists[term]) for term in terms if term in archive.lists]
+    whole = counts.index(min(counts)) if len(counts) == len(terms) else len(counts)
+    return [count if at == whole else 1 for at, count in enumerate(counts)]
+
+
+def shown_for_both(archive, query, counts=None):
+    """The honest proof, or one that shows these numbers of entries."""
+    terms = [term for term, _ in client.terms(query)]
+    positions, slots = shown_terms([leaf[0] for leaf in archive.dictionary], terms)
+    proof = Proof(1, copy.deepcopy(archive.header), len(terms), [], [], [], [], [], version=archive.version)
+    proof.slots = [(kind, positions[index]) for kind, index in slots]
+    proof.leaves = [(at, *archive.dictionary[at]) for at in range(len(archive.dictionary))]
+    shown_leaves(positions)(proof, archive)
+    longer_lists(both_counts(archive, terms) if counts is None else counts)(proof, archive)
+    return proof
+
+
+@functools.lru_cache(maxsize=None)
+def terms_in(text):
+    return {term for term, _ in client.terms(text.decode())}
+
+
+def having_all(archive, query):
+    """The documents that have every term of the query, by their texts alone."""
+    return [str(at) for at, text in enumerate(archive.texts) if terms_in(query.encode()) <= terms_in(text)]
+
+
+# Numbers of entries that are shown of the lists, for a query of a collection.
+BOTH_SHOWN = [
+    ('foxes', 'red hen', [1, 1]), ('foxes', 'red hen', [2, 2]), ('foxes', 'red hen', [1, 2]), ('foxes', 'red zebra', [2]),
+    ('foxes', 'hen', [1]), ('ties', 'ant bee', [1, 5]), ('ties', 'ant bee', [3, 4]), ('ties', 'ant bee', [3, 1]),
+    ('copies', 'a', [199]), ('copies', 'a', [64]), ('copies', 'a', [128]), ('one more than a block', 'a', [64]),
+]
+
+BY_TNRA = lambda proof, archive: setattr(proof, 'algorithm', 2)
+ONE_EACH = longer_lists([1, 1])
+
+BOTH_CHANGES = [
+    # the algorithm and the rows
+    ('red hen', 'by tnra', BY_TNRA),
+    ('zebra', 'by tnra, and nothing is met', BY_TNRA),
+    ('red hen', 'a row', rows(0)),
+    ('red hen', 'a row, of the other document', rows(1)),
+    ('red hen', 'two rows of one document', rows(0, 0)),
+    ('red hen', 'a row that names no met document', rows(9)),
+    ('red hen', 'the largest number of rows', rows(*range(1000))),
+    # the header and the dictionary
+    ('red hen', 'the header has another number of documents', header_with(documents=4)),
+    ('red hen', 'another root of the texts', lambda proof, archive: assigned('roots', 2, OTHER)(proof.header, archive)),
+    ('red hen', 'dictionary: a digest too few', digests_of(DICTIONARY, DROP)),
+    ('red hen', 'dictionary: another digest', digests_of(DICTIONARY, BEND)),
+    ('red hen', 'dictionary: one document has red, as one entry is shown', leaf_with('leaves', 1, 2, 1)),
+    ('red hen', 'dictionary: all leaves are shown', ALL_FOXES),
+    # the slots
+    ('red hen', 'slot: another leaf', leaf_with('slots', 0, 1, 1)),
+    ('red hen', 'slot: no such leaf', leaf_with('slots', 1, 1, 2)),
+    ('red hen', 'slot: a present term is called absent', absent(0)),
+    ('red hen', 'slot: a present term is called absent at the last leaf', absent(1)),
+    ('fox', 'slot: a present term is called absent, at its leaf, and nothing is met', all_of(ALL_FOXES, absent(0), nothing_met)),
+    ('fox', 'slot: a present term is called absent, before its leaf, and nothing is met',
+     all_of(ALL_FOXES, absent(0), leaf_with('slots', 0, 1, 1), nothing_met)),
+    ('zebra', 'slot: no leaf after an absent term', leaf_with('slots', 0, 1, 1)),
+    ('aaa zebra', 'slot: an absent term between two below it', all_of(ALL_FOXES, leaf_with('slots', 1, 1, 3))),
+    # the lists
+    ('red hen', 'list: an entry names no met document', with_entry(1, 0, 2)),
+    ('red hen', 'list: a document twice', with_entry(0, 1, 1)),
+    ('red hen', 'list: a digest too many in the whole list', digests_of(LISTS(0), ADD)),
+    ('red hen', 'list: a digest too few in the other list', digests_of(LISTS(1), DROP)),
+    ('red hen', 'list: an entry more than the digests leave', lambda proof, archive: proof.prefixes[1].entries.append((1, 1))),
+    ('red hen', 'list: another impact', with_entry(0, 0, 1, 1064)),
+    ('red hen', 'list: another document', all_of(with_entry(0, 0, 0), with_entry(0, 1, 1))),
+    ('red hen', 'list: another digest', digests_of(LISTS(1), BEND)),
+    ('aaa red hen zebra', 'list: a digest too many, after an absent term', digests_of(LISTS(0), ADD)),
+    ('red hen', 'met: a document that no entry names', more_met([9])),
+    # the documents and their terms
+    ('red hen', 'documents: a digest too few', digests_of(DOCUMENTS, DROP)),
+    ('red hen', 'documents: another digest', digests_of(DOCUMENTS, BEND)),
+    ('red hen', 'documents: another number of terms', leaf_with('documents', 0, 0, 5)),
+    ('zebra', 'documents: nothing is met, and no digest', digests_of(DOCUMENTS, DROP)),
+    ('red hen', 'terms: a digest too few', digests_of(TERMS(0), DROP)),
+    ('red hen', 'terms: another digest', digests_of(TERMS(1), BEND)),
+    ('red hen', 'terms: another impact', section_with(1, 0, 2, 897)),
+    ('red hen', 'terms: all leaves are shown of each', all_of(more_terms(0), more_terms(1))),
+    ('red hen', 'terms slot: an absent term is called present', section_with(1, 1, 0, 1, 'slots')),
+    ('red hen', 'terms slot: a present term is called absent', section_with(0, 1, 0, 0, 'slots')),
+    ('red hen', 'terms slot: a present term is called absent, at its leaf', these_terms(0, range(4), [(1, 1), (0, 2)])),
+    ('red hen', 'terms slot: a present term is called absent, before its leaf', these_terms(0, range(4), [(1, 1), (0, 1)])),
+    ('red zebra', 'terms slot: no such leaf, after an absent term', section_with(0, 0, 1, 7, 'slots')),
+    # two faults
+    ('red hen', 'two: by tnra, and a row', all_of(rows(0), BY_TNRA)),
+    ('red hen', 'two: by tnra, and another header', all_of(header_with(documents=4), BY_TNRA)),
+    ('red hen', 'two: a row, and another header', all_of(rows(0), header_with(documents=4))),
+    ('red hen', 'two: a row, and no whole list', all_of(ONE_EACH, rows(1))),
+    ('red hen', 'two: another header, and no whole list', all_of(ONE_EACH, header_with(leaves=7))),
+    ('red hen', 'two: another digest of a list, and no whole list', all_of(ONE_EACH, digests_of(LISTS(1), BEND))),
+    ('red hen', 'two: slot of a document, and no whole list', all_of(ONE_EACH, section_with(1, 1, 0, 1, 'slots'))),
+    ('red hen', 'two: the first list and a document', all_of(with_entry(0, 0, 1, 1), digests_of(TERMS(0), ADD))),
+    ('red hen', 'two: documents and terms', all_of(digests_of(DOCUMENTS, BEND), section_with(0, 0, 2, 1))),
+]
+
+BOTH_IN_BLOCKS = [
+    ('red hen', 'by tnra', BY_TNRA),
+    ('red hen', 'a row', rows(0)),
+    ('red hen', 'list: another impact', with_entry(0, 0, 1, 1064)),
+    ('red hen', 'list: a digest too many, of bytes 00 as after the last block', digests_of(LISTS(0), lambda digests: (
+        digests.append(NOTHING)))),
+    ('red hen', 'list: no digest of the other entry', digests_of(LISTS(1), DROP)),
+    ('red hen', 'met: a document that no entry names', more_met([9])),
+    ('red hen', 'terms slot: an absent term is called present', section_with(1, 1, 0, 1, 'slots')),
+]
+
+
+def both_shapes(data):
+    """A few faults of shape: the bytes are read as those of a proof."""
+    yield 'no bytes', b''
+    yield 'without the last byte', data[:-1]
+    yield 'one byte more', data + b'\0'
+    yield 'the magic of a text', b'ATSF' + data[4:]
+    yield 'version: 3', data[:4] + b'\3' + data[5:]
+    yield 'algorithm: 3', data[:5] + b'\3' + data[6:]
+    yield 'the other version is named', other_version(data)
+    yield 'the other algorithm is named', data[:5] + b'\2' + data[6:]
+    yield 'one row, which is not there', data[:-2] + number(1, 2)
+    yield 'number of rows: 1001', data[:-2] + number(1001, 2)
+
+
+def made_for_both():
+    """Proofs under roots that no archive has, with what each shows, and its query."""
+    lacks = Section([(0, b'', 0), (1, b'\xff', 0)], [], [(0, 0)])
+
+    def has(impact):
+        return Section([(1, b'x', impact)], [OTHER, OTHER], [(1, 0)])
+
+    def one_met(made, count=3, section=None):
+        return looked_up(made, [count], [section or has(5)], made_digests(3))
+
+    def front(count, digests, impact=7, version=ONE):
+        return one_met(one_list(5, count, [(1, impact)], made_digests(digests), (), version=version))
+
+    yield 'an impact of 0 in the list and in the document', one_met(one_list(5, 1, [(1, 0)], rows=()), 3, has(0)), 'x'
+    yield 'the document does not have the term of its list', one_met(one_list(5, 1, [(1, 5)], rows=()), 2, lacks), 'x'
+    yield 'a last shown impact of 0, with an entry after it', front(2, 1, 0), 'x'
+    yield 'more entries than documents, cut after as many as there are documents', looked_up(
+        one_list(2, 3, [(0, 7), (1, 6)], made_digests(1), ()), [3, 3], [has(5)] * 2, []), 'x'
+    yield 'the largest number of entries', front(2**32 - 1, 32), 'x'
+    yield 'in blocks: the largest number of entries', front(2**32 - 1, 7, version=TWO), 'x'
+    yield '257 entries, of which one is shown', front(257, 9), 'x'
+    yield 'in blocks: an entry in a list of 65', front(65, 7, version=TWO), 'x'
+    yield 'in blocks: an entry in a list of 0', front(0, 0, version=TWO), 'x'
+    yield 'an entry in a list of 0', front(0, 0), 'x'
+    for version, about in ((ONE, 'in blocks: the root of a list is that of the tree of its only block'),
+                           (TWO, 'the root of a list is that of a list in blocks')):
+        yield about, looked_up(changed_rows(of_other_version(version)), [3, 3], [has(5)] * 2, made_digests(2)), 'x'
+    yield 'a met document at the number of documents', looked_up(
+        one_list(1, 1, [(1, 5)], rows=()), [3], [has(5)], made_digests(1)), 'x'
+    between = Made(5, slots=[(0, 0)], rows=[])
+    between.dictionary(4, [(1, b'w', 1, OTHER), (2, b'z', 1, OTHER)], made_digests(2))
+    between.documents([], [OTHER], [])
+    yield 'absent between terms that are no sentinels', between, 'x'
+    yield 'each of two lists has a document that the other has not, and both documents have both terms', two_whole(
+        [1], [2], [(b'x', 5), (b'y', 5)], [(1, 0), (1, 1)]), 'x y'
+    yield 'both lists have the same documents, and these have neither term', two_whole(
+        [1, 2], [2, 1], [(b'w', 5), (b'z', 5)], [(0, 0), (0, 0)]), 'x y'
+    yield 'both lists have the same documents, and these have only the first term', two_whole(
+        [1, 2], [2, 1], [(b'x', 5), (b'z', 5)], [(1, 0), (0, 0)]), 'x y'
+    yield 'both lists have the same documents, and these have only the second term', two_whole(
+        [1, 2], [2, 1], [(b'w', 5), (b'y', 5)], [(0, 0), (1, 1)]), 'x y'
+    yield 'the largest numbers of entries and of met documents, of which none has the term', looked_up(
+        one_list(ALL, ALL, [(at, 5) for at in range(ALL)], rows=()), [2] * ALL, [lacks] * ALL, []), 'x'
+
+
+def changed_rows(made):
+    """The same with no row."""
+    made.proof.rows = []
+    return made
+
+
+def two_whole(first, second, leaves, slots):
+    """The lists of x and y, with these documents; documents 1 and 2, of 5, have these leaves and slots."""
+    made = Made(5, terms=2, met=sorted({*first, *second}), slots=[(1, 0), (1, 1)], rows=[])
+    roots = [made.list_root(len(each), [(at, 5) for at in each]) for each in (first, second)]
+    terms = zip((1, 2), (b'x', b'y'), (len(first), len(second)), roots)
+    made.dictionary(4, list(terms), [OTHER, OTHER])
+    section = Section([(1, *leaves[0]), (2, *leaves[1])], [OTHER], slots)
+    return looked_up(made, [3, 3], [section] * 2, made_digests(3))
+
+
+def both(archives, proofs):
+    """Honest files, changed ones and made ones, each with what `both` prints of it."""
+    told = []
+
+    def tell(about, root, query, proof, **other):
+        data = proof if isinstance(proof, bytes) else proof.data()
+        parts = bytes_in_parts(data) if isinstance(proof, bytes) else in_parts(pieces(proof))
+        agreed(about, expanded(parts), data)
+        told.append({'about': about, **other, 'root': root, 'query': query, **client.both(root, query, data), 'proof': parts})
+
+    def tell_honest(name, archive, queries):
+        for query in queries:
+            about = f'{name}, in blocks' if archive.version == TWO else name
+            tell(about, archive.root, query, shown_for_both(archive, query), archive=name)
+            agreed((name, query), told[-1]['lines'], having_all(archive, query))
+
+    def tell_change(about, archive, query, change):
+        proof = shown_for_both(archive, query)
+        change(proof, archive)
+        tell(about, archive.root, query, proof)
+
+    for name, queries in BOTH_ASKED.items():
+        for version in (ONE, TWO) if name in BOTH_ASKED_IN_BLOCKS else (ONE,):
+            tell_honest(name, archives[version][name], queries)
+    for name, query, counts in BOTH_SHOWN:
+        for version, blocks in ((ONE, ''), (TWO, ', in blocks')):
+            archive = archives[version][name]
+            shown = ' and '.join(map(str, counts))
+            tell(f'entries that are shown{blocks}: {shown}', archive.root, query, shown_for_both(archive, query, counts))
+    one, two = archives[ONE]['foxes'], archives[TWO]['foxes']
+    for query, about, change in BOTH_CHANGES:
+        tell_change(about, one, query, change)
+    for query, about, change in BOTH_IN_BLOCKS:
+        tell_change(f'in blocks: {about}', two, query, change)
+    honest_one, honest_two = (shown_for_both(archive, 'red hen') for archive in (one, two))
+    for about, data in both_shapes(honest_one.data()):
+        tell(about, one.root, 'red hen', data)
+    tell('under another root', NOTHING.hex(), 'red hen', honest_one)
+    tell('under the root of these texts with lists in blocks', two.root, 'red hen', honest_one)
+    tell('in blocks: under the root of these texts with lists of one tree', one.root, 'red hen', honest_two)
+    tell('for another number of terms', one.root, 'hen', honest_one)
+    tell('for another term', one.root, 'red fox', honest_one)
+    tell('for other weights', one.root, 'red red hen', honest_one)
+    tell('two: by tnra, and a byte more', one.root, 'red hen', honest_one.data()[:5] + b'\2' + honest_one.data()[6:] + b'\0')
+    tell('two: for another number of terms, under another root', NOTHING.hex(), 'hen', honest_one)
+    for name in ('two terms', 'two terms, in blocks,', 'absent, after all', 'present and absent'):
+        for algorithm in ('tnra', 'tra'):
+            each = proofs[f'{name} by {algorithm}']
+            proof = Reader(bytes.fromhex(each['proof'])).proof()
+            tell(f'the proof that `prove` makes of {name} by {algorithm}', each['root'], each['query'], proof)
+            if algorithm == 'tra' and proof.rows:
+                proof.rows = []
+                tell(f'the proof that `prove` makes of {name} by {algorithm}, without its rows', each['root'], each['query'], proof)
+    for about, made, query in made_for_both():
+        tell(about, made.proof.root(), query, made.proof)
+    look_over_both(told)
+    return told
+
+
+def look_over_both(told):
+    """Each refusal must occur, and a few kinds of fault."""
+    words = [each['lines'][0].split() for each in told if each['status'] == 1]
+    wanted = REFUSALS - {'answer-out', 'answer-repeated', 'not-settled'} | {'not-tra', 'answer-shown', 'no-whole-list'}
+    kinds = {'cut', 'magic', 'version', 'algorithm', 'count', 'trailing'}
+    missing = (wanted - {line[1] for line in words}) | (kinds - {line[2] for line in words if line[1] == 'shape'})
+    if missing:
+        raise SystemExit(f'both: no vector for {sorted(missing)}')
+
+
 # The files
 
 REFUSALS = {
@@ -2052,6 +2334,7 @@ def main(words):
         save('served.json', served(proofs))
         save('texts.json', texts(archives))
         save('growths.json', growths(archives))
+        save('both.json', both(archives, proofs))
         save('fields.json', {
             name: [[start, end, label, proofs[name]['proof'][2 * start:2 * end]]
                    for label, start, end in with_places(Reader(bytes.fromhex(proofs[name]['proof'])).proof())]

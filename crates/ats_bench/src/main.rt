@@ -23,6 +23,9 @@
 //! - `text INDEX DOC TIMES` gives the text of document DOC of the index of a file, audits and checks it, TIMES times. It
 //!   prints for each time the microseconds of giving, of the audit, of all texts hashed as leaves of their tree, of as
 //!   many inner nodes as the tree has, of the check, and of one digest of the text.
+//! - `both INDEX QUERY TIMES` makes the proof of all documents with every term of a query from the index of a file, checks
+//!   and audits it, TIMES times. It prints for each time the microseconds of making it, of its checks as a proof of an
+//!   answer, of its checks as what it is, and of its audits; then how many each of these were, and its bytes.
 //! - `growth OLD NEW TIMES` makes a growth between the indexes of two files, checks and audits it, TIMES times. It prints
 //!   for each time the microseconds of making it, of all new texts hashed as leaves of their tree, of as many inner nodes
 //!   as the tree has, of many checks, of one audit, and of the old texts as leaves and as many inner nodes; then how many
@@ -31,7 +34,9 @@
 //! The program stands on `ats_bench_parts` and `ats_bench_index`, which do the work, and promises nothing of its own.
 #![tactic(auto)]
 
-use ats_bench_index::{check_proof, time_audits, time_builds, time_growths, time_texts};
+use ats_bench_index::{
+    check_proof, time_audits, time_both, time_builds, time_growths, time_texts,
+};
 use ats_bench_parts::{
     feed_proof, hash_inner_nodes, hash_proof, hash_strings, read_proof, time_blocks, time_walks,
 };
@@ -94,6 +99,9 @@ fn work(rt: &HostRuntime, threads: &(impl Threads + Sync), words: &[String]) -> 
         }
         [job, index, doc, times] if job.as_str() == "text" => {
             time_texts(rt, threads, index.as_str(), number(doc)?, number(times)?)
+        }
+        [job, index, query, times] if job.as_str() == "both" => {
+            time_both(rt, threads, index.as_str(), query.as_str(), number(times)?)
         }
         [job, old, new, times] if job.as_str() == "growth" => {
             time_growths(rt, threads, old.as_str(), new.as_str(), number(times)?)
