@@ -70,6 +70,9 @@ COMMANDS = [
     Command(["give", "I", "1", "T"], "text 190\n", "T"),
     Command(["fetch", ROOT, "1", "T"], "red red hen\n"),
     Command(["audit-fetch", "I", "1", "T"], "red red hen\n"),
+    Command(["prove-both", "I", QUERY, "B"], "both 645\n", "B"),
+    Command(["both", ROOT, QUERY, "B"], "1\n"),
+    Command(["audit-both", "I", QUERY, "B"], "1\n"),
     Command(["grow", "I", "J", "G"], "growth 313\n", "G"),
     Command(["growth", ROOT, MORE_ROOT, "G"], "grown 3 4\n"),
     Command(["audit-growth", "I", "J", "G"], "grown 3 4\n"),
@@ -168,7 +171,7 @@ def build(program: str, folder: Path) -> House:
         if ended.status != 0:
             sys.exit(f"{words[0]} ended with status {ended.status}: {ended.printed.decode()}")
     (folder / "L").write_text(f"1 P {QUERY}\n", encoding="utf-8")
-    files = {name: (folder / name).read_bytes() for name in "XYIJPLMNTG"}
+    files = {name: (folder / name).read_bytes() for name in "XYIJPLMNTBG"}
     return House(program, folder, files, framed(b"\x00" + files["P"]))
 
 

@@ -4,8 +4,8 @@ usage: python3 bench/limits.py [PROGRAM]
 
 PROGRAM is the program; without it, it is proved and built if needed. Makes collections at the limits (65,536
 documents, texts of 2^20 bytes, 16 MiB of text), migrates their indexes, answers queries of up to 32 terms with up to
-1,000 rows in both formats, and gives the program files that promise more than they hold, nest deeply or are as long as
-they may be. Prints for each run its status, its first line, its seconds and the most memory that it held, and whether
+1,000 rows in both formats, shows all documents with every word, and gives the program files that promise more than they
+hold, nest deeply or are as long as they may be. Prints for each run its status, its first line, its seconds and the most memory that it held, and whether
 that is as it should be. At the limits memory suffices: no run ends with status 6. A hostile file is refused in memory
 proportional to its length, at most the amount in its row. Ends with status 0 if all is as it should be. Needs 4 GiB of
 memory and 3 GiB of disk.
@@ -37,6 +37,11 @@ MAX_INDEX = 1 << 29
 MAX_TEXT_FILE = 1 << 21
 MAX_GROWTH = 1 << 12
 NO_ROOT = "00" * 32
+
+# Bytes of the proof of 65,536 documents that have 32 words. Of each it shows 32 of 86 leaves of its terms, which needs 32
+# digests, so 1,412 bytes in all, and 46 bytes more: its number, an entry of the whole list, and its leaf.
+TOO_LONG = 95_570_809
+TOO_LONG_IN_BLOCKS = 95_561_881  # the first entries of 31 other lists need 7 digests each in place of 16
 
 
 class Ended(NamedTuple):
@@ -148,6 +153,17 @@ def texts_and_growth(table: Table, name: str, root: str, in_blocks: str, documen
     table.wanted(f"{name}: audit-growth", ["audit-growth", "I", "M", "G"], first=f"grown {documents} {documents}")
 
 
+def all_documents(table: Table, name: str, index: str, root: str, query: str) -> None:
+    """Shows all documents of an index that have every word of a query, and compares them with a search of the texts."""
+    words = set(query.split())
+    texts = json.loads((table.folder / "X").read_text(encoding="utf-8"))
+    found = [str(doc) for doc, text in enumerate(texts) if words <= set(text.split())]
+    table.wanted(f"{name}: prove-both", ["prove-both", index, query, "B"], rows=1)
+    for command, first in (("both", root), ("audit-both", index)):
+        lines = table.wanted(f"{name}: {command}", [command, first, query, "B"]).lines
+        table.same(f"the documents of {command} and of a search", lines, found)
+
+
 def most_text(table: Table) -> None:
     words = corpora.vocabulary(corpora.SHAPES["notes"].vocabulary)
     corpora.write(str(table.folder / "X"), corpora.SHAPES["notes"], corpora.MAX_TEXTS)
@@ -165,6 +181,10 @@ def most_text(table: Table) -> None:
             answers(table, f"{name}, in blocks", "M", in_blocks, query, best, algorithms, served)
     documents = len(json.loads((table.folder / "X").read_text(encoding="utf-8")))
     texts_and_growth(table, "16 MiB of notes", root, in_blocks, documents, documents // 2)
+    for name, places in (("2 words", range(2)), ("32 rare words", range(15_000, 15_032))):
+        query = " ".join(words[k] for k in places)
+        all_documents(table, f"16 MiB of notes, {name}", "I", root, query)
+        all_documents(table, f"16 MiB of notes, {name}, in blocks", "M", in_blocks, query)
     table.wanted("16 MiB of notes, 33 terms: rank", ["rank", "X", "1", " ".join(words[:33])], 4, "input: query of 33 terms")
 
 
@@ -177,6 +197,13 @@ def most_documents(table: Table) -> None:
     in_blocks = migrate(table, "65,536 documents")
     answers(table, "65,536 documents, 10 terms, in blocks", "M", in_blocks, query, best, ("tra",), False)
     texts_and_growth(table, "65,536 documents", root, in_blocks, 65_536, 65_535)
+    all_documents(table, "65,536 documents, a word of all", "I", root, "ab")
+    all_documents(table, "65,536 documents, 10 words of which each has one", "I", root, query)
+    query = " ".join([letter + "b" for letter in too_long.LETTERS] + [letter + "f" for letter in too_long.LETTERS[:11]])
+    for index, length in (("I", TOO_LONG), ("M", TOO_LONG_IN_BLOCKS)):
+        line = f"input: proof of {length} bytes"
+        table.wanted("65,536 documents, 32 words of all: prove-both", ["prove-both", index, query, "N"], 4, line)
+    table.same("no file, and what a proof that is too long leaves,", (table.folder / "N").exists(), False)
 
 
 def longest_texts(table: Table) -> None:
@@ -188,6 +215,7 @@ def longest_texts(table: Table) -> None:
     in_blocks = migrate(table, "16 texts of 2^20 bytes")
     answers(table, "16 texts of 2^20 bytes, in blocks", "M", in_blocks, "w7 w70000", best, ("tnra", "tra"), False)
     texts_and_growth(table, "16 texts of 2^20 bytes", root, in_blocks, 16, 15)
+    all_documents(table, "16 texts of 2^20 bytes", "I", root, "w7 w70000")
     (table.folder / "X").write_text(json.dumps([text + "x"]), encoding="utf-8")
     table.wanted("a text of 2^20 + 1 bytes: build", ["build", "X", "N"], 4, "input: text 0 too long")
 
@@ -297,6 +325,12 @@ def greatest() -> Iterator[Hostile]:
     yield Hostile("2^26 + 1 bytes", repeated(whole, b"\0", b"", MAX_PROOF + 1), f"refused: shape long {MAX_PROOF}")
 
 
+def greatest_of_both() -> Iterator[Hostile]:
+    """The same for a reader who wants proofs without rows."""
+    for one in greatest():
+        yield one._replace(first=one.first.replace("other-root", "answer-shown 1000"))
+
+
 ARCHIVE = b"\x01" + HEADER
 
 
@@ -324,6 +358,7 @@ def hostile_files(table: Table) -> None:
         (collections, [["rank", "H", "1", "a"]], 4),
         (indexes, [["root", "H"], ["migrate", "H", "N"]], 4),
         (greatest, [["verify", NO_ROOT, "1000", " ".join(f"q{at}" for at in range(32)), "H"]], 1),
+        (greatest_of_both, [["both", NO_ROOT, " ".join(f"q{at}" for at in range(32)), "H"]], 1),
         (given, [["fetch", NO_ROOT, "0", "H"]], 1),
         (grown, [["growth", NO_ROOT, NO_ROOT, "H"]], 1),
     ]

@@ -45,7 +45,7 @@ KILLED = -signal.SIGKILL
 
 class House(NamedTuple):
     """The program in a folder that anyone may enter, three short texts, and a larger collection. Of both the index, and
-    the migrated one; of the short texts also a proof, the file of a text, and that of a growth."""
+    the migrated one; of the short texts also a proof, the file of a text, that of a growth, and the proof of all documents."""
 
     program: str
     folder: Path
@@ -56,11 +56,13 @@ class House(NamedTuple):
     large_blocks: bytes
     text: bytes
     growth: bytes
+    both: bytes
 
     def stored(self, words: list[str]) -> bytes:
         """What the words of a command store."""
-        if words[0] in ("prove", "give", "grow"):
-            return {"prove": self.proof, "give": self.text, "grow": self.growth}[words[0]]
+        stored = {"prove": self.proof, "give": self.text, "grow": self.growth, "prove-both": self.both}
+        if words[0] in stored:
+            return stored[words[0]]
         is_large = words[1] in ("LARGE", "L")
         if words[0] == "build":
             return self.large_index if is_large else self.index
@@ -93,7 +95,7 @@ def build(program: str, folder: Path) -> House:
     (folder / "X").write_text(TEXTS, encoding="utf-8")
     corpora.write(str(folder / "LARGE"), corpora.SHAPES["notes"], LARGE)
     (folder / "Y").write_text(faults.MORE_TEXTS, encoding="utf-8")
-    house = House(own, folder, *[b""] * 7)
+    house = House(own, folder, *[b""] * 8)
     for words, printed in (
         (["build", "X", "I"], ROOT + "\n"),
         (["migrate", "I", "M"], ROOT_IN_BLOCKS + "\n"),
@@ -103,10 +105,11 @@ def build(program: str, folder: Path) -> House:
         (["build", "Y", "J"], MORE_ROOT + "\n"),
         (["give", "I", "1", "T"], "text 190\n"),
         (["grow", "I", "J", "G"], "growth 313\n"),
+        (["prove-both", "I", QUERY, "B"], "both 645\n"),
     ):
         done = run(house, *words)
         expect(" ".join(words), (done.status, printed or done.printed), (0, done.printed))
-    return House(own, folder, *((folder / name).read_bytes() for name in ("I", "M", "P", "L", "LM", "T", "G")))
+    return House(own, folder, *((folder / name).read_bytes() for name in ("I", "M", "P", "L", "LM", "T", "G", "B")))
 
 
 def left(path: Path, whole: bytes, before: Optional[bytes] = None) -> str:
@@ -145,6 +148,9 @@ COMMANDS = [
     (["give", "I", "1", "N"], "text 190\n"),
     (["fetch", ROOT, "1", "T"], "red red hen\n"),
     (["audit-fetch", "I", "1", "T"], "red red hen\n"),
+    (["prove-both", "I", QUERY, "N"], "both 645\n"),
+    (["both", ROOT, QUERY, "B"], "1\n"),
+    (["audit-both", "I", QUERY, "B"], "1\n"),
     (["grow", "I", "J", "N"], "growth 313\n"),
     (["growth", ROOT, MORE_ROOT, "G"], "grown 3 4\n"),
     (["audit-growth", "I", "J", "G"], "grown 3 4\n"),
@@ -267,8 +273,10 @@ FAULT = Done(3, "fault: shelf\n")
 
 
 def of_files(name: str) -> list[list[str]]:
-    """The commands that read the file of a text or of a growth, with that file of this name, or an index."""
+    """The commands that read the file of a text or of a growth, or the proof of all documents, with that file of this name, or
+    an index."""
     texts = [["fetch", ROOT, "1", name], ["audit-fetch", "I", "1", name], ["give", name, "1", "N"]]
+    texts += [["both", ROOT, QUERY, name], ["audit-both", "I", QUERY, name], ["audit-both", name, QUERY, "B"], ["prove-both", name, QUERY, "N"]]
     return [*texts, ["growth", ROOT, MORE_ROOT, name], ["audit-growth", "I", "J", name], ["audit-growth", "I", name, "G"], ["grow", "I", name, "N"]]
 
 
@@ -347,6 +355,7 @@ def devices(house: House) -> str:
     expect("rank of /dev/zero", run(house, "rank", "/dev/zero", "1", QUERY), Done(4, "input: longer than 67108864\n"))
     expect("verify of /dev/zero", run(house, "verify", ROOT, "1", QUERY, "/dev/zero"), Done(1, "refused: shape long 67108864\n"))
     expect("fetch of /dev/zero", run(house, "fetch", ROOT, "1", "/dev/zero"), Done(1, "refused: shape long 2097152\n"))
+    expect("both of /dev/zero", run(house, "both", ROOT, QUERY, "/dev/zero"), Done(1, "refused: shape long 67108864\n"))
     expect("audit-growth of /dev/zero", run(house, "audit-growth", "I", "J", "/dev/zero"), Done(1, "refused: shape long 4096\n"))
     for words in SMALL_STORES:
         expect(f"{words[0]} into /dev/full", run(house, *words, "/dev/full"), FAULT)
@@ -369,6 +378,7 @@ def changes(house: House) -> str:
         (["migrate", "C", "N"], house.index, ROOT_IN_BLOCKS + "\n"),
         (["verify", ROOT, "1", QUERY, "C"], house.proof, ROW),
         (["fetch", ROOT, "1", "C"], house.text, "red red hen\n"),
+        (["both", ROOT, QUERY, "C"], house.both, "1\n"),
         (["audit-growth", "I", "J", "C"], house.growth, "grown 3 4\n"),
     ):
         for kind, change in kinds.items():
