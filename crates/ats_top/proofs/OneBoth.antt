@@ -1,7 +1,6 @@
 -- The proof of all documents with every term is made or too long in one way, and bytes are accepted or refused as such a
 -- proof in one way.
-use Rattle.std.proofs.Common.{◌≡◌, ◌∙◌, ◌≤◌, ◌^◌, ℕ, List, length, sym, ap, arith, Result, Ok, Err}
-use Rattle.std.specs.Prelude.{IfOk}
+use Rattle.std.proofs.Common.{◌≡◌, ◌∙◌, ◌≤◌, ◌^◌, ℕ, List, length, sym, ap, arith}
 use Rattle.std.specs.List.{concat}
 use Rattle.ats_commit.specs.Archive.{Archive}
 use Rattle.ats_grammar.specs.Front.{IsBad}
@@ -12,9 +11,8 @@ use Rattle.ats_proof.specs.Value.{Proof, fields_of}
 use Rattle.ats_proof.proofs.Public.{one_value}
 use Rattle.ats_honest.specs.Honest.{length_of}
 use Rattle.ats_honest.proofs.Public.{one_cut_shown}
-use Rattle.ats_both.specs.Made.{both_cut, IsBothMade, IsBothProof, IsBothFault, IsBothWithin}
+use Rattle.ats_both.specs.Made.{both_cut, IsBothMade, IsBothProof, IsBothFault}
 use Rattle.ats_both.specs.Verdicts.{AreAcceptedBytes, AreRefusedBytes}
-use Rattle.ats_both.specs.declared.making.BothFault.{BothFault}
 use Rattle.ats_both.specs.declared.making.BothFault.TheVariants.{TooLong}
 use Rattle.ats_both.proofs.Public.{one_of_bytes, not_refused}
 use Rattle.ats_plan.specs.Sound.{IsExact}
@@ -56,14 +54,6 @@ module _ (H : List ℕ → List ℕ) (archive : Archive) (query : List (List ℕ
     breaks = λ stop out none. none out.0 out.1;
     one = one_unmade;
   }
-
-  -- bytes that were made are within the limit
-  pub made_within : (result : Result (List ℕ) BothFault) → IfOk result (IsBothProof H archive query)
-      → ((proof : Proof) → IsBothMade H archive query proof → IsBothWithin (length_of proof) result) → IfOk result (AreBothBytes H archive query)
-  made_within (Ok bytes) proved size =
-      let within = size proved.proof proved.shows in
-      record { proved = proved; short = omega (arith, within.0, within.1) }
-  made_within (Err fault) proved size = tt
 
 -- bytes are accepted as one proof or refused in one way
 pub both_file_one : (H : List ℕ → List ℕ) (root : List ℕ) (query : List (List ℕ × ℕ)) (bytes : List ℕ)

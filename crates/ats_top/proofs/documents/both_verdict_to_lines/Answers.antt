@@ -1,4 +1,4 @@
-use Rattle.std.proofs.Common.{◌∙◌, ap, inl, inr}
+use Rattle.std.proofs.Common.{◌∙◌, ap}
 use Rattle.ats_console.specs.declared.stops.Stop.TheVariants.{Collision}
 use Rattle.ats_top.proofs.BothEnds.{both_collision_stops}
 use Rattle.ats_top.proofs.documents.both_verdict_to_lines.Goals as goal
