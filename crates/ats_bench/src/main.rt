@@ -34,9 +34,7 @@
 //! The program stands on `ats_bench_parts` and `ats_bench_index`, which do the work, and promises nothing of its own.
 #![tactic(auto)]
 
-use ats_bench_index::{
-    check_proof, time_audits, time_both, time_builds, time_growths, time_texts,
-};
+use ats_bench_index::{check_proof, time_audits, time_both, time_builds, time_growths, time_texts};
 use ats_bench_parts::{
     feed_proof, hash_inner_nodes, hash_proof, hash_strings, read_proof, time_blocks, time_walks,
 };

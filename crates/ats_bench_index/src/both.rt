@@ -16,6 +16,7 @@ use std::time::Instant;
 
 // How often a proof of fewer bytes than this is checked and audited for one time to be printed.
 const SHORT: usize = 100_000;
+
 const ROUNDS: u32 = 100;
 
 // Checks the proof as one of an answer. It has no rows, so it may only be refused for its answer; else `None`.
@@ -38,12 +39,7 @@ fn check_as_answer(
 }
 
 // Checks the proof as what it is. `None` if it is refused.
-fn check_once(
-    alloc: Global,
-    root: &[u8; 32],
-    query: &Query,
-    proof: &ProofView<'_>,
-) -> Option<()> {
+fn check_once(alloc: Global, root: &[u8; 32], query: &Query, proof: &ProofView<'_>) -> Option<()> {
     let mut work = Work::with_room(alloc, proof.met()).ok()?;
     let mut steps = Steps::new(alloc);
     check_both::<Sha>(root, query, proof, &mut work, &mut steps).ok()
