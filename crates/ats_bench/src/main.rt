@@ -38,6 +38,7 @@ use ats_bench_index::{check_proof, time_audits, time_both, time_builds, time_gro
 use ats_bench_parts::{
     feed_proof, hash_inner_nodes, hash_proof, hash_strings, read_proof, time_blocks, time_walks,
 };
+use std::alloc::Global;
 use std::process::ExitCode;
 use std::thread::Threads;
 use std::{env, io};
@@ -51,66 +52,137 @@ fn number(word: &String) -> Option<u32> {
     word.as_str().parse::<u32>().ok()
 }
 
-// Does what the words say, and returns the count.
-fn work(rt: &HostRuntime, threads: &(impl Threads + Sync), words: &[String]) -> Option<u64> {
-    let alloc = rt.alloc();
-    match words {
-        [job, algorithm, rows, texts, queries] if job.as_str() == "walk" => time_walks(
-            rt,
-            algorithm.as_str(),
-            number(rows)?,
-            texts.as_str(),
-            queries.as_str(),
-        ),
-        [job, count] if job.as_str() == "nodes" => Some(hash_inner_nodes(alloc, number(count)?)),
-        [job, entries, times] if job.as_str() == "read" => {
-            read_proof(alloc, number(entries)?, number(times)?)
-        }
-        [job, entries, piece, times] if job.as_str() == "feed" => {
-            feed_proof(alloc, number(entries)?, number(piece)?, number(times)?)
-        }
-        [job, entries, times] if job.as_str() == "digest" => {
-            hash_proof(alloc, number(entries)?, number(times)?)
-        }
-        [job, rows, query, proof, times] if job.as_str() == "check" => check_proof(
-            rt,
-            number(rows)?,
-            query.as_str(),
-            proof.as_str(),
-            number(times)?,
-        ),
-        [job, index, rows, query, proof, times] if job.as_str() == "audit" => time_audits(
-            rt,
-            threads,
-            index.as_str(),
-            number(rows)?,
-            query.as_str(),
-            proof.as_str(),
-            number(times)?,
-        ),
-        [job, sizes, times] if job.as_str() == "strings" => {
-            hash_strings(rt, sizes.as_str(), number(times)?)
-        }
-        [job, times] if job.as_str() == "blocks" => time_blocks(rt, number(times)?),
-        [job, texts, times] if job.as_str() == "build" => {
-            time_builds(rt, threads, texts.as_str(), number(times)?)
-        }
-        [job, index, doc, times] if job.as_str() == "text" => {
-            time_texts(rt, threads, index.as_str(), number(doc)?, number(times)?)
-        }
-        [job, index, query, times] if job.as_str() == "both" => {
-            time_both(rt, threads, index.as_str(), query.as_str(), number(times)?)
-        }
-        [job, old, new, times] if job.as_str() == "growth" => {
-            time_growths(rt, threads, old.as_str(), new.as_str(), number(times)?)
-        }
+fn nodes(alloc: Global, words: &[String]) -> Option<u64> {
+    let [count] = words else {
+        return None;
+    };
+    Some(hash_inner_nodes(alloc, number(count)?))
+}
+
+fn read(alloc: Global, words: &[String]) -> Option<u64> {
+    let [entries, times] = words else {
+        return None;
+    };
+    read_proof(alloc, number(entries)?, number(times)?)
+}
+
+fn feed(alloc: Global, words: &[String]) -> Option<u64> {
+    let [entries, piece, times] = words else {
+        return None;
+    };
+    feed_proof(alloc, number(entries)?, number(piece)?, number(times)?)
+}
+
+fn digest(alloc: Global, words: &[String]) -> Option<u64> {
+    let [entries, times] = words else {
+        return None;
+    };
+    hash_proof(alloc, number(entries)?, number(times)?)
+}
+
+fn walk(rt: &HostRuntime, words: &[String]) -> Option<u64> {
+    let [algorithm, rows, texts, queries] = words else {
+        return None;
+    };
+    let (algorithm, rows) = (algorithm.as_str(), number(rows)?);
+    time_walks(rt, algorithm, rows, texts.as_str(), queries.as_str())
+}
+
+fn check(rt: &HostRuntime, words: &[String]) -> Option<u64> {
+    let [rows, query, proof, times] = words else {
+        return None;
+    };
+    let (rows, times) = (number(rows)?, number(times)?);
+    check_proof(rt, rows, query.as_str(), proof.as_str(), times)
+}
+
+fn strings(rt: &HostRuntime, words: &[String]) -> Option<u64> {
+    let [sizes, times] = words else {
+        return None;
+    };
+    hash_strings(rt, sizes.as_str(), number(times)?)
+}
+
+fn blocks(rt: &HostRuntime, words: &[String]) -> Option<u64> {
+    let [times] = words else {
+        return None;
+    };
+    time_blocks(rt, number(times)?)
+}
+
+fn audit(rt: &HostRuntime, threads: &(impl Threads + Sync), words: &[String]) -> Option<u64> {
+    let [index, rows, query, proof, times] = words else {
+        return None;
+    };
+    let (rows, times) = (number(rows)?, number(times)?);
+    let (index, query) = (index.as_str(), query.as_str());
+    time_audits(rt, threads, index, rows, query, proof.as_str(), times)
+}
+
+fn build(rt: &HostRuntime, threads: &(impl Threads + Sync), words: &[String]) -> Option<u64> {
+    let [texts, times] = words else {
+        return None;
+    };
+    time_builds(rt, threads, texts.as_str(), number(times)?)
+}
+
+fn text(rt: &HostRuntime, threads: &(impl Threads + Sync), words: &[String]) -> Option<u64> {
+    let [index, doc, times] = words else {
+        return None;
+    };
+    time_texts(rt, threads, index.as_str(), number(doc)?, number(times)?)
+}
+
+fn both(rt: &HostRuntime, threads: &(impl Threads + Sync), words: &[String]) -> Option<u64> {
+    let [index, query, times] = words else {
+        return None;
+    };
+    time_both(rt, threads, index.as_str(), query.as_str(), number(times)?)
+}
+
+fn growth(rt: &HostRuntime, threads: &(impl Threads + Sync), words: &[String]) -> Option<u64> {
+    let [old, new, times] = words else {
+        return None;
+    };
+    time_growths(rt, threads, old.as_str(), new.as_str(), number(times)?)
+}
+
+// Does a job with these words, and returns the count.
+fn work(
+    rt: &HostRuntime,
+    threads: &(impl Threads + Sync),
+    job: &str,
+    words: &[String],
+) -> Option<u64> {
+    match job {
+        "walk" => walk(rt, words),
+        "nodes" => nodes(rt.alloc(), words),
+        "read" => read(rt.alloc(), words),
+        "feed" => feed(rt.alloc(), words),
+        "digest" => digest(rt.alloc(), words),
+        "check" => check(rt, words),
+        "audit" => audit(rt, threads, words),
+        "strings" => strings(rt, words),
+        "blocks" => blocks(rt, words),
+        "build" => build(rt, threads, words),
+        "text" => text(rt, threads, words),
+        "both" => both(rt, threads, words),
+        "growth" => growth(rt, threads, words),
         _ => None,
     }
 }
 
+// The first word is the job.
+fn count(rt: &HostRuntime, threads: &(impl Threads + Sync), words: &[String]) -> Option<u64> {
+    let [job, rest @ ..] = words else {
+        return None;
+    };
+    work(rt, threads, job.as_str(), rest)
+}
+
 fn main(rt: HostRuntime) -> io::Result<ExitCode> {
     let words = words(&rt)?;
-    match work(&rt, &rt, &words) {
+    match count(&rt, &rt, &words) {
         Some(count) => {
             println!(rt; "{count}")?;
             Ok(ExitCode::from(0))
