@@ -15,7 +15,7 @@ use Rattle.ats_tree.specs.Strings.{node_string, node_strings}
 use Rattle.ats_tree.specs.Part.{RisesFrom}
 use Rattle.ats_tree.specs.declared.hashed.Place.{Place}
 use Rattle.ats_tree.specs.declared.hashed.Tree.TheVariants.{Dictionary, List as ListOf}
-use Rattle.ats_tree.proofs.Public.{bound_to, difference-collides, numbers-lead, rises-increasing}
+use Rattle.ats_tree.proofs.Public.{bound_to, difference-collides, numbers-lead, rises-increasing, Binds, binds-both, binds-weaker, binds-one, binds-all, binds-moved}
 use Rattle.ats_lists.specs.Formats.{list_root, list_string, prefix_root, prefix_strings}
 use Rattle.ats_lists.specs.Lists.{list}
 use Rattle.ats_lists.specs.declared.entry.Entry.{Entry}
@@ -42,7 +42,7 @@ use Rattle.ats_client.specs.Strings.{hashed_header, strings_in, list_strings, do
 use Rattle.ats_client.specs.Rooted.{AreRooted}
 use Rattle.ats_client.proofs.Counts.{list-front}
 use Rattle.ats_client.proofs.DescentDocuments.{all-documents-bind}
-use Rattle.ats_client.proofs.DescentTrees.{Binds, binds-both, binds-weaker, binds-one, binds-all, binds-moved, tree-binds}
+use Rattle.ats_client.proofs.DescentTrees.{tree-binds}
 use Rattle.ats_client.proofs.HeadlineTerms.{HoldsPresent, each_presented}
 use Rattle.ats_client.proofs.Leaves.{leaf_own, present_leaf}
 use Rattle.ats_client.proofs.Presents.{at_place, entry_there}

@@ -16,7 +16,7 @@ use Rattle.ats_tree.specs.Part.{RisesFrom}
 use Rattle.ats_tree.specs.Differences.{Hashed}
 use Rattle.ats_tree.specs.declared.hashed.Place.{Place}
 use Rattle.ats_tree.specs.declared.hashed.Tree.TheVariants.{Documents as DocumentsTree, Terms}
-use Rattle.ats_tree.proofs.Public.{bound_to, numbers-lead, rises-increasing}
+use Rattle.ats_tree.proofs.Public.{bound_to, numbers-lead, rises-increasing, Binds, binds-both, binds-weaker, binds-all}
 use Rattle.ats_dict.specs.declared.header.Header.{Header}
 use Rattle.ats_doctree.specs.DocumentLeaf.{doc_leaf_bytes}
 use Rattle.ats_doctree.specs.Impacts.{doc_terms, text_terms}
@@ -33,7 +33,7 @@ use Rattle.ats_proof.specs.Runs.{shown_docs, shown_term}
 use Rattle.ats_proof.proofs.Public.{increasing-tail}
 use Rattle.ats_client.specs.Documents.{MetDocument, documents_from, documents_in, AreDocsRooted, IsTermsTree}
 use Rattle.ats_client.specs.Strings.{strings_in, terms_strings, documents_strings, AreLeavesOf, IsOwnDocument, AreOwnDocuments}
-use Rattle.ats_client.proofs.DescentTrees.{Binds, tree-binds, binds-both, binds-weaker, binds-all}
+use Rattle.ats_client.proofs.DescentTrees.{tree-binds}
 
 -- ---- the documents tree
 

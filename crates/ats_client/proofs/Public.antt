@@ -42,5 +42,5 @@ pub use Rattle.ats_client.proofs.FewItems.{few_items}
 pub use Rattle.ats_client.proofs.Collisions.{extract-collides}
 -- a list whose first item was taken is that item before the rest
 pub use Rattle.ats_client.proofs.Counts.{taken}
--- if extraction finds no collision, there is none
-pub use Rattle.ats_client.proofs.Collisions.{none_some}
+-- a collision that is there is not none
+pub use Rattle.ats_tree.proofs.Public.{none_some}

@@ -11,10 +11,11 @@ use Rattle.ats_tree.specs.Nodes.{NodeNumbers}
 use Rattle.ats_tree.specs.Rebuild.{is_bare, need, digest_with}
 use Rattle.ats_tree.specs.Strings.{below as below_of, string_at, strings}
 use Rattle.ats_tree.specs.Tree.{Tree, node, IsPowerOfTwo, digest_of}
+use Rattle.ats_tree.proofs.Public.{part-tree-cut}
 use Rattle.ats_fetch.specs.Inner.Compare.{numbered, turned, at_top}
 use Rattle.ats_fetch.specs.Inner.Trees.{text_tree, own_tree}
 use Rattle.ats_fetch.specs.declared.path.Unlike.{Unlike}
-use Rattle.ats_fetch.proofs.Parts.{top_string, IsBarePart, bare-place, shows, text-cut, own-cut, text-one, own-one, need-left, digest-left, strings-left, elided-left, need-right, digest-right, strings-right, elided-right, power_some}
+use Rattle.ats_fetch.proofs.Parts.{top_string, IsBarePart, bare-place, shows, text-cut, text-one, own-one, need-left, digest-left, strings-left, elided-left, need-right, digest-right, strings-right, elided-right, power_some}
 use Rattle.ats_fetch.proofs.Unlike.{node-unlike, text-unlike}
 
 -- ---- at the text
@@ -80,7 +81,7 @@ module _ (H : List ℕ → List ℕ) (leaves : List (List ℕ)) (from k n doc : 
 
   pub own-digest : (l r : List ℕ) → l ≡ digest_of H ul → r ≡ digest_of H ur → H (1 ∷ l ++ r) ≡ digest_of H (own_tree from n leaves)
   own-digest l r is_l is_r =
-      ap₂ (λ (a b : List ℕ). H (1 ∷ a ++ b)) is_l is_r ∙ sym (ap (digest_of H) (own-cut from k n leaves power less most within))
+      ap₂ (λ (a b : List ℕ). H (1 ∷ a ++ b)) is_l is_r ∙ sym (ap (digest_of H) (part-tree-cut from k n leaves power less most within))
 
   -- the text is in the left part
   module _ (left : doc < from + k) where
@@ -93,7 +94,7 @@ module _ (H : List ℕ → List ℕ) (leaves : List (List ℕ)) (from k n doc : 
 
       left-elided : elided_of H (text_tree from n doc text) (own_tree from n leaves) ≡ elided_of H (text_tree from k doc text) ul ++ digest_of H ur ∷ []
       left-elided =
-          ap (elided_of H (text_tree from n doc text)) (own-cut from k n leaves power less most within)
+          ap (elided_of H (text_tree from n doc text)) (part-tree-cut from k n leaves power less most within)
           ∙ elided-left H (text_tree from n doc text) (text_tree from k doc text) (text_tree (from + k) (n - k) doc text) (text-cut from k n doc text power less most) (shows from k doc text low left) left-bare ul ur
 
       pub left-some : (ours : List (List ℕ)) → ours ≡ elided_of H (text_tree from n doc text) (own_tree from n leaves) → 1 ≤ length ours
@@ -126,7 +127,7 @@ module _ (H : List ℕ → List ℕ) (leaves : List (List ℕ)) (from k n doc : 
           node-unlike H false ul ur (1 ∷ our_below ++ our_last) (1 ∷ below ++ last) (strings H (text_tree from k doc text) others) found further
           (ap₂ (λ (a b : List ℕ). 1 ∷ a ++ b) is_l is_r) equal other deeper
           ∙ ap (option_map numbered) (sym (
-          ap₂ (λ (u : Tree (List ℕ)) (ds : List (List ℕ)). first_difference (string_at H u) (strings H (text_tree from n doc text) ds)) (own-cut from k n leaves power less most within) parts
+          ap₂ (λ (u : Tree (List ℕ)) (ds : List (List ℕ)). first_difference (string_at H u) (strings H (text_tree from n doc text) ds)) (part-tree-cut from k n leaves power less most within) parts
           ∙ ap (first_difference (string_at H (node ul ur))) (
           strings-left H (text_tree from n doc text) (text_tree from k doc text) (text_tree (from + k) (n - k) doc text) (text-cut from k n doc text power less most) (shows from k doc text low left) left-bare
           others last (left-theirs theirs others last parts fit)
@@ -148,7 +149,7 @@ module _ (H : List ℕ → List ℕ) (leaves : List (List ℕ)) (from k n doc : 
 
       right-elided : elided_of H (text_tree from n doc text) (own_tree from n leaves) ≡ digest_of H ul ∷ elided_of H (text_tree (from + k) (n - k) doc text) ur
       right-elided =
-          ap (elided_of H (text_tree from n doc text)) (own-cut from k n leaves power less most within)
+          ap (elided_of H (text_tree from n doc text)) (part-tree-cut from k n leaves power less most within)
           ∙ elided-right H (text_tree from n doc text) (text_tree from k doc text) (text_tree (from + k) (n - k) doc text) (text-cut from k n doc text power less most) right-bare right-shows ul ur
 
       pub right-some : (ours : List (List ℕ)) → ours ≡ elided_of H (text_tree from n doc text) (own_tree from n leaves) → 1 ≤ length ours
@@ -180,7 +181,7 @@ module _ (H : List ℕ → List ℕ) (leaves : List (List ℕ)) (from k n doc : 
           node-unlike H true ul ur (1 ∷ our_first ++ our_below) (1 ∷ first ++ below) (strings H (text_tree (from + k) (n - k) doc text) others) found further
           (ap₂ (λ (a b : List ℕ). 1 ∷ a ++ b) is_l is_r) equal other deeper
           ∙ ap (option_map numbered) (sym (
-          ap₂ (λ (u : Tree (List ℕ)) (ds : List (List ℕ)). first_difference (string_at H u) (strings H (text_tree from n doc text) ds)) (own-cut from k n leaves power less most within) parts
+          ap₂ (λ (u : Tree (List ℕ)) (ds : List (List ℕ)). first_difference (string_at H u) (strings H (text_tree from n doc text) ds)) (part-tree-cut from k n leaves power less most within) parts
           ∙ ap (first_difference (string_at H (node ul ur))) (
           strings-right H (text_tree from n doc text) (text_tree from k doc text) (text_tree (from + k) (n - k) doc text) (text-cut from k n doc text power less most) right-bare right-shows first others
           ∙ ap (λ (x : List ℕ). top_string (1 ∷ first ++ x) ∷ map (below_of true) (strings H (text_tree (from + k) (n - k) doc text) others)) (sym is)

@@ -1,9 +1,8 @@
 -- The fields of the bytes that give a text: their ranges, what they tell, and their join.
-use Rattle.std.proofs.Common.{◌≡◌, ◌∙◌, ℕ, zero, suc, ◌*◌, ◌^◌, ◌≤◌, List, [], ◌∷◌, ◌++◌, length, take, drop, get_or, Result, Ok, Err, refl, sym, ap, subst, append-nil, length-append, arith}
+use Rattle.std.proofs.Common.{◌≡◌, ◌∙◌, ℕ, suc, ◌^◌, ◌≤◌, List, [], ◌∷◌, ◌++◌, length, take, drop, get_or, Result, Ok, Err, refl, sym, ap, subst, append-nil, length-append, arith}
 use Rattle.std.specs.Prelude.{IfOk, IfErr}
-use Rattle.std.specs.List.{All, concat}
+use Rattle.std.specs.List.{concat}
 use Rattle.std.proofs.lemmas.List.{take_at, drop_at}
-use Rattle.std.proofs.lemmas.List.Elements.{All-nil, All-cons, All-head, All-tail}
 use Rattle.std.proofs.lemmas.List.Folds.{concat-append}
 use Rattle.ats_grammar.specs.declared.fault.ShapeFault.{ShapeFault}
 use Rattle.ats_grammar.specs.Front.{Come, Spells, IsBad}
@@ -13,58 +12,24 @@ use Rattle.ats_grammar.proofs.Public.{length-spelled, number-spelled, no_fault, 
 use Rattle.ats_lists.specs.declared.format.Format.{Format}
 use Rattle.ats_lists.specs.declared.format.Format.TheVariants.{One, Two}
 use Rattle.ats_proof.specs.Value.{number_of_format, header_fields}
+use Rattle.ats_proof.proofs.Public.{header_first, header_comes, digests_last, digests_come, length_digests}
 use Rattle.ats_fetch.specs.Grammar.{text, text_schema}
 use Rattle.ats_fetch.specs.Value.{TextProof, text_fields, fields_of, IsTextProof, IsTextInRange}
-
--- ---- what a table of fields says of them
-
-digests-come : (n : ℕ) (ds : List (List ℕ)) → Come ds (digests n End) End → (length ds ≡ n) × All (λ d. length d ≡ 32) ds
-digests-come zero [] come = (refl, All-nil (λ d. length d ≡ 32))
-digests-come zero (d ∷ ds) come = absurd come.0
-digests-come (suc n) [] come = absurd (cc)
-digests-come (suc n) (d ∷ ds) come =
-    let rest = digests-come n ds come.1 in
-    (ap suc rest.0, All-cons (λ d. length d ≡ 32) d ds come.0 rest.1)
-
-most : (k n limit : ℕ) → number (spelled (suc k) n) ≤ limit → n ≤ limit
-most k n limit few = subst (λ (m : ℕ). m ≤ limit) (number-spelled k n) few
-
-least : (k n low : ℕ) → low ≤ number (spelled (suc k) n) → low ≤ n
-least k n low some = subst (λ (m : ℕ). low ≤ m) (number-spelled k n) some
 
 -- each part of a spelled text is in its range
 pub in_range : (bytes : List ℕ) (proof : TextProof) → IsTextProof bytes proof → IsTextInRange proof
 in_range bytes proof is =
-    let come = is.spells.whole.come in
-    let head = come.1.1.1 in
-    let h = proof.header in
-    let tail = head.1.1.1.1.1 in
-    let shown = digests-come (number (spelled 1 (length proof.digests))) proof.digests tail.1.1.1 in
+    let first = header_first proof.header (text_fields proof) text is.spells.whole.come.1.1 in
+    let tail = first.after in
+    let shown = digests_last (number (spelled 1 (length proof.digests))) proof.digests tail.1.1.1 in
     record {
-      header = record {
-        numbers = record {
-          some = least 3 h.documents 1 head.0.1;
-          few = most 3 h.documents 65536 head.0.2;
-          sentinels = least 3 h.dict_leaves 2 head.1.0.1;
-          terms = most 3 h.dict_leaves 16777218 head.1.0.2;
-        };
-        dict = head.1.1.0;
-        docs = head.1.1.1.0;
-        texts = head.1.1.1.1.0;
-      };
-      short = most 3 (length proof.text) (2 ^ 20) tail.0.2;
-      few = most 0 (length proof.digests) 32 tail.1.1.0.2;
+      header = first.range;
+      short = omega (arith, tail.0.2, number-spelled 3 (length proof.text));
+      few = omega (arith, tail.1.1.0.2, number-spelled 0 (length proof.digests));
       sized = shown.1;
     }
 
 -- ---- fields of parts in their ranges
-
-come-digests : (n : ℕ) (ds : List (List ℕ)) → length ds ≡ n → All (λ d. length d ≡ 32) ds → Come ds (digests n End) End
-come-digests zero [] same sized = refl
-come-digests zero (d ∷ ds) same sized = absurd (omega (arith, same))
-come-digests (suc n) [] same sized = absurd (omega (arith, same))
-come-digests (suc n) (d ∷ ds) same sized =
-    (All-head (λ d. length d ≡ 32) d ds sized, come-digests n ds (omega (arith, same)) (All-tail (λ d. length d ≡ 32) d ds sized))
 
 -- the spelling of a number from low to high
 abbrev IsNumber : (size low high : ℕ) → ℕ → Type 0
@@ -80,32 +45,16 @@ is_format Two = is_number 0 1 2 2 (omega arith) (omega arith)
 
 come-all : (proof : TextProof) → IsTextInRange proof → Come (fields_of proof) text_schema.table End
 come-all proof range =
-    let h = proof.header in
-    let n = range.header.numbers in
     let digests_there : Come proof.digests (digests (number (spelled 1 (length proof.digests))) End) End =
-    come-digests (number (spelled 1 (length proof.digests))) proof.digests (sym (number-spelled 0 (length proof.digests))) range.sized in
+    digests_come (number (spelled 1 (length proof.digests))) proof.digests (sym (number-spelled 0 (length proof.digests))) range.sized in
     let text_there : Come (text_fields proof) text End = (
       is_number 3 0 1048576 (length proof.text) (omega arith) range.short,
       (sym (number-spelled 3 (length proof.text)), (is_number 0 0 32 (length proof.digests) (omega arith) range.few, digests_there)),
     ) in
-    let header_there : Come (header_fields h ++ text_fields proof) (header text) End = (
-      is_number 0 1 1 1 (omega arith) (omega arith),
-      (
-        is_number 3 1 65536 h.documents n.some n.few,
-        (is_number 3 2 16777218 h.dict_leaves n.sentinels n.terms, (range.header.dict, (range.header.docs, (range.header.texts, text_there)))),
-      ),
-    ) in
+    let header_there = header_comes proof.header (text_fields proof) text End range.header text_there in
     (is_number 3 0x41545346 0x41545346 0x41545346 (omega arith) (omega arith), (is_format proof.format, header_there))
 
 -- ---- how many bytes there are
-
--- digests joined
-length-digests : (ds : List (List ℕ)) → All (λ d. length d ≡ 32) ds → length (concat ds) ≡ 32 * length ds
-length-digests [] sized = refl
-length-digests (d ∷ ds) sized =
-    let here : length d ≡ 32 = All-head (λ d. length d ≡ 32) d ds sized in
-    let rest = length-digests ds (All-tail (λ d. length d ≡ 32) d ds sized) in
-    omega (arith, length-append d (concat ds), here, rest)
 
 -- the fields before the text
 abbrev pub before_text : TextProof → List (List ℕ)
@@ -130,7 +79,7 @@ around_text proof = concat-append (before_text proof) (proof.text ∷ after_text
 few_bytes : (proof : TextProof) → IsTextInRange proof → length (concat (fields_of proof)) ≤ 2 ^ 21
 few_bytes proof range =
     let before = length-before proof range in
-    let digests_there = length-digests proof.digests range.sized in
+    let digests_there = length_digests proof.digests range.sized in
     let all = ap length (around_text proof) in
     let first = length-append (concat (before_text proof)) (proof.text ++ concat (after_text proof)) in
     let second = length-append proof.text (concat (after_text proof)) in

@@ -15,7 +15,7 @@ use Rattle.ats_tree.specs.Differences.{Hashed, moved, Difference, first_differen
 use Rattle.ats_tree.specs.Nodes.{Node, NodeNumbers, numbers_of}
 use Rattle.ats_tree.specs.Shown.{Shown}
 use Rattle.ats_tree.specs.Strings.{node_string, node_strings, IsBoundTo}
-use Rattle.ats_tree.proofs.Public.{bound_to, Collides, difference-collides, known-moved, numbers-lead}
+use Rattle.ats_tree.proofs.Public.{bound_to, binds-weaker, Collides, difference-collides, known-moved, none_some, numbers-lead}
 use Rattle.ats_fetch.specs.Accepts.{shown_text, AcceptsText}
 use Rattle.ats_fetch.specs.Inner.Clashes.{own_header_string, HasOwnHeader}
 use Rattle.ats_fetch.specs.Strings.{TextPlace, in_texts, own_text_string, text_strings, text_extract, IsOwnText, IsOwnOrCollides}
@@ -43,11 +43,6 @@ own_numbers H sized archive proof are range equal =
 
 -- ---- the texts tree
 
--- what is known unless there is a collision may be weakened
-weaker : {P : Type 0} (H : List ℕ → List ℕ) (A B : Type 0) (o : Option (Difference P)) → (A → B) → MatchOption o A (Collides H) → MatchOption o B (Collides H)
-weaker H A B None f known = f known
-weaker H A B (Some c) f known = known
-
 abbrev pub tree_strings_of : (List ℕ → List ℕ) → ℕ → TextProof → List (Hashed TextPlace)
 tree_strings_of H doc proof =
     map (moved in_texts) (map (moved numbers_of) (node_strings H proof.header.documents (shown_text doc proof.text) proof.digests))
@@ -63,7 +58,7 @@ tree-bound H sized archive root doc proof range accepts header =
     bound_to H sized proof.header.documents shown proof.digests proof.header.texts_root (omega_rises doc, tt) range.sized accepts.kept.1.1.1.0
     archive.texts (sym header.number) (sym header.raw) in
     let own : MatchOption (first_difference (node_string H archive.texts) strings) (IsOwnText archive doc proof) (Collides H) =
-    weaker H Leaves (IsOwnText archive doc proof) (first_difference (node_string H archive.texts) strings)
+    binds-weaker H (node_string H archive.texts) strings Leaves (IsOwnText archive doc proof)
     (λ leaves. All-head (λ (s : Shown). slice_get archive.texts s.0 ≡ Some s.1) (doc, proof.text) [] leaves) bound in
     known-moved H (IsOwnText archive doc proof) in_texts (own_text_string H archive) (map (moved numbers_of) strings)
     (known-by-numbers H (IsOwnText archive doc proof) (λ (at : NodeNumbers). own_text_string H archive (in_texts at)) (node_string H archive.texts) strings
@@ -119,7 +114,3 @@ own_text H sized archive doc proof are range accepts none =
       | inl own ↦ own
       | inr some ↦ absurd (none_some (text_extract H archive doc proof) none some)
     ]
-  where
-    none_some : (o : Option (Difference TextPlace)) → o ≡ None → IsSome o → ⊥
-    none_some None is some = absurd (cc)
-    none_some (Some c) is some = absurd (cc)

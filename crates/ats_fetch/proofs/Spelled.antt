@@ -1,47 +1,15 @@
 -- The bytes that are put one after another are the fields of a text, joined.
-use Rattle.std.proofs.Common.{◌≡◌, ◌∙◌, ℕ, zero, suc, ◌+◌, ◌*◌, ◌/◌, ◌%◌, ◌^◌, ◌<◌, List, [], ◌∷◌, ◌++◌, length, take, get_or, sym, ap, ap₂, subst, append_assoc, append-nil, arith}
+use Rattle.std.proofs.Common.{◌≡◌, ◌∙◌, ℕ, ◌+◌, ◌^◌, ◌<◌, List, [], ◌∷◌, ◌++◌, length, take, get_or, sym, ap, ap₂, subst, append_assoc, append-nil, arith}
 use Rattle.std.specs.Int.{to_be_bytes, w32}
 use Rattle.std.specs.List.{concat}
 use Rattle.std.proofs.lemmas.List.{take_more}
 use Rattle.std.proofs.lemmas.List.Folds.{concat-append}
-use Rattle.std.proofs.Math.Nat.{mod-lt, div-lt_iff_lt-mul, pow-succ'}
 use Rattle.ats_dict.specs.Header.{header_bytes}
-use Rattle.ats_dict.specs.declared.header.Header.{Header}
-use Rattle.ats_grammar.specs.Table.{AreBytes, spelled}
-use Rattle.ats_grammar.proofs.Public.{number-spelled}
-use Rattle.ats_proof.specs.Value.{number_of_format}
-use Rattle.ats_proof.proofs.Public.{be_4}
-use Rattle.ats_fetch.specs.Value.{TextProof, fields_of, IsTextProof, IsTextInRange}
+use Rattle.ats_grammar.specs.Table.{spelled}
+use Rattle.ats_proof.specs.Value.{number_of_format, header_fields}
+use Rattle.ats_proof.proofs.Public.{spelled_1, spelled_4, header_join}
+use Rattle.ats_fetch.specs.Value.{TextProof, text_fields, fields_of, IsTextProof, IsTextInRange}
 use Rattle.ats_fetch.proofs.Fields.{spells}
-
-power_some : (k : ℕ) → 0 < 256 ^ k
-power_some zero = omega arith
-power_some (suc k) = let h = power_some k in omega (arith, h)
-
-small_spelled : (k n : ℕ) → n < 256 ^ k → AreBytes (spelled k n)
-small_spelled zero n few i = omega arith
-small_spelled (suc k) n few zero =
-    let whole : n < 256 * 256 ^ k = subst (λ (m : ℕ). n < m) (pow-succ' 256 k) few in
-    (div-lt_iff_lt-mul (power_some k)).1 (omega (arith, whole))
-small_spelled (suc k) n few (suc i) = small_spelled k (n % 256 ^ k) (mod-lt n (power_some k)) i
-
-spelled_4 : (n : ℕ) → n < 2 ^ 32 → to_be_bytes w32 n ≡ spelled 4 n
-spelled_4 n few = ap (to_be_bytes w32) (sym (number-spelled 3 n)) ∙ be_4 (spelled 4 n) (omega arith) (small_spelled 4 n (omega (arith, few)))
-
-spelled_1 : (n : ℕ) → spelled 1 n ≡ n ∷ []
-spelled_1 n = let e : n / 1 ≡ n = omega arith in ap (λ (m : ℕ). m ∷ []) e
-
--- a header, before other bytes
-header_is : (h : Header) (rest : List ℕ) → h.documents < 2 ^ 32 → h.dict_leaves < 2 ^ 32
-    → header_bytes h.documents h.dict_leaves h.dict_root h.docs_root h.texts_root ++ rest
-    ≡ spelled 1 1 ++ (spelled 4 h.documents ++ (spelled 4 h.dict_leaves ++ (h.dict_root ++ (h.docs_root ++ (h.texts_root ++ rest)))))
-unfolding header_bytes
-header_is h rest documents leaves =
-    let tail : ((h.dict_root ++ h.docs_root) ++ h.texts_root) ++ rest ≡ h.dict_root ++ (h.docs_root ++ (h.texts_root ++ rest)) =
-    append_assoc (h.dict_root ++ h.docs_root) h.texts_root rest ∙ append_assoc h.dict_root h.docs_root (h.texts_root ++ rest) in
-    let Front : List ℕ → List ℕ → List ℕ → List ℕ = λ (d e xs : List ℕ). 1 ∷ (d ++ (e ++ xs)) in
-    ap (Front (to_be_bytes w32 h.documents) (to_be_bytes w32 h.dict_leaves)) tail
-    ∙ ap₂ (λ (d e : List ℕ). Front d e (h.dict_root ++ (h.docs_root ++ (h.texts_root ++ rest)))) (spelled_4 h.documents documents) (spelled_4 h.dict_leaves leaves)
 
 in_turn : (a b c d e f g : List ℕ) → (((((a ++ b) ++ c) ++ d) ++ e) ++ f) ++ g ≡ a ++ (b ++ (c ++ (d ++ (e ++ (f ++ g)))))
 in_turn a b c d e f g =
@@ -66,11 +34,10 @@ put_together proof range magic is header same =
     let own : List ℕ = header_bytes h.documents h.dict_leaves h.dict_root h.docs_root h.texts_root in
     let format : List ℕ = number_of_format proof.format ∷ [] in
     let counted : length proof.digests ∷ ds ≡ spelled 1 (length proof.digests) ++ ds = ap (λ (n : List ℕ). n ++ ds) (sym (spelled_1 (length proof.digests))) in
-    let texts : wide ++ (proof.text ++ (length proof.digests ∷ ds)) ≡ spelled 4 (length proof.text) ++ (proof.text ++ (spelled 1 (length proof.digests) ++ ds)) =
+    let texts : wide ++ (proof.text ++ (length proof.digests ∷ ds)) ≡ concat (text_fields proof) =
     ap₂ (λ (n xs : List ℕ). n ++ (proof.text ++ xs)) (spelled_4 (length proof.text) size) counted in
-    let After : List ℕ = spelled 4 (length proof.text) ++ (proof.text ++ (spelled 1 (length proof.digests) ++ ds)) in
-    let back : own ++ (wide ++ (proof.text ++ (length proof.digests ∷ ds))) ≡ spelled 1 1 ++ (spelled 4 h.documents ++ (spelled 4 h.dict_leaves ++ (h.dict_root ++ (h.docs_root ++ (h.texts_root ++ After))))) =
-    ap (λ (xs : List ℕ). own ++ xs) texts ∙ header_is h After documents leaves in
+    let back : own ++ (wide ++ (proof.text ++ (length proof.digests ∷ ds))) ≡ concat (header_fields h ++ text_fields proof) =
+    ap₂ (λ (xs ys : List ℕ). xs ++ ys) (header_join h documents leaves) texts ∙ sym (concat-append (header_fields h) (text_fields proof)) in
     ap₂ (λ (m head : List ℕ). (((((m ++ format) ++ head) ++ wide) ++ proof.text) ++ length proof.digests ∷ []) ++ ds) is same
     ∙ in_turn (65 ∷ 84 ∷ 83 ∷ 70 ∷ []) format own wide proof.text (length proof.digests ∷ []) ds
     ∙ ap₂ (λ (version xs : List ℕ). 65 ∷ 84 ∷ 83 ∷ 70 ∷ (version ++ xs)) (sym (spelled_1 (number_of_format proof.format))) back

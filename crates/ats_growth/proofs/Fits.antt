@@ -4,8 +4,9 @@ use Rattle.std.proofs.lemmas.List.{length-take, length-drop, append_assoc, appen
 use Rattle.std.proofs.Math.Seq.{take-length}
 use Rattle.ats_tree.specs.Paths.{Path}
 use Rattle.ats_tree.specs.Tree.{Tree, node, tree_of}
+use Rattle.ats_tree.proofs.Public.{of-cut}
 use Rattle.ats_growth.proofs.Leads.{Leads, ends, left, right}
-use Rattle.ats_growth.proofs.Trees.{AreAlike, alike-of, of-cut, leaves_of}
+use Rattle.ats_growth.proofs.Trees.{AreAlike, alike-of, leaves_of}
 
 -- the first tree has the shape of the old one in the second
 abbrev pub Fits : Path → Tree (List ℕ) → Tree (List ℕ) → Type 0

@@ -2,12 +2,12 @@
 use Rattle.std.proofs.Common.{◌≡◌, ℕ, ◌+◌, ◌-◌, ◌*◌, ◌^◌, ◌<◌, ◌≤◌, List, [], ◌∷◌, ◌++◌, length, take, drop, reverse, Bool, true, false, ◌∙◌, ap, ap₂, arith}
 use Rattle.ats_tree.specs.Paths.{Path}
 use Rattle.ats_tree.specs.Tree.{Tree, tree_of, mth}
+use Rattle.ats_tree.proofs.Public.{of-cut}
 use Rattle.ats_growth.specs.Honest.{shown}
 use Rattle.ats_growth.specs.Pair.{roots}
 use Rattle.ats_growth.specs.Shape.{turns, need}
 use Rattle.ats_growth.proofs.Digests.{reverse-first, reverse-last}
 use Rattle.ats_growth.proofs.Leads.{turns-end, turns-left, turns-right}
-use Rattle.ats_growth.proofs.Trees.{of-cut}
 
 same-le : (m : ℕ) → m ≤ m
 same-le m = omega arith

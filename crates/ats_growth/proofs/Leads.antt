@@ -1,15 +1,11 @@
 -- The turns to the end of the old leaves, cut by cut.
-use Rattle.std.proofs.Common.{◌≡◌, ℕ, zero, suc, ◌+◌, ◌-◌, ◌*◌, ◌^◌, ◌<◌, ◌≤◌, [], ◌∷◌, length, Bool, true, false, refl, sym, ◌∙◌, ap, subst, arith, inl, inr, lit<}
+use Rattle.std.proofs.Common.{◌≡◌, ℕ, zero, suc, ◌+◌, ◌-◌, ◌*◌, ◌^◌, ◌<◌, ◌≤◌, [], ◌∷◌, length, Bool, true, false, refl, sym, ◌∙◌, ap, subst, arith, inl, inr}
 use Rattle.std.proofs.Math.Nat.{two-pow-succ}
 use Rattle.std.proofs.Math.Pow.{pow_mono}
 use Rattle.std.proofs.lemmas.Bool.{le-leb, lt-leb, cond-true, cond-false, cases_lt}
 use Rattle.ats_tree.specs.Paths.{Path}
+use Rattle.ats_tree.proofs.Public.{below_power}
 use Rattle.ats_growth.specs.Shape.{turns_within, turns, need}
-
--- n is below 2 ^ n
-below_power : (n : ℕ) → n < 2 ^ n
-below_power zero = lit< tt
-below_power (suc n) = omega (arith, two-pow-succ n, below_power n)
 
 -- ---- one level
 

@@ -1,6 +1,5 @@
 pub mod Public
 mod Leads
-mod Binds
 mod Trees
 mod Fits
 mod Sides

@@ -11,13 +11,14 @@ use Rattle.ats_commit.specs.Root.{header_parts}
 use Rattle.ats_commit.proofs.Public.{header_in_range, few_within}
 use Rattle.ats_proof.specs.Parts.{spelled}
 use Rattle.ats_tree.specs.Tree.{tree_of}
+use Rattle.ats_proof.proofs.Public.{spelled_1}
 use Rattle.ats_growth.specs.Honest.{shown, digests_of, digest_bytes, honest, IsPrefix}
 use Rattle.ats_growth.specs.Shape.{turns, need}
 use Rattle.ats_growth.specs.Value.{IsGrowth, IsInRange, AreInRange, archive_fields}
 use Rattle.ats_growth.proofs.Completeness.{prefix-shares, prefix-shorter, length-shown, sized-shown}
 use Rattle.ats_growth.proofs.Digests.{All-reverse}
 use Rattle.ats_growth.proofs.Leads.{leads, depth, need-turns}
-use Rattle.ats_growth.proofs.Spelled.{spells, spelled-1}
+use Rattle.ats_growth.proofs.Spelled.{spells}
 
 -- runs of bytes that are appended one after another
 pub joined_2 : (old x y b c all : List ℕ) → b ≡ old ++ x → c ≡ b ++ y → x ++ y ≡ all → c ≡ old ++ all
@@ -67,7 +68,7 @@ module _ (H : List ℕ → List ℕ) (sized : (m : List ℕ) → length (H m) �
       in let a : concat (archive_fields f g) ≡ A = ap₂ (λ (x : Format) (y : Header). concat (archive_fields x y)) is_f is_g
       in let b : concat (archive_fields e h) ≡ B = ap₂ (λ (x : Format) (y : Header). concat (archive_fields x y)) is_e is_h
       in let number : count ≡ many = is_count ∙ ap₂ (λ (x y : ℕ). need (turns x y) true) is_m is_n ∙ sym many_digests
-      in let c : count ∷ [] ≡ spelled 1 many = ap (λ (x : ℕ). x ∷ []) number ∙ sym (spelled-1 many)
+      in let c : count ∷ [] ≡ spelled 1 many = ap (λ (x : ℕ). x ∷ []) number ∙ sym (spelled_1 many)
       in let all : take n (drop 0 newer.texts) ≡ newer.texts = ap (λ (k : ℕ). take k newer.texts) is_n ∙ take-length newer.texts
       in let d : digest_bytes H (turns m n) true (tree_of (take n (drop 0 newer.texts))) ≡ D =
       ap (λ (ts : List (List ℕ)). digest_bytes H (turns m n) true (tree_of ts)) all

@@ -1,12 +1,13 @@
 -- The first strings that differ in the ranges whose digests form both roots.
-use Rattle.std.proofs.Common.{◌≡◌, ◌∙◌, ℕ, ◌<◌, List, [], ◌∷◌, ◌++◌, length, take, get_or, drop-cons, true, false, Option, Some, None, refl, sym, ap, ap₂}
+use Rattle.std.proofs.Common.{◌≡◌, ◌∙◌, ℕ, ◌<◌, List, [], ◌∷◌, ◌++◌, length, get_or, true, false, Option, Some, None, refl, sym, ap, ap₂, arith}
 use Rattle.std.specs.List.{flat_map}
 use Rattle.std.specs.Option.{option_map}
 use Rattle.std.proofs.lemmas.Grind.{flat_map-append}
 use Rattle.std.proofs.lemmas.List.{append-nil, get_or_default}
 use Rattle.ats_tree.specs.Paths.{Path}
 use Rattle.ats_tree.specs.Strings.{string_at}
-use Rattle.ats_tree.specs.Tree.{Tree, empty, leaf, node, tree_within, tree_of, digest_of}
+use Rattle.ats_tree.specs.Tree.{Tree, empty, leaf, node, digest_of}
+use Rattle.ats_tree.proofs.Public.{part-leaf}
 use Rattle.ats_growth.specs.Compared.{part_of, IsJoined, IsRange}
 use Rattle.ats_growth.specs.Strings.{Range, beside, all_strings, ranges, range_pairs, second_of}
 use Rattle.ats_growth.specs.Unlike.{Two, first_unlike, unlike_or, or_two, strings_of}
@@ -109,12 +110,7 @@ module _ (H : List ℕ → List ℕ) where
 
 -- ---- the trees of ranges
 
-of-one : (text : List ℕ) → tree_of (text ∷ []) ≡ leaf text
-unfolding tree_of tree_within
-of-one text = refl
-
 -- one document, whose text was read
 pub part-one : (texts : List (List ℕ)) (doc : ℕ) (lent text : List ℕ) → doc < length texts → text ≡ lent → lent ≡ get_or texts doc lent → part_of doc 1 texts ≡ leaf text
 part-one texts doc lent text inside is read =
-    ap (λ (xs : List (List ℕ)). tree_of (take 1 xs)) (drop-cons texts doc [] inside) ∙ of-one (get_or texts doc [])
-    ∙ ap (λ (x : List ℕ). leaf x) (sym (is ∙ read ∙ get_or_default texts doc lent [] inside))
+    part-leaf doc 1 texts refl (omega (arith, inside)) ∙ ap (λ (x : List ℕ). leaf x) (sym (is ∙ read ∙ get_or_default texts doc lent [] inside))

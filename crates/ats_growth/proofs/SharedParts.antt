@@ -7,8 +7,8 @@ use Rattle.std.proofs.lemmas.List.{append-nil}
 use Rattle.ats_tree.specs.Differences.{Hashed}
 use Rattle.ats_tree.specs.Paths.{Path}
 use Rattle.ats_tree.specs.Tree.{Tree, empty, leaf, node, digest_of}
+use Rattle.ats_tree.proofs.Public.{Binds, binds-both, binds-moved, binds-weaker}
 use Rattle.ats_growth.specs.Strings.{Beside, Range, ranges, range_pairs, all_strings, beside, second_of}
-use Rattle.ats_growth.proofs.Binds.{Binds, binds-both, binds-moved, binds-weaker}
 use Rattle.ats_growth.proofs.Fits.{Fits, Extends, extends-same, extends-left, extends-right}
 use Rattle.ats_growth.proofs.Sides.{AreOwnNew, AreOwnOld}
 use Rattle.ats_growth.proofs.Trees.{AreAlike, alike-binds}

@@ -6,10 +6,10 @@ use Rattle.ats_tree.specs.Paths.{Path}
 use Rattle.ats_tree.specs.Rebuild.{first_digest}
 use Rattle.ats_tree.specs.Strings.{string_at}
 use Rattle.ats_tree.specs.Tree.{Tree, empty, leaf, node, digest_of}
+use Rattle.ats_tree.proofs.Public.{Binds}
 use Rattle.ats_growth.specs.Shape.{need}
 use Rattle.ats_growth.specs.Pair.{roots}
 use Rattle.ats_growth.specs.Strings.{new_strings, old_strings}
-use Rattle.ats_growth.proofs.Binds.{Binds}
 use Rattle.ats_growth.proofs.Fits.{Fits}
 use Rattle.ats_growth.proofs.Trees.{left-binds, right-binds}
 

@@ -7,7 +7,7 @@ use Rattle.std.proofs.lemmas.List.{length-reverse}
 use Rattle.ats_tree.specs.Differences.{Hashed, moved, Difference, first_difference}
 use Rattle.ats_tree.specs.Paths.{Path}
 use Rattle.ats_tree.specs.Tree.{Tree, tree_of}
-use Rattle.ats_tree.proofs.Public.{difference-collides}
+use Rattle.ats_tree.proofs.Public.{difference-collides, Binds, binds-both, binds-moved, binds-weaker, binds-one}
 use Rattle.ats_dict.specs.Header.{header_bytes}
 use Rattle.ats_dict.specs.declared.header.Header.{Header}
 use Rattle.ats_lists.specs.declared.format.Format.{Format}
@@ -21,7 +21,6 @@ use Rattle.ats_growth.specs.Rules.{AcceptsGrowth}
 use Rattle.ats_growth.specs.Shape.{turns, need}
 use Rattle.ats_growth.specs.Strings.{Beside, beside, header_pair, new_strings, old_strings, ranges, range_pairs, pairs, second_of, extract}
 use Rattle.ats_growth.specs.Value.{Growth, IsInRange, AreInRange}
-use Rattle.ats_growth.proofs.Binds.{Binds, binds-both, binds-moved, binds-weaker, binds-one}
 use Rattle.ats_growth.proofs.Digests.{All-reverse}
 use Rattle.ats_growth.proofs.Fits.{Fits, fits, Extends}
 use Rattle.ats_growth.proofs.Leads.{leads}

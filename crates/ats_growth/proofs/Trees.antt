@@ -1,5 +1,5 @@
 -- Trees of byte strings: their leaves, two trees of one shape, and what equal digests say of them.
-use Rattle.std.proofs.Common.{◌≡◌, ℕ, zero, suc, ◌*◌, ◌^◌, ◌<◌, ◌≤◌, List, [], ◌∷◌, ◌++◌, length, take, drop, map, true, false, Option, refl, sym, ◌∙◌, ap, ap₂, subst, arith, inl, inr, lit<}
+use Rattle.std.proofs.Common.{◌≡◌, ℕ, zero, suc, ◌^◌, ◌<◌, ◌≤◌, List, [], ◌∷◌, ◌++◌, length, take, drop, map, true, false, Option, refl, sym, ◌∙◌, ap, ap₂, subst, arith, inl, inr}
 use Rattle.std.proofs.Math.Nat.{two-pow-succ}
 use Rattle.std.proofs.lemmas.Bool.{cases_lt}
 use Rattle.std.proofs.lemmas.List.{length-take, length-drop, take-append-drop}
@@ -7,27 +7,8 @@ use Rattle.ats_tree.specs.Differences.{Hashed}
 use Rattle.ats_tree.specs.Paths.{Path}
 use Rattle.ats_tree.specs.Strings.{below, string_at}
 use Rattle.ats_tree.specs.Tree.{Tree, empty, leaf, node, tree_within, tree_of, digest_of}
-use Rattle.ats_tree.proofs.Public.{of-within, within-cut, within-suc, parted}
+use Rattle.ats_tree.proofs.Public.{below_power, of-within, within-cut, within-suc, parted, Binds, binds-both, binds-moved, binds-weaker, binds-one}
 use Rattle.ats_growth.specs.Strings.{all_strings}
-use Rattle.ats_growth.proofs.Binds.{Binds, binds-both, binds-moved, binds-weaker, binds-one}
-
--- ---- the cut
-
-pub of-cut : (h : ℕ) (xs : List (List ℕ)) → 2 ^ h < length xs → length xs ≤ 2 * 2 ^ h
-    → tree_of xs ≡ node (tree_of (take (2 ^ h) xs)) (tree_of (drop (2 ^ h) xs))
-of-cut h xs long short =
-    let by_suc : length xs ≤ 2 ^ suc h = omega (arith, two-pow-succ h)
-    in let left : length (take (2 ^ h) xs) ≤ 2 ^ h = omega (arith, length-take (2 ^ h) xs)
-    in let right : length (drop (2 ^ h) xs) ≤ 2 ^ h = omega (arith, length-drop (2 ^ h) xs)
-    in of-within (suc h) xs by_suc ∙ within-cut h xs long
-    ∙ ap₂ node (sym (of-within h (take (2 ^ h) xs) left)) (sym (of-within h (drop (2 ^ h) xs) right))
-
-below_power : (n : ℕ) → n ≤ 2 ^ n
-below_power n = omega (arith, below n)
-  where
-    below : (n : ℕ) → n < 2 ^ n
-    below zero = lit< tt
-    below (suc n) = omega (arith, two-pow-succ n, below n)
 
 -- ---- the leaves of a tree
 
@@ -53,7 +34,9 @@ leaves-within (suc h) xs few =
     ]
 
 pub leaves-of : (xs : List (List ℕ)) → leaves_of (tree_of xs) ≡ xs
-leaves-of xs = ap leaves_of (of-within (length xs) xs (below_power (length xs))) ∙ leaves-within (length xs) xs (below_power (length xs))
+leaves-of xs =
+    let few : length xs ≤ 2 ^ length xs = omega (arith, below_power (length xs))
+    in ap leaves_of (of-within (length xs) xs few) ∙ leaves-within (length xs) xs few
 
 -- ---- two trees of one shape
 
@@ -90,10 +73,11 @@ alike-within (suc h) xs ys same few =
 
 pub alike-of : (xs ys : List (List ℕ)) → length xs ≡ length ys → AreAlike (tree_of xs) (tree_of ys)
 alike-of xs ys same =
-    let few : length ys ≤ 2 ^ length xs = omega (arith, below_power (length xs))
-    in subst (λ (t : Tree (List ℕ)). AreAlike t (tree_of ys)) (sym (of-within (length xs) xs (below_power (length xs))))
-    (subst (λ (u : Tree (List ℕ)). AreAlike (tree_within (length xs) xs) u) (sym (of-within (length xs) ys few))
-    (alike-within (length xs) xs ys same (below_power (length xs))))
+    let few : length xs ≤ 2 ^ length xs = omega (arith, below_power (length xs))
+    in let few' : length ys ≤ 2 ^ length xs = omega (arith, few)
+    in subst (λ (t : Tree (List ℕ)). AreAlike t (tree_of ys)) (sym (of-within (length xs) xs few))
+    (subst (λ (u : Tree (List ℕ)). AreAlike (tree_within (length xs) xs) u) (sym (of-within (length xs) ys few'))
+    (alike-within (length xs) xs ys same few))
 
 -- ---- digests
 

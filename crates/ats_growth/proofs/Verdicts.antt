@@ -1,13 +1,11 @@
 -- What the verdicts on a growth tell.
-use Rattle.std.proofs.Common.{◌≡◌, ◌≢◌, ◌||◌, ℕ, Bool, true, false, not, List, [], ◌∷◌, length, Option, Some, None, IfSome, IsSome, refl, sym, ap, subst, inl, inr}
-use Rattle.std.specs.Str.{bytes_eq}
-use Rattle.std.proofs.lemmas.Bool.{cases_Bool, cond-true, cond-false}
-use Rattle.std.proofs.lemmas.Slice.Eq.{bytes_eq-Decides}
+use Rattle.std.proofs.Common.{◌≡◌, ◌≢◌, ℕ, List, length, Some, None, IsSome, sym, ap, subst, inl, inr}
 use Rattle.ats_commit.specs.Archive.{Archive}
 use Rattle.ats_commit.specs.Own.{AreTexts}
 use Rattle.ats_commit.specs.Root.{root_of}
 use Rattle.ats_grammar.proofs.Public.{no_fault}
-use Rattle.ats_tree.specs.Differences.{Hashed, Difference, collision_or, first_collision}
+use Rattle.ats_tree.specs.Differences.{Difference}
+use Rattle.ats_tree.proofs.Public.{AreColliding, found-collides, none_some}
 use Rattle.ats_growth.specs.Grammar.{growth_schema}
 use Rattle.ats_growth.specs.Honest.{honest, IsPrefix}
 use Rattle.ats_growth.specs.Rules.{AcceptsGrowth}
@@ -24,39 +22,8 @@ use Rattle.ats_growth.proofs.InRange.{growth_range}
 use Rattle.ats_growth.proofs.OneGrowth.{one_growth}
 use Rattle.ats_growth.proofs.Soundness.{grown_or_collides}
 
--- ---- a collision is two different strings with equal digests
-
-abbrev pub AreColliding : (List ℕ → List ℕ) → Difference Beside → Type 0
-AreColliding H c = (c.ours ≢ c.theirs) × (H c.ours ≡ H c.theirs)
-
-differs : (a b : List ℕ) → bytes_eq a b ≡ false → a ≢ b
-differs a b other same = let equal : bytes_eq a b ≡ true = (bytes_eq-Decides a b).1 same in cc
-
-neither : (a b : Bool) → (a || not b) ≡ false → (a ≡ false) × (b ≡ true)
-neither true b e = absurd (cc)
-neither false true e = (refl, refl)
-neither false false e = absurd (cc)
-
-or-collides : (H : List ℕ → List ℕ) (o : Option (List ℕ)) (s : Hashed Beside) (later : Option (Difference Beside))
-    → IfSome later (AreColliding H) → IfSome (collision_or H o s later) (AreColliding H)
-or-collides H None s later known = known
-or-collides H (Some own) s later known =
-    let test : Bool = bytes_eq own s.text || not (bytes_eq (H own) (H s.text))
-    in let Goal : Option (Difference Beside) → Type 0 = λ c. IfSome c (AreColliding H)
-    in elim (cases_Bool test) [
-      | inl meets ↦ subst Goal (sym (cond-true test _ _ meets)) known
-      | inr fails ↦
-          let parts = neither (bytes_eq own s.text) (bytes_eq (H own) (H s.text)) fails
-          in subst Goal (sym (cond-false test _ _ fails)) (differs own s.text parts.0, (bytes_eq-Decides (H own) (H s.text)).0 parts.1)
-    ]
-
-first-collides : (H : List ℕ → List ℕ) (ss : List (Hashed Beside)) → IfSome (first_collision H second_of ss) (AreColliding H)
-first-collides H [] = tt
-first-collides H (s ∷ rest) = or-collides H (second_of s.place) s (first_collision H second_of rest) (first-collides H rest)
-
 pub extract-collides : (H : List ℕ → List ℕ) (older newer : Archive) (g : Growth) (c : Difference Beside) → extract H older newer g ≡ Some c → AreColliding H c
-extract-collides H older newer g c is =
-    subst (λ (found : Option (Difference Beside)). IfSome found (AreColliding H)) is (first-collides H (pairs H older newer g))
+extract-collides H older newer g c is = found-collides H second_of (pairs H older newer g) c is
 
 not_same : (a b : List ℕ) → a ≢ b → b ≢ a
 not_same a b other same = other (sym same)
@@ -69,10 +36,6 @@ told-strings H older newer g part first second is =
     in (not_same second first two.0, sym two.1)
 
 -- ---- the verdict on an accepted growth
-
-none_some : (o : Option (Difference Beside)) → o ≡ None → IsSome o → ⊥
-none_some None is some = absurd (cc)
-none_some (Some c) is some = absurd (cc)
 
 same_numbers : (grown : Grown) (m n : ℕ) → m ≡ grown.old → n ≡ grown.new → grown ≡ record { old = m; new = n }
 same_numbers grown m n old new = λ i. record { old = (sym old) i; new = (sym new) i }

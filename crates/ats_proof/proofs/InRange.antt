@@ -19,6 +19,7 @@ use Rattle.ats_grammar.specs.Front.{Come}
 use Rattle.ats_proof.specs.Parts.{spelled, counted}
 use Rattle.ats_proof.specs.Value.{ShownEntry, ShownTerm, Prefix, TermsSection, Documents, Proof, IsProof, AreDocumentsOf, digest_fields, slot_fields, kind_of_slot, id_fields, posting_fields, entry_fields, doc_fields, term_fields, prefix_fields, section_fields, documents_fields, front_fields, header_fields, number_of_algorithm, present_in}
 use Rattle.ats_proof.specs.Ranges.{AreDigests, IsShownInRange, IsEntryInRange, IsPrefixInRange, IsDictInRange, AreSlotsInRange, AreIdsInRange, IsTermInRange, IsSectionInRange, IsDocLeafInRange, AreDocumentsInRange, IsInRange}
+use Rattle.ats_proof.proofs.Encoded.{header_first}
 use Rattle.ats_proof.proofs.Numbers.{number-spelled}
 use Rattle.ats_proof.proofs.Standing.{IsRanged}
 use Rattle.ats_proof.proofs.Runs.{runs, state_after}
@@ -119,24 +120,11 @@ header_holds : (format : Format) (docs : Option Documents) (h : Header) (n : ℕ
     → Holds (IsBegun h n) (dictionary (is_shown docs) n) after
 header_holds format docs h n after come =
     let tra = is_shown docs in
-    let roots = h.dict_root ∷ h.docs_root ∷ h.texts_root ∷ spelled 2 n ∷ after in
-    let numbers = spelled 4 h.documents ∷ spelled 4 h.dict_leaves ∷ roots in
-    let algorithm = number_holds 0 1 2 (number_of_algorithm docs) Algorithm (λ a. header (query_terms (a == 1))) (spelled 1 1 ∷ numbers) come.1.1 in
-    let documents = number_holds 3 1 65536 h.documents Count (λ _. Number 4 2 16777218 Count (λ _. Bytes 32 (Bytes 32 (Bytes 32 (query_terms tra))))) (spelled 4 h.dict_leaves ∷ roots) algorithm.come.1 in
-    let leaves = number_holds 3 2 16777218 h.dict_leaves Count (λ _. Bytes 32 (Bytes 32 (Bytes 32 (query_terms tra)))) roots documents.come in
-    let terms = number_holds 1 1 32 n Count (λ m. dictionary tra m) after leaves.come.1.1.1 in
-    record {
-      is_good = record {
-        header = record {
-          numbers = record { some = documents.is_good.least; few = documents.is_good.most; sentinels = leaves.is_good.least; terms = leaves.is_good.most };
-          dict = leaves.come.0;
-          docs = leaves.come.1.0;
-          texts = leaves.come.1.1.0;
-        };
-        terms = terms.is_good;
-      };
-      come = terms.come;
-    }
+    let more = spelled 2 n ∷ after in
+    let algorithm = number_holds 0 1 2 (number_of_algorithm docs) Algorithm (λ a. header (query_terms (a == 1))) (header_fields h ++ more) come.1.1 in
+    let first = header_first h more (query_terms tra) algorithm.come in
+    let terms = number_holds 1 1 32 n Count (λ m. dictionary tra m) after first.after in
+    record { is_good = record { header = first.range; terms = terms.is_good }; come = terms.come }
 
 -- ---- the dictionary
 

@@ -12,6 +12,7 @@ mod Whole
 mod Answering
 mod Beginning
 mod Encoding
+mod Encoded
 mod Documents
 mod Showing
 mod Unique

@@ -14,6 +14,16 @@ pub use Rattle.ats_proof.proofs.Taking.{increasing-tail}
 pub use Rattle.ats_proof.proofs.Encoding.{be_2}
 -- the 4-byte encoding of the number that the first 4 bytes spell is these bytes, high byte first
 pub use Rattle.ats_proof.proofs.Encoding.{be_4}
+-- a number in 1, 2 or 4 bytes is its encoding
+pub use Rattle.ats_proof.proofs.Encoded.{spelled_1, spelled_2, spelled_4}
+-- the bytes of a header are its fields joined
+pub use Rattle.ats_proof.proofs.Encoded.{header_join}
+-- the fields of a header in range come first in a table, and only those
+pub use Rattle.ats_proof.proofs.Encoded.{IsHeaderFirst, header_first, header_comes}
+-- fields come last in a table of n digests if and only if they are n digests of 32 bytes
+pub use Rattle.ats_proof.proofs.Encoded.{digests_last, digests_come}
+-- n digests joined have 32 n bytes
+pub use Rattle.ats_proof.proofs.Encoded.{length_digests}
 -- the shown front of a list gives as many leaves as it has entries
 pub use Rattle.ats_proof.proofs.Encoding.{length-shown_list}
 -- two proofs that the same bytes spell are equal

@@ -1,17 +1,18 @@
 -- The header and the digests that bytes are, if they spell them.
-use Rattle.std.proofs.Common.{◌≡◌, ◌∙◌, ℕ, ◌+◌, ◌*◌, ◌/◌, ◌≤◌, List, [], ◌∷◌, ◌++◌, length, take, drop, refl, sym, ap, ap₂, subst, append_assoc, length-append, arith}
+use Rattle.std.proofs.Common.{◌≡◌, ◌∙◌, ℕ, ◌+◌, ◌*◌, ◌/◌, List, [], ◌∷◌, ◌++◌, length, take, drop, refl, sym, ap, ap₂, append_assoc, length-append, arith}
 use Rattle.std.specs.List.{All, concat}
 use Rattle.std.proofs.lemmas.List.{take_at, drop_at}
 use Rattle.std.proofs.lemmas.List.Elements.{All-head, All-tail}
 use Rattle.ats_dict.specs.Header.{IsHeader}
 use Rattle.ats_dict.specs.declared.header.Header.{Header}
-use Rattle.ats_grammar.specs.Table.{number, spelled, End}
+use Rattle.ats_grammar.specs.Table.{End}
 use Rattle.ats_grammar.specs.Grammar.{header}
 use Rattle.ats_grammar.specs.Front.{Come}
 use Rattle.ats_grammar.specs.Position.{HeaderValue, header_fields, AreDigests}
 use Rattle.ats_grammar.specs.Position as position
 use Rattle.ats_proof.specs.Parts.{parts_in}
 use Rattle.ats_proof.specs.Reading.{digest_size, digest_in, header_at}
+use Rattle.ats_proof.proofs.Encoded.{header_first, length_digests}
 use Rattle.ats_proof.proofs.Numbers.{number-spelled}
 
 -- these numbers and roots as a header
@@ -24,19 +25,8 @@ header_from h = record {
   texts_root = h.texts_root;
 }
 
-in_range : (low high n : ℕ) → low ≤ number (spelled 4 n) → number (spelled 4 n) ≤ high → (low ≤ n) × (n ≤ high)
-in_range low high n least most = (subst (λ (m : ℕ). low ≤ m) (number-spelled 3 n) least, subst (λ (m : ℕ). m ≤ high) (number-spelled 3 n) most)
-
 pub range_of_header : (h : HeaderValue) → Come (header_fields h) (header End) End → IsHeader h.documents h.dict_leaves h.dict_root h.docs_root h.texts_root
-range_of_header h come =
-    let documents = in_range 1 65536 h.documents come.1.0.1 come.1.0.2 in
-    let leaves = in_range 2 16777218 h.dict_leaves come.1.1.0.1 come.1.1.0.2 in
-    record {
-      numbers = record { some = documents.0; few = documents.1; sentinels = leaves.0; terms = leaves.1 };
-      dict = come.1.1.1.0;
-      docs = come.1.1.1.1.0;
-      texts = come.1.1.1.1.1.0;
-    }
+range_of_header h come = (header_first (header_from h) [] End come).range
 
 -- three roots one after another
 module _ (a b c : List ℕ) (is_a : length a ≡ 32) (is_b : length b ≡ 32) (is_c : length c ≡ 32) where
@@ -70,13 +60,6 @@ header_is bytes h is = ap header_at is.join ∙ spelled_header h (range_of_heade
 
 abbrev pub digests_in : ℕ → List ℕ → List (List ℕ)
 digests_in n bytes = parts_in digest_size digest_in n bytes
-
-length_digests : (all : List (List ℕ)) → All (λ d. length d ≡ 32) all → length (concat all) ≡ length all * 32
-length_digests [] sized = refl
-length_digests (d ∷ ds) sized =
-    let head : length d ≡ 32 = All-head (λ e. length e ≡ 32) d ds sized in
-    let tail = length_digests ds (All-tail (λ e. length e ≡ 32) d ds sized) in
-    omega (arith, head, tail, length-append d (concat ds))
 
 read_digests : (all : List (List ℕ)) → All (λ d. length d ≡ 32) all → digests_in (length all) (concat all) ≡ all
 read_digests [] sized = refl

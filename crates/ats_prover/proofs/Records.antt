@@ -1,8 +1,8 @@
 -- The records of a writer are the fields of a proof, joined.
-use Rattle.std.proofs.Common.{◌≡◌, ◌*◌, ◌/◌, ◌%◌, ◌^◌, ◌<◌, ℕ, zero, suc, Bool, true, false, cond, List, [], ◌∷◌, ◌++◌, length, refl, sym, ap, ap₂, subst, ◌∙◌, arith, append_assoc, append-nil}
+use Rattle.std.proofs.Common.{◌≡◌, ◌/◌, ◌^◌, ◌<◌, ℕ, Bool, true, false, cond, List, [], ◌∷◌, ◌++◌, length, refl, sym, ap, ap₂, ◌∙◌, arith, append_assoc, append-nil}
 use Rattle.std.specs.Int.{to_be_bytes, w16, w32}
 use Rattle.std.specs.List.{concat}
-use Rattle.std.proofs.Math.Nat.{mod-lt, div-lt_iff_lt-mul, pow-succ'}
+use Rattle.std.proofs.lemmas.List.Folds.{concat-append}
 use Rattle.ats_dict.specs.Entry.{DictEntry, dict_leaf_bytes}
 use Rattle.ats_dict.specs.Header.{header_bytes}
 use Rattle.ats_dict.specs.declared.header.Header.{Header}
@@ -16,27 +16,7 @@ use Rattle.ats_proof.specs.Records.{algorithm_byte, front_record, dict_leaf_reco
 use Rattle.std.specs.Prelude.{Option, Some, None}
 use Rattle.ats_proof.specs.Parts.{spelled}
 use Rattle.ats_proof.specs.Value.{Documents, doc_fields, front_fields, header_fields, entry_fields, number_of_algorithm, number_of_format, slot_fields, posting_fields, term_fields}
-use Rattle.ats_proof.proofs.Public.{be_2, be_4, AreBytes, number-spelled}
-
-power_some : (k : ℕ) → 0 < 256 ^ k
-power_some zero = omega arith
-power_some (suc k) = let h = power_some k in omega (arith, h)
-
-small_spelled : (k n : ℕ) → n < 256 ^ k → AreBytes (spelled k n)
-small_spelled zero n few i = omega arith
-small_spelled (suc k) n few zero =
-    let whole : n < 256 * 256 ^ k = subst (λ (m : ℕ). n < m) (pow-succ' 256 k) few in
-    (div-lt_iff_lt-mul (power_some k)).1 (omega (arith, whole))
-small_spelled (suc k) n few (suc i) = small_spelled k (n % 256 ^ k) (mod-lt n (power_some k)) i
-
-pub spelled_2 : (n : ℕ) → n < 2 ^ 16 → to_be_bytes w16 n ≡ spelled 2 n
-spelled_2 n few = ap (to_be_bytes w16) (sym (number-spelled 1 n)) ∙ be_2 (spelled 2 n) (omega arith) (small_spelled 2 n (omega (arith, few)))
-
-pub spelled_4 : (n : ℕ) → n < 2 ^ 32 → to_be_bytes w32 n ≡ spelled 4 n
-spelled_4 n few = ap (to_be_bytes w32) (sym (number-spelled 3 n)) ∙ be_4 (spelled 4 n) (omega arith) (small_spelled 4 n (omega (arith, few)))
-
-spelled_1 : (n : ℕ) → spelled 1 n ≡ n ∷ []
-spelled_1 n = let e : n / 1 ≡ n = omega arith in ap (λ (m : ℕ). m ∷ []) e
+use Rattle.ats_proof.proofs.Public.{spelled_1, spelled_2, spelled_4, header_join}
 
 pub entry_is : (p : ℕ) (e : DictEntry) → p < 2 ^ 32 → e.f < 2 ^ 32
     → dict_leaf_record p e.term e.f e.root ≡ concat (entry_fields (record { position = p; entry = e }))
@@ -73,16 +53,9 @@ term_is p term impact few small =
 -- the header and the number of terms
 header_is : (h : Header) (n : ℕ) → h.documents < 2 ^ 32 → h.dict_leaves < 2 ^ 32 → n < 2 ^ 16
     → header_bytes h.documents h.dict_leaves h.dict_root h.docs_root h.texts_root ++ to_be_bytes w16 n ≡ concat (header_fields h ++ spelled 2 n ∷ [])
-unfolding header_bytes
 header_is h n documents leaves few =
-    let three : List ℕ = (h.dict_root ++ h.docs_root) ++ h.texts_root in
-    let tail : three ++ to_be_bytes w16 n ≡ h.dict_root ++ (h.docs_root ++ (h.texts_root ++ spelled 2 n)) =
-    append_assoc (h.dict_root ++ h.docs_root) h.texts_root (to_be_bytes w16 n)
-    ∙ append_assoc h.dict_root h.docs_root (h.texts_root ++ to_be_bytes w16 n)
-    ∙ ap (λ (xs : List ℕ). h.dict_root ++ (h.docs_root ++ (h.texts_root ++ xs))) (spelled_2 n few) in
-    let Front : List ℕ → List ℕ → List ℕ → List ℕ = λ (d e xs : List ℕ). 1 ∷ (d ++ (e ++ xs)) in
-    ap (Front (to_be_bytes w32 h.documents) (to_be_bytes w32 h.dict_leaves)) tail
-    ∙ ap₂ (λ (d e : List ℕ). Front d e (h.dict_root ++ (h.docs_root ++ (h.texts_root ++ spelled 2 n)))) (spelled_4 h.documents documents) (spelled_4 h.dict_leaves leaves)
+    ap₂ (λ (xs ys : List ℕ). xs ++ ys) (header_join h documents leaves) (spelled_2 n few ∙ sym (append-nil (spelled 2 n)))
+    ∙ sym (concat-append (header_fields h) (spelled 2 n ∷ []))
 
 -- whether the proofs of an algorithm have documents
 abbrev pub IsKindOf : Algorithm → Option Documents → Type 0

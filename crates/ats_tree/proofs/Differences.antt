@@ -90,7 +90,7 @@ first-later ours s rest (Some c) same first = record {
   agrees = All-cons (IsOurs ours) s first.before same first.agrees;
 }
 
-not_same : (xs ys : List ℕ) → bytes_eq xs ys ≡ false → xs ≢ ys
+pub not_same : (xs ys : List ℕ) → bytes_eq xs ys ≡ false → xs ≢ ys
 not_same xs ys other same = let equal : bytes_eq xs ys ≡ true = (bytes_eq-Decides xs ys).1 same in cc
 
 first-step : {P : Type 0} (ours : P → Option (List ℕ)) (s : Hashed P) (rest : List (Hashed P)) (o : Option (List ℕ)) (later : Option (Difference P))

@@ -6,12 +6,29 @@ pub use Rattle.ats_tree.proofs.Trees.{of-within}
 pub use Rattle.ats_tree.proofs.Trees.{within-cut}
 -- at most 2^h leaves have the same tree within height h + 1 as within height h
 pub use Rattle.ats_tree.proofs.Trees.{within-suc}
+-- n is below 2^n
+pub use Rattle.ats_tree.proofs.Trees.{below_power}
+-- the tree of more than 2^h leaves, and at most twice as many, is cut after the first 2^h leaves
+pub use Rattle.ats_tree.proofs.Trees.{of-cut}
 -- shown leaves at strictly increasing positions rise from position 0 on
 pub use Rattle.ats_tree.proofs.Positions.{rises-increasing}
 -- if the positions of shown leaves increase strictly, those of all leaves but the first do
 pub use Rattle.ats_tree.proofs.Positions.{rises-rest}
 -- strictly increasing positions below an end rise within the range from 0 to that end
 pub use Rattle.ats_tree.proofs.Positions.{within-increasing}
+-- the tree of part of a list is cut as a tree is, and the tree of one of its leaves is that leaf
+pub use Rattle.ats_tree.proofs.RootLemmas.{part-tree-cut}
+pub use Rattle.ats_tree.proofs.TurnLemmas.{part-leaf}
+-- the tree of part of the places is cut as a tree is
+pub use Rattle.ats_tree.proofs.Parts.{places-cut}
+-- a tree of one place or more has a leaf
+pub use Rattle.ats_tree.proofs.Parts.{HasLeaf, has_leaf-of}
+-- a tree of places is bare if and only if each is free
+pub use Rattle.ats_tree.proofs.Trees.{bare-of}
+-- the tree of one place with a shown leaf is that leaf
+pub use Rattle.ats_tree.proofs.Parts.{leaf-tree}
+-- a tree of places is not bare if the first shown leaf is at one of them
+pub use Rattle.ats_tree.proofs.Parts.{whole-shows}
 -- the list of n places of a tree from any position on has length n
 pub use Rattle.ats_tree.proofs.Places.{length-places}
 -- the two strings of the difference have equal digests under H
@@ -24,6 +41,15 @@ pub use Rattle.ats_tree.proofs.Differences.{difference-collides}
 pub use Rattle.ats_tree.proofs.Differences.{known-moved}
 -- the first of two optional differences if it is there, and the second otherwise
 pub use Rattle.ats_tree.proofs.Differences.{or_else}
+-- what strings show, unless the first of them that differs from ours has an equal digest: of one string, of two runs, of a
+-- run for each element of a list, of a run whose places are moved, and what follows from what a run shows
+pub use Rattle.ats_tree.proofs.Binds.{Binds, binds-one, binds-both, binds-all, binds-moved, binds-weaker}
+-- the two strings differ and have equal digests
+pub use Rattle.ats_tree.proofs.Collisions.{AreColliding}
+-- the first collision of strings is two different strings with equal digests
+pub use Rattle.ats_tree.proofs.Collisions.{found-collides}
+-- a collision that is there is not none
+pub use Rattle.ats_tree.proofs.Collisions.{none_some}
 -- two equal non-empty lists have equal first elements and equal rests
 pub use Rattle.ats_tree.proofs.Joined.{first_and_rest}
 -- equal bytes that begin with 4-byte numbers below 2^32 have equal numbers and equal rests

@@ -16,7 +16,7 @@ string-none H [] path none = refl
 string-none H (d ∷ ds) path none = absurd (omega arith)
 
 -- the tree of one leaf of a list
-part-leaf : (from n : ℕ) (ds : List (List ℕ)) → n ≡ 1 → from + n ≤ length ds
+pub part-leaf : (from n : ℕ) (ds : List (List ℕ)) → n ≡ 1 → from + n ≤ length ds
     → tree_of (take n (drop from ds)) ≡ leaf (get_or ds from [])
 part-leaf from n ds one within =
     let less : from < length ds = omega arith in rw (one, drop_more ds from [] less) (of-one (get_or ds from []))

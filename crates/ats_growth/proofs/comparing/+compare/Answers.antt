@@ -2,7 +2,7 @@ use Rattle.std.proofs.Common.{◌≤◌, ◌<◌, ◌-◌, ◌*◌, length, fals
 use Rattle.ats_proof.specs.Seen.{digests_of}
 use Rattle.ats_growth.specs.Shape.{turns, need}
 use Rattle.ats_growth.proofs.Compares.{compared-end, compared-left, compared-right}
-use Rattle.ats_growth.proofs.DigestBytes.{cut-range}
+use Rattle.ats_tree.proofs.Public.{part-tree-cut}
 use Rattle.ats_growth.proofs.Leads.{turns-end}
 use Rattle.ats_growth.proofs.PairLemmas.{cut-left, cut-right, need-left, need-right, one-left}
 use Rattle.ats_growth.proofs.comparing.+compare.Goals as goal
@@ -57,7 +57,7 @@ pub returns-then-m-k-clause-compared : goal.returns-then-m-k-clause-compared
 returns-then-m-k-clause-compared g t c =
     let a = c.args in
     let k = c.cut_of-k in
-    let new = cut-range a.texts.new.now a.texts.from a.n k.result k.ensures.below c.requires.inside_new k.ensures.power k.ensures.largest in
+    let new = part-tree-cut a.texts.from k.result a.n a.texts.new.now k.ensures.power k.ensures.below k.ensures.largest c.requires.inside_new in
     compared-left g.H.HashKind.hash a.known_root.now (turns a.m a.n) (turns a.m k.result) a.known (digests_of a.digests.now) (digests_of c.compare-below.new.digests) (digests_of c.next-beside.new.digests)
     c.next-beside.result c.digest_of_range-own.result _ _ _ _ c.compare-below.result c.before-then-m-k.result
     (cut-left a.m a.n k.result k.ensures.power k.ensures.below k.ensures.largest c.if-m-k.true) new c.digest_of_range-own.ensures.digest c.compare-below.ensures.compared
@@ -104,8 +104,8 @@ returns-clause-compared g t c =
     let past = c.if-m-k.false in
     let more : a.m < a.n = omega arith in
     let largest : a.m ≤ 2 * k.result = omega (arith, k.ensures.largest) in
-    let old = cut-range a.texts.old.now a.texts.from a.m k.result past c.requires.inside_old k.ensures.power largest in
-    let new = cut-range a.texts.new.now a.texts.from a.n k.result k.ensures.below c.requires.inside_new k.ensures.power k.ensures.largest in
+    let old = part-tree-cut a.texts.from k.result a.m a.texts.old.now k.ensures.power past largest c.requires.inside_old in
+    let new = part-tree-cut a.texts.from k.result a.n a.texts.new.now k.ensures.power k.ensures.below k.ensures.largest c.requires.inside_new in
     compared-right g.H.HashKind.hash a.known_root.now (turns a.m a.n) (turns (a.m - k.result) (a.n - k.result)) a.known (digests_of a.digests.now) (digests_of c.compare-below-2.new.digests)
     (digests_of c.next-beside-2.new.digests) c.next-beside-2.result c.digest_of_range-old_own.result c.digest_of_range-new_own.result _ _ _ _ _ _ c.compare-below-2.result c.after.result c.after-2.result
     (cut-right a.m a.n k.result k.ensures.power k.ensures.largest past more) old new c.digest_of_range-old_own.ensures.digest c.digest_of_range-new_own.ensures.digest

@@ -2,7 +2,7 @@ use Rattle.std.proofs.Common.{◌≤◌, ◌<◌, ◌*◌, ap, arith}
 use Rattle.std.specs.Option.{option_map}
 use Rattle.ats_growth.specs.Compared.{part_of}
 use Rattle.ats_growth.specs.Unlike.{strings_of}
-use Rattle.ats_growth.proofs.DigestBytes.{cut-range}
+use Rattle.ats_tree.proofs.Public.{part-tree-cut}
 use Rattle.ats_growth.proofs.Leads.{turns-end}
 use Rattle.ats_growth.proofs.PairLemmas.{cut-left, cut-right}
 use Rattle.ats_growth.proofs.Ranging.{ranges-end, ranges-left, ranges-some, ranges-none}
@@ -18,7 +18,7 @@ pub returns-then-m-k-clause-unlike : goal.returns-then-m-k-clause-unlike
 returns-then-m-k-clause-unlike g t c =
     let a = c.args in
     let k = c.cut_of-k in
-    let new = cut-range a.new.now a.from a.n k.result k.ensures.below c.requires.inside_new k.ensures.power k.ensures.largest in
+    let new = part-tree-cut a.from k.result a.n a.new.now k.ensures.power k.ensures.below k.ensures.largest c.requires.inside_new in
     ranges-left g.H.HashKind.hash _ _ _ _ _ _ _ (cut-left a.m a.n k.result k.ensures.power k.ensures.below k.ensures.largest c.if-m-k.true) new c.compare_ranges.ensures.unlike
 
 pub returns-in-Some-clause-unlike : goal.returns-in-Some-clause-unlike
@@ -27,8 +27,8 @@ returns-in-Some-clause-unlike g t c =
     let k = c.cut_of-k in
     let more : a.m < a.n = omega arith in
     let largest : a.m ≤ 2 * k.result = omega (arith, k.ensures.largest) in
-    let old = cut-range a.old.now a.from a.m k.result c.if-m-k.false c.requires.inside_old k.ensures.power largest in
-    let new = cut-range a.new.now a.from a.n k.result k.ensures.below c.requires.inside_new k.ensures.power k.ensures.largest in
+    let old = part-tree-cut a.from k.result a.m a.old.now k.ensures.power c.if-m-k.false largest c.requires.inside_old in
+    let new = part-tree-cut a.from k.result a.n a.new.now k.ensures.power k.ensures.below k.ensures.largest c.requires.inside_new in
     ranges-some g.H.HashKind.hash _ _ _ _ _ _ _ _ _ (cut-right a.m a.n k.result k.ensures.power k.ensures.largest c.if-m-k.false more) old new c.compare_ranges-2.ensures.unlike
     (strings_of c.in-Some.unlike) (ap (option_map strings_of) c.in-Some.is)
 
@@ -38,7 +38,7 @@ returns-in-None-clause-unlike g t c =
     let k = c.cut_of-k in
     let more : a.m < a.n = omega arith in
     let largest : a.m ≤ 2 * k.result = omega (arith, k.ensures.largest) in
-    let old = cut-range a.old.now a.from a.m k.result c.if-m-k.false c.requires.inside_old k.ensures.power largest in
-    let new = cut-range a.new.now a.from a.n k.result k.ensures.below c.requires.inside_new k.ensures.power k.ensures.largest in
+    let old = part-tree-cut a.from k.result a.m a.old.now k.ensures.power c.if-m-k.false largest c.requires.inside_old in
+    let new = part-tree-cut a.from k.result a.n a.new.now k.ensures.power k.ensures.below k.ensures.largest c.requires.inside_new in
     ranges-none g.H.HashKind.hash _ _ _ _ _ _ _ _ _ (cut-right a.m a.n k.result k.ensures.power k.ensures.largest c.if-m-k.false more) old new c.compare_ranges-2.ensures.unlike
     _ (ap (option_map strings_of) c.in-None.is) c.compare_range-in-None.ensures.range.unlike

@@ -3,7 +3,7 @@ use Rattle.ats_proof.specs.Written.{after}
 use Rattle.ats_proof.specs.Records.{met_record}
 use Rattle.ats_proof.specs.Parts.{spelled}
 use Rattle.ats_proof.specs.Value.{id_fields}
-use Rattle.ats_prover.proofs.Records.{spelled_4}
+use Rattle.ats_proof.proofs.Public.{spelled_4}
 use Rattle.ats_prover.proofs.Putting.{put_more}
 use Rattle.ats_prover.proofs.answer.write_met.Goals as goal
 

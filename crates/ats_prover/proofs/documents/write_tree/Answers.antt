@@ -12,7 +12,7 @@ use Rattle.ats_prover.specs.Writing.{put}
 use Rattle.ats_honest.proofs.Public.{documents_few, documents_each}
 use Rattle.ats_prover.proofs.KeptDigests.{kept_positions}
 use Rattle.ats_prover.proofs.Putting.{put_put, started}
-use Rattle.ats_prover.proofs.Records.{spelled_4}
+use Rattle.ats_proof.proofs.Public.{spelled_4}
 use Rattle.ats_prover.proofs.documents.write_tree.Goals as goal
 
 few_out : (H : List ℕ → List ℕ) (texts : List (List ℕ)) (met : List ℕ) (none out : List (List ℕ)) → length texts ≤ 65536 → none ≡ [] → out ≡ none ++ elided_digests H (documents_of H texts) met → length out ≤ 65536

@@ -1,10 +1,12 @@
 -- What runs of strings show one after another: each run shows something, unless there is a collision.
 use Rattle.std.proofs.Common.{◌≡◌, ℕ, List, [], ◌∷◌, ◌++◌, map, sym, inl, inr, Option, Some, None, subst, MatchOption}
+use Rattle.std.specs.List.{All, flat_map}
 use Rattle.std.specs.Str.{bytes_eq}
 use Rattle.std.proofs.lemmas.Bool.{cond-true, cond-false, cases_Bool}
+use Rattle.std.proofs.lemmas.List.Elements.{All-nil, All-cons, All-head, All-tail}
 use Rattle.std.proofs.lemmas.Slice.Eq.{bytes_eq-Decides}
 use Rattle.ats_tree.specs.Differences.{Hashed, moved, Difference, difference_or, first_difference}
-use Rattle.ats_tree.proofs.Public.{or_else, difference-append, known-moved, Collides}
+use Rattle.ats_tree.proofs.Differences.{or_else, difference-append, known-moved, Collides}
 
 -- A holds, or the first of the strings that differs from ours has an equal digest
 abbrev pub Binds : {P : Type 0} → (List ℕ → List ℕ) → (P → Option (List ℕ)) → List (Hashed P) → Type 0 → Type 0
@@ -53,3 +55,12 @@ pub binds-one : {P : Type 0} (H : List ℕ → List ℕ) (ours : P → Option (L
 binds-one {P} H ours s own A is same f =
     let Goal : Option (List ℕ) → Type 0 = λ o. MatchOption (difference_or o s None) A (Collides H)
     in subst Goal (sym is) (one-binds H s own A same f)
+
+-- a run for each element of a list
+pub binds-all : {P X : Type 0} (H : List ℕ → List ℕ) (ours : P → Option (List ℕ)) (f : X → List (Hashed P)) (B : X → Type 0) (xs : List X)
+    → All (λ x. Binds H ours (f x) (B x)) xs → Binds H ours (flat_map f xs) (All B xs)
+binds-all H ours f B [] each = All-nil B
+binds-all {P} {X} H ours f B (x ∷ xs) each =
+    let One : X → Type 0 = λ y. Binds H ours (f y) (B y)
+    in binds-weaker H ours (f x ++ flat_map f xs) (B x × All B xs) (All B (x ∷ xs)) (λ both. All-cons B x xs both.0 both.1)
+    (binds-both H ours (f x) (flat_map f xs) (B x) (All B xs) (All-head One x xs each) (λ known. binds-all H ours f B xs (All-tail One x xs each)))
