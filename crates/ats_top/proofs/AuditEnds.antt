@@ -1,5 +1,5 @@
 -- How `audit` ends, from the results of its steps.
-use Rattle.std.proofs.Common.{◌≡◌, ◌∙◌, ◌^◌, ℕ, List, None, Result, Ok, Err, ap, subst, inl, inr}
+use Rattle.std.proofs.Common.{◌≡◌, ◌∙◌, ◌^◌, ℕ, List, Result, Ok, Err, ap, subst, inr}
 use Rattle.std.specs.Prelude.{IfOk, IfErr}
 use Rattle.ats_base.specs.Outside.{ShelfTold}
 use Rattle.ats_terms.specs.Query.{IsQueryOf}
@@ -13,32 +13,30 @@ use Rattle.ats_client.specs.Strings.{extract}
 use Rattle.ats_audit.specs.Verdicts.{IsFoundRight, IsFoundCollision}
 use Rattle.ats_client.proofs.Public.{extract-collides}
 use Rattle.ats_plan.specs.Files.{IsFile}
-use Rattle.ats_plan.specs.Plan.{Finishes, Tries}
+use Rattle.ats_plan.specs.Plan.{Finishes}
 use Rattle.ats_plan.specs.Runs.{IsDone, IsStopped}
-use Rattle.ats_plan.proofs.Public.{Leads, leads_get, done_get, done_try, done_end}
+use Rattle.ats_plan.proofs.Public.{Leads, done_get, done_try, done_end}
 use Rattle.ats_console.specs.Words.{AuditWords}
 use Rattle.ats_console.specs.Print.{lines}
 use Rattle.ats_console.specs.CollisionLines.{lines_of_collision}
 use Rattle.ats_console.specs.Read.{HasIndex}
 use Rattle.ats_console.specs.Steps.{AsksRanking, checks}
-use Rattle.ats_top.specs.Commands.Audit.{IsAuditedRight, StopsByCollision, audit_plan}
+use Rattle.ats_top.specs.Collided.{finds_none, lines_of_proof_collision}
+use Rattle.ats_top.specs.Commands.Audit.{IsAuditedRight, audit_plan}
 use Rattle.ats_top.specs.Inner.Stops.{VerdictStop}
 use Rattle.ats_console.specs.declared.stops.Stop.{Stop}
 use Rattle.ats_console.specs.declared.stops.Stop.TheVariants.{Shelf, Memory, Collision}
-use Rattle.ats_console.proofs.Public.{memory_stops, get_stops, try_stops}
+use Rattle.ats_top.proofs.CheckEnds.{audit_stops}
 
 module _ (H : List ℕ → List ℕ) (words : AuditWords) (before mid : ShelfTold) (query : List (List ℕ × ℕ)) (archive : Archive) (bytes : List ℕ)
     (leads : Leads Shelf Memory (audit_plan H words) before
     (checks H (root_of H archive) query words.r bytes (λ proof.
-    Tries (extract H archive query proof ≡ None) (StopsByCollision H archive query proof)
+    finds_none H (extract H archive query proof) lines_of_proof_collision
     (Finishes (λ files text. IsAuditedRight H files words text)))) mid) where
   -- bytes that were refused, or have a collision
   pub verdict_stops : {T : Type 0} (result : Result T Stop) → IfErr result (VerdictStop H archive query words.r bytes)
       → IfErr result (IsStopped Shelf Memory (audit_plan H words) before mid)
-  verdict_stops (Ok text) stops = tt
-  verdict_stops (Err stop) (inl memory) = memory_stops leads memory
-  verdict_stops (Err stop) (inr (inl rejects)) = get_stops leads (inr rejects)
-  verdict_stops (Err stop) (inr (inr (proof, accepted, collides))) = try_stops (leads_get proof leads accepted) (inr collides)
+  verdict_stops result stops = audit_stops leads result stops
 
   -- bytes that were accepted and have none
   pub verdict_end : AsksRanking words.r words.query → IsQueryOf words.query query → HasIndex H mid.files words.index archive

@@ -1,5 +1,5 @@
 -- How `both` and `audit-both` end, from the results of their steps.
-use Rattle.std.proofs.Common.{◌≡◌, ◌∙◌, ◌⊎◌, ◌^◌, ℕ, List, None, length, Result, Ok, Err, sym, ap, inl, inr}
+use Rattle.std.proofs.Common.{◌≡◌, ◌∙◌, ◌⊎◌, ◌^◌, ℕ, List, length, Result, Ok, Err, sym, ap, inr}
 use Rattle.std.specs.Prelude.{IfOk, IfErr}
 use Rattle.ats_base.specs.Outside.{ShelfTold}
 use Rattle.ats_terms.specs.Query.{IsQuery, IsQueryOf}
@@ -12,21 +12,21 @@ use Rattle.ats_client.proofs.Public.{extract-collides}
 use Rattle.ats_both.specs.Verdicts.{IsFoundCollision}
 use Rattle.ats_both.proofs.Public.{told}
 use Rattle.ats_plan.specs.Files.{IsFile}
-use Rattle.ats_plan.specs.Plan.{Finishes, Tries}
+use Rattle.ats_plan.specs.Plan.{Finishes}
 use Rattle.ats_plan.specs.Runs.{IsDone, IsStopped}
-use Rattle.ats_plan.proofs.Public.{Leads, leads_get, done_get, done_try, done_end}
+use Rattle.ats_plan.proofs.Public.{Leads, done_get, done_try, done_end}
 use Rattle.ats_console.specs.Words.{BothWords, AuditBothWords}
 use Rattle.ats_console.specs.Print.{lines_of_documents}
 use Rattle.ats_console.specs.CollisionLines.{lines_of_collision}
 use Rattle.ats_console.specs.Read.{HasIndex}
 use Rattle.ats_console.specs.declared.stops.Stop.{Stop}
 use Rattle.ats_console.specs.declared.stops.Stop.TheVariants.{Shelf, Memory, Collision}
-use Rattle.ats_console.proofs.Public.{memory_stops, get_stops, try_stops}
 use Rattle.ats_top.specs.BothSteps.{RejectsBoth, checks_both}
-use Rattle.ats_top.specs.Commands.Audit.{StopsByCollision}
+use Rattle.ats_top.specs.Collided.{finds_none, lines_of_proof_collision}
 use Rattle.ats_top.specs.Commands.Both.{IsBothChecked, both_plan}
 use Rattle.ats_top.specs.Commands.AuditBoth.{IsBothAudited, audit_both_plan}
 use Rattle.ats_top.specs.Inner.Documents.{TellsBoth, TellsRight, BothVerdictStop}
+use Rattle.ats_top.proofs.CheckEnds.{check_stops, audit_stops}
 
 module _ (H : List ℕ → List ℕ) (words : BothWords) (before mid : ShelfTold) (query : List (List ℕ × ℕ)) (bytes : List ℕ)
     (leads : Leads Shelf Memory (both_plan H words) before
@@ -34,8 +34,7 @@ module _ (H : List ℕ → List ℕ) (words : BothWords) (before mid : ShelfTold
   -- bytes that were refused
   pub both_stops : {T : Type 0} (result : Result T Stop) → IfErr result (λ stop. (stop ≡ Memory) ⊎ RejectsBoth H words.root query bytes stop)
       → IfErr result (IsStopped Shelf Memory (both_plan H words) before mid)
-  both_stops (Ok text) stops = tt
-  both_stops (Err stop) stops = get_stops leads stops
+  both_stops result stops = check_stops leads result stops
 
   -- bytes that were accepted
   pub both_end : IsQueryOf words.query query → IsFile mid.files words.proof (2 ^ 26) bytes → ((m : List ℕ) → length (H m) ≡ 32) → IsQuery query
@@ -66,15 +65,12 @@ both_collision_stops H archive query bytes clash stop found is =
 module _ (H : List ℕ → List ℕ) (words : AuditBothWords) (before mid : ShelfTold) (query : List (List ℕ × ℕ)) (archive : Archive) (bytes : List ℕ)
     (leads : Leads Shelf Memory (audit_both_plan H words) before
     (checks_both H (root_of H archive) query bytes (λ proof.
-    Tries (extract H archive query proof ≡ None) (StopsByCollision H archive query proof)
+    finds_none H (extract H archive query proof) lines_of_proof_collision
     (Finishes (λ files text. IsBothAudited H files words text)))) mid) where
   -- bytes that were refused, or have a collision
   pub audit_both_stops : {T : Type 0} (result : Result T Stop) → IfErr result (BothVerdictStop H archive query bytes)
       → IfErr result (IsStopped Shelf Memory (audit_both_plan H words) before mid)
-  audit_both_stops (Ok text) stops = tt
-  audit_both_stops (Err stop) (inl memory) = memory_stops leads memory
-  audit_both_stops (Err stop) (inr (inl rejects)) = get_stops leads (inr rejects)
-  audit_both_stops (Err stop) (inr (inr (proof, accepted, collides))) = try_stops (leads_get proof leads accepted) (inr collides)
+  audit_both_stops result stops = audit_stops leads result stops
 
   -- bytes that were accepted and have none
   pub audit_both_end : IsQueryOf words.query query → HasIndex H mid.files words.index archive → IsFile mid.files words.proof (2 ^ 26) bytes

@@ -1,5 +1,5 @@
 -- How `growth` and `audit-growth` end, from the results of their steps.
-use Rattle.std.proofs.Common.{◌≡◌, ◌∙◌, ◌⊎◌, ℕ, List, None, length, Result, Ok, Err, refl, sym, ap₂, inl, inr}
+use Rattle.std.proofs.Common.{◌≡◌, ◌∙◌, ◌⊎◌, ℕ, List, length, Result, Ok, Err, refl, sym, ap₂, inl, inr}
 use Rattle.std.specs.Prelude.{IfOk, IfErr}
 use Rattle.ats_base.specs.Outside.{ShelfTold}
 use Rattle.ats_commit.specs.Archive.{Archive}
@@ -13,19 +13,20 @@ use Rattle.ats_growth.specs.declared.checking.Grown.{Grown}
 use Rattle.ats_growth.specs.declared.verdict.GrowthVerdict.TheVariants.{Right}
 use Rattle.ats_growth.proofs.Public.{told, extract-collides}
 use Rattle.ats_plan.specs.Files.{IsFile}
-use Rattle.ats_plan.specs.Plan.{Finishes, Tries}
+use Rattle.ats_plan.specs.Plan.{Finishes}
 use Rattle.ats_plan.specs.Runs.{IsDone, IsStopped}
-use Rattle.ats_plan.proofs.Public.{Leads, leads_get, done_get, done_try, done_end}
+use Rattle.ats_plan.proofs.Public.{Leads, done_get, done_try, done_end}
 use Rattle.ats_console.specs.Words.{GrowthWords, AuditGrowthWords}
 use Rattle.ats_console.specs.Read.{HasIndex}
 use Rattle.ats_console.specs.declared.stops.Stop.{Stop}
 use Rattle.ats_console.specs.declared.stops.Stop.TheVariants.{Shelf, Memory, Collision}
-use Rattle.ats_console.proofs.Public.{memory_stops, get_stops, try_stops}
+use Rattle.ats_top.specs.Collided.{finds_none}
 use Rattle.ats_top.specs.GrowthLines.{line_of_grown, lines_of_growth_collision}
 use Rattle.ats_top.specs.GrowthSteps.{RejectsGrowth, checks_growth}
 use Rattle.ats_top.specs.Commands.Growth.{IsGrowthChecked, growth_plan}
-use Rattle.ats_top.specs.Commands.AuditGrowth.{IsGrowthAudited, StopsByGrowthCollision, audit_growth_plan}
+use Rattle.ats_top.specs.Commands.AuditGrowth.{IsGrowthAudited, audit_growth_plan}
 use Rattle.ats_top.specs.Inner.Growths.{TellsGrown, GrowthVerdictStop}
+use Rattle.ats_top.proofs.CheckEnds.{check_stops, audit_stops}
 use Rattle.ats_top.proofs.IndexTexts.{texts_of}
 
 module _ (H : List ℕ → List ℕ) (words : GrowthWords) (before mid : ShelfTold) (bytes : List ℕ)
@@ -34,8 +35,7 @@ module _ (H : List ℕ → List ℕ) (words : GrowthWords) (before mid : ShelfTo
   -- bytes that were refused
   pub growth_stops : {T : Type 0} (result : Result T Stop) → IfErr result (λ stop. (stop ≡ Memory) ⊎ RejectsGrowth H words.old words.new bytes stop)
       → IfErr result (IsStopped Shelf Memory (growth_plan H words) before mid)
-  growth_stops (Ok text) stops = tt
-  growth_stops (Err stop) stops = get_stops leads stops
+  growth_stops result stops = check_stops leads result stops
 
   -- bytes that were accepted
   pub growth_end : IsFile mid.files words.file 4096 bytes → ((m : List ℕ) → length (H m) ≡ 32) → {T : Type 0} (bytes_of : T → List ℕ) (result : Result T Stop)
@@ -73,15 +73,12 @@ module _ (H : List ℕ → List ℕ) (older newer : Archive) (bytes : List ℕ) 
 module _ (H : List ℕ → List ℕ) (words : AuditGrowthWords) (before mid : ShelfTold) (older newer : Archive) (bytes : List ℕ)
     (leads : Leads Shelf Memory (audit_growth_plan H words) before
     (checks_growth H (root_of H older) (root_of H newer) bytes (λ growth.
-    Tries (extract H older newer growth ≡ None) (StopsByGrowthCollision H older newer growth)
+    finds_none H (extract H older newer growth) lines_of_growth_collision
     (Finishes (λ files text. IsGrowthAudited H files words text)))) mid) where
   -- bytes that were refused, or have a collision
   pub audit_growth_stops : {T : Type 0} (result : Result T Stop) → IfErr result (GrowthVerdictStop H older newer bytes)
       → IfErr result (IsStopped Shelf Memory (audit_growth_plan H words) before mid)
-  audit_growth_stops (Ok text) stops = tt
-  audit_growth_stops (Err stop) (inl memory) = memory_stops leads memory
-  audit_growth_stops (Err stop) (inr (inl rejects)) = get_stops leads (inr rejects)
-  audit_growth_stops (Err stop) (inr (inr (growth, accepted, collides))) = try_stops (leads_get growth leads accepted) (inr collides)
+  audit_growth_stops result stops = audit_stops leads result stops
 
   -- bytes that were accepted and have none
   pub audit_growth_end : ((m : List ℕ) → length (H m) ≡ 32) → HasIndex H mid.files words.old older → HasIndex H mid.files words.new newer → IsFile mid.files words.file 4096 bytes

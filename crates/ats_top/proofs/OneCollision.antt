@@ -2,8 +2,8 @@
 use Rattle.std.proofs.Common.{◌≡◌, ◌∙◌, ℕ, List, Option, None, Some, sym, ap}
 use Rattle.ats_tree.specs.Differences.{Difference}
 use Rattle.ats_plan.specs.Sound.{IsExact}
-use Rattle.ats_console.specs.declared.stops.Stop.{Stop}
 use Rattle.ats_console.specs.declared.stops.Stop.TheVariants.{Collision}
+use Rattle.ats_top.specs.Collided.{StopsByCollision}
 
 module _ {P : Type 0} where
   -- no collision is none
@@ -14,10 +14,9 @@ module _ {P : Type 0} where
   pub one_found : (a b : Difference P) → Some a ≡ Some b → a ≡ b
   one_found a b is = cc
 
-  module _ (extracted : Option (Difference P)) (collides : Difference P → Type 0) (lines_of : Difference P → List ℕ)
-      (found : (collision : Difference P) → collides collision → extracted ≡ Some collision) where
-    pub collision_exact : IsExact (extracted ≡ None) (λ (stop : Stop). (collision : Difference P) × collides collision × (stop ≡ Collision (lines_of collision)))
-    collision_exact = record {
-      breaks = λ stop stops none. none_found stops.0 (sym none ∙ found stops.0 stops.1);
-      one = λ a b is also. is.2 ∙ ap (λ (c : Difference P). Collision (lines_of c)) (one_found is.0 also.0 (sym (found is.0 is.1) ∙ found also.0 also.1)) ∙ sym also.2;
-    }
+  pub collision_exact : (H : List ℕ → List ℕ) (first : Option (Difference P)) (lines_of : Difference P → List ℕ)
+      → IsExact (first ≡ None) (StopsByCollision H first lines_of)
+  collision_exact H first lines_of = record {
+    breaks = λ stop stops none. none_found stops.0 (sym none ∙ stops.1.found);
+    one = λ a b is also. is.2 ∙ ap (λ (c : Difference P). Collision (lines_of c)) (one_found is.0 also.0 (sym is.1.found ∙ also.1.found)) ∙ sym also.2;
+  }

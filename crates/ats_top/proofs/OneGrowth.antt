@@ -1,6 +1,5 @@
--- The bytes that show a growth are accepted or refused in one way, and collide in one way at most; and a text is the first
--- that was withdrawn in one way.
-use Rattle.std.proofs.Common.{◌≡◌, ◌∙◌, ◌<◌, ℕ, List, None, sym, ap, subst, inl, inr}
+-- The bytes that show a growth are accepted or refused in one way, and a text is the first that was withdrawn in one way.
+use Rattle.std.proofs.Common.{◌≡◌, ◌∙◌, ◌<◌, ℕ, List, sym, ap, subst, inl, inr}
 use Rattle.std.proofs.lemmas.Bool.{cases_order}
 use Rattle.ats_commit.specs.Archive.{Archive}
 use Rattle.ats_grammar.specs.Front.{IsBad}
@@ -9,17 +8,14 @@ use Rattle.ats_grammar.proofs.Public.{no_fault, one_fault}
 use Rattle.ats_growth.specs.Grammar.{growth_schema}
 use Rattle.ats_growth.specs.Honest.{IsFirstApart}
 use Rattle.ats_growth.specs.Rules.{IsFirstRefusal}
-use Rattle.ats_growth.specs.Strings.{extract}
 use Rattle.ats_growth.specs.Value.{Growth, IsGrowth, fields_of}
 use Rattle.ats_growth.specs.Verdicts.{IsAcceptedGrowth, IsRefusedGrowth}
 use Rattle.ats_growth.specs.declared.refusal.GrowthRefusal.{GrowthRefusal}
 use Rattle.ats_growth.proofs.Public.{one_growth, one_refusal, accepted_kept, not_prefix}
 use Rattle.ats_plan.specs.Sound.{IsExact}
 use Rattle.ats_console.specs.declared.stops.Stop.TheVariants.{Input}
-use Rattle.ats_top.specs.GrowthLines.{line_of_differing, lines_of_growth_collision}
+use Rattle.ats_top.specs.GrowthLines.{line_of_differing}
 use Rattle.ats_top.specs.Commands.Grow.{HasKept, Withdraws}
-use Rattle.ats_top.specs.Commands.AuditGrowth.{GrowthCollides, StopsByGrowthCollision}
-use Rattle.ats_top.proofs.OneCollision.{collision_exact}
 use Rattle.ats_top.proofs.OneFile.{IsFileOne}
 
 module _ (H : List ℕ → List ℕ) (old new : List ℕ) (bytes : List ℕ) where
@@ -45,11 +41,6 @@ module _ (H : List ℕ → List ℕ) (old new : List ℕ) (bytes : List ℕ) whe
     one_shape = one_fault growth_schema bytes;
     one_rule = one_rule;
   }
-
-pub growth_collision_exact : (H : List ℕ → List ℕ) (older newer : Archive) (growth : Growth)
-    → IsExact (extract H older newer growth ≡ None) (StopsByGrowthCollision H older newer growth)
-growth_collision_exact H older newer growth =
-    collision_exact (extract H older newer growth) (GrowthCollides H older newer growth) lines_of_growth_collision (λ collision is. is.found)
 
 -- ---- what was withdrawn
 

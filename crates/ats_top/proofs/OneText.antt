@@ -1,20 +1,14 @@
--- The bytes that give a text are accepted or refused in one way, and collide in one way at most.
-use Rattle.std.proofs.Common.{◌≡◌, ℕ, List, None, subst}
-use Rattle.ats_commit.specs.Archive.{Archive}
+-- The bytes that give a text are accepted or refused in one way.
+use Rattle.std.proofs.Common.{◌≡◌, ℕ, List, subst}
 use Rattle.ats_grammar.specs.Front.{IsBad}
 use Rattle.ats_grammar.specs.declared.fault.ShapeFault.{ShapeFault}
 use Rattle.ats_grammar.proofs.Public.{no_fault, one_fault}
 use Rattle.ats_fetch.specs.Grammar.{text_schema}
-use Rattle.ats_fetch.specs.Strings.{text_extract}
 use Rattle.ats_fetch.specs.Value.{TextProof, IsTextProof, fields_of}
 use Rattle.ats_fetch.specs.Accepts.{IsFirstTextRefusal}
 use Rattle.ats_fetch.specs.Verdicts.{IsAcceptedText, IsRefusedText}
 use Rattle.ats_fetch.specs.declared.refusal.TextRefusal.{TextRefusal}
 use Rattle.ats_fetch.proofs.Public.{one_text, one_refusal, not_refused}
-use Rattle.ats_plan.specs.Sound.{IsExact}
-use Rattle.ats_top.specs.TextLines.{lines_of_text_collision}
-use Rattle.ats_top.specs.Commands.AuditFetch.{TextCollides, StopsByTextCollision}
-use Rattle.ats_top.proofs.OneCollision.{collision_exact}
 use Rattle.ats_top.proofs.OneFile.{IsFileOne}
 
 module _ (H : List ℕ → List ℕ) (root : List ℕ) (doc : ℕ) (bytes : List ℕ) where
@@ -40,8 +34,3 @@ module _ (H : List ℕ → List ℕ) (root : List ℕ) (doc : ℕ) (bytes : List
     one_shape = one_fault text_schema bytes;
     one_rule = one_rule;
   }
-
-pub text_collision_exact : (H : List ℕ → List ℕ) (archive : Archive) (doc : ℕ) (proof : TextProof)
-    → IsExact (text_extract H archive doc proof ≡ None) (StopsByTextCollision H archive doc proof)
-text_collision_exact H archive doc proof =
-    collision_exact (text_extract H archive doc proof) (TextCollides H archive doc proof) lines_of_text_collision (λ collision is. is.found)

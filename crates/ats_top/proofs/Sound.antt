@@ -1,5 +1,5 @@
 -- The plan of each command goes one way at most, and stops none for its words.
-use Rattle.std.proofs.Common.{◌≡◌, ◌≢◌, ◌≤◌, ◌^◌, ◌++◌, ◌∷◌, ◌∙◌, append-nil, ℕ, Bool, true, false, List, [], None, sym, ap, arith, true≢false}
+use Rattle.std.proofs.Common.{◌≡◌, ◌≢◌, ◌≤◌, ◌^◌, ◌++◌, ◌∷◌, ◌∙◌, append-nil, ℕ, Bool, true, false, List, [], Option, sym, ap, arith, true≢false}
 use Rattle.std.specs.List.{concat, list_any}
 use Rattle.ats_base.specs.Outside.{ShelfTold}
 use Rattle.ats_terms.specs.declared.query.QueryFault.{QueryFault}
@@ -15,7 +15,6 @@ use Rattle.ats_terms.specs.Faults.{IsFirstFault}
 use Rattle.ats_impact.specs.Limits.{AreWithin}
 use Rattle.ats_impact.specs.CollectionFaults.{IsFirstCollectionFault}
 use Rattle.ats_tree.specs.Differences.{Difference}
-use Rattle.ats_tree.specs.declared.hashed.Place.{Place}
 use Rattle.ats_commit.specs.Archive.{Archive}
 use Rattle.ats_commit.specs.Root.{root_of}
 use Rattle.ats_grammar.specs.declared.fault.ShapeFault.{ShapeFault}
@@ -25,7 +24,6 @@ use Rattle.ats_index.proofs.Public.{one_archive}
 use Rattle.ats_proof.specs.Value.{Proof}
 use Rattle.ats_proof.specs.declared.record.Algorithm.{Algorithm}
 use Rattle.ats_client.specs.Bytes.{IsAcceptedBytes}
-use Rattle.ats_client.specs.Strings.{extract}
 use Rattle.ats_client.specs.declared.fault.Rejection.{Rejection}
 use Rattle.ats_client.proofs.Public.{accepted_kept, one_rejection}
 use Rattle.ats_plan.specs.Files.{Files}
@@ -37,7 +35,6 @@ use Rattle.ats_plan.proofs.Public.{stops_otherwise}
 use Rattle.ats_console.specs.Input.{AreJsonTexts, IsFirstJsonFault}
 use Rattle.ats_console.specs.Words.{Command, Rank, Build, Root, Prove, Verify, Ask, Serve, Audit, Sweep, Trial, Migrate, Give, Fetch, AuditFetch, ProveBoth, Both, AuditBoth, Grow, Growth, AuditGrowth, SweepWords}
 use Rattle.ats_console.specs.RejectionLines.{line_of_rejection}
-use Rattle.ats_console.specs.CollisionLines.{lines_of_collision}
 use Rattle.ats_console.specs.Stops.{line_of_rows, line_of_bad_line, stop_of_query, stop_of_json, stop_of_collection, stop_of_load}
 use Rattle.ats_top.specs.Listed.{Listed, lines_of, IsListOf, names_of}
 use Rattle.ats_top.specs.Gathered.{total}
@@ -46,7 +43,7 @@ use Rattle.ats_top.specs.Trial.{IsTrialServed, RefusesTrial}
 use Rattle.ats_console.specs.Steps.{StopsBy, IsRowCount, asks_query, asks_ranking, reads_collection, reads_index, RejectsBytes, checks, checks_file}
 use Rattle.ats_top.specs.Commands.{plan_of}
 use Rattle.ats_top.specs.Commands.Prove.{IsNotTooLong, IsUnmade}
-use Rattle.ats_top.specs.Commands.Audit.{Collides, StopsByCollision}
+use Rattle.ats_top.specs.Collided.{finds_none}
 use Rattle.ats_top.specs.Commands.Give.{HasDocument, LacksDocument}
 use Rattle.ats_top.specs.TextLines.{text_refusal_words}
 use Rattle.ats_top.specs.Commands.Sweep.{IsListStop, PassesRoom, gathers, concludes, audits, sweeps}
@@ -61,9 +58,9 @@ use Rattle.ats_top.proofs.OneCollision.{collision_exact}
 use Rattle.ats_top.proofs.OneProof.{one_made, one_unmade}
 use Rattle.ats_top.proofs.OneTrial.{trial_kept, one_trial}
 use Rattle.ats_top.proofs.OneFile.{IsFileOne, file_one, not_usage}
-use Rattle.ats_top.proofs.OneText.{text_file_one, text_collision_exact}
+use Rattle.ats_top.proofs.OneText.{text_file_one}
 use Rattle.ats_top.proofs.OneBoth.{both_file_one, both_length_exact, one_both_bytes}
-use Rattle.ats_top.proofs.OneGrowth.{growth_file_one, growth_collision_exact, kept_exact}
+use Rattle.ats_top.proofs.OneGrowth.{growth_file_one, kept_exact}
 use Rattle.ats_top.specs.BothLines.{both_refusal_words}
 use Rattle.ats_top.specs.GrowthLines.{growth_refusal_words}
 use Rattle.ats_growth.specs.Honest.{honest}
@@ -223,6 +220,10 @@ checks_sound : {H : List ℕ → List ℕ} {root : List ℕ} {query : List (List
     → ((proof : Proof) → Sound (rest proof)) → Sound (checks H root query r bytes rest)
 checks_sound {H = H} {root = root} {query = query} {r = r} {bytes = bytes} later = gets (proof_one H root query r bytes) (λ stops. not_rejected stops.2) later
 
+none_sound : {P : Type 0} {H : List ℕ → List ℕ} {first : Option (Difference P)} {lines_of : Difference P → List ℕ} {rest : Plan Stop} → Sound rest
+    → Sound (finds_none H first lines_of rest)
+none_sound {H = H} {first = first} {lines_of = lines_of} later = tries (collision_exact H first lines_of) (λ stops. not_collision stops.2) later
+
 -- a file of another kind
 file_sound : {V F : Type 0} {accepted : V → Type 0} {bad : ShapeFault → Type 0} {refused : F → Type 0} {rest : V → Plan Stop} (words_of : F → List ℕ)
     → IsFileOne accepted bad refused → ((v : V) → Sound (rest v)) → Sound (checks_file accepted bad refused words_of rest)
@@ -236,11 +237,6 @@ module _ (H : List ℕ → List ℕ) (archive : Archive) (query : List (List ℕ
     breaks = λ stop out none. none out.0 out.1;
     one = one_unmade H archive query r algorithm;
   }
-
-  proof_collision_exact : (proof : Proof) → IsExact (extract H archive query proof ≡ None) (StopsByCollision H archive query proof)
-  proof_collision_exact proof =
-      collision_exact (extract H archive query proof) (Collides H archive query proof)
-      (λ (c : Difference Place). lines_of_collision c.place c.ours c.theirs) (λ collision is. is.found)
 
 list_kept : (bytes : List ℕ) (listed : List Listed) (stop : Stop) → IsListStop bytes stop → IsListOf bytes listed → ⊥
 list_kept bytes listed stop (number, bad, same) is = no_bad_line bytes listed is number bad
@@ -308,7 +304,7 @@ command_sound H (Verify words) = ranking_sound (λ query. reads (fails not_rejec
 command_sound H (Ask words) = ranking_sound (λ query. ends)
 command_sound H (Serve words) = index_sound (λ archive. ends)
 command_sound H (Audit words) =
-    ranking_sound (λ query. index_sound (λ archive. reads (fails not_rejected) (λ bytes. checks_sound (λ proof. tries (proof_collision_exact H archive query proof) (λ stops. not_collision stops.2) ends))))
+    ranking_sound (λ query. index_sound (λ archive. reads (fails not_rejected) (λ bytes. checks_sound (λ proof. none_sound ends))))
 command_sound H (Sweep words) = index_sound (λ archive. reads (fails not_input) (λ bytes. sweeps_sound H words archive bytes))
 command_sound H (Trial words) = tries (trial_exact H words.number) (λ stops. not_input stops.2) ends
 command_sound H (Migrate words) = index_sound (λ archive. makes (λ a b is also. is.same ∙ sym also.same) (λ bytes. stores))
@@ -316,20 +312,20 @@ command_sound H (Give words) = index_sound (λ archive. tries (document_exact ar
     (makes (λ a b is also. one_join a b _ is also) (λ bytes. stores)))
 command_sound H (Fetch words) = reads (fails not_rejected) (λ bytes. file_sound text_refusal_words (text_file_one H words.root words.doc bytes) (λ proof. ends))
 command_sound H (AuditFetch words) = index_sound (λ archive. reads (fails not_rejected) (λ bytes. file_sound text_refusal_words (text_file_one H (root_of H archive) words.doc bytes)
-    (λ proof. tries (text_collision_exact H archive words.doc proof) (λ stops. not_collision stops.2) ends)))
+    (λ proof. none_sound ends)))
 command_sound H (ProveBoth words) = query_sound (λ query. index_sound (λ archive. tries (both_length_exact H archive query) (λ stops. not_input stops.2)
     (makes (one_both_bytes H archive query) (λ bytes. stores))))
 command_sound H (Both words) = query_sound (λ query. reads (fails not_rejected) (λ bytes.
     file_sound both_refusal_words (both_file_one H words.root query bytes) (λ proof. ends)))
 command_sound H (AuditBoth words) = query_sound (λ query. index_sound (λ archive. reads (fails not_rejected) (λ bytes.
     file_sound both_refusal_words (both_file_one H (root_of H archive) query bytes)
-    (λ proof. tries (proof_collision_exact H archive query proof) (λ stops. not_collision stops.2) ends))))
+    (λ proof. none_sound ends))))
 command_sound H (Grow words) = index_sound (λ older. index_sound (λ newer. tries (kept_exact older newer) (λ stops. not_input stops.2)
     (makes (λ a b is also. growth_bytes (honest H older newer) a is ∙ sym (growth_bytes (honest H older newer) b also)) (λ bytes. stores))))
 command_sound H (Growth words) = reads (fails not_rejected) (λ bytes. file_sound growth_refusal_words (growth_file_one H words.old words.new bytes) (λ growth. ends))
 command_sound H (AuditGrowth words) = index_sound (λ older. index_sound (λ newer. reads (fails not_rejected) (λ bytes.
     file_sound growth_refusal_words (growth_file_one H (root_of H older) (root_of H newer) bytes)
-    (λ growth. tries (growth_collision_exact H older newer growth) (λ stops. not_collision stops.2) ends))))
+    (λ growth. none_sound ends))))
 
 pub plan_sound : (H : List ℕ → List ℕ) (command : Command) → IsSound (plan_of H command)
 plan_sound H command = (command_sound H command).so

@@ -1,5 +1,5 @@
 -- How `fetch` and `audit-fetch` end, from the results of their steps.
-use Rattle.std.proofs.Common.{◌≡◌, ◌∙◌, ◌⊎◌, ◌^◌, ℕ, List, None, length, Result, Ok, Err, ap, inl, inr}
+use Rattle.std.proofs.Common.{◌≡◌, ◌∙◌, ◌⊎◌, ◌^◌, ℕ, List, length, Result, Ok, Err, ap, inr}
 use Rattle.std.specs.Prelude.{IfOk, IfErr}
 use Rattle.ats_base.specs.Outside.{ShelfTold}
 use Rattle.ats_commit.specs.Archive.{Archive}
@@ -10,19 +10,20 @@ use Rattle.ats_fetch.specs.Verdicts.{IsAcceptedText, IsFoundOwn, IsFoundClash, d
 use Rattle.ats_fetch.specs.declared.verdict.TextClash.{TextClash}
 use Rattle.ats_fetch.proofs.Public.{one_text, in_range, own_or_collides, told, extract-collides}
 use Rattle.ats_plan.specs.Files.{IsFile}
-use Rattle.ats_plan.specs.Plan.{Finishes, Tries}
+use Rattle.ats_plan.specs.Plan.{Finishes}
 use Rattle.ats_plan.specs.Runs.{IsDone, IsStopped}
-use Rattle.ats_plan.proofs.Public.{Leads, leads_get, done_get, done_try, done_end}
+use Rattle.ats_plan.proofs.Public.{Leads, done_get, done_try, done_end}
 use Rattle.ats_console.specs.Words.{FetchWords, AuditFetchWords}
 use Rattle.ats_console.specs.Read.{HasIndex}
 use Rattle.ats_console.specs.declared.stops.Stop.{Stop}
 use Rattle.ats_console.specs.declared.stops.Stop.TheVariants.{Shelf, Memory, Collision}
-use Rattle.ats_console.proofs.Public.{memory_stops, get_stops, try_stops}
+use Rattle.ats_top.specs.Collided.{finds_none}
 use Rattle.ats_top.specs.TextLines.{printed_text, lines_of_text_collision}
 use Rattle.ats_top.specs.TextSteps.{RejectsText, checks_text}
 use Rattle.ats_top.specs.Commands.Fetch.{IsFetched, fetch_plan}
-use Rattle.ats_top.specs.Commands.AuditFetch.{IsFetchAudited, StopsByTextCollision, audit_fetch_plan}
+use Rattle.ats_top.specs.Commands.AuditFetch.{IsFetchAudited, audit_fetch_plan}
 use Rattle.ats_top.specs.Inner.Texts.{TextVerdictStop}
+use Rattle.ats_top.proofs.CheckEnds.{check_stops, audit_stops}
 
 module _ (H : List ℕ → List ℕ) (words : FetchWords) (before mid : ShelfTold) (bytes : List ℕ)
     (leads : Leads Shelf Memory (fetch_plan H words) before
@@ -30,8 +31,7 @@ module _ (H : List ℕ → List ℕ) (words : FetchWords) (before mid : ShelfTol
   -- bytes that were refused
   pub fetch_stops : {T : Type 0} (result : Result T Stop) → IfErr result (λ stop. (stop ≡ Memory) ⊎ RejectsText H words.root words.doc bytes stop)
       → IfErr result (IsStopped Shelf Memory (fetch_plan H words) before mid)
-  fetch_stops (Ok text) stops = tt
-  fetch_stops (Err stop) stops = get_stops leads stops
+  fetch_stops result stops = check_stops leads result stops
 
   -- bytes that were accepted
   pub fetch_end : IsFile mid.files words.file (2 ^ 21) bytes → ((m : List ℕ) → length (H m) ≡ 32) → {T : Type 0} (bytes_of : T → List ℕ) (result : Result T Stop)
@@ -52,15 +52,12 @@ module _ (H : List ℕ → List ℕ) (words : FetchWords) (before mid : ShelfTol
 module _ (H : List ℕ → List ℕ) (words : AuditFetchWords) (before mid : ShelfTold) (archive : Archive) (bytes : List ℕ)
     (leads : Leads Shelf Memory (audit_fetch_plan H words) before
     (checks_text H (root_of H archive) words.doc bytes (λ proof.
-    Tries (text_extract H archive words.doc proof ≡ None) (StopsByTextCollision H archive words.doc proof)
+    finds_none H (text_extract H archive words.doc proof) lines_of_text_collision
     (Finishes (λ files text. IsFetchAudited H files words text)))) mid) where
   -- bytes that were refused, or have a collision
   pub audit_fetch_stops : {T : Type 0} (result : Result T Stop) → IfErr result (TextVerdictStop H archive words.doc bytes)
       → IfErr result (IsStopped Shelf Memory (audit_fetch_plan H words) before mid)
-  audit_fetch_stops (Ok text) stops = tt
-  audit_fetch_stops (Err stop) (inl memory) = memory_stops leads memory
-  audit_fetch_stops (Err stop) (inr (inl rejects)) = get_stops leads (inr rejects)
-  audit_fetch_stops (Err stop) (inr (inr (proof, accepted, collides))) = try_stops (leads_get proof leads accepted) (inr collides)
+  audit_fetch_stops result stops = audit_stops leads result stops
 
   -- bytes that were accepted and have none
   pub audit_fetch_end : HasIndex H mid.files words.index archive → IsFile mid.files words.file (2 ^ 21) bytes → {T : Type 0} (bytes_of : T → List ℕ) (result : Result T Stop)

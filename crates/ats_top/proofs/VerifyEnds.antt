@@ -16,7 +16,7 @@ use Rattle.ats_console.specs.Steps.{IsRowCount, AsksRanking, RejectsBytes, check
 use Rattle.ats_top.specs.Commands.Verify.{IsVerified, verify_plan}
 use Rattle.ats_console.specs.declared.stops.Stop.{Stop}
 use Rattle.ats_console.specs.declared.stops.Stop.TheVariants.{Shelf, Memory}
-use Rattle.ats_console.proofs.Public.{get_stops}
+use Rattle.ats_top.proofs.CheckEnds.{check_stops}
 
 pub rows_of_range : (r : ℕ) → (1 ≤ r) × (r ≤ 1000) → IsRowCount r
 rows_of_range r within = record { some = within.0; few = within.1 }
@@ -31,8 +31,7 @@ module _ (H : List ℕ → List ℕ) (words : VerifyWords) (before mid : ShelfTo
   -- bytes that were refused
   pub bytes_stops : {T : Type 0} (result : Result T Stop) → IfErr result (λ stop. (stop ≡ Memory) ⊎ RejectsBytes H words.root query words.r bytes stop)
       → IfErr result (IsStopped Shelf Memory (verify_plan H words) before mid)
-  bytes_stops (Ok text) stops = tt
-  bytes_stops (Err stop) stops = get_stops leads stops
+  bytes_stops result stops = check_stops leads result stops
 
   -- bytes that were accepted
   pub bytes_end : AsksRanking words.r words.query → IsQueryOf words.query query → IsFile mid.files words.proof (2 ^ 26) bytes

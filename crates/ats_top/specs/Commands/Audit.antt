@@ -1,5 +1,5 @@
 -- `audit INDEX R QUERY PROOF`
-use Rattle.std.specs.Prelude.{◌≡◌, ◌≢◌, ◌^◌, ℕ, List, Option, Some, None}
+use Rattle.std.specs.Prelude.{◌≡◌, ◌^◌, ℕ, List, Option, None}
 use Rattle.ats_terms.specs.Query.{IsQueryOf}
 use Rattle.ats_tree.specs.Differences.{Difference}
 use Rattle.ats_tree.specs.declared.hashed.Place.{Place}
@@ -11,14 +11,13 @@ use Rattle.ats_client.specs.Headline.{AreRight}
 use Rattle.ats_client.specs.Rows.{rows_of}
 use Rattle.ats_client.specs.Strings.{extract}
 use Rattle.ats_plan.specs.Files.{Files, IsFile}
-use Rattle.ats_plan.specs.Plan.{Plan, Finishes, Tries}
+use Rattle.ats_plan.specs.Plan.{Plan, Finishes}
 use Rattle.ats_console.specs.Words.{AuditWords}
 use Rattle.ats_console.specs.Print.{lines}
 use Rattle.ats_console.specs.Read.{HasIndex}
-use Rattle.ats_console.specs.CollisionLines.{lines_of_collision}
 use Rattle.ats_console.specs.Steps.{AsksRanking, asks_ranking, reads_index, reads_proof, checks}
 use Rattle.ats_console.specs.declared.stops.Stop.{Stop}
-use Rattle.ats_console.specs.declared.stops.Stop.TheVariants.{Collision}
+use Rattle.ats_top.specs.Collided.{finds_none, lines_of_proof_collision}
 
 -- The first named file is the index of an archive, and the bytes of the second are accepted as a proof under its root.
 -- This is the first collision of the proof with the archive, or there is none.
@@ -41,23 +40,11 @@ pub record IsAuditedRight (H : List ℕ → List ℕ) (files : Files) (words : A
   pub right : AreRight audited.archive.texts audited.query words.r (rows_of audited.query audited.proof)
   pub printed : text ≡ lines (rows_of audited.query audited.proof)
 
--- the proof has this first collision with the archive: its two strings differ and have the same digest
-pub record Collides (H : List ℕ → List ℕ) (archive : Archive) (query : List (List ℕ × ℕ)) (proof : Proof)
-    (collision : Difference Place) : Type 0 where
-  pub found : extract H archive query proof ≡ Some collision
-  pub differ : collision.ours ≢ collision.theirs
-  pub equal : H collision.ours ≡ H collision.theirs
-
--- the lines are those of the first collision: its place, the archive's string there and the proof's
-abbrev pub StopsByCollision : (List ℕ → List ℕ) → Archive → List (List ℕ × ℕ) → Proof → Stop → Type 0
-StopsByCollision H archive query proof stop = (collision : Difference Place) × Collides H archive query proof collision
-    × (stop ≡ Collision (lines_of_collision collision.place collision.ours collision.theirs))
-
 abbrev pub audit_plan : (List ℕ → List ℕ) → AuditWords → Plan Stop
 audit_plan H words =
     asks_ranking words.r words.query (λ query.
     reads_index H words.index (λ archive.
     reads_proof words.proof (λ bytes.
     checks H (root_of H archive) query words.r bytes (λ proof.
-    Tries (extract H archive query proof ≡ None) (StopsByCollision H archive query proof)
+    finds_none H (extract H archive query proof) lines_of_proof_collision
     (Finishes (λ files text. IsAuditedRight H files words text))))))

@@ -8,14 +8,14 @@ use Rattle.ats_client.specs.Strings.{extract}
 use Rattle.ats_both.specs.Documents.{both, documents_shown}
 use Rattle.ats_both.specs.Verdicts.{AreAcceptedBytes}
 use Rattle.ats_plan.specs.Files.{Files, IsFile}
-use Rattle.ats_plan.specs.Plan.{Plan, Finishes, Tries}
+use Rattle.ats_plan.specs.Plan.{Plan, Finishes}
 use Rattle.ats_console.specs.Words.{AuditBothWords}
 use Rattle.ats_console.specs.Print.{lines_of_documents}
 use Rattle.ats_console.specs.Read.{HasIndex}
 use Rattle.ats_console.specs.Steps.{asks_query, reads_index, reads_proof}
 use Rattle.ats_console.specs.declared.stops.Stop.{Stop}
 use Rattle.ats_top.specs.BothSteps.{checks_both}
-use Rattle.ats_top.specs.Commands.Audit.{StopsByCollision}
+use Rattle.ats_top.specs.Collided.{finds_none, lines_of_proof_collision}
 
 -- The archive is that of the named index, the second file is accepted under its root as a proof of all documents with every
 -- term of the query and has no collision with it, and the text is a line for each document that the proof shows. These are
@@ -39,5 +39,5 @@ audit_both_plan H words =
     reads_index H words.index (λ archive.
     reads_proof words.proof (λ bytes.
     checks_both H (root_of H archive) query bytes (λ proof.
-    Tries (extract H archive query proof ≡ None) (StopsByCollision H archive query proof)
+    finds_none H (extract H archive query proof) lines_of_proof_collision
     (Finishes (λ files text. IsBothAudited H files words text))))))

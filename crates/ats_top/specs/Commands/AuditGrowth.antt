@@ -1,19 +1,18 @@
 -- `audit-growth OLDINDEX NEWINDEX FILE`
-use Rattle.std.specs.Prelude.{◌≡◌, ◌≢◌, ℕ, List, None, Some}
-use Rattle.ats_tree.specs.Differences.{Difference}
+use Rattle.std.specs.Prelude.{◌≡◌, ℕ, List, None}
 use Rattle.ats_commit.specs.Archive.{Archive}
 use Rattle.ats_commit.specs.Root.{root_of}
 use Rattle.ats_growth.specs.Headline.{HasGrown}
-use Rattle.ats_growth.specs.Strings.{Beside, extract}
+use Rattle.ats_growth.specs.Strings.{extract}
 use Rattle.ats_growth.specs.Value.{Growth}
 use Rattle.ats_growth.specs.Verdicts.{IsAcceptedGrowth}
 use Rattle.ats_plan.specs.Files.{Files, IsFile}
-use Rattle.ats_plan.specs.Plan.{Plan, Finishes, Tries}
+use Rattle.ats_plan.specs.Plan.{Plan, Finishes}
 use Rattle.ats_console.specs.Words.{AuditGrowthWords}
 use Rattle.ats_console.specs.Read.{HasIndex}
 use Rattle.ats_console.specs.Steps.{reads_index}
 use Rattle.ats_console.specs.declared.stops.Stop.{Stop}
-use Rattle.ats_console.specs.declared.stops.Stop.TheVariants.{Collision}
+use Rattle.ats_top.specs.Collided.{finds_none}
 use Rattle.ats_top.specs.GrowthLines.{line_of_grown, lines_of_growth_collision}
 use Rattle.ats_top.specs.GrowthSteps.{reads_growth, checks_growth}
 
@@ -33,23 +32,11 @@ pub record IsGrowthAudited (H : List ℕ → List ℕ) (files : Files) (words : 
   pub grows : HasGrown older newer growth.old.documents growth.new.documents
   pub printed : text ≡ line_of_grown growth.old.documents growth.new.documents
 
--- the growth has this first collision with the two archives: its two strings differ and have the same digest
-pub record GrowthCollides (H : List ℕ → List ℕ) (older newer : Archive) (growth : Growth)
-    (collision : Difference Beside) : Type 0 where
-  pub found : extract H older newer growth ≡ Some collision
-  pub differ : collision.ours ≢ collision.theirs
-  pub equal : H collision.ours ≡ H collision.theirs
-
--- the lines are those of the first collision: its part and its two strings
-abbrev pub StopsByGrowthCollision : (List ℕ → List ℕ) → (older newer : Archive) → Growth → Stop → Type 0
-StopsByGrowthCollision H older newer growth stop = (collision : Difference Beside)
-    × GrowthCollides H older newer growth collision × (stop ≡ Collision (lines_of_growth_collision collision))
-
 abbrev pub audit_growth_plan : (List ℕ → List ℕ) → AuditGrowthWords → Plan Stop
 audit_growth_plan H words =
     reads_index H words.old (λ older.
     reads_index H words.new (λ newer.
     reads_growth words.file (λ bytes.
     checks_growth H (root_of H older) (root_of H newer) bytes (λ growth.
-    Tries (extract H older newer growth ≡ None) (StopsByGrowthCollision H older newer growth)
+    finds_none H (extract H older newer growth) lines_of_growth_collision
     (Finishes (λ files text. IsGrowthAudited H files words text))))))

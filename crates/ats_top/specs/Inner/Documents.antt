@@ -3,6 +3,7 @@ use Rattle.std.specs.Prelude.{◌≡◌, ◌⊎◌, ℕ, List}
 use Rattle.ats_commit.specs.Archive.{Archive}
 use Rattle.ats_commit.specs.Root.{root_of}
 use Rattle.ats_proof.specs.Value.{Proof}
+use Rattle.ats_client.specs.Strings.{extract}
 use Rattle.ats_both.specs.Documents.{documents_shown}
 use Rattle.ats_both.specs.Headline.{AreBothOrCollide}
 use Rattle.ats_both.specs.Verdicts.{AreAcceptedBytes, AreFoundRight}
@@ -10,8 +11,9 @@ use Rattle.ats_console.specs.Print.{lines_of_documents}
 use Rattle.ats_console.specs.declared.stops.Stop.{Stop}
 use Rattle.ats_console.specs.declared.stops.Stop.TheVariants.{Memory}
 use Rattle.ats_top.specs.BothSteps.{RejectsBoth}
-use Rattle.ats_top.specs.Commands.Audit.{StopsByCollision}
+use Rattle.ats_top.specs.Collided.{lines_of_proof_collision}
 use Rattle.ats_top.specs.Commands.ProveBoth.{IsBothUnmade}
+use Rattle.ats_top.specs.Inner.Stops.{AuditStop}
 
 -- why no proof is made: memory ran out, or it is too long
 abbrev pub BothMakingStop : (List ℕ → List ℕ) → Archive → List (List ℕ × ℕ) → Stop → Type 0
@@ -30,6 +32,6 @@ TellsRight H archive query bytes text =
 
 -- why the bytes are not found to do so: memory ran out, or they are rejected, or their proof has a collision
 abbrev pub BothVerdictStop : (List ℕ → List ℕ) → Archive → List (List ℕ × ℕ) → (bytes : List ℕ) → Stop → Type 0
-BothVerdictStop H archive query bytes stop = (stop ≡ Memory) ⊎ (RejectsBoth H (root_of H archive) query bytes stop
-    ⊎ ((proof : Proof) × AreAcceptedBytes H (root_of H archive) query bytes proof
-    × StopsByCollision H archive query proof stop))
+BothVerdictStop H archive query bytes =
+    AuditStop H (AreAcceptedBytes H (root_of H archive) query bytes) (RejectsBoth H (root_of H archive) query bytes)
+    (extract H archive query) lines_of_proof_collision

@@ -2,15 +2,15 @@
 use Rattle.std.specs.Prelude.{◌≡◌, ◌⊎◌, ℕ, List}
 use Rattle.ats_commit.specs.Archive.{Archive}
 use Rattle.ats_commit.specs.Root.{root_of}
-use Rattle.ats_growth.specs.Value.{Growth}
+use Rattle.ats_growth.specs.Strings.{extract}
 use Rattle.ats_growth.specs.Verdicts.{IsAcceptedGrowth, IsFoundGrown}
 use Rattle.ats_growth.specs.declared.checking.Grown.{Grown}
 use Rattle.ats_console.specs.declared.stops.Stop.{Stop}
 use Rattle.ats_console.specs.declared.stops.Stop.TheVariants.{Memory}
-use Rattle.ats_top.specs.GrowthLines.{line_of_grown}
+use Rattle.ats_top.specs.GrowthLines.{line_of_grown, lines_of_growth_collision}
 use Rattle.ats_top.specs.GrowthSteps.{RejectsGrowth}
 use Rattle.ats_top.specs.Commands.Grow.{Withdraws}
-use Rattle.ats_top.specs.Commands.AuditGrowth.{StopsByGrowthCollision}
+use Rattle.ats_top.specs.Inner.Stops.{AuditStop}
 
 -- why no growth is shown: memory ran out, or a text was withdrawn
 abbrev pub GrowingStop : (older newer : Archive) → Stop → Type 0
@@ -23,7 +23,6 @@ TellsGrown H older newer bytes text =
 
 -- why the bytes are not found to show this: memory ran out, or they are rejected, or they have a collision
 abbrev pub GrowthVerdictStop : (List ℕ → List ℕ) → (older newer : Archive) → (bytes : List ℕ) → Stop → Type 0
-GrowthVerdictStop H older newer bytes stop =
-    (stop ≡ Memory) ⊎ (RejectsGrowth H (root_of H older) (root_of H newer) bytes stop
-    ⊎ ((growth : Growth) × IsAcceptedGrowth H (root_of H older) (root_of H newer) bytes growth
-    × StopsByGrowthCollision H older newer growth stop))
+GrowthVerdictStop H older newer bytes =
+    AuditStop H (IsAcceptedGrowth H (root_of H older) (root_of H newer) bytes)
+    (RejectsGrowth H (root_of H older) (root_of H newer) bytes) (extract H older newer) lines_of_growth_collision

@@ -2,13 +2,14 @@
 use Rattle.std.specs.Prelude.{◌≡◌, ◌⊎◌, ℕ, List}
 use Rattle.ats_commit.specs.Archive.{Archive}
 use Rattle.ats_commit.specs.Root.{root_of}
-use Rattle.ats_fetch.specs.Value.{TextProof}
+use Rattle.ats_fetch.specs.Strings.{text_extract}
 use Rattle.ats_fetch.specs.Verdicts.{IsAcceptedText}
 use Rattle.ats_console.specs.declared.stops.Stop.{Stop}
 use Rattle.ats_console.specs.declared.stops.Stop.TheVariants.{Memory}
+use Rattle.ats_top.specs.TextLines.{lines_of_text_collision}
 use Rattle.ats_top.specs.TextSteps.{RejectsText}
 use Rattle.ats_top.specs.Commands.Give.{LacksDocument}
-use Rattle.ats_top.specs.Commands.AuditFetch.{StopsByTextCollision}
+use Rattle.ats_top.specs.Inner.Stops.{AuditStop}
 
 -- why no text is given: memory ran out, or the archive has no such document
 abbrev pub GivingStop : Archive → (doc : ℕ) → Stop → Type 0
@@ -17,6 +18,6 @@ GivingStop archive doc stop = (stop ≡ Memory) ⊎ LacksDocument archive doc st
 -- why the bytes are not found to give the archive's own text: memory ran out, or they are rejected, or they have a
 -- collision
 abbrev pub TextVerdictStop : (List ℕ → List ℕ) → Archive → (doc : ℕ) → (bytes : List ℕ) → Stop → Type 0
-TextVerdictStop H archive doc bytes stop = (stop ≡ Memory) ⊎ (RejectsText H (root_of H archive) doc bytes stop
-    ⊎ ((proof : TextProof) × IsAcceptedText H (root_of H archive) doc bytes proof
-    × StopsByTextCollision H archive doc proof stop))
+TextVerdictStop H archive doc bytes =
+    AuditStop H (IsAcceptedText H (root_of H archive) doc bytes) (RejectsText H (root_of H archive) doc bytes)
+    (text_extract H archive doc) lines_of_text_collision
