@@ -45,36 +45,6 @@ fn check_once(alloc: Global, root: &[u8; 32], query: &Query, proof: &ProofView<'
     check_both::<Sha>(root, query, proof, &mut work, &mut steps).ok()
 }
 
-// The microseconds of checks of the proof as one of an answer.
-fn time_answers(
-    rt: &HostRuntime,
-    root: &[u8; 32],
-    query: &Query,
-    proof: &ProofView<'_>,
-    rounds: u32,
-) -> Option<u128> {
-    let start = Instant::now(rt).ok()?;
-    for _round in 0..rounds {
-        check_as_answer(rt.alloc(), root, query, proof)?;
-    }
-    micros(rt, &start)
-}
-
-// The microseconds of checks of the proof as what it is.
-fn time_checks(
-    rt: &HostRuntime,
-    root: &[u8; 32],
-    query: &Query,
-    proof: &ProofView<'_>,
-    rounds: u32,
-) -> Option<u128> {
-    let start = Instant::now(rt).ok()?;
-    for _round in 0..rounds {
-        check_once(rt.alloc(), root, query, proof)?;
-    }
-    micros(rt, &start)
-}
-
 // One audit. `None` if the documents are not found right.
 fn audit_once(alloc: Global, index: &Index<Sha>, query: &Query, bytes: &[u8]) -> Option<()> {
     match audit_both::<Sha>(alloc, index, query, bytes).ok()? {
@@ -83,17 +53,13 @@ fn audit_once(alloc: Global, index: &Index<Sha>, query: &Query, bytes: &[u8]) ->
     }
 }
 
-// The microseconds of audits.
-fn time_audits(
-    rt: &HostRuntime,
-    index: &Index<Sha>,
-    query: &Query,
-    bytes: &[u8],
-    rounds: u32,
-) -> Option<u128> {
+// The microseconds of so many rounds. `None` if one fails.
+fn time_rounds<F: Fn() -> Option<()>>(rt: &HostRuntime, rounds: u32, once: F) -> Option<u128>
+    requires { F.IsAlwaysCallable once }
+{
     let start = Instant::now(rt).ok()?;
     for _round in 0..rounds {
-        audit_once(rt.alloc(), index, query, bytes)?;
+        once()?;
     }
     micros(rt, &start)
 }
@@ -109,10 +75,10 @@ fn time_once(rt: &HostRuntime, index: &Index<Sha>, query: &Query) -> Option<()> 
     let length = bytes.len();
     let rounds = if length < SHORT { ROUNDS } else { 1 };
     let proof = ProofView::read(bytes).ok()?;
-    let root = index.root();
-    let answers = time_answers(rt, &root, query, &proof, rounds)?;
-    let checks = time_checks(rt, &root, query, &proof, rounds)?;
-    let audits = time_audits(rt, index, query, bytes, rounds)?;
+    let (alloc, root) = (rt.alloc(), index.root());
+    let answers = time_rounds(rt, rounds, || check_as_answer(alloc, &root, query, &proof))?;
+    let checks = time_rounds(rt, rounds, || check_once(alloc, &root, query, &proof))?;
+    let audits = time_rounds(rt, rounds, || audit_once(alloc, index, query, bytes))?;
     println!(rt; "{making} {answers} {checks} {audits} {rounds} {length}").ok()
 }
 
