@@ -3,7 +3,7 @@
 fn cross<T: Send + Sync>() {}
 
 #[test]
-fn types_cross_threads() {
+fn types_of_texts_and_trees_cross_threads() {
     cross::<ats_hash::Steps>();
     cross::<ats_hash::Sha>();
     cross::<ats_hash::Weak>();
@@ -39,6 +39,10 @@ fn types_cross_threads() {
     cross::<ats_doctree::OutOfMemory>();
     cross::<ats_doctree::Spot>();
     cross::<ats_doctree::DocLeaf>();
+}
+
+#[test]
+fn types_of_archives_cross_threads() {
     cross::<ats_lists::OutOfMemory>();
     cross::<ats_lists::Chain>();
     cross::<ats_lists::Format>();
@@ -52,6 +56,10 @@ fn types_cross_threads() {
     cross::<ats_index::Index<ats_hash::Sha>>();
     cross::<ats_index::LoadFault>();
     cross::<ats_index::OutOfMemory>();
+}
+
+#[test]
+fn types_of_the_outside_cross_threads() {
     cross::<ats_base::Bytes>();
     cross::<ats_base::MemShelf>();
     cross::<ats_base::MemSink>();
@@ -61,6 +69,10 @@ fn types_cross_threads() {
     cross::<ats_base::GatherFault>();
     cross::<ats_base::Failed>();
     cross::<ats_base::OutOfMemory>();
+}
+
+#[test]
+fn types_of_walks_cross_threads() {
     cross::<ats_bound::OutOfMemory>();
     cross::<ats_bound::Bracket>();
     cross::<ats_bound::Lane<'static>>();
@@ -74,6 +86,10 @@ fn types_cross_threads() {
     cross::<ats_bound::Scored<'static>>();
     cross::<ats_tra::OutOfMemory>();
     cross::<ats_tnra::OutOfMemory>();
+}
+
+#[test]
+fn types_of_proofs_cross_threads() {
     cross::<ats_prover::ProveFault>();
     cross::<ats_proof::Algorithm>();
     cross::<ats_proof::ProofView<'static>>();
@@ -97,8 +113,26 @@ fn types_cross_threads() {
     cross::<ats_client::Rejection>();
     cross::<ats_client::VerifyFault>();
     cross::<ats_client::Clash>();
+}
+
+#[test]
+fn types_of_audits_cross_threads() {
     cross::<ats_audit::OutOfMemory>();
     cross::<ats_audit::Verdict>();
     cross::<ats_audit::Verdicts>();
     cross::<ats_audit::Job<'static>>();
+    cross::<ats_both::OutOfMemory>();
+    cross::<ats_both::BothFault>();
+    cross::<ats_both::BothRefusal>();
+    cross::<ats_both::BothVerdict>();
+    cross::<ats_fetch::OutOfMemory>();
+    cross::<ats_fetch::TextRefusal>();
+    cross::<ats_fetch::TextClash>();
+    cross::<ats_fetch::TextVerdict>();
+    cross::<ats_fetch::TextView<'static>>();
+    cross::<ats_growth::Grown>();
+    cross::<ats_growth::GrowFault>();
+    cross::<ats_growth::GrowthRefusal>();
+    cross::<ats_growth::GrowthVerdict>();
+    cross::<ats_growth::GrowthView<'static>>();
 }
