@@ -56,5 +56,3 @@ mod scanning;
 mod stand;
 mod state;
 mod stepping;
-#[cfg(test)]
-mod tests;
