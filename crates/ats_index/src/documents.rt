@@ -1,7 +1,7 @@
 //! The lists of a collection with their digests, and the terms of all documents with the nodes of their trees, by one
 //! thread.
 
-ghost use Rattle.std.specs.Prelude.{◌≡◌, ◌<◌, ◌++◌, ◌∷◌, [], length, IfOk, OnOk};
+ghost use Rattle.std.specs.Prelude.{◌≡◌, ◌<◌, ◌+◌, ◌++◌, ◌∷◌, [], length, IfOk, OnOk};
 ghost use Rattle.ats_terms.specs.Terms.{terms};
 ghost use Rattle.ats_terms.specs.Query.{counted};
 ghost use Rattle.ats_lists.specs.Lists.{lists_of};
@@ -61,6 +61,48 @@ fn put_document<H: Hash32>(
     Ok(())
 }
 
+// Counts a document, adds it to the run, and appends its terms and the nodes of their tree.
+fn with_document<'a, H: Hash32>(
+    alloc: Global,
+    collection: &'a Collection,
+    doc: u32,
+    run: ListsBuilder<'a>,
+    all: &mut Vec<DocTerms>,
+    nodes: &mut Vec<Nodes>,
+) -> Result<ListsBuilder<'a>, OutOfMemory>
+    requires inside { doc < length collection.now }
+    requires run { run ≡ (collection.now, 0, doc) }
+    ensures run { IfOk result (λ made. made ≡ (collection.now, 0, doc + 1)) }
+    ensures terms { OnOk result (all.new.items ≡ all.old.items ++ doc_terms collection.now doc ∷ []) }
+    ensures nodes { OnOk result (nodes.new.items
+        ≡ nodes.old.items ++ kept_digests H.hash (terms_leaves (doc_terms collection.now doc)) ∷ []) }
+{
+    let counts = TermCounts::of(alloc, collection.terms(doc))?;
+    let run = run.add(&counts)?;
+    put_document::<H>(alloc, collection, doc, counts, all, nodes)?;
+    Ok(run)
+}
+
+// Counts each document once: returns the lists, and appends the terms of each document and the nodes of their tree.
+fn lists_and_terms<H: Hash32>(
+    alloc: Global,
+    collection: &Collection,
+    all: &mut Vec<DocTerms>,
+    nodes: &mut Vec<Nodes>,
+) -> Result<Lists, OutOfMemory>
+    requires no_terms { all.old.items ≡ [] }
+    requires no_nodes { nodes.old.items ≡ [] }
+    ensures lists { IfOk result (λ lists. lists ≡ lists_of collection.now) }
+    ensures terms { OnOk result (all.new.items ≡ all_terms collection.now) }
+    ensures nodes { OnOk result (nodes.new.items ≡ all_term_digests H.hash collection.now) }
+{
+    let mut run = ListsBuilder::new(alloc, collection);
+    for doc in 0..collection.documents() {
+        run = with_document::<H>(alloc, collection, doc, run, all, nodes)?;
+    }
+    Ok(run.finish()?)
+}
+
 /// Counts each document once, and hashes the trees of its terms, and the lists in this format.
 pub(crate) fn counted<H: Hash32>(
     alloc: Global,
@@ -73,16 +115,10 @@ pub(crate) fn counted<H: Hash32>(
     ensures terms { IfOk result (λ made. made.terms.items ≡ all_terms collection.now) }
     ensures term_nodes { IfOk result (λ made. made.term_nodes.items ≡ all_term_digests H.hash collection.now) }
 {
-    let documents = collection.documents();
-    let mut builder = ListsBuilder::new(alloc, collection);
-    let mut terms = Vec::with_capacity(alloc, documents as usize)?;
-    let mut term_nodes = Vec::with_capacity(alloc, documents as usize)?;
-    for doc in 0..documents {
-        let counts = TermCounts::of(alloc, collection.terms(doc))?;
-        builder = builder.add(&counts)?;
-        put_document::<H>(alloc, collection, doc, counts, &mut terms, &mut term_nodes)?;
-    }
-    let lists = builder.finish()?;
+    let documents = collection.documents() as usize;
+    let mut terms = Vec::with_capacity(alloc, documents)?;
+    let mut term_nodes = Vec::with_capacity(alloc, documents)?;
+    let lists = lists_and_terms::<H>(alloc, collection, &mut terms, &mut term_nodes)?;
     let list_digests = digests_of_lists::<H>(alloc, format, &lists)?;
     Ok(DocumentParts {
         lists,
