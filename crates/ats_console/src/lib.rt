@@ -35,4 +35,4 @@ pub use stop_lines::Line;
 pub use stops::{
     Stop, bad_line, faults_line, file_too_long, input_stop, peer, proofs_too_long, rejected,
 };
-pub use words::{Command, number, read_words, serving_of};
+pub use words::{Command, number, read_words};

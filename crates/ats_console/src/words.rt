@@ -4,7 +4,7 @@ ghost use Rattle.std.specs.Prelude.{◌≡◌, map, string_bytes, option_map};
 ghost use Rattle.std.specs.List.{list_all, list_any};
 ghost use Rattle.std.specs.Char.{is_ascii_digit, is_ascii_uppercase};
 ghost use Rattle.ats_console.specs.Words.{is_number_word, number_of, connections_of, algorithm_of, root_word, as_rank, as_build, as_root, as_prove, as_verify, as_ask, as_serve, as_audit, as_sweep, as_trial, as_migrate, as_give, as_fetch, as_audit_fetch, as_prove_both, as_both, as_audit_both, as_grow, as_growth, as_audit_growth, is_file_word, command_of_file, command_of_archive, command_of};
-ghost use Rattle.ats_console.specs.Inner.Meaning.{serving_of, meaning};
+ghost use Rattle.ats_console.specs.Inner.Meaning.{meaning};
 
 use ats_proof::Algorithm;
 use hex::FromHex;
@@ -519,20 +519,5 @@ pub fn read_words<'a>(words: &'a [String]) -> Option<Command<'a>>
         read_file_words(word.as_str(), arguments)
     } else {
         read_archive_words(word.as_str(), arguments)
-    }
-}
-
-/// INDEX, CONNECTIONS and ADDRESS, if the words are those of `serve`.
-pub fn serving_of<'a>(words: &'a [String]) -> Option<(&'a str, u32, &'a str)>
-    ensures { option_map (λ found. record { index = found.0.now; connections = found.1; address = found.2.now }) result
-        ≡ serving_of (command_of (map string_bytes words.now)) }
-{
-    match read_words(words)? {
-        Command::Serve {
-            index,
-            connections,
-            address,
-        } => Some((index, connections, address)),
-        _ => None,
     }
 }

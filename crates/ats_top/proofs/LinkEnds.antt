@@ -1,5 +1,5 @@
 -- How commands that use links end after their plans.
-use Rattle.std.proofs.Common.{◌≡◌, ◌⊎◌, ℕ, List, Option, Some, IsSome, refl, sym, ap, inl, inr}
+use Rattle.std.proofs.Common.{◌≡◌, ◌⊎◌, ℕ, List, IsSome, refl, inl, inr}
 use Rattle.ats_base.specs.Outside.{ShelfTold, Rose}
 use Rattle.ats_terms.specs.Terms.{terms}
 use Rattle.ats_terms.specs.Query.{IsQueryOf, counted}
@@ -7,7 +7,6 @@ use Rattle.ats_plan.specs.Files.{Files}
 use Rattle.ats_plan.specs.Plan.{Passes, ComesToShelf}
 use Rattle.ats_plan.specs.Runs.{Does, Stops, IsDone, IsStopped}
 use Rattle.ats_console.specs.Words.{AskWords, ServeWords, Command, Ask, Serve}
-use Rattle.ats_console.specs.Inner.Meaning.{serving_of}
 use Rattle.ats_top.specs.Outside.{Outside}
 use Rattle.ats_console.specs.Steps.{AsksRanking}
 use Rattle.ats_top.specs.Calling.{MayCall, MayOpen, ReplyDecides}
@@ -22,11 +21,6 @@ use Rattle.ats_console.specs.declared.stops.Stop.TheVariants.{Shelf, Memory}
 use Rattle.ats_top.proofs.Linked.{serving_status, serving_line}
 use Rattle.ats_top.proofs.OneReply.{accepted_decides}
 use Rattle.ats_top.proofs.Replies.{decided_asks, stop_decides}
-
--- words that are those of `serve` are its command
-pub serving_said : (command : Option Command) (words : ServeWords) → Some words ≡ serving_of command → command ≡ Some (Serve words)
-serving_said (Some (Serve other)) words is = let same : words ≡ other = cc in ap (λ (w : ServeWords). Some (Serve w)) (sym same)
-serving_said other words is = absurd (cc)
 
 -- the question of a ranking that is asked for
 asked_query : (r : ℕ) (text : List ℕ) → AsksRanking r text → IsQueryOf text (counted (terms text))

@@ -21,7 +21,7 @@ use Rattle.ats_top.specs.declared.serving.Halt.TheVariants.{Door, Sink, Memory}
 use Rattle.ats_console.specs.declared.stops.Stop.{Stop}
 use Rattle.ats_console.specs.declared.stops.Stop.TheVariants as stop
 use Rattle.ats_console.proofs.Public.{leads_index, at_index, memory_stops}
-use Rattle.ats_top.proofs.Stopped.{stop_ended, stopped_after}
+use Rattle.ats_top.proofs.Stopped.{stop_ended, stopped_after, link_printed}
 
 -- the count of the sink did not fall
 pub attends_later : (H : List ℕ → List ℕ) (files : Files) (words : ServeWords) (before now : DoorAndSink) (result : Result ℕ Halt)
@@ -30,12 +30,6 @@ attends_later H files words before now (Ok faults) (text, took, all) = omega (ar
 attends_later H files words before now (Err Door) (text, took, how) = omega (arith, took.kept)
 attends_later H files words before now (Err Sink) (text, failed, some) = failed.later
 attends_later H files words before now (Err Memory) (text, took, some) = omega (arith, took.kept)
-
--- the line of a fault of the door has its status, unless the sink failed
-link_printed : (before now : SinkTold) (result : ℕ) → PrintsStop before now stop.Link result → result ≢ 8 → result ≢ 7 → ⊥
-link_printed before now result (inl (inl (printed, is, took))) not_door not_sink = not_door is
-link_printed before now result (inl (inr (is, failed))) not_door not_sink = not_sink is
-link_printed before now result (inr (has, prints)) not_door not_sink = has
 
 -- the count of the door's faults is as before, unless the status is that of its fault
 pub attends_door : (H : List ℕ → List ℕ) (files : Files) (words : ServeWords) (before now : DoorAndSink) (outcome : Result ℕ Halt) (after : SinkTold) (result : ℕ)

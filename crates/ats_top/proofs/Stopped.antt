@@ -6,18 +6,20 @@ use Rattle.ats_base.specs.Links.{CallerTold, DoorTold}
 use Rattle.ats_plan.specs.Plan.{Refuses}
 use Rattle.ats_plan.specs.Runs.{IsDone, IsStopped}
 use Rattle.ats_plan.proofs.Public.{at_memory, stops_memory}
-use Rattle.ats_console.specs.Words.{AskWords, Command, Ask, command_of}
+use Rattle.ats_console.specs.Words.{AskWords, Command, Ask, Serve, command_of}
 use Rattle.ats_top.specs.Outside.{Outside}
 use Rattle.ats_top.specs.Commands.{plan_of}
 use Rattle.ats_top.specs.Commands.Ask.{ask_plan}
 use Rattle.ats_top.specs.Asked.{IsReplyVerified}
 use Rattle.ats_top.specs.Inner.Stops.{AskStop}
 use Rattle.ats_top.specs.Serving.{Took}
-use Rattle.ats_console.specs.Stops.{End, Done, Stopped, status_of_stop, text_of_stop}
-use Rattle.ats_top.specs.Inner.Outcome.{HasLine, PrintsStop}
+use Rattle.ats_console.specs.Stops.{Done, Stopped, status_of_stop, text_of_stop}
+use Rattle.ats_top.specs.Inner.Conversation.{KeepsCallerCount}
+use Rattle.ats_top.specs.Inner.Links.{UsesLinks}
+use Rattle.ats_top.specs.Inner.Outcome.{HasLine, PrintsStop, PrintsAnswer}
 use Rattle.ats_top.specs.Run.{LinksDone, StoppedEarly, IsHalted, RunEnds, Prints, Ended}
 use Rattle.ats_console.specs.declared.stops.Stop.{Stop}
-use Rattle.ats_console.specs.declared.stops.Stop.TheVariants.{Usage, Shelf, Memory}
+use Rattle.ats_console.specs.declared.stops.Stop.TheVariants.{Usage, Shelf, Memory, Link}
 use Rattle.ats_top.proofs.LinkEnds.{ask_done, links_memory}
 use Rattle.ats_top.proofs.Sessions.{took_then, failed_then}
 
@@ -74,44 +76,34 @@ module _ (H : List ℕ → List ℕ) (said : List (List ℕ)) (before now : Outs
     prints = prints_then before.sink mid now.sink (status_of_stop Memory) text (text_of_stop Memory) result took prints;
   }
 
--- what all objects but the sink report, before and after a command of these words
-module _ (H : List ℕ → List ℕ) (shelf later_shelf : ShelfTold) (caller later_caller : CallerTold) (door : DoorTold)
-    (said : List (List ℕ)) (command : Command) (is : command_of said ≡ Some command) where
-  abbrev before : SinkTold → Outside
-  before sink = record { shelf = shelf; sink = sink; caller = caller; door = door }
+-- a command that uses no links does nothing after its plan
+unlinked : (H : List ℕ → List ℕ) (before now : Outside) (command : Command) (text : List ℕ) → (UsesLinks command → ⊥) → LinksDone H before now command text
+unlinked H before now (Ask words) text none = absurd (none tt)
+unlinked H before now (Serve words) text none = absurd (none tt)
+unlinked H before now other text none = tt
 
-  abbrev now : SinkTold → Outside
-  now sink = record { shelf = later_shelf; sink = sink; caller = later_caller; door = door }
+-- such a command, when its text or the cause of its stop was printed
+module _ (H : List ℕ → List ℕ) (said : List (List ℕ)) (before now : Outside) (command : Command) (is : command_of said ≡ Some command) where
+  pub answer_ended : (UsesLinks command → ⊥) → now.door ≡ before.door → {T : Type 0} (bytes_of : T → List ℕ) (answer : Result T Stop) (result : ℕ)
+      → IfOk answer (λ text. IsDone (plan_of H command) before.shelf now.shelf (bytes_of text))
+      → IfErr answer (IsStopped Shelf Memory (plan_of H command) before.shelf now.shelf)
+      → PrintsAnswer before.sink now.sink answer bytes_of result → Ended H said before now result
+  answer_ended none door bytes_of (Ok text) result done stopped prints = record {
+    end = Done (bytes_of text);
+    ends = (command, is, record { plan = done; links = unlinked H before now command (bytes_of text) none });
+    prints = prints;
+  }
+  answer_ended none door bytes_of (Err stop) result done stopped prints =
+      stop_ended H said before now stop result (inr (command, is, inl (record { plan = stopped; silent = refl; door = door }))) prints
 
-  -- whatever the sink reports
-  abbrev EndsSo : End → Type 0
-  EndsSo end = (was is : SinkTold) → RunEnds H (before was) (now is) said end
-
-  -- a command that its plan stopped
-  pub plan_end : (stop : Stop) → IsStopped Shelf Memory (plan_of H command) shelf later_shelf stop → EndsSo (Stopped [] stop)
-  plan_end stop stopped = λ was after.
-      inr (command, is, inl (record { plan = stopped; silent = refl; door = refl }))
-
-  pub plan_ends : {T : Type 0} (result : Result T Stop) → IfErr result (IsStopped Shelf Memory (plan_of H command) shelf later_shelf)
-      → IfErr result (λ stop. EndsSo (Stopped [] stop))
-  plan_ends (Ok _) stopped = tt
-  plan_ends (Err stop) stopped = plan_end stop stopped
-
-  -- a command that does nothing after its plan
-  pub done_ends : {T : Type 0} (bytes_of : T → List ℕ) (result : Result T Stop)
-      → ((was is : SinkTold) (text : List ℕ) → LinksDone H (before was) (now is) command text)
-      → IfOk result (λ text. IsDone (plan_of H command) shelf later_shelf (bytes_of text)) → IfOk result (λ text. EndsSo (Done (bytes_of text)))
-  done_ends bytes_of (Ok text) links done = λ was after. (command, is, record { plan = done; links = links was after (bytes_of text) })
-  done_ends bytes_of (Err stop) links done = tt
-
--- `ask`, whatever the sink reports
-module _ (H : List ℕ → List ℕ) (shelf : ShelfTold) (caller later : CallerTold) (door : DoorTold)
+-- `ask`, when its text or the cause of its stop was printed
+module _ (H : List ℕ → List ℕ) (shelf : ShelfTold) (sink later_sink : SinkTold) (caller later : CallerTold) (door : DoorTold)
     (said : List (List ℕ)) (words : AskWords) (is : command_of said ≡ Some (Ask words)) where
-  abbrev at : CallerTold → SinkTold → Outside
-  at caller sink = record { shelf = shelf; sink = sink; caller = caller; door = door }
+  abbrev first : Outside
+  first = record { shelf = shelf; sink = sink; caller = caller; door = door }
 
-  abbrev AskEndsSo : End → Type 0
-  AskEndsSo end = (was now : SinkTold) → RunEnds H (at caller was) (at later now) said end
+  abbrev last : Outside
+  last = record { shelf = shelf; sink = later_sink; caller = later; door = door }
 
   -- its words stopped it
   refused_stop : (stop : Stop) → Refuses Shelf None (ask_plan words) stop → IsStopped Shelf Memory (ask_plan words) shelf shelf stop
@@ -123,16 +115,30 @@ module _ (H : List ℕ → List ℕ) (shelf : ShelfTold) (caller later : CallerT
   unasked_stop stop (inl same) = subst (IsStopped Shelf Memory (ask_plan words) shelf shelf) (sym same) (at_memory {plan = ask_plan words})
   unasked_stop stop (inr refuses) = refused_stop stop refuses
 
-  ask_halted : (stop : Stop) → AskStop H caller later words stop → (was now : SinkTold) → IsHalted H (at caller was) (at later now) (Ask words) [] stop
-  ask_halted stop (inl unasked) was now = inl (record { plan = unasked_stop stop unasked; silent = refl; door = refl })
-  ask_halted stop (inr (asks, stops)) was now = inr (record { plan = ask_done words shelf [] asks; links = (refl, stops) })
+  ask_halted : (stop : Stop) → AskStop H caller later words stop → IsHalted H first last (Ask words) [] stop
+  ask_halted stop (inl unasked) = inl (record { plan = unasked_stop stop unasked; silent = refl; door = refl })
+  ask_halted stop (inr (asks, stops)) = inr (record { plan = ask_done words shelf [] asks; links = (refl, stops) })
 
-  pub ask_ends : {T : Type 0} (result : Result T Stop) → IfErr result (AskStop H caller later words) → IfErr result (λ stop. AskEndsSo (Stopped [] stop))
-  ask_ends (Ok _) stops = tt
-  ask_ends (Err stop) stops = λ was now. inr (Ask words, is, ask_halted stop stops was now)
+  pub ask_ended : {T : Type 0} (bytes_of : T → List ℕ) (answer : Result T Stop) (result : ℕ)
+      → IfOk answer (λ text. IsReplyVerified H caller later words (bytes_of text)) → IfErr answer (AskStop H caller later words)
+      → PrintsAnswer sink later_sink answer bytes_of result → Ended H said first last result
+  ask_ended bytes_of (Ok text) result verified stops prints = record {
+    end = Done (bytes_of text);
+    ends = (Ask words, is, record { plan = ask_done words shelf (bytes_of text) verified.accepted.replied.asks; links = verified });
+    prints = prints;
+  }
+  ask_ended bytes_of (Err stop) result verified stops prints = stop_ended H said first last stop result (inr (Ask words, is, ask_halted stop stops)) prints
 
-  pub answered_ends : {T : Type 0} (bytes_of : T → List ℕ) (result : Result T Stop) → IfOk result (λ text. IsReplyVerified H caller later words (bytes_of text))
-      → IfOk result (λ text. AskEndsSo (Done (bytes_of text)))
-  answered_ends bytes_of (Ok text) answered = λ was now.
-      (Ask words, is, record { plan = ask_done words shelf (bytes_of text) answered.accepted.replied.asks; links = answered })
-  answered_ends bytes_of (Err stop) answered = tt
+-- the line of a fault of a link has its status, unless the sink failed
+pub link_printed : (before now : SinkTold) (result : ℕ) → PrintsStop before now Link result → result ≢ 8 → result ≢ 7 → ⊥
+link_printed before now result (inl (inl (printed, is, took))) not_link not_sink = not_link is
+link_printed before now result (inl (inr (is, failed))) not_link not_sink = not_sink is
+link_printed before now result (inr (has, prints)) not_link not_sink = has
+
+-- the count of the caller is as before, unless the status is that of its fault
+module _ (caller later : CallerTold) (sink later_sink : SinkTold) {T : Type 0} (bytes_of : T → List ℕ) (result : ℕ) where
+  pub ask_counts : (answer : Result T Stop) → KeepsCallerCount caller later answer → PrintsAnswer sink later_sink answer bytes_of result
+      → result ≢ 8 → result ≢ 7 → later.faults ≡ caller.faults
+  ask_counts (Ok text) kept prints not_link not_sink = kept
+  ask_counts (Err Link) kept prints not_link not_sink = absurd (link_printed sink later_sink result prints not_link not_sink)
+  ask_counts (Err stop) kept prints not_link not_sink = kept (λ (same : stop ≡ Link). absurd (cc))

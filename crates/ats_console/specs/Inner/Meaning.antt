@@ -1,8 +1,7 @@
 -- The command that a value of the program's own type means.
-use Rattle.ats_console.specs.Words.{Command, Rank, Build, Root, Prove, Verify, Ask, Serve, Audit, Sweep, Trial, Migrate, Give, Fetch, AuditFetch, ProveBoth, Both, AuditBoth, Grow, Growth, AuditGrowth, ServeWords}
+use Rattle.ats_console.specs.Words.{Command, Rank, Build, Root, Prove, Verify, Ask, Serve, Audit, Sweep, Trial, Migrate, Give, Fetch, AuditFetch, ProveBoth, Both, AuditBoth, Grow, Growth, AuditGrowth}
 use Rattle.ats_console.specs.declared.words.Command.{Command as Said}
 use Rattle.ats_console.specs.declared.words.Command.TheVariants as said
-use Rattle.std.specs.Prelude.{Option, Some, None}
 
 abbrev pub meaning : Said → Command
 meaning (said.Rank collection r query) = Rank (record { collection = collection.now; r = r; query = query.now })
@@ -31,8 +30,3 @@ meaning (said.AuditBoth index query proof) =
 meaning (said.Grow old new file) = Grow (record { old = old.now; new = new.now; file = file.now })
 meaning (said.Growth old new file) = Growth (record { old = old; new = new; file = file.now })
 meaning (said.AuditGrowth old new file) = AuditGrowth (record { old = old.now; new = new.now; file = file.now })
-
--- the words of `serve`, if the command is that one
-abbrev pub serving_of : Option Command → Option ServeWords
-serving_of (Some (Serve words)) = Some words
-serving_of _ = None
