@@ -132,7 +132,7 @@ def judge_calls(program: str, bench: str, name: str, path: Path, blocks: int) ->
 
 def least(runs: list[measure.Run]) -> measure.Run:
     """The least seconds and the least memory of some runs."""
-    return measure.Run(min(run.seconds for run in runs), runs[0].printed, min(run.peak for run in runs))
+    return runs[0]._replace(seconds=min(run.seconds for run in runs), peak=min(run.peak for run in runs))
 
 
 def judge_migration(program: str, path: Path) -> bool:
@@ -178,12 +178,8 @@ def main() -> int:
     program, bench = measure.program(), measure.bench_program()
     block = seconds_of_a_block(bench)
     print(f"SHA-256: {block * 1e6:.3f} us a block, {1 / block:.0f} blocks a second, best of {measure.RUNS} runs\n")
-    try:
-        with tempfile.TemporaryDirectory() as folder:
-            met = [measured(program, bench, block, name, folder) for name in names]
-    except measure.TooSlow:
-        print(f"\na run took more than {measure.LIMIT} s: NOT MET")
-        return 1
+    with tempfile.TemporaryDirectory() as folder:
+        met = [measured(program, bench, block, name, folder) for name in names]
     print("all is met" if all(met) else "not all is met")
     return 0 if all(met) else 1
 

@@ -51,12 +51,8 @@ def measured(program: str, shape: corpora.Shape, folder: str) -> tuple[dict[int,
 def main() -> int:
     shape = corpora.SHAPES[sys.argv[1] if len(sys.argv) > 1 else "articles"]
     program = measure.program()
-    try:
-        with tempfile.TemporaryDirectory() as folder:
-            seconds, words = measured(program, shape, folder)
-    except measure.TooSlow:
-        print(f"\na run took more than {measure.LIMIT} s: NOT MET")
-        return 1
+    with tempfile.TemporaryDirectory() as folder:
+        seconds, words = measured(program, shape, folder)
     growth = measure.judge("time(16 MiB) / time(4 MiB)", seconds[16] / seconds[4], GROWTH)
     against = measure.judge("time(16 MiB) / Python's", seconds[16] / words, AGAINST_PYTHON)
     print("both ratios are met" if growth and against else "not both ratios are met")

@@ -34,8 +34,6 @@ AGAINST_DIGEST = 1.2  # the check of a text of 1 MiB, over one digest of it
 HELD = 3.0  # bytes of memory that `fetch` holds for each byte of its file
 CHECK = 0.1  # milliseconds of one check of a growth
 AGAINST_GROW = 1.1  # memory of `audit-growth` over that of `grow`
-ONE_RUN = str(Path(__file__).resolve().parent / "one_run.py")
-MEMORY = 8 << 30  # bytes of address space of one run
 
 
 class Text(NamedTuple):
@@ -134,13 +132,8 @@ def judge_memory(program: str, of: Archive, short: int, long: int) -> bool:
 
 
 def held(command: list[str]) -> int:
-    """The most bytes of memory that a run held, started by a small process."""
-    started = [sys.executable, ONE_RUN, str(measure.LIMIT), str(MEMORY), *command]
-    told = subprocess.run(started, stdout=subprocess.DEVNULL, stderr=subprocess.PIPE, text=True, check=False).stderr
-    status, _, peak = told.split()[-3:]
-    if status != "0":
-        sys.exit(f"{command[:2]} ended with status {status}")
-    return int(peak)
+    """The most bytes of memory that a run held."""
+    return measure.run(command).peak
 
 
 def judge_held(program: str, old: Archive, new: Archive) -> bool:

@@ -1,6 +1,6 @@
 """Lets each growth and each call of the commands fail in turn, one in each run, and counts how the runs end.
 
-usage: python3 bench/faults.py [--quick] [PROGRAM [CASES]]
+usage: python3 tests/faults.py [--quick] [PROGRAM [CASES]]
 
 PROGRAM is the program and CASES that of `crates/ats_cases`; without them both are proved and built if needed.
 The program runs over real files and over loopback addresses; --quick leaves out the runs in pieces of one byte. CASES
@@ -20,16 +20,10 @@ import time
 from pathlib import Path
 from typing import Iterator, NamedTuple, Optional
 
-import measure
 import tracing
-from sockets import QUERY, REQUEST, ROW, TEXTS, framed, free_port
+from trying import BEFORE, MORE_ROOT, MORE_TEXTS, QUERY, REQUEST, ROOT, ROOT_IN_BLOCKS, ROW, TEXTS, framed, free_port, measure, program_of
 
-ROOT = "297978110ffb580733eaf8938f9328114690e802ab3108a3bfabc34ba2db2490"
-ROOT_IN_BLOCKS = "2951f46d5980442cd63e807581d1fe33fdd82af7d29a0b4267f871c88b998e82"  # of the same texts
-MORE_TEXTS = TEXTS[:-1] + ',"fox hen"]'
-MORE_ROOT = "158bee81463a856290f8c62a370947e939a44b77a87bbd3c1d0dfe924202cd3c"
 NO_MEMORY = framed(b"\x01\x06")  # the reply if memory ran out for a proof
-BEFORE = b"before"  # the content of a file before another one is stored under its name
 
 SERVED = "connection 1 requests {} {}\n"
 
@@ -108,7 +102,7 @@ class Peer:
         while len(self.came) < length:
             try:
                 piece = link.recv(length - len(self.came))
-            except TimeoutError:
+            except socket.timeout:
                 if self.is_over.is_set():
                     return
                 continue
@@ -131,7 +125,7 @@ class Server(Peer):
             while not self.is_over.is_set():
                 try:
                     link, _ = self.door.accept()
-                except TimeoutError:
+                except socket.timeout:
                     continue
                 with link:
                     self.read(link, len(REQUEST))
@@ -146,7 +140,7 @@ class Client(Peer):
 
     def __init__(self) -> None:
         super().__init__()
-        self.port = free_port("127.0.0.1")
+        self.port = free_port()
 
     def talk(self) -> None:
         while not self.is_over.is_set():
@@ -453,7 +447,7 @@ def main() -> int:
     ways = ["each growth", "each growth and all later", "each call", "each call, bytes singly"]
     if "--quick" in sys.argv[1:]:
         ways.pop()
-    program = named[0] if named else measure.program()
+    program = program_of(named)
     cases = named[1] if len(named) > 1 else measure.cases_program()
     passed = over_memory(program, cases)
     passed = over_real_objects(program, ways) and passed

@@ -1,9 +1,10 @@
 """Tries the program over real sockets: servers and readers as processes of their own, and peers that misbehave.
 
-usage: python3 bench/sockets.py [--silence]
+usage: python3 tests/sockets.py [--silence] [PROGRAM]
 
-Prints each try and whether it passed, and ends with status 0 if none failed. With --silence peers that fall silent are
-tried too: for each of these the program waits 30 seconds, as long as it waits for any peer.
+PROGRAM is the program; without it, it is proved and built if needed. Prints each try and whether it passed, and ends with
+status 0 if none failed. With --silence peers that fall silent are tried too: for each of these the program waits 30
+seconds, as long as it waits for any peer.
 """
 
 import re
@@ -17,22 +18,10 @@ import time
 from pathlib import Path
 from typing import Callable, NamedTuple, Optional
 
-import measure
+from trying import HOME, QUERY, REQUEST, ROW, TEXTS, Skipped, expect, framed, free_port, measure, passes, program_of
 
-TEXTS = '["red fox","red red hen","blue hen"]'
-QUERY = "red hen"
-REQUEST = bytes.fromhex("0000000d0102000100077265642068656e")
-ROW = "1 1 13014 13014\n"
 LIMIT = 120  # the longest wait in seconds
 SILENCE = 30  # seconds that the program waits for a silent peer
-
-
-class Differs(Exception):
-    """What arrived is not what was wanted."""
-
-
-class Skipped(Exception):
-    """There is no way to try it on this machine."""
 
 
 class House(NamedTuple):
@@ -44,30 +33,13 @@ class House(NamedTuple):
     reply: bytes
 
 
-def expect(what: str, came: object, wanted: object) -> None:
-    if came != wanted:
-        raise Differs(f"{what}: {came!r}, wanted {wanted!r}")
-
-
-def build(folder: Path) -> House:
+def build(program: str, folder: Path) -> House:
     """An index of three short texts; the reply is made from the proof that `prove` stores."""
-    program, texts, index, proof = measure.program(), folder / "texts.json", folder / "index", folder / "proof"
+    texts, index, proof = folder / "texts.json", folder / "index", folder / "proof"
     texts.write_text(TEXTS, encoding="utf-8")
     root = measure.run([program, "build", str(texts), str(index)]).printed.strip()
     measure.run([program, "prove", str(index), "tnra", "1", QUERY, str(proof)])
     return House(program, str(index), root, framed(b"\x00" + proof.read_bytes()))
-
-
-def framed(body: bytes) -> bytes:
-    return struct.pack(">I", len(body)) + body
-
-
-def free_port(host: str) -> int:
-    """A port where nobody listens: one that the system chose just before."""
-    family = socket.AF_INET6 if ":" in host else socket.AF_INET
-    with socket.socket(family) as one:
-        one.bind((host, 0))
-        return one.getsockname()[1]
 
 
 class Server:
@@ -294,7 +266,7 @@ def silent_client(house: House) -> None:
 def client_that_never_reads(house: House) -> None:
     # Replies of many kilobytes fill the system's buffer for the client.
     index = house.index + ".archive"
-    measure.run([house.program, "build", str(measure.HOME / "examples" / "archive.json"), index])
+    measure.run([house.program, "build", str(HOME / "examples" / "archive.json"), index])
     words = b"the of and to in a is for on with was by that as at from it be not"
     long = framed(struct.pack(">BBHH", 1, 1, 1000, len(words)) + words)
     with Server(house._replace(index=index), 2) as server, server.client() as client:
@@ -336,23 +308,12 @@ SILENT: list[tuple[str, Callable[[House], None]]] = [
 ]
 
 
-def passes(house: House, says: str, one: Callable[[House], None]) -> bool:
-    try:
-        one(house)
-    except Skipped as why:
-        print(f"not tried: {says}: {why}")
-        return True
-    except (Differs, OSError, subprocess.TimeoutExpired) as why:
-        print(f"FAILED: {says}: {why}")
-        return False
-    print(f"passed: {says}", flush=True)
-    return True
-
-
 def main() -> int:
+    words = [word for word in sys.argv[1:] if word != "--silence"]
     tries = TRIES + (SILENT if "--silence" in sys.argv[1:] else [])
+    program = program_of(words)
     with tempfile.TemporaryDirectory() as folder:
-        house = build(Path(folder))
+        house = build(program, Path(folder))
         failed = sum(not passes(house, says, one) for says, one in tries)
     if tries == TRIES:
         print(f"not tried: {len(SILENT)} with peers that fall silent, which take --silence")

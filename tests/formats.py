@@ -1,6 +1,6 @@
 """Compares proofs of the same questions in both formats of lists, over random collections.
 
-usage: python3 bench/formats.py [PROGRAM [QUESTIONS]]
+usage: python3 tests/formats.py [PROGRAM [QUESTIONS]]
 
 PROGRAM is the program; without it, it is proved and built if needed. QUESTIONS is 1,000 if it is not given. Draws small
 collections and questions from a fixed seed, builds and migrates each, and proves and verifies each question by both
@@ -17,8 +17,7 @@ import tempfile
 from pathlib import Path
 from typing import NamedTuple
 
-import corpora
-import measure
+from trying import corpora, program_of
 
 QUESTIONS = 1000
 EACH = 25  # questions over one collection
@@ -106,7 +105,7 @@ def tell(algorithm: str, proved: list[Proved]) -> None:
 
 
 def main() -> int:
-    path = str(Path(sys.argv[1]).resolve()) if len(sys.argv) > 1 else measure.program()
+    path = program_of(sys.argv[1:2])
     questions = int(sys.argv[2]) if len(sys.argv) > 2 else QUESTIONS
     rng, words = random.Random(corpora.SEED), corpora.vocabulary(VOCABULARY)
     proved: dict[str, list[Proved]] = {algorithm: [] for algorithm in ALGORITHMS}

@@ -1,6 +1,6 @@
 """Exposes the program to faults of a real machine, and reports what each leaves.
 
-usage: python3 bench/machine_faults.py [PROGRAM]
+usage: python3 tests/machine_faults.py [PROGRAM]
 
 PROGRAM is the program; without it, it is proved and built if needed. Tries a full disk, standard outputs that take
 nothing, other things in place of a plain file, files that may not be read or written, files that change while they are
@@ -23,15 +23,11 @@ import time
 from pathlib import Path
 from typing import Callable, NamedTuple, Optional
 
-import corpora
 import faults
-import measure
 import tracing
-from sockets import QUERY, REQUEST, ROW, TEXTS, Differs, Skipped, expect, framed, free_port
+from trying import BEFORE, MORE_ROOT, MORE_TEXTS, QUERY, REQUEST, ROOT, ROOT_IN_BLOCKS, ROW, TEXTS
+from trying import Differs, Skipped, corpora, expect, framed, free_port, passes, program_of
 
-ROOT = faults.ROOT
-ROOT_IN_BLOCKS = faults.ROOT_IN_BLOCKS
-MORE_ROOT = faults.MORE_ROOT
 WAIT = 5  # seconds after which a command that waits is ended
 LIMIT = 120
 KILLS = 60
@@ -39,7 +35,6 @@ STEP = 23  # calls, with a file that is read in pieces of one byte
 LARGE = 2 * corpora.MIB  # bytes of text of the larger collection
 NOBODY = 65534
 DISK = 64 << 10  # bytes of the small disk
-BEFORE = b"before"
 KILLED = -signal.SIGKILL
 
 
@@ -94,7 +89,7 @@ def build(program: str, folder: Path) -> House:
     os.chmod(own, 0o755)
     (folder / "X").write_text(TEXTS, encoding="utf-8")
     corpora.write(str(folder / "LARGE"), corpora.SHAPES["notes"], LARGE)
-    (folder / "Y").write_text(faults.MORE_TEXTS, encoding="utf-8")
+    (folder / "Y").write_text(MORE_TEXTS, encoding="utf-8")
     house = House(own, folder, *[b""] * 8)
     for words, printed in (
         (["build", "X", "I"], ROOT + "\n"),
@@ -196,7 +191,7 @@ def output_gone(house: House) -> str:
 
 
 def server_output_closed(house: House) -> str:
-    address = f"127.0.0.1:{free_port('127.0.0.1')}"
+    address = f"127.0.0.1:{free_port()}"
     done = run(house, "serve", "I", "1", address, stdout=None, preexec_fn=lambda: os.close(1))
     expect("serve", done, Done(7, ""))
     return "status 7; it does not wait for a reader"
@@ -481,19 +476,8 @@ TRIES: list[tuple[str, Callable[[House], str]]] = [
 ]
 
 
-def passes(house: House, says: str, one: Callable[[House], str]) -> bool:
-    try:
-        print(f"passed: {says}: {one(house)}", flush=True)
-    except Skipped as why:
-        print(f"not tried: {says}: {why}", flush=True)
-    except (Differs, OSError) as why:
-        print(f"FAILED: {says}: {why}", flush=True)
-        return False
-    return True
-
-
 def main() -> int:
-    program = sys.argv[1] if len(sys.argv) > 1 else measure.program()
+    program = program_of(sys.argv[1:])
     with tempfile.TemporaryDirectory() as folder:
         house = build(program, Path(folder))
         failed = sum(not passes(house, says, one) for says, one in TRIES)

@@ -1,6 +1,6 @@
 """Types every command line of README.md, in their order, and compares what it prints with what stands below it.
 
-usage: python3 bench/readme.py PROGRAM
+usage: python3 tests/readme.py PROGRAM
 
 PROGRAM is the program, as ./ats. The lines run in a folder of their own, with the examples beside them. FOLDER is a
 folder of three texts, and the two lines over TCP run side by side. A line passes if it prints what stands below it, and

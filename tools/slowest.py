@@ -1,7 +1,7 @@
 #!/usr/bin/env python3
 """Prints which functions of a crate the check spends the most processor time on.
 
-usage: bench/slowest.py CRATE [CRATE ..]
+usage: tools/slowest.py CRATE [CRATE ..]
 
 Each crate is checked alone, by one process, from nothing: the command of `rt check` is run again without the work that
 earlier checks kept. The libraries below it must be built, which `rt check` in its folder does. As each function is
@@ -101,7 +101,8 @@ def times_of(crate):
 def main():
     crates = sys.argv[1:]
     if not crates or crates[0].startswith("-"):
-        sys.exit(__doc__)
+        print(__doc__.split("\n\n")[1], file=sys.stderr)
+        return 2
     every = []
     for crate in crates:
         times, whole = times_of(crate)
@@ -111,6 +112,8 @@ def main():
         print(f"{crate}: {whole:.0f} s, {len(times)} functions, {first:.0f} s to the first, {rest:.0f} s after the last")
     for seconds, name in sorted(every, reverse=True)[:MOST]:
         print(f"{seconds:7.1f} s  {name}")
+    return 0
 
 
-main()
+if __name__ == "__main__":
+    sys.exit(main())

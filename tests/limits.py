@@ -1,18 +1,25 @@
 """Runs the commands at their limits and on hostile files, and reports what each run took.
 
-usage: python3 bench/limits.py [PROGRAM]
+usage: python3 tests/limits.py [--quick] [PROGRAM]
 
 PROGRAM is the program; without it, it is proved and built if needed. Makes collections at the limits (65,536
 documents, texts of 2^20 bytes, 16 MiB of text), migrates their indexes, answers queries of up to 32 terms with up to
-1,000 rows in both formats, shows all documents with every word, and gives the program files that promise more than they
-hold, nest deeply or are as long as they may be. Prints for each run its status, its first line, its seconds and the most memory that it held, and whether
-that is as it should be. At the limits memory suffices: no run ends with status 6. A hostile file is refused in memory
-proportional to its length, at most the amount in its row. Ends with status 0 if all is as it should be. Needs 4 GiB of
-memory and 3 GiB of disk.
+1,000 rows in both formats, asks for a proof that would be too long, shows all documents with every word, and gives the
+program files that promise more than they hold, nest deeply or are as long as they may be. With --quick it only does the
+last of these. Prints for each run its status, its first line, its seconds and the most memory that it held, and whether
+that is as it should be:
+
+- At the limits memory suffices: no run ends with status 6.
+- `verify`, `audit` and `ask` print the same rows, with the scores of `rank`. `fetch` and `audit-fetch` print the same text.
+  `both` and `audit-both` print the documents that a search of the texts finds.
+- A hostile file is refused by its line, in memory proportional to its length, at most the amount in its row. Small objects
+  in JSON take most: an object with a member takes nearly a kilobyte, some 120 bytes for each of its own.
+
+Ends with status 0 if all is as it should be. Needs 4 GiB of memory and 3 GiB of disk. Takes up to half an hour, since each
+command that reads an index builds it again; the hostile files take a minute.
 """
 
 import json
-import os
 import socket
 import struct
 import subprocess
@@ -22,13 +29,9 @@ import threading
 from pathlib import Path
 from typing import Callable, Iterator, NamedTuple, Optional, Union
 
-import corpora
-import measure
-import too_long
-from sockets import free_port
+from trying import corpora, free_port, measure, program_of
 
 MIB = corpora.MIB
-ONE_RUN = str(Path(__file__).resolve().parent / "one_run.py")
 LIMIT = 300  # seconds of one run
 MEMORY = 4 << 30  # bytes of address space of one run
 ROWS = 1000
@@ -38,19 +41,17 @@ MAX_TEXT_FILE = 1 << 21
 MAX_GROWTH = 1 << 12
 NO_ROOT = "00" * 32
 
+# Bytes of a TRA proof over 65,536 documents, each of which has one of the query's 21 words. Nearly all are met before the
+# answer is settled. Of each it shows some forty leaves of its terms, and as many digests.
+TOO_LONG = 116_077_733
+
 # Bytes of the proof of 65,536 documents that have 32 words. Of each it shows 32 of 86 leaves of its terms, which needs 32
 # digests, so 1,412 bytes in all, and 46 bytes more: its number, an entry of the whole list, and its leaf.
-TOO_LONG = 95_570_809
-TOO_LONG_IN_BLOCKS = 95_561_881  # the first entries of 31 other lists need 7 digests each in place of 16
+BOTH_TOO_LONG = 95_570_809
+BOTH_TOO_LONG_IN_BLOCKS = 95_561_881  # the first entries of 31 other lists need 7 digests each in place of 16
 
-
-class Ended(NamedTuple):
-    """How a run ended: None if it was ended at the limit."""
-
-    status: Optional[int]
-    lines: list[str]
-    seconds: float
-    peak: int
+# Each begins four words of all documents and one word of the query.
+LETTERS = "abcdefghijklmnopqrstu"
 
 
 class Table:
@@ -61,38 +62,30 @@ class Table:
         print(f"{'run':66}{'status':>6}{'seconds':>9}{'MiB':>7}  first line")
 
     def start(self, *words: str) -> "subprocess.Popen[str]":
-        """A run in the folder, by a small process of its own."""
-        command = [sys.executable, ONE_RUN, str(LIMIT), str(MEMORY), self.program, *words]
-        return subprocess.Popen(command, stdout=subprocess.PIPE, stderr=subprocess.PIPE, cwd=self.folder, text=True)
+        """A run in the folder."""
+        return measure.started([self.program, *words], self.folder, LIMIT, MEMORY)
 
-    def end(self, process: "subprocess.Popen[str]") -> Ended:
-        printed, told = process.communicate()
-        status, seconds, peak = told.split()[-3:]
-        ended = None if float(seconds) >= LIMIT else int(status)
-        return Ended(ended, printed.splitlines(), float(seconds), int(peak))
-
-    def tell(self, says: str, ended: Ended, wrong: str) -> None:
-        first = ended.lines[0][:48] if ended.lines else ""
-        status = "-" if ended.status is None else ended.status
-        print(f"{says[:65]:66}{status:>6}{ended.seconds:>9.2f}{ended.peak / MIB:>7.0f}  {first}", flush=True)
+    def tell(self, says: str, ended: measure.Run, wrong: str) -> None:
+        first = "".join(ended.printed.splitlines()[:1])[:48]
+        print(f"{says[:65]:66}{ended.status:>6}{ended.seconds:>9.2f}{ended.peak / MIB:>7.0f}  {first}", flush=True)
         if wrong:
             self.wrong += 1
             print(f"    WRONG: {wrong}", flush=True)
 
-    def wanted(self, says: str, words: list[str], status: int = 0, first: Optional[str] = None, rows: Optional[int] = None, peak: Optional[int] = None) -> Ended:
-        """A run that must end with this status, first line and number of rows, and hold at most this much memory."""
-        ended = self.end(self.start(*words))
-        wrong = []
+    def wanted(self, says: str, words: list[str], status: int = 0, first: Optional[str] = None, rows: Optional[int] = None, peak: Optional[int] = None) -> list[str]:
+        """The lines of a run that must end with this status, first line and number of rows, and hold at most this much memory."""
+        ended = measure.ended(self.start(*words))
+        lines, wrong = ended.printed.splitlines(), []
         if ended.status != status:
             wrong.append(f"wanted is status {status}")
-        if first is not None and ended.lines[:1] != [first]:
+        if first is not None and lines[:1] != [first]:
             wrong.append(f"wanted is {first!r}")
-        if rows is not None and len(ended.lines) != rows:
-            wrong.append(f"{len(ended.lines)} rows, wanted are {rows}")
+        if rows is not None and len(lines) != rows:
+            wrong.append(f"{len(lines)} rows, wanted are {rows}")
         if peak is not None and ended.peak > peak:
             wrong.append(f"wanted are at most {peak / MIB:.0f} MiB")
         self.tell(says, ended, "; ".join(wrong))
-        return ended
+        return lines
 
     def same(self, says: str, came: object, wanted: object) -> None:
         if came != wanted:
@@ -107,14 +100,14 @@ def scores(lines: list[str]) -> list[tuple[str, ...]]:
 
 def ask(table: Table, says: str, index: str, root: str, algorithm: str, query: str, rows: list[str]) -> None:
     """Puts a question to a server of its own; the seconds are those of the reader."""
-    address = f"127.0.0.1:{free_port('127.0.0.1')}"
+    address = f"127.0.0.1:{free_port()}"
     server = table.start("serve", index, "1", address)
     assert server.stdout is not None
     server.stdout.readline()
-    ended = table.wanted(says, ["ask", root, algorithm, str(ROWS), query, address], rows=len(rows))
-    table.same("the rows of ask and verify", ended.lines, rows)
-    served = table.end(server)
-    is_right = served.status == 0 and served.lines == ["connection 1 requests 1 end"]
+    asked = table.wanted(says, ["ask", root, algorithm, str(ROWS), query, address], rows=len(rows))
+    table.same("the rows of ask and verify", asked, rows)
+    served = measure.ended(server)
+    is_right = served.status == 0 and served.printed == "connection 1 requests 1 end\n"
     table.tell("    and its server", served, "" if is_right else "the server")
 
 
@@ -122,12 +115,12 @@ def answers(table: Table, name: str, index: str, root: str, query: str, best: li
     """Proves, verifies, audits and asks one query with 1,000 rows, and compares all with the plain ranking."""
     for algorithm in algorithms:
         proved = table.wanted(f"{name}: prove by {algorithm}", ["prove", index, algorithm, str(ROWS), query, "P"])
-        if proved.status != 0:
+        if not proved[0].startswith("proof "):
             continue
-        rows = table.wanted(f"{name}: verify by {algorithm}", ["verify", root, str(ROWS), query, "P"], rows=len(best)).lines
+        rows = table.wanted(f"{name}: verify by {algorithm}", ["verify", root, str(ROWS), query, "P"], rows=len(best))
         if algorithm == "tra":
             table.same("the scores of verify and rank", scores(rows), scores(best))
-        audited = table.wanted(f"{name}: audit by {algorithm}", ["audit", index, str(ROWS), query, "P"], rows=len(best)).lines
+        audited = table.wanted(f"{name}: audit by {algorithm}", ["audit", index, str(ROWS), query, "P"], rows=len(best))
         table.same("the rows of audit and verify", audited, rows)
         if served:
             ask(table, f"{name}: ask by {algorithm}", index, root, algorithm, query, rows)
@@ -135,7 +128,7 @@ def answers(table: Table, name: str, index: str, root: str, query: str, best: li
 
 def migrate(table: Table, name: str) -> str:
     """Migrates the index I to M, reads M, and migrates it again, which leaves its bytes. Returns its root."""
-    root = table.wanted(f"{name}: migrate", ["migrate", "I", "M"], rows=1).lines[0]
+    (root,) = table.wanted(f"{name}: migrate", ["migrate", "I", "M"], rows=1)
     table.wanted(f"{name}, in blocks: root", ["root", "M"], first=root)
     table.wanted(f"{name}, in blocks: migrate", ["migrate", "M", "N"], first=root)
     table.same("the bytes of both migrated indexes", (table.folder / "N").read_bytes(), (table.folder / "M").read_bytes())
@@ -146,8 +139,8 @@ def migrate(table: Table, name: str) -> str:
 def texts_and_growth(table: Table, name: str, root: str, in_blocks: str, documents: int, doc: int) -> None:
     """Gives and fetches one text, and shows the growth of the index I into itself in blocks, M; both are audited too."""
     table.wanted(f"{name}: give", ["give", "I", str(doc), "T"], rows=1)
-    text = table.wanted(f"{name}: fetch", ["fetch", root, str(doc), "T"]).lines
-    table.same("the text of audit-fetch", table.wanted(f"{name}: audit-fetch", ["audit-fetch", "I", str(doc), "T"]).lines, text)
+    text = table.wanted(f"{name}: fetch", ["fetch", root, str(doc), "T"])
+    table.same("the text of audit-fetch", table.wanted(f"{name}: audit-fetch", ["audit-fetch", "I", str(doc), "T"]), text)
     table.wanted(f"{name}: grow", ["grow", "I", "M", "G"], first="growth 217")
     table.wanted(f"{name}: growth", ["growth", root, in_blocks, "G"], first=f"grown {documents} {documents}")
     table.wanted(f"{name}: audit-growth", ["audit-growth", "I", "M", "G"], first=f"grown {documents} {documents}")
@@ -160,14 +153,14 @@ def all_documents(table: Table, name: str, index: str, root: str, query: str) ->
     found = [str(doc) for doc, text in enumerate(texts) if words <= set(text.split())]
     table.wanted(f"{name}: prove-both", ["prove-both", index, query, "B"], rows=1)
     for command, first in (("both", root), ("audit-both", index)):
-        lines = table.wanted(f"{name}: {command}", [command, first, query, "B"]).lines
+        lines = table.wanted(f"{name}: {command}", [command, first, query, "B"])
         table.same(f"the documents of {command} and of a search", lines, found)
 
 
 def most_text(table: Table) -> None:
     words = corpora.vocabulary(corpora.SHAPES["notes"].vocabulary)
     corpora.write(str(table.folder / "X"), corpora.SHAPES["notes"], corpora.MAX_TEXTS)
-    root = table.wanted("16 MiB of notes: build", ["build", "X", "I"]).lines[0]
+    (root,) = table.wanted("16 MiB of notes: build", ["build", "X", "I"])
     table.wanted("16 MiB of notes: root", ["root", "I"], first=root)
     in_blocks = migrate(table, "16 MiB of notes")
     for name, query, algorithms, served in (
@@ -175,7 +168,7 @@ def most_text(table: Table) -> None:
         ("16 MiB of notes, 32 terms", " ".join(words[:32]), ("tnra",), True),
         ("16 MiB of notes, 32 rare terms", " ".join(words[15_000:15_032]), ("tra",), False),
     ):
-        best = table.wanted(f"{name}: rank", ["rank", "X", str(ROWS), query]).lines
+        best = table.wanted(f"{name}: rank", ["rank", "X", str(ROWS), query])
         answers(table, name, "I", root, query, best, algorithms, served)
         if len(algorithms) == 2:
             answers(table, f"{name}, in blocks", "M", in_blocks, query, best, algorithms, served)
@@ -188,29 +181,52 @@ def most_text(table: Table) -> None:
     table.wanted("16 MiB of notes, 33 terms: rank", ["rank", "X", "1", " ".join(words[:33])], 4, "input: query of 33 terms")
 
 
+def words_of(end: str, count: int) -> str:
+    """The words of the first letters with this end."""
+    return " ".join(letter + end for letter in LETTERS[:count])
+
+
+def text(document: int) -> str:
+    """All words but those in c, and one of these in place of its upper neighbour: between them the others lie far apart."""
+    own = LETTERS[document % len(LETTERS)]
+    words = [letter + end for letter in LETTERS for end in "bdef"]
+    return " ".join(own + "c" if word == own + "d" else word for word in words)
+
+
+def write_most_documents(path: Path) -> None:
+    texts = [text(document) for document in range(corpora.MAX_DOCUMENTS)]
+    assert sum(map(len, texts)) <= corpora.MAX_TEXTS
+    path.write_text(json.dumps(texts), encoding="utf-8")
+
+
+def too_long(table: Table, says: str, words: list[str], length: int) -> None:
+    """A proof that is refused for its length, and of which no file is left."""
+    table.wanted(says, [*words, "N"], 4, f"input: proof of {length} bytes")
+    table.same("no file, and what a proof that is too long leaves,", (table.folder / "N").exists(), False)
+
+
 def most_documents(table: Table) -> None:
-    too_long.write(table.folder / "X")
-    root = table.wanted("65,536 documents: build", ["build", "X", "I"]).lines[0]
-    query = " ".join(letter + "c" for letter in too_long.LETTERS[:10])
-    best = table.wanted("65,536 documents, 10 terms: rank", ["rank", "X", str(ROWS), query], rows=ROWS).lines
+    write_most_documents(table.folder / "X")
+    (root,) = table.wanted("65,536 documents: build", ["build", "X", "I"])
+    too_long(table, "65,536 documents, 21 terms: prove by tra", ["prove", "I", "tra", str(ROWS), words_of("c", 21)], TOO_LONG)
+    query = words_of("c", 10)
+    best = table.wanted("65,536 documents, 10 terms: rank", ["rank", "X", str(ROWS), query], rows=ROWS)
     answers(table, "65,536 documents, 10 terms", "I", root, query, best, ("tra",), True)
     in_blocks = migrate(table, "65,536 documents")
     answers(table, "65,536 documents, 10 terms, in blocks", "M", in_blocks, query, best, ("tra",), False)
     texts_and_growth(table, "65,536 documents", root, in_blocks, 65_536, 65_535)
     all_documents(table, "65,536 documents, a word of all", "I", root, "ab")
     all_documents(table, "65,536 documents, 10 words of which each has one", "I", root, query)
-    query = " ".join([letter + "b" for letter in too_long.LETTERS] + [letter + "f" for letter in too_long.LETTERS[:11]])
-    for index, length in (("I", TOO_LONG), ("M", TOO_LONG_IN_BLOCKS)):
-        line = f"input: proof of {length} bytes"
-        table.wanted("65,536 documents, 32 words of all: prove-both", ["prove-both", index, query, "N"], 4, line)
-    table.same("no file, and what a proof that is too long leaves,", (table.folder / "N").exists(), False)
+    query = f"{words_of('b', 21)} {words_of('f', 11)}"
+    for index, length in (("I", BOTH_TOO_LONG), ("M", BOTH_TOO_LONG_IN_BLOCKS)):
+        too_long(table, "65,536 documents, 32 words of all: prove-both", ["prove-both", index, query], length)
 
 
 def longest_texts(table: Table) -> None:
     text = "".join(f"w{word} " for word in range(1 << 18))[: corpora.MAX_TEXT]
     (table.folder / "X").write_text(json.dumps([text] * 16), encoding="utf-8")
-    root = table.wanted("16 texts of 2^20 bytes: build", ["build", "X", "I"]).lines[0]
-    best = table.wanted("16 texts of 2^20 bytes: rank", ["rank", "X", str(ROWS), "w7 w70000"], rows=16).lines
+    (root,) = table.wanted("16 texts of 2^20 bytes: build", ["build", "X", "I"])
+    best = table.wanted("16 texts of 2^20 bytes: rank", ["rank", "X", str(ROWS), "w7 w70000"], rows=16)
     answers(table, "16 texts of 2^20 bytes", "I", root, "w7 w70000", best, ("tnra", "tra"), True)
     in_blocks = migrate(table, "16 texts of 2^20 bytes")
     answers(table, "16 texts of 2^20 bytes, in blocks", "M", in_blocks, "w7 w70000", best, ("tnra", "tra"), False)
@@ -398,14 +414,15 @@ def hostile_peers(table: Table) -> None:
 
 
 def main() -> int:
-    program = os.path.abspath(sys.argv[1]) if len(sys.argv) > 1 else measure.program()
+    program = program_of([word for word in sys.argv[1:] if word != "--quick"])
     with tempfile.TemporaryDirectory() as folder:
         table = Table(program, Path(folder))
         hostile_files(table)
         hostile_peers(table)
-        most_text(table)
-        most_documents(table)
-        longest_texts(table)
+        if "--quick" not in sys.argv[1:]:
+            most_text(table)
+            most_documents(table)
+            longest_texts(table)
     print("all is as it should be" if table.wrong == 0 else f"{table.wrong} are not as they should be")
     return 1 if table.wrong else 0
 
