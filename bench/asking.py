@@ -4,24 +4,24 @@ import contextlib
 import socket
 import struct
 import subprocess
-import sys
 import threading
 import time
 from typing import Iterator, NamedTuple
+
+from measure import stop
 
 CODES = {"tra": 1, "tnra": 2}  # of the algorithms in a request
 
 HEAD = 5  # bytes of a reply before its proof: a length and a kind
 
-RUNS = 5  # of each query; the fastest counts
 LOADING = 600  # seconds after which a server must listen
 LIMIT = 120  # the longest wait in seconds
 
 
 class Reply(NamedTuple):
-    """How many bytes arrived, and the seconds from the request to the last byte and from the first byte to it."""
+    """The proof that arrived, and the seconds from the request to the last byte and from the first byte to it."""
 
-    length: int
+    proof: bytearray
     seconds: float
     sending: float
 
@@ -37,7 +37,7 @@ def receive(link: socket.socket, room: memoryview) -> int:
     while came < len(room):
         count = link.recv_into(room[came:])
         if count == 0:
-            sys.exit(f"the server ended a reply after {came} bytes of {len(room)}")
+            stop(f"the server ended a reply after {came} bytes of {len(room)}")
         came += count
     return came
 
@@ -51,26 +51,29 @@ def reply(link: socket.socket, asked: bytes) -> Reply:
     begun = time.perf_counter()
     length, kind = struct.unpack(">IB", head)
     if kind != 0:
-        sys.exit(f"the server refused {asked!r}")
-    receive(link, memoryview(bytearray(length - 1)))
+        stop(f"the server refused {asked!r}")
+    proof = bytearray(length - 1)
+    receive(link, memoryview(proof))
     end = time.perf_counter()
-    return Reply(length + 4, end - start, end - begun)
+    return Reply(proof, end - start, end - begun)
 
 
-def fastest(link: socket.socket, asked: bytes) -> Reply:
-    return min((reply(link, asked) for _ in range(RUNS)), key=lambda one: one.seconds)
+def fastest(link: socket.socket, asked: bytes, times: int) -> Reply:
+    """The fastest of some replies to the same request."""
+    return min((reply(link, asked) for _ in range(times)), key=lambda one: one.seconds)
 
 
-def free_address() -> tuple[str, int]:
-    """A loopback address at which nobody listens."""
-    with socket.socket() as free:
-        free.bind(("127.0.0.1", 0))
-        return free.getsockname()
+def free_port(host: str = "127.0.0.1") -> int:
+    """A port where nobody listens: one that the system chose just before."""
+    family = socket.AF_INET6 if ":" in host else socket.AF_INET
+    with socket.socket(family) as one:
+        one.bind((host, 0))
+        return one.getsockname()[1]
 
 
-def started(program: str, index: str, connections: int, address: tuple[str, int]) -> subprocess.Popen[str]:
+def started(program: str, index: object, connections: int, port: int) -> "subprocess.Popen[str]":
     """A server for this many connections, after it has loaded the index and listens."""
-    command = [program, "serve", index, str(connections), f"{address[0]}:{address[1]}"]
+    command = [program, "serve", str(index), str(connections), f"127.0.0.1:{port}"]
     server = subprocess.Popen(command, stdout=subprocess.PIPE, text=True)
     killer = threading.Timer(LOADING, server.kill)
     killer.start()
@@ -78,19 +81,29 @@ def started(program: str, index: str, connections: int, address: tuple[str, int]
     first = server.stdout.readline()
     killer.cancel()
     if first != "listening\n":
-        sys.exit(f"the server does not listen: {first.strip()}")
+        stop(f"the server does not listen: {first.strip()}")
     # Its later output is read, so that it never blocks on that.
     threading.Thread(target=server.stdout.read).start()
     return server
 
 
+def connected(port: int) -> socket.socket:
+    return socket.create_connection(("127.0.0.1", port), timeout=LIMIT)
+
+
+def proofs(program: str, index: object, questions: list[tuple[str, int, str]]) -> list[bytes]:
+    """The proof of each question, an algorithm with rows and a query, from one server of the index."""
+    with served(program, index) as link:
+        return [bytes(reply(link, request(*question)).proof) for question in questions]
+
+
 @contextlib.contextmanager
-def served(program: str, index: str) -> Iterator[socket.socket]:
+def served(program: str, index: object) -> Iterator[socket.socket]:
     """An open connection to a server of the index, which ends with it."""
-    address = free_address()
-    server = started(program, index, 1, address)
+    port = free_port()
+    server = started(program, index, 1, port)
     try:
-        with socket.create_connection(address, timeout=LIMIT) as link:
+        with connected(port) as link:
             yield link
         server.wait(LIMIT)
     finally:

@@ -4,6 +4,7 @@ The words follow Zipf's law: the k-th most frequent has a share of about 1/k. A 
 number of bytes gives the same file each time, on each machine.
 """
 
+import functools
 import itertools
 import json
 import random
@@ -35,6 +36,7 @@ SHAPES = {
 }
 
 
+@functools.lru_cache(maxsize=None)
 def vocabulary(size: int) -> list[str]:
     """Distinct made-up words, the most frequent first: the first hundred have one syllable."""
     onsets = ["b", "br", "c", "d", "f", "g", "h", "l", "m", "n", "p", "pl", "r", "s", "st", "t", "tr", "v"]

@@ -9,7 +9,6 @@ from typing import NamedTuple, NoReturn
 
 HOME = Path(__file__).resolve().parent.parent
 ONE_RUN = str(HOME / "bench" / "one_run.py")
-RUNS = 5
 LIMIT = 300  # seconds of one run
 MEMORY = 8 << 30  # bytes of address space of one run
 
@@ -41,14 +40,9 @@ def program() -> str:
     return str(HOME / "out" / "ats")
 
 
-def bench_program() -> str:
-    """The program that does only one kind of work, proved and built if needed, and kept in out/ too."""
-    room = HOME / "crates" / "ats_bench"
-    built = subprocess.run(["rt", "run", "--", "nodes", "0"], cwd=room, capture_output=True, text=True, check=False)
-    if built.returncode != 0:
-        stop(f"nothing is measured, since ats_bench could not be built:\n{built.stdout}{built.stderr}")
-    (HOME / "out").mkdir(exist_ok=True)
-    return shutil.copy(room / "out" / "ats_bench", HOME / "out" / "ats_bench")
+def program_of(words: list[str]) -> str:
+    """The program that the first word names, or else the one that is proved and built if needed."""
+    return str(Path(words[0]).resolve()) if words else program()
 
 
 def cases_program() -> str:
@@ -83,13 +77,12 @@ def run(command: list[str], wanted: int = 0, processors: int = 0) -> Run:
     return one
 
 
-def best(command: list[str], runs: int = RUNS) -> Run:
-    """The fastest of some runs."""
-    return min((run(command) for _ in range(runs)), key=lambda one: one.seconds)
+def least(*runs: Run) -> Run:
+    """The least of each that some runs of one command took."""
+    return Run(runs[0].status, runs[0].printed, *map(min, zip(*(one[2:] for one in runs))))
 
 
-def judge(name: str, value: float, wanted: float) -> bool:
-    """Prints whether a value is within its limit."""
-    met = value <= wanted
-    print(f"{name}: {value:.2f}, wanted at most {wanted:.2f}: {'met' if met else 'NOT MET'}")
-    return met
+def in_turns(times: int, *commands: list[str]) -> list[Run]:
+    """The least that each command took. They take turns, since the speed of a machine may change from one minute to the next."""
+    turns = [[run(command) for command in commands] for _ in range(times)]
+    return [least(*runs) for runs in zip(*turns)]

@@ -18,9 +18,9 @@ from typing import Iterator, NamedTuple
 import asking
 import corpora
 import measure
+from house import House
 
 PICTURE = measure.HOME / "docs" / "proof-sizes.svg"
-MIB = 16
 ALGORITHMS = ("tnra", "tra")
 ROWS = (1, 2, 5, 10, 20, 50, 100, 200, 500, 1000)
 # Words by their place in the order of frequency, for the best row each.
@@ -41,34 +41,24 @@ Panels = dict[str, dict[str, list[Point]]]
 
 # The proofs
 
-def lengths(program: str, index: Path, questions: list[tuple[str, int, str]]) -> list[int]:
-    """The bytes of the proof of each question, an algorithm with rows and a query, from one server of the index."""
-    with asking.served(program, str(index)) as link:
-        return [asking.reply(link, asking.request(*question)).length - asking.HEAD for question in questions]
-
-
-def documents_of(shape: corpora.Shape) -> Counter[str]:
+def documents_of(texts: list[str]) -> Counter[str]:
     """How many documents have each word."""
     found: Counter[str] = Counter()
-    for text in corpora.texts(shape, MIB * corpora.MIB):
+    for text in texts:
         found.update(set(text.split()))
     return found
 
 
-def measured(program: str, name: str, folder: Path) -> Iterator[tuple[str, list[Point]]]:
+def measured(house: House, name: str) -> Iterator[tuple[str, list[Point]]]:
     """The points of one shape, for each panel by its name."""
-    shape = corpora.SHAPES[name]
-    words, documents = corpora.vocabulary(shape.vocabulary), documents_of(shape)
+    words, documents = corpora.vocabulary(corpora.SHAPES[name].vocabulary), documents_of(house.texts(name, house.large))
     single = sorted({documents[words[k]]: words[k] for k in PLACES if k < len(words) and words[k] in documents}.items())
     query = corpora.query_of(words)
     panels = {f"{algorithm} rows": [(rows, algorithm, rows, query) for rows in ROWS] for algorithm in ALGORITHMS}
     panels |= {f"{algorithm} list": [(count, algorithm, 1, word) for count, word in single] for algorithm in ALGORITHMS}
     questions = [question[1:] for panel in panels.values() for question in panel]
-    collection, one, two = (folder / part for part in ("collection", "one", "two"))
-    corpora.write(str(collection), shape, MIB * corpora.MIB)
-    measure.run([program, "build", str(collection), str(one)])
-    measure.run([program, "migrate", str(one), str(two)])
-    found = iter(zip(lengths(program, one, questions), lengths(program, two, questions)))
+    archives = house.archive(house.large, name), house.in_blocks(house.large, name)
+    found = zip(*(map(len, asking.proofs(house.program, archive.index, questions)) for archive in archives))
     for panel, asked in panels.items():
         yield panel, [Point(question[0], *next(found)) for question in asked]
 
@@ -220,7 +210,7 @@ def formats_named(panel: Panel, end: Point) -> Iterator[str]:
 
 
 def legend() -> Iterator[str]:
-    yield text(12, 30, f"Bytes of a proof, over {MIB} MiB of text", "head")
+    yield text(12, 30, "Bytes of a proof, over 16 MiB of text", "head")
     yield line("one plain", [(14, 55), (54, 55)]) + text(64, 60, "format One")
     yield line("two plain", [(174, 55), (214, 55)]) + text(224, 60, "format Two")
     yield text(12, TOPS[0] - 42, "A query of three words, by the rows asked for:")
@@ -238,11 +228,11 @@ def drawn(panels: Panels) -> str:
 
 
 def main() -> int:
-    program = sys.argv[1] if len(sys.argv) > 1 else measure.program()
+    program = measure.program_of(sys.argv[1:])
     panels: Panels = {panel.name: {} for panel in PANELS}
     for name in corpora.SHAPES:
         with tempfile.TemporaryDirectory() as folder:
-            for panel, points in measured(program, name, Path(folder)):
+            for panel, points in measured(House(program, None, Path(folder), is_quick=False), name):
                 panels[panel][name] = points
                 tell(panel, name, points)
     PICTURE.write_text(drawn(panels), encoding="utf-8")

@@ -19,6 +19,12 @@ sys.path.insert(0, HERE)
 from ats_reader import Reader, Row, Verdict
 
 
+def proved():
+    """Proves the static library by rt, and returns its path."""
+    subprocess.run(["rt", "lib"], cwd=CRATE, check=True, stdout=subprocess.DEVNULL)
+    return os.path.join(CRATE, "out", "libats_reader.a")
+
+
 def build(archive, folder):
     """Makes `check` and `libats_reader.so` in the folder, by the lines of README.md."""
     kit = os.path.dirname(subprocess.run(["rt", "doc"], check=True, capture_output=True, text=True).stdout.strip())
@@ -120,9 +126,7 @@ def rooms(shared):
 
 
 def main(archive=None):
-    if archive is None:
-        subprocess.run(["rt", "lib"], cwd=CRATE, check=True, stdout=subprocess.DEVNULL)
-        archive = os.path.join(CRATE, "out", "libats_reader.a")
+    archive = archive or proved()
     passed, failed = {}, 0
 
     def count(name, right, about):

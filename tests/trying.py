@@ -1,9 +1,8 @@
 """What the tests share: three short texts with what the program says of them, and how a try passes or fails.
 
-What the measures have too, `corpora` and `measure`, is imported here from their folder.
+What the measures have too is imported here from their folder.
 """
 
-import socket
 import struct
 import subprocess
 import sys
@@ -14,7 +13,9 @@ HOME = Path(__file__).resolve().parent.parent
 sys.path.append(str(HOME / "bench"))
 
 import corpora  # noqa: E402, F401
-import measure  # noqa: E402
+import measure  # noqa: E402, F401
+from asking import free_port  # noqa: E402, F401
+from measure import program_of  # noqa: E402, F401
 
 TEXTS = '["red fox","red red hen","blue hen"]'
 QUERY = "red hen"
@@ -42,22 +43,9 @@ def expect(what: str, came: object, wanted: object) -> None:
         raise Differs(f"{what}: {came!r}, wanted {wanted!r}")
 
 
-def program_of(words: list[str]) -> str:
-    """The program that the first word names, or else the one that is proved and built if needed."""
-    return str(Path(words[0]).resolve()) if words else measure.program()
-
-
 def framed(body: bytes) -> bytes:
     """A frame of a request or of a reply."""
     return struct.pack(">I", len(body)) + body
-
-
-def free_port(host: str = "127.0.0.1") -> int:
-    """A port where nobody listens: one that the system chose just before."""
-    family = socket.AF_INET6 if ":" in host else socket.AF_INET
-    with socket.socket(family) as one:
-        one.bind((host, 0))
-        return one.getsockname()[1]
 
 
 def passes(house: House, says: str, one: Callable[[House], Optional[str]]) -> bool:

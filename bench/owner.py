@@ -1,0 +1,73 @@
+"""What an archive's owner runs: `rank`, `build`, `root`, which loads an index, and `migrate`."""
+
+import json
+import re
+import time
+from pathlib import Path
+from typing import Iterator
+
+import blocks
+import corpora
+import measure
+from house import Figure, House
+
+SHAPES = ("notes", "books", "lexicon")
+A_LIST = 48  # bytes of memory that an index may take more for each list in blocks
+
+
+def growth(small: measure.Run, large: measure.Run, bytes_of: "tuple[int, int]") -> float:
+    """How the time grows, over how the input does."""
+    return large.seconds / small.seconds / (bytes_of[1] / bytes_of[0])
+
+
+def seconds_of_python(path: Path) -> float:
+    """The seconds in which Python reads a collection and counts its words."""
+    start, counts = time.perf_counter(), {}
+    for text in json.loads(path.read_text(encoding="utf-8")):
+        for word in re.findall(r"\w+", text.casefold()):
+            counts[word] = counts.get(word, 0) + 1
+    return time.perf_counter() - start
+
+
+def ranking(house: House) -> Iterator[Figure]:
+    """`rank` for ten rows and three words: a frequent, a usual and a rare one."""
+    shape = corpora.SHAPES["articles"]
+    query = corpora.query_of(corpora.vocabulary(shape.vocabulary))
+    paths = [house.collection(f"articles-{mib}", house.texts("articles", mib)) for mib in (house.small, house.large)]
+    small, large = measure.in_turns(house.runs, *(house.command("rank", path, 10, query) for path in paths))
+    yield Figure("seconds", f"articles, {house.large} MiB", large.seconds)
+    yield Figure("growth", "articles", growth(small, large, tuple(path.stat().st_size for path in paths)))
+    python = min(seconds_of_python(paths[1]) for _ in range(house.loads))
+    yield Figure("over Python", "articles", large.seconds / python)
+
+
+def building(house: House) -> Iterator[Figure]:
+    """`build` and `root` over each shape; and `build` on one processor, beside hashing as many blocks as the index has."""
+    for name in SHAPES:
+        paths = [house.collection(f"{name}-{mib}", house.texts(name, mib)) for mib in (house.small, house.large)]
+        index = house.folder / f"{name}.index"
+        builds = [house.command("build", path, index) for path in paths]
+        small, large, root = measure.in_turns(house.runs, *builds, house.command("root", index))
+        yield Figure("seconds", f"{name}, {house.large} MiB", large.seconds)
+        yield Figure("growth", name, growth(small, large, tuple(path.stat().st_size for path in paths)))
+        yield Figure("root over build", name, root.seconds / large.seconds)
+        if name == "notes":
+            yield Figure("MiB held", name, large.peak / corpora.MIB)
+        count, pairs = blocks.of_index(house.texts(name, house.large)), []
+        for _ in range(house.loads):
+            pairs.append((measure.run(builds[1], processors=1).seconds, house.hashing.seconds(count)))
+        one, hashed = map(min, zip(*pairs))
+        yield Figure("one processor over hashing", f"{name}, {count:,} blocks", one / hashed)
+        yield Figure("processors", name, large.seconds / one)
+
+
+def migrating(house: House) -> Iterator[Figure]:
+    """`migrate`, and `root` over what it stores, beside `root` over the index."""
+    one, two = house.archive(house.large).index, house.in_blocks(house.large).index
+    commands = [house.command("root", one), house.command("migrate", one, two), house.command("root", two)]
+    root, migrate, in_blocks = measure.in_turns(house.runs, *commands)
+    lists = len({word for text in house.texts("notes", house.large) for word in text.split()})
+    yield Figure("over root", "notes", migrate.seconds / root.seconds)
+    yield Figure("root in blocks", "notes", in_blocks.seconds / root.seconds)
+    yield Figure("memory", "notes", migrate.peak / (root.peak + two.stat().st_size))
+    yield Figure("memory of lists", f"notes, {lists:,} lists", max(in_blocks.peak - root.peak, 0) / (A_LIST * lists))

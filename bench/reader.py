@@ -1,0 +1,139 @@
+"""What a reader runs: the check of a proof, alone by the library for C, and by the commands."""
+
+import functools
+import statistics
+import subprocess
+import sys
+import time
+from pathlib import Path
+from typing import Iterator, NamedTuple
+
+import asking
+import blocks
+import corpora
+import measure
+from house import Archive, Figure, House
+
+sys.path.append(str(measure.HOME / "reader"))
+
+import ats_reader  # noqa: E402
+import play  # noqa: E402
+
+ALGORITHMS = ("tnra", "tra")
+ROWS = 10
+LONG = 300_000  # bytes of a TRA proof whose check is mostly hashing
+
+# Words by their place in the order of frequency.
+QUERIES = {
+    "the most frequent word": (0,),
+    "the most frequent word and a rare one": (0, 9999),
+    "the eighth word and the ninth": (7, 8),
+    "the two most frequent words": (0, 1),
+    "the five most frequent words": (0, 1, 2, 3, 4),
+}
+BOTH = {**QUERIES, "thirty-two usual words": tuple(range(100, 132))}
+
+LONG_TEXTS = corpora.Shape(300_000, 20_000, "texts of 300,000 words, each cut to 1 MiB")
+FIRST = 1 << 17  # bytes of a first text that is shorter than the others; it is longer than a pipe holds
+
+
+class Proof(NamedTuple):
+    """The bytes of a proof, and the root, the number of rows and the query that it is for."""
+
+    bytes: bytes
+    root: str
+    rows: int
+    query: str
+
+
+def proofs(house: House, archive: Archive, questions: list[tuple[str, str]]) -> list[Proof]:
+    """The proofs of questions, each the name of a query and an algorithm, from a server of the archive."""
+    asked = [(algorithm, ROWS, house.query(*QUERIES[name])) for name, algorithm in questions]
+    found = zip(asking.proofs(house.program, archive.index, asked), asked)
+    return [Proof(proof, archive.root, rows, query) for proof, (_, rows, query) in found]
+
+
+@functools.lru_cache(maxsize=None)
+def library(house: House) -> ats_reader.Reader:
+    """The library for C, from its archive or else proved."""
+    return ats_reader.Reader(play.build(house.library or play.proved(), house.folder)[1])
+
+
+def seconds_of(reader: ats_reader.Reader, one: Proof) -> float:
+    """The seconds of one check, which accepts."""
+    root, start = bytes.fromhex(one.root), time.perf_counter()
+    answer = reader.check(one.bytes, root, one.query, one.rows)
+    seconds = time.perf_counter() - start
+    if answer.status != 0:
+        measure.stop(f"the library does not accept a proof of {one.query!r}: {answer.line}")
+    return seconds
+
+
+def times_of(one: Proof, is_quick: bool) -> int:
+    """How often a proof is checked: short ones more often."""
+    return 2 if is_quick else 20 if len(one.bytes) > LONG else 60
+
+
+def checking(house: House) -> Iterator[Figure]:
+    """Many checks in one process, in turns with hashing as many blocks, and with checks of the same question in format Two."""
+    reader, questions = library(house), [(name, algorithm) for name in QUERIES for algorithm in ALGORITHMS]
+    plain, in_blocks = (proofs(house, archive, questions) for archive in (house.archive(house.large), house.in_blocks(house.large)))
+    for (name, algorithm), one, two in zip(questions, plain, in_blocks):
+        count, turns = blocks.of_check(one.bytes), []
+        for _ in range(times_of(one, house.runs == 1)):
+            turns.append((seconds_of(reader, one), house.hashing.seconds(count), seconds_of(reader, two)))
+        check, hashed, other = map(min, zip(*turns))
+        of = f"{name}, {algorithm}, {len(one.bytes):,} bytes"
+        yield Figure("ms", of, check * 1e3)
+        yield Figure("median ms", of, statistics.median(turn[0] for turn in turns) * 1e3)
+        is_long = algorithm == "tra" and len(one.bytes) >= LONG
+        yield Figure("long over hashing" if is_long else "over hashing", of, check / hashed)
+        yield Figure("in blocks", of, other / check)
+
+
+def checking_both(house: House) -> Iterator[Figure]:
+    """`both`, beside `verify` of the same proof, which refuses it as `not-settled` after all that it shows was checked."""
+    for archive, format in ((house.archive(house.large), "One"), (house.in_blocks(house.large), "Two")):
+        for name, places in BOTH.items():
+            path, query = house.folder / "both", house.query(*places)
+            house.run("prove-both", archive.index, query, path)
+            pairs = []
+            for _ in range(house.runs):
+                both = measure.run(house.command("both", archive.root, query, path))
+                pairs.append((both.seconds, measure.run(house.command("verify", archive.root, 1, query, path), wanted=1).seconds))
+            both, verify = map(min, zip(*pairs))
+            of = f"{name}, {format}, {path.stat().st_size:,} bytes"
+            yield Figure("ms", of, both * 1e3)
+            yield Figure("over verify", of, both / verify)
+
+
+def peak_of(command: list[str]) -> int:
+    """The most bytes of memory that a run held until it printed more than a pipe holds.
+
+    Even the small process that starts other runs holds more than `fetch`. So the peak is read while the run waits for its
+    text to be taken.
+    """
+    with subprocess.Popen(command, stdout=subprocess.PIPE) as process:
+        assert process.stdout is not None
+        process.stdout.read(1)
+        status = Path(f"/proc/{process.pid}/status").read_text(encoding="ascii")
+        process.stdout.read()
+    return next(int(line.split()[1]) for line in status.splitlines() if line.startswith("VmHWM:")) * 1024
+
+
+def fetching(house: House) -> Iterator[Figure]:
+    """`fetch` of a text of 1 MiB, and of one of 128 KiB: what the process takes by itself cancels out."""
+    endless = corpora.texts(LONG_TEXTS, 2 * corpora.MAX_TEXTS)
+    long = next(endless)[: corpora.MAX_TEXT]
+    archive = house.built("long", [long[:FIRST], long])
+    files = [house.folder / f"text-{doc}" for doc in (0, 1)]
+    for doc, path in enumerate(files):
+        house.run("give", archive.index, doc, path)
+    commands = [house.command("fetch", archive.root, doc, path) for doc, path in enumerate(files)]
+    short, whole = measure.in_turns(4 * house.runs, *commands)
+    count = blocks.of_string(1 + len(long)) - blocks.of_string(1 + FIRST)
+    hashed = min(house.hashing.seconds(count) for _ in range(4 * house.runs))
+    yield Figure("ms", "a text of 1 MiB", whole.seconds * 1e3)
+    yield Figure("over hashing", "a text of 1 MiB, without one of 128 KiB", (whole.processor - short.processor) / hashed)
+    bytes_more = files[1].stat().st_size - files[0].stat().st_size
+    yield Figure("memory", "a text of 1 MiB, without one of 128 KiB", (peak_of(commands[1]) - peak_of(commands[0])) / bytes_more)
