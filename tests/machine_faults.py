@@ -10,6 +10,8 @@ status 0 if all is. As root it mounts a small disk in memory and runs as nobody 
 it cannot try.
 """
 
+import collections
+import itertools
 import os
 import random
 import resource
@@ -21,7 +23,7 @@ import tempfile
 import threading
 import time
 from pathlib import Path
-from typing import Callable, NamedTuple, Optional
+from typing import Callable, Iterator, NamedTuple, Optional
 
 import faults
 import tracing
@@ -132,23 +134,11 @@ def refused_prefix(house: House, path: Path, what: str, is_index: bool) -> None:
         expect(f"verify of {what}", (done.status, done.printed.startswith("refused: shape cut ")), (1, True))
 
 
+# The words of the commands that use no link and no list. Those that store do so in N.
 COMMANDS = [
-    (["rank", "X", "1", QUERY], ROW),
-    (["build", "X", "N"], ROOT + "\n"),
-    (["root", "I"], ROOT + "\n"),
-    (["prove", "I", "tnra", "1", QUERY, "N"], "proof 365\n"),
-    (["verify", ROOT, "1", QUERY, "P"], ROW),
-    (["audit", "I", "1", QUERY, "P"], ROW),
-    (["migrate", "I", "N"], ROOT_IN_BLOCKS + "\n"),
-    (["give", "I", "1", "N"], "text 190\n"),
-    (["fetch", ROOT, "1", "T"], "red red hen\n"),
-    (["audit-fetch", "I", "1", "T"], "red red hen\n"),
-    (["prove-both", "I", QUERY, "N"], "both 645\n"),
-    (["both", ROOT, QUERY, "B"], "1\n"),
-    (["audit-both", "I", QUERY, "B"], "1\n"),
-    (["grow", "I", "J", "N"], "growth 313\n"),
-    (["growth", ROOT, MORE_ROOT, "G"], "grown 3 4\n"),
-    (["audit-growth", "I", "J", "G"], "grown 3 4\n"),
+    ["N" if word == command.stores else word for word in command.words]
+    for command in faults.COMMANDS
+    if command.name not in ("ask", "serve", "sweep") and command.words[1] != "M"
 ]
 
 # The commands that store, each over a large file and over a small one.
@@ -158,7 +148,7 @@ SMALL_STORES = [["build", "X"], ["migrate", "I"], ["prove", "I", "tnra", "1", QU
 
 def every_command(house: House, wanted: Done, **how: object) -> str:
     """Each command ends like this, and those that store have stored the whole file."""
-    for words, _ in COMMANDS:
+    for words in COMMANDS:
         new = house.folder / "N"
         new.unlink(missing_ok=True)
         done = run(house, *words, **how)
@@ -357,16 +347,39 @@ def devices(house: House) -> str:
     return "/dev/null is an empty file, /dev/zero one that is too long, /dev/full a full disk"
 
 
+CHANGES: dict[str, Callable[[Path, bytes], object]] = {
+    "cut": lambda path, whole: os.truncate(path, len(whole) // 2),
+    "emptied": lambda path, whole: os.truncate(path, 0),
+    "taken away": lambda path, whole: path.unlink(missing_ok=True),
+    "longer": lambda path, whole: path.write_bytes(whole + b" "),
+}
+
+
+def fits_what_was_read(ended: tracing.Ended, answer: str) -> bool:
+    printed = ended.printed.decode()
+    return {
+        0: printed == answer,
+        1: printed.startswith("refused: shape "),
+        3: printed == "fault: shelf\n",
+        4: printed == "input: not json\n" or printed.startswith("input: index at "),
+    }.get(ended.status, False)
+
+
+def changed(house: House, words: list[str], whole: bytes, kind: str, pieces: bool) -> Iterator[tracing.Ended]:
+    """The runs over the file C that is changed before one of their calls: before each, or in pieces before some."""
+    path = house.folder / "C"
+    for call in range(1, 1 << 20, STEP if pieces else 1):
+        path.write_bytes(whole)
+        plan = tracing.Plan(call=call, pieces=pieces, act=lambda: CHANGES[kind](path, whole))
+        ended = tracing.run([house.program, *words], plan, str(house.folder))
+        if not ended.failed:
+            return
+        yield ended
+
+
 def changes(house: House) -> str:
-    """The file that is read is cut, emptied, removed or extended before the program's calls in turn: before each, and in
-    pieces of one byte before some."""
-    path, counts = house.folder / "C", {}
-    kinds: dict[str, Callable[[bytes], None]] = {
-        "cut": lambda whole: os.truncate(path, len(whole) // 2),
-        "emptied": lambda whole: os.truncate(path, 0),
-        "taken away": lambda whole: path.unlink(missing_ok=True),
-        "longer": lambda whole: path.write_bytes(whole + b" "),
-    }
+    """The file that is read is cut, emptied, removed or extended before the program's calls in turn."""
+    counts: collections.Counter[int] = collections.Counter()
     for words, whole, answer in (
         (["rank", "C", "1", QUERY], TEXTS.encode(), ROW),
         (["root", "C"], house.index, ROOT + "\n"),
@@ -376,23 +389,10 @@ def changes(house: House) -> str:
         (["both", ROOT, QUERY, "C"], house.both, "1\n"),
         (["audit-growth", "I", "J", "C"], house.growth, "grown 3 4\n"),
     ):
-        for kind, change in kinds.items():
-            for pieces in (False, True):
-                for call in range(1, 1 << 20, STEP if pieces else 1):
-                    path.write_bytes(whole)
-                    plan = tracing.Plan(call=call, pieces=pieces, act=lambda: change(whole))
-                    ended = tracing.run([house.program, *words], plan, str(house.folder))
-                    if not ended.failed:
-                        break
-                    printed = ended.printed.decode()
-                    fits = {
-                        0: printed == answer,
-                        1: printed.startswith("refused: shape "),
-                        3: printed == "fault: shelf\n",
-                        4: printed == "input: not json\n" or printed.startswith("input: index at "),
-                    }
-                    expect(f"{words[0]} of a file {kind} before call {call}, {ended}", fits.get(ended.status or 0, False), True)
-                    counts[ended.status] = counts.get(ended.status, 0) + 1
+        for kind, pieces in itertools.product(CHANGES, (False, True)):
+            for ended in changed(house, words, whole, kind, pieces):
+                expect(f"{words[0]} of a file {kind}, {ended}", fits_what_was_read(ended, answer), True)
+                counts[ended.status] += 1
     for name in ("C", "N"):
         (house.folder / name).unlink(missing_ok=True)
     told = ", ".join(f"{count} with status {status}" for status, count in sorted(counts.items()))
@@ -425,10 +425,24 @@ def wait_for_store(path: Path, process: "subprocess.Popen[bytes]") -> None:
         time.sleep(0.0001)
 
 
+def killed_while_storing(house: House, words: list[str], seconds: Optional[float], rng: random.Random) -> tuple[str, str]:
+    """Ends a command within these seconds, or just after the store began. Returns what it printed, and what it left."""
+    path = house.folder / "N"
+    path.write_bytes(BEFORE)
+    process = subprocess.Popen([house.program, *words, "N"], stdout=subprocess.PIPE, cwd=house.folder)
+    if seconds is None:
+        wait_for_store(path, process)
+    time.sleep(rng.uniform(0, 0.002 if seconds is None else seconds))
+    process.kill()
+    printed = process.communicate()[0].decode()
+    return printed, left(path, house.stored(words), BEFORE)
+
+
 def killed_at_random(house: House) -> str:
     """`kill -9` at random times of `build` and `migrate` over a larger index, in turn: a third within the whole run, the
     others just after the store began."""
-    path, found, rng, whole_runs = house.folder / "N", {}, random.Random(corpora.SEED), []
+    path, rng, whole_runs = house.folder / "N", random.Random(corpora.SEED), []
+    found: collections.Counter[str] = collections.Counter()
     for words in STORES[:2]:
         path.unlink(missing_ok=True)
         start = time.monotonic()
@@ -436,25 +450,15 @@ def killed_at_random(house: House) -> str:
         whole_runs.append((words, root, time.monotonic() - start))
     for turn in range(KILLS):
         words, root, seconds = whole_runs[turn % 2]
-        path.write_bytes(BEFORE)
-        process = subprocess.Popen([house.program, *words, "N"], stdout=subprocess.PIPE, cwd=house.folder)
-        if turn % 3 == 0:
-            time.sleep(rng.uniform(0, seconds))
-        else:
-            wait_for_store(path, process)
-            time.sleep(rng.uniform(0, 0.002))
-        process.kill()
-        printed = process.communicate()[0].decode()
-        what = left(path, house.stored(words), BEFORE)
+        printed, what = killed_while_storing(house, words, None if turn % 3 else seconds, rng)
         if what.startswith(("a prefix", "an empty")):
             refused_prefix(house, path, what, True)
         elif what == "the whole file":
             expect("root of the whole", run(house, "root", "N"), Done(0, root))
         if printed:
-            expect("what is left where the root was printed", (printed, what), (root, "the whole file"))
-        kind = " ".join(what.split()[:2])
-        found[kind] = found.get(kind, 0) + 1
-    return f"{KILLS} runs leave {found}; each prefix is refused"
+            expect("what is left after the root was printed", (printed, what), (root, "the whole file"))
+        found[" ".join(what.split()[:2])] += 1
+    return f"{KILLS} runs leave {dict(found)}; each prefix is refused"
 
 
 TRIES: list[tuple[str, Callable[[House], str]]] = [
