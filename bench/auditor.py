@@ -43,7 +43,7 @@ def sweeping(house: House) -> Iterator[Figure]:
     """`sweep` of many times the same proof, without loading: on four processors and on one, and beside the check alone."""
     mib = min(SWEPT_MIB, house.large)
     archive, path, listed = house.archive(mib), house.folder / "swept", house.folder / "list"
-    (one,) = reader.proofs(house, archive, [(PROVED, "tra")])
+    (one,) = reader.proofs(house, archive, [(PROVED, "tra", ROWS)])
     path.write_bytes(one.bytes)
     listed.write_text(f"{ROWS} {path} {one.query}\n" * house.many, encoding="utf-8")
     commands = [house.command("root", archive.index), house.command("sweep", archive.index, listed)]
@@ -57,5 +57,5 @@ def sweeping(house: House) -> Iterator[Figure]:
     if len(os.sched_getaffinity(0)) >= PROCESSORS:
         yield Figure("processors", of, seconds[PROCESSORS] / seconds[1])
     library = reader.library(house)
-    check = min(reader.seconds_of(library, one) for _ in range(reader.times_of(one, house.runs == 1)))
+    check = min(reader.seconds_of(library, one) for _ in range(reader.times_of(house, one)))
     yield Figure("over checks", of, seconds[1] / house.many / check)

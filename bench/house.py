@@ -29,7 +29,7 @@ class House:
     """The program with a folder for its files. Sizes of texts are in MiB; the small one is a quarter of the large one."""
 
     def __init__(self, program: str, library: Optional[str], folder: Path, is_quick: bool):
-        self.program, self.library, self.folder = program, library, folder
+        self.program, self.library, self.folder, self.is_quick = program, library, folder, is_quick
         self.small, self.large = (0.25, 1) if is_quick else (4, 16)
         self.runs = 1 if is_quick else 5
         self.loads = 1 if is_quick else 3  # of commands that load an index, which take seconds

@@ -68,9 +68,9 @@ def ended(process: "subprocess.Popen[str]") -> Run:
     return Run(int(status), printed, float(seconds), float(processor), int(peak))
 
 
-def run(command: list[str], wanted: int = 0, processors: int = 0) -> Run:
+def run(command: list[str], wanted: int = 0, memory: int = MEMORY, processors: int = 0) -> Run:
     """One run, which must end with the wanted status."""
-    one = ended(started(command, Path(os.curdir), processors=processors))
+    one = ended(started(command, Path(os.curdir), memory=memory, processors=processors))
     if one.status != wanted:
         late = f" after the {LIMIT} seconds that it may take" if one.seconds >= LIMIT else ""
         stop(f"{command[:2]} ended with status {one.status}{late}, and not with {wanted}: {one.printed.strip()[-500:]}")

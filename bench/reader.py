@@ -1,6 +1,7 @@
 """What a reader runs: the check of a proof, alone by the library for C, and by the commands."""
 
 import functools
+import shutil
 import statistics
 import subprocess
 import sys
@@ -31,6 +32,8 @@ QUERIES = {
     "the two most frequent words": (0, 1),
     "the five most frequent words": (0, 1, 2, 3, 4),
 }
+IN_PAGE = [("the two most frequent words", "tnra", ROWS), ("the most frequent word", "tra", 1000)]
+NODE = 1 << 40  # bytes of address space: Node reserves far more than it uses
 BOTH = {**QUERIES, "thirty-two usual words": tuple(range(100, 132))}
 
 LONG_TEXTS = corpora.Shape(300_000, 20_000, "texts of 300,000 words, each cut to 1 MiB")
@@ -46,9 +49,9 @@ class Proof(NamedTuple):
     query: str
 
 
-def proofs(house: House, archive: Archive, questions: list[tuple[str, str]]) -> list[Proof]:
-    """The proofs of questions, each the name of a query and an algorithm, from a server of the archive."""
-    asked = [(algorithm, ROWS, house.query(*QUERIES[name])) for name, algorithm in questions]
+def proofs(house: House, archive: Archive, questions: list[tuple[str, str, int]]) -> list[Proof]:
+    """The proofs of questions, each the name of a query, an algorithm and rows, from a server of the archive."""
+    asked = [(algorithm, rows, house.query(*QUERIES[name])) for name, algorithm, rows in questions]
     found = zip(asking.proofs(house.program, archive.index, asked), asked)
     return [Proof(proof, archive.root, rows, query) for proof, (_, rows, query) in found]
 
@@ -69,18 +72,18 @@ def seconds_of(reader: ats_reader.Reader, one: Proof) -> float:
     return seconds
 
 
-def times_of(one: Proof, is_quick: bool) -> int:
+def times_of(house: House, one: Proof) -> int:
     """How often a proof is checked: short ones more often."""
-    return 2 if is_quick else 20 if len(one.bytes) > LONG else 60
+    return 2 if house.is_quick else 20 if len(one.bytes) > LONG else 60
 
 
 def checking(house: House) -> Iterator[Figure]:
     """Many checks in one process, in turns with hashing as many blocks, and with checks of the same question in format Two."""
-    reader, questions = library(house), [(name, algorithm) for name in QUERIES for algorithm in ALGORITHMS]
+    reader, questions = library(house), [(name, algorithm, ROWS) for name in QUERIES for algorithm in ALGORITHMS]
     plain, in_blocks = (proofs(house, archive, questions) for archive in (house.archive(house.large), house.in_blocks(house.large)))
-    for (name, algorithm), one, two in zip(questions, plain, in_blocks):
+    for (name, algorithm, _), one, two in zip(questions, plain, in_blocks):
         count, turns = blocks.of_check(one.bytes), []
-        for _ in range(times_of(one, house.runs == 1)):
+        for _ in range(times_of(house, one)):
             turns.append((seconds_of(reader, one), house.hashing.seconds(count), seconds_of(reader, two)))
         check, hashed, other = map(min, zip(*turns))
         of = f"{name}, {algorithm}, {len(one.bytes):,} bytes"
@@ -89,6 +92,26 @@ def checking(house: House) -> Iterator[Figure]:
         is_long = algorithm == "tra" and len(one.bytes) >= LONG
         yield Figure("long over hashing" if is_long else "over hashing", of, check / hashed)
         yield Figure("in blocks", of, other / check)
+
+
+def checking_in_page(house: House) -> Iterator[Figure]:
+    """Many checks by the module of the page, in Node, beside those by the library."""
+    made, node = measure.HOME / "page" / "out", shutil.which("node")
+    if node is None or not (made / "page.wasm").exists():
+        print("the page is not measured: it takes Node, and what page/make.sh makes")
+        return
+    reader, path = library(house), house.folder / "proof"
+    for (name, algorithm, rows), one in zip(IN_PAGE, proofs(house, house.archive(house.large), IN_PAGE)):
+        path.write_bytes(one.bytes)
+        times = times_of(house, one)
+        words = ["--experimental-wasm-memory64", measure.HOME / "page" / "times.mjs", made, one.root, rows, one.query, path, times]
+        page = [float(line) for line in measure.run([node, *map(str, words)], memory=NODE).printed.splitlines()]
+        native = [seconds_of(reader, one) * 1e3 for _ in range(times)]
+        of = f"{name}, {algorithm}, {rows} rows, {len(one.bytes):,} bytes"
+        for figure, found in (("library ms", native), ("page ms", page)):
+            yield Figure(figure, f"{of}, fastest", min(found))
+            yield Figure(figure, f"{of}, median", statistics.median(found))
+        yield Figure("over library", of, min(page) / min(native))
 
 
 def checking_both(house: House) -> Iterator[Figure]:

@@ -1,0 +1,16 @@
+// Checks one proof many times as the page does, in Node, and prints the milliseconds of each check:
+// node --experimental-wasm-memory64 page/times.mjs page/out ROOT R QUERY PROOF TIMES
+import { readFileSync } from 'node:fs';
+import { bytesOf, checker, compile } from './check.mjs';
+
+const [folder, root, r, query, proof, times] = process.argv.slice(2);
+const it = await checker(await compile(readFileSync(`${folder}/page.wasm`)));
+const bytes = readFileSync(proof);
+for (let i = 0; i < Number(times); i++) {
+  const { status, line, ms } = it.check(bytes, bytesOf(root), query, Number(r));
+  if (status !== 0) {
+    console.log(line);
+    process.exit(status);
+  }
+  console.log(ms);
+}
