@@ -1,16 +1,14 @@
 """What is run by whoever holds an index: commands that load it, and a sweep of many proofs."""
 
-import os
 from typing import Iterator
 
 import measure
 import reader
-from house import Figure, House
+from house import PROCESSORS, Figure, House
 
 ROWS = reader.ROWS
 PROVED = "the eighth word and the ninth"
 SWEPT_MIB = 4  # 1,000 TRA proofs of that query over so many texts are within the limit of a sweep
-PROCESSORS = 4
 
 
 def loading(house: House) -> Iterator[Figure]:
@@ -54,7 +52,7 @@ def sweeping(house: House) -> Iterator[Figure]:
         seconds[processors] = swept - loaded
     of = f"{house.many} proofs of {len(one.bytes):,} bytes"
     yield Figure("seconds", f"{of}, {PROCESSORS} processors", seconds[PROCESSORS])
-    if len(os.sched_getaffinity(0)) >= PROCESSORS:
+    if house.has_four:
         yield Figure("processors", of, seconds[PROCESSORS] / seconds[1])
     library = reader.library(house)
     check = min(reader.seconds_of(library, one) for _ in range(reader.times_of(house, one)))

@@ -2,12 +2,16 @@
 
 import functools
 import json
+import os
 from pathlib import Path
 from typing import NamedTuple, Optional
 
 import corpora
 import measure
 from blocks import Hashing
+
+
+PROCESSORS = 4  # with fewer, nothing is said of several
 
 
 class Figure(NamedTuple):
@@ -33,6 +37,7 @@ class House:
         self.small, self.large = (0.25, 1) if is_quick else (4, 16)
         self.runs = 1 if is_quick else 5
         self.loads = 1 if is_quick else 3  # of commands that load an index, which take seconds
+        self.has_four = len(os.sched_getaffinity(0)) >= PROCESSORS
         self.many = 50 if is_quick else 1000  # connections, and proofs of a sweep
 
     def command(self, *words: object) -> list[str]:

@@ -15,9 +15,10 @@ SHAPES = ("notes", "books", "lexicon")
 A_LIST = 48  # bytes of memory that an index may take more for each list in blocks
 
 
-def growth(small: measure.Run, large: measure.Run, bytes_of: "tuple[int, int]") -> float:
-    """How the time grows, over how the input does."""
-    return large.seconds / small.seconds / (bytes_of[1] / bytes_of[0])
+def growth(small: measure.Run, large: measure.Run, paths: list[Path]) -> float:
+    """How the time grows, over how the files do."""
+    before, after = (path.stat().st_size for path in paths)
+    return large.seconds / small.seconds / (after / before)
 
 
 def seconds_of_python(path: Path) -> float:
@@ -36,29 +37,35 @@ def ranking(house: House) -> Iterator[Figure]:
     paths = [house.collection(f"articles-{mib}", house.texts("articles", mib)) for mib in (house.small, house.large)]
     small, large = measure.in_turns(house.runs, *(house.command("rank", path, 10, query) for path in paths))
     yield Figure("seconds", f"articles, {house.large} MiB", large.seconds)
-    yield Figure("growth", "articles", growth(small, large, tuple(path.stat().st_size for path in paths)))
+    yield Figure("growth", "articles", growth(small, large, paths))
     python = min(seconds_of_python(paths[1]) for _ in range(house.loads))
     yield Figure("over Python", "articles", large.seconds / python)
 
 
 def building(house: House) -> Iterator[Figure]:
-    """`build` and `root` over each shape; and `build` on one processor, beside hashing as many blocks as the index has."""
+    """`build`, and `root`, over each shape."""
     for name in SHAPES:
         paths = [house.collection(f"{name}-{mib}", house.texts(name, mib)) for mib in (house.small, house.large)]
         index = house.folder / f"{name}.index"
         builds = [house.command("build", path, index) for path in paths]
         small, large, root = measure.in_turns(house.runs, *builds, house.command("root", index))
         yield Figure("seconds", f"{name}, {house.large} MiB", large.seconds)
-        yield Figure("growth", name, growth(small, large, tuple(path.stat().st_size for path in paths)))
+        yield Figure("growth", name, growth(small, large, paths))
         yield Figure("root over build", name, root.seconds / large.seconds)
         if name == "notes":
             yield Figure("MiB held", name, large.peak / corpora.MIB)
-        count, pairs = blocks.of_index(house.texts(name, house.large)), []
-        for _ in range(house.loads):
-            pairs.append((measure.run(builds[1], processors=1).seconds, house.hashing.seconds(count)))
-        one, hashed = map(min, zip(*pairs))
-        yield Figure("one processor over hashing", f"{name}, {count:,} blocks", one / hashed)
-        yield Figure("processors", name, large.seconds / one)
+        yield from by_one_processor(house, name, builds[1], large)
+
+
+def by_one_processor(house: House, name: str, build: list[str], by_all: measure.Run) -> Iterator[Figure]:
+    """The same build on one processor, in turns with hashing as many blocks as the index has."""
+    count, turns = blocks.of_index(house.texts(name, house.large)), []
+    for _ in range(house.loads):
+        turns.append((measure.run(build, processors=1).seconds, house.hashing.seconds(count)))
+    one, hashed = map(min, zip(*turns))
+    yield Figure("one processor over hashing", f"{name}, {count:,} blocks", one / hashed)
+    if house.has_four:
+        yield Figure("processors", name, by_all.seconds / one)
 
 
 def migrating(house: House) -> Iterator[Figure]:

@@ -57,7 +57,7 @@ TABLE = {
     "build.root over build": Row("`root`, which loads the index", "`build`", 1.1),
     "build.MiB held": Row("the most memory of `build`", "", 512),
     "build.one processor over hashing": Row("`build` on one processor", "hashing as many blocks as its trees have", 2.0),
-    "build.processors": Row("`build` on four processors", "the same on one", 0.45),
+    "build.processors": Row("`build` on all processors, if there are four", "the same on one", 0.45),
     "migrate.over root": Row("`migrate`", "`root` of the same index", 2.3),
     "migrate.root in blocks": Row("`root` of the migrated index", "`root` of the index", 1.1),
     "migrate.memory": Row("the most memory of `migrate`", "that of `root` and the bytes stored", 1.0),

@@ -170,7 +170,7 @@ def main():
     times = run.times()
     chain.TIMES.parent.mkdir(exist_ok=True)
     chain.TIMES.write_text(json.dumps(times), encoding="utf-8")
-    print(f"\n{clock / 60:.1f} minutes by the clock on {len(os.sched_getaffinity(0))} processors")
+    print(f"\n{clock:.0f} seconds by the clock, {clock / 60:.1f} minutes, on {len(os.sched_getaffinity(0))} processors")
     show(times, missed)
     chain.show({crate: kinds["proof"][:2] for crate, kinds in times.items() if "proof" in kinds})
     return status
