@@ -1,5 +1,5 @@
 #!/bin/bash
-# Makes the page in page/out: proves crates/ats_reader by rt, compiles what was proved for the browser, and pins every
+# Makes the page in page/out: proves crates/ats_reader by ./prove, compiles what was proved for the browser, and pins every
 # file of the page by its SHA-256. README.md says what of this is proved, and what is trusted.
 set -eu
 here=$(dirname "$(readlink -f "$0")")
@@ -14,10 +14,6 @@ calls='rattle_(alloc|realloc|dealloc)|llvm\.(memset|memmove|memcpy|cttz|ctlz|ctp
 # LLVM's own description of memory in wasm64; pointers and whole numbers have the sizes of x86-64.
 layout='e-m:e-p:64:64-p10:8:8-p20:8:8-i64:64-i128:128-n32:64-S128-ni:1:10:20'
 wasm='--target=wasm64-unknown-unknown -mcpu=lime1 -ffunction-sections -fdata-sections --no-default-config -fintegrated-cc1 -Werror'
-
-prove() {
-    (cd "$top/crates/ats_reader" && rt lib) >"$work/rt.log" 2>&1 || { cat "$work/rt.log" >&2; return 1; }
-}
 
 # A copy of the kit's toolchain, in which clang also keeps the module of LLVM that it is given.
 keeping_toolchain() {
@@ -73,7 +69,7 @@ compile() {
         -o "$work/page.wasm" "$work/heap.o" "$work/page.o"
 }
 
-prove
+"$top/prove" ats_reader
 lower
 only_known_calls
 compile

@@ -1,7 +1,7 @@
 #!/usr/bin/env python3
 """Builds the two callers, and plays all vectors for proofs with each. Prints how many passed and failed.
 
-python3 reader/play.py              proves the static library by rt, builds it and plays
+python3 reader/play.py              proves the static library by ./prove, builds it and plays
 python3 reader/play.py ARCHIVE.a    takes a static library that is built already
 """
 import ctypes
@@ -20,8 +20,9 @@ from ats_reader import Reader, Row, Verdict
 
 
 def proved():
-    """Proves the static library by rt, and returns its path."""
-    subprocess.run(["rt", "lib"], cwd=CRATE, check=True, stdout=subprocess.DEVNULL)
+    """Proves the static library by ./prove, and returns its path."""
+    if subprocess.run([os.path.join(TOP, "prove"), "ats_reader"]).returncode:
+        sys.exit("there is no library to call: ./prove says above why it could not be built")
     return os.path.join(CRATE, "out", "libats_reader.a")
 
 
