@@ -12,9 +12,6 @@ ONE_RUN = str(HOME / "bench" / "one_run.py")
 LIMIT = 300  # seconds of one run
 MEMORY = 8 << 30  # bytes of address space of one run
 
-# The launcher's statuses if there is no program to run.
-NOT_BUILT = (126, 127)
-
 
 class Run(NamedTuple):
     """How a run ended (below 0: by that signal), what it printed, and what it took."""
@@ -33,10 +30,9 @@ def stop(why: str) -> NoReturn:
 
 
 def program() -> str:
-    """The program, which the launcher proves and builds if needed, and keeps in out/."""
-    status = subprocess.run([HOME / "ats"], stdout=subprocess.DEVNULL, check=False).returncode
-    if status in NOT_BUILT:
-        stop("there is no program to run: ./ats says above why it could not be built. Or name a program")
+    """The program, which ./prove proves and builds if needed, and keeps in out/."""
+    if subprocess.run([HOME / "prove"], check=False).returncode:
+        stop("there is no program to run: ./prove says above why it could not be built. Or name a program")
     return str(HOME / "out" / "ats")
 
 

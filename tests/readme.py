@@ -4,8 +4,8 @@ usage: python3 tests/readme.py PROGRAM
 
 PROGRAM is the program, as ./ats. The lines run in a folder of their own, with the examples beside them. FOLDER is a
 folder of three texts, and the two lines over TCP run side by side. A line passes if it prints what stands below it, and
-ends with status 1 if that is a refusal, else with 0. The lines that begin with `rt` are the gate and a build without
-proof: they are left out, and named. Ends with status 0 if no line failed.
+ends with status 1 if that is a refusal, else with 0. The gate (`rt ci`) is left out, and named. Ends with status 0 if no
+line failed.
 """
 
 import re
@@ -69,7 +69,7 @@ class Session:
         return type_in([*self.variables, typed.replace("FOLDER", "folder")], self.folder)
 
     def try_line(self, line: Line) -> None:
-        if re.match(r"rt ci|cd .* && rt try", line.typed):
+        if line.typed == "rt ci":
             print(f"left out: {line.typed}")
             return
         ended = self.run(line.typed)

@@ -1,6 +1,6 @@
 #!/usr/bin/env python3
 """Makes the files of this folder, and the cases of them that the gate plays: `vectors/make.py [PROGRAM]`, where PROGRAM
-is `./ats` at the top if it is not given.
+is `./ats` at the top if it is not given. If that is a build without proof, its first call says so.
 
 Roots and honest proofs of both formats come from the program. The roots, and the proofs of format Two, must be those
 that this script makes itself. The changes of honest proofs, and the trees that no archive has, are made here. The
@@ -39,9 +39,11 @@ class Program:
     def __init__(self, path, folder):
         self.path = str(path)
         self.folder = Path(folder)
+        self.errors = None
 
     def run(self, *words):
-        done = subprocess.run([self.path, *words], cwd=self.folder, stdout=subprocess.PIPE, check=False)
+        done = subprocess.run([self.path, *words], cwd=self.folder, stdout=subprocess.PIPE, stderr=self.errors, check=False)
+        self.errors = subprocess.DEVNULL  # ./ats says at each call that its build is not proved, and once is enough
         return done.returncode, done.stdout.decode()
 
     def done(self, *words):
