@@ -55,7 +55,7 @@ take_lock() {
     trap 'exit 129' HUP
     trap 'exit 130' INT
     trap 'exit 143' TERM
-    mkdir -p "$kept" && mkdir "$room" && : >"$room/owner-$$" || stop 126 "cannot write to $kept"
+    mkdir -p "$kept" && rm -rf "$room" && mkdir "$room" && : >"$room/owner-$$" || stop 126 "cannot write to $kept"
     until mv -T "$room" "$lock" 2>/dev/null || take_over; do
         [ -n "$waiting" ] || say "waiting: another launch is building, and holds $lock"
         waiting=yes
