@@ -2,14 +2,20 @@
 """Puts titles into an answer: reads rows `RANK DOC LOWER UPPER` from standard input, as `rank`, `verify` and `ask` print
 them, and prints `RANK TITLE LOWER UPPER`, parted by tabs.
 
-The title is the member `title` of the collection's item number DOC, or `document DOC` if it has none. Nothing is proved
-of titles: a root commits to texts only, so they are as good as the collection file that they are read from. Python 3.9
-and its standard library are all that this script needs.
+The title is the member `title` of the collection's item number DOC, or `document DOC` if it has none. A root commits to
+texts only, so such a title is as good as the collection file that it is read from. With --title-line the title is the
+first line of the item's text: the root binds it, if the collection has that root and was made with this option. The
+owner's publication then has the line `titles: first-line`. Nothing is proved of this script. Python 3.9 and its standard
+library are all that it needs.
+
+    ./ats verify $ROOT 3 "blood count" answer.proof | titles.py mine.json
 """
-import argparse
-import json
 import re
 import sys
+from typing import Optional
+
+from archive_files import Fault, Words, printable, say
+from documents import items_of
 
 HELP = """In a title, characters that are not printable stand as escapes, so each row is one line.
 
@@ -19,49 +25,41 @@ error; it may be the refusal that the program printed. No row is printed then. S
 ROW = re.compile(r"([0-9]+) ([0-9]+) ([0-9]+) ([0-9]+)")
 
 
-def read_items(path):
-    with open(path, encoding="utf-8") as file:
-        items = json.load(file)
-    if not isinstance(items, list):
-        raise ValueError("it is no array")
-    return items
-
-
-def title(items, document):
-    item = items[document]
+def title(item: object, from_line: bool) -> Optional[str]:
+    """The title of an item, if it has one."""
+    if from_line:
+        text = item.get("text") if isinstance(item, dict) else item
+        return text.partition("\n")[0] if isinstance(text, str) else None
     name = item.get("title") if isinstance(item, dict) else None
-    return printable(name) if isinstance(name, str) else f"document {document}"
+    return name if isinstance(name, str) else None
 
 
-def printable(text):
-    return "".join(each if each.isprintable() else ascii(each)[1:-1] for each in text)
-
-
-def titled(items, line):
+def titled(items: list, line: str, from_line: bool) -> Optional[str]:
     """The row with its title, or None if the line is no row of this collection."""
     row = ROW.fullmatch(line)
     if not row or len(row[2]) > 9 or int(row[2]) >= len(items):
         return None
     rank, document, lower, upper = row.groups()
-    return "\t".join([rank, title(items, int(document)), lower, upper])
+    name = title(items[int(document)], from_line)
+    return "\t".join([rank, f"document {document}" if name is None else printable(name), lower, upper])
 
 
-def main():
-    words = argparse.ArgumentParser(
-        description=__doc__, epilog=HELP, formatter_class=argparse.RawDescriptionHelpFormatter)
+def main(argv: list[str]) -> int:
+    words = Words(__doc__, HELP)
+    words.add_argument("--title-line", action="store_true", help="read titles from the first lines of the texts")
     words.add_argument("collection", metavar="COLLECTION")
-    path = words.parse_args().collection
+    said = words.parse_args(argv)
     try:
-        items = read_items(path)
-    except (OSError, ValueError, RecursionError) as error:
-        print(f"{path!r} is no collection: {error}", file=sys.stderr)
+        items = items_of(said.collection)
+    except Fault as fault:
+        say(str(fault))
         return 1
     lines = sys.stdin.buffer.read().decode("utf-8", "backslashreplace").split("\n")
     rows = []
     for line in lines if lines[-1] else lines[:-1]:
-        row = titled(items, line)
+        row = titled(items, line, said.title_line)
         if row is None:
-            print(line, file=sys.stderr)
+            say(printable(line))
             return 1
         rows.append(row + "\n")
     sys.stdout.buffer.write("".join(rows).encode())
@@ -69,4 +67,4 @@ def main():
 
 
 if __name__ == "__main__":
-    sys.exit(main())
+    sys.exit(main(sys.argv[1:]))
