@@ -417,29 +417,22 @@ def whole_connections_end(_: House) -> None:
         raise Differs("the reply came whole")
 
 
-def is_refused(port: int) -> bool:
-    """A connection from the one address is ended at once. If not, it stays open until the try is over."""
+def is_refused(stack: contextlib.ExitStack, port: int) -> bool:
+    """A connection from the one address is ended at once. If not, it stays open as long as the stack does."""
     try:
-        link = connected(port, 0)
+        link = stack.enter_context(connected(port, 0))
         link.settimeout(0.5)
         return link.recv(1) == b""
     except socket.timeout:
-        LEFT_OPEN.append(link)
         return False
     except ConnectionError:
         return True
 
 
-LEFT_OPEN: list[socket.socket] = []
-
-
 def one_address_is_bounded(house: House) -> None:
     ports = [free_port()]
-    with processes(house.program, house.old.index, ports), service(house, ports) as port:
-        refused = [is_refused(port) for _ in range(10)]
-        while LEFT_OPEN:
-            LEFT_OPEN.pop().close()
-    expect("connections that were refused", refused, 8 * [False] + 2 * [True])
+    with processes(house.program, house.old.index, ports), service(house, ports) as port, contextlib.ExitStack() as stack:
+        expect("connections that were refused", [is_refused(stack, port) for _ in range(10)], 8 * [False] + 2 * [True])
 
 
 def killed_process(house: House) -> None:
