@@ -14,6 +14,8 @@ import tempfile
 from pathlib import Path
 from typing import Callable, Optional
 
+from trying import Differs, Skipped, expect
+
 HOME = Path(__file__).resolve().parent.parent
 sys.path.append(str(HOME / "tools"))
 import manual  # noqa: E402
@@ -22,22 +24,9 @@ PACKAGES = HOME / "out" / "package"
 LIMIT = 600  # the longest wait in seconds
 
 
-class Differs(Exception):
-    """What came is not what was wanted."""
-
-
-class Skipped(Exception):
-    """This machine cannot try it."""
-
-
 def run(*words: object, **more: object) -> "subprocess.CompletedProcess[str]":
     return subprocess.run([str(word) for word in words], stdout=subprocess.PIPE, stderr=subprocess.STDOUT, text=True,
                           timeout=LIMIT, check=False, **more)
-
-
-def expect(what: str, came: object, wanted: object) -> None:
-    if came != wanted:
-        raise Differs(f"{what}: {came!r}, wanted {wanted!r}")
 
 
 def need(tool: str) -> None:

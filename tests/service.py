@@ -27,10 +27,10 @@ from concurrent.futures import ThreadPoolExecutor
 from pathlib import Path
 from typing import Callable, Iterator, NamedTuple, Optional
 
+from trying import Differs, Skipped, corpora, expect, free_port
+
 HOME = Path(__file__).resolve().parent.parent
 SERVICE = HOME / "service"
-sys.path.append(str(HOME / "bench"))
-import corpora  # noqa: E402
 
 READERS = 200
 TRICKLING = 20
@@ -38,19 +38,6 @@ QUERY = "blood count"
 ROWS = 3
 LIMIT = 60  # the longest wait in seconds
 EXPOSED = 2.0  # the most that systemd-analyze may say
-
-
-class Differs(Exception):
-    """What came is not what was wanted."""
-
-
-class Skipped(Exception):
-    """This machine cannot try it."""
-
-
-def expect(what: str, came: object, wanted: object) -> None:
-    if came != wanted:
-        raise Differs(f"{what}: {came!r}, wanted {wanted!r}")
 
 
 def need(*tools: str) -> None:
@@ -204,12 +191,6 @@ def processes(program: str, index: Path, ports: list[int]) -> Iterator[list[Proc
 
 
 # The relay, and HAProxy with the configuration of service/
-
-
-def free_port() -> int:
-    with socket.socket() as one:
-        one.bind(("127.0.0.1", 0))
-        return one.getsockname()[1]
 
 
 @contextlib.contextmanager
