@@ -96,7 +96,10 @@ class Hashing:
 
     def __init__(self, folder: Path) -> None:
         made = str(folder / "sha256.so")
-        subprocess.run(["gcc", "-std=c11", "-O2", "-shared", "-fPIC", "-o", made, SOURCE], check=True)
+        try:
+            subprocess.run(["gcc", "-std=c11", "-O2", "-shared", "-fPIC", "-o", made, SOURCE], check=True)
+        except measure.NOT_MADE as why:
+            measure.stop(f"nothing is compared with hashing, since gcc did not make {SOURCE.name}: {why}")
         library = ctypes.CDLL(made)
         self.blocks = library.sha256_blocks
         self.blocks.restype, self.blocks.argtypes = ctypes.c_uint32, [ctypes.c_uint64]

@@ -13,6 +13,10 @@ LIMIT = 300  # seconds of one run
 MEMORY = 8 << 30  # bytes of address space of one run
 
 
+# What a call of gcc or of rt raises.
+NOT_MADE = (OSError, subprocess.CalledProcessError)
+
+
 class Run(NamedTuple):
     """How a run ended (below 0: by that signal), what it printed, and what it took."""
 
@@ -38,7 +42,11 @@ def program() -> str:
 
 def program_of(words: list[str]) -> str:
     """The program that the first word names, or else the one that is proved and built if needed."""
-    return str(Path(words[0]).resolve()) if words else program()
+    if not words:
+        return program()
+    if not os.access(words[0], os.X_OK):
+        stop(f"{words[0]} is no program: name one that is built, or none")
+    return str(Path(words[0]).resolve())
 
 
 def cases_program() -> str:

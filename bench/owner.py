@@ -63,7 +63,7 @@ def by_one_processor(house: House, name: str, build: list[str], by_all: measure.
     for _ in range(house.loads):
         turns.append((measure.run(build, processors=1).seconds, house.hashing.seconds(count)))
     one, hashed = map(min, zip(*turns))
-    yield Figure("one processor over hashing", f"{name}, {count:,} blocks", one / hashed)
+    yield Figure("books over hashing" if name == "books" else "over hashing", f"{name}, {count:,} blocks", one / hashed)
     if house.has_four:
         yield Figure("processors", name, by_all.seconds / one)
 
