@@ -8,9 +8,10 @@ ghost use Rattle.ats_growth.specs.Honest.{honest, digest_bytes, IsPrefix, IsFirs
 ghost use Rattle.ats_growth.specs.Shape.{turns};
 ghost use Rattle.ats_growth.specs.Value.{IsGrowth, IsInRange, archive_fields};
 
+use crate::memory::OutOfMemory;
 use crate::pairing::needed;
 use crate::view::MAGIC;
-use ats_base::{Bytes, OutOfMemory};
+use ats_base::Bytes;
 use ats_commit::TextLeaves;
 use ats_dict::Header;
 use ats_hash::{Hash32, Steps};
@@ -101,7 +102,8 @@ fn put_range<H: Hash32>(
     let _few = texts.documents();
     let range = TextLeaves::new(texts, from, from + n);
     let digest = root::<H, _>(&range, steps);
-    bytes.extend(&digest)
+    bytes.extend(&digest)?;
+    Ok(())
 }
 
 // Appends the digests that show the growth from the first `m` to all of the `n` texts from document `from` on. Each range

@@ -31,6 +31,7 @@ pub use laws::{
     digests_give_roots, growth_needs_digests, growths_are_refused_once,
     honest_digests_are_subproofs, honest_growths_are_accepted,
 };
+pub use memory::OutOfMemory;
 pub use refusal::GrowthRefusal;
 pub use verdict::GrowthVerdict;
 pub use view::GrowthView;
@@ -41,6 +42,7 @@ mod comparing;
 mod growing;
 mod joining;
 mod laws;
+mod memory;
 mod pairing;
 mod ranges;
 mod refusal;

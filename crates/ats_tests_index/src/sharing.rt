@@ -130,6 +130,7 @@ fn types_of_audits_cross_threads() {
     cross::<ats_fetch::TextClash>();
     cross::<ats_fetch::TextVerdict>();
     cross::<ats_fetch::TextView<'static>>();
+    cross::<ats_growth::OutOfMemory>();
     cross::<ats_growth::Grown>();
     cross::<ats_growth::GrowFault>();
     cross::<ats_growth::GrowthRefusal>();
