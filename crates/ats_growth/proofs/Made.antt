@@ -1,5 +1,5 @@
 -- The bytes that are made are those of the honest growth.
-use Rattle.std.proofs.Common.{◌≡◌, ℕ, ◌^◌, ◌≤◌, List, [], ◌∷◌, ◌++◌, length, take, drop, true, sym, ◌∙◌, ap, ap₂, arith, append_assoc}
+use Rattle.std.proofs.Common.{◌≡◌, ℕ, ◌^◌, ◌≤◌, List, [], ◌∷◌, ◌++◌, length, take, drop, true, sym, ◌∙◌, ap, ap₂, subst, arith, append_assoc}
 use Rattle.std.specs.List.{concat}
 use Rattle.std.proofs.Math.Seq.{take-length}
 use Rattle.std.proofs.lemmas.List.{length-reverse}
@@ -18,7 +18,7 @@ use Rattle.ats_growth.specs.Value.{IsGrowth, IsInRange, AreInRange, archive_fiel
 use Rattle.ats_growth.proofs.Completeness.{prefix-shares, prefix-shorter, length-shown, sized-shown}
 use Rattle.ats_growth.proofs.Digests.{All-reverse}
 use Rattle.ats_growth.proofs.Leads.{leads, depth, need-turns}
-use Rattle.ats_growth.proofs.Spelled.{spells}
+use Rattle.ats_growth.proofs.Spelled.{join_of, spells}
 
 -- runs of bytes that are appended one after another
 pub joined_2 : (old x y b c all : List ℕ) → b ≡ old ++ x → c ≡ b ++ y → x ++ y ≡ all → c ≡ old ++ all
@@ -73,6 +73,7 @@ module _ (H : List ℕ → List ℕ) (sized : (m : List ℕ) → length (H m) �
       in let d : digest_bytes H (turns m n) true (tree_of (take n (drop 0 newer.texts))) ≡ D =
       ap (λ (ts : List (List ℕ)). digest_bytes H (turns m n) true (tree_of ts)) all
       ∙ ap₂ (λ (x y : ℕ). digest_bytes H (turns x y) true (tree_of newer.texts)) is_m is_n
-      in spells b₅ (honest H older newer) honest_in_range
-      (joined_5 (spelled 4 0x41545347) A B (spelled 1 many) D b₁ b₂ b₃ b₄ b₅ e₁
-      (e₂ ∙ ap (λ (back : List ℕ). b₁ ++ back) a) (e₃ ∙ ap (λ (back : List ℕ). b₂ ++ back) b) (e₄ ∙ ap (λ (back : List ℕ). b₃ ++ back) c) (e₅ ∙ ap (λ (back : List ℕ). b₄ ++ back) d))
+      in let all_put : b₅ ≡ spelled 4 0x41545347 ++ (A ++ (B ++ (spelled 1 many ++ D))) =
+      joined_5 (spelled 4 0x41545347) A B (spelled 1 many) D b₁ b₂ b₃ b₄ b₅ e₁
+      (e₂ ∙ ap (λ (back : List ℕ). b₁ ++ back) a) (e₃ ∙ ap (λ (back : List ℕ). b₂ ++ back) b) (e₄ ∙ ap (λ (back : List ℕ). b₃ ++ back) c) (e₅ ∙ ap (λ (back : List ℕ). b₄ ++ back) d)
+      in subst (λ (bytes : List ℕ). IsGrowth bytes (honest H older newer)) (sym (all_put ∙ sym (join_of (honest H older newer)))) (spells (honest H older newer) honest_in_range)

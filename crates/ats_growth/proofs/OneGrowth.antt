@@ -75,6 +75,10 @@ one_growth bytes g h is also =
       digests = count.rest i;
     }
 
+-- two spellings of one growth are the same bytes
+pub one_join : (bytes others : List ℕ) (g : Growth) → IsGrowth bytes g → IsGrowth others g → bytes ≡ others
+one_join bytes others g is also = is.whole.parts ∙ sym also.whole.parts
+
 -- ---- what reading returns, if it returns only what the bytes spell, and only faults that they have
 
 pub reads : (bytes : List ℕ) (result : Result Growth ShapeFault) → IfOk result (IsGrowth bytes) → IfErr result (IsBad growth_schema bytes)

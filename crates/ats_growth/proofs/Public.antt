@@ -2,6 +2,8 @@
 
 -- two growths that the same bytes spell are equal
 pub use Rattle.ats_growth.proofs.OneGrowth.{one_growth}
+-- two spellings of one growth are the same bytes
+pub use Rattle.ats_growth.proofs.OneGrowth.{one_join}
 -- a growth that is accepted under two roots is not refused under them
 pub use Rattle.ats_growth.proofs.Exactness.{accepted_kept}
 -- a growth is refused by one rule

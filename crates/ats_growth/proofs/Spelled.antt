@@ -42,25 +42,26 @@ length-archive : (f : Format) (h : Header) → IsInRange h → length (concat (a
 length-archive f h is =
     omega (arith, is.dict, is.docs, is.texts, length-append h.dict_root (h.docs_root ++ (h.texts_root ++ [])), length-append h.docs_root (h.texts_root ++ []), length-append h.texts_root [])
 
--- ---- bytes that are the fields joined
+-- ---- the fields joined
 
-pub spells : (bytes : List ℕ) (g : Growth) → AreInRange g
-    → bytes ≡ spelled 4 0x41545347 ++ (concat (archive_fields g.old_format g.old) ++ (concat (archive_fields g.new_format g.new) ++ (spelled 1 (length g.digests) ++ concat g.digests)))
-    → IsGrowth bytes g
-spells bytes g range joined =
+pub join_of : (g : Growth) → concat (fields_of g)
+    ≡ spelled 4 0x41545347 ++ (concat (archive_fields g.old_format g.old) ++ (concat (archive_fields g.new_format g.new) ++ (spelled 1 (length g.digests) ++ concat g.digests)))
+join_of g =
+    let last : List (List ℕ) = spelled 1 (length g.digests) ∷ g.digests
+    in ap (λ (xs : List ℕ). spelled 4 0x41545347 ++ xs)
+    (concat-append (archive_fields g.old_format g.old) (archive_fields g.new_format g.new ++ last)
+    ∙ ap (λ (xs : List ℕ). concat (archive_fields g.old_format g.old) ++ xs) (concat-append (archive_fields g.new_format g.new) last))
+
+pub spells : (g : Growth) → AreInRange g → IsGrowth (concat (fields_of g)) g
+spells g range =
     let last : List (List ℕ) = spelled 1 (length g.digests) ∷ g.digests
     in let counted = counted-come g.digests range.sized range.few
     in let new = archive-comes last counted_digests End counted g.new_format g.new range.new
     in let old = archive-comes (archive_fields g.new_format g.new ++ last) (format (header counted_digests)) End new g.old_format g.old range.old
-    in let fields : concat (fields_of g)
-    ≡ spelled 4 0x41545347 ++ (concat (archive_fields g.old_format g.old) ++ (concat (archive_fields g.new_format g.new) ++ (spelled 1 (length g.digests) ++ concat g.digests))) =
-    ap (λ (xs : List ℕ). spelled 4 0x41545347 ++ xs)
-    (concat-append (archive_fields g.old_format g.old) (archive_fields g.new_format g.new ++ last)
-    ∙ ap (λ (xs : List ℕ). concat (archive_fields g.old_format g.old) ++ xs) (concat-append (archive_fields g.new_format g.new) last))
-    in let size : length bytes ≡ 4 + (106 + (106 + (1 + 32 * length g.digests))) =
+    in let size : length (concat (fields_of g)) ≡ 4 + (106 + (106 + (1 + 32 * length g.digests))) =
     omega (
       arith,
-      ap length joined,
+      ap length (join_of g),
       length-append (concat (archive_fields g.old_format g.old)) (concat (archive_fields g.new_format g.new) ++ (spelled 1 (length g.digests) ++ concat g.digests)),
       length-append (concat (archive_fields g.new_format g.new)) (spelled 1 (length g.digests) ++ concat g.digests),
       length-archive g.old_format g.old range.old,
@@ -68,6 +69,6 @@ spells bytes g range joined =
       length_digests g.digests range.sized,
     )
     in record {
-      whole = record { come = ((refl, omega arith, omega arith), old); parts = joined ∙ sym fields ∙ sym (append-nil (concat (fields_of g))) };
+      whole = record { come = ((refl, omega arith, omega arith), old); parts = sym (append-nil (concat (fields_of g))) };
       few = omega (arith, range.few, size);
     }

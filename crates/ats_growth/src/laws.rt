@@ -13,7 +13,7 @@ ghost use Rattle.ats_growth.specs.Rules.{AcceptsGrowth, IsFirstRefusal};
 ghost use Rattle.ats_growth.specs.Shape.{turns, need};
 ghost use Rattle.ats_growth.specs.Strings.{extract};
 ghost use Rattle.ats_growth.specs.Value.{Growth, IsGrowth, AreInRange};
-ghost use Rattle.ats_growth.specs.Verdicts.{IsGrowthVerdict, IsGrownOrTold};
+ghost use Rattle.ats_growth.specs.Verdicts.{IsAcceptedGrowth, IsGrowthVerdict, IsGrownOrTold};
 ghost use Rattle.ats_growth.specs.declared.refusal.GrowthRefusal.{GrowthRefusal};
 ghost use Rattle.ats_growth.specs.declared.verdict.GrowthVerdict.{GrowthVerdict};
 ghost use Rattle.ats_growth.specs.declared.verdict.GrowthVerdict.TheVariants.{Right};
@@ -72,9 +72,16 @@ pub fn honest_digests_are_subproofs<H: HashKind>()
         ++ mth H.hash (take (2 ^ h) texts) ∷ [] }
 {}
 
-/// Bytes spell at most one growth.
+/// Bytes say at most one growth, and its parts are in their ranges. Each growth has at most one spelling.
 pub fn bytes_say_one_growth()
-    ensures { (bytes : List ℕ) (g h : Growth) → IsGrowth bytes g → IsGrowth bytes h → g ≡ h }
+    ensures one { (bytes : List ℕ) (g h : Growth) → IsGrowth bytes g → IsGrowth bytes h → g ≡ h }
+    ensures range { (bytes : List ℕ) (g : Growth) → IsGrowth bytes g → AreInRange g }
+    ensures spelling { (bytes others : List ℕ) (g : Growth) → IsGrowth bytes g → IsGrowth others g → bytes ≡ others }
+{}
+
+/// Each growth whose parts are in their ranges has a spelling.
+pub fn growths_in_range_are_spelled()
+    ensures { (g : Growth) → AreInRange g → (bytes : List ℕ) × IsGrowth bytes g }
 {}
 
 /// A growth is refused by at most one rule, and not if it is accepted.
@@ -85,10 +92,12 @@ pub fn growths_are_refused_once<H: HashKind>()
         → AcceptsGrowth H.hash old new g → IsFirstRefusal H.hash old new g a → ⊥ }
 {}
 
-/// If the old texts are the first of the new ones, the honest growth is accepted under the two roots, whatever the two
-/// formats, and has no collision with the two archives. So the only verdict on its bytes is that it is right, with the
-/// numbers of both. If an old document is missing or differs, the old texts are not the first.
+/// If the old texts are the first of the new ones, the honest growth is spelled by some bytes, is accepted under the two
+/// roots, whatever the two formats, and has no collision with the two archives. So the only verdict on its bytes is that it
+/// is right, with the numbers of both. If an old document is missing or differs, the old texts are not the first.
 pub fn honest_growths_are_accepted<H: HashKind>()
+    ensures spelled { (older newer : Archive) → AreTexts older.texts → AreTexts newer.texts
+        → IsPrefix older.texts newer.texts → (bytes : List ℕ) × IsGrowth bytes (honest H.hash older newer) }
     ensures accepted { (older newer : Archive) → AreTexts older.texts → IsPrefix older.texts newer.texts
         → AcceptsGrowth H.hash (root_of H.hash older) (root_of H.hash newer) (honest H.hash older newer) }
     ensures none { (older newer : Archive) → AreTexts older.texts → IsPrefix older.texts newer.texts
@@ -100,15 +109,16 @@ pub fn honest_growths_are_accepted<H: HashKind>()
     ensures differs { (old new : List (List ℕ)) (doc : ℕ) → IsFirstApart old new doc → IsPrefix old new → ⊥ }
 {}
 
-/// What an accepted growth says of all archives with its two roots.
+/// The headline: for all archives with the two roots under which bytes are accepted, either nothing was withdrawn, or the
+/// strings that the growth and the two archives hash contain two different ones with equal digests.
 pub fn accepted_growths_are_right<H: HashKind>()
-    ensures { (old new : List ℕ) (g : Growth) → AreInRange g → AcceptsGrowth H.hash old new g
+    ensures { (old new : List ℕ) (bytes : List ℕ) (g : Growth) → IsAcceptedGrowth H.hash old new bytes g
         → IsGrownOrCollides H.hash old new g }
 {}
 
 /// For all archives with the two roots, either nothing was withdrawn, or every verdict on the bytes of an accepted growth
 /// against these archives contains two different strings with equal digests.
 pub fn accepted_growths_are_audited<H: HashKind>()
-    ensures { (old new : List ℕ) (bytes : List ℕ) (g : Growth) → IsGrowth bytes g → AcceptsGrowth H.hash old new g
+    ensures { (old new : List ℕ) (bytes : List ℕ) (g : Growth) → IsAcceptedGrowth H.hash old new bytes g
         → IsGrownOrTold H.hash old new bytes g }
 {}
