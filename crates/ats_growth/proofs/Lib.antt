@@ -17,6 +17,7 @@ mod DigestBytes
 mod Results
 mod Made
 mod LawLemmas
+mod RangeLaws
 mod Unlikes
 mod Compares
 mod Ranging

@@ -1,5 +1,5 @@
 -- The pairs of byte strings that a growth and two archives hash at the same places.
-use Rattle.std.specs.Prelude.{ℕ, List, [], ◌∷◌, ◌++◌, drop, map, reverse, Bool, true, false, Option, Some}
+use Rattle.std.specs.Prelude.{◌≡◌, ◌<◌, ◌-◌, ℕ, List, [], ◌∷◌, ◌++◌, take, drop, map, reverse, Bool, true, false, Option, Some}
 use Rattle.std.specs.List.{flat_map}
 use Rattle.ats_tree.specs.Differences.{Hashed, moved, Difference, first_collision}
 use Rattle.ats_tree.specs.Paths.{Path}
@@ -47,6 +47,14 @@ ranges [] old new = record { old = old; new = new } ∷ []
 ranges (false ∷ path) old (node left right) = ranges path old left
 ranges (true ∷ path) (node same more) (node left right) = ranges path more right ++ record { old = same; new = left } ∷ []
 ranges (turn ∷ path) old new = []
+
+-- These ranges are the documents from `first` up to `end`, each once and the later ones first. Each range has the same
+-- documents in the old texts and in the new ones, and at least one.
+abbrev pub AreRangesOf : (old new : List (List ℕ)) → (first end : ℕ) → List Range → Type 0
+AreRangesOf old new first end [] = end ≡ first
+AreRangesOf old new first end (range ∷ more) = (from : ℕ) × (from < end)
+    × (range ≡ record { old = tree_of (take (end - from) (drop from old)); new = tree_of (take (end - from) (drop from new)) })
+    × AreRangesOf old new first from more
 
 -- the strings that are hashed at all nodes of a tree in pre-order: a node, its left part, its right part
 abbrev pub all_strings : (List ℕ → List ℕ) → Tree (List ℕ) → List (Hashed Path)

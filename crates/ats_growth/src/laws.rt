@@ -11,7 +11,7 @@ ghost use Rattle.ats_growth.specs.Honest.{shown, honest, IsPrefix, IsFirstApart}
 ghost use Rattle.ats_growth.specs.Pair.{roots};
 ghost use Rattle.ats_growth.specs.Rules.{AcceptsGrowth, IsFirstRefusal};
 ghost use Rattle.ats_growth.specs.Shape.{turns, need};
-ghost use Rattle.ats_growth.specs.Strings.{extract};
+ghost use Rattle.ats_growth.specs.Strings.{extract, ranges, AreRangesOf};
 ghost use Rattle.ats_growth.specs.Value.{Growth, IsGrowth, AreInRange};
 ghost use Rattle.ats_growth.specs.Verdicts.{IsAcceptedGrowth, IsGrowthVerdict, IsGrownOrTold};
 ghost use Rattle.ats_growth.specs.declared.refusal.GrowthRefusal.{GrowthRefusal};
@@ -70,6 +70,27 @@ pub fn honest_digests_are_subproofs<H: HashKind>()
         → reverse (shown H.hash (turns m (length texts)) known (tree_of texts))
         ≡ reverse (shown H.hash (turns (m - 2 ^ h) (length texts - 2 ^ h)) false (tree_of (drop (2 ^ h) texts)))
         ++ mth H.hash (take (2 ^ h) texts) ∷ [] }
+{}
+
+/// The ranges whose digests form both roots, of old texts and at least as many new ones. They are all old documents, each
+/// once and the later ones first, and each range has the same documents on both sides. If all leaves are old, they are one
+/// range. Left of the cut the ranges are those of the left part of the new texts. Right of the cut the left part is the last
+/// range, as its digest is the last one (`honest_digests_are_subproofs`), and the others are those of both right parts.
+pub fn ranges_are_old_documents()
+    ensures documents { (old new : List (List ℕ)) → 1 ≤ length old → length old ≤ length new
+        → AreRangesOf old new 0 (length old) (ranges (turns (length old) (length new)) (tree_of old) (tree_of new)) }
+    ensures all { (old new : List (List ℕ)) → length old ≡ length new
+        → ranges (turns (length old) (length new)) (tree_of old) (tree_of new)
+        ≡ record { old = tree_of old; new = tree_of new } ∷ [] }
+    ensures left { (old new : List (List ℕ)) (h : ℕ)
+        → 2 ^ h < length new → length new ≤ 2 * 2 ^ h → length old ≤ 2 ^ h
+        → ranges (turns (length old) (length new)) (tree_of old) (tree_of new)
+        ≡ ranges (turns (length old) (2 ^ h)) (tree_of old) (tree_of (take (2 ^ h) new)) }
+    ensures right { (old new : List (List ℕ)) (h : ℕ)
+        → length new ≤ 2 * 2 ^ h → 2 ^ h < length old → length old < length new
+        → ranges (turns (length old) (length new)) (tree_of old) (tree_of new)
+        ≡ ranges (turns (length old - 2 ^ h) (length new - 2 ^ h)) (tree_of (drop (2 ^ h) old)) (tree_of (drop (2 ^ h) new))
+        ++ record { old = tree_of (take (2 ^ h) old); new = tree_of (take (2 ^ h) new) } ∷ [] }
 {}
 
 /// Bytes say at most one growth, and its parts are in their ranges. Each growth has at most one spelling.

@@ -30,6 +30,7 @@ pub use laws::{
     accepted_growths_are_audited, accepted_growths_are_right, bytes_say_one_growth,
     digests_give_roots, growth_needs_digests, growths_are_refused_once,
     growths_in_range_are_spelled, honest_digests_are_subproofs, honest_growths_are_accepted,
+    ranges_are_old_documents,
 };
 pub use memory::OutOfMemory;
 pub use refusal::GrowthRefusal;
