@@ -3,6 +3,7 @@ mod Avoids
 mod Calls
 mod Causes
 mod Counts
+mod Ends
 mod Files
 mod Leads
 mod Left

@@ -25,6 +25,10 @@ pub use Rattle.ats_plan.proofs.Counts.{stops_counts}
 pub use Rattle.ats_plan.proofs.Counts.{stops_later}
 -- if the first file that a plan reads is missing, a stop leaves the count of faults
 pub use Rattle.ats_plan.proofs.Counts.{stops_uncounted}
+-- a plan that stores nothing, and whose text at each end satisfies something over its files
+pub use Rattle.ats_plan.proofs.Ends.{EndsIn}
+-- the text of a command of such a plan that is done satisfies it, over the files before the command
+pub use Rattle.ats_plan.proofs.Ends.{does_end}
 -- a reported file has one content
 pub use Rattle.ats_plan.proofs.Files.{one_file}
 -- a reported file that is within the limit is not longer than it
