@@ -59,7 +59,7 @@ bytes_accepted H archive query bytes proved =
 abbrev said_by : List ℕ → List ℕ → Option (List ℕ) → Option Command
 said_by query name root = option_map (λ digest. Both (record { root = digest; query = query; proof = name })) root
 
-both_said : (root digest query name : List ℕ) → root_word root ≡ Some digest
+pub both_said : (root digest query name : List ℕ) → root_word root ≡ Some digest
     → command_of (both_words root query name) ≡ Some (Both (record { root = digest; query = query; proof = name }))
 both_said root digest query name is_root = ap (said_by query name) is_root
 

@@ -16,17 +16,14 @@ use Rattle.ats_top.specs.Run.{Said, IsCompleted, StoppedEarly, StoppedLate, IsHa
 use Rattle.ats_console.specs.declared.stops.Stop.{Stop}
 use Rattle.ats_console.specs.declared.stops.Stop.TheVariants.{Usage, Shelf, Input, Rejected, Memory, Link, Peer, Faults, Collision}
 use Rattle.ats_top.proofs.NoUsage.{halted_otherwise}
+use Rattle.ats_top.proofs.OneCommand.{its}
 use Rattle.ats_top.proofs.LinkEnds.{served_passes, links_wait, links_served, replied_calls, replied_passes, replied_unread, replied_done, replied_stop}
-
--- the words of a command are one
-same_command : (said : List (List ℕ)) (command other : Command) → command_of said ≡ Some command → command_of said ≡ Some other → command ≡ other
-same_command said command other first second = let both = sym first ∙ second in cc
 
 no_command : (said : List (List ℕ)) (command : Command) → command_of said ≡ None → command_of said ≡ Some command → ⊥
 no_command said command none some = let both = sym none ∙ some in cc
 
 -- no stop is done
-never_done : (stop : Stop) → status_of_stop stop ≢ 0
+pub never_done : (stop : Stop) → status_of_stop stop ≢ 0
 never_done Usage = omega arith
 never_done Shelf = omega arith
 never_done (Input line) = omega arith
@@ -75,10 +72,6 @@ was_printed (Stopped text stop) result not is = tt
 was_printed (Unprinted text) result not is = not is
 
 module _ (H : List ℕ → List ℕ) (said : List (List ℕ)) (before now : Outside) where
-  -- a condition on the command of the words holds for the command that ended
-  its : (P : Command → Type 0) (command : Command) → Said said P → command_of said ≡ Some command → P command
-  its P command is also = subst P (same_command said is.0 command is.1 also) is.2
-
   -- ---- the status
 
   -- it is this one, or has an excuse
@@ -110,9 +103,9 @@ module _ (H : List ℕ → List ℕ) (said : List (List ℕ)) (before now : Outs
 
       by_end : (end : End) → IsPrinted end → RunEnds H before now said end → P (status_of end)
       by_end (Unprinted text) printed ends = absurd printed
-      by_end (Done text) printed ends = done text (its (λ c. IsCompleted H before now c text) command ends is)
+      by_end (Done text) printed ends = done text (its said (λ c. IsCompleted H before now c text) command ends is)
       by_end (Stopped text stop) printed (inl unsaid) = absurd (no_command said command unsaid.none is)
-      by_end (Stopped text stop) printed (inr halted) = halted_end text stop (its (λ c. IsHalted H before now c text stop) command halted is)
+      by_end (Stopped text stop) printed (inr halted) = halted_end text stop (its said (λ c. IsHalted H before now c text stop) command halted is)
 
     -- a stop whose cause is no refusal has an excuse
     excused : (k : ℕ) (stop : Stop) → (Refuses Shelf before.shelf.files (plan_of H command) stop → status_of_stop stop ≡ k)
@@ -219,15 +212,15 @@ module _ (H : List ℕ → List ℕ) (said : List (List ℕ)) (before now : Outs
     unread_went : WentSo status → Said said (λ command. ComesToShelf (plan_of H command) → ⊥) → now.shelf ≡ before.shelf
     unread_went (inl same) none = same
     unread_went (inr (command, is, inl (text, how, done))) none =
-        does_untouched (plan_of H command) before.shelf now.shelf text (its (λ c. ComesToShelf (plan_of H c) → ⊥) command none is) done.so
+        does_untouched (plan_of H command) before.shelf now.shelf text (its said (λ c. ComesToShelf (plan_of H c) → ⊥) command none is) done.so
     unread_went (inr (command, is, inr (stop, same, stopped))) none =
-        stops_untouched Shelf Memory (plan_of H command) before.shelf now.shelf stop (its (λ c. ComesToShelf (plan_of H c) → ⊥) command none is) stopped.so
+        stops_untouched Shelf Memory (plan_of H command) before.shelf now.shelf stop (its said (λ c. ComesToShelf (plan_of H c) → ⊥) command none is) stopped.so
 
     uncounted_went : WentSo status → Said said (λ command. LacksFirst before.shelf.files (plan_of H command)) → now.shelf.faults ≡ before.shelf.faults
     uncounted_went (inl same) lacks = ap (λ (told : ShelfTold). told.faults) same
     uncounted_went (inr (command, is, inl (text, how, done))) lacks = does_counts (plan_of H command) before.shelf now.shelf text done.so
     uncounted_went (inr (command, is, inr (stop, same, stopped))) lacks =
-        stops_uncounted Shelf Memory (plan_of H command) before.shelf now.shelf stop (its (λ c. LacksFirst before.shelf.files (plan_of H c)) command lacks is) stopped.so
+        stops_uncounted Shelf Memory (plan_of H command) before.shelf now.shelf stop (its said (λ c. LacksFirst before.shelf.files (plan_of H c)) command lacks is) stopped.so
 
     later_went : WentSo status → before.shelf.faults ≤ now.shelf.faults
     later_went (inl same) = omega (arith, ap (λ (told : ShelfTold). told.faults) same)

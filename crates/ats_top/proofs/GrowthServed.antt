@@ -19,7 +19,7 @@ use Rattle.ats_top.specs.Run.{Said, IsCommandServed}
 abbrev said_by : List ℕ → Option (List ℕ) → Option (List ℕ) → Option Command
 said_by name old new = option_and_then (λ before. option_map (λ now. Growth (record { old = before; new = now; file = name })) new) old
 
-growth_said : (old before new now name : List ℕ) → root_word old ≡ Some before → root_word new ≡ Some now
+pub growth_said : (old before new now name : List ℕ) → root_word old ≡ Some before → root_word new ≡ Some now
     → command_of (growth_words old new name) ≡ Some (Growth (record { old = before; new = now; file = name }))
 growth_said old before new now name is_old is_new = ap₂ (said_by name) is_old is_new
 

@@ -23,7 +23,7 @@ said_by query name root rows =
     option_and_then (λ digest. option_map (λ n. Verify (record { root = digest; r = n; query = query; proof = name })) rows) root
 
 -- the words of `verify` say its command
-verify_said : (root digest r query name : List ℕ) (rows : ℕ) → root_word root ≡ Some digest → number_of r ≡ Some rows
+pub verify_said : (root digest r query name : List ℕ) (rows : ℕ) → root_word root ≡ Some digest → number_of r ≡ Some rows
     → command_of (verify_words root r query name) ≡ Some (Verify (record { root = digest; r = rows; query = query; proof = name }))
 verify_said root digest r query name rows is_root is_rows = ap₂ (said_by query name) is_root is_rows
 

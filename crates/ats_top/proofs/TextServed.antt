@@ -18,7 +18,7 @@ use Rattle.ats_top.specs.Run.{Said, IsCommandServed}
 abbrev said_by : List ℕ → Option (List ℕ) → Option ℕ → Option Command
 said_by name root doc = option_and_then (λ digest. option_map (λ n. Fetch (record { root = digest; doc = n; file = name })) doc) root
 
-fetch_said : (root digest word name : List ℕ) (doc : ℕ) → root_word root ≡ Some digest → number_of word ≡ Some doc
+pub fetch_said : (root digest word name : List ℕ) (doc : ℕ) → root_word root ≡ Some digest → number_of word ≡ Some doc
     → command_of (fetch_words root word name) ≡ Some (Fetch (record { root = digest; doc = doc; file = name }))
 fetch_said root digest word name doc is_root is_doc = ap₂ (said_by name) is_root is_doc
 

@@ -1,6 +1,6 @@
 //! The laws of the commands together, as contracts of functions that do nothing.
 
-ghost use Rattle.std.specs.Prelude.{◌≡◌, ◌≤◌, ◌^◌, ℕ, List, All, length, codes, Some, IsSome};
+ghost use Rattle.std.specs.Prelude.{◌≡◌, ◌≢◌, ◌⊎◌, ◌≤◌, ◌^◌, ℕ, List, All, length, codes, Some, IsSome};
 ghost use Rattle.ats_base.specs.Outside.{Holds};
 ghost use Rattle.ats_base.specs.Links.{CallerTold};
 ghost use Rattle.ats_terms.specs.Query.{IsQueryOf};
@@ -15,7 +15,7 @@ ghost use Rattle.ats_growth.specs.Value.{IsGrowth};
 ghost use Rattle.ats_proof.specs.declared.record.Algorithm.{Algorithm};
 ghost use Rattle.ats_index.specs.Spelling.{IsSpelling};
 ghost use Rattle.ats_honest.specs.Honest.{IsProved};
-ghost use Rattle.ats_console.specs.Words.{AskWords, ServeWords, AuditWords, SweepWords, GiveWords, AuditFetchWords, ProveBothWords, AuditBothWords, GrowWords, AuditGrowthWords, Command, Ask, Serve, Audit, Sweep, Give, AuditFetch, ProveBoth, AuditBoth, Grow, AuditGrowth, number_of, algorithm_of, root_word, root_words, prove_words, migrate_words, verify_words, fetch_words, both_words, growth_words};
+ghost use Rattle.ats_console.specs.Words.{AskWords, ServeWords, AuditWords, SweepWords, GiveWords, AuditFetchWords, ProveBothWords, AuditBothWords, GrowWords, AuditGrowthWords, Command, Ask, Serve, Audit, Sweep, Give, AuditFetch, ProveBoth, AuditBoth, Grow, AuditGrowth, command_of, number_of, algorithm_of, root_word, root_words, prove_words, migrate_words, verify_words, fetch_words, both_words, growth_words};
 ghost use Rattle.ats_plan.specs.Files.{Files, IsFile};
 ghost use Rattle.ats_console.specs.Read.{HasIndex};
 ghost use Rattle.ats_console.specs.Steps.{IsRowCount, AsksRanking};
@@ -26,13 +26,16 @@ ghost use Rattle.ats_top.specs.Commands.Give.{HasDocument};
 ghost use Rattle.ats_top.specs.Commands.Grow.{HasKept};
 ghost use Rattle.ats_console.specs.declared.stops.Stop.{Stop};
 ghost use Rattle.ats_console.specs.declared.stops.Stop.TheVariants.{Shelf as AtShelf};
-ghost use Rattle.ats_top.specs.Run.{Said, IsCommandServed};
+ghost use Rattle.ats_console.specs.Stops.{status_of_stop, text_of_stop};
+ghost use Rattle.ats_top.specs.Run.{Said, IsCommandServed, Ran, Excuse};
+ghost use Rattle.ats_top.specs.Outside.{Outside};
+ghost use Rattle.ats_top.specs.Serving.{Took};
 ghost use Rattle.ats_top.specs.Listed.{Listed, IsList, names_of};
 ghost use Rattle.ats_top.specs.Gathered.{AreAllThere};
 ghost use Rattle.ats_top.specs.Findings.{IsHonestLine};
 ghost use Rattle.ats_top.specs.Conversation.{Converses};
 ghost use Rattle.ats_top.specs.Asked.{question_of};
-ghost use Rattle.ats_top.specs.Calling.{ReplyDecides};
+ghost use Rattle.ats_top.specs.Calling.{MayCall, MayOpen, ReplyDecides};
 
 use ats_hash::HashKind;
 
@@ -156,13 +159,31 @@ pub fn migrated_indexes_stay<H: HashKind>()
         → IsSpelling H.hash again (in_blocks other) → again ≡ bytes }
 {}
 
-/// If the shelf reports its files, or the command comes to no file, then its words and files stop it in at most one way,
-/// so that one status and one text are printed; and in none if each of its steps holds.
+/// If the shelf reports its files, or the command comes to no file, at most one cause stops it by its words and files (`one`),
+/// and none if each of its steps holds (`none`). So two runs of the same words over the same files end with the same status,
+/// and if this is not 0 they print the same; or one of them has an excuse (`runs`). Commands that come to a link are left
+/// out: they may hear something else each time.
 pub fn commands_stop_in_one_way<H: HashKind>()
     ensures one { (files : Files) (command : Command) (a b : Stop) → IsKnown files (plan_of H.hash command)
         → Refuses AtShelf files (plan_of H.hash command) a → Refuses AtShelf files (plan_of H.hash command) b → a ≡ b }
     ensures none { (files : Files) (command : Command) (stop : Stop) → IsKnown files (plan_of H.hash command)
         → Passes files (plan_of H.hash command) → Refuses AtShelf files (plan_of H.hash command) stop → ⊥ }
+    ensures runs { (said : List (List ℕ)) (command : Command) (before now since later : Outside) (a b : ℕ)
+        → command_of said ≡ Some command → (MayCall command → ⊥) → (MayOpen command → ⊥)
+        → IsKnown before.shelf.files (plan_of H.hash command) → since.shelf.files ≡ before.shelf.files
+        → Ran H.hash said before now a → Ran H.hash said since later b
+        → ((a ≡ b) × (a ≢ 0 → (text : List ℕ) × Took before.sink now.sink text × Took since.sink later.sink text))
+        ⊎ (Excuse H.hash said before now a ⊎ Excuse H.hash said since later b) }
+{}
+
+/// If what is known of the files decides each step of a command, and its first step that does not hold stops it so, then its
+/// run ends with the status of this stop, and the sink took exactly the stop's text; or the run has an excuse.
+pub fn stops_are_printed<H: HashKind>()
+    ensures { (said : List (List ℕ)) (command : Command) (stop : Stop) (before now : Outside) (status : ℕ)
+        → command_of said ≡ Some command → IsKnown before.shelf.files (plan_of H.hash command)
+        → Refuses AtShelf before.shelf.files (plan_of H.hash command) stop → Ran H.hash said before now status
+        → ((status ≡ status_of_stop stop) × Took before.sink now.sink (text_of_stop stop))
+        ⊎ Excuse H.hash said before now status }
 {}
 
 /// If the bytes that `ask` got are the honest proof of its query over an archive with its root, by either algorithm,

@@ -1,0 +1,63 @@
+-- What a run with status 0 printed, for the commands that check what came from elsewhere.
+use Rattle.std.proofs.Common.{◌≡◌, ◌∙◌, ℕ, List, [], ◌∷◌, codes, Option, Some, refl, ap, ap₂, subst}
+use Rattle.std.specs.Prelude.{option_map, option_and_then}
+use Rattle.ats_proof.specs.declared.record.Algorithm.{Algorithm}
+use Rattle.ats_plan.specs.Files.{Files}
+use Rattle.ats_plan.proofs.Public.{EndsIn, does_end}
+use Rattle.ats_console.specs.Words.{AskWords, Ask, Both, BothWords, Command, Fetch, FetchWords, Growth, GrowthWords, Verify, VerifyWords, algorithm_of, command_of, number_of, root_word}
+use Rattle.ats_top.specs.Asked.{IsReplyVerified}
+use Rattle.ats_top.specs.Commands.{plan_of}
+use Rattle.ats_top.specs.Commands.Both.{IsBothChecked}
+use Rattle.ats_top.specs.Commands.Fetch.{IsFetched}
+use Rattle.ats_top.specs.Commands.Growth.{IsGrowthChecked}
+use Rattle.ats_top.specs.Commands.Verify.{IsVerified}
+use Rattle.ats_top.specs.Outside.{Outside}
+use Rattle.ats_top.specs.Run.{IsCompleted, Ran}
+use Rattle.ats_top.specs.Serving.{Took}
+use Rattle.ats_top.proofs.OneCommand.{its}
+
+-- the command of the words of `ask`, from what its root, its algorithm and its number of rows spell
+abbrev said_by : List ℕ → List ℕ → Option (List ℕ) → Option Algorithm → Option ℕ → Option Command
+said_by query address root algorithm rows =
+    option_and_then (λ digest. option_and_then (λ a. option_map
+    (λ n. Ask (record { root = digest; algorithm = a; r = n; query = query; address = address })) rows) algorithm) root
+
+pub ask_said : (root digest algorithm r query address : List ℕ) (by : Algorithm) (n : ℕ) → root_word root ≡ Some digest → algorithm_of algorithm ≡ Some by → number_of r ≡ Some n
+    → command_of (codes "ask" ∷ root ∷ algorithm ∷ r ∷ query ∷ address ∷ []) ≡ Some (Ask (record { root = digest; algorithm = by; r = n; query = query; address = address }))
+ask_said root digest algorithm r query address by n is_root is_algorithm is_rows =
+    ap (λ (of_root : Option (List ℕ)). said_by query address of_root (algorithm_of algorithm) (number_of r)) is_root
+    ∙ ap₂ (said_by query address (Some digest)) is_algorithm is_rows
+
+module _ (H : List ℕ → List ℕ) (said : List (List ℕ)) (before now : Outside) where
+  -- the command of the words is done, and the sink took its text
+  completed : (command : Command) → command_of said ≡ Some command → Ran H said before now 0
+      → (text : List ℕ) × IsCompleted H before now command text × Took before.sink now.sink text
+  completed command is ran =
+      its said (λ c. (text : List ℕ) × IsCompleted H before now c text × Took before.sink now.sink text) command (ran.done refl) is
+
+  -- the sink took a text that satisfies what each end of the command's plan says
+  printed : (command : Command) (P : Files → List ℕ → Type 0) → EndsIn P (plan_of H command) → command_of said ≡ Some command → Ran H said before now 0
+      → (text : List ℕ) × P before.shelf.files text × Took before.sink now.sink text
+  printed command P ends is ran =
+      let done = completed command is ran in
+      (done.0, does_end P (plan_of H command) before.shelf now.shelf done.0 ends done.1.plan.so, done.2)
+
+  pub verified : (words : VerifyWords) → command_of said ≡ Some (Verify words) → Ran H said before now 0
+      → (text : List ℕ) × IsVerified H before.shelf.files words text × Took before.sink now.sink text
+  verified words = printed (Verify words) (λ files text. IsVerified H files words text) (λ query. (tt, λ bytes proof files text is. is))
+
+  pub replied : (words : AskWords) → command_of said ≡ Some (Ask words) → Ran H said before now 0
+      → (text : List ℕ) × IsReplyVerified H before.caller now.caller words text × Took before.sink now.sink text
+  replied words is ran = let done = completed (Ask words) is ran in (done.0, done.1.links, done.2)
+
+  pub fetched : (words : FetchWords) → command_of said ≡ Some (Fetch words) → Ran H said before now 0
+      → (text : List ℕ) × IsFetched H before.shelf.files words text × Took before.sink now.sink text
+  fetched words = printed (Fetch words) (λ files text. IsFetched H files words text) (tt, λ bytes proof files text is. is)
+
+  pub both_checked : (words : BothWords) → command_of said ≡ Some (Both words) → Ran H said before now 0
+      → (text : List ℕ) × IsBothChecked H before.shelf.files words text × Took before.sink now.sink text
+  both_checked words = printed (Both words) (λ files text. IsBothChecked H files words text) (λ query. (tt, λ bytes proof files text is. is))
+
+  pub growth_checked : (words : GrowthWords) → command_of said ≡ Some (Growth words) → Ran H said before now 0
+      → (text : List ℕ) × IsGrowthChecked H before.shelf.files words text × Took before.sink now.sink text
+  growth_checked words = printed (Growth words) (λ files text. IsGrowthChecked H files words text) (tt, λ bytes growth files text is. is)
