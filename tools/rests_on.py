@@ -9,8 +9,10 @@ usage: bench/rests_on.py COMMAND        such as verify
 
 A definition rests on each name in it that is in scope there, and on all that these rest on. What follows a point is a
 field and does not count. A name counts even if a variable shadows it. A call rests on the names in its signature and
-its clauses. A command rests on the definition that docs/theorems.md quotes for its status 0 (COMMANDS). The record
-`Ran`, which says when a status is returned, is a definition of its own.
+its clauses. `verify`, `ask`, `fetch`, `both` and `growth` rest on their clause of the law LAW, with the comment of the
+law. The premise `Ran` of a law is not followed: the contract of `run` returns it and the law takes it, so what both say
+together does not depend on it. Any other command rests on the definition that docs/theorems.md quotes for its status 0
+(COMMANDS), and `Ran`, which says when a status is returned, is a definition of its own.
 
 A struct, an enum or a trait of the code counts if it is named, with all its lines. If contracts see a type as one
 value, only its comment and the type of that value count. What the members of a trait are for one type does not count.
@@ -30,26 +32,23 @@ import sys
 
 HOUSE = pathlib.Path(__file__).resolve().parent.parent
 CRATES = sorted(folder.name for folder in (HOUSE / "crates").iterdir())
+LAW = "printed_answers_are_right"
+BY_LAW = ("verify", "ask", "fetch", "both", "growth")
 COMMANDS = {
     "rank": "IsRanked",
     "build": "IsBuilt",
     "root": "IsRooted",
     "prove": "IsProofStored",
-    "verify": "IsVerified",
-    "ask": "IsReplyVerified",
     "serve": "AreAllServed",
     "audit": "IsAuditedRight",
     "sweep": "IsSwept",
     "trial": "IsTrial",
     "migrate": "IsMigrated",
     "give": "IsTextStored",
-    "fetch": "IsFetched",
     "audit-fetch": "IsFetchAudited",
     "prove-both": "IsBothStored",
-    "both": "IsBothChecked",
     "audit-both": "IsBothAudited",
     "grow": "IsGrowthStored",
-    "growth": "IsGrowthChecked",
     "audit-growth": "IsGrowthAudited",
 }
 
@@ -62,6 +61,7 @@ METHOD = re.compile(r"    (pub )?fn (\w+)")
 
 # A file of a crate and a name in it. Of the library and of proofs the module is kept, without a name.
 Key = collections.namedtuple("Key", "crate file name")
+PREMISE = Key("ats_top", "specs/Run.antt", "Ran")
 # The lines of a definition, and the names in it that may be in scope, each with what follows its first point.
 Piece = collections.namedtuple("Piece", "lines words")
 
@@ -184,6 +184,15 @@ def end_of_block(lines, start):
     sys.exit(f"a block without an end: {lines[start]}")
 
 
+def add_clauses(file, call, start, end):
+    """The named promises of a call, each with the call's comment and its first line."""
+    head = [*range(file.comment_above(start, ("//", "#")), start + 1)]
+    firsts = {n: found[1] for n in range(start, end) if (found := re.match(rf"    ensures ({WORD}) {{", file.lines[n]))}
+    for first, last in zip(firsts, [*firsts, end][1:]):
+        numbers = range(first, last)
+        file.add(f"{call}: {firsts[first]}", head + [*numbers], code_of([file.lines[n] for n in numbers]))
+
+
 def without_generics(text):
     text = text.replace("->", "")
     while "<" in text:
@@ -246,6 +255,7 @@ def code(crate, path):
             file.add(found[2], numbers, code_of(file.lines[start:end]))
             if found[1] == "fn":
                 file.functions.add(found[2])
+                add_clauses(file, found[2], start, end)
     for trait, of_type, start, end in impls(file):
         if trait == "Model":
             keep_value_alone(file, of_type, start, end)
@@ -332,13 +342,13 @@ class House:
         found = (self.resolve(file, *word) for word in file.pieces[key.name].words)
         return {below for below in found if below and not self.is_function(below)}
 
-    def rests_on(self, keys):
-        """These and all that they rest on."""
+    def rests_on(self, keys, without=()):
+        """These and all that they rest on, without following some."""
         reached = set()
         left = list(keys)
         while left:
             key = left.pop()
-            if key not in reached:
+            if key not in reached and key not in without:
                 reached.add(key)
                 if key.crate != "library":
                     left += self.below(key)
@@ -372,8 +382,11 @@ class House:
 
 
 def asked(house, name):
-    """The pieces that are asked for: a call, or a definition, of which a command names one."""
-    if "::" in name:
+    """The pieces that are asked for: a call or one of its clauses, or a definition, of which a command names one."""
+    if name in BY_LAW:
+        crate, law = "ats_top", f"{LAW}: {name}"
+        found = [Key(crate, path, law) for (owner, path), file in house.files.items() if owner == crate and law in file.pieces]
+    elif "::" in name:
         crate, call = name.split("::", 1)
         found = [key for key in house.public_contracts() if key.crate == crate and key.name == call]
     else:
@@ -459,7 +472,7 @@ def main():
     names = words[1:] if short else words
     if len(names) != 1 or names[0].startswith("-"):
         sys.exit(__doc__)
-    keys = house.rests_on(asked(house, names[0]))
+    keys = house.rests_on(asked(house, names[0]), [PREMISE] if names[0] in BY_LAW else [])
     if short:
         print_short(house, keys)
     else:
