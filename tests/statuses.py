@@ -17,11 +17,9 @@ import tempfile
 from pathlib import Path
 from typing import Callable, NamedTuple
 
-sys.path.insert(0, str(Path(__file__).resolve().parent.parent / "bench"))
-
-import measure
 import sockets
-from sockets import QUERY, REQUEST, ROW, TEXTS, Differs, House, Server, Skipped, expect, framed
+from sockets import House, Server
+from trying import QUERY, REQUEST, ROW, TEXTS, Differs, Skipped, expect, framed, free_port, program_of
 
 SPACE = 8 << 20  # bytes of address space: enough to begin, and too few for the large collection
 LARGE = ["word " * 200_000] * 4  # 4 MB of text
@@ -103,7 +101,7 @@ def unprinted(files: Files) -> None:
 
 
 def link(files: Files) -> None:
-    port = sockets.free_port("127.0.0.1")
+    port = free_port()
     expect("ask where nobody listens", sockets.ask(files.house, f"127.0.0.1:{port}"), ("fault: link\n", 8))
     with Server(files.house, 1) as server:
         words = ["serve", "I", "1", server.address]
@@ -145,7 +143,7 @@ def tell(status: int, files: Files, attempt: Callable[[Files], None]) -> bool:
 def main() -> None:
     if len(sys.argv) > 2 or sys.argv[1:] == ["-h"]:
         sys.exit(__doc__)
-    program = str(Path(sys.argv[1]).resolve()) if sys.argv[1:] else measure.program()
+    program = program_of(sys.argv[1:])
     with tempfile.TemporaryDirectory() as folder:
         files = build(program, Path(folder))
         passed = [tell(status, files, attempt) for status, attempt in enumerate(STATUSES)]

@@ -1,11 +1,11 @@
 #!/usr/bin/env python3
 """Prints the files and lines that a promise rests on.
 
-usage: bench/rests_on.py COMMAND        such as verify
-       bench/rests_on.py DEFINITION     such as IsTopOrCollides, or ats_client.Headline.IsTopOrCollides
-       bench/rests_on.py CRATE::CALL    such as ats_top::run_with, or ats_terms::Query::read
-       bench/rests_on.py --short ONE    one of these, as a row for each crate: the table of docs/trust.md
-       bench/rests_on.py --inner        the definitions that no public contract rests on
+usage: tools/rests_on.py COMMAND        such as verify
+       tools/rests_on.py DEFINITION     such as IsTopOrCollides, or ats_client.Headline.IsTopOrCollides
+       tools/rests_on.py CRATE::CALL    such as ats_top::run_with, or ats_terms::Query::read
+       tools/rests_on.py --short ONE    one of these, as a row for each crate: the table of docs/trust.md
+       tools/rests_on.py --inner        the definitions that no public contract rests on
 
 A definition rests on each name in it that is in scope there, and on all that these rest on. What follows a point is a
 field and does not count. A name counts even if a variable shadows it. A call rests on the names in its signature and
