@@ -67,24 +67,30 @@ text_of_stop (Peer line) = line
 text_of_stop (Faults count) = line_of_faults count
 text_of_stop (Collision lines) = lines
 
--- how a run ends: with all of its text; with a text after which it stopped; or with a text of which the sink did not
--- take all
+-- How a run ends: with all of its text; with a text after which it stopped; or with a text of which the sink did not
+-- take all. A text is what was printed before the end, and then what the end prints.
 pub data End : Type 0 where
-  Done : List ℕ → End
+  Done : List ℕ → List ℕ → End
   Stopped : List ℕ → Stop → End
-  Unprinted : List ℕ → End
+  Unprinted : List ℕ → List ℕ → End
 
 -- the status of an end
 abbrev pub status_of : End → ℕ
-status_of (Done text) = 0
-status_of (Stopped text stop) = status_of_stop stop
-status_of (Unprinted text) = 7
+status_of (Done former last) = 0
+status_of (Stopped former stop) = status_of_stop stop
+status_of (Unprinted former last) = 7
 
--- all that is printed, whether at once or line by line
-abbrev pub text_of : End → List ℕ
-text_of (Done text) = text
-text_of (Stopped text stop) = text ++ text_of_stop stop
-text_of (Unprinted text) = text
+-- what was printed before it
+abbrev pub former_of : End → List ℕ
+former_of (Done former last) = former
+former_of (Stopped former stop) = former
+former_of (Unprinted former last) = former
+
+-- what it prints
+abbrev pub last_of : End → List ℕ
+last_of (Done former last) = last
+last_of (Stopped former stop) = text_of_stop stop
+last_of (Unprinted former last) = last
 
 -- ---- the stop of each fault, with its line
 

@@ -41,7 +41,7 @@ fn words<R: Env + AllocGlobal>(rt: &R) -> io::Result<Vec<String>> {
 
 // What the top call does if memory runs out.
 fn print_memory<K: Sink>(out: &mut K) -> u8
-    ensures { Prints (K.told out.old) (K.told out.new) 6 (text_of_stop Memory) result }
+    ensures { Prints (K.told out.old) (K.told out.new) 6 [] (text_of_stop Memory) result }
 {
     match write_all(out, b"memory\n") {
         Ok(()) => 6,
@@ -69,7 +69,7 @@ fn status_of<R: Threads + Sync, S: Shelf, K: Sink, C: Caller, D: Door>(
         (record { shelf = S.told shelf.new; sink = K.told out.new; caller = C.told caller.new; door = D.told door.new })
         result) }
     ensures memory { IfErr words (λ fault. error_kind fault ≡ OutOfMemory
-        → Prints (K.told out.old) (K.told out.new) 6 (text_of_stop Memory) result) }
+        → Prints (K.told out.old) (K.told out.new) 6 [] (text_of_stop Memory) result) }
     ensures ends { EndsRun
         (record { shelf = S.told shelf.old; sink = K.told out.old; caller = C.told caller.old; door = D.told door.old })
         (record { shelf = S.told shelf.new; sink = K.told out.new; caller = C.told caller.new; door = D.told door.new })

@@ -106,7 +106,7 @@ impl Player {
             "prints" => self.want_bytes(rest),
             "prints-file" => self.stage.want_file(rest),
             "lines" => self.want_lines(rest),
-            "holds" | "size" | "none" | "wrote" => self.want_left(verb, rest),
+            "holds" | "size" | "none" | "wrote" | "unserved" => self.want_left(verb, rest),
             _ => self.prepare(verb, rest),
         }
     }
@@ -139,6 +139,7 @@ impl Player {
             "holds" => files::holds(&self.stage.shelf, &self.notes, rest)?,
             "size" => files::has_size(&self.stage.shelf, rest)?,
             "wrote" => self.stage.wrote(rest)?,
+            "unserved" => self.stage.is_unserved(rest)?,
             _ => self.stage.shelf.bytes_of(rest).is_none(),
         };
         self.stage.note_fit(fits)

@@ -122,8 +122,17 @@ impl Stage {
         let (count, name) = two(line)?;
         let wanted = self.shelf.bytes_of(name).ok_or(Fault::Unread)?;
         let at = place(count)?;
-        let link = self.caller.given_back(at).or(self.door.given_back(at));
+        let link = self.given_back(at);
         Ok(link.is_some_and(|link| link.written() == wanted))
+    }
+
+    /// `LINK`: whether no link of that number came back.
+    pub(crate) fn is_unserved(&self, count: &str) -> Result<bool, Fault> {
+        Ok(self.given_back(place(count)?).is_none())
+    }
+
+    fn given_back(&self, at: u32) -> Option<&MemLink> {
+        self.caller.given_back(at).or(self.door.given_back(at))
     }
 
     /// The sink of the next command.

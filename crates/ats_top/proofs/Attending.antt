@@ -1,5 +1,5 @@
 -- How serving links ends.
-use Rattle.std.proofs.Common.{◌≡◌, ◌≤◌, ◌<◌, ◌+◌, ◌++◌, ◌∷◌, ℕ, List, [], length, Result, Ok, Err, refl, sym, subst, inr, arith, length-append}
+use Rattle.std.proofs.Common.{◌≡◌, ◌≤◌, ◌<◌, ◌+◌, ◌++◌, ◌∷◌, ℕ, List, [], length, Result, Ok, Err, refl, sym, ap₂, subst, inr, arith, append-nil, length-append}
 use Rattle.std.specs.Prelude.{codes, cond}
 use Rattle.ats_base.specs.Outside.{SinkTold}
 use Rattle.ats_base.specs.Links.{DoorTold}
@@ -45,11 +45,12 @@ module _ (gives : Question → Reply → Type 0) (n faults : ℕ) (door mid now 
       → EndsServing gives connections (record { door = door; sink = sink }) (record { door = now; sink = later }) (sessions ++ session ∷ []) (Err halt)
   untold connections Door few (count, faulty, had, took) same one why = absurd why
   untold connections Sink few (count, faulty, had, took) same one why =
-      let lines = lines_then sessions session served n count same in
-      let text : FailedToTake sink later (session_lines (sessions ++ session ∷ [])) = subst (λ (x : List ℕ). FailedToTake sink later x) (sym lines) (failed_then sink told later (session_lines sessions) (line_of_session (n + 1) served) took why) in (
+      let line : line_of_session (n + 1) served ≡ line_of_session (length sessions + 1) session.served = ap₂ (λ (k : ℕ) (s : Served). line_of_session (k + 1) s) (sym count) (sym same) in
+      let text = failed_then sink told later (session_lines sessions) [] (line_of_session (n + 1) served) took why in
+      let whole : FailedToTake sink later (session_lines sessions) (line_of_session (n + 1) served) = subst (λ (x : List ℕ). FailedToTake sink later x (line_of_session (n + 1) served)) (append-nil (session_lines sessions)) text in (
         omega (arith, few, count, length-append sessions (session ∷ [])),
         had_then gives sessions (session ∷ []) door mid now had one,
-        text,
+        (sessions, session, refl, subst (λ (x : List ℕ). FailedToTake sink later (session_lines sessions) x) line whole),
       )
   untold connections Memory few (count, faulty, had, took) same one why =
       let text : Took sink later (session_lines sessions) = subst (λ (s : SinkTold). Took sink s (session_lines sessions)) (sym why) took in (
@@ -78,10 +79,11 @@ module _ (H : List ℕ → List ℕ) (files : Files) (words : ServeWords) (archi
     took_then sink told now.sink (codes "listening\n") (session_lines sessions) first took,
     inr (record { sessions = sessions; mid = mid; served = served_of mid sessions had (omega (arith, fewer)); failed = failed; fewer = fewer; printed = refl }),
   )
-  attends sink told now (Err Sink) first (sessions, (few, had, failed)) = (
-    serving_text sessions,
-    failed_then sink told now.sink (codes "listening\n") (session_lines sessions) first failed,
-    record { sessions = sessions; served = served_of now.door sessions had few; printed = refl },
+  attends sink told now (Err Sink) first (sessions, (few, had, (lines, last, is, failed))) = (
+    serving_text lines,
+    line_of_session (length lines + 1) last.served,
+    failed_then sink told now.sink (codes "listening\n") (session_lines lines) (line_of_session (length lines + 1) last.served) first failed,
+    record { sessions = sessions; served = served_of now.door sessions had few; cut = inr (lines, last, is, refl, refl) },
   )
   attends sink told now (Err Memory) first (sessions, (few, had, (lines, last, is, took))) = (
     serving_text lines,

@@ -1,18 +1,18 @@
 -- What follows from how a command ended and what it printed.
-use Rattle.std.proofs.Common.{◌≡◌, ◌≢◌, ◌⊎◌, ◌≤◌, ◌∙◌, ℕ, List, Some, None, refl, sym, ap, subst, inl, inr, arith}
+use Rattle.std.proofs.Common.{◌≡◌, ◌≢◌, ◌⊎◌, ◌≤◌, ◌∙◌, ◌++◌, ℕ, List, Some, None, refl, sym, ap, subst, inl, inr, arith}
 use Rattle.ats_base.specs.Outside.{Rose, ShelfTold, StoresOnce}
 use Rattle.ats_plan.specs.Plan.{Refuses, Passes, ComesToShelf, IsKnown, LacksFirst, Leaves}
 use Rattle.ats_plan.specs.Runs.{IsDone, IsStopped}
 use Rattle.ats_plan.specs.Sound.{IsSound}
 use Rattle.ats_plan.proofs.Public.{Cause, Refused, Wanted, Broken, stop_cause, one_refusal, passes_kept, does_passes, does_asked, does_counts, does_later, does_leaves, does_untouched, stops_asked, stops_alone, stops_counts, stops_files, stops_later, stops_leaves, stops_uncounted, stops_untouched}
 use Rattle.ats_console.specs.Words.{Command, command_of}
-use Rattle.ats_console.specs.Stops.{End, Done, Stopped, Unprinted, status_of, status_of_stop, text_of}
+use Rattle.ats_console.specs.Stops.{End, Done, Stopped, Unprinted, status_of, status_of_stop, former_of, last_of}
 use Rattle.ats_top.specs.Outside.{Outside}
 use Rattle.ats_top.specs.Commands.{plan_of}
 use Rattle.ats_top.specs.Calling.{HasCalled, HasOpened}
 use Rattle.ats_top.specs.Counts.{CountsFaults}
 use Rattle.ats_top.specs.Serving.{Took}
-use Rattle.ats_top.specs.Run.{Said, IsCompleted, StoppedEarly, StoppedLate, IsHalted, RunEnds, Ended, IsStatus, StopDecides, PassingDecides, HeardDecides, Decides, Excuse, NoMemory, SinkFailed, ShelfFailed, CallerFailed, DoorBroke, HasAsked, Ran}
+use Rattle.ats_top.specs.Run.{Said, IsCompleted, StoppedEarly, StoppedLate, IsHalted, RunEnds, PrintsLast, Ended, IsStatus, StopDecides, PassingDecides, HeardDecides, Decides, Excuse, NoMemory, SinkFailed, ShelfFailed, CallerFailed, DoorBroke, HasAsked, Ran}
 use Rattle.ats_console.specs.declared.stops.Stop.{Stop}
 use Rattle.ats_console.specs.declared.stops.Stop.TheVariants.{Usage, Shelf, Input, Rejected, Memory, Link, Peer, Faults, Collision}
 use Rattle.ats_top.proofs.NoUsage.{halted_otherwise}
@@ -48,28 +48,28 @@ only_usage (Collision lines) two = absurd (omega (arith, two))
 
 -- each end has a status
 has_status : (end : End) → IsStatus (status_of end)
-has_status (Done text) = inl refl
+has_status (Done former last) = inl refl
 has_status (Stopped text (Rejected lines)) = inr (inl refl)
 has_status (Stopped text Usage) = inr (inr (inl refl))
 has_status (Stopped text Shelf) = inr (inr (inr (inl refl)))
 has_status (Stopped text (Input line)) = inr (inr (inr (inr (inl refl))))
 has_status (Stopped text (Collision lines)) = inr (inr (inr (inr (inr (inl refl)))))
 has_status (Stopped text Memory) = inr (inr (inr (inr (inr (inr (inl refl))))))
-has_status (Unprinted text) = inr (inr (inr (inr (inr (inr (inr (inl refl)))))))
+has_status (Unprinted former last) = inr (inr (inr (inr (inr (inr (inr (inl refl)))))))
 has_status (Stopped text Link) = inr (inr (inr (inr (inr (inr (inr (inr (inl refl))))))))
 has_status (Stopped text (Peer line)) = inr (inr (inr (inr (inr (inr (inr (inr (inr (inl refl)))))))))
 has_status (Stopped text (Faults count)) = inr (inr (inr (inr (inr (inr (inr (inr (inr (inr refl)))))))))
 
 -- an end whose text may all be printed
 abbrev IsPrinted : End → Type 0
-IsPrinted (Unprinted text) = ⊥
+IsPrinted (Unprinted former last) = ⊥
 IsPrinted _ = Unit {0}
 
 -- the status of another is 7
 was_printed : (end : End) (result : ℕ) → result ≢ 7 → result ≡ status_of end → IsPrinted end
-was_printed (Done text) result not is = tt
+was_printed (Done former last) result not is = tt
 was_printed (Stopped text stop) result not is = tt
-was_printed (Unprinted text) result not is = not is
+was_printed (Unprinted former last) result not is = not is
 
 module _ (H : List ℕ → List ℕ) (said : List (List ℕ)) (before now : Outside) where
   -- ---- the status
@@ -79,14 +79,14 @@ module _ (H : List ℕ → List ℕ) (said : List (List ℕ)) (before now : Outs
   Agrees k status = (status ≡ k) ⊎ Excuse H said before now status
 
   unsaid_end : command_of said ≡ None → (end : End) → IsPrinted end → RunEnds H before now said end → status_of end ≡ 2
-  unsaid_end none (Unprinted text) printed ends = absurd printed
-  unsaid_end none (Done text) printed ends = absurd (no_command said ends.0 none ends.1)
+  unsaid_end none (Unprinted former last) printed ends = absurd printed
+  unsaid_end none (Done former last) printed ends = absurd (no_command said ends.0 none ends.1)
   unsaid_end none (Stopped text stop) printed (inl unsaid) = ap status_of_stop unsaid.usage
   unsaid_end none (Stopped text stop) printed (inr halted) = absurd (no_command said halted.0 none halted.1)
 
   usage_end : (end : End) → RunEnds H before now said end → status_of end ≡ 2 → command_of said ≡ None
-  usage_end (Done text) ends two = absurd (omega (arith, two))
-  usage_end (Unprinted text) ends two = absurd (omega (arith, two))
+  usage_end (Done former last) ends two = absurd (omega (arith, two))
+  usage_end (Unprinted former last) ends two = absurd (omega (arith, two))
   usage_end (Stopped text stop) (inl unsaid) two = unsaid.none
   usage_end (Stopped text stop) (inr (command, is, halted)) two =
       absurd (halted_otherwise H before now command text (subst (IsHalted H before now command text) (only_usage stop two) halted))
@@ -102,8 +102,9 @@ module _ (H : List ℕ → List ℕ) (said : List (List ℕ)) (before now : Outs
       halted_end text stop (inr stops) = late text stop stops
 
       by_end : (end : End) → IsPrinted end → RunEnds H before now said end → P (status_of end)
-      by_end (Unprinted text) printed ends = absurd printed
-      by_end (Done text) printed ends = done text (its said (λ c. IsCompleted H before now c text) command ends is)
+      by_end (Unprinted former last) printed ends = absurd printed
+      by_end (Done former last) printed ends =
+          done (former ++ last) (its said (λ c. IsCompleted H before now c (former ++ last) × PrintsLast c former last) command ends is).0
       by_end (Stopped text stop) printed (inl unsaid) = absurd (no_command said command unsaid.none is)
       by_end (Stopped text stop) printed (inr halted) = halted_end text stop (its said (λ c. IsHalted H before now c text stop) command halted is)
 
@@ -185,8 +186,8 @@ module _ (H : List ℕ → List ℕ) (said : List (List ℕ)) (before now : Outs
   halted_went command text stop (inr late) = inl (text, inr (inr (links_wait H before now command text stop late.links late.plan)), late.plan)
 
   end_went : (end : End) → RunEnds H before now said end → WentSo (status_of end)
-  end_went (Done text) (command, is, completed) = inr (command, is, inl (text, inl refl, completed.plan))
-  end_went (Unprinted text) (command, is, unprinted) = inr (command, is, inl (text, inr (inl refl), unprinted.plan))
+  end_went (Done former last) (command, is, (completed, pieces)) = inr (command, is, inl (former ++ last, inl refl, completed.plan))
+  end_went (Unprinted former last) (command, is, unprinted) = inr (command, is, inl (former ++ last, inr (inl refl), unprinted.plan))
   end_went (Stopped text stop) (inl unsaid) = inl unsaid.shelf
   end_went (Stopped text stop) (inr (command, is, halted)) = inr (command, is, halted_went command text stop halted)
 
@@ -282,10 +283,11 @@ module _ (H : List ℕ → List ℕ) (said : List (List ℕ)) (before now : Outs
     abbrev IsDoneSo : Type 0
     IsDoneSo = Said said (λ command. (text : List ℕ) × IsCompleted H before now command text × Took before.sink now.sink text)
 
-    done_end : (end : End) → RunEnds H before now said end → result ≡ 0 → result ≡ status_of end → Took before.sink now.sink (text_of end) → IsDoneSo
-    done_end (Done text) (command, said, completed) is same took = (command, said, (text, completed, took))
+    done_end : (end : End) → RunEnds H before now said end → result ≡ 0 → result ≡ status_of end
+        → Took before.sink now.sink (former_of end ++ last_of end) → IsDoneSo
+    done_end (Done former last) (command, said, (completed, pieces)) is same took = (command, said, (former ++ last, completed, took))
     done_end (Stopped text stop) ends is same took = absurd (never_done stop (sym same ∙ is))
-    done_end (Unprinted text) ends is same took = absurd (omega (arith, is, same))
+    done_end (Unprinted former last) ends is same took = absurd (omega (arith, is, same))
 
     done : result ≡ 0 → IsDoneSo
     done is = elim ended.prints [

@@ -80,7 +80,7 @@ module _ (H : List ℕ → List ℕ) (files : Files) (words : ServeWords) (befor
   })
   attends_opens was now (Err Door) is (text, took, inr broken) =
       broken_opens broken.mid now.door broken.sessions (subst (λ (d : DoorTold). HasServed H files words d broken.mid broken.sessions) is broken.served) broken.fewer broken.failed
-  attends_opens was now (Err Sink) is (text, took, some) = served_opens now.door some.sessions (subst (λ (d : DoorTold). HasServed H files words d now.door some.sessions) is some.served)
+  attends_opens was now (Err Sink) is (former, last, failed, some) = served_opens now.door some.sessions (subst (λ (d : DoorTold). HasServed H files words d now.door some.sessions) is some.served)
   attends_opens was now (Err Memory) is (text, took, some) = served_opens now.door some.sessions (subst (λ (d : DoorTold). HasServed H files words d now.door some.sessions) is some.served)
 
 -- over a link whose count of faults is 0 no connection ends by a fault

@@ -1,5 +1,5 @@
 -- How a run of `serve` ends.
-use Rattle.std.proofs.Common.{◌≡◌, ◌≢◌, ◌≤◌, ◌∙◌, ℕ, List, [], Result, Ok, Err, Some, refl, sym, subst, inl, inr, arith}
+use Rattle.std.proofs.Common.{◌≡◌, ◌≢◌, ◌≤◌, ◌∙◌, ◌++◌, ℕ, List, [], Result, Ok, Err, Some, refl, sym, subst, inl, inr, arith, append-nil}
 use Rattle.ats_base.specs.Outside.{ShelfTold, SinkTold}
 use Rattle.ats_base.specs.Links.{CallerTold, DoorTold}
 use Rattle.ats_console.specs.Words.{ServeWords, Serve, command_of}
@@ -15,7 +15,7 @@ use Rattle.ats_top.specs.Inner.Serving.{DoorAndSink, Attends}
 use Rattle.ats_top.specs.Serving.{Took, FailedToTake}
 use Rattle.ats_top.specs.Served.{AreAllServed}
 use Rattle.ats_top.specs.Inner.Outcome.{PrintsStop, PrintsOutcome}
-use Rattle.ats_top.specs.Run.{Ended}
+use Rattle.ats_top.specs.Run.{IsCompleted, Ended}
 use Rattle.ats_top.specs.declared.serving.Halt.{Halt}
 use Rattle.ats_top.specs.declared.serving.Halt.TheVariants.{Door, Sink, Memory}
 use Rattle.ats_console.specs.declared.stops.Stop.{Stop}
@@ -28,7 +28,7 @@ pub attends_later : (H : List ℕ → List ℕ) (files : Files) (words : ServeWo
     → Attends H files words before now result → before.sink.faults ≤ now.sink.faults
 attends_later H files words before now (Ok faults) (text, took, all) = omega (arith, took.kept)
 attends_later H files words before now (Err Door) (text, took, how) = omega (arith, took.kept)
-attends_later H files words before now (Err Sink) (text, failed, some) = failed.later
+attends_later H files words before now (Err Sink) (former, last, failed, some) = failed.later
 attends_later H files words before now (Err Memory) (text, took, some) = omega (arith, took.kept)
 
 -- the count of the door's faults is as before, unless the status is that of its fault
@@ -39,7 +39,7 @@ attends_door H files words before now (Ok faults) after result (text, took, all)
 attends_door H files words before now (Err Door) after result (text, took, how) prints not_door not_sink =
     absurd (link_printed now.sink after result prints not_door not_sink)
 attends_door H files words before now (Err Memory) after result (text, took, unmade) prints not_door not_sink = unmade.served.had.kept ∙ unmade.served.listened.kept
-attends_door H files words before now (Err Sink) after result (text, failed, some) prints not_door not_sink = some.served.had.kept ∙ some.served.listened.kept
+attends_door H files words before now (Err Sink) after result (former, last, failed, some) prints not_door not_sink = some.served.had.kept ∙ some.served.listened.kept
 
 module _ (H : List ℕ → List ℕ) (said : List (List ℕ)) (words : ServeWords) (is : command_of said ≡ Some (Serve words)) (caller : CallerTold)
     (shelf later : ShelfTold) where
@@ -82,21 +82,22 @@ module _ (H : List ℕ → List ℕ) (said : List (List ℕ)) (words : ServeWord
     pub served : (sink mid now : SinkTold) (door left : DoorTold) (outcome : Result ℕ Halt) (result : ℕ)
         → Attends H shelf.files words (record { door = door; sink = sink }) (record { door = left; sink = mid }) outcome
         → PrintsOutcome mid now outcome result → Ended H said (at shelf sink door) (at later now left) result
-    served sink mid now door left (Ok faults) result (text, took, all) (inl (none, done, quiet)) = record {
-      end = Done text;
-      ends = (Serve words, is, record { plan = plan_done text; links = subst (λ (n : ℕ). AreAllServed H shelf.files words door left n text) none all });
-      prints = inl (omega (arith, done), done, subst (λ (s : SinkTold). Took sink s text) (sym quiet) took);
-    }
+    served sink mid now door left (Ok faults) result (text, took, all) (inl (none, done, quiet)) =
+        let completed : IsCompleted H (at shelf sink door) (at later now left) (Serve words) text = record { plan = plan_done text; links = subst (λ (n : ℕ). AreAllServed H shelf.files words door left n text) none all } in
+        let whole : text ≡ text ++ [] = sym (append-nil text) in
+        record {
+          end = Done text [];
+          ends = (Serve words, is, (subst (IsCompleted H (at shelf sink door) (at later now left) (Serve words)) whole completed, refl));
+          prints = inl (omega (arith, done), done, subst (λ (x : List ℕ). Took sink now x) whole (subst (λ (s : SinkTold). Took sink s text) (sym quiet) took));
+        }
     served sink mid now door left (Ok faults) result (text, took, all) (inr (some, prints)) =
         stopped_after H said (at shelf sink door) (at later now left) text mid (stop.Faults faults) result took (inr (Serve words, is, inr (record { plan = plan_done text; links = (some, all) }))) prints
     served sink mid now door left (Err Door) result (text, took, how) prints =
         stopped_after H said (at shelf sink door) (at later now left) text mid stop.Link result took (inr (Serve words, is, inr (record { plan = plan_done text; links = how }))) prints
     served sink mid now door left (Err Memory) result (text, took, unmade) prints =
         stopped_after H said (at shelf sink door) (at later now left) text mid stop.Memory result took (inr (Serve words, is, inr (record { plan = plan_done text; links = unmade }))) prints
-    served sink mid now door left (Err Sink) result (text, failed, some) (seven, quiet) =
-        let told = subst (λ (s : SinkTold). FailedToTake sink s text) (sym quiet) failed in
-        record {
-          end = Unprinted text;
-          ends = (Serve words, is, record { plan = plan_done text; links = some });
-          prints = inr (seven, told);
-        }
+    served sink mid now door left (Err Sink) result (former, last, failed, some) (seven, quiet) = record {
+      end = Unprinted former last;
+      ends = (Serve words, is, record { plan = plan_done (former ++ last); links = some });
+      prints = inr (seven, subst (λ (s : SinkTold). FailedToTake sink s former last) (sym quiet) failed);
+    }

@@ -3,7 +3,6 @@ use Rattle.std.proofs.Common.{◌≡◌, ◌≤◌, ◌+◌, ◌∙◌, ◌++◌
 use Rattle.std.specs.List.{All}
 use Rattle.std.proofs.lemmas.List.Sums.{fold-append, sum_by_push}
 use Rattle.std.proofs.lemmas.List.Elements.{All-append, All-cons, All-nil}
-use Rattle.std.proofs.Math.Seq.{take-append-add}
 use Rattle.ats_base.specs.Outside.{Rose, SinkTold}
 use Rattle.ats_base.specs.Links.{LinkTold, Opening, DoorTold, IsNew, counted_broken, accepting_out, accepted_back}
 use Rattle.ats_wire.specs.Requests.{Question}
@@ -97,7 +96,7 @@ took_as before now bytes text is all kept =
 
 pub failed_as : (before now : SinkTold) (bytes text : List ℕ) → bytes ≡ text
     → ((n : ℕ) × (n ≤ length bytes) × (now.taken ≡ option_map (λ taken. taken ++ take n bytes) before.taken)) → Rose before.faults now.faults
-    → before.faults ≤ now.faults → now.last_failed ≡ true → FailedToTake before now text
+    → before.faults ≤ now.faults → now.last_failed ≡ true → FailedToTake before now [] text
 failed_as before now bytes text is (n, within, part) rose later last =
     let P : List ℕ → Type 0 = λ (b : List ℕ). (n ≤ length b) × (now.taken ≡ option_map (λ taken. taken ++ take n b) before.taken) in
     let both = subst P is (within, part) in
@@ -125,13 +124,14 @@ took_then before mid now text more first second = record {
   kept = second.kept ∙ first.kept;
 }
 
--- a sink that failed after all of a text failed after a prefix of it and of what was to follow
-pub failed_then : (before mid now : SinkTold) (text more : List ℕ) → Took before mid text → FailedToTake mid now more → FailedToTake before now (text ++ more)
-failed_then before mid now text more first second = record {
-  n = length text + second.n;
-  within = omega (arith, second.within, length-append text more);
-  part = subst (λ (x : List ℕ). now.taken ≡ option_map (λ taken. taken ++ x) before.taken) (sym (take-append-add text more second.n))
-      (behind before.taken mid.taken now.taken text (take second.n more) first.all second.part);
+-- what a sink took before it failed was printed before too
+pub failed_then : (before mid now : SinkTold) (text former more : List ℕ) → Took before mid text → FailedToTake mid now former more
+    → FailedToTake before now (text ++ former) more
+failed_then before mid now text former more first second = record {
+  n = second.n;
+  within = second.within;
+  part = subst (λ (x : List ℕ). now.taken ≡ option_map (λ taken. taken ++ x) before.taken) (sym (append_assoc text former (take second.n more)))
+      (behind before.taken mid.taken now.taken text (former ++ take second.n more) first.all second.part);
   cause = rw (← first.kept) second.cause;
   later = omega (arith, first.kept, second.later);
   last = second.last;

@@ -7,11 +7,11 @@ use Rattle.ats_plan.specs.Runs.{IsDone}
 use Rattle.ats_plan.specs.Sound.{IsSound}
 use Rattle.ats_plan.proofs.Public.{Cause, Refused, Wanted, Broken, stop_cause, one_refusal, passes_kept, does_passes}
 use Rattle.ats_console.specs.Words.{Command, Ask, Serve, command_of}
-use Rattle.ats_console.specs.Stops.{End, Done, Stopped, Unprinted, status_of, status_of_stop, text_of, text_of_stop}
+use Rattle.ats_console.specs.Stops.{End, Done, Stopped, Unprinted, status_of, status_of_stop, former_of, last_of, text_of_stop}
 use Rattle.ats_top.specs.Calling.{MayCall, MayOpen}
 use Rattle.ats_top.specs.Commands.{plan_of}
 use Rattle.ats_top.specs.Outside.{Outside}
-use Rattle.ats_top.specs.Run.{IsCompleted, StoppedEarly, IsHalted, IsUnprinted, RunEnds, IsCommandServed, LinksStop, LinksUnprinted, Excuse, NoMemory, SinkFailed, ShelfFailed, Ran}
+use Rattle.ats_top.specs.Run.{IsCompleted, StoppedEarly, IsHalted, IsUnprinted, RunEnds, IsCommandServed, LinksStop, LinksUnprinted, PrintsLast, Excuse, NoMemory, SinkFailed, ShelfFailed, Ran}
 use Rattle.ats_top.specs.Serving.{Took}
 use Rattle.ats_console.specs.declared.stops.Stop.{Stop}
 use Rattle.ats_console.specs.declared.stops.Stop.TheVariants.{Usage, Shelf, Input, Rejected, Memory, Link, Peer, Faults, Collision}
@@ -73,9 +73,9 @@ module _ (H : List ℕ → List ℕ) (said : List (List ℕ)) (before now : Outs
   halted_text text other same (inr late) = absurd (unfinished text late.plan)
 
   -- the text of an end of that status
-  end_text : (end : End) → status_of_stop stop ≡ status_of end → RunEnds H before now said end → text_of end ≡ text_of_stop stop
-  end_text (Done text) same ends = absurd (never_done stop same)
-  end_text (Unprinted text) same ends = absurd (never_unprinted stop same)
+  end_text : (end : End) → status_of_stop stop ≡ status_of end → RunEnds H before now said end → former_of end ++ last_of end ≡ text_of_stop stop
+  end_text (Done former last) same ends = absurd (never_done stop same)
+  end_text (Unprinted former last) same ends = absurd (never_unprinted stop same)
   end_text (Stopped text other) same (inl unsaid) = absurd (let both = sym is ∙ unsaid.none in cc)
   end_text (Stopped text other) same (inr halted) = halted_text text other same (its said (λ c. IsHalted H before now c text other) command halted is)
 
@@ -103,9 +103,9 @@ unlinked_stop H before now (Ask words) text stop calls opens done links =
 unlinked_stop H before now (Serve words) text stop calls opens done links = opens tt
 unlinked_stop H before now other text stop calls opens done links = links
 
-unlinked_print : (H : List ℕ → List ℕ) (before now : Outside) (command : Command) (text : List ℕ) → (MayOpen command → ⊥) → LinksUnprinted H before now command text → ⊥
-unlinked_print H before now (Serve words) text opens links = opens tt
-unlinked_print H before now other text opens links = links
+unlinked_print : (H : List ℕ → List ℕ) (before now : Outside) (command : Command) (former last : List ℕ) → (MayOpen command → ⊥) → LinksUnprinted H before now command former last → ⊥
+unlinked_print H before now (Serve words) former last opens links = opens tt
+unlinked_print H before now other former last opens links = links
 
 -- if such a command is done, all its steps hold
 unlinked_served : (H : List ℕ → List ℕ) (before now : Outside) (command : Command) (text : List ℕ) → (MayCall command → ⊥) → IsCompleted H before now command text
@@ -164,9 +164,10 @@ module _ (H : List ℕ → List ℕ) (said : List (List ℕ)) (command : Command
       done_alike zero (unlinked_served H before now command text calls completed (does_passes (plan_of H command) before.shelf now.shelf text sound completed.plan.so))
 
   end_alike : (end : End) → a ≡ status_of end → RunEnds H before now said end → EndAlike
-  end_alike (Done text) status ends = completed_alike text status (its said (λ c. IsCompleted H before now c text) command ends is)
-  end_alike (Unprinted text) status ends =
-      absurd (unlinked_print H before now command text opens (its said (λ c. IsUnprinted H before now c text) command ends is).links)
+  end_alike (Done former last) status ends =
+      completed_alike (former ++ last) status (its said (λ c. IsCompleted H before now c (former ++ last) × PrintsLast c former last) command ends is).0
+  end_alike (Unprinted former last) status ends =
+      absurd (unlinked_print H before now command former last opens (its said (λ c. IsUnprinted H before now c former last) command ends is).links)
   end_alike (Stopped text stop) status (inl unsaid) = absurd (let both = sym is ∙ unsaid.none in cc)
   end_alike (Stopped text stop) status (inr halted) = halted_alike text stop status (its said (λ c. IsHalted H before now c text stop) command halted is)
 

@@ -1,5 +1,5 @@
 -- How a command that is done or stopped ends.
-use Rattle.std.proofs.Common.{◌≡◌, ◌≢◌, ◌⊎◌, ◌++◌, ℕ, List, [], refl, sym, subst, inl, inr, Some, None, Result, Ok, Err, IfErr}
+use Rattle.std.proofs.Common.{◌≡◌, ◌≢◌, ◌⊎◌, ◌++◌, ℕ, List, [], refl, sym, subst, inl, inr, Some, None, Result, Ok, Err, IfErr, append-nil}
 use Rattle.std.specs.Prelude.{IfOk}
 use Rattle.ats_base.specs.Outside.{ShelfTold, SinkTold}
 use Rattle.ats_base.specs.Links.{CallerTold, DoorTold}
@@ -12,12 +12,12 @@ use Rattle.ats_top.specs.Commands.{plan_of}
 use Rattle.ats_top.specs.Commands.Ask.{ask_plan}
 use Rattle.ats_top.specs.Asked.{IsReplyVerified}
 use Rattle.ats_top.specs.Inner.Stops.{AskStop}
-use Rattle.ats_top.specs.Serving.{Took}
+use Rattle.ats_top.specs.Serving.{Took, FailedToTake}
 use Rattle.ats_console.specs.Stops.{Done, Stopped, status_of_stop, text_of_stop}
 use Rattle.ats_top.specs.Inner.Conversation.{KeepsCallerCount}
 use Rattle.ats_top.specs.Inner.Links.{UsesLinks}
 use Rattle.ats_top.specs.Inner.Outcome.{HasLine, PrintsStop, PrintsAnswer}
-use Rattle.ats_top.specs.Run.{LinksDone, StoppedEarly, IsHalted, RunEnds, Prints, Ended}
+use Rattle.ats_top.specs.Run.{LinksDone, PrintsLast, StoppedEarly, IsHalted, RunEnds, Prints, Ended}
 use Rattle.ats_console.specs.declared.stops.Stop.{Stop}
 use Rattle.ats_console.specs.declared.stops.Stop.TheVariants.{Usage, Shelf, Memory, Link}
 use Rattle.ats_top.proofs.LinkEnds.{ask_done, links_memory}
@@ -25,9 +25,10 @@ use Rattle.ats_top.proofs.Sessions.{took_then, failed_then}
 
 -- what is printed after a text that was taken is printed with it
 prints_then : (before mid now : SinkTold) (status : ℕ) (text more : List ℕ) (result : ℕ) → Took before mid text
-    → Prints mid now status more result → Prints before now status (text ++ more) result
+    → Prints mid now status [] more result → Prints before now status text more result
 prints_then before mid now status text more result took (inl (not, is, all)) = inl (not, is, took_then before mid now text more took all)
-prints_then before mid now status text more result took (inr (is, failed)) = inr (is, failed_then before mid now text more took failed)
+prints_then before mid now status text more result took (inr (is, failed)) =
+    inr (is, subst (λ (x : List ℕ). FailedToTake before now x more) (append-nil text) (failed_then before mid now text [] more took failed))
 
 -- the stop has a line of its own
 has_other : (stop : Stop) → HasLine stop → stop ≢ Shelf
@@ -82,6 +83,12 @@ unlinked H before now (Ask words) text none = absurd (none tt)
 unlinked H before now (Serve words) text none = absurd (none tt)
 unlinked H before now other text none = tt
 
+-- and prints its text at once
+printed_once : (command : Command) (text : List ℕ) → (UsesLinks command → ⊥) → PrintsLast command [] text
+printed_once (Ask words) text none = refl
+printed_once (Serve words) text none = absurd (none tt)
+printed_once other text none = refl
+
 -- such a command, when its text or the cause of its stop was printed
 module _ (H : List ℕ → List ℕ) (said : List (List ℕ)) (before now : Outside) (command : Command) (is : command_of said ≡ Some command) where
   pub answer_ended : (UsesLinks command → ⊥) → now.door ≡ before.door → {T : Type 0} (bytes_of : T → List ℕ) (answer : Result T Stop) (result : ℕ)
@@ -89,8 +96,8 @@ module _ (H : List ℕ → List ℕ) (said : List (List ℕ)) (before now : Outs
       → IfErr answer (IsStopped Shelf Memory (plan_of H command) before.shelf now.shelf)
       → PrintsAnswer before.sink now.sink answer bytes_of result → Ended H said before now result
   answer_ended none door bytes_of (Ok text) result done stopped prints = record {
-    end = Done (bytes_of text);
-    ends = (command, is, record { plan = done; links = unlinked H before now command (bytes_of text) none });
+    end = Done [] (bytes_of text);
+    ends = (command, is, (record { plan = done; links = unlinked H before now command (bytes_of text) none }, printed_once command (bytes_of text) none));
     prints = prints;
   }
   answer_ended none door bytes_of (Err stop) result done stopped prints =
@@ -123,8 +130,8 @@ module _ (H : List ℕ → List ℕ) (shelf : ShelfTold) (sink later_sink : Sink
       → IfOk answer (λ text. IsReplyVerified H caller later words (bytes_of text)) → IfErr answer (AskStop H caller later words)
       → PrintsAnswer sink later_sink answer bytes_of result → Ended H said first last result
   ask_ended bytes_of (Ok text) result verified stops prints = record {
-    end = Done (bytes_of text);
-    ends = (Ask words, is, record { plan = ask_done words shelf (bytes_of text) verified.accepted.replied.asks; links = verified });
+    end = Done [] (bytes_of text);
+    ends = (Ask words, is, (record { plan = ask_done words shelf (bytes_of text) verified.accepted.replied.asks; links = verified }, refl));
     prints = prints;
   }
   ask_ended bytes_of (Err stop) result verified stops prints = stop_ended H said first last stop result (inr (Ask words, is, ask_halted stop stops)) prints

@@ -7,7 +7,7 @@ use Rattle.ats_console.specs.Words.{ServeWords}
 use Rattle.ats_plan.specs.Files.{Files}
 use Rattle.ats_console.specs.Read.{HasIndex}
 use Rattle.ats_top.specs.Answering.{gives}
-use Rattle.ats_top.specs.Serving.{Session, HadSessions, FailedToAccept, faults_of, session_lines}
+use Rattle.ats_top.specs.Serving.{Session, HadSessions, FailedToAccept, faults_of, line_of_session, session_lines}
 use Rattle.ats_console.specs.declared.stops.Stop.{Stop}
 use Rattle.ats_console.specs.declared.stops.Stop.TheVariants as stop
 
@@ -68,12 +68,19 @@ pub record IsLineUnmade (H : List ℕ → List ℕ) (files : Files) (words : Ser
   pub but_last : (sessions ≡ told) ⊎ ((last : Session) × (sessions ≡ told ++ last ∷ []))
   pub printed : text ≡ serving_text told
 
--- the text is the lines of these sessions, but was not taken whole
+-- the last line that is printed for these sessions, and all that is printed before it
+abbrev pub IsLastLine : List Session → (former last : List ℕ) → Type 0
+IsLastLine sessions former last = ((sessions ≡ []) × (former ≡ []) × (last ≡ codes "listening\n"))
+    ⊎ ((told : List Session) × (session : Session) × (sessions ≡ told ++ session ∷ [])
+    × (former ≡ serving_text told) × (last ≡ line_of_session (length told + 1) session.served))
+
+-- The last line of these sessions was not taken whole. No further link was accepted: there are as many sessions as lines
+-- before this one.
 pub record IsServingUnprinted (H : List ℕ → List ℕ) (files : Files) (words : ServeWords)
-    (before now : DoorTold) (text : List ℕ) : Type 0 where
+    (before now : DoorTold) (former last : List ℕ) : Type 0 where
   pub sessions : List Session
   pub served : HasServed H files words before now sessions
-  pub printed : text ≡ serving_text sessions
+  pub cut : IsLastLine sessions former last
 
 -- the named file is the index of an archive, but the door did not listen
 pub record IsDoorShut (H : List ℕ → List ℕ) (files : Files) (words : ServeWords)

@@ -78,11 +78,11 @@ pub record Took (before now : SinkTold) (text : List ℕ) : Type 0 where
   pub all : now.taken ≡ option_map (λ taken. taken ++ text) before.taken
   pub kept : now.faults ≡ before.faults
 
--- the sink failed after a prefix of the text, once and in its last call
-pub record FailedToTake (before now : SinkTold) (text : List ℕ) : Type 0 where
+-- the sink took the former text, if it reports, and failed after a prefix of this one, once and in its last call
+pub record FailedToTake (before now : SinkTold) (former text : List ℕ) : Type 0 where
   pub n : ℕ
   pub within : n ≤ length text
-  pub part : now.taken ≡ option_map (λ taken. taken ++ take n text) before.taken
+  pub part : now.taken ≡ option_map (λ taken. taken ++ (former ++ take n text)) before.taken
   pub cause : Rose before.faults now.faults
   pub later : before.faults ≤ now.faults
   pub last : now.last_failed ≡ true

@@ -1,5 +1,5 @@
 -- What is printed of a stop, and after links were served.
-use Rattle.std.specs.Prelude.{◌≡◌, ◌⊎◌, ◌<◌, ℕ, List, Result, Ok, Err}
+use Rattle.std.specs.Prelude.{◌≡◌, ◌⊎◌, ◌<◌, ℕ, List, [], Result, Ok, Err}
 use Rattle.ats_base.specs.Outside.{SinkTold}
 use Rattle.ats_top.specs.declared.serving.Halt.{Halt}
 use Rattle.ats_top.specs.declared.serving.Halt.TheVariants.{Door, Sink, Memory}
@@ -21,13 +21,13 @@ HasLine _ = ⊥
 -- the sink took the text of this stop, and its status is returned; or the same for out of memory, if memory for its
 -- line ran out
 abbrev pub PrintsStop : (before now : SinkTold) → Stop → (result : ℕ) → Type 0
-PrintsStop before now stop result = Prints before now (status_of_stop stop) (text_of_stop stop) result
-    ⊎ (HasLine stop × Prints before now (status_of_stop Memory) (text_of_stop Memory) result)
+PrintsStop before now stop result = Prints before now (status_of_stop stop) [] (text_of_stop stop) result
+    ⊎ (HasLine stop × Prints before now (status_of_stop Memory) [] (text_of_stop Memory) result)
 
 -- the sink took the text of a command that is done, or that of its stop
 abbrev pub PrintsAnswer : {T : Type 0} → (before now : SinkTold) → Result T Stop → (bytes_of : T → List ℕ) → (result : ℕ)
     → Type 0
-PrintsAnswer before now (Ok text) bytes_of result = Prints before now 0 (bytes_of text) result
+PrintsAnswer before now (Ok text) bytes_of result = Prints before now 0 [] (bytes_of text) result
 PrintsAnswer before now (Err stop) bytes_of result = PrintsStop before now stop result
 
 -- nothing, if no link failed; the line of the stop; or nothing, to a sink that failed

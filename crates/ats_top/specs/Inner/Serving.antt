@@ -1,5 +1,5 @@
 -- The results of the steps of `serve`, after its index was loaded.
-use Rattle.std.specs.Prelude.{◌≡◌, ◌<◌, ◌≤◌, ◌++◌, ◌∷◌, ℕ, List, [], length, Result, Ok, Err, ◌⊎◌}
+use Rattle.std.specs.Prelude.{◌≡◌, ◌<◌, ◌≤◌, ◌+◌, ◌++◌, ◌∷◌, ℕ, List, [], length, Result, Ok, Err, ◌⊎◌}
 use Rattle.ats_base.specs.Outside.{SinkTold}
 use Rattle.ats_base.specs.Links.{DoorTold}
 use Rattle.ats_wire.specs.Requests.{Question}
@@ -9,7 +9,7 @@ use Rattle.ats_top.specs.declared.serving.Halt.TheVariants.{Door, Sink, Memory}
 use Rattle.ats_console.specs.Words.{ServeWords}
 use Rattle.ats_plan.specs.Files.{Files}
 use Rattle.ats_top.specs.Answering.{gives}
-use Rattle.ats_top.specs.Serving.{Session, HadSessions, FailedToAccept, Took, FailedToTake, faults_of, session_lines}
+use Rattle.ats_top.specs.Serving.{Session, HadSessions, FailedToAccept, Took, FailedToTake, faults_of, line_of_session, session_lines}
 use Rattle.ats_top.specs.Served.{AreAllServed, IsDoorBroken, IsDoorShut, IsLineUnmade, IsServingUnprinted}
 
 -- What a door and a sink report of themselves.
@@ -20,7 +20,7 @@ pub record DoorAndSink : Type 0 where
 -- why the sink did not take the whole text: it failed, or memory for the text ran out
 abbrev pub IsUntold : (before now : SinkTold) → List ℕ → Halt → Type 0
 IsUntold before now text Door = ⊥
-IsUntold before now text Sink = FailedToTake before now text
+IsUntold before now text Sink = FailedToTake before now [] text
 IsUntold before now text Memory = now ≡ before
 
 -- How serving `connections` links ended after these sessions: all links were served, and `faults` of them ended by a
@@ -36,7 +36,8 @@ EndsServing gives connections before now sessions (Err Door) =
     × Took before.sink now.sink (session_lines sessions)
 EndsServing gives connections before now sessions (Err Sink) =
     (length sessions ≤ connections) × HadSessions gives sessions before.door now.door
-    × FailedToTake before.sink now.sink (session_lines sessions)
+    × ((told : List Session) × (last : Session) × (sessions ≡ told ++ last ∷ [])
+    × FailedToTake before.sink now.sink (session_lines told) (line_of_session (length told + 1) last.served))
 EndsServing gives connections before now sessions (Err Memory) =
     (length sessions ≤ connections) × HadSessions gives sessions before.door now.door
     × ((told : List Session) × (last : Session) × (sessions ≡ told ++ last ∷ [])
@@ -55,7 +56,7 @@ Attends H files words before now (Err Door) =
     (text : List ℕ) × Took before.sink now.sink text
     × (IsDoorShut H files words before.door now.door text ⊎ IsDoorBroken H files words before.door now.door text)
 Attends H files words before now (Err Sink) =
-    (text : List ℕ) × FailedToTake before.sink now.sink text
-    × IsServingUnprinted H files words before.door now.door text
+    (former : List ℕ) × (last : List ℕ) × FailedToTake before.sink now.sink former last
+    × IsServingUnprinted H files words before.door now.door former last
 Attends H files words before now (Err Memory) =
     (text : List ℕ) × Took before.sink now.sink text × IsLineUnmade H files words before.door now.door text

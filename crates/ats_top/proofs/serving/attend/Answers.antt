@@ -1,7 +1,8 @@
 use Rattle.std.proofs.Common.{◌∙◌, [], refl, sym, inl, arith}
+use Rattle.std.specs.Prelude.{codes}
 use Rattle.ats_wire.proofs.Public.{err_part, ok_part}
 use Rattle.ats_console.specs.Words.{ServeWords}
-use Rattle.ats_top.specs.Served.{Listened, serving_text}
+use Rattle.ats_top.specs.Served.{Listened}
 use Rattle.ats_top.proofs.Sessions.{had_none, took_none, took_as, failed_as}
 use Rattle.ats_top.proofs.Attending.{attends, served_of}
 use Rattle.ats_top.proofs.serving.attend.Goals as goal
@@ -35,14 +36,15 @@ returns-then-is_err-2 g c files name has =
       broken = c.listen.ensures.broken;
       kept = ok_part c.listen.result (sym c.is_err.ensures.value ∙ c.if-is_err.false) c.listen.ensures.cause.kept;
     } in (
-      serving_text [],
+      [],
+      codes "listening\n",
       failed_as (g.K.Sink.told c.args.out.now) (g.K.Sink.told c.write_all.new.sink) _ _ c.as_bytes.ensures.value
           (err_part c.write_all.result failed c.write_all.ensures.part) (err_part c.write_all.result failed c.write_all.ensures.cause.failed)
           c.write_all.ensures.cause.later (err_part c.write_all.result failed c.write_all.ensures.last),
       record {
         sessions = [];
         served = served_of g.H.HashKind.hash files words c.args.index.now has (g.D.Door.told c.args.door.now) opened listened opened [] (had_none _ _) (omega arith);
-        printed = refl;
+        cut = inl (refl, refl, refl);
       },
     )
 
