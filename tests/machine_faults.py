@@ -347,16 +347,32 @@ def devices(house: House) -> str:
     return "/dev/null is an empty file, /dev/zero one that is too long, /dev/full a full disk"
 
 
+def replace(path: Path, _: bytes) -> None:
+    """Puts an empty file in its place."""
+    empty = path.with_name("E")
+    empty.write_bytes(b"")
+    empty.replace(path)
+
+
 CHANGES: dict[str, Callable[[Path, bytes], object]] = {
     "cut": lambda path, whole: os.truncate(path, len(whole) // 2),
     "emptied": lambda path, whole: os.truncate(path, 0),
     "taken away": lambda path, whole: path.unlink(missing_ok=True),
     "longer": lambda path, whole: path.write_bytes(whole + b" "),
+    "replaced": replace,
+}
+
+# A file that is taken away or replaced while it is read is read whole; before that, this is what is printed.
+INSTEAD = {
+    "taken away": ["fault: shelf\n"],
+    "replaced": ["input: not json\n", "input: index at 0\n", "refused: shape cut 0\n"],
 }
 
 
-def fits_what_was_read(ended: tracing.Ended, answer: str) -> bool:
+def fits_what_was_read(ended: tracing.Ended, kind: str, answer: str) -> bool:
     printed = ended.printed.decode()
+    if kind in INSTEAD and printed not in [answer, *INSTEAD[kind]]:
+        return False
     return {
         0: printed == answer,
         1: printed.startswith("refused: shape "),
@@ -378,7 +394,7 @@ def changed(house: House, words: list[str], whole: bytes, kind: str, pieces: boo
 
 
 def changes(house: House) -> str:
-    """The file that is read is cut, emptied, removed or extended before the program's calls in turn."""
+    """The file that is read is cut, emptied, removed, replaced or extended before the program's calls in turn."""
     counts: collections.Counter[int] = collections.Counter()
     for words, whole, answer in (
         (["rank", "C", "1", QUERY], TEXTS.encode(), ROW),
@@ -391,7 +407,7 @@ def changes(house: House) -> str:
     ):
         for kind, pieces in itertools.product(CHANGES, (False, True)):
             for ended in changed(house, words, whole, kind, pieces):
-                expect(f"{words[0]} of a file {kind}, {ended}", fits_what_was_read(ended, answer), True)
+                expect(f"{words[0]} of a file {kind}, {ended}", fits_what_was_read(ended, kind, answer), True)
                 counts[ended.status] += 1
     for name in ("C", "N"):
         (house.folder / name).unlink(missing_ok=True)

@@ -7,8 +7,11 @@ status 0 if none failed. With --silence peers that fall silent are tried too: fo
 seconds, as long as it waits for any peer.
 """
 
+import json
+import random
 import re
 import socket
+import string
 import struct
 import subprocess
 import sys
@@ -22,6 +25,7 @@ from trying import HOME, QUERY, REQUEST, ROW, TEXTS, Skipped, expect, framed, fr
 
 LIMIT = 120  # the longest wait in seconds
 SILENCE = 30  # seconds that the program waits for a silent peer
+LATE = 0.5  # seconds that a client waits before it reads
 
 
 class House(NamedTuple):
@@ -165,6 +169,27 @@ def cut_frame(house: House) -> None:
     serves(house, [REQUEST[:10]], b"", "requests 0 cut")
 
 
+def long_reply(house: House) -> None:
+    """A reply of two megabytes to a client that reads late. The server ends with what follows the request unread."""
+    words = [first + last for first in string.ascii_lowercase for last in "aeiouwxyz"]
+    some = random.Random(1)
+    texts, index, proof = (Path(f"{house.index}.long.{what}") for what in ("texts", "index", "proof"))
+    texts.write_text(json.dumps([" ".join(word for word in words if some.random() < 0.5) for _ in range(1000)]), encoding="utf-8")
+    measure.run([house.program, "build", str(texts), str(index)])
+    query = " ".join(words[::7][:32])
+    measure.run([house.program, "prove", str(index), "tra", "1000", query, str(proof)])
+    request = framed(struct.pack(">BBHH", 1, 1, 1000, len(query)) + query.encode())
+    reply = framed(b"\x00" + proof.read_bytes())
+    expect("a reply of two megabytes", len(reply) > 2_000_000, True)
+    with Server(house._replace(index=str(index)), 1) as server, server.client() as client:
+        client.sendall(request + b"\xff" * 4096)
+        time.sleep(LATE)
+        came = read_all(client)
+        expect("bytes of the reply", len(came), len(reply))
+        expect("the reply", came == reply, True)
+        expect("end", server.end(), (["connection 1 requests 1 bad"], 0))
+
+
 def nothing_at_all(house: House) -> None:
     serves(house, [], b"", "requests 0 end")
 
@@ -289,6 +314,7 @@ TRIES: list[tuple[str, Callable[[House], None]]] = [
     ("requests out of range get their codes", refusals),
     ("a frame that is too long ends its connection", long_frame),
     ("ten bytes and then the end are a cut frame", cut_frame),
+    ("a reply of two megabytes, read late, and bytes after its request that the server never reads", long_reply),
     ("a client that says nothing and goes", nothing_at_all),
     ("a client that goes before its reply, and the next one", gone_before_reply),
     ("a client that resets in a frame, and the next one", resets),

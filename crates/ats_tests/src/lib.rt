@@ -22,6 +22,8 @@ mod numbers;
 #[cfg(test)]
 mod outside;
 #[cfg(test)]
+mod stand_ins;
+#[cfg(test)]
 mod trees;
 
 pub use digests::is_digest;
