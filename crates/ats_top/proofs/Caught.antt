@@ -94,9 +94,9 @@ module _ (H : List ℕ → List ℕ) (root : List ℕ) (r : ℕ) (text : List �
         equal = found.1.equal;
         printed = λ said before now status told audits ran.
             collision_printed H said before now status (Audit (record { index = audits.index; r = r; query = text; proof = audits.proof }))
-                (ap command_of audits.says ∙ ap (option_map (λ n. Audit (record { index = audits.index; r = n; query = text; proof = audits.proof }))) audits.number)
-                (λ never. never) (λ never. never) (lines_of_proof_collision found.0) told
-                (proof_refused found.0 found.1 before.shelf.files audits.index audits.proof audits.has audits.file) ran;
+            (ap command_of audits.says ∙ ap (option_map (λ n. Audit (record { index = audits.index; r = n; query = text; proof = audits.proof }))) audits.number)
+            (λ never. never) (λ never. never) (lines_of_proof_collision found.0) told
+            (proof_refused found.0 found.1 before.shelf.files audits.index audits.proof audits.has audits.file) ran;
       }
 
 -- those of a text
@@ -118,9 +118,9 @@ module _ (H : List ℕ → List ℕ) (root : List ℕ) (doc : ℕ) (bytes : List
         equal = found.1.equal;
         printed = λ said before now status told audits ran.
             collision_printed H said before now status (AuditFetch (record { index = audits.index; doc = doc; file = audits.text }))
-                (ap command_of audits.says ∙ ap (option_map (λ n. AuditFetch (record { index = audits.index; doc = n; file = audits.text }))) audits.number)
-                (λ never. never) (λ never. never) (lines_of_text_collision found.0) told
-                (text_refused found.0 found.1 before.shelf.files audits.index audits.text audits.has audits.file) ran;
+            (ap command_of audits.says ∙ ap (option_map (λ n. AuditFetch (record { index = audits.index; doc = n; file = audits.text }))) audits.number)
+            (λ never. never) (λ never. never) (lines_of_text_collision found.0) told
+            (text_refused found.0 found.1 before.shelf.files audits.index audits.text audits.has audits.file) ran;
       }
 
 -- those of a proof of all documents with every term
@@ -142,8 +142,8 @@ module _ (H : List ℕ → List ℕ) (root : List ℕ) (text : List ℕ) (query 
         equal = found.1.equal;
         printed = λ said before now status told audits ran.
             collision_printed H said before now status (AuditBoth (record { index = audits.index; query = text; proof = audits.proof }))
-                (ap command_of audits.says) (λ never. never) (λ never. never) (lines_of_proof_collision found.0) told
-                (both_refused found.0 found.1 before.shelf.files audits.index audits.proof audits.has audits.file) ran;
+            (ap command_of audits.says) (λ never. never) (λ never. never) (lines_of_proof_collision found.0) told
+            (both_refused found.0 found.1 before.shelf.files audits.index audits.proof audits.has audits.file) ran;
       }
 
 -- and those of a growth
@@ -166,6 +166,6 @@ module _ (H : List ℕ → List ℕ) (old_root new_root bytes : List ℕ) (shown
         equal = found.1.equal;
         printed = λ said before now status told audits ran.
             collision_printed H said before now status (AuditGrowth (record { old = audits.old; new = audits.new; file = audits.growth }))
-                (ap command_of audits.says) (λ never. never) (λ never. never) (lines_of_growth_collision found.0) told
-                (growth_refused found.0 found.1 before.shelf.files audits.old audits.new audits.growth audits.has audits.also audits.file) ran;
+            (ap command_of audits.says) (λ never. never) (λ never. never) (lines_of_growth_collision found.0) told
+            (growth_refused found.0 found.1 before.shelf.files audits.old audits.new audits.growth audits.has audits.also audits.file) ran;
       }

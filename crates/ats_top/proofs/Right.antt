@@ -42,7 +42,7 @@ module _ (H : List ℕ → List ℕ) (before now : Outside) where
       → AreRight archive.texts terms n rows ⊎ IsCaught H lines_of_proof_collision (AuditsProof H archive n query bytes))
   verify_right root r query proof digest n is_root is_rows ran =
       let done = verified H (verify_words root r query proof) before now (record { root = digest; r = n; query = query; proof = proof })
-          (verify_said root digest r query proof n is_root is_rows) ran in
+      (verify_said root digest r query proof n is_root is_rows) ran in
       let is = done.1 in
       let own = is.accepted in (
         own.query,
@@ -63,8 +63,8 @@ module _ (H : List ℕ → List ℕ) (before now : Outside) where
       → AreRight archive.texts terms n rows ⊎ IsCaught H lines_of_proof_collision (AuditsProof H archive n query bytes))
   ask_right root algorithm r query address digest by n is_root is_algorithm is_rows ran =
       let done = replied H (codes "ask" ∷ root ∷ algorithm ∷ r ∷ query ∷ address ∷ []) before now
-          (record { root = digest; algorithm = by; r = n; query = query; address = address })
-          (ask_said root digest algorithm r query address by n is_root is_algorithm is_rows) ran in
+      (record { root = digest; algorithm = by; r = n; query = query; address = address })
+      (ask_said root digest algorithm r query address by n is_root is_algorithm is_rows) ran in
       let is = done.1 in
       let own = is.accepted in (
         own.query,
@@ -84,7 +84,7 @@ module _ (H : List ℕ → List ℕ) (before now : Outside) where
       → (slice_get archive.texts n ≡ Some text) ⊎ IsCaught H lines_of_text_collision (AuditsText H archive n bytes))
   fetch_right root doc file digest n is_root is_doc ran =
       let done = fetched H (fetch_words root doc file) before now (record { root = digest; doc = n; file = file })
-          (fetch_said root digest doc file n is_root is_doc) ran in
+      (fetch_said root digest doc file n is_root is_doc) ran in
       let is = done.1 in (
         is.bytes,
         is.file,
@@ -100,7 +100,7 @@ module _ (H : List ℕ → List ℕ) (before now : Outside) where
       → (documents ≡ both archive.texts terms) ⊎ IsCaught H lines_of_proof_collision (AuditsBoth H archive query bytes))
   both_right root query proof digest is_root ran =
       let done = both_checked H (both_words root query proof) before now (record { root = digest; query = query; proof = proof })
-          (both_said root digest query proof is_root) ran in
+      (both_said root digest query proof is_root) ran in
       let is = done.1 in (
         is.query,
         is.asked,
@@ -119,7 +119,7 @@ module _ (H : List ℕ → List ℕ) (before now : Outside) where
       → HasGrown older newer m n ⊎ IsCaught H lines_of_growth_collision (AuditsGrowth H older newer bytes))
   growth_right old new file older_root newer_root is_old is_new ran =
       let done = growth_checked H (growth_words old new file) before now (record { old = older_root; new = newer_root; file = file })
-          (growth_said old older_root new newer_root file is_old is_new) ran in
+      (growth_said old older_root new newer_root file is_old is_new) ran in
       let is = done.1 in (
         is.bytes,
         is.file,

@@ -132,19 +132,23 @@ module _ (H : List ℕ → List ℕ) (said : List (List ℕ)) (command : Command
     | inr excuse ↦ inr (inl excuse)
     | inl first ↦ elim (stop_printed H said since later command stop is sound (same_known H command before.shelf.files since.shelf.files same known)
         (subst (λ (f : Files). Refuses Shelf f (plan_of H command) stop) (sym same) refuses) b again) [
-      | inr excuse ↦ inr (inr excuse)
-      | inl second ↦ inl (first.0 ∙ sym second.0, λ not_done. (text_of_stop stop, first.1, second.1))
-    ]
+          | inr excuse ↦ inr (inr excuse)
+          | inl second ↦ inl (first.0 ∙ sym second.0, λ not_done. (text_of_stop stop, first.1, second.1))
+        ]
   ]
 
   -- the first one is done
   done_alike : a ≡ 0 → IsCommandServed H before.shelf.files command → EndAlike
   done_alike zero served =
-      elim (again.decided 0 (inr (command, is, inr (inl (record {
-        known = same_known H command before.shelf.files since.shelf.files same known;
-        served = subst (λ (f : Files). IsCommandServed H f command) (sym same) served;
-        is = refl;
-      }))))) [
+      elim (again.decided 0 (inr (
+        command,
+        is,
+        inr (inl (record {
+          known = same_known H command before.shelf.files since.shelf.files same known;
+          served = subst (λ (f : Files). IsCommandServed H f command) (sym same) served;
+          is = refl;
+        })),
+      ))) [
         | inl also ↦ inl (zero ∙ sym also, λ not_done. absurd (not_done zero))
         | inr excuse ↦ inr (inr excuse)
       ]

@@ -10,25 +10,25 @@ use Rattle.ats_top.proofs.theorem.accepted_answers_are_printed.Goals as goal
 pub returns-clause-verify : goal.returns-clause-verify
 returns-clause-verify g c root r query proof digest n before now is_root is_rows =
     verified g.H.HashKind.hash (verify_words root r query proof) before now (record { root = digest; r = n; query = query; proof = proof })
-        (verify_said root digest r query proof n is_root is_rows)
+    (verify_said root digest r query proof n is_root is_rows)
 
 pub returns-clause-ask : goal.returns-clause-ask
 returns-clause-ask g c root algorithm r query address digest by n before now is_root is_algorithm is_rows =
     replied g.H.HashKind.hash (codes "ask" ∷ root ∷ algorithm ∷ r ∷ query ∷ address ∷ []) before now
-        (record { root = digest; algorithm = by; r = n; query = query; address = address })
-        (ask_said root digest algorithm r query address by n is_root is_algorithm is_rows)
+    (record { root = digest; algorithm = by; r = n; query = query; address = address })
+    (ask_said root digest algorithm r query address by n is_root is_algorithm is_rows)
 
 pub returns-clause-fetch : goal.returns-clause-fetch
 returns-clause-fetch g c root doc file digest n before now is_root is_doc =
     fetched g.H.HashKind.hash (fetch_words root doc file) before now (record { root = digest; doc = n; file = file })
-        (fetch_said root digest doc file n is_root is_doc)
+    (fetch_said root digest doc file n is_root is_doc)
 
 pub returns-clause-both : goal.returns-clause-both
 returns-clause-both g c root query proof digest before now is_root =
     both_checked g.H.HashKind.hash (both_words root query proof) before now (record { root = digest; query = query; proof = proof })
-        (both_said root digest query proof is_root)
+    (both_said root digest query proof is_root)
 
 pub returns-clause-growth : goal.returns-clause-growth
 returns-clause-growth g c old new file older_root newer_root before now is_old is_new =
     growth_checked g.H.HashKind.hash (growth_words old new file) before now (record { old = older_root; new = newer_root; file = file })
-        (growth_said old older_root new newer_root file is_old is_new)
+    (growth_said old older_root new newer_root file is_old is_new)
