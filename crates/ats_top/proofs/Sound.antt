@@ -1,6 +1,6 @@
 -- The plan of each command goes one way at most, and stops none for its words.
-use Rattle.std.proofs.Common.{◌≡◌, ◌≢◌, ◌≤◌, ◌^◌, ◌++◌, ◌∷◌, ◌∙◌, append-nil, ℕ, Bool, true, false, List, [], Option, sym, ap, arith, true≢false}
-use Rattle.std.specs.List.{concat, list_any}
+use Rattle.std.proofs.Common.{◌≡◌, ◌≢◌, ◌≤◌, ◌^◌, ◌++◌, ◌∷◌, ◌∙◌, ℕ, Bool, true, false, List, [], Option, sym, ap, arith, true≢false}
+use Rattle.std.specs.List.{list_any}
 use Rattle.ats_base.specs.Outside.{ShelfTold}
 use Rattle.ats_terms.specs.declared.query.QueryFault.{QueryFault}
 use Rattle.ats_terms.specs.declared.query.QueryFault.TheVariants as query
@@ -64,7 +64,7 @@ use Rattle.ats_top.proofs.OneGrowth.{growth_file_one, kept_exact}
 use Rattle.ats_top.specs.BothLines.{both_refusal_words}
 use Rattle.ats_top.specs.GrowthLines.{growth_refusal_words}
 use Rattle.ats_growth.specs.Honest.{honest}
-use Rattle.ats_growth.specs.Value.{Growth as GrowthValue, IsGrowth, fields_of as growth_fields}
+use Rattle.ats_growth.proofs.Public.{one_join as one_growth_join}
 use Rattle.ats_fetch.proofs.Public.{one_join}
 
 -- ---- steps
@@ -288,10 +288,6 @@ document_exact archive doc = record {
   one = λ a b is also. is.1 ∙ sym also.1;
 }
 
--- bytes that show a growth are its fields
-growth_bytes : (growth : GrowthValue) (bytes : List ℕ) → IsGrowth bytes growth → bytes ≡ concat (growth_fields growth)
-growth_bytes growth bytes is = is.whole.parts ∙ append-nil (concat (growth_fields growth))
-
 -- ---- the commands
 
 command_sound : (H : List ℕ → List ℕ) (command : Command) → Sound (plan_of H command)
@@ -321,7 +317,7 @@ command_sound H (AuditBoth words) = query_sound (λ query. index_sound (λ archi
     file_sound both_refusal_words (both_file_one H (root_of H archive) query bytes)
     (λ proof. none_sound ends))))
 command_sound H (Grow words) = index_sound (λ older. index_sound (λ newer. tries (kept_exact older newer) (λ stops. not_input stops.2)
-    (makes (λ a b is also. growth_bytes (honest H older newer) a is ∙ sym (growth_bytes (honest H older newer) b also)) (λ bytes. stores))))
+    (makes (λ a b is also. one_growth_join a b (honest H older newer) is also) (λ bytes. stores))))
 command_sound H (Growth words) = reads (fails not_rejected) (λ bytes. file_sound growth_refusal_words (growth_file_one H words.old words.new bytes) (λ growth. ends))
 command_sound H (AuditGrowth words) = index_sound (λ older. index_sound (λ newer. reads (fails not_rejected) (λ bytes.
     file_sound growth_refusal_words (growth_file_one H (root_of H older) (root_of H newer) bytes)
