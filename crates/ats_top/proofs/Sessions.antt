@@ -124,7 +124,7 @@ took_then before mid now text more first second = record {
   kept = second.kept ∙ first.kept;
 }
 
--- what a sink took before it failed was printed before too
+-- what a sink took before a piece that it failed at is a part of the former text
 pub failed_then : (before mid now : SinkTold) (text former more : List ℕ) → Took before mid text → FailedToTake mid now former more
     → FailedToTake before now (text ++ former) more
 failed_then before mid now text former more first second = record {
