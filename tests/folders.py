@@ -3,9 +3,10 @@
 
 usage: python3 tests/folders.py [PROGRAM]
 
-PROGRAM is the program; without it ./ats of the repository. Makes folders with hostile names and contents, runs the scripts
-over them and over servers that misbehave, and prints what was tried and whether it passed. Ends with what was skipped,
-because a program is missing or this is root, and with `N passed, M failed`; with status 0 if nothing failed.
+PROGRAM is the program; without it the one that is proved and built if needed. Makes folders with hostile names and
+contents, runs the scripts over them and over servers that misbehave, and prints what was tried and whether it passed.
+Ends with what was skipped, because a program is missing or this is root, and with `N passed, M failed`; with status 0 if
+nothing failed.
 """
 
 import json
@@ -17,7 +18,8 @@ from pathlib import Path
 from typing import Iterator, NamedTuple, Optional
 
 import roots
-from tries import HOME, STRANGE, Ended, Tries
+from tries import STRANGE, Ended, Tries
+from trying import program_of
 
 MIB = 1 << 20
 MAX_COLLECTION = 1 << 26
@@ -285,7 +287,7 @@ def shelves(tries: Tries) -> None:
 
 
 def main() -> int:
-    program = str(Path(sys.argv[1] if len(sys.argv) > 1 else HOME / "ats").resolve())
+    program = program_of(sys.argv[1:])
     with tempfile.TemporaryDirectory() as folder:
         tries = Tries(Path(folder), program)
         for each in (hostile, unreadable, title_lines, titles, faults, at_limits, later_fits, pages, pdfs, shelves, *roots.CASES):
