@@ -1,35 +1,35 @@
-//! Calls that stand for those of std, over the objects in memory. They report what they did, move few bytes, and one of
-//! them can be made to fail.
+//! Calls that stand for those of std, over the objects in memory. They report what they did. One of them can be made to
+//! fail, and those that write can be made to write nothing.
 
-ghost use Rattle.std.specs.Prelude.{◌≡◌, ◌≤◌, Some, take, length};
+ghost use Rattle.std.specs.Prelude.{Some};
 ghost use Rattle.ats_base.specs.Memory.{told_files};
 ghost use Rattle.ats_base.specs.MemoryLinks.{told_link};
 
-use ats_base::{Bytes, Caller, Failed, Link, MemCaller, MemLink, MemShelf, MemSink, Shelf, Sink};
+use ats_base::{Bytes, Caller, Link, MemCaller, MemLink, MemShelf, MemSink, Shelf, Sink};
 use ats_outside::{Files, Net, Print, Stream};
 use std::alloc::Global;
 use std::cell::{Cell, RefCell};
 use std::io;
 use std::time::Duration;
 
-/// What the calls share: the names of those made; after how many one fails; how many bytes one moves; and whether there
-/// is memory for names of files.
+/// What the calls share: the names of those made; after how many one fails; whether they write nothing; and whether
+/// there is no memory for names of files.
 #[derive(Drop)]
 pub struct Script {
     made: RefCell<String>,
     before_fault: Cell<u64>,
-    most: Cell<usize>,
-    keeps_names: Cell<bool>,
+    writes_nothing: Cell<bool>,
+    forgets_names: Cell<bool>,
 }
 
 impl Script {
-    /// No call fails, and each moves at most three bytes.
+    /// Nothing fails.
     pub fn new(alloc: Global) -> Self {
         Script {
             made: RefCell::new(String::new(alloc)),
             before_fault: Cell::new(u64::MAX),
-            most: Cell::new(3),
-            keeps_names: Cell::new(true),
+            writes_nothing: Cell::new(false),
+            forgets_names: Cell::new(false),
         }
     }
 
@@ -38,17 +38,20 @@ impl Script {
         self.before_fault.set(calls);
     }
 
-    pub fn move_at_most(&self, bytes: usize) {
-        self.most.set(bytes);
+    pub fn write_nothing(&self) {
+        self.writes_nothing.set(true);
     }
 
-    pub fn keep_no_names(&self) {
-        self.keeps_names.set(false);
+    pub fn forget_names(&self) {
+        self.forgets_names.set(true);
     }
 
-    /// The names of the calls since this was asked last, each with a space after it.
-    pub fn calls(&self, alloc: Global) -> Option<String> {
-        self.made.try_replace(String::new(alloc)).ok()
+    /// Whether these are the names of the calls since this was asked last, each with a space after it.
+    pub fn made(&self, alloc: Global, names: &str) -> bool {
+        match self.made.try_replace(String::new(alloc)) {
+            Ok(made) => made.as_str() == names,
+            Err(_) => false,
+        }
     }
 
     fn note(&self, name: &str) {
@@ -58,34 +61,35 @@ impl Script {
         }
     }
 
-    fn call(&self, name: &str) -> io::Result<()> {
+    // Notes a call, and returns whether it must fail.
+    fn fails(&self, name: &str) -> bool {
         self.note(name);
         let left = self.before_fault.get();
         self.before_fault.set(left.wrapping_sub(1));
-        if left == 0 {
-            Err(fault(Failed))
+        left == 0
+    }
+
+    fn call(&self, name: &str) -> io::Result<()> {
+        if self.fails(name) {
+            Err(fault())
         } else {
             Ok(())
         }
     }
 
-    fn some<'b>(&self, bytes: &'b [u8]) -> &'b [u8] {
-        let most = self.most.get().min(bytes.len());
-        &bytes[..most]
+    // A limit of time is noted before its call.
+    fn limited(&self, limit: Duration, name: &str) -> io::Result<()> {
+        self.note(match limit.as_secs() {
+            1 => "1s",
+            30 => "30s",
+            _ => "?",
+        });
+        self.call(name)
     }
 }
 
-// A limit of time, as it is noted before its call.
-fn in_seconds(limit: Duration) -> &'static str {
-    match limit.as_secs() {
-        1 => "1s",
-        30 => "30s",
-        _ => "?s",
-    }
-}
-
-// As a call that waited too long.
-fn fault(_: Failed) -> io::Error {
+// As of a call that waited too long.
+fn fault() -> io::Error {
     io::Error::from(io::ErrorKind::WouldBlock)
 }
 
@@ -96,7 +100,13 @@ pub struct SomeFiles<'a> {
     pub script: &'a Script,
 }
 
-impl<'a> Files for SomeFiles<'a> {
+#[derive(Drop)]
+pub struct OpenFile {
+    bytes: Bytes,
+    place: u64,
+}
+
+impl Files for SomeFiles<'_> {
     type File = OpenFile;
 
     ghost content = { λ f. Some (told_files f.shelf.files) };
@@ -105,23 +115,35 @@ impl<'a> Files for SomeFiles<'a> {
 
     fn create(&mut self, name: &str) -> io::Result<()> {
         self.script.call("create")?;
-        self.shelf.start(name).map_err(fault)
+        match self.shelf.start(name) {
+            Ok(()) => Ok(()),
+            Err(_) => Err(fault()),
+        }
     }
 
     fn append(&mut self, name: &str, bytes: &[u8]) -> io::Result<usize> {
-        self.script.call("append")?;
-        self.shelf
-            .append(name, self.script.some(bytes))
-            .map_err(fault)
+        if self.script.fails("append") {
+            return Err(fault());
+        }
+        if self.script.writes_nothing.get() {
+            return match self.shelf.append(name, &[]) {
+                Ok(_) => Ok(0),
+                Err(_) => Err(fault()),
+            };
+        }
+        match self.shelf.append(name, bytes) {
+            Ok(count) => Ok(count),
+            Err(_) => Err(fault()),
+        }
     }
 
     fn open(&mut self, name: &str) -> io::Result<OpenFile> {
         self.script.call("open")?;
         let Some(bytes) = self.shelf.bytes_of(name) else {
-            return Err(fault(Failed));
+            return Err(fault());
         };
         let Ok(bytes) = Bytes::of(self.alloc, bytes) else {
-            return Err(fault(Failed));
+            return Err(fault());
         };
         Ok(OpenFile { bytes, place: 0 })
     }
@@ -142,18 +164,11 @@ impl<'a> Files for SomeFiles<'a> {
     }
 
     fn keep(&self, name: &str) -> Option<String> {
-        if self.script.keeps_names.get() {
-            String::from_str(self.alloc, name).ok()
-        } else {
-            None
+        if self.script.forgets_names.get() {
+            return None;
         }
+        String::from_str(self.alloc, name).ok()
     }
-}
-
-#[derive(Drop)]
-pub struct OpenFile {
-    bytes: Bytes,
-    place: u64,
 }
 
 #[derive(Drop)]
@@ -166,8 +181,16 @@ impl Print for SomePrint<'_> {
     ghost printed = { λ p. Some p.sink.taken };
 
     fn write(&mut self, bytes: &[u8]) -> io::Result<usize> {
-        self.script.call("print")?;
-        self.sink.write_some(self.script.some(bytes)).map_err(fault)
+        if self.script.fails("print") {
+            return Err(fault());
+        }
+        if self.script.writes_nothing.get() {
+            return Ok(0);
+        }
+        match self.sink.write_some(bytes) {
+            Ok(count) => Ok(count),
+            Err(_) => Err(fault()),
+        }
     }
 }
 
@@ -184,13 +207,14 @@ impl<'a> Net for SomeNet<'a> {
     type Listener = ();
 
     fn connect(&mut self, address: &str, limit: Duration) -> io::Result<SomeStream<'a>> {
-        self.script.note(in_seconds(limit));
-        self.script.call("connect")?;
-        let link = self.caller.call(address).map_err(fault)?;
-        Ok(SomeStream {
-            link,
-            script: self.script,
-        })
+        self.script.limited(limit, "connect")?;
+        match self.caller.call(address) {
+            Ok(link) => Ok(SomeStream {
+                link,
+                script: self.script,
+            }),
+            Err(_) => Err(fault()),
+        }
     }
 
     fn listen(&mut self, _: &str) -> io::Result<()> {
@@ -216,13 +240,26 @@ impl Stream for SomeStream<'_> {
     ghost traffic = { λ s. (told_link s.link).traffic };
 
     fn read(&mut self, buf: &mut [u8]) -> io::Result<usize> {
-        self.script.call("read")?;
-        self.link.read_some(buf).map_err(fault)
+        if self.script.fails("read") {
+            return Err(fault());
+        }
+        match self.link.read_some(buf) {
+            Ok(count) => Ok(count),
+            Err(_) => Err(fault()),
+        }
     }
 
     fn write(&mut self, bytes: &[u8]) -> io::Result<usize> {
-        self.script.call("write")?;
-        self.link.write_some(self.script.some(bytes)).map_err(fault)
+        if self.script.fails("write") {
+            return Err(fault());
+        }
+        if self.script.writes_nothing.get() {
+            return Ok(0);
+        }
+        match self.link.write_some(bytes) {
+            Ok(count) => Ok(count),
+            Err(_) => Err(fault()),
+        }
     }
 
     fn end_output(&self) -> io::Result<()> {
@@ -230,13 +267,11 @@ impl Stream for SomeStream<'_> {
     }
 
     fn set_read_limit(&self, limit: Duration) -> io::Result<()> {
-        self.script.note(in_seconds(limit));
-        self.script.call("read-limit")
+        self.script.limited(limit, "read-limit")
     }
 
     fn set_write_limit(&self, limit: Duration) -> io::Result<()> {
-        self.script.note(in_seconds(limit));
-        self.script.call("write-limit")
+        self.script.limited(limit, "write-limit")
     }
 
     fn send_at_once(&self) -> io::Result<()> {
