@@ -1,8 +1,13 @@
-//! The digests of lists in blocks, as another program computed them, and how many digests their first entries need.
+//! The digests of lists in blocks, as another program computed them, and how many digests their first entries need. The
+//! digests themselves, of a list of 65,536 entries in either format.
+
+ghost use Rattle.std.specs.Prelude.{◌≡◌};
+ghost use Rattle.ats_lists.specs.KeptList.{entries_of};
 
 use crate::digests::is_digest;
+use ats_base::Bytes;
 use ats_hash::{Hash32, Sha, Steps};
-use ats_lists::{Chain, Entry, OutOfMemory};
+use ats_lists::{Chain, Entry, Format, ListDigests, OutOfMemory};
 use ats_tree::Digests;
 use std::alloc::Global;
 use std::test::Fail;
@@ -47,11 +52,16 @@ const LISTS: [(u32, &str, &[(u32, usize)]); 7] = [
     ),
 ];
 
-fn chain_of<H: Hash32>(alloc: Global, n: u32) -> Result<Option<Chain>, OutOfMemory> {
+fn entries(alloc: Global, n: u32) -> Result<Vec<Entry>, OutOfMemory> {
     let mut entries = Vec::new(alloc);
     for doc in 0..n {
         entries.push(Entry { doc, impact: 7 })?;
     }
+    Ok(entries)
+}
+
+fn chain_of<H: Hash32>(alloc: Global, n: u32) -> Result<Option<Chain>, OutOfMemory> {
+    let entries = entries(alloc, n)?;
     if entries.is_empty() || entries.len() > 65536 {
         return Ok(None);
     }
@@ -95,6 +105,109 @@ fn lists_in_blocks(rt: HostRuntime) -> Result<(), Fail> {
             is_as_wanted::<Sha>(rt.alloc(), n, root, fronts)?,
             "{n} entries"
         );
+    }
+    Ok(())
+}
+
+// For each format some numbers of first entries of the list of 65,536, how many digests they need, and the digest of these
+// after a byte 0.
+const FRONTS: [(Format, &[(u32, usize, &str)]); 2] = [
+    (
+        Format::One,
+        &[
+            (
+                1,
+                16,
+                "20ef2a871da6ec7612430a23acfe64e1894229afb4ca5147943c0262934ee9a3",
+            ),
+            (
+                40_000,
+                6,
+                "6d127f5a45da21d7f982f31e58be4370ff878ad67ed70f5ad1789cfe30cb420d",
+            ),
+        ],
+    ),
+    (
+        Format::Two,
+        &[
+            (
+                65,
+                7,
+                "2ba67d8b8b75e797d503693fa61b66bad6618690349836f7ef6a71eb1dfa90a0",
+            ),
+            (
+                40_000,
+                1,
+                "530c49524c7a3cb455524c1f8adf1bb6ee43d795e7706f7f347b9d6bf231429f",
+            ),
+            (
+                65_536,
+                0,
+                "6e340b9cffb37a989ca544e6bb780a2c78901d3fb33738768511a30617afa01d",
+            ),
+        ],
+    ),
+];
+
+fn kept_of<H: Hash32>(
+    alloc: Global,
+    format: Format,
+    n: u32,
+) -> Result<Option<ListDigests>, OutOfMemory> {
+    let entries = entries(alloc, n)?;
+    if entries.is_empty() || entries.len() > 65536 {
+        return Ok(None);
+    }
+    let mut steps = Steps::new(alloc);
+    Ok(Some(ListDigests::of::<H>(alloc, format, &entries, &mut steps)?))
+}
+
+fn count_entries(kept: &ListDigests) -> u32
+    ensures { result ≡ entries_of kept.now }
+{
+    match kept {
+        ListDigests::Tree(nodes) => nodes.len().div_ceil(2),
+        ListDigests::Blocks(chain) => chain.len(),
+    }
+}
+
+// The digests that the first `k` entries need, or none if there are not so many entries.
+fn front_of(alloc: Global, kept: &ListDigests, k: u32) -> Result<Digests, OutOfMemory> {
+    let mut digests = Digests::new(alloc);
+    if k > 0 && k <= count_entries(kept) {
+        kept.front(alloc, k, &mut digests)?;
+    }
+    Ok(digests)
+}
+
+fn joined_digest<H: Hash32>(alloc: Global, digests: &Digests) -> Result<[u8; 32], Fail> {
+    let mut joined = Bytes::new(alloc);
+    for digest in digests.as_slice() {
+        joined.extend(digest)?;
+    }
+    let mut steps = Steps::new(alloc);
+    Ok(H::digest2(0, joined.as_slice(), &[], &mut steps))
+}
+
+fn are_fronts<H: Hash32>(
+    alloc: Global,
+    kept: &ListDigests,
+    fronts: &[(u32, usize, &str)],
+) -> Result<bool, Fail> {
+    for (k, count, text) in fronts {
+        let digests = front_of(alloc, kept, *k)?;
+        if digests.len() != *count || !is_digest(&joined_digest::<H>(alloc, &digests)?, text) {
+            return Ok(false);
+        }
+    }
+    Ok(true)
+}
+
+#[test]
+fn fronts_of_a_large_list(rt: HostRuntime) -> Result<(), Fail> {
+    for (format, fronts) in FRONTS {
+        let kept = kept_of::<Sha>(rt.alloc(), format, 65_536)?.ok_or("no list")?;
+        assert!(rt; are_fronts::<Sha>(rt.alloc(), &kept, fronts)?, "{format:?}");
     }
     Ok(())
 }

@@ -2,6 +2,7 @@
 
 ghost use Rattle.std.specs.Prelude.{◌≤◌, ◌^◌};
 
+use crate::building::index_of_foxes;
 use ats_base::{Bytes, Link, MemLink};
 use ats_hash::{Hash32, HashKind, Sha};
 use ats_impact::Top;
@@ -9,7 +10,6 @@ use ats_index::Index;
 use ats_proof::Algorithm;
 use ats_prover::{ProveFault, prove, prove_within};
 use ats_terms::{Query, QueryFault};
-use ats_tests::foxes;
 use ats_wire::{AskFault, ask_once};
 use std::alloc::Global;
 use std::test::Fail;
@@ -66,16 +66,20 @@ pub(crate) fn query_of(alloc: Global, text: &str) -> Result<Query, QueryFault> {
 
 // Whether the proof has this many bytes, is returned within this limit and within one with room to spare, and is refused
 // within one byte less.
-fn fits<H: Hash32>(alloc: Global, algorithm: Algorithm, length: u64) -> Result<bool, Fail>
+fn fits<H: HashKind>(
+    alloc: Global,
+    index: &Index<H>,
+    algorithm: Algorithm,
+    length: u64,
+) -> Result<bool, Fail>
     requires some { 1 ≤ length }
     requires few { length ≤ 2 ^ 26 }
 {
-    let index = Index::<H>::build_plain(alloc, foxes(alloc)?)?;
     let (query, top) = (query_of(alloc, "red hen")?, Top::new(1)?);
-    let whole = proof_of(alloc, &index, &query, top, algorithm)?;
-    let same = proof_within(alloc, &index, &query, top, algorithm, length)?;
-    let roomy = proof_within(alloc, &index, &query, top, algorithm, 67_108_863)?;
-    let less = proof_within(alloc, &index, &query, top, algorithm, length - 1).err();
+    let whole = proof_of(alloc, index, &query, top, algorithm)?;
+    let same = proof_within(alloc, index, &query, top, algorithm, length)?;
+    let roomy = proof_within(alloc, index, &query, top, algorithm, 67_108_863)?;
+    let less = proof_within(alloc, index, &query, top, algorithm, length - 1).err();
     Ok(
         whole.len() as u64 == length
             && same.as_slice() == whole.as_slice()
@@ -84,9 +88,21 @@ fn fits<H: Hash32>(alloc: Global, algorithm: Algorithm, length: u64) -> Result<b
     )
 }
 
+fn honest_proof_fits<H: Hash32>(
+    alloc: Global,
+    algorithm: Algorithm,
+    length: u64,
+) -> Result<bool, Fail>
+    requires some { 1 ≤ length }
+    requires few { length ≤ 2 ^ 26 }
+{
+    let index = index_of_foxes::<H>(alloc)?;
+    fits(alloc, &index, algorithm, length)
+}
+
 #[test]
 fn a_limit_refuses_longer_proofs(rt: HostRuntime) -> Result<(), Fail> {
-    assert!(rt; fits::<Sha>(rt.alloc(), Algorithm::Tnra, 365)?);
-    assert!(rt; fits::<Sha>(rt.alloc(), Algorithm::Tra, 751)?);
+    assert!(rt; honest_proof_fits::<Sha>(rt.alloc(), Algorithm::Tnra, 365)?);
+    assert!(rt; honest_proof_fits::<Sha>(rt.alloc(), Algorithm::Tra, 751)?);
     Ok(())
 }

@@ -101,7 +101,9 @@ fn types_of_proofs_cross_threads() {
     cross::<ats_proof::DocView<'static>>();
     cross::<ats_proof::DocsCursor<'static>>();
     cross::<ats_proof::TermsView<'static>>();
+    cross::<ats_proof::DigestRun<'static>>();
     cross::<ats_proof::Feeder>();
+    cross::<ats_grammar::Reader<'static>>();
     cross::<ats_proof::ShapeKind>();
     cross::<ats_proof::ShapeFault>();
     cross::<ats_proof::ProofWriter>();
