@@ -38,15 +38,15 @@ progress() {
 # Waits a second. Ends if the script was killed and could not end its parts.
 pause() {
     sleep 1
-    is_running "$$" || exit 1
+    is_running "$own" || exit 1
 }
 
 # The first crate is made, and no source of it or of those below it, which are named after it, is newer.
 is_made() {
     stamp=$home/crates/$1/out/rlib/stamp
     [ -e "$stamp" ] || return 1
-    for name; do
-        ! is_older "$stamp" "$home/crates/$name" || return 1
+    for below; do
+        ! is_older "$stamp" "$home/crates/$below" || return 1
     done
 }
 
@@ -75,13 +75,13 @@ take_place() {
 lay_out() {
     mkdir "$place/crates" && cp "$home/HANDLES" "$place" || return 1
     awk -v wanted=" $* " 'index(wanted, " " substr($1, 1, length($1) - 1) " ")' "$home/crates.txt" >"$place/crates.txt" || return 1
-    own=out
-    for name; do
-        mkdir -p "$place/crates/$name/out" || return 1
-        for part in src specs proofs $own; do
-            [ ! -d "$home/crates/$name/$part" ] || cp -Rl "$home/crates/$name/$part" "$place/crates/$name/$(dirname "$part")" || return 1
+    of_rt=out
+    for below; do
+        mkdir -p "$place/crates/$below/out" || return 1
+        for part in src specs proofs $of_rt; do
+            [ ! -d "$home/crates/$below/$part" ] || cp -Rl "$home/crates/$below/$part" "$place/crates/$below/$(dirname "$part")" || return 1
         done
-        own=out/rlib
+        of_rt=out/rlib
     done
 }
 
@@ -95,7 +95,7 @@ prove_in_place() {
     echo "$1" >"$place/room"
     (cd -- "$place/crates/$1" && exec rt lib --jobs "$jobs" --statements) >"$work/$1.log" 2>&1 </dev/null &
     checking=$!
-    while kill -0 "$checking" 2>/dev/null; do
+    while is_child "$checking"; do
         pause
     done
     wait "$checking"

@@ -38,24 +38,43 @@ is_fresh() {
     [ -x "$1" ] && ! is_older "$1" "$home"/crates/*/
 }
 
-# A process that was killed is there until its parent has seen its end, as Z.
-is_running() {
-    { read -r state <"/proc/$1/stat"; } 2>/dev/null && [ "${state#*) Z }" = "$state" ]
+# A process is named by its number and its start, since the number may go to another process. In /proc/N/stat its state, which
+# is Z if it has ended, comes after its name; then comes its parent, and in the 20th place its start.
+name_of() {
+    { read -r stat <"/proc/$1/stat"; } 2>/dev/null || return
+    set -- "$1" ${stat##*) }
+    [ "$2" = Z ] || name=$1-${21}
 }
+
+is_running() {
+    name=
+    name_of "${1%-*}"
+    [ "$name" = "$1" ]
+}
+
+# A child of this shell that has not ended.
+is_child() {
+    { read -r shell stat </proc/self/stat && read -r stat <"/proc/$1/stat"; } 2>/dev/null || return
+    set -- ${stat##*) }
+    [ "$1" != Z ] && [ "$2" = "$shell" ]
+}
+
+name_of "$$"
+own=$name
 
 # Takes the lock: a folder, since the gate stops at a link anywhere. It is made under a name of our own and then renamed, so
 # it always has a file that names its owner. What a build needs until it ends is in its folder work/. What launches that
 # were killed while they waited have left is removed.
 take_lock() {
     lock=$1
-    room=$1.$$
+    room=$1.$own
     work=$1/work
     waiting=
     trap 'trap "" HUP INT TERM; end_work; give_lock' EXIT
     trap 'exit 129' HUP
     trap 'exit 130' INT
     trap 'exit 143' TERM
-    mkdir -p "$kept" && rm -rf "$room" && mkdir "$room" && : >"$room/owner-$$" || stop 126 "cannot write to $kept"
+    mkdir -p "$kept" && rm -rf "$room" && mkdir "$room" && : >"$room/owner-$own" || stop 126 "cannot write to $kept"
     until mv -T "$room" "$lock" 2>/dev/null || take_over; do
         [ -n "$waiting" ] || say "waiting: another launch is building, and holds $lock"
         waiting=yes
@@ -67,17 +86,15 @@ take_lock() {
     done
 }
 
-# Takes the lock of a dead owner, which may have had our own number. Only one of those who wait can rename the file.
+# Takes the lock of a dead owner. Only one of those who wait can rename the file.
 take_over() {
     owner=$(ls "$lock" 2>/dev/null | sed -n 's/^owner-//p')
-    [ "$owner" = "$$" ] || {
-        [ -n "$owner" ] && ! is_running "$owner" && mv "$lock/owner-$owner" "$lock/owner-$$" 2>/dev/null
-    }
+    [ -n "$owner" ] && ! is_running "$owner" && mv "$lock/owner-$owner" "$lock/owner-$own" 2>/dev/null
 }
 
 # Renames the lock before it is removed, so that nobody sees half of it.
 give_lock() {
-    [ ! -e "$lock/owner-$$" ] || mv -T "$lock" "$room"
+    [ ! -e "$lock/owner-$own" ] || mv -T "$lock" "$room"
     rm -rf "$room"
     trap - EXIT HUP INT TERM
 }
@@ -91,7 +108,7 @@ start_work() {
 # Shows on a terminal how far the work is.
 show_work() {
     [ -t 2 ] || return
-    while kill -0 "$working" 2>/dev/null; do
+    while is_child "$working"; do
         printf '\r%79s\rats: %.74s' '' "$(progress)" >&2
         sleep 1
     done
@@ -106,12 +123,15 @@ finish_work() {
     return "$status"
 }
 
-# Ends processes that were started here. One signal is not enough, since a process may lose it just after its start.
+# Ends the children with these numbers. One signal is not enough, since a process may lose it just after its start.
 end() {
-    kill "$@" 2>/dev/null
-    for process; do
-        while kill "$process" 2>/dev/null; do
+    for child; do
+        ! is_child "$child" || kill "$child" 2>/dev/null
+    done
+    for child; do
+        while is_child "$child"; do
             sleep 0.2
+            kill "$child" 2>/dev/null
         done
     done
 }
