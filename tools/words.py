@@ -1,0 +1,36 @@
+"""Prints the words of each page beside the most that it may have.
+
+usage: python3 tools/words.py
+
+Words are counted as `wc -w` counts them. Ends with status 1 if a page has more than it may, else with 0.
+"""
+
+import sys
+from pathlib import Path
+
+HOUSE = Path(__file__).resolve().parent.parent
+# The pages that share a limit, and the limit.
+LIMITS = {
+    ("README.md",): 1900,
+    ("docs/architecture.md",): 2300,
+    ("docs/DECISIONS.md",): 4500,
+    ("docs/definitions.md",): 4000,
+    ("docs/theorems.md",): 6500,
+    ("docs/formats.md",): 8400,
+    ("docs/client.md",): 9000,
+    ("docs/questions.md", "docs/trust.md"): 2600,
+    ("bench/README.md", "vectors/README.md"): 3100,
+}
+
+
+def main() -> int:
+    over = 0
+    for pages, limit in LIMITS.items():
+        words = sum(len((HOUSE / page).read_text(encoding="utf-8").split()) for page in pages)
+        over += words > limit
+        print(f"{words:6} of {limit:5}  {', '.join(pages)}{'  TOO LONG' if words > limit else ''}")
+    return 1 if over else 0
+
+
+if __name__ == "__main__":
+    sys.exit(main())
