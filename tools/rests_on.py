@@ -4,7 +4,7 @@
 usage: tools/rests_on.py COMMAND        such as verify
        tools/rests_on.py DEFINITION     such as IsTopOrCollides, or ats_client.Headline.IsTopOrCollides
        tools/rests_on.py CRATE::CALL    such as ats_top::run_with, or ats_terms::Query::read
-       tools/rests_on.py --short ONE    one of these, as a row for each crate: the table of docs/trust.md
+       tools/rests_on.py --short ONE    one of these, as a row for each crate, with its files
        tools/rests_on.py --inner        the definitions that no public contract rests on
 
 A definition rests on each name in it that is in scope there, and on all that these rest on. What follows a point is a
