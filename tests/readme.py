@@ -1,14 +1,17 @@
-"""Types every command line of README.md, in their order, and compares what it prints with what stands below it.
+"""Types every command line of README.md, docs/questions.md and docs/owners.md, and compares what each prints with what
+stands below it.
 
 usage: python3 tests/readme.py PROGRAM
 
-PROGRAM is the program, as ./ats. The lines run in a folder of their own, with the examples beside them. FOLDER is a
-folder of three texts, and the two lines over TCP run side by side. A line passes if it prints what stands below it, and
-ends with status 1 if that is a refusal, else with 0. The gate (`rt ci`) is left out, and named. Ends with status 0 if no
-line failed.
+PROGRAM is the program, as ./ats. The lines of a page run in their order, in a folder with the examples beside them; those
+of the questions follow README.md in one folder. FOLDER is a folder of three texts, and archive-2.index has one text more
+than the archive. Lines over TCP run beside a server. A line passes if it prints what stands below it, and ends with status
+1 if that is a refusal, else with 0. What needs the kit is left out, and named. Ends with status 0 if no line failed.
 """
 
+import json
 import re
+import shutil
 import subprocess
 import sys
 import tempfile
@@ -17,18 +20,19 @@ from typing import NamedTuple, Optional
 
 HOME = Path(__file__).resolve().parent.parent
 LIMIT = 60  # seconds of one line
+LEFT_OUT = ("rt ci", "python3 reader/play.py")
 TEXTS = {"one.txt": "a blood count", "two.txt": "count the hens", "three.txt": "red fox"}
 
 
 class Line(NamedTuple):
     typed: str
-    printed: Optional[list[str]]  # none where README.md does not say
+    printed: Optional[list[str]]  # none where the page does not say
 
 
-def blocks() -> list[list[str]]:
-    """The lines of each block of README.md."""
-    readme = (HOME / "README.md").read_text(encoding="utf-8")
-    return [block.splitlines() for block in re.findall(r"^```\n(.*?)^```$", readme, re.M | re.S)]
+def blocks(page: str) -> list[list[str]]:
+    """The lines of each block of a page."""
+    text = (HOME / page).read_text(encoding="utf-8")
+    return [block.splitlines() for block in re.findall(r"^```\n(.*?)^```$", text, re.M | re.S)]
 
 
 def lines_of(block: list[str]) -> list[Line]:
@@ -59,7 +63,8 @@ class Session:
     def __init__(self, folder: Path):
         self.folder, self.failed = folder, 0
         self.variables: list[str] = []
-        self.rows: Optional[list[str]] = None  # what the reader's line printed last
+        self.rows: Optional[list[str]] = None  # what the reader's line printed first
+        self.served: Optional[Line] = None  # the line that serves readers
 
     def report(self, line: Line, passed: bool) -> None:
         print(f"{'passed' if passed else 'FAILED'}: {line.typed}", flush=True)
@@ -69,15 +74,16 @@ class Session:
         return type_in([*self.variables, typed.replace("FOLDER", "folder")], self.folder)
 
     def try_line(self, line: Line) -> None:
-        if line.typed == "rt ci":
+        if line.typed in LEFT_OUT:
             print(f"left out: {line.typed}")
             return
         ended = self.run(line.typed)
-        self.report(line, ended.returncode == status_wanted(line) and line.printed in (None, ended.stdout.splitlines()))
+        printed, said = ended.stdout.splitlines(), ended.stderr.splitlines()
+        self.report(line, ended.returncode == status_wanted(line) and line.printed in (None, printed, said + printed))
         if re.match(r"[A-Z]+=", line.typed):
             self.variables.append(line.typed)
-        if " verify " in line.typed and ended.returncode == 0:
-            self.rows = line.printed
+        if " verify " in line.typed and ended.returncode == 0 and self.rows is None:
+            self.rows = printed
 
     def try_over_tcp(self, serve: Line, ask: Line) -> None:
         """The reader's line prints what `verify` printed, and the server ends well."""
@@ -88,10 +94,36 @@ class Session:
         self.report(serve, listening == "listening\n" and server.returncode == 0)
         self.report(ask, asked.returncode == 0 and asked.stdout.splitlines() == self.rows)
 
+    def try_listening(self, serve: Line) -> None:
+        """The server listens. It would serve for long, so it is ended."""
+        with subprocess.Popen(["sh", "-c", "exec " + serve.typed], cwd=self.folder, stdout=subprocess.PIPE, text=True) as server:
+            listening = server.stdout.readline()
+            server.terminate()
+        self.report(serve, listening == "listening\n")
+
+    def try_block(self, block: list[Line]) -> None:
+        if any(" ask " in line.typed for line in block):
+            self.served = next((line for line in block if " serve " in line.typed), self.served)
+            self.try_over_tcp(self.served, block[-1])
+            return
+        for line in block:
+            (self.try_listening if " serve " in line.typed else self.try_line)(line)
+
+    def try_page(self, page: str) -> None:
+        for block in blocks(page):
+            self.try_block(lines_of(block))
+
+    def grow(self) -> None:
+        """Makes what the questions name: the archive's collection here, and an index with one text more."""
+        texts = json.loads((HOME / "examples" / "archive.json").read_text(encoding="utf-8"))
+        (self.folder / "archive.json").write_text(json.dumps(texts), encoding="utf-8")
+        (self.folder / "archive-2.json").write_text(json.dumps([*texts, "A new note."]), encoding="utf-8")
+        self.variables.append("ROOT2=" + self.run("./ats build archive-2.json archive-2.index").stdout.strip())
+
 
 def prepare(folder: Path, program: Path) -> None:
     (folder / "ats").symlink_to(program)
-    (folder / "examples").symlink_to(HOME / "examples")
+    shutil.copytree(HOME / "examples", folder / "examples")  # copied, so that the scripts find the program beside them
     (folder / "folder").mkdir()
     for name, text in TEXTS.items():
         (folder / "folder" / name).write_text(text, encoding="utf-8")
@@ -101,16 +133,16 @@ def main() -> int:
     if len(sys.argv) != 2:
         print(__doc__.split("\n\n")[1], file=sys.stderr)
         return 2
-    with tempfile.TemporaryDirectory() as name:
-        session = Session(Path(name))
-        prepare(session.folder, Path(sys.argv[1]).resolve())
-        for block in map(lines_of, blocks()):
-            if " serve " in block[0].typed:
-                session.try_over_tcp(*block)
-                continue
-            for line in block:
-                session.try_line(line)
-        return 1 if session.failed else 0
+    program = Path(sys.argv[1]).resolve()
+    with tempfile.TemporaryDirectory() as reader, tempfile.TemporaryDirectory() as owner:
+        sessions = [Session(Path(reader)), Session(Path(owner))]
+        for session in sessions:
+            prepare(session.folder, program)
+        sessions[0].try_page("README.md")
+        sessions[0].grow()
+        sessions[0].try_page("docs/questions.md")
+        sessions[1].try_page("docs/owners.md")
+        return 1 if any(session.failed for session in sessions) else 0
 
 
 if __name__ == "__main__":
