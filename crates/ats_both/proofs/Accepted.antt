@@ -19,9 +19,9 @@ use Rattle.ats_honest.specs.Lanes.{lane_of, lanes_of, present}
 use Rattle.ats_honest.specs.Present.{standing}
 use Rattle.ats_honest.specs.Terms.{slot_of}
 use Rattle.ats_honest.proofs.Public.{spot_each, standing_present}
-use Rattle.ats_both.specs.Documents.{are_present}
+use Rattle.ats_conjunction.specs.Documents.{are_present}
+use Rattle.ats_conjunction.specs.Rules.{AcceptsBoth, IsWhole}
 use Rattle.ats_both.specs.Made.{IsBothMade, both_cut}
-use Rattle.ats_both.specs.Rules.{AcceptsBoth, IsWhole}
 use Rattle.ats_both.proofs.Cuts.{both_shows_whole}
 
 -- if each slot says that its term is present, each term has a leaf

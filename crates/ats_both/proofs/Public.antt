@@ -10,9 +10,5 @@ pub use Rattle.ats_both.proofs.Cuts.{both_shows_whole}
 pub use Rattle.ats_both.proofs.Accepted.{SeesWhole}
 -- the proof of a query with a term is accepted, if the rules of what it shows are kept and whole lists are seen
 pub use Rattle.ats_both.proofs.Accepted.{both_accepted}
--- bytes are refused by one rule
-pub use Rattle.ats_both.proofs.Refusals.{one_of_bytes}
--- bytes that are accepted are not refused
-pub use Rattle.ats_both.proofs.Refusals.{not_refused}
 -- for all archives with the root the shown documents are all with every term, or each verdict on the bytes tells a collision
 pub use Rattle.ats_both.proofs.Told.{told}

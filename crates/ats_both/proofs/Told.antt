@@ -10,11 +10,11 @@ use Rattle.ats_proof.proofs.Public.{one_value}
 use Rattle.ats_client.specs.Sections.{difference_of}
 use Rattle.ats_client.specs.Strings.{extract}
 use Rattle.ats_client.proofs.Public.{extract-collides, none_some}
-use Rattle.ats_both.specs.Verdicts.{AreAcceptedBytes, IsBothVerdict, TellsBothCollision, AreBothOrTold}
+use Rattle.ats_conjunction.specs.Bytes.{AreAcceptedBytes}
+use Rattle.ats_conjunction.proofs.Public.{not_refused, both_or_collide}
+use Rattle.ats_both.specs.Verdicts.{IsBothVerdict, TellsBothCollision, AreBothOrTold}
 use Rattle.ats_both.specs.declared.verdict.BothVerdict.{BothVerdict}
 use Rattle.ats_both.specs.declared.verdict.BothVerdict.TheVariants.{BadShape, Refused, Right, Collision}
-use Rattle.ats_both.proofs.Refusals.{not_refused}
-use Rattle.ats_both.proofs.Soundness.{both_or_collide}
 
 module _ (H : List ℕ → List ℕ) (archive : Archive) (query : List (List ℕ × ℕ)) (bytes : List ℕ) (proof : Proof)
     (accepted : AreAcceptedBytes H (root_of H archive) query bytes proof) (some : IsSome (extract H archive query proof)) where

@@ -1,31 +1,18 @@
--- When bytes are accepted under a root for a query, by which rule they are refused otherwise, and what an audit of them
--- against an archive finds.
+-- What an audit of bytes against an archive finds.
 use Rattle.std.specs.Prelude.{◌≡◌, ◌≢◌, ◌⊎◌, ℕ, List, None, Some}
 use Rattle.ats_commit.specs.Archive.{Archive}
 use Rattle.ats_commit.specs.Own.{AreTexts}
 use Rattle.ats_commit.specs.Root.{root_of}
 use Rattle.ats_grammar.specs.Front.{IsBad}
 use Rattle.ats_grammar.specs.Grammar.{proof_schema}
-use Rattle.ats_proof.specs.Value.{Proof, IsProof}
+use Rattle.ats_proof.specs.Value.{Proof}
 use Rattle.ats_client.specs.Sections.{difference_of}
 use Rattle.ats_client.specs.Strings.{extract}
 use Rattle.ats_client.specs.declared.clashing.Clash.{Clash}
-use Rattle.ats_both.specs.Documents.{both, documents_shown}
-use Rattle.ats_both.specs.Rules.{AcceptsBoth, IsFirstRefusal}
-use Rattle.ats_both.specs.declared.refusal.BothRefusal.{BothRefusal}
+use Rattle.ats_conjunction.specs.Bytes.{AreAcceptedBytes, AreRefusedBytes}
+use Rattle.ats_conjunction.specs.Documents.{both, documents_shown}
 use Rattle.ats_both.specs.declared.verdict.BothVerdict.{BothVerdict}
 use Rattle.ats_both.specs.declared.verdict.BothVerdict.TheVariants.{BadShape, Refused, Right, Collision}
-
--- the bytes spell this proof, and it is accepted under the root for the query
-pub record AreAcceptedBytes (H : List ℕ → List ℕ) (root : List ℕ) (query : List (List ℕ × ℕ)) (bytes : List ℕ) (proof : Proof) : Type 0 where
-  pub says : IsProof bytes proof
-  pub accepts : AcceptsBoth H root query proof
-
--- the bytes spell a proof that breaks this rule first under the root for the query
-pub record AreRefusedBytes (H : List ℕ → List ℕ) (root : List ℕ) (query : List (List ℕ × ℕ)) (bytes : List ℕ) (refusal : BothRefusal) : Type 0 where
-  pub proof : Proof
-  pub says : IsProof bytes proof
-  pub refused : IsFirstRefusal H root query proof refusal
 
 -- the bytes are accepted under the archive's root and have no collision with the archive; these are the documents that
 -- the proof shows, and all that have every term of the query

@@ -3,12 +3,10 @@
 ghost use Rattle.std.specs.Prelude.{IfOk};
 ghost use Rattle.ats_both.specs.Verdicts.{IsBothVerdict};
 
-use crate::checking::check_both;
-use crate::documents::both_documents;
-use crate::memory::OutOfMemory;
 use crate::verdict::BothVerdict;
 use ats_bound::Work;
 use ats_client::first_clash;
+use ats_conjunction::{OutOfMemory, both_documents, check_both};
 use ats_hash::{Hash32, Steps};
 use ats_index::Index;
 use ats_proof::ProofView;
@@ -38,8 +36,9 @@ pub fn audit_both<H: Hash32>(
         Ok(()) => {}
         Err(refusal) => return Ok(BothVerdict::Refused(refusal)),
     }
-    match first_clash::<H, _>(alloc, index, query, &proof)? {
-        Some(clash) => Ok(BothVerdict::Collision(clash)),
-        None => Ok(BothVerdict::Right(both_documents(alloc, &proof)?)),
+    match first_clash::<H, _>(alloc, index, query, &proof) {
+        Ok(Some(clash)) => Ok(BothVerdict::Collision(clash)),
+        Ok(None) => Ok(BothVerdict::Right(both_documents(alloc, &proof)?)),
+        Err(_) => Err(OutOfMemory),
     }
 }

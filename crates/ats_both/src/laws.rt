@@ -1,38 +1,16 @@
-//! Which documents have every term, what an accepted proof says of each archive, and that refusals are unique, as contracts
-//! of functions that do nothing.
+//! What an audit of an accepted proof finds, as the contract of a function that does nothing.
 
-ghost use Rattle.std.specs.Prelude.{◌≡◌, ◌↔◌, ◌<◌, ℕ, List, [], length, slice_index_or};
-ghost use Rattle.std.specs.List.{All, Contains};
-ghost use Rattle.std.specs.List.Sorted.{IsStrictlyIncreasing};
+ghost use Rattle.std.specs.Prelude.{ℕ, List};
 ghost use Rattle.ats_terms.specs.Query.{IsQuery};
-ghost use Rattle.ats_impact.specs.Score.{count};
 ghost use Rattle.ats_proof.specs.Value.{Proof};
-ghost use Rattle.ats_both.specs.Documents.{both};
-ghost use Rattle.ats_both.specs.Verdicts.{AreAcceptedBytes, AreBothOrTold, AreRefusedBytes};
-ghost use Rattle.ats_both.specs.declared.refusal.BothRefusal.{BothRefusal};
+ghost use Rattle.ats_conjunction.specs.Bytes.{AreAcceptedBytes};
+ghost use Rattle.ats_both.specs.Verdicts.{AreBothOrTold};
 
 use ats_hash::HashKind;
-
-/// A document is among all that have every term of a query exactly if it is one of the texts and each term occurs there.
-/// They are listed in the order of their numbers, each once.
-pub fn both_has_all_documents()
-    ensures has { (texts : List (List ℕ)) (query : List (List ℕ × ℕ)) (doc : ℕ) → Contains (both texts query) doc
-        ↔ ((doc < length texts)
-        × All (λ (pair : List ℕ × ℕ). 0 < count pair.0 (slice_index_or texts doc [])) query) }
-    ensures rise { (texts : List (List ℕ)) (query : List (List ℕ × ℕ)) → IsStrictlyIncreasing (both texts query) }
-{}
 
 /// For each archive with the root, either the documents that an accepted proof shows are all that have every term of the
 /// query, or every verdict on the bytes against that archive contains two different strings with equal digests.
 pub fn accepted_documents_are_both<H: HashKind>()
     ensures { (root : List ℕ) (query : List (List ℕ × ℕ)) (bytes : List ℕ) (proof : Proof) → IsQuery query
         → AreAcceptedBytes H.hash root query bytes proof → AreBothOrTold H.hash root query bytes proof }
-{}
-
-/// Bytes are refused by at most one rule, and by none if they are accepted.
-pub fn bytes_are_refused_once<H: HashKind>()
-    ensures one { (root : List ℕ) (query : List (List ℕ × ℕ)) (bytes : List ℕ) (a b : BothRefusal)
-        → AreRefusedBytes H.hash root query bytes a → AreRefusedBytes H.hash root query bytes b → a ≡ b }
-    ensures apart { (root : List ℕ) (query : List (List ℕ × ℕ)) (bytes : List ℕ) (proof : Proof) (refusal : BothRefusal)
-        → AreAcceptedBytes H.hash root query bytes proof → AreRefusedBytes H.hash root query bytes refusal → ⊥ }
 {}

@@ -6,9 +6,9 @@ ghost use Rattle.ats_proof.specs.Value.{Proof};
 ghost use Rattle.ats_honest.specs.Honest.{length_of};
 ghost use Rattle.ats_both.specs.Made.{IsBothFault, IsBothMade, IsBothProof, IsBothWithin, first_least_whole};
 
-use crate::memory::OutOfMemory;
 use ats_base::Bytes;
 use ats_bound::Cut;
+use ats_conjunction::OutOfMemory;
 use ats_grammar::MAX_PROOF;
 use ats_hash::HashKind;
 use ats_index::Index;

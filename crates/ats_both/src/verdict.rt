@@ -1,8 +1,8 @@
 //! What an audit finds.
 
-use crate::refusal::BothRefusal;
 use ats_bound::Picks;
 use ats_client::Clash;
+use ats_conjunction::BothRefusal;
 use ats_proof::ShapeFault;
 
 /// What an audit of a proof against an archive finds.

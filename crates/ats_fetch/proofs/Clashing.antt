@@ -14,16 +14,16 @@ use Rattle.ats_tree.specs.Rebuild.{need}
 use Rattle.ats_tree.specs.Strings.{node_string, string_at, strings}
 use Rattle.ats_tree.specs.Tree.{Tree, tree_of}
 use Rattle.ats_tree.proofs.Public.{difference-moved, moved_difference, numbers-lead}
-use Rattle.ats_fetch.specs.Accepts.{AcceptsText}
+use Rattle.ats_inclusion.specs.Accepts.{AcceptsText}
+use Rattle.ats_inclusion.specs.Strings.{TextPlace, header_place, in_texts, own_text_string, text_extract}
+use Rattle.ats_inclusion.specs.Value.{TextProof, IsTextInRange}
+use Rattle.ats_inclusion.proofs.Public.{own_numbers, tree_strings_of, text-extracts}
 use Rattle.ats_fetch.specs.Inner.Clashes.{own_header_string, HasOwnHeader, IsHeaderClash, at_node}
 use Rattle.ats_fetch.specs.Inner.Compare.{numbered, unlike_at}
 use Rattle.ats_fetch.specs.Inner.Trees.{text_tree, own_tree}
-use Rattle.ats_fetch.specs.Strings.{TextPlace, header_place, in_texts, own_text_string, text_extract}
-use Rattle.ats_fetch.specs.Value.{TextProof, IsTextInRange}
 use Rattle.ats_fetch.specs.Verdicts.{difference_of}
 use Rattle.ats_fetch.specs.declared.path.Unlike.{Unlike}
 use Rattle.ats_fetch.specs.declared.verdict.TextClash.{TextClash}
-use Rattle.ats_fetch.proofs.Own.{own_numbers, tree_strings_of, text-extracts}
 
 -- what is known in either case of an option
 pub none_means : {X : Type 0} (o : Option X) (A : Type 0) (B : X → Type 0) → o ≡ None → MatchOption o A B → A

@@ -17,12 +17,12 @@ use Rattle.ats_tree.specs.Rebuild.{need, rebuilt, tree_of_places}
 use Rattle.ats_tree.specs.Strings.{node_string, node_strings}
 use Rattle.ats_tree.specs.Tree.{mth, tree_of}
 use Rattle.ats_tree.proofs.Public.{elided-rebuilds, elided-sized, numbers-lead, own-none, own-strings}
-use Rattle.ats_fetch.specs.Accepts.{shown_text, AcceptsText}
+use Rattle.ats_inclusion.specs.Accepts.{shown_text, AcceptsText}
+use Rattle.ats_inclusion.specs.Strings.{TextPlace, in_texts, own_text_string, text_strings, text_extract, IsOwnText}
+use Rattle.ats_inclusion.specs.Value.{TextProof, IsTextInRange}
+use Rattle.ats_inclusion.proofs.Public.{tree_strings_of}
 use Rattle.ats_fetch.specs.Given.{given_text}
-use Rattle.ats_fetch.specs.Strings.{TextPlace, in_texts, own_text_string, text_strings, text_extract, IsOwnText}
-use Rattle.ats_fetch.specs.Value.{TextProof, IsTextInRange}
 use Rattle.ats_fetch.proofs.Needs.{needs}
-use Rattle.ats_fetch.proofs.Own.{tree_strings_of}
 use Rattle.ats_fetch.proofs.Rebuilt.{fits}
 
 module _ (H : List ℕ → List ℕ) (sized : (m : List ℕ) → length (H m) ≡ 32) (archive : Archive) (doc : ℕ) (are : AreTexts archive.texts) (less : doc < length archive.texts) where

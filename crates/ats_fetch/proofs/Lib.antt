@@ -1,8 +1,5 @@
 pub mod Public
-mod Fields
-mod Refusals
 mod Rebuilt
-mod Own
 mod Parts
 mod Unlike
 mod Comparing

@@ -13,7 +13,7 @@ use Rattle.ats_tree.specs.Shown.{places}
 use Rattle.ats_tree.specs.Strings.{below, strings}
 use Rattle.ats_tree.specs.Tree.{Tree, empty, leaf, node, tree_of, digest_of, IsPowerOfTwo}
 use Rattle.ats_tree.proofs.Public.{length-places, HasLeaf, has_leaf-of, bare-of, whole-shows, leaf-tree, places-cut, part-leaf}
-use Rattle.ats_fetch.specs.Accepts.{shown_text}
+use Rattle.ats_inclusion.specs.Accepts.{shown_text}
 use Rattle.ats_fetch.specs.Inner.Trees.{text_tree, own_tree}
 
 -- the string at the root of a tree

@@ -8,8 +8,8 @@ use Rattle.ats_dict.specs.Header.{header_bytes}
 use Rattle.ats_grammar.specs.Table.{spelled}
 use Rattle.ats_proof.specs.Value.{number_of_format, header_fields}
 use Rattle.ats_proof.proofs.Public.{spelled_1, spelled_4, header_join}
-use Rattle.ats_fetch.specs.Value.{TextProof, text_fields, fields_of, IsTextProof, IsTextInRange}
-use Rattle.ats_fetch.proofs.Fields.{spells}
+use Rattle.ats_inclusion.specs.Value.{TextProof, text_fields, fields_of, IsTextProof, IsTextInRange}
+use Rattle.ats_inclusion.proofs.Public.{spells}
 
 in_turn : (a b c d e f g : List ℕ) → (((((a ++ b) ++ c) ++ d) ++ e) ++ f) ++ g ≡ a ++ (b ++ (c ++ (d ++ (e ++ (f ++ g)))))
 in_turn a b c d e f g =

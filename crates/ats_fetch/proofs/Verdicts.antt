@@ -6,18 +6,17 @@ use Rattle.ats_commit.specs.Root.{root_of}
 use Rattle.ats_grammar.proofs.Public.{no_fault}
 use Rattle.ats_tree.specs.Differences.{Difference}
 use Rattle.ats_tree.proofs.Public.{AreColliding, found-collides, none_some}
+use Rattle.ats_inclusion.specs.Grammar.{text_schema}
+use Rattle.ats_inclusion.specs.Accepts.{AcceptsText}
+use Rattle.ats_inclusion.specs.Strings.{TextPlace, own_text_string, text_strings, text_extract}
+use Rattle.ats_inclusion.specs.Value.{TextProof, fields_of, IsTextProof}
+use Rattle.ats_inclusion.specs.Bytes.{IsAcceptedText}
+use Rattle.ats_inclusion.proofs.Public.{in_range, one_text, own_or_collides, not_refused}
 use Rattle.ats_fetch.specs.Given.{given_text}
-use Rattle.ats_fetch.specs.Grammar.{text_schema}
-use Rattle.ats_fetch.specs.Accepts.{AcceptsText}
-use Rattle.ats_fetch.specs.Strings.{TextPlace, own_text_string, text_strings, text_extract}
-use Rattle.ats_fetch.specs.Value.{TextProof, fields_of, IsTextProof}
-use Rattle.ats_fetch.specs.Verdicts.{IsAcceptedText, IsTextVerdict, TellsTextCollision, IsOwnOrTold}
+use Rattle.ats_fetch.specs.Verdicts.{IsTextVerdict, TellsTextCollision, IsOwnOrTold}
 use Rattle.ats_fetch.specs.declared.verdict.TextVerdict.{TextVerdict}
 use Rattle.ats_fetch.specs.declared.verdict.TextVerdict.TheVariants.{BadShape, Refused, Right, Collision}
-use Rattle.ats_fetch.proofs.Fields.{in_range, one_text}
 use Rattle.ats_fetch.proofs.Given.{given-accepted, given-none}
-use Rattle.ats_fetch.proofs.Own.{own_or_collides}
-use Rattle.ats_fetch.proofs.Refusals.{not_refused}
 
 pub extract-collides : (H : List ℕ → List ℕ) (archive : Archive) (doc : ℕ) (proof : TextProof) (c : Difference TextPlace)
     → text_extract H archive doc proof ≡ Some c → AreColliding H c

@@ -3,7 +3,7 @@ use Rattle.std.specs.Prelude.{ℕ, List, [], ◌∷◌, slice_index_or}
 use Rattle.ats_commit.specs.Archive.{Archive}
 use Rattle.ats_commit.specs.Root.{header_parts}
 use Rattle.ats_tree.specs.Elided.{elided_digests}
-use Rattle.ats_fetch.specs.Value.{TextProof}
+use Rattle.ats_inclusion.specs.Value.{TextProof}
 
 -- the archive's format and header, the text, and the digests that it needs of the texts tree
 abbrev pub given_text : (List ℕ → List ℕ) → Archive → ℕ → TextProof

@@ -1,4 +1,3 @@
 pub mod Clashes
 pub mod Compare
-pub mod Cursor
 pub mod Trees

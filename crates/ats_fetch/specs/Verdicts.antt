@@ -5,25 +5,13 @@ use Rattle.ats_commit.specs.Own.{AreTexts}
 use Rattle.ats_commit.specs.Root.{root_of}
 use Rattle.ats_grammar.specs.Front.{IsBad}
 use Rattle.ats_tree.specs.Differences.{Difference}
-use Rattle.ats_fetch.specs.Accepts.{AcceptsText, IsFirstTextRefusal}
-use Rattle.ats_fetch.specs.Grammar.{text_schema}
-use Rattle.ats_fetch.specs.Strings.{TextPlace, text_extract, IsOwnText}
-use Rattle.ats_fetch.specs.Value.{TextProof, IsTextProof}
-use Rattle.ats_fetch.specs.declared.refusal.TextRefusal.{TextRefusal}
+use Rattle.ats_inclusion.specs.Bytes.{IsAcceptedText, IsRefusedText}
+use Rattle.ats_inclusion.specs.Grammar.{text_schema}
+use Rattle.ats_inclusion.specs.Strings.{TextPlace, text_extract, IsOwnText}
+use Rattle.ats_inclusion.specs.Value.{TextProof}
 use Rattle.ats_fetch.specs.declared.verdict.TextClash.{TextClash}
 use Rattle.ats_fetch.specs.declared.verdict.TextVerdict.{TextVerdict}
 use Rattle.ats_fetch.specs.declared.verdict.TextVerdict.TheVariants.{BadShape, Refused, Right, Collision}
-
--- the bytes spell this, and it is accepted under the root for the document
-pub record IsAcceptedText (H : List ℕ → List ℕ) (root : List ℕ) (doc : ℕ) (bytes : List ℕ) (proof : TextProof) : Type 0 where
-  pub says : IsTextProof bytes proof
-  pub accepts : AcceptsText H root doc proof
-
--- the bytes spell what is refused under the root for the document, by this rule first
-pub record IsRefusedText (H : List ℕ → List ℕ) (root : List ℕ) (doc : ℕ) (bytes : List ℕ) (refusal : TextRefusal) : Type 0 where
-  pub proof : TextProof
-  pub says : IsTextProof bytes proof
-  pub refused : IsFirstTextRefusal H root doc proof refusal
 
 -- the two strings of a clash, with their place
 abbrev pub difference_of : TextClash → Difference TextPlace

@@ -7,21 +7,20 @@ ghost use Rattle.ats_proof.specs.Seen.{digests_of};
 ghost use Rattle.ats_tree.specs.Differences.{moved, first_difference};
 ghost use Rattle.ats_tree.specs.Nodes.{numbers_of};
 ghost use Rattle.ats_tree.specs.Strings.{node_strings};
-ghost use Rattle.ats_fetch.specs.Accepts.{AcceptsText, shown_text};
+ghost use Rattle.ats_inclusion.specs.Accepts.{AcceptsText, shown_text};
+ghost use Rattle.ats_inclusion.specs.Strings.{text_extract, in_texts, own_text_string};
 ghost use Rattle.ats_fetch.specs.Inner.Clashes.{HasOwnHeader, IsHeaderClash, at_node};
 ghost use Rattle.ats_fetch.specs.Inner.Compare.{our_string, their_string, unlike_at};
-ghost use Rattle.ats_fetch.specs.Strings.{text_extract, in_texts, own_text_string};
 ghost use Rattle.ats_fetch.specs.Verdicts.{IsTextVerdict, IsWellTold, IsPlaced, difference_of};
 
-use crate::checking::check_text;
 use crate::giving::needed_digests;
 use crate::memory::OutOfMemory;
 use crate::path::{NodePair, Side, Unlike, compare};
 use crate::verdict::{TextClash, TextVerdict};
-use crate::view::TextView;
 use ats_base::Bytes;
 use ats_commit::string_of_header;
 use ats_hash::{Hash32, Steps};
+use ats_inclusion::{TextView, check_text};
 use ats_index::Index;
 use ats_proof::DigestRun;
 use ats_tree::Digests;
@@ -113,7 +112,8 @@ fn header_clash<H: Hash32>(
     ensures place { IfOk result (λ found. IfSome found IsPlaced) }
 {
     let ours = string_of_header(index.format(), index.header());
-    let theirs = string_of_header(proof.format, &proof.header);
+    let (format, header) = proof.archive();
+    let theirs = string_of_header(format, &header);
     if ours.bytes() == theirs.bytes() {
         return Ok(None);
     }
@@ -143,10 +143,11 @@ fn tree_clash<H: Hash32>(
 {
     proof.is_in_range();
     let collection = index.collection();
-    let theirs = listed(alloc, proof.digests)?;
+    let their_text = proof.text();
+    let theirs = listed(alloc, proof.digests())?;
     let ours = needed_digests::<H>(alloc, collection, doc)?;
     let side = Side {
-        text: proof.text,
+        text: their_text,
         digests: theirs.as_slice(),
     };
     let compared = compare::<H>(
@@ -159,7 +160,7 @@ fn tree_clash<H: Hash32>(
         &mut Steps::new(alloc),
     );
     let text = collection.text(doc).as_bytes();
-    clash_at(alloc, compared.unlike, text, proof.text)
+    clash_at(alloc, compared.unlike, text, their_text)
 }
 
 // The first collision of an accepted text with the archive: its root is that of both sides, so the first strings that

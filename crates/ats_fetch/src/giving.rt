@@ -4,8 +4,8 @@ ghost use Rattle.std.specs.Prelude.{◌≡◌, ◌∷◌, ◌++◌, ◌<◌, [],
 ghost use Rattle.std.specs.List.{concat};
 ghost use Rattle.ats_proof.specs.Value.{number_of_format};
 ghost use Rattle.ats_tree.specs.Elided.{elided_digests};
+ghost use Rattle.ats_inclusion.specs.Value.{IsTextProof, IsTextInRange};
 ghost use Rattle.ats_fetch.specs.Given.{given_text};
-ghost use Rattle.ats_fetch.specs.Value.{IsTextProof, IsTextInRange};
 
 use crate::memory::OutOfMemory;
 use ats_base::Bytes;

@@ -1,50 +1,19 @@
-//! What the bytes that give a text say, when a text is accepted, and what follows for the archive, as contracts of
-//! functions that do nothing.
+//! What an audit of an accepted text finds, and that what an archive gives is accepted, as contracts of functions that do
+//! nothing.
 
 ghost use Rattle.std.specs.Prelude.{◌≡◌, ◌<◌, ℕ, List, length, None};
 ghost use Rattle.ats_commit.specs.Archive.{Archive};
 ghost use Rattle.ats_commit.specs.Own.{AreTexts};
 ghost use Rattle.ats_commit.specs.Root.{root_of};
-ghost use Rattle.ats_fetch.specs.Accepts.{AcceptsText, IsFirstTextRefusal};
+ghost use Rattle.ats_inclusion.specs.Accepts.{AcceptsText};
+ghost use Rattle.ats_inclusion.specs.Strings.{text_extract, IsOwnText};
+ghost use Rattle.ats_inclusion.specs.Value.{IsTextProof, TextProof};
 ghost use Rattle.ats_fetch.specs.Given.{given_text};
-ghost use Rattle.ats_fetch.specs.Strings.{text_extract, IsOwnText, IsOwnOrCollides};
-ghost use Rattle.ats_fetch.specs.Value.{TextProof, IsTextProof, IsTextInRange};
 ghost use Rattle.ats_fetch.specs.Verdicts.{IsTextVerdict, IsOwnOrTold};
-ghost use Rattle.ats_fetch.specs.declared.refusal.TextRefusal.{TextRefusal};
 ghost use Rattle.ats_fetch.specs.declared.verdict.TextVerdict.{TextVerdict};
 ghost use Rattle.ats_fetch.specs.declared.verdict.TextVerdict.TheVariants.{Right};
 
 use ats_hash::HashKind;
-
-/// Bytes say at most one text with its header and digests, and the parts are in their ranges. Each such value has at
-/// most one spelling.
-pub fn bytes_say_one_text()
-    ensures one { (bytes : List ℕ) (proof other : TextProof)
-        → IsTextProof bytes proof → IsTextProof bytes other → proof ≡ other }
-    ensures range { (bytes : List ℕ) (proof : TextProof) → IsTextProof bytes proof → IsTextInRange proof }
-    ensures spelling { (bytes others : List ℕ) (proof : TextProof)
-        → IsTextProof bytes proof → IsTextProof others proof → bytes ≡ others }
-{}
-
-/// Each value whose parts are in their ranges has a spelling.
-pub fn texts_in_range_are_spelled()
-    ensures { (proof : TextProof) → IsTextInRange proof → (bytes : List ℕ) × IsTextProof bytes proof }
-{}
-
-/// A text has at most one first refusal, and none if it is accepted.
-pub fn texts_have_one_refusal<H: HashKind>()
-    ensures one { (root : List ℕ) (doc : ℕ) (proof : TextProof) (a b : TextRefusal)
-        → IsFirstTextRefusal H.hash root doc proof a → IsFirstTextRefusal H.hash root doc proof b → a ≡ b }
-    ensures none { (root : List ℕ) (doc : ℕ) (proof : TextProof) (refusal : TextRefusal)
-        → AcceptsText H.hash root doc proof → IsFirstTextRefusal H.hash root doc proof refusal → ⊥ }
-{}
-
-/// The headline: for every archive with the root, either an accepted text is the archive's own, or the strings of the
-/// check and those of the archive contain two different ones with equal digests.
-pub fn accepted_texts_are_own<H: HashKind>()
-    ensures { (root : List ℕ) (doc : ℕ) (bytes : List ℕ) (proof : TextProof)
-        → IsTextProof bytes proof → AcceptsText H.hash root doc proof → IsOwnOrCollides H.hash root doc proof }
-{}
 
 /// For every archive with the root, either an accepted text is the archive's own, or every verdict on its bytes against
 /// that archive contains two different strings with equal digests.

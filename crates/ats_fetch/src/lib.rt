@@ -1,18 +1,15 @@
-//! The text of an answered document, for whoever holds the root of an archive.
+//! The text of an answered document: given by whoever has the archive's index, and audited.
 //!
-//! A proof of an answer names documents but has no texts. [`give_text`] makes the bytes that give the text of one
-//! document: the archive's format and header, the text, and the digests that bind it to the root of the texts tree
-//! (RFC 6962, section 2.1.1, calls them an audit path). [`TextView::read`] reads such bytes in place, and [`check_text`]
-//! checks them against the root: the header, the document's number, the number of digests, and the root of the texts
-//! that text and digests rebuild. Neither allocates. [`audit_text`] is for whoever has the archive's index: it checks
-//! the bytes under the index's root and finds the first string that differs from the archive's own and has its digest.
+//! [`give_text`] makes the bytes that give the text of one document: the archive's format and header, the text, and the
+//! digests that bind it to the root of the texts tree. A reader checks them by [`check_text`], which stands in
+//! `ats_inclusion`, with the reader of the bytes and the rules. [`audit_text`] is for whoever has the archive's index: it
+//! checks the bytes under the index's root and finds the first string that differs from the archive's own and has its
+//! digest.
 //!
-//! The room stands on `ats_grammar` and `ats_proof` for fields, header and digests, on `ats_tree` and `ats_commit` for
-//! the texts tree and the root, and on `ats_index`. Bytes are read exactly if they spell a text (`specs/Grammar.antt`),
-//! and a text is accepted exactly if all rules hold (`specs/Accepts.antt`), else refused by the first that does not. For
-//! every archive with the root, an accepted text is the archive's own, or the audit returns two different strings with
-//! equal digests (`specs/Strings.antt`, `specs/Verdicts.antt`). How the path is compared may change freely; the bytes,
-//! the rules and their order may not.
+//! The room stands on `ats_inclusion` for the check, on `ats_tree` and `ats_commit` for the texts tree and its digests, and
+//! on `ats_index` for the archive's own texts. What an archive gives is accepted and found right. For every archive with
+//! the root, an accepted text is the archive's own, or the audit returns two different strings with equal digests
+//! (`specs/Verdicts.antt`). How the path is compared may change freely; which strings an audit returns may not.
 //!
 //! ```
 //! use ats_hash::{Sha, Steps};
@@ -27,24 +24,18 @@
 #![tactic(auto)]
 
 mod auditing;
-mod checking;
-mod cursor;
 mod giving;
 mod laws;
 mod memory;
 mod path;
-mod refusal;
 mod verdict;
-mod view;
 
-pub use auditing::audit_text;
-pub use checking::check_text;
-pub use giving::give_text;
-pub use laws::{
-    accepted_texts_are_audited, accepted_texts_are_own, bytes_say_one_text,
-    given_texts_are_accepted, texts_have_one_refusal, texts_in_range_are_spelled,
+pub use ats_inclusion::{
+    TextRefusal, TextView, accepted_texts_are_own, bytes_say_one_text, check_text,
+    texts_have_one_refusal, texts_in_range_are_spelled,
 };
+pub use auditing::audit_text;
+pub use giving::give_text;
+pub use laws::{accepted_texts_are_audited, given_texts_are_accepted};
 pub use memory::OutOfMemory;
-pub use refusal::TextRefusal;
 pub use verdict::{TextClash, TextVerdict};
-pub use view::TextView;

@@ -1,8 +1,8 @@
 //! What an audit of a text finds.
 
-use crate::refusal::TextRefusal;
 use ats_base::Bytes;
 use ats_grammar::ShapeFault;
+use ats_inclusion::TextRefusal;
 
 /// Two different strings with equal digests: the archive's own at a place, and the one that the check hashes there.
 #[derive(Drop)]

@@ -6,15 +6,12 @@ use Rattle.ats_tree.specs.Paths.{Path}
 use Rattle.ats_tree.specs.Tree.{Tree, empty, leaf, node, tree_of, digest_of, mth}
 use Rattle.ats_commit.specs.Archive.{Archive}
 use Rattle.ats_commit.specs.Root.{root_of}
-use Rattle.ats_growth.specs.Honest.{shown, digests_of, honest, IsPrefix}
-use Rattle.ats_growth.specs.Pair.{Roots, roots, grown_by, joined_to}
-use Rattle.ats_growth.specs.Rules.{AcceptsGrowth}
-use Rattle.ats_growth.specs.Shape.{turns, need}
-use Rattle.ats_growth.proofs.Fits.{Shares, shares}
-use Rattle.ats_growth.proofs.Leads.{leads}
-use Rattle.ats_growth.proofs.SharedParts.{IsKnown}
-use Rattle.ats_growth.proofs.Sides.{AreSized}
-use Rattle.ats_growth.proofs.Trees.{length-digest}
+use Rattle.ats_consistency.specs.Headline.{IsPrefix}
+use Rattle.ats_consistency.specs.Pair.{Roots, roots, grown_by, joined_to}
+use Rattle.ats_consistency.specs.Rules.{AcceptsGrowth}
+use Rattle.ats_consistency.specs.Shape.{turns, need}
+use Rattle.ats_consistency.proofs.Public.{Shares, shares, leads, IsKnown, AreSized, length-digest}
+use Rattle.ats_growth.specs.Honest.{shown, digests_of, honest}
 
 abbrev both_of : (List ℕ → List ℕ) → Tree (List ℕ) → Tree (List ℕ) → Roots
 both_of H t u = record { old = digest_of H t; new = digest_of H u }

@@ -17,24 +17,24 @@ use Rattle.ats_tree.specs.Differences.{Hashed, Difference, first_difference}
 use Rattle.ats_tree.specs.Strings.{string_at}
 use Rattle.ats_tree.specs.Tree.{tree_of}
 use Rattle.ats_tree.proofs.Public.{difference-collides}
-use Rattle.ats_growth.specs.Compared.{part_of, taken, AreCompared}
+use Rattle.ats_consistency.specs.Headline.{HasGrown}
+use Rattle.ats_consistency.specs.Headline.{IsPrefix}
+use Rattle.ats_consistency.specs.Rules.{AcceptsGrowth, digests_needed}
+use Rattle.ats_consistency.specs.Shape.{turns, need}
+use Rattle.ats_consistency.specs.Strings.{Beside, beside, header_pair, new_strings, old_strings, ranges, range_pairs, pairs, second_of, extract, part_of}
+use Rattle.ats_consistency.specs.Value.{Growth, IsGrowth, IsInRange, AreInRange}
+use Rattle.ats_consistency.specs.declared.checking.Grown.{Grown}
+use Rattle.ats_consistency.proofs.Public.{growth-binds, tail-same}
+use Rattle.ats_growth.specs.Compared.{taken, AreCompared}
 use Rattle.ats_growth.specs.Found.{own_header_string, HasOwnHeader, IsHeaderCollision, new_pairs, old_pairs, shared_pairs, texts_pairs, difference_of}
-use Rattle.ats_growth.specs.Headline.{HasGrown}
-use Rattle.ats_growth.specs.Honest.{IsPrefix}
-use Rattle.ats_growth.specs.Rules.{AcceptsGrowth, digests_needed}
-use Rattle.ats_growth.specs.Shape.{turns, need}
-use Rattle.ats_growth.specs.Strings.{Beside, beside, header_pair, new_strings, old_strings, ranges, range_pairs, pairs, second_of, extract}
 use Rattle.ats_growth.specs.Unlike.{Two, first_unlike, strings_of, in_part}
-use Rattle.ats_growth.specs.Value.{Growth, IsGrowth, IsInRange, AreInRange}
 use Rattle.ats_growth.specs.Verdicts.{IsFoundGrown}
-use Rattle.ats_growth.specs.declared.checking.Grown.{Grown}
 use Rattle.ats_growth.specs.declared.auditing.Collided.{Collided}
 use Rattle.ats_growth.specs.declared.joining.Compared.{Compared}
 use Rattle.ats_growth.specs.declared.joining.Unlike.{Unlike}
 use Rattle.ats_growth.proofs.Completeness.{prefix-shares}
 use Rattle.ats_growth.proofs.HonestStrings.{past-header}
 use Rattle.ats_growth.proofs.Ranging.{none-shared}
-use Rattle.ats_growth.proofs.Soundness.{growth-binds, tail-same}
 use Rattle.ats_growth.proofs.Told.{in-moved, in-ranges, in-first, in-second, in-third}
 use Rattle.ats_growth.proofs.Unlikes.{unlike-moved}
 

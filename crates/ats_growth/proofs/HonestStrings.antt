@@ -10,17 +10,17 @@ use Rattle.ats_tree.specs.Paths.{Path}
 use Rattle.ats_tree.specs.Strings.{string_at}
 use Rattle.ats_tree.specs.Tree.{Tree, empty, leaf, node, tree_of, digest_of, mth}
 use Rattle.ats_tree.proofs.Public.{Collides, difference-collides}
+use Rattle.ats_consistency.specs.Headline.{IsPrefix}
+use Rattle.ats_consistency.specs.Pair.{Roots, roots}
+use Rattle.ats_consistency.specs.Shape.{turns}
+use Rattle.ats_consistency.specs.Strings.{Beside, beside, header_pair, new_strings, old_strings, ranges, range_pairs, second_of, pairs, extract}
+use Rattle.ats_consistency.specs.Value.{Growth}
+use Rattle.ats_consistency.proofs.Public.{Shares, IsKnown}
 use Rattle.ats_growth.specs.Found.{texts_pairs}
-use Rattle.ats_growth.specs.Honest.{shown, digests_of, honest, IsPrefix}
-use Rattle.ats_growth.specs.Pair.{Roots, roots}
-use Rattle.ats_growth.specs.Shape.{turns}
-use Rattle.ats_growth.specs.Strings.{Beside, beside, header_pair, new_strings, old_strings, ranges, range_pairs, second_of, pairs, extract}
+use Rattle.ats_growth.specs.Honest.{shown, digests_of, honest}
 use Rattle.ats_growth.specs.Unlike.{first_unlike}
-use Rattle.ats_growth.specs.Value.{Growth}
 use Rattle.ats_growth.proofs.Completeness.{shown-roots, prefix-shares, back}
-use Rattle.ats_growth.proofs.Fits.{Shares}
 use Rattle.ats_growth.proofs.Ranging.{none-shared}
-use Rattle.ats_growth.proofs.SharedParts.{IsKnown}
 use Rattle.ats_growth.proofs.Told.{in-moved, in-ranges, in-third}
 use Rattle.ats_growth.proofs.Unlikes.{unlike-left, unlike-right, unlike-same, unlike-moved}
 

@@ -12,13 +12,12 @@ use Rattle.ats_commit.proofs.Public.{header_in_range, few_within}
 use Rattle.ats_proof.specs.Parts.{spelled}
 use Rattle.ats_tree.specs.Tree.{tree_of}
 use Rattle.ats_proof.proofs.Public.{spelled_1}
-use Rattle.ats_growth.specs.Honest.{shown, digests_of, digest_bytes, honest, IsPrefix}
-use Rattle.ats_growth.specs.Shape.{turns, need}
-use Rattle.ats_growth.specs.Value.{IsGrowth, IsInRange, AreInRange, archive_fields}
+use Rattle.ats_consistency.specs.Headline.{IsPrefix}
+use Rattle.ats_consistency.specs.Shape.{turns, need}
+use Rattle.ats_consistency.specs.Value.{IsGrowth, IsInRange, AreInRange, archive_fields}
+use Rattle.ats_consistency.proofs.Public.{All-reverse, leads, depth, need-turns, join_of, spells}
+use Rattle.ats_growth.specs.Honest.{shown, digests_of, digest_bytes, honest}
 use Rattle.ats_growth.proofs.Completeness.{prefix-shares, prefix-shorter, length-shown, sized-shown}
-use Rattle.ats_growth.proofs.Digests.{All-reverse}
-use Rattle.ats_growth.proofs.Leads.{leads, depth, need-turns}
-use Rattle.ats_growth.proofs.Spelled.{join_of, spells}
 
 -- runs of bytes that are appended one after another
 pub joined_2 : (old x y b c all : List ℕ) → b ≡ old ++ x → c ≡ b ++ y → x ++ y ≡ all → c ≡ old ++ all

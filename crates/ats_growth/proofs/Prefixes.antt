@@ -3,7 +3,8 @@ use Rattle.std.proofs.Common.{◌≡◌, ◌↔◌, ℕ, zero, suc, ◌<◌, ◌
 use Rattle.std.specs.Str.{bytes_eq}
 use Rattle.std.proofs.lemmas.Option.{slice_get_read, slice_get_past, slice_get-get_or}
 use Rattle.std.proofs.lemmas.Slice.Eq.{bytes_eq-Decides}
-use Rattle.ats_growth.specs.Honest.{IsPrefix, IsFirstApart}
+use Rattle.ats_consistency.specs.Headline.{IsPrefix}
+use Rattle.ats_growth.specs.Honest.{IsFirstApart}
 
 -- each old document is kept
 pub prefix_of_all : (old new : List (List ℕ)) → ((i : ℕ) → i < length old → slice_get new i ≡ slice_get old i) → IsPrefix old new

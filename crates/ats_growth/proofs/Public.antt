@@ -1,23 +1,11 @@
 -- What other rooms may cite of the proofs of this one. All other files here are private.
 
--- two growths that the same bytes spell are equal
-pub use Rattle.ats_growth.proofs.OneGrowth.{one_growth}
--- two spellings of one growth are the same bytes
-pub use Rattle.ats_growth.proofs.OneGrowth.{one_join}
--- a growth that is accepted under two roots is not refused under them
-pub use Rattle.ats_growth.proofs.Exactness.{accepted_kept}
--- a growth is refused by one rule
-pub use Rattle.ats_growth.proofs.Exactness.{one_refusal}
 -- the honest growth of archives whose texts allow it is accepted under their roots
 pub use Rattle.ats_growth.proofs.Completeness.{honest_accepted}
 -- the honest growth of archives within the limits is in range
 pub use Rattle.ats_growth.proofs.Made.{honest_in_range}
 -- old texts of which one differs, or is missing, are not the first of the new ones
 pub use Rattle.ats_growth.proofs.Prefixes.{not_prefix}
--- what an accepted growth says of all archives with its two roots
-pub use Rattle.ats_growth.proofs.Soundness.{grown_or_collides}
--- the numbers, roots and digests of a growth that bytes spell are in their ranges
-pub use Rattle.ats_growth.proofs.InRange.{growth_range}
 -- for all archives with the two roots nothing was withdrawn, or each verdict on an accepted growth tells a collision
 pub use Rattle.ats_growth.proofs.Verdicts.{told}
 -- the first collision is two different strings with equal digests

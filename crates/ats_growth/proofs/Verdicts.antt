@@ -6,21 +6,20 @@ use Rattle.ats_commit.specs.Root.{root_of}
 use Rattle.ats_grammar.proofs.Public.{no_fault}
 use Rattle.ats_tree.specs.Differences.{Difference}
 use Rattle.ats_tree.proofs.Public.{AreColliding, found-collides, none_some}
-use Rattle.ats_growth.specs.Grammar.{growth_schema}
-use Rattle.ats_growth.specs.Honest.{honest, IsPrefix}
-use Rattle.ats_growth.specs.Rules.{AcceptsGrowth}
-use Rattle.ats_growth.specs.Strings.{Beside, pairs, second_of, extract}
-use Rattle.ats_growth.specs.Value.{Growth, fields_of, IsGrowth}
-use Rattle.ats_growth.specs.Verdicts.{collision_of, IsAcceptedGrowth, IsGrowthVerdict, TellsGrowthCollision, IsGrownOrTold}
-use Rattle.ats_growth.specs.declared.checking.Grown.{Grown}
+use Rattle.ats_consistency.specs.Grammar.{growth_schema}
+use Rattle.ats_consistency.specs.Headline.{IsPrefix}
+use Rattle.ats_consistency.specs.Rules.{AcceptsGrowth}
+use Rattle.ats_consistency.specs.Strings.{Beside, pairs, second_of, extract}
+use Rattle.ats_consistency.specs.Value.{Growth, fields_of, IsGrowth}
+use Rattle.ats_consistency.specs.Bytes.{IsAcceptedGrowth}
+use Rattle.ats_consistency.specs.declared.checking.Grown.{Grown}
+use Rattle.ats_consistency.proofs.Public.{accepted_kept, growth_range, one_growth, grown_or_collides}
+use Rattle.ats_growth.specs.Honest.{honest}
+use Rattle.ats_growth.specs.Verdicts.{collision_of, IsGrowthVerdict, TellsGrowthCollision, IsGrownOrTold}
 use Rattle.ats_growth.specs.declared.verdict.GrowthVerdict.{GrowthVerdict}
 use Rattle.ats_growth.specs.declared.verdict.GrowthVerdict.TheVariants.{BadShape, Refused, Right, Collision}
 use Rattle.ats_growth.proofs.Completeness.{honest_accepted}
-use Rattle.ats_growth.proofs.Exactness.{accepted_kept}
 use Rattle.ats_growth.proofs.HonestStrings.{honest-none}
-use Rattle.ats_growth.proofs.InRange.{growth_range}
-use Rattle.ats_growth.proofs.OneGrowth.{one_growth}
-use Rattle.ats_growth.proofs.Soundness.{grown_or_collides}
 
 pub extract-collides : (H : List ℕ → List ℕ) (older newer : Archive) (g : Growth) (c : Difference Beside) → extract H older newer g ≡ Some c → AreColliding H c
 extract-collides H older newer g c is = found-collides H second_of (pairs H older newer g) c is

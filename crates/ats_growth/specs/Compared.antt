@@ -1,18 +1,14 @@
 -- What the comparison of a growth with two archives, and of the texts of these, finds.
-use Rattle.std.specs.Prelude.{◌≡◌, ℕ, List, take, drop, reverse, Bool, Option, None, option_map}
+use Rattle.std.specs.Prelude.{◌≡◌, ℕ, List, take, reverse, Bool, Option, None, option_map}
 use Rattle.ats_tree.specs.Paths.{Path}
 use Rattle.ats_tree.specs.Strings.{string_at}
-use Rattle.ats_tree.specs.Tree.{Tree, tree_of, digest_of}
-use Rattle.ats_growth.specs.Paired.{ArePaired}
-use Rattle.ats_growth.specs.Shape.{need}
-use Rattle.ats_growth.specs.Strings.{old_strings, new_strings, all_strings}
+use Rattle.ats_tree.specs.Tree.{Tree, digest_of}
+use Rattle.ats_consistency.specs.Paired.{ArePaired}
+use Rattle.ats_consistency.specs.Shape.{need}
+use Rattle.ats_consistency.specs.Strings.{old_strings, new_strings, all_strings}
 use Rattle.ats_growth.specs.Unlike.{Two, first_unlike, unlike_or, strings_of}
 use Rattle.ats_growth.specs.declared.joining.Side.{Side}
 use Rattle.ats_growth.specs.declared.joining.Compared.{Compared}
-
--- the tree of the n texts from document `from` on
-abbrev pub part_of : (from n : ℕ) → List (List ℕ) → Tree (List ℕ)
-part_of from n texts = tree_of (take n (drop from texts))
 
 -- the digests that the growth takes along these turns, from the last one to the first
 abbrev pub taken : Path → Bool → List (List ℕ) → List (List ℕ)

@@ -8,10 +8,10 @@ use Rattle.ats_dict.specs.declared.header.Header.{Header}
 use Rattle.ats_lists.specs.declared.format.Format.{Format}
 use Rattle.ats_tree.specs.Differences.{Hashed, moved, Difference}
 use Rattle.ats_tree.specs.Tree.{tree_of}
-use Rattle.ats_growth.specs.Shape.{turns}
-use Rattle.ats_growth.specs.Strings.{Beside, beside, new_strings, old_strings, ranges, range_pairs}
+use Rattle.ats_consistency.specs.Shape.{turns}
+use Rattle.ats_consistency.specs.Strings.{Beside, beside, new_strings, old_strings, ranges, range_pairs}
+use Rattle.ats_consistency.specs.Value.{Growth}
 use Rattle.ats_growth.specs.Unlike.{strings_of, in_part}
-use Rattle.ats_growth.specs.Value.{Growth}
 use Rattle.ats_growth.specs.Verdicts.{collision_of}
 use Rattle.ats_growth.specs.declared.auditing.Collided.{Collided}
 use Rattle.ats_growth.specs.declared.auditing.Found.{Found}

@@ -1,12 +1,12 @@
 -- The growth of an archive whose texts are the first of another one's.
-use Rattle.std.specs.Prelude.{◌≡◌, ◌≢◌, ◌<◌, ℕ, List, [], ◌∷◌, length, reverse, take, Bool, true, false, slice_get}
+use Rattle.std.specs.Prelude.{◌≡◌, ◌≢◌, ◌<◌, ℕ, List, [], ◌∷◌, length, reverse, Bool, true, false, slice_get}
 use Rattle.std.specs.List.{concat}
 use Rattle.ats_tree.specs.Paths.{Path}
 use Rattle.ats_tree.specs.Tree.{Tree, empty, leaf, node, tree_of, digest_of}
 use Rattle.ats_commit.specs.Archive.{Archive}
 use Rattle.ats_commit.specs.Root.{header_parts}
-use Rattle.ats_growth.specs.Shape.{turns}
-use Rattle.ats_growth.specs.Value.{Growth}
+use Rattle.ats_consistency.specs.Shape.{turns}
+use Rattle.ats_consistency.specs.Value.{Growth}
 use Rattle.ats_growth.specs.declared.growing.GrowFault.{GrowFault}
 use Rattle.ats_growth.specs.declared.growing.GrowFault.TheVariants.{Differs, OutOfMemory}
 
@@ -33,10 +33,6 @@ honest H older newer = record {
   new = header_parts H newer;
   digests = digests_of H (length older.texts) newer.texts;
 }
-
--- nothing was withdrawn: the old texts are the first of the new ones
-abbrev pub IsPrefix : List (List ℕ) → List (List ℕ) → Type 0
-IsPrefix old new = take (length old) new ≡ old
 
 -- the new texts do not have this old document with the same text, and they have all before it
 pub record IsFirstApart (old new : List (List ℕ)) (doc : ℕ) : Type 0 where

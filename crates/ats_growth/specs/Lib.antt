@@ -1,12 +1,4 @@
-pub mod Shape
-pub mod Pair
-pub mod Paired
-pub mod Grammar
-pub mod Value
-pub mod Rules
 pub mod Honest
-pub mod Strings
-pub mod Headline
 pub mod Verdicts
 pub mod Unlike
 pub mod Compared

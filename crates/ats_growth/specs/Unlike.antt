@@ -2,7 +2,7 @@
 use Rattle.std.specs.Prelude.{ℕ, List, ◌∷◌, ◌++◌, if◌then◌else◌, Option, Some, None, option_map}
 use Rattle.std.specs.Str.{bytes_eq}
 use Rattle.ats_tree.specs.Differences.{Hashed, Difference, first_difference}
-use Rattle.ats_growth.specs.Strings.{Beside}
+use Rattle.ats_consistency.specs.Strings.{Beside}
 use Rattle.ats_growth.specs.Verdicts.{collision_of}
 use Rattle.ats_growth.specs.declared.joining.Children.{Children}
 use Rattle.ats_growth.specs.declared.joining.Unlike.{Unlike}

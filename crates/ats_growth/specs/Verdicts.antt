@@ -1,31 +1,18 @@
--- When bytes are accepted as a growth under two roots, by which rule they are refused otherwise, and what an audit of them
--- against two archives finds.
+-- What an audit of a growth against two archives finds.
 use Rattle.std.specs.Prelude.{◌≡◌, ◌≢◌, ◌⊎◌, ℕ, List, None, Some}
 use Rattle.ats_commit.specs.Archive.{Archive}
 use Rattle.ats_commit.specs.Own.{AreTexts}
 use Rattle.ats_commit.specs.Root.{root_of}
 use Rattle.ats_grammar.specs.Front.{IsBad}
 use Rattle.ats_tree.specs.Differences.{Difference}
-use Rattle.ats_growth.specs.Grammar.{growth_schema}
-use Rattle.ats_growth.specs.Headline.{HasGrown}
-use Rattle.ats_growth.specs.Rules.{AcceptsGrowth, IsFirstRefusal}
-use Rattle.ats_growth.specs.Strings.{Beside, extract}
-use Rattle.ats_growth.specs.Value.{Growth, IsGrowth}
-use Rattle.ats_growth.specs.declared.checking.Grown.{Grown}
-use Rattle.ats_growth.specs.declared.refusal.GrowthRefusal.{GrowthRefusal}
+use Rattle.ats_consistency.specs.Bytes.{IsAcceptedGrowth, IsRefusedGrowth}
+use Rattle.ats_consistency.specs.Grammar.{growth_schema}
+use Rattle.ats_consistency.specs.Headline.{HasGrown}
+use Rattle.ats_consistency.specs.Strings.{Beside, extract}
+use Rattle.ats_consistency.specs.Value.{Growth}
+use Rattle.ats_consistency.specs.declared.checking.Grown.{Grown}
 use Rattle.ats_growth.specs.declared.verdict.GrowthVerdict.{GrowthVerdict}
 use Rattle.ats_growth.specs.declared.verdict.GrowthVerdict.TheVariants.{BadShape, Refused, Right, Collision}
-
--- the bytes spell a growth that is accepted under these roots
-pub record IsAcceptedGrowth (H : List ℕ → List ℕ) (old new : List ℕ) (bytes : List ℕ) (growth : Growth) : Type 0 where
-  pub says : IsGrowth bytes growth
-  pub accepts : AcceptsGrowth H old new growth
-
--- the bytes spell a growth that breaks this rule first under these roots
-pub record IsRefusedGrowth (H : List ℕ → List ℕ) (old new : List ℕ) (bytes : List ℕ) (refusal : GrowthRefusal) : Type 0 where
-  pub growth : Growth
-  pub says : IsGrowth bytes growth
-  pub refused : IsFirstRefusal H old new growth refusal
 
 -- two strings of a pair in this part
 abbrev pub collision_of : ℕ → List ℕ → List ℕ → Difference Beside

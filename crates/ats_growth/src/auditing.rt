@@ -3,22 +3,21 @@
 ghost use Rattle.std.specs.Prelude.{◌≡◌, ◌∷◌, IfOk, MatchOption, option_map};
 ghost use Rattle.ats_commit.specs.Root.{root_of};
 ghost use Rattle.ats_tree.specs.Differences.{first_difference};
+ghost use Rattle.ats_consistency.specs.Rules.{AcceptsGrowth};
+ghost use Rattle.ats_consistency.specs.Strings.{second_of, extract};
 ghost use Rattle.ats_growth.specs.Found.{HasOwnHeader, IsHeaderCollision, difference_in, difference_of, new_pairs, old_pairs, shared_pairs, texts_pairs};
-ghost use Rattle.ats_growth.specs.Rules.{AcceptsGrowth};
-ghost use Rattle.ats_growth.specs.Strings.{second_of, extract};
 ghost use Rattle.ats_growth.specs.Unlike.{strings_of, first_unlike};
 ghost use Rattle.ats_growth.specs.Verdicts.{IsGrowthVerdict, IsWellTold};
 
-use crate::checking::check_growth;
 use crate::comparing::{Texts, compare};
 use crate::growing::first_apart;
 use crate::joining::{Compared, Unlike, string_of};
 use crate::memory::OutOfMemory;
 use crate::ranges::compare_ranges;
 use crate::verdict::GrowthVerdict;
-use crate::view::GrowthView;
 use ats_base::Bytes;
 use ats_commit::string_of_header;
+use ats_consistency::{GrowthView, check_growth};
 use ats_dict::Header;
 use ats_hash::{Hash32, Steps};
 use ats_index::Index;

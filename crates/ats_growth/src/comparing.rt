@@ -3,14 +3,15 @@
 ghost use Rattle.std.specs.Prelude.{◌≡◌, ◌+◌, ◌*◌, ◌^◌, ◌<◌, ◌≤◌, ◌∷◌, ◌++◌, length, [], option_map};
 ghost use Rattle.ats_proof.specs.Seen.{digests_of};
 ghost use Rattle.ats_tree.specs.Tree.{digest_of};
-ghost use Rattle.ats_growth.specs.Compared.{IsEnd, IsJoined, AreCompared, part_of};
-ghost use Rattle.ats_growth.specs.Paired.{ArePaired};
-ghost use Rattle.ats_growth.specs.Shape.{turns, need};
+ghost use Rattle.ats_consistency.specs.Paired.{ArePaired};
+ghost use Rattle.ats_consistency.specs.Shape.{turns, need};
+ghost use Rattle.ats_consistency.specs.Strings.{part_of};
+ghost use Rattle.ats_growth.specs.Compared.{IsEnd, IsJoined, AreCompared};
 ghost use Rattle.ats_growth.specs.Unlike.{strings_of};
 
 use crate::joining::{Children, Compared, Side, joined};
-use crate::pairing::next;
 use ats_commit::TextLeaves;
+use ats_consistency::next_digest;
 use ats_hash::{Hash32, Steps};
 use ats_impact::Collection;
 use ats_proof::DigestRun;
@@ -73,7 +74,7 @@ fn last_digest<H: Hash32>(
     if known {
         *known_root
     } else {
-        next(digests, steps)
+        next_digest(digests, steps)
     }
 }
 
@@ -158,7 +159,7 @@ pub(crate) fn compare<'a, H: Hash32>(
     let k = cut_of(n);
     if m <= k {
         let below = compare::<H>(texts, m, k, known, known_root, digests, steps);
-        let beside = next(digests, steps);
+        let beside = next_digest(digests, steps);
         let own = digest_of_range::<H>(new, from + k, n - k, steps);
         return Compared {
             old: below.old,
@@ -171,7 +172,7 @@ pub(crate) fn compare<'a, H: Hash32>(
         from: from + k,
     };
     let below = compare::<H>(right, m - k, n - k, false, known_root, digests, steps);
-    let beside = next(digests, steps);
+    let beside = next_digest(digests, steps);
     let old_own = digest_of_range::<H>(old, from, k, steps);
     let new_own = digest_of_range::<H>(new, from, k, steps);
     Compared {

@@ -4,15 +4,15 @@ ghost use Rattle.std.specs.Prelude.{◌≡◌, ◌+◌, ◌-◌, ◌*◌, ◌^�
 ghost use Rattle.std.specs.List.{concat};
 ghost use Rattle.ats_tree.specs.Tree.{mth, tree_of};
 ghost use Rattle.ats_proof.specs.Value.{number_of_format};
-ghost use Rattle.ats_growth.specs.Honest.{honest, digest_bytes, IsPrefix, IsFirstApart, IsGrowFault};
-ghost use Rattle.ats_growth.specs.Shape.{turns};
-ghost use Rattle.ats_growth.specs.Value.{IsGrowth, IsInRange, archive_fields};
+ghost use Rattle.ats_consistency.specs.Headline.{IsPrefix};
+ghost use Rattle.ats_consistency.specs.Shape.{turns};
+ghost use Rattle.ats_consistency.specs.Value.{IsGrowth, IsInRange, archive_fields};
+ghost use Rattle.ats_growth.specs.Honest.{honest, digest_bytes, IsFirstApart, IsGrowFault};
 
 use crate::memory::OutOfMemory;
-use crate::pairing::needed;
-use crate::view::MAGIC;
 use ats_base::Bytes;
 use ats_commit::TextLeaves;
+use ats_consistency::{MAGIC, digests_needed};
 use ats_dict::Header;
 use ats_hash::{Hash32, Steps};
 use ats_impact::Collection;
@@ -153,7 +153,7 @@ fn bytes_of<H: Hash32>(alloc: Global, old: &Index<H>, new: &Index<H>) -> Result<
     bytes.extend(&MAGIC.to_be_bytes())?;
     put_archive(old.format(), old.header(), &mut bytes)?;
     put_archive(new.format(), new.header(), &mut bytes)?;
-    bytes.push(needed(m, n, true) as u8)?;
+    bytes.push(digests_needed(m, n, true) as u8)?;
     let mut steps = Steps::new(alloc);
     put_digests::<H>(new.collection(), 0, m, n, true, &mut bytes, &mut steps)?;
     Ok(bytes)

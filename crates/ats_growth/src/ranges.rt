@@ -2,9 +2,9 @@
 
 ghost use Rattle.std.specs.Prelude.{◌≡◌, ◌+◌, ◌*◌, ◌^◌, ◌<◌, ◌≤◌, ◌∷◌, ◌++◌, length, None, option_map};
 ghost use Rattle.std.specs.List.{flat_map};
-ghost use Rattle.ats_growth.specs.Compared.{IsJoined, IsRange, part_of};
-ghost use Rattle.ats_growth.specs.Shape.{turns};
-ghost use Rattle.ats_growth.specs.Strings.{ranges, range_pairs, second_of};
+ghost use Rattle.ats_consistency.specs.Shape.{turns};
+ghost use Rattle.ats_consistency.specs.Strings.{ranges, range_pairs, second_of, part_of};
+ghost use Rattle.ats_growth.specs.Compared.{IsJoined, IsRange};
 ghost use Rattle.ats_growth.specs.Unlike.{strings_of, first_unlike, unlike_or, or_two};
 
 use crate::joining::{Children, Side, Unlike, joined};

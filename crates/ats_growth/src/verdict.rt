@@ -1,8 +1,7 @@
 //! What an audit of a growth finds.
 
-use crate::checking::Grown;
-use crate::refusal::GrowthRefusal;
 use ats_base::Bytes;
+use ats_consistency::{Grown, GrowthRefusal};
 use ats_grammar::ShapeFault;
 
 /// What an audit of a growth against two archives finds.

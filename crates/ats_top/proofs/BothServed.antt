@@ -16,8 +16,8 @@ use Rattle.ats_honest.specs.Terms.{slot_of}
 use Rattle.ats_honest.proofs.Public.{spot_each}
 use Rattle.ats_accepts.proofs.Public.{sections_kept, shown_unclashing, whole_seen}
 use Rattle.ats_both.specs.Made.{both_cut, IsBothMade, IsBothProof}
-use Rattle.ats_both.specs.Rules.{AcceptsBoth}
-use Rattle.ats_both.specs.Verdicts.{AreAcceptedBytes}
+use Rattle.ats_conjunction.specs.Rules.{AcceptsBoth}
+use Rattle.ats_conjunction.specs.Bytes.{AreAcceptedBytes}
 use Rattle.ats_both.proofs.Public.{both_is_cut, both_accepted}
 use Rattle.ats_plan.specs.Files.{Files, IsFile}
 use Rattle.ats_console.specs.Words.{Command, ProveBoth, Both, AuditBoth, root_word, both_words, command_of}

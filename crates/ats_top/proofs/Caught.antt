@@ -11,15 +11,15 @@ use Rattle.ats_proof.specs.Value.{Proof}
 use Rattle.ats_client.specs.Bytes.{IsAcceptedBytes}
 use Rattle.ats_client.specs.Strings.{extract}
 use Rattle.ats_client.proofs.Public.{extract-collides}
-use Rattle.ats_both.specs.Verdicts.{AreAcceptedBytes}
-use Rattle.ats_fetch.specs.Strings.{TextPlace, text_extract}
-use Rattle.ats_fetch.specs.Value.{TextProof}
-use Rattle.ats_fetch.specs.Verdicts.{IsAcceptedText}
+use Rattle.ats_conjunction.specs.Bytes.{AreAcceptedBytes}
+use Rattle.ats_inclusion.specs.Strings.{TextPlace, text_extract}
+use Rattle.ats_inclusion.specs.Value.{TextProof}
+use Rattle.ats_inclusion.specs.Bytes.{IsAcceptedText}
 use Rattle.ats_fetch.proofs.Public as texts
-use Rattle.ats_growth.specs.Strings.{Beside}
-use Rattle.ats_growth.specs.Strings as growth
-use Rattle.ats_growth.specs.Value.{Growth}
-use Rattle.ats_growth.specs.Verdicts.{IsAcceptedGrowth}
+use Rattle.ats_consistency.specs.Strings.{Beside}
+use Rattle.ats_consistency.specs.Strings as growth
+use Rattle.ats_consistency.specs.Value.{Growth}
+use Rattle.ats_consistency.specs.Bytes.{IsAcceptedGrowth}
 use Rattle.ats_growth.proofs.Public as growths
 use Rattle.ats_plan.specs.Files.{Files, IsTold, IsFile}
 use Rattle.ats_plan.specs.Plan.{Refuses}

@@ -5,11 +5,12 @@ use Rattle.ats_base.specs.Outside.{ShelfTold}
 use Rattle.ats_commit.specs.Archive.{Archive}
 use Rattle.ats_commit.specs.Own.{AreTexts}
 use Rattle.ats_commit.specs.Root.{root_of}
-use Rattle.ats_growth.specs.Strings.{extract}
-use Rattle.ats_growth.specs.Value.{Growth}
-use Rattle.ats_growth.specs.Verdicts.{IsAcceptedGrowth, IsFoundGrown, IsFoundCollision, collision_of}
-use Rattle.ats_growth.specs.Headline.{HasGrown, IsGrownOrCollides}
-use Rattle.ats_growth.specs.declared.checking.Grown.{Grown}
+use Rattle.ats_consistency.specs.Strings.{extract}
+use Rattle.ats_consistency.specs.Value.{Growth}
+use Rattle.ats_consistency.specs.Bytes.{IsAcceptedGrowth}
+use Rattle.ats_growth.specs.Verdicts.{IsFoundGrown, IsFoundCollision, collision_of}
+use Rattle.ats_consistency.specs.Headline.{HasGrown, IsGrownOrCollides}
+use Rattle.ats_consistency.specs.declared.checking.Grown.{Grown}
 use Rattle.ats_growth.specs.declared.verdict.GrowthVerdict.TheVariants.{Right}
 use Rattle.ats_growth.proofs.Public.{told, extract-collides}
 use Rattle.ats_plan.specs.Files.{IsFile}

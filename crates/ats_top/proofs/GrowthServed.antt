@@ -6,8 +6,8 @@ use Rattle.ats_commit.specs.Archive.{Archive}
 use Rattle.ats_commit.specs.Own.{AreTexts}
 use Rattle.ats_commit.specs.Root.{root_of}
 use Rattle.ats_growth.specs.Honest.{honest}
-use Rattle.ats_growth.specs.Value.{IsGrowth}
-use Rattle.ats_growth.specs.Verdicts.{IsAcceptedGrowth}
+use Rattle.ats_consistency.specs.Value.{IsGrowth}
+use Rattle.ats_consistency.specs.Bytes.{IsAcceptedGrowth}
 use Rattle.ats_growth.proofs.Public.{honest_accepted, honest-none}
 use Rattle.ats_plan.specs.Files.{Files, IsFile}
 use Rattle.ats_console.specs.Words.{Command, Grow, Growth, AuditGrowth, root_word, growth_words, command_of}

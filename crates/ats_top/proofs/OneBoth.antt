@@ -12,9 +12,9 @@ use Rattle.ats_proof.proofs.Public.{one_value}
 use Rattle.ats_honest.specs.Honest.{length_of}
 use Rattle.ats_honest.proofs.Public.{one_cut_shown}
 use Rattle.ats_both.specs.Made.{both_cut, IsBothMade, IsBothProof, IsBothFault}
-use Rattle.ats_both.specs.Verdicts.{AreAcceptedBytes, AreRefusedBytes}
+use Rattle.ats_conjunction.specs.Bytes.{AreAcceptedBytes, AreRefusedBytes}
 use Rattle.ats_both.specs.declared.making.BothFault.TheVariants.{TooLong}
-use Rattle.ats_both.proofs.Public.{one_of_bytes, not_refused}
+use Rattle.ats_conjunction.proofs.Public.{one_of_bytes, not_refused}
 use Rattle.ats_plan.specs.Sound.{IsExact}
 use Rattle.ats_console.specs.Stops.{line_of_long_proof}
 use Rattle.ats_console.specs.declared.stops.Stop.{Stop}

@@ -5,13 +5,14 @@ use Rattle.ats_commit.specs.Archive.{Archive}
 use Rattle.ats_grammar.specs.Front.{IsBad}
 use Rattle.ats_grammar.specs.declared.fault.ShapeFault.{ShapeFault}
 use Rattle.ats_grammar.proofs.Public.{no_fault, one_fault}
-use Rattle.ats_growth.specs.Grammar.{growth_schema}
+use Rattle.ats_consistency.specs.Grammar.{growth_schema}
 use Rattle.ats_growth.specs.Honest.{IsFirstApart}
-use Rattle.ats_growth.specs.Rules.{IsFirstRefusal}
-use Rattle.ats_growth.specs.Value.{Growth, IsGrowth, fields_of}
-use Rattle.ats_growth.specs.Verdicts.{IsAcceptedGrowth, IsRefusedGrowth}
-use Rattle.ats_growth.specs.declared.refusal.GrowthRefusal.{GrowthRefusal}
-use Rattle.ats_growth.proofs.Public.{one_growth, one_refusal, accepted_kept, not_prefix}
+use Rattle.ats_consistency.specs.Rules.{IsFirstRefusal}
+use Rattle.ats_consistency.specs.Value.{Growth, IsGrowth, fields_of}
+use Rattle.ats_consistency.specs.Bytes.{IsAcceptedGrowth, IsRefusedGrowth}
+use Rattle.ats_consistency.specs.declared.refusal.GrowthRefusal.{GrowthRefusal}
+use Rattle.ats_consistency.proofs.Public.{one_growth, one_refusal, accepted_kept}
+use Rattle.ats_growth.proofs.Public.{not_prefix}
 use Rattle.ats_plan.specs.Sound.{IsExact}
 use Rattle.ats_console.specs.declared.stops.Stop.TheVariants.{Input}
 use Rattle.ats_top.specs.GrowthLines.{line_of_differing}

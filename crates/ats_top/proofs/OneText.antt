@@ -3,12 +3,12 @@ use Rattle.std.proofs.Common.{◌≡◌, ℕ, List, subst}
 use Rattle.ats_grammar.specs.Front.{IsBad}
 use Rattle.ats_grammar.specs.declared.fault.ShapeFault.{ShapeFault}
 use Rattle.ats_grammar.proofs.Public.{no_fault, one_fault}
-use Rattle.ats_fetch.specs.Grammar.{text_schema}
-use Rattle.ats_fetch.specs.Value.{TextProof, IsTextProof, fields_of}
-use Rattle.ats_fetch.specs.Accepts.{IsFirstTextRefusal}
-use Rattle.ats_fetch.specs.Verdicts.{IsAcceptedText, IsRefusedText}
-use Rattle.ats_fetch.specs.declared.refusal.TextRefusal.{TextRefusal}
-use Rattle.ats_fetch.proofs.Public.{one_text, one_refusal, not_refused}
+use Rattle.ats_inclusion.specs.Grammar.{text_schema}
+use Rattle.ats_inclusion.specs.Value.{TextProof, IsTextProof, fields_of}
+use Rattle.ats_inclusion.specs.Accepts.{IsFirstTextRefusal}
+use Rattle.ats_inclusion.specs.Bytes.{IsAcceptedText, IsRefusedText}
+use Rattle.ats_inclusion.specs.declared.refusal.TextRefusal.{TextRefusal}
+use Rattle.ats_inclusion.proofs.Public.{one_text, one_refusal, not_refused}
 use Rattle.ats_top.proofs.OneFile.{IsFileOne}
 
 module _ (H : List ℕ → List ℕ) (root : List ℕ) (doc : ℕ) (bytes : List ℕ) where

@@ -9,8 +9,8 @@ use Rattle.ats_commit.specs.Root.{root_of}
 use Rattle.ats_proof.specs.declared.record.Algorithm.{Algorithm}
 use Rattle.ats_client.specs.Headline.{AreRight}
 use Rattle.ats_client.specs.Rows.{rows_of}
-use Rattle.ats_both.specs.Documents.{both, documents_shown}
-use Rattle.ats_growth.specs.Headline.{HasGrown}
+use Rattle.ats_conjunction.specs.Documents.{both, documents_shown}
+use Rattle.ats_consistency.specs.Headline.{HasGrown}
 use Rattle.ats_plan.specs.Files.{IsFile}
 use Rattle.ats_console.specs.Words.{algorithm_of, number_of, root_word, verify_words, fetch_words, both_words, growth_words}
 use Rattle.ats_console.specs.Print.{lines, lines_of_documents}

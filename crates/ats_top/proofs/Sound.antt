@@ -64,8 +64,8 @@ use Rattle.ats_top.proofs.OneGrowth.{growth_file_one, kept_exact}
 use Rattle.ats_top.specs.BothLines.{both_refusal_words}
 use Rattle.ats_top.specs.GrowthLines.{growth_refusal_words}
 use Rattle.ats_growth.specs.Honest.{honest}
-use Rattle.ats_growth.proofs.Public.{one_join as one_growth_join}
-use Rattle.ats_fetch.proofs.Public.{one_join}
+use Rattle.ats_consistency.proofs.Public.{one_join as one_growth_join}
+use Rattle.ats_inclusion.proofs.Public.{one_join}
 
 -- ---- steps
 

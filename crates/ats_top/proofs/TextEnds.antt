@@ -4,11 +4,13 @@ use Rattle.std.specs.Prelude.{IfOk, IfErr}
 use Rattle.ats_base.specs.Outside.{ShelfTold}
 use Rattle.ats_commit.specs.Archive.{Archive}
 use Rattle.ats_commit.specs.Root.{root_of}
-use Rattle.ats_fetch.specs.Strings.{text_extract}
-use Rattle.ats_fetch.specs.Value.{TextProof, IsTextProof}
-use Rattle.ats_fetch.specs.Verdicts.{IsAcceptedText, IsFoundOwn, IsFoundClash, difference_of}
+use Rattle.ats_inclusion.specs.Strings.{text_extract}
+use Rattle.ats_inclusion.specs.Value.{TextProof, IsTextProof}
+use Rattle.ats_inclusion.specs.Bytes.{IsAcceptedText}
+use Rattle.ats_fetch.specs.Verdicts.{IsFoundOwn, IsFoundClash, difference_of}
 use Rattle.ats_fetch.specs.declared.verdict.TextClash.{TextClash}
-use Rattle.ats_fetch.proofs.Public.{one_text, in_range, own_or_collides, told, extract-collides}
+use Rattle.ats_inclusion.proofs.Public.{one_text, in_range, own_or_collides}
+use Rattle.ats_fetch.proofs.Public.{told, extract-collides}
 use Rattle.ats_plan.specs.Files.{IsFile}
 use Rattle.ats_plan.specs.Plan.{Finishes}
 use Rattle.ats_plan.specs.Runs.{IsDone, IsStopped}

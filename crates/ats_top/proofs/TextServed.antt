@@ -5,8 +5,8 @@ use Rattle.ats_commit.specs.Archive.{Archive}
 use Rattle.ats_commit.specs.Own.{AreTexts}
 use Rattle.ats_commit.specs.Root.{root_of}
 use Rattle.ats_fetch.specs.Given.{given_text}
-use Rattle.ats_fetch.specs.Value.{IsTextProof}
-use Rattle.ats_fetch.specs.Verdicts.{IsAcceptedText}
+use Rattle.ats_inclusion.specs.Value.{IsTextProof}
+use Rattle.ats_inclusion.specs.Bytes.{IsAcceptedText}
 use Rattle.ats_fetch.proofs.Public.{given-accepted, given-none}
 use Rattle.ats_plan.specs.Files.{Files, IsFile}
 use Rattle.ats_console.specs.Words.{Command, Fetch, AuditFetch, number_of, root_word, fetch_words, command_of}

@@ -1,7 +1,7 @@
 -- The lines of the commands that make, check and audit proofs of all documents with every term of a query.
 use Rattle.std.specs.Prelude.{◌++◌, ℕ, List, codes, decimal}
-use Rattle.ats_both.specs.declared.refusal.BothRefusal.{BothRefusal}
-use Rattle.ats_both.specs.declared.refusal.BothRefusal.TheVariants.{NotTra, AnswerShown, Section, NoWholeList}
+use Rattle.ats_conjunction.specs.declared.refusal.BothRefusal.{BothRefusal}
+use Rattle.ats_conjunction.specs.declared.refusal.BothRefusal.TheVariants.{NotTra, AnswerShown, Section, NoWholeList}
 use Rattle.ats_console.specs.RejectionLines.{refusal_words}
 
 -- both LENGTH

@@ -3,7 +3,7 @@ use Rattle.std.specs.Prelude.{ℕ, List}
 use Rattle.ats_grammar.specs.Front.{IsBad}
 use Rattle.ats_grammar.specs.Grammar.{proof_schema}
 use Rattle.ats_proof.specs.Value.{Proof}
-use Rattle.ats_both.specs.Verdicts.{AreAcceptedBytes, AreRefusedBytes}
+use Rattle.ats_conjunction.specs.Bytes.{AreAcceptedBytes, AreRefusedBytes}
 use Rattle.ats_plan.specs.Plan.{Plan}
 use Rattle.ats_console.specs.Steps.{RejectsFile, checks_file}
 use Rattle.ats_console.specs.declared.stops.Stop.{Stop}

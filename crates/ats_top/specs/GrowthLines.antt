@@ -1,9 +1,9 @@
 -- The lines of the commands that show, check and audit the growth of an archive.
 use Rattle.std.specs.Prelude.{◌++◌, ℕ, List, codes, decimal}
 use Rattle.ats_tree.specs.Differences.{Difference}
-use Rattle.ats_growth.specs.Strings.{Beside}
-use Rattle.ats_growth.specs.declared.refusal.GrowthRefusal.{GrowthRefusal}
-use Rattle.ats_growth.specs.declared.refusal.GrowthRefusal.TheVariants.{OtherOld, OtherNew, Shrunk, GrowthMisfit, OldTexts, NewTexts}
+use Rattle.ats_consistency.specs.Strings.{Beside}
+use Rattle.ats_consistency.specs.declared.refusal.GrowthRefusal.{GrowthRefusal}
+use Rattle.ats_consistency.specs.declared.refusal.GrowthRefusal.TheVariants.{OtherOld, OtherNew, Shrunk, GrowthMisfit, OldTexts, NewTexts}
 use Rattle.ats_console.specs.CollisionLines.{lines_of_pair}
 use Rattle.ats_console.specs.Stops.{input_line}
 

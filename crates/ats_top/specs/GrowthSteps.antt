@@ -1,9 +1,9 @@
 -- The steps that the commands of a growth share: its file, and the check of its bytes.
 use Rattle.std.specs.Prelude.{ℕ, List}
 use Rattle.ats_grammar.specs.Front.{IsBad}
-use Rattle.ats_growth.specs.Grammar.{growth_schema}
-use Rattle.ats_growth.specs.Value.{Growth}
-use Rattle.ats_growth.specs.Verdicts.{IsAcceptedGrowth, IsRefusedGrowth}
+use Rattle.ats_consistency.specs.Grammar.{growth_schema}
+use Rattle.ats_consistency.specs.Value.{Growth}
+use Rattle.ats_consistency.specs.Bytes.{IsAcceptedGrowth, IsRefusedGrowth}
 use Rattle.ats_plan.specs.Plan.{Plan}
 use Rattle.ats_console.specs.Steps.{reads_shaped, RejectsFile, checks_file}
 use Rattle.ats_console.specs.declared.stops.Stop.{Stop}

@@ -1,9 +1,9 @@
 -- The lines of the commands that give, fetch and audit the text of a document.
 use Rattle.std.specs.Prelude.{◌++◌, ℕ, List, Bool, true, false, codes, decimal}
 use Rattle.ats_tree.specs.Differences.{Difference}
-use Rattle.ats_fetch.specs.Strings.{TextPlace}
-use Rattle.ats_fetch.specs.declared.refusal.TextRefusal.{TextRefusal}
-use Rattle.ats_fetch.specs.declared.refusal.TextRefusal.TheVariants.{OtherRoot, DocOut, TextMisfit, TextRoot}
+use Rattle.ats_inclusion.specs.Strings.{TextPlace}
+use Rattle.ats_inclusion.specs.declared.refusal.TextRefusal.{TextRefusal}
+use Rattle.ats_inclusion.specs.declared.refusal.TextRefusal.TheVariants.{OtherRoot, DocOut, TextMisfit, TextRoot}
 use Rattle.ats_console.specs.CollisionLines.{lines_of_strings}
 use Rattle.ats_console.specs.Stops.{input_line}
 

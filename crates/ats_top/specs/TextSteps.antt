@@ -1,9 +1,9 @@
 -- The steps that the commands of a text share: its file, and the check of its bytes.
 use Rattle.std.specs.Prelude.{◌^◌, ℕ, List}
 use Rattle.ats_grammar.specs.Front.{IsBad}
-use Rattle.ats_fetch.specs.Grammar.{text_schema}
-use Rattle.ats_fetch.specs.Value.{TextProof}
-use Rattle.ats_fetch.specs.Verdicts.{IsAcceptedText, IsRefusedText}
+use Rattle.ats_inclusion.specs.Grammar.{text_schema}
+use Rattle.ats_inclusion.specs.Value.{TextProof}
+use Rattle.ats_inclusion.specs.Bytes.{IsAcceptedText, IsRefusedText}
 use Rattle.ats_plan.specs.Plan.{Plan}
 use Rattle.ats_console.specs.Steps.{reads_shaped, RejectsFile, checks_file}
 use Rattle.ats_console.specs.declared.stops.Stop.{Stop}

@@ -3,8 +3,8 @@
 ghost use Rattle.std.specs.Prelude.{◌≡◌, ◌⊎◌, ℕ, List, length, string_bytes, IfOk, IfErr};
 ghost use Rattle.ats_terms.specs.Query.{IsQuery};
 ghost use Rattle.ats_commit.specs.Archive.{Archive};
-ghost use Rattle.ats_both.specs.Documents.{documents_shown};
-ghost use Rattle.ats_both.specs.Rules.{AcceptsBoth};
+ghost use Rattle.ats_conjunction.specs.Documents.{documents_shown};
+ghost use Rattle.ats_conjunction.specs.Rules.{AcceptsBoth};
 ghost use Rattle.ats_both.specs.Verdicts.{IsBothVerdict};
 ghost use Rattle.ats_plan.specs.Plan.{ComesToShelf};
 ghost use Rattle.ats_plan.specs.Runs.{IsDone, IsStopped};

@@ -2,10 +2,11 @@
 
 ghost use Rattle.std.specs.Prelude.{◌≡◌, ◌⊎◌, ℕ, List, length, string_bytes, IfOk, IfErr};
 ghost use Rattle.ats_commit.specs.Archive.{Archive};
-ghost use Rattle.ats_growth.specs.Headline.{IsGrownOrCollides};
+ghost use Rattle.ats_consistency.specs.Headline.{IsGrownOrCollides};
 ghost use Rattle.ats_growth.specs.Honest.{honest};
-ghost use Rattle.ats_growth.specs.Value.{Growth, IsGrowth};
-ghost use Rattle.ats_growth.specs.Verdicts.{IsAcceptedGrowth, IsGrowthVerdict, collision_of};
+ghost use Rattle.ats_consistency.specs.Value.{Growth, IsGrowth};
+ghost use Rattle.ats_consistency.specs.Bytes.{IsAcceptedGrowth};
+ghost use Rattle.ats_growth.specs.Verdicts.{IsGrowthVerdict, collision_of};
 ghost use Rattle.ats_plan.specs.Runs.{IsDone, IsStopped};
 ghost use Rattle.ats_console.specs.RejectionLines.{refused_line};
 ghost use Rattle.ats_console.specs.declared.stops.Stop.TheVariants.{Shelf as AtShelf, Memory, Input, Rejected};

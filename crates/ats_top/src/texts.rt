@@ -3,8 +3,9 @@
 ghost use Rattle.std.specs.Prelude.{◌≡◌, ◌⊎◌, ℕ, List, length, string_bytes, IfOk, IfErr};
 ghost use Rattle.ats_commit.specs.Archive.{Archive};
 ghost use Rattle.ats_fetch.specs.Given.{given_text};
-ghost use Rattle.ats_fetch.specs.Value.{TextProof, IsTextProof};
-ghost use Rattle.ats_fetch.specs.Verdicts.{IsAcceptedText, IsFoundOwn, IsTextVerdict, difference_of};
+ghost use Rattle.ats_inclusion.specs.Value.{TextProof, IsTextProof};
+ghost use Rattle.ats_inclusion.specs.Bytes.{IsAcceptedText};
+ghost use Rattle.ats_fetch.specs.Verdicts.{IsFoundOwn, IsTextVerdict, difference_of};
 ghost use Rattle.ats_plan.specs.Runs.{IsDone, IsStopped};
 ghost use Rattle.ats_console.specs.RejectionLines.{refused_line};
 ghost use Rattle.ats_console.specs.declared.stops.Stop.TheVariants.{Shelf as AtShelf, Memory, Input, Rejected};

@@ -5,8 +5,8 @@ use Rattle.ats_commit.specs.Archive.{Archive}
 use Rattle.ats_commit.specs.Root.{header_parts, header_string}
 use Rattle.ats_tree.specs.Differences.{Difference}
 use Rattle.ats_tree.specs.Nodes.{NodeNumbers}
-use Rattle.ats_fetch.specs.Strings.{TextPlace, header_place, in_texts}
-use Rattle.ats_fetch.specs.Value.{TextProof}
+use Rattle.ats_inclusion.specs.Strings.{TextPlace, header_place, in_texts}
+use Rattle.ats_inclusion.specs.Value.{TextProof}
 use Rattle.ats_fetch.specs.declared.verdict.TextClash.{TextClash}
 
 -- the string of the archive's own header

@@ -2,7 +2,7 @@
 use Rattle.std.specs.Prelude.{ℕ, List, take, drop, Option}
 use Rattle.ats_tree.specs.Shown.{places}
 use Rattle.ats_tree.specs.Tree.{Tree, tree_of}
-use Rattle.ats_fetch.specs.Accepts.{shown_text}
+use Rattle.ats_inclusion.specs.Accepts.{shown_text}
 
 -- the n places from position `from` on, of which the document's has the text
 abbrev pub text_tree : (from n doc : ℕ) → List ℕ → Tree (Option (List ℕ))

@@ -5,8 +5,8 @@ use Rattle.ats_commit.specs.Archive.{Archive}
 use Rattle.ats_commit.specs.Root.{root_of}
 use Rattle.ats_proof.specs.Value.{Proof}
 use Rattle.ats_client.specs.Strings.{extract}
-use Rattle.ats_both.specs.Documents.{both, documents_shown}
-use Rattle.ats_both.specs.Verdicts.{AreAcceptedBytes}
+use Rattle.ats_conjunction.specs.Documents.{both, documents_shown}
+use Rattle.ats_conjunction.specs.Bytes.{AreAcceptedBytes}
 use Rattle.ats_plan.specs.Files.{Files, IsFile}
 use Rattle.ats_plan.specs.Plan.{Plan, Finishes}
 use Rattle.ats_console.specs.Words.{AuditBothWords}

@@ -2,9 +2,9 @@
 use Rattle.std.specs.Prelude.{◌≡◌, ◌^◌, ℕ, List, None}
 use Rattle.ats_commit.specs.Archive.{Archive}
 use Rattle.ats_commit.specs.Root.{root_of}
-use Rattle.ats_fetch.specs.Strings.{text_extract, IsOwnText}
-use Rattle.ats_fetch.specs.Value.{TextProof}
-use Rattle.ats_fetch.specs.Verdicts.{IsAcceptedText}
+use Rattle.ats_inclusion.specs.Strings.{text_extract, IsOwnText}
+use Rattle.ats_inclusion.specs.Value.{TextProof}
+use Rattle.ats_inclusion.specs.Bytes.{IsAcceptedText}
 use Rattle.ats_plan.specs.Files.{Files, IsFile}
 use Rattle.ats_plan.specs.Plan.{Plan, Finishes}
 use Rattle.ats_console.specs.Words.{AuditFetchWords}

@@ -2,10 +2,10 @@
 use Rattle.std.specs.Prelude.{◌≡◌, ℕ, List, None}
 use Rattle.ats_commit.specs.Archive.{Archive}
 use Rattle.ats_commit.specs.Root.{root_of}
-use Rattle.ats_growth.specs.Headline.{HasGrown}
-use Rattle.ats_growth.specs.Strings.{extract}
-use Rattle.ats_growth.specs.Value.{Growth}
-use Rattle.ats_growth.specs.Verdicts.{IsAcceptedGrowth}
+use Rattle.ats_consistency.specs.Headline.{HasGrown}
+use Rattle.ats_consistency.specs.Strings.{extract}
+use Rattle.ats_consistency.specs.Value.{Growth}
+use Rattle.ats_consistency.specs.Bytes.{IsAcceptedGrowth}
 use Rattle.ats_plan.specs.Files.{Files, IsFile}
 use Rattle.ats_plan.specs.Plan.{Plan, Finishes}
 use Rattle.ats_console.specs.Words.{AuditGrowthWords}

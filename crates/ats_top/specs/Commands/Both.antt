@@ -2,9 +2,10 @@
 use Rattle.std.specs.Prelude.{◌≡◌, ◌^◌, ℕ, List}
 use Rattle.ats_terms.specs.Query.{IsQueryOf}
 use Rattle.ats_proof.specs.Value.{Proof}
-use Rattle.ats_both.specs.Documents.{documents_shown}
-use Rattle.ats_both.specs.Headline.{AreBothOrCollide}
-use Rattle.ats_both.specs.Verdicts.{AreAcceptedBytes, AreBothOrTold}
+use Rattle.ats_conjunction.specs.Documents.{documents_shown}
+use Rattle.ats_conjunction.specs.Headline.{AreBothOrCollide}
+use Rattle.ats_conjunction.specs.Bytes.{AreAcceptedBytes}
+use Rattle.ats_both.specs.Verdicts.{AreBothOrTold}
 use Rattle.ats_plan.specs.Files.{Files, IsFile}
 use Rattle.ats_plan.specs.Plan.{Plan, Finishes}
 use Rattle.ats_console.specs.Words.{BothWords}

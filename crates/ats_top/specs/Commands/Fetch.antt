@@ -1,8 +1,9 @@
 -- `fetch ROOT DOC FILE`
 use Rattle.std.specs.Prelude.{◌≡◌, ◌^◌, ℕ, List}
-use Rattle.ats_fetch.specs.Strings.{IsOwnOrCollides}
-use Rattle.ats_fetch.specs.Value.{TextProof}
-use Rattle.ats_fetch.specs.Verdicts.{IsAcceptedText, IsOwnOrTold}
+use Rattle.ats_inclusion.specs.Strings.{IsOwnOrCollides}
+use Rattle.ats_inclusion.specs.Value.{TextProof}
+use Rattle.ats_inclusion.specs.Bytes.{IsAcceptedText}
+use Rattle.ats_fetch.specs.Verdicts.{IsOwnOrTold}
 use Rattle.ats_plan.specs.Files.{Files, IsFile}
 use Rattle.ats_plan.specs.Plan.{Plan, Finishes}
 use Rattle.ats_console.specs.Words.{FetchWords}

@@ -3,7 +3,7 @@ use Rattle.std.specs.Prelude.{◌≡◌, ◌<◌, ℕ, List, length}
 use Rattle.ats_base.specs.Outside.{Puts}
 use Rattle.ats_commit.specs.Archive.{Archive}
 use Rattle.ats_fetch.specs.Given.{given_text}
-use Rattle.ats_fetch.specs.Value.{IsTextProof}
+use Rattle.ats_inclusion.specs.Value.{IsTextProof}
 use Rattle.ats_plan.specs.Files.{Files}
 use Rattle.ats_plan.specs.Plan.{Plan, Tries, Makes, Stores}
 use Rattle.ats_console.specs.Words.{GiveWords}

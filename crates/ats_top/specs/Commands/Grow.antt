@@ -2,8 +2,9 @@
 use Rattle.std.specs.Prelude.{◌≡◌, ℕ, List, length}
 use Rattle.ats_base.specs.Outside.{Puts}
 use Rattle.ats_commit.specs.Archive.{Archive}
-use Rattle.ats_growth.specs.Honest.{honest, IsPrefix, IsFirstApart}
-use Rattle.ats_growth.specs.Value.{IsGrowth}
+use Rattle.ats_consistency.specs.Headline.{IsPrefix}
+use Rattle.ats_growth.specs.Honest.{honest, IsFirstApart}
+use Rattle.ats_consistency.specs.Value.{IsGrowth}
 use Rattle.ats_plan.specs.Files.{Files}
 use Rattle.ats_plan.specs.Plan.{Plan, Tries, Makes, Stores}
 use Rattle.ats_console.specs.Words.{GrowWords}

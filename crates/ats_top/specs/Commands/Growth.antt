@@ -1,8 +1,9 @@
 -- `growth OLDROOT NEWROOT FILE`
 use Rattle.std.specs.Prelude.{◌≡◌, ℕ, List}
-use Rattle.ats_growth.specs.Headline.{IsGrownOrCollides}
-use Rattle.ats_growth.specs.Value.{Growth}
-use Rattle.ats_growth.specs.Verdicts.{IsAcceptedGrowth, IsGrownOrTold}
+use Rattle.ats_consistency.specs.Headline.{IsGrownOrCollides}
+use Rattle.ats_consistency.specs.Value.{Growth}
+use Rattle.ats_consistency.specs.Bytes.{IsAcceptedGrowth}
+use Rattle.ats_growth.specs.Verdicts.{IsGrownOrTold}
 use Rattle.ats_plan.specs.Files.{Files, IsFile}
 use Rattle.ats_plan.specs.Plan.{Plan, Finishes}
 use Rattle.ats_console.specs.Words.{GrowthWords}

@@ -4,9 +4,10 @@ use Rattle.ats_commit.specs.Archive.{Archive}
 use Rattle.ats_commit.specs.Root.{root_of}
 use Rattle.ats_proof.specs.Value.{Proof}
 use Rattle.ats_client.specs.Strings.{extract}
-use Rattle.ats_both.specs.Documents.{documents_shown}
-use Rattle.ats_both.specs.Headline.{AreBothOrCollide}
-use Rattle.ats_both.specs.Verdicts.{AreAcceptedBytes, AreFoundRight}
+use Rattle.ats_conjunction.specs.Documents.{documents_shown}
+use Rattle.ats_conjunction.specs.Headline.{AreBothOrCollide}
+use Rattle.ats_conjunction.specs.Bytes.{AreAcceptedBytes}
+use Rattle.ats_both.specs.Verdicts.{AreFoundRight}
 use Rattle.ats_console.specs.Print.{lines_of_documents}
 use Rattle.ats_console.specs.declared.stops.Stop.{Stop}
 use Rattle.ats_console.specs.declared.stops.Stop.TheVariants.{Memory}

@@ -2,9 +2,10 @@
 use Rattle.std.specs.Prelude.{◌≡◌, ◌⊎◌, ℕ, List}
 use Rattle.ats_commit.specs.Archive.{Archive}
 use Rattle.ats_commit.specs.Root.{root_of}
-use Rattle.ats_growth.specs.Strings.{extract}
-use Rattle.ats_growth.specs.Verdicts.{IsAcceptedGrowth, IsFoundGrown}
-use Rattle.ats_growth.specs.declared.checking.Grown.{Grown}
+use Rattle.ats_consistency.specs.Strings.{extract}
+use Rattle.ats_consistency.specs.Bytes.{IsAcceptedGrowth}
+use Rattle.ats_growth.specs.Verdicts.{IsFoundGrown}
+use Rattle.ats_consistency.specs.declared.checking.Grown.{Grown}
 use Rattle.ats_console.specs.declared.stops.Stop.{Stop}
 use Rattle.ats_console.specs.declared.stops.Stop.TheVariants.{Memory}
 use Rattle.ats_top.specs.GrowthLines.{line_of_grown, lines_of_growth_collision}

@@ -2,8 +2,8 @@
 use Rattle.std.specs.Prelude.{◌≡◌, ◌⊎◌, ℕ, List}
 use Rattle.ats_commit.specs.Archive.{Archive}
 use Rattle.ats_commit.specs.Root.{root_of}
-use Rattle.ats_fetch.specs.Strings.{text_extract}
-use Rattle.ats_fetch.specs.Verdicts.{IsAcceptedText}
+use Rattle.ats_inclusion.specs.Strings.{text_extract}
+use Rattle.ats_inclusion.specs.Bytes.{IsAcceptedText}
 use Rattle.ats_console.specs.declared.stops.Stop.{Stop}
 use Rattle.ats_console.specs.declared.stops.Stop.TheVariants.{Memory}
 use Rattle.ats_top.specs.TextLines.{lines_of_text_collision}

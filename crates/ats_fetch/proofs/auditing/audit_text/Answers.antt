@@ -1,6 +1,6 @@
 use Rattle.std.proofs.Common.{◌≡◌, ◌∙◌, Some, sym, ap}
 use Rattle.std.specs.Option.{option_map}
-use Rattle.ats_fetch.specs.Strings.{text_extract}
+use Rattle.ats_inclusion.specs.Strings.{text_extract}
 use Rattle.ats_fetch.specs.Verdicts.{difference_of, IsPlaced}
 use Rattle.ats_fetch.proofs.Clashing.{some_means}
 use Rattle.ats_fetch.proofs.Verdicts.{extract-collides}

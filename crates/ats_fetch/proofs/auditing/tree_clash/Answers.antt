@@ -1,7 +1,6 @@
-use Rattle.std.proofs.Common.{◌∙◌, [], get_or, ap, arith}
+use Rattle.std.proofs.Common.{◌∙◌, [], get_or, arith}
 use Rattle.std.specs.Option.{option_map}
 use Rattle.ats_fetch.specs.Inner.Compare.{unlike_at}
-use Rattle.ats_fetch.specs.Value.{TextProof}
 use Rattle.ats_fetch.proofs.Clashing.{tree_found, inside_texts, fits_texts, found_clash}
 use Rattle.ats_fetch.proofs.Comparing.{text_of}
 use Rattle.ats_fetch.proofs.auditing.tree_clash.Goals as goal
@@ -20,9 +19,9 @@ compare-compared-requires-clause-inside g c =
 pub compare-compared-requires-clause-fit : goal.compare-compared-requires-clause-fit
 compare-compared-requires-clause-fit g c =
     fits_texts g.H.HashKind.hash g.H.HashKind.sized c.args.index.now _ c.args.doc c.args.proof.now c.collection-collection.ensures.texts c.is_in_range.ensures c.requires.header
-    c.requires.accepts c.collection-collection.result.now c.documents.result c.proof.inside.text.now c.as_slice.result.now c.collection-collection.ensures.same c.documents.ensures.value
-    (ap (λ (p : TextProof). p.text) c.proof.view_is)
-    (c.as_slice.ensures.value ∙ c.in_ok-theirs.ensures ∙ ap (λ (p : TextProof). p.digests) c.proof.view_is)
+    c.requires.accepts c.collection-collection.result.now c.documents.result c.text-their_text.result.now c.as_slice.result.now c.collection-collection.ensures.same c.documents.ensures.value
+    c.text-their_text.ensures.value
+    (c.as_slice.ensures.value ∙ c.in_ok-theirs.ensures ∙ c.digests.ensures)
 
 pub text-requires : goal.text-requires
 text-requires g c =
@@ -36,8 +35,8 @@ returns-clause-clash g c =
     let less = inside_texts g.H.HashKind.hash g.H.HashKind.sized c.args.index.now _ c.args.doc c.args.proof.now c.collection-collection.ensures.texts c.is_in_range.ensures c.requires.header
     c.requires.accepts texts c.collection-collection.ensures.same in
     let found = tree_found g.H.HashKind.hash g.H.HashKind.sized c.args.index.now c.args.doc c.args.proof.now c.collection-collection.ensures.texts c.is_in_range.ensures c.requires.header
-    texts c.documents.result c.proof.inside.text.now c.as_slice.result.now (option_map (unlike_at own c.proof.inside.text.now) c.compare-compared.result.unlike)
-    c.collection-collection.ensures.same c.documents.ensures.value (ap (λ (p : TextProof). p.text) c.proof.view_is)
-    (c.as_slice.ensures.value ∙ c.in_ok-theirs.ensures ∙ ap (λ (p : TextProof). p.digests) c.proof.view_is) c.compare-compared.ensures.unlike in
-    found_clash c.clash_at.result own c.as_bytes-text.result.now c.proof.inside.text.now c.compare-compared.result.unlike _
+    texts c.documents.result c.text-their_text.result.now c.as_slice.result.now (option_map (unlike_at own c.text-their_text.result.now) c.compare-compared.result.unlike)
+    c.collection-collection.ensures.same c.documents.ensures.value c.text-their_text.ensures.value
+    (c.as_slice.ensures.value ∙ c.in_ok-theirs.ensures ∙ c.digests.ensures) c.compare-compared.ensures.unlike in
+    found_clash c.clash_at.result own c.as_bytes-text.result.now c.text-their_text.result.now c.compare-compared.result.unlike _
     c.clash_at.ensures.clash (text_of texts c.args.doc c.text.result.now c.as_bytes-text.result.now less c.as_bytes-text.ensures.value c.text.ensures) found

@@ -1,6 +1,6 @@
 use Rattle.std.proofs.Common.{sym, subst}
 use Rattle.std.specs.Prelude.{IfOk}
-use Rattle.ats_fetch.specs.Value.{TextProof, IsTextProof, IsTextInRange}
+use Rattle.ats_inclusion.specs.Value.{TextProof, IsTextProof, IsTextInRange}
 use Rattle.ats_fetch.proofs.Given.{found_given, given-in_range}
 use Rattle.ats_fetch.proofs.giving.give_text.Goals as goal
 

@@ -1,5 +1,5 @@
 use Rattle.std.proofs.Common.{◌≡◌, ◌∙◌, ◌++◌, [], ◌∷◌, ℕ, List, ap}
-use Rattle.ats_fetch.specs.Value.{TextProof}
+use Rattle.ats_inclusion.specs.Value.{TextProof}
 use Rattle.ats_fetch.proofs.Spelled.{spelled_by}
 use Rattle.ats_fetch.proofs.giving.spelled.Goals as goal
 

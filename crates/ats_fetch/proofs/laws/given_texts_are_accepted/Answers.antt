@@ -1,7 +1,7 @@
 use Rattle.std.specs.List.{concat}
+use Rattle.ats_inclusion.specs.Value.{fields_of}
+use Rattle.ats_inclusion.proofs.Public.{spells}
 use Rattle.ats_fetch.specs.Given.{given_text}
-use Rattle.ats_fetch.specs.Value.{fields_of}
-use Rattle.ats_fetch.proofs.Fields.{spells}
 use Rattle.ats_fetch.proofs.Given.{given-in_range, given-accepted, given-none, given-own}
 use Rattle.ats_fetch.proofs.Verdicts.{given-right}
 use Rattle.ats_fetch.proofs.laws.given_texts_are_accepted.Goals as goal

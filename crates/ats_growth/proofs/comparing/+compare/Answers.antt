@@ -1,10 +1,9 @@
 use Rattle.std.proofs.Common.{◌≤◌, ◌<◌, ◌-◌, ◌*◌, length, false, subst, arith}
 use Rattle.ats_proof.specs.Seen.{digests_of}
-use Rattle.ats_growth.specs.Shape.{turns, need}
+use Rattle.ats_consistency.specs.Shape.{turns, need}
 use Rattle.ats_growth.proofs.Compares.{compared-end, compared-left, compared-right}
 use Rattle.ats_tree.proofs.Public.{part-tree-cut}
-use Rattle.ats_growth.proofs.Leads.{turns-end}
-use Rattle.ats_growth.proofs.PairLemmas.{cut-left, cut-right, need-left, need-right, one-left}
+use Rattle.ats_consistency.proofs.Public.{turns-end, cut-left, cut-right, need-left, need-right, one-left}
 use Rattle.ats_growth.proofs.comparing.+compare.Goals as goal
 
 -- ---- the end of the turns
@@ -45,8 +44,8 @@ compare-below-requires g t c κs within =
       ),
     )
 
-pub next-beside-requires-clause-some : goal.next-beside-requires-clause-some
-next-beside-requires-clause-some g t c =
+pub next_digest-beside-requires-clause-some : goal.next_digest-beside-requires-clause-some
+next_digest-beside-requires-clause-some g t c =
     let a = c.args in
     let k = c.cut_of-k in
     let more = need-left a.m a.n k.result k.ensures.power k.ensures.largest a.known k.ensures.below c.if-m-k.true in
@@ -58,10 +57,10 @@ returns-then-m-k-clause-compared g t c =
     let a = c.args in
     let k = c.cut_of-k in
     let new = part-tree-cut a.texts.from k.result a.n a.texts.new.now k.ensures.power k.ensures.below k.ensures.largest c.requires.inside_new in
-    compared-left g.H.HashKind.hash a.known_root.now (turns a.m a.n) (turns a.m k.result) a.known (digests_of a.digests.now) (digests_of c.compare-below.new.digests) (digests_of c.next-beside.new.digests)
-    c.next-beside.result c.digest_of_range-own.result _ _ _ _ c.compare-below.result c.before-then-m-k.result
+    compared-left g.H.HashKind.hash a.known_root.now (turns a.m a.n) (turns a.m k.result) a.known (digests_of a.digests.now) (digests_of c.compare-below.new.digests) (digests_of c.next_digest-beside.new.digests)
+    c.next_digest-beside.result c.digest_of_range-own.result _ _ _ _ c.compare-below.result c.before-then-m-k.result
     (cut-left a.m a.n k.result k.ensures.power k.ensures.below k.ensures.largest c.if-m-k.true) new c.digest_of_range-own.ensures.digest c.compare-below.ensures.compared
-    c.next-beside.ensures.first c.next-beside.ensures.passed c.before-then-m-k.ensures.joined
+    c.next_digest-beside.ensures.first c.next_digest-beside.ensures.passed c.before-then-m-k.ensures.joined
 
 -- ---- a right turn
 
@@ -88,8 +87,8 @@ compare-below-requires-2 g t c κs within =
       ),
     )
 
-pub next-beside-requires-2-clause-some : goal.next-beside-requires-2-clause-some
-next-beside-requires-2-clause-some g t c =
+pub next_digest-beside-requires-2-clause-some : goal.next_digest-beside-requires-2-clause-some
+next_digest-beside-requires-2-clause-some g t c =
     let a = c.args in
     let k = c.cut_of-k in
     let more : a.m < a.n = omega arith in
@@ -107,6 +106,6 @@ returns-clause-compared g t c =
     let old = part-tree-cut a.texts.from k.result a.m a.texts.old.now k.ensures.power past largest c.requires.inside_old in
     let new = part-tree-cut a.texts.from k.result a.n a.texts.new.now k.ensures.power k.ensures.below k.ensures.largest c.requires.inside_new in
     compared-right g.H.HashKind.hash a.known_root.now (turns a.m a.n) (turns (a.m - k.result) (a.n - k.result)) a.known (digests_of a.digests.now) (digests_of c.compare-below-2.new.digests)
-    (digests_of c.next-beside-2.new.digests) c.next-beside-2.result c.digest_of_range-old_own.result c.digest_of_range-new_own.result _ _ _ _ _ _ c.compare-below-2.result c.after.result c.after-2.result
+    (digests_of c.next_digest-beside-2.new.digests) c.next_digest-beside-2.result c.digest_of_range-old_own.result c.digest_of_range-new_own.result _ _ _ _ _ _ c.compare-below-2.result c.after.result c.after-2.result
     (cut-right a.m a.n k.result k.ensures.power k.ensures.largest past more) old new c.digest_of_range-old_own.ensures.digest c.digest_of_range-new_own.ensures.digest
-    c.compare-below-2.ensures.compared c.next-beside-2.ensures.first c.next-beside-2.ensures.passed c.after.ensures.joined c.after-2.ensures.joined
+    c.compare-below-2.ensures.compared c.next_digest-beside-2.ensures.first c.next_digest-beside-2.ensures.passed c.after.ensures.joined c.after-2.ensures.joined

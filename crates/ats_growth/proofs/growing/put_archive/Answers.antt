@@ -1,8 +1,8 @@
 use Rattle.std.proofs.Common.{◌∙◌, ◌∷◌, ℕ, List, ap₂}
 use Rattle.std.specs.List.{concat}
-use Rattle.ats_growth.specs.Value.{archive_fields}
+use Rattle.ats_consistency.specs.Value.{archive_fields}
+use Rattle.ats_consistency.proofs.Public.{archive_join}
 use Rattle.ats_growth.proofs.Made.{joined_2}
-use Rattle.ats_growth.proofs.Spelled.{archive_join}
 use Rattle.ats_growth.proofs.growing.put_archive.Goals as goal
 
 pub returns : goal.returns

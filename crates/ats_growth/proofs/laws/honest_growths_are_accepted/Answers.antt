@@ -1,11 +1,11 @@
 use Rattle.std.specs.List.{concat}
+use Rattle.ats_consistency.specs.Value.{fields_of}
+use Rattle.ats_consistency.proofs.Public.{spells}
 use Rattle.ats_growth.specs.Honest.{honest}
-use Rattle.ats_growth.specs.Value.{fields_of}
 use Rattle.ats_growth.proofs.Completeness.{honest_accepted}
 use Rattle.ats_growth.proofs.HonestStrings.{honest-none}
 use Rattle.ats_growth.proofs.Made.{honest_in_range}
 use Rattle.ats_growth.proofs.Prefixes.{not_prefix}
-use Rattle.ats_growth.proofs.Spelled.{spells}
 use Rattle.ats_growth.proofs.Verdicts.{honest-right}
 use Rattle.ats_growth.proofs.laws.honest_growths_are_accepted.Goals as goal
 

@@ -1,0 +1,86 @@
+-- A proof is refused by one rule, and not if it is accepted.
+use Rattle.std.proofs.Common.{◌≡◌, ◌∙◌, ℕ, List, length, true, Result, Ok, Err, refl, sym, ap, subst, inl, inr}
+use Rattle.std.specs.Result.{is_ok, IfErr}
+use Rattle.ats_base.specs.Rules.{AreKept}
+use Rattle.ats_base.proofs.Public.{AreExact, not_kept, one_first}
+use Rattle.ats_proof.specs.Value.{Proof, algorithm_of}
+use Rattle.ats_proof.specs.declared.record.Algorithm.TheVariants.{Tra}
+use Rattle.ats_client.specs.Accepts.{section_rules}
+use Rattle.ats_proof.proofs.Public.{one_value}
+use Rattle.ats_client.proofs.Public.{section_not_kept, one_section}
+use Rattle.ats_conjunction.specs.Rules.{rules, AcceptsBoth, IsFirstRefusal, IsOtherAlgorithm, HasRows, IsSectionFault, IsWhole, IsPart}
+use Rattle.ats_conjunction.specs.Bytes.{AreAcceptedBytes, AreRefusedBytes}
+use Rattle.ats_conjunction.specs.declared.refusal.BothRefusal.{BothRefusal}
+use Rattle.ats_conjunction.specs.declared.refusal.BothRefusal.TheVariants.{NotTra, AnswerShown, Section, NoWholeList}
+
+module _ (H : List ℕ → List ℕ) (root : List ℕ) (query : List (List ℕ × ℕ)) (proof : Proof) where
+  one_algorithm : (a b : BothRefusal) → IsOtherAlgorithm proof a → IsOtherAlgorithm proof b → a ≡ b
+  one_algorithm NotTra NotTra is also = refl
+  one_algorithm NotTra _ is also = absurd also
+  one_algorithm _ b is also = absurd is
+
+  breaks_algorithm : (a : BothRefusal) → IsOtherAlgorithm proof a → algorithm_of proof ≡ Tra → ⊥
+  breaks_algorithm NotTra is kept = is kept
+  breaks_algorithm _ is kept = is
+
+  one_rows : (a b : BothRefusal) → HasRows proof a → HasRows proof b → a ≡ b
+  one_rows (AnswerShown rows) (AnswerShown others) is also = ap AnswerShown (is.0 ∙ sym also.0)
+  one_rows (AnswerShown rows) _ is also = absurd also
+  one_rows _ b is also = absurd is
+
+  breaks_rows : (a : BothRefusal) → HasRows proof a → length proof.answer ≡ 0 → ⊥
+  breaks_rows (AnswerShown rows) is kept = is.1 kept
+  breaks_rows _ is kept = is
+
+  one_in_sections : (a b : BothRefusal) → IsSectionFault H root query proof a → IsSectionFault H root query proof b → a ≡ b
+  one_in_sections (Section a) (Section b) is also = ap Section (one_section H root query proof a b is also)
+  one_in_sections (Section a) _ is also = absurd also
+  one_in_sections _ b is also = absurd is
+
+  breaks_sections : (a : BothRefusal) → IsSectionFault H root query proof a → AreKept (section_rules H root query proof) → ⊥
+  breaks_sections (Section a) is kept = section_not_kept H root query proof a is kept
+  breaks_sections _ is kept = is
+
+  one_part : (a b : BothRefusal) → IsPart query proof a → IsPart query proof b → a ≡ b
+  one_part NoWholeList NoWholeList is also = refl
+  one_part NoWholeList _ is also = absurd also
+  one_part _ b is also = absurd is
+
+  breaks_part : (a : BothRefusal) → IsPart query proof a → IsWhole query proof → ⊥
+  breaks_part NoWholeList is (inl not) = let present = is.0 in absurd (cc)
+  breaks_part NoWholeList is (inr whole) = let part = is.1 in absurd (cc)
+  breaks_part _ is kept = is
+
+  -- each rule fails in one way, and is then not kept
+  exact : AreExact (rules H root query proof)
+  exact = (
+    record { breaks = breaks_algorithm; one = one_algorithm },
+    (
+      record { breaks = breaks_rows; one = one_rows },
+      (
+        record { breaks = breaks_sections; one = one_in_sections },
+        (record { breaks = breaks_part; one = one_part }, tt),
+      ),
+    ),
+  )
+
+  pub one_refusal : (a b : BothRefusal) → IsFirstRefusal H root query proof a → IsFirstRefusal H root query proof b → a ≡ b
+  one_refusal a b is also = one_first (rules H root query proof) a b exact is.first also.first
+
+  pub not_both : (refusal : BothRefusal) → AcceptsBoth H root query proof → IsFirstRefusal H root query proof refusal → ⊥
+  not_both refusal accepts is = not_kept (rules H root query proof) refusal exact is.first accepts.kept
+
+  pub accepted : {T : Type 0} (result : Result T BothRefusal) → IfErr result (IsFirstRefusal H root query proof) → AcceptsBoth H root query proof → is_ok result ≡ true
+  accepted (Ok unit) refused accepts = refl
+  accepted (Err refusal) refused accepts = absurd (not_both refusal accepts refused)
+
+module _ (H : List ℕ → List ℕ) (root : List ℕ) (query : List (List ℕ × ℕ)) (bytes : List ℕ) where
+  pub one_of_bytes : (a b : BothRefusal) → AreRefusedBytes H root query bytes a → AreRefusedBytes H root query bytes b → a ≡ b
+  one_of_bytes a b is also =
+      let same : also.proof ≡ is.proof = one_value bytes also.proof is.proof also.says is.says in
+      one_refusal H root query is.proof a b is.refused (subst (λ (p : Proof). IsFirstRefusal H root query p b) same also.refused)
+
+  pub not_refused : (proof : Proof) (refusal : BothRefusal) → AreAcceptedBytes H root query bytes proof → AreRefusedBytes H root query bytes refusal → ⊥
+  not_refused proof refusal is refused =
+      let same : proof ≡ refused.proof = one_value bytes proof refused.proof is.says refused.says in
+      not_both H root query refused.proof refusal (subst (AcceptsBoth H root query) same is.accepts) refused.refused

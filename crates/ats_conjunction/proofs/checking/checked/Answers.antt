@@ -1,0 +1,19 @@
+use Rattle.std.proofs.Common.{arith}
+use Rattle.ats_client.proofs.Public.{few_items}
+use Rattle.ats_conjunction.proofs.checking.checked.Goals as goal
+
+pub are_present-requires : goal.are_present-requires
+are_present-requires g c = record {
+  room = omega (arith, few_items c.is_spelled.ensures.spelled.0 c.args.proof.now c.is_spelled.ensures.spelled.1, c.in_ok-sections.ensures.steps, c.requires.count);
+}
+
+pub shows_whole_list-requires-clause-room : goal.shows_whole_list-requires-clause-room
+shows_whole_list-requires-clause-room g c =
+    omega (
+      arith,
+      few_items c.is_spelled.ensures.spelled.0 c.args.proof.now c.is_spelled.ensures.spelled.1,
+      c.is_spelled.ensures.range.spots.few,
+      c.are_present.ensures.cost,
+      c.in_ok-sections.ensures.steps,
+      c.requires.count,
+    )

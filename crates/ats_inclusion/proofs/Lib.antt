@@ -1,0 +1,4 @@
+pub mod Public
+mod Fields
+mod Refusals
+mod Own

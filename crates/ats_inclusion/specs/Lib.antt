@@ -1,0 +1,6 @@
+pub mod Grammar
+pub mod Value
+pub mod Accepts
+pub mod Bytes
+pub mod Strings
+pub mod Inner
