@@ -10,7 +10,7 @@ use Rattle.ats_client.specs.Bytes.{IsAcceptedBytes}
 use Rattle.ats_client.specs.Headline.{AreRight, IsTopOrCollides}
 use Rattle.ats_client.specs.Rows.{rows_of}
 use Rattle.ats_client.specs.Strings.{extract}
-use Rattle.ats_client.specs.declared.fault.Rejection.TheVariants.{Shape, Check}
+use Rattle.ats_refusal.specs.declared.proof.Rejection.TheVariants.{Shape, Check}
 use Rattle.ats_client.proofs.Public.{top_or_collides, accepted_kept, extract-collides, none_some}
 use Rattle.ats_audit.specs.Verdicts.{IsVerdict, TellsCollision, IsTopOrTold}
 use Rattle.ats_audit.specs.declared.auditing.Verdict.{Verdict}

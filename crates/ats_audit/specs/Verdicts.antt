@@ -11,7 +11,7 @@ use Rattle.ats_client.specs.Bytes.{IsAcceptedBytes, IsRejectedBytes}
 use Rattle.ats_client.specs.Headline.{AreRight}
 use Rattle.ats_client.specs.Rows.{rows_of}
 use Rattle.ats_client.specs.Strings.{extract}
-use Rattle.ats_client.specs.declared.fault.Rejection.TheVariants.{Shape, Check}
+use Rattle.ats_refusal.specs.declared.proof.Rejection.TheVariants.{Shape, Check}
 use Rattle.ats_audit.specs.declared.auditing.Verdict.{Verdict}
 use Rattle.ats_audit.specs.declared.auditing.Verdict.TheVariants.{BadShape, Refused, Right, Collision}
 

@@ -10,8 +10,8 @@ use Rattle.ats_client.specs.Rooted.{AreRooted}
 use Rattle.ats_client.specs.Sections.{AreRebuilt}
 use Rattle.ats_base.specs.Rules.{AreKept}
 use Rattle.ats_client.specs.Accepts.{section_rules, Accepts, IsFirstRefusal}
-use Rattle.ats_client.specs.declared.refusal.Refusal.{Refusal}
-use Rattle.ats_client.specs.declared.refusal.Refusal.TheVariants.{NotSettled}
+use Rattle.ats_refusal.specs.declared.proof.Refusal.{Refusal}
+use Rattle.ats_refusal.specs.declared.proof.Refusal.TheVariants.{NotSettled}
 use Rattle.ats_client.proofs.Sectioned.{accepted_sections}
 
 -- ---- the rules of what a proof shows

@@ -6,8 +6,8 @@ use Rattle.ats_bound.specs.Cut.{ShownLane}
 use Rattle.ats_bound.specs.Lookup.{Table, looked_score_from}
 use Rattle.ats_commit.specs.Ours.{asked_term}
 use Rattle.ats_client.specs.declared.present_terms.PresentTerm.{PresentTerm}
-use Rattle.ats_client.specs.declared.refusal.Refusal.{Refusal}
-use Rattle.ats_client.specs.declared.refusal.Refusal.TheVariants.{TermSlot}
+use Rattle.ats_refusal.specs.declared.proof.Refusal.{Refusal}
+use Rattle.ats_refusal.specs.declared.proof.Refusal.TheVariants.{TermSlot}
 use Rattle.ats_client.specs.Documents.{MetDocument, term_shown, IsTermSlotRight, IsTermSlotsFault}
 use Rattle.ats_client.specs.Groups.{slot_at}
 use Rattle.ats_client.specs.PresentTerms.{numbers_of, bare_lanes}

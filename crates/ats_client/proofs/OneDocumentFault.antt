@@ -3,8 +3,8 @@ use Rattle.std.proofs.Common.{◌≡◌, ◌⊎◌, ◌∙◌, ℕ, List, length
 use Rattle.ats_dict.specs.declared.header.Header.{Header}
 use Rattle.ats_commit.specs.Ours.{asked_term}
 use Rattle.ats_proof.specs.Value.{Documents, Proof}
-use Rattle.ats_client.specs.declared.refusal.Refusal.{Refusal}
-use Rattle.ats_client.specs.declared.refusal.Refusal.TheVariants.{DocsMisfit, DocsRoot, TermsMisfit, TermsRoot, TermSlot}
+use Rattle.ats_refusal.specs.declared.proof.Refusal.{Refusal}
+use Rattle.ats_refusal.specs.declared.proof.Refusal.TheVariants.{DocsMisfit, DocsRoot, TermsMisfit, TermsRoot, TermSlot}
 use Rattle.ats_client.specs.Groups.{IsOther, slot_at}
 use Rattle.ats_client.specs.Documents.{MetDocument, met_documents, docs_digest, AreDocsRooted, IsDocsRootFault, terms_digest, IsTermsTree, IsTermsFault, term_shown, present_numbers, IsTermSlotRight, AreTermSlotsRight, IsTermSlotsFault, document_rules, IsDocumentRight, AreDocumentsRight, IsDocumentsFault}
 use Rattle.ats_base.specs.Rules.{IsFirstFault}

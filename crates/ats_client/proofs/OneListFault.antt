@@ -2,8 +2,8 @@
 use Rattle.std.proofs.Common.{◌≡◌, ◌∙◌, ℕ, List, ◌∷◌, ◌++◌, length, refl, sym, ap, ap₂, arith}
 use Rattle.ats_proof.specs.Value.{Proof}
 use Rattle.ats_lists.specs.declared.format.Format.{Format}
-use Rattle.ats_client.specs.declared.refusal.Refusal.{Refusal}
-use Rattle.ats_client.specs.declared.refusal.Refusal.TheVariants.{IndexOut, Repeated, ListMisfit, ListRoot}
+use Rattle.ats_refusal.specs.declared.proof.Refusal.{Refusal}
+use Rattle.ats_refusal.specs.declared.proof.Refusal.TheVariants.{IndexOut, Repeated, ListMisfit, ListRoot}
 use Rattle.ats_client.specs.Presented.{Presented, presented}
 use Rattle.ats_client.specs.Indexes.{AreNames, IsOut, IsAgain}
 use Rattle.ats_client.specs.Groups.{IsListRight, IsListFault, IsEntryFault, IsListRootFault, AreListsRight, IsListsFault, indexes_of, list_rules}

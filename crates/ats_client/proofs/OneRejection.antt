@@ -6,8 +6,8 @@ use Rattle.ats_proof.specs.Value.{Proof, fields_of}
 use Rattle.ats_proof.proofs.Public.{one_value}
 use Rattle.ats_client.specs.Accepts.{Accepts, IsFirstRefusal}
 use Rattle.ats_client.specs.Bytes.{IsAcceptedBytes, IsRejectedBytes}
-use Rattle.ats_client.specs.declared.fault.Rejection.{Rejection}
-use Rattle.ats_client.specs.declared.fault.Rejection.TheVariants.{Shape, Check}
+use Rattle.ats_refusal.specs.declared.proof.Rejection.{Rejection}
+use Rattle.ats_refusal.specs.declared.proof.Rejection.TheVariants.{Shape, Check}
 use Rattle.ats_client.proofs.OneRefusal.{not_both, one_refusal}
 
 module _ (H : List ℕ → List ℕ) (root : List ℕ) (query : List (List ℕ × ℕ)) (r : ℕ) (bytes : List ℕ) where

@@ -3,8 +3,8 @@
 use Rattle.std.proofs.Common.{◌≡◌, ◌⊎◌, ℕ, List, ◌∷◌, length, length-append, Option, Some, None, refl, ap, inl, inr, arith}
 use Rattle.ats_base.specs.Rules.{AreKept, IsFirstFault}
 use Rattle.ats_proof.specs.Value.{Documents, Proof}
-use Rattle.ats_client.specs.declared.refusal.Refusal.{Refusal}
-use Rattle.ats_client.specs.declared.refusal.Refusal.TheVariants.{AnswerOut, AnswerRepeated, NotSettled}
+use Rattle.ats_refusal.specs.declared.proof.Refusal.{Refusal}
+use Rattle.ats_refusal.specs.declared.proof.Refusal.TheVariants.{AnswerOut, AnswerRepeated, NotSettled}
 use Rattle.ats_client.specs.Accepts.{section_rules, row_rules, Accepts, IsFirstRefusal}
 use Rattle.ats_client.specs.Documents.{IsDocsRootFault, IsDocumentsFault, document_rules, present_numbers}
 use Rattle.ats_client.specs.Groups.{IsListsFault, IsRowsFault, IsSettledFault, list_rules}

@@ -14,7 +14,7 @@ use Rattle.ats_bound.specs.Lookup.{looked_score}
 use Rattle.ats_bound.specs.Schedule.{Bounding}
 use Rattle.ats_doctree.specs.declared.doc_leaf.DocLeaf.{DocLeaf}
 use Rattle.ats_proof.specs.Value.{TermsSection, Documents, Proof}
-use Rattle.ats_client.specs.declared.refusal.Refusal.{Refusal}
+use Rattle.ats_refusal.specs.declared.proof.Refusal.{Refusal}
 use Rattle.ats_client.specs.Bracketing.{impact_shown, bounds_in, bounds_of}
 use Rattle.ats_client.specs.Documents.{MetDocument, documents_from, documents_in, present_numbers, document_rules, IsDocumentRight, AreDocumentsRight, IsDocumentsFault}
 use Rattle.ats_client.specs.Groups.{met_at}

@@ -7,7 +7,7 @@ use Rattle.ats_client.specs.Accepts.{Accepts}
 use Rattle.ats_client.specs.Headline.{IsTopOrCollides}
 use Rattle.ats_client.specs.Rows.{rows_of}
 use Rattle.ats_client.specs.Bytes.{AreVerifiedRows, IsVerifyFault, IsProofFault}
-use Rattle.ats_client.specs.declared.fault.Rejection.TheVariants.{Shape, Check}
+use Rattle.ats_refusal.specs.declared.proof.Rejection.TheVariants.{Shape, Check}
 use Rattle.ats_client.specs.declared.fault.VerifyFault.{VerifyFault}
 use Rattle.ats_client.specs.declared.fault.VerifyFault.TheVariants.{Rejected, OutOfMemory}
 

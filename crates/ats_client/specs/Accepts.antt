@@ -1,7 +1,7 @@
 -- When a proof is accepted, and by which rule it is refused otherwise.
 use Rattle.std.specs.Prelude.{ℕ, List, [], ◌∷◌, ◌++◌}
 use Rattle.ats_proof.specs.Value.{Proof}
-use Rattle.ats_client.specs.declared.refusal.Refusal.{Refusal}
+use Rattle.ats_refusal.specs.declared.proof.Refusal.{Refusal}
 use Rattle.ats_client.specs.Presented.{lanes_of}
 use Rattle.ats_client.specs.Bracketing.{bounds_of}
 use Rattle.ats_base.specs.Rules.{Group, AreKept, IsFirstFault}

@@ -8,8 +8,8 @@ use Rattle.ats_commit.specs.Ours.{asked_term}
 use Rattle.ats_proof.specs.declared.record.Slot.{Slot}
 use Rattle.ats_proof.specs.Value.{ShownTerm, TermsSection, Documents, Proof}
 use Rattle.ats_proof.specs.Runs.{shown_docs, shown_term}
-use Rattle.ats_client.specs.declared.refusal.Refusal.{Refusal}
-use Rattle.ats_client.specs.declared.refusal.Refusal.TheVariants.{DocsMisfit, DocsRoot, TermsMisfit, TermsRoot, TermSlot}
+use Rattle.ats_refusal.specs.declared.proof.Refusal.{Refusal}
+use Rattle.ats_refusal.specs.declared.proof.Refusal.TheVariants.{DocsMisfit, DocsRoot, TermsMisfit, TermsRoot, TermSlot}
 use Rattle.ats_base.specs.Rules.{Group, IsFirstFault, IsFirstOf}
 use Rattle.ats_client.specs.Groups.{IsOther, slot_at}
 use Rattle.ats_client.specs.Slots.{Shown, ShowsTerm}

@@ -14,8 +14,8 @@ use Rattle.ats_bound.specs.Schedule.{Bounding}
 use Rattle.ats_bound.specs.Settled.{IsSettled}
 use Rattle.ats_proof.specs.Value.{ShownEntry, Proof}
 use Rattle.ats_proof.specs.Runs.{shown_entry, shown_list}
-use Rattle.ats_client.specs.declared.refusal.Refusal.{Refusal}
-use Rattle.ats_client.specs.declared.refusal.Refusal.TheVariants.{OtherRoot, SlotCount, DictMisfit, DictRoot, SlotWrong, IndexOut, Repeated, ListMisfit, ListRoot, Unmet, AnswerOut, AnswerRepeated, NotSettled}
+use Rattle.ats_refusal.specs.declared.proof.Refusal.{Refusal}
+use Rattle.ats_refusal.specs.declared.proof.Refusal.TheVariants.{OtherRoot, SlotCount, DictMisfit, DictRoot, SlotWrong, IndexOut, Repeated, ListMisfit, ListRoot, Unmet, AnswerOut, AnswerRepeated, NotSettled}
 use Rattle.ats_base.specs.Rules.{Group, IsFirstFault, IsFirstOf}
 use Rattle.ats_client.specs.Presented.{Presented, presented}
 use Rattle.ats_client.specs.Slots.{Shown, entry_shown, ShowsTerm}

@@ -16,7 +16,6 @@ use crate::lists::lists;
 use crate::met::met;
 use crate::opening::{dictionary, opened};
 use crate::present_terms::PresentTerms;
-use crate::refusal::Refusal;
 use crate::rows::rows;
 use crate::settled::settled;
 use crate::slots::slots;
@@ -24,6 +23,7 @@ use ats_bound::Work;
 use ats_hash::{Hash32, Steps};
 use ats_impact::Top;
 use ats_proof::ProofView;
+use ats_refusal::Refusal;
 use ats_terms::Query;
 
 // The check, group by group.

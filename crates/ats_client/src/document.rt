@@ -9,7 +9,7 @@ ghost use Rattle.ats_proof.specs.declared.record.Slot.{Slot};
 ghost use Rattle.ats_proof.specs.SeenDocs.{section_of};
 ghost use Rattle.ats_proof.specs.Value.{items_of_section};
 ghost use Rattle.ats_client.specs.declared.present_terms.PresentTerm.{PresentTerm};
-ghost use Rattle.ats_client.specs.declared.refusal.Refusal.TheVariants.{TermSlot};
+ghost use Rattle.ats_refusal.specs.declared.proof.Refusal.TheVariants.{TermSlot};
 ghost use Rattle.ats_client.specs.Bracketing.{impact_shown};
 ghost use Rattle.ats_client.specs.Documents.{term_shown, IsTermsTree, IsTermsFault, AreTermSlotsRight, IsTermSlotsFault, IsDocumentRight, document_rules};
 ghost use Rattle.ats_client.specs.Groups.{slot_at};
@@ -21,10 +21,10 @@ ghost use Rattle.ats_client.specs.Slots.{ShowsTerm};
 use crate::marking::weighed;
 use crate::opening::rebuilt;
 use crate::present_terms::{PresentTerm, PresentTerms};
-use crate::refusal::Refusal;
 use crate::walk::Walk;
 use ats_hash::{Hash32, Steps};
 use ats_proof::{DocView, TermsView};
+use ats_refusal::Refusal;
 use ats_terms::Query;
 
 // Checks that what is shown of the document's terms is part of the tree that its leaf names.

@@ -14,10 +14,10 @@ ghost use Rattle.ats_client.specs.PresentTerms.{kept_terms};
 use crate::document::document;
 use crate::opening::rebuilt;
 use crate::present_terms::PresentTerms;
-use crate::refusal::Refusal;
 use ats_bound::{Mark, Work};
 use ats_hash::{Hash32, Steps};
 use ats_proof::{DocsView, ProofView};
+use ats_refusal::Refusal;
 use ats_terms::Query;
 
 /// Checks that the leaves of the met documents are part of the header's documents tree.

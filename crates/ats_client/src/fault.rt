@@ -1,21 +1,12 @@
-//! Why bytes are not accepted.
+//! Why no rows are returned.
 
 ghost use Rattle.std.specs.Prelude.{◌≡◌};
-ghost use Rattle.ats_client.specs.declared.fault.Rejection.TheVariants.{Shape, Check};
+ghost use Rattle.ats_refusal.specs.declared.proof.Rejection.TheVariants.{Shape, Check};
 ghost use Rattle.ats_client.specs.declared.fault.VerifyFault.TheVariants.{Rejected, OutOfMemory};
 
 use crate::memory::OutOfMemory;
-use crate::refusal::Refusal;
 use ats_proof::ShapeFault;
-
-/// What is wrong with bytes as a proof: their shape, or the first rule that the proof breaks.
-#[derive(Clone, Copy, Debug, PartialEq, Eq)]
-pub enum Rejection {
-    /// The bytes spell no proof.
-    Shape(ShapeFault),
-    /// The first rule that the proof breaks.
-    Check(Refusal),
-}
+use ats_refusal::{Refusal, Rejection};
 
 /// Why no rows were returned.
 #[derive(Clone, Copy, Debug, PartialEq, Eq)]

@@ -44,7 +44,6 @@ mod opening;
 mod present;
 mod present_terms;
 mod presenting;
-mod refusal;
 mod rows;
 mod section;
 mod settled;
@@ -56,15 +55,15 @@ mod walk;
 mod whole;
 
 pub use answer::row;
+pub use ats_refusal::{Refusal, Rejection};
 pub use checking::check;
 pub use clashing::{Clash, first_clash};
-pub use fault::{Rejection, VerifyFault};
+pub use fault::VerifyFault;
 pub use laws::{
     accepted_answers_are_top, bytes_have_one_rejection, documents_have_one_fault,
     own_leaves_make_rows_right, proofs_have_one_refusal, rebuilt_sections_are_bound,
     shown_leaves_are_bound,
 };
 pub use memory::OutOfMemory;
-pub use refusal::Refusal;
 pub use verifying::{check_rows, verify};
 pub use whole::shows_whole_list;

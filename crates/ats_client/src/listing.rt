@@ -15,11 +15,11 @@ ghost use Rattle.ats_client.specs.PresentTerms.{kept_term};
 use crate::marking::{entries, rest_impact, weighed};
 use crate::opening::rebuilt;
 use crate::present::Present;
-use crate::refusal::Refusal;
 use ats_bound::Work;
 use ats_hash::{Hash32, Steps};
 use ats_lists::{Format, chain_rebuild};
 use ats_proof::ProofView;
+use ats_refusal::Refusal;
 use ats_tree::Revealed;
 
 // The digest that the first `k` entries of a list of `f` entries rebuild to, by how the list is hashed, `None` if they are

@@ -11,11 +11,11 @@ ghost use Rattle.ats_client.specs.Marked.{AreMarks, AreNoted};
 use crate::listing::list;
 use crate::present_terms::PresentTerms;
 use crate::presenting::present;
-use crate::refusal::Refusal;
 use crate::walk::Walk;
 use ats_bound::Work;
 use ats_hash::{Hash32, Steps};
 use ats_proof::ProofView;
+use ats_refusal::Refusal;
 use ats_terms::Query;
 
 /// Checks the prefixes of all present terms, makes the marks of the met documents, and keeps the terms. Returns the

@@ -9,10 +9,10 @@ ghost use Rattle.ats_client.specs.Noting.{Note, note, with_note, AreNotes};
 ghost use Rattle.ats_client.specs.Lists.{prefix_of, presented_of};
 
 use crate::present::Present;
-use crate::refusal::Refusal;
 use ats_bound::{Mark, Work};
 use ats_hash::Steps;
 use ats_proof::ListView;
+use ats_refusal::Refusal;
 
 /// The impact that no entry outside the prefix exceeds, if the list has `total` entries.
 #[tactic(auto, unfolding(crate::specs::Lists::prefix_of))]

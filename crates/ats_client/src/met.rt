@@ -6,10 +6,10 @@ ghost use Rattle.ats_bound.specs.Schedule.{Bounding};
 ghost use Rattle.ats_client.specs.Groups.{AreAllMet, IsMetFault};
 ghost use Rattle.ats_client.specs.Marked.{AreMarks};
 
-use crate::refusal::Refusal;
 use ats_bound::Work;
 use ats_hash::Steps;
 use ats_proof::ProofView;
+use ats_refusal::Refusal;
 
 /// Whether some entry names each met document, by the marks of the entries. Each mark is read once, up to
 /// the first of a document that no entry names.

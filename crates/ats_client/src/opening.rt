@@ -5,10 +5,10 @@ ghost use Rattle.ats_tree.specs.Rebuild.{rebuilt};
 ghost use Rattle.ats_terms.specs.Query.{IsQuery};
 ghost use Rattle.ats_client.specs.Groups.{IsOpened, IsOpeningFault, IsDictionary, IsDictFault};
 
-use crate::refusal::Refusal;
 use ats_commit::root_of_header_in;
 use ats_hash::{Hash32, Steps};
 use ats_proof::ProofView;
+use ats_refusal::Refusal;
 use ats_terms::Query;
 use ats_tree::{Revealed, rebuild};
 

@@ -7,10 +7,10 @@ ghost use Rattle.ats_client.specs.Indexes.{AreNames};
 ghost use Rattle.ats_client.specs.Groups.{AreRowsRight, IsRowsFault};
 ghost use Rattle.ats_client.specs.Marked.{AreMarks, AreNoted};
 
-use crate::refusal::Refusal;
 use ats_bound::{Mark, Work};
 use ats_hash::Steps;
 use ats_proof::ProofView;
+use ats_refusal::Refusal;
 
 // Reads a row, after the earlier ones, and notes it in the mark of its document.
 fn read_row(

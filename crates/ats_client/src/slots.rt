@@ -3,10 +3,10 @@
 ghost use Rattle.std.specs.Prelude.{◌≡◌, ◌≤◌, ◌+◌, ◌*◌, ◌^◌, OnOk, IfErr, length};
 ghost use Rattle.ats_client.specs.Groups.{AreSlotsRight, IsSlotsFault};
 
-use crate::refusal::Refusal;
 use crate::walk::Walk;
 use ats_hash::Steps;
 use ats_proof::ProofView;
+use ats_refusal::Refusal;
 use ats_terms::Query;
 
 /// Checks that the slot of each term shows it in the dictionary section.

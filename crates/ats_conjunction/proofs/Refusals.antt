@@ -10,8 +10,8 @@ use Rattle.ats_proof.proofs.Public.{one_value}
 use Rattle.ats_client.proofs.Public.{section_not_kept, one_section}
 use Rattle.ats_conjunction.specs.Rules.{rules, AcceptsBoth, IsFirstRefusal, IsOtherAlgorithm, HasRows, IsSectionFault, IsWhole, IsPart}
 use Rattle.ats_conjunction.specs.Bytes.{AreAcceptedBytes, AreRefusedBytes}
-use Rattle.ats_conjunction.specs.declared.refusal.BothRefusal.{BothRefusal}
-use Rattle.ats_conjunction.specs.declared.refusal.BothRefusal.TheVariants.{NotTra, AnswerShown, Section, NoWholeList}
+use Rattle.ats_refusal.specs.declared.documents.BothRefusal.{BothRefusal}
+use Rattle.ats_refusal.specs.declared.documents.BothRefusal.TheVariants.{NotTra, AnswerShown, Section, NoWholeList}
 
 module _ (H : List ℕ → List ℕ) (root : List ℕ) (query : List (List ℕ × ℕ)) (proof : Proof) where
   one_algorithm : (a b : BothRefusal) → IsOtherAlgorithm proof a → IsOtherAlgorithm proof b → a ≡ b

@@ -2,7 +2,7 @@
 use Rattle.std.specs.Prelude.{ℕ, List}
 use Rattle.ats_proof.specs.Value.{Proof, IsProof}
 use Rattle.ats_conjunction.specs.Rules.{AcceptsBoth, IsFirstRefusal}
-use Rattle.ats_conjunction.specs.declared.refusal.BothRefusal.{BothRefusal}
+use Rattle.ats_refusal.specs.declared.documents.BothRefusal.{BothRefusal}
 
 -- the bytes spell this proof, and it is accepted under the root for the query
 pub record AreAcceptedBytes (H : List ℕ → List ℕ) (root : List ℕ) (query : List (List ℕ × ℕ)) (bytes : List ℕ) (proof : Proof) : Type 0 where

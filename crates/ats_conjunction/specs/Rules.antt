@@ -7,8 +7,8 @@ use Rattle.ats_proof.specs.declared.record.Algorithm.TheVariants.{Tra}
 use Rattle.ats_client.specs.Accepts.{section_rules}
 use Rattle.ats_client.specs.WholeLists.{shows_whole}
 use Rattle.ats_conjunction.specs.Documents.{are_present}
-use Rattle.ats_conjunction.specs.declared.refusal.BothRefusal.{BothRefusal}
-use Rattle.ats_conjunction.specs.declared.refusal.BothRefusal.TheVariants.{NotTra, AnswerShown, Section, NoWholeList}
+use Rattle.ats_refusal.specs.declared.documents.BothRefusal.{BothRefusal}
+use Rattle.ats_refusal.specs.declared.documents.BothRefusal.TheVariants.{NotTra, AnswerShown, Section, NoWholeList}
 
 abbrev pub IsOtherAlgorithm : Proof → BothRefusal → Type 0
 IsOtherAlgorithm proof NotTra = algorithm_of proof ≢ Tra

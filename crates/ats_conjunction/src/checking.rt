@@ -7,13 +7,13 @@ ghost use Rattle.ats_client.specs.Accepts.{section_rules};
 ghost use Rattle.ats_conjunction.specs.Headline.{AreBothOrCollide};
 ghost use Rattle.ats_conjunction.specs.Rules.{AcceptsBoth, IsFirstRefusal, IsSectionFault};
 
-use crate::refusal::BothRefusal;
 use crate::slots::are_present;
 use ats_bound::Work;
-use ats_client::{Refusal, check, shows_whole_list};
+use ats_client::{check, shows_whole_list};
 use ats_hash::{Hash32, Steps};
 use ats_impact::Top;
 use ats_proof::{Algorithm, ProofView};
+use ats_refusal::{BothRefusal, Refusal};
 use ats_terms::Query;
 
 // Checks what a proof without rows shows. Whether its answer would be settled says nothing of that.

@@ -7,7 +7,7 @@ ghost use Rattle.ats_impact.specs.Score.{count};
 ghost use Rattle.ats_proof.specs.Value.{Proof};
 ghost use Rattle.ats_conjunction.specs.Bytes.{AreAcceptedBytes, AreRefusedBytes};
 ghost use Rattle.ats_conjunction.specs.Documents.{both};
-ghost use Rattle.ats_conjunction.specs.declared.refusal.BothRefusal.{BothRefusal};
+ghost use Rattle.ats_refusal.specs.declared.documents.BothRefusal.{BothRefusal};
 
 use ats_hash::HashKind;
 

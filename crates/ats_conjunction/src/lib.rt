@@ -29,11 +29,10 @@
 mod checking;
 mod documents;
 mod laws;
-mod refusal;
 mod slots;
 
 pub use ats_bound::OutOfMemory;
+pub use ats_refusal::BothRefusal;
 pub use checking::check_both;
 pub use documents::both_documents;
 pub use laws::{both_has_all_documents, bytes_are_refused_once};
-pub use refusal::BothRefusal;

@@ -6,8 +6,8 @@ use Rattle.ats_base.proofs.Public.{AreExact, not_kept, one_first}
 use Rattle.ats_consistency.specs.Rules.{rules, AcceptsGrowth, IsFirstRefusal, IsOtherOld, IsOtherNew, IsShrunk, IsMisfit, IsOldTexts, IsNewTexts, digests_needed}
 use Rattle.ats_consistency.specs.Value.{Growth}
 use Rattle.ats_consistency.specs.declared.checking.Grown.{Grown}
-use Rattle.ats_consistency.specs.declared.refusal.GrowthRefusal.{GrowthRefusal}
-use Rattle.ats_consistency.specs.declared.refusal.GrowthRefusal.TheVariants.{OtherOld, OtherNew, Shrunk, GrowthMisfit, OldTexts, NewTexts}
+use Rattle.ats_refusal.specs.declared.growth.GrowthRefusal.{GrowthRefusal}
+use Rattle.ats_refusal.specs.declared.growth.GrowthRefusal.TheVariants.{OtherOld, OtherNew, Shrunk, GrowthMisfit, OldTexts, NewTexts}
 
 module _ (H : List ℕ → List ℕ) (old new : List ℕ) (g : Growth) where
   old-is : (a : GrowthRefusal) → IsOtherOld H old g a → a ≡ OtherOld

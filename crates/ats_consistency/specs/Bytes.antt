@@ -2,7 +2,7 @@
 use Rattle.std.specs.Prelude.{ℕ, List}
 use Rattle.ats_consistency.specs.Rules.{AcceptsGrowth, IsFirstRefusal}
 use Rattle.ats_consistency.specs.Value.{Growth, IsGrowth}
-use Rattle.ats_consistency.specs.declared.refusal.GrowthRefusal.{GrowthRefusal}
+use Rattle.ats_refusal.specs.declared.growth.GrowthRefusal.{GrowthRefusal}
 
 -- the bytes spell a growth that is accepted under these roots
 pub record IsAcceptedGrowth (H : List ℕ → List ℕ) (old new : List ℕ) (bytes : List ℕ) (growth : Growth) : Type 0 where

@@ -5,8 +5,8 @@ use Rattle.ats_commit.specs.Root.{header_root}
 use Rattle.ats_consistency.specs.Pair.{Roots, roots}
 use Rattle.ats_consistency.specs.Shape.{turns, need}
 use Rattle.ats_consistency.specs.Value.{Growth}
-use Rattle.ats_consistency.specs.declared.refusal.GrowthRefusal.{GrowthRefusal}
-use Rattle.ats_consistency.specs.declared.refusal.GrowthRefusal.TheVariants.{OtherOld, OtherNew, Shrunk, GrowthMisfit, OldTexts, NewTexts}
+use Rattle.ats_refusal.specs.declared.growth.GrowthRefusal.{GrowthRefusal}
+use Rattle.ats_refusal.specs.declared.growth.GrowthRefusal.TheVariants.{OtherOld, OtherNew, Shrunk, GrowthMisfit, OldTexts, NewTexts}
 
 -- how many digests show the growth from m to n documents
 abbrev pub digests_needed : ℕ → ℕ → ℕ

@@ -5,10 +5,10 @@ ghost use Rattle.ats_consistency.specs.Headline.{IsGrownOrCollides};
 ghost use Rattle.ats_consistency.specs.Rules.{AcceptsGrowth, IsFirstRefusal, digests_needed, texts_roots};
 
 use crate::pairing::{RootPair, digests_needed, roots_of};
-use crate::refusal::GrowthRefusal;
 use crate::view::GrowthView;
 use ats_commit::root_of_header_in;
 use ats_hash::{Hash32, Steps};
+use ats_refusal::GrowthRefusal;
 
 /// The numbers of documents of an archive that has grown.
 #[derive(Clone, Copy, Debug, PartialEq, Eq)]

@@ -10,7 +10,7 @@ ghost use Rattle.ats_consistency.specs.Rules.{AcceptsGrowth, IsFirstRefusal};
 ghost use Rattle.ats_consistency.specs.Shape.{turns, need};
 ghost use Rattle.ats_consistency.specs.Strings.{ranges, AreRangesOf};
 ghost use Rattle.ats_consistency.specs.Value.{Growth, IsGrowth, AreInRange};
-ghost use Rattle.ats_consistency.specs.declared.refusal.GrowthRefusal.{GrowthRefusal};
+ghost use Rattle.ats_refusal.specs.declared.growth.GrowthRefusal.{GrowthRefusal};
 
 use ats_hash::HashKind;
 

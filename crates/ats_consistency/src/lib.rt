@@ -21,17 +21,16 @@
 //! ```
 #![tactic(auto)]
 
+pub use ats_refusal::GrowthRefusal;
 pub use checking::{Grown, check_growth};
 pub use laws::{
     accepted_growths_are_right, bytes_say_one_growth, digests_give_roots, growth_needs_digests,
     growths_are_refused_once, growths_in_range_are_spelled, ranges_are_old_documents,
 };
 pub use pairing::{digests_needed, next_digest};
-pub use refusal::GrowthRefusal;
 pub use view::{GrowthView, MAGIC};
 
 mod checking;
 mod laws;
 mod pairing;
-mod refusal;
 mod view;

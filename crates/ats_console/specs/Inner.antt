@@ -2,4 +2,3 @@
 
 pub mod Line
 pub mod Meaning
-pub mod Phrase

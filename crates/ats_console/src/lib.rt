@@ -2,7 +2,7 @@
 //! why a command stops.
 //!
 //! The room stands on `ats_plan` for the steps of a command, on `ats_base` for files, on `ats_terms` and `ats_impact` for
-//! queries and collections, on `ats_index` for indexes, and on `ats_client` for the reasons why a proof is rejected.
+//! queries and collections, on `ats_index` for indexes, and on `ats_refusal` for the words of what is refused.
 //! Words mean the command that `specs/Words.antt` says, or none. Each call of [`read`] is a step of a plan
 //! (`specs/Steps.antt`): it comes to what the named file holds, or stops as the step does. Each fault has one stop
 //! ([`Stop`]) with one line, in one table for each type of fault (`specs/Stops.antt`). The commands themselves, and what
@@ -18,19 +18,19 @@
 
 mod collision;
 mod input;
-mod phrases;
 mod print;
 pub mod read;
 mod rejection;
+mod said;
 mod stop_lines;
 mod stops;
 mod words;
 
 pub use collision::{collision_lines, pair_lines, strings_lines};
 pub use input::{JsonFault, read_collection};
-pub use phrases::{Phrase, Said};
 pub use print::{document_lines, lines, proof_line, root_line};
-pub use rejection::{refused_line, rejection_line, rejection_words};
+pub use rejection::{refused_line, rejection_line};
+pub use said::Said;
 pub use stop_lines::Line;
 pub use stops::{
     Stop, bad_line, faults_line, file_too_long, input_stop, peer, proofs_too_long, rejected,

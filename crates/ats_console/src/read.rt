@@ -8,12 +8,12 @@ ghost use Rattle.ats_console.specs.declared.stops.Stop.TheVariants.{Shelf as AtS
 use crate::input::read_collection;
 use crate::stops::{Stop, file_too_long, rejected};
 use ats_base::{Bytes, GatherFault, Shelf, gather};
-use ats_client::Rejection;
 use ats_grammar::MAX_PROOF;
 use ats_hash::Hash32;
 use ats_impact::Collection;
 use ats_index::Index;
 use ats_proof::{ShapeFault, ShapeKind};
+use ats_refusal::Rejection;
 use std::alloc::Global;
 use std::thread::Threads;
 

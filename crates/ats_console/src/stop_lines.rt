@@ -2,7 +2,8 @@
 
 ghost use Rattle.std.specs.Prelude.{◌≡◌, ◌++◌, IfOk};
 
-use crate::phrases::{Phrase, Said};
+use crate::said::Said;
+use ats_refusal::Phrase;
 use std::alloc::{AllocError, Global};
 use std::marker::Model;
 

@@ -6,12 +6,11 @@ ghost use Rattle.ats_console.specs.RejectionLines.{line_of_rejection};
 ghost use Rattle.ats_console.specs.declared.stops.Stop.TheVariants.{Memory, Input, Rejected, Peer};
 
 use crate::input::JsonFault;
-use crate::phrases::Phrase;
 use crate::rejection::rejection_line;
 use crate::stop_lines::Line;
-use ats_client::Rejection;
 use ats_impact::CollectionFault;
 use ats_index::LoadFault;
+use ats_refusal::{Phrase, Rejection};
 use ats_terms::QueryFault;
 use std::alloc::{AllocError, AllocFailed};
 

@@ -19,7 +19,7 @@ use Rattle.ats_tree.proofs.Public.{bound_to, binds-weaker, Collides, difference-
 use Rattle.ats_inclusion.specs.Accepts.{shown_text, AcceptsText}
 use Rattle.ats_inclusion.specs.Strings.{TextPlace, in_texts, own_text_string, text_strings, text_extract, IsOwnText, IsOwnOrCollides}
 use Rattle.ats_inclusion.specs.Value.{TextProof, IsTextInRange}
-use Rattle.ats_inclusion.specs.declared.refusal.TextRefusal.{TextRefusal}
+use Rattle.ats_refusal.specs.declared.text.TextRefusal.{TextRefusal}
 
 -- ---- the header
 

@@ -4,8 +4,8 @@ use Rattle.std.specs.Result.{is_ok, IfErr}
 use Rattle.ats_base.proofs.Public.{AreExact, not_kept, one_first}
 use Rattle.ats_inclusion.specs.Accepts.{IsRooted, IsRootFault, IsInside, IsDocFault, IsFit, IsMisfit, IsTextRooted, IsTextRootFault, text_rules, AcceptsText, IsFirstTextRefusal}
 use Rattle.ats_inclusion.specs.Value.{TextProof}
-use Rattle.ats_inclusion.specs.declared.refusal.TextRefusal.{TextRefusal}
-use Rattle.ats_inclusion.specs.declared.refusal.TextRefusal.TheVariants.{OtherRoot, DocOut, TextMisfit, TextRoot}
+use Rattle.ats_refusal.specs.declared.text.TextRefusal.{TextRefusal}
+use Rattle.ats_refusal.specs.declared.text.TextRefusal.TheVariants.{OtherRoot, DocOut, TextMisfit, TextRoot}
 
 -- ---- a rule that fails does not hold
 

@@ -5,8 +5,8 @@ use Rattle.ats_commit.specs.Root.{header_root}
 use Rattle.ats_tree.specs.Rebuild.{need, rebuilt, tree_of_places}
 use Rattle.ats_tree.specs.Shown.{Shown}
 use Rattle.ats_inclusion.specs.Value.{TextProof}
-use Rattle.ats_inclusion.specs.declared.refusal.TextRefusal.{TextRefusal}
-use Rattle.ats_inclusion.specs.declared.refusal.TextRefusal.TheVariants.{OtherRoot, DocOut, TextMisfit, TextRoot}
+use Rattle.ats_refusal.specs.declared.text.TextRefusal.{TextRefusal}
+use Rattle.ats_refusal.specs.declared.text.TextRefusal.TheVariants.{OtherRoot, DocOut, TextMisfit, TextRoot}
 
 -- the one leaf that is shown of the texts tree: the text, at the document's number
 abbrev pub shown_text : ℕ → List ℕ → List Shown

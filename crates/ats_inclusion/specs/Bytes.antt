@@ -2,7 +2,7 @@
 use Rattle.std.specs.Prelude.{ℕ, List}
 use Rattle.ats_inclusion.specs.Accepts.{AcceptsText, IsFirstTextRefusal}
 use Rattle.ats_inclusion.specs.Value.{TextProof, IsTextProof}
-use Rattle.ats_inclusion.specs.declared.refusal.TextRefusal.{TextRefusal}
+use Rattle.ats_refusal.specs.declared.text.TextRefusal.{TextRefusal}
 
 -- the bytes spell this, and it is accepted under the root for the document
 pub record IsAcceptedText (H : List ℕ → List ℕ) (root : List ℕ) (doc : ℕ) (bytes : List ℕ) (proof : TextProof) : Type 0 where

@@ -5,10 +5,10 @@ ghost use Rattle.ats_inclusion.specs.Accepts.{AcceptsText, IsFirstTextRefusal};
 ghost use Rattle.ats_inclusion.specs.Strings.{IsOwnOrCollides};
 
 use crate::cursor::TextCursor;
-use crate::refusal::TextRefusal;
 use crate::view::TextView;
 use ats_commit::root_of_header_in;
 use ats_hash::{Hash32, Steps};
+use ats_refusal::TextRefusal;
 use ats_tree::rebuild;
 
 // The rules one after another.

@@ -5,7 +5,7 @@ ghost use Rattle.std.specs.Prelude.{◌≡◌, ℕ, List};
 ghost use Rattle.ats_inclusion.specs.Accepts.{AcceptsText, IsFirstTextRefusal};
 ghost use Rattle.ats_inclusion.specs.Strings.{IsOwnOrCollides};
 ghost use Rattle.ats_inclusion.specs.Value.{TextProof, IsTextProof, IsTextInRange};
-ghost use Rattle.ats_inclusion.specs.declared.refusal.TextRefusal.{TextRefusal};
+ghost use Rattle.ats_refusal.specs.declared.text.TextRefusal.{TextRefusal};
 
 use ats_hash::HashKind;
 

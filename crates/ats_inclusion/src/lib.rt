@@ -26,12 +26,11 @@
 mod checking;
 mod cursor;
 mod laws;
-mod refusal;
 mod view;
 
+pub use ats_refusal::TextRefusal;
 pub use checking::check_text;
 pub use laws::{
     accepted_texts_are_own, bytes_say_one_text, texts_have_one_refusal, texts_in_range_are_spelled,
 };
-pub use refusal::TextRefusal;
 pub use view::TextView;

@@ -20,7 +20,8 @@ use Rattle.ats_console.specs.Words.{AuditWords}
 use Rattle.ats_console.specs.Print.{lines}
 use Rattle.ats_console.specs.CollisionLines.{lines_of_collision}
 use Rattle.ats_console.specs.Read.{HasIndex}
-use Rattle.ats_console.specs.Steps.{AsksRanking, checks}
+use Rattle.ats_console.specs.Steps.{AsksRanking}
+use Rattle.ats_top.specs.ProofSteps.{checks}
 use Rattle.ats_top.specs.Collided.{finds_none, lines_of_proof_collision}
 use Rattle.ats_top.specs.Commands.Audit.{IsAuditedRight, audit_plan}
 use Rattle.ats_top.specs.Inner.Stops.{VerdictStop}

@@ -1,6 +1,6 @@
 -- A file that is checked is accepted or refused in one way.
 use Rattle.std.proofs.Common.{◌≡◌, ◌∙◌, List, ℕ, sym, ap, inl, inr}
-use Rattle.ats_client.specs.declared.fault.Rejection.TheVariants.{Shape}
+use Rattle.ats_refusal.specs.declared.proof.Rejection.TheVariants.{Shape}
 use Rattle.ats_grammar.specs.declared.fault.ShapeFault.{ShapeFault}
 use Rattle.ats_plan.specs.Sound.{IsOne}
 use Rattle.ats_console.specs.RejectionLines.{refused_line, line_of_rejection}

@@ -10,7 +10,7 @@ use Rattle.ats_growth.specs.Honest.{IsFirstApart}
 use Rattle.ats_consistency.specs.Rules.{IsFirstRefusal}
 use Rattle.ats_consistency.specs.Value.{Growth, IsGrowth, fields_of}
 use Rattle.ats_consistency.specs.Bytes.{IsAcceptedGrowth, IsRefusedGrowth}
-use Rattle.ats_consistency.specs.declared.refusal.GrowthRefusal.{GrowthRefusal}
+use Rattle.ats_refusal.specs.declared.growth.GrowthRefusal.{GrowthRefusal}
 use Rattle.ats_consistency.proofs.Public.{one_growth, one_refusal, accepted_kept}
 use Rattle.ats_growth.proofs.Public.{not_prefix}
 use Rattle.ats_plan.specs.Sound.{IsExact}

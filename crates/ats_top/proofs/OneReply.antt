@@ -2,7 +2,7 @@
 use Rattle.std.proofs.Common.{◌≡◌, ◌∙◌, ℕ, List, Ok, Err, IsSome, sym, subst, inl, inr}
 use Rattle.ats_base.specs.Links.{CallerTold}
 use Rattle.ats_client.specs.Bytes.{IsAcceptedBytes}
-use Rattle.ats_client.specs.declared.fault.Rejection.{Rejection}
+use Rattle.ats_refusal.specs.declared.proof.Rejection.{Rejection}
 use Rattle.ats_client.proofs.Public.{accepted_kept}
 use Rattle.ats_console.specs.Words.{AskWords, Command, Ask}
 use Rattle.ats_top.specs.Calling.{ReplyDecides}

@@ -7,7 +7,7 @@ use Rattle.ats_inclusion.specs.Grammar.{text_schema}
 use Rattle.ats_inclusion.specs.Value.{TextProof, IsTextProof, fields_of}
 use Rattle.ats_inclusion.specs.Accepts.{IsFirstTextRefusal}
 use Rattle.ats_inclusion.specs.Bytes.{IsAcceptedText, IsRefusedText}
-use Rattle.ats_inclusion.specs.declared.refusal.TextRefusal.{TextRefusal}
+use Rattle.ats_refusal.specs.declared.text.TextRefusal.{TextRefusal}
 use Rattle.ats_inclusion.proofs.Public.{one_text, one_refusal, not_refused}
 use Rattle.ats_top.proofs.OneFile.{IsFileOne}
 

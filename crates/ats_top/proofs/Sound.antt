@@ -24,7 +24,7 @@ use Rattle.ats_index.proofs.Public.{one_archive}
 use Rattle.ats_proof.specs.Value.{Proof}
 use Rattle.ats_proof.specs.declared.record.Algorithm.{Algorithm}
 use Rattle.ats_client.specs.Bytes.{IsAcceptedBytes}
-use Rattle.ats_client.specs.declared.fault.Rejection.{Rejection}
+use Rattle.ats_refusal.specs.declared.proof.Rejection.{Rejection}
 use Rattle.ats_client.proofs.Public.{accepted_kept, one_rejection}
 use Rattle.ats_plan.specs.Files.{Files}
 use Rattle.ats_plan.specs.Plan.{Plan, Finishes, Stores, Fails, Tries, Gets, Makes, Reads}
@@ -36,16 +36,17 @@ use Rattle.ats_console.specs.Input.{AreJsonTexts, IsFirstJsonFault}
 use Rattle.ats_console.specs.Words.{Command, Rank, Build, Root, Prove, Verify, Ask, Serve, Audit, Sweep, Trial, Migrate, Give, Fetch, AuditFetch, ProveBoth, Both, AuditBoth, Grow, Growth, AuditGrowth, SweepWords}
 use Rattle.ats_console.specs.RejectionLines.{line_of_rejection}
 use Rattle.ats_console.specs.Stops.{line_of_rows, line_of_bad_line, stop_of_query, stop_of_json, stop_of_collection, stop_of_load}
+use Rattle.ats_top.specs.ProofSteps.{checks, RejectsBytes}
 use Rattle.ats_top.specs.Listed.{Listed, lines_of, IsListOf, names_of}
 use Rattle.ats_top.specs.Gathered.{total}
 use Rattle.ats_top.specs.Findings.{Finding, is_refused, is_collision, lines_of_findings}
 use Rattle.ats_top.specs.Trial.{IsTrialServed, RefusesTrial}
-use Rattle.ats_console.specs.Steps.{StopsBy, IsRowCount, asks_query, asks_ranking, reads_collection, reads_index, RejectsBytes, checks, checks_file}
+use Rattle.ats_console.specs.Steps.{StopsBy, IsRowCount, asks_query, asks_ranking, reads_collection, reads_index, checks_file}
 use Rattle.ats_top.specs.Commands.{plan_of}
 use Rattle.ats_top.specs.Commands.Prove.{IsNotTooLong, IsUnmade}
 use Rattle.ats_top.specs.Collided.{finds_none}
 use Rattle.ats_top.specs.Commands.Give.{HasDocument, LacksDocument}
-use Rattle.ats_top.specs.TextLines.{text_refusal_words}
+use Rattle.ats_refusal.specs.Words.{text_refusal_words, both_refusal_words, growth_refusal_words}
 use Rattle.ats_top.specs.Commands.Sweep.{IsListStop, PassesRoom, gathers, concludes, audits, sweeps}
 use Rattle.ats_top.specs.declared.gathering.Gathered.{Gathered}
 use Rattle.ats_top.specs.declared.gathering.Gathered.TheVariants.{Whole, Long}
@@ -61,8 +62,6 @@ use Rattle.ats_top.proofs.OneFile.{IsFileOne, file_one, not_usage}
 use Rattle.ats_top.proofs.OneText.{text_file_one}
 use Rattle.ats_top.proofs.OneBoth.{both_file_one, both_length_exact, one_both_bytes}
 use Rattle.ats_top.proofs.OneGrowth.{growth_file_one, kept_exact}
-use Rattle.ats_top.specs.BothLines.{both_refusal_words}
-use Rattle.ats_top.specs.GrowthLines.{growth_refusal_words}
 use Rattle.ats_growth.specs.Honest.{honest}
 use Rattle.ats_consistency.proofs.Public.{one_join as one_growth_join}
 use Rattle.ats_inclusion.proofs.Public.{one_join}

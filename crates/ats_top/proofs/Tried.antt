@@ -16,7 +16,7 @@ use Rattle.ats_proof.specs.declared.record.Slot.{Slot}
 use Rattle.ats_proof.proofs.Public.{one_value}
 use Rattle.ats_honest.specs.Honest.{IsHonest, IsProved, IsTooLong, length_of}
 use Rattle.ats_client.specs.Strings.{extract}
-use Rattle.ats_client.specs.declared.fault.Rejection.TheVariants.{Shape, Check}
+use Rattle.ats_refusal.specs.declared.proof.Rejection.TheVariants.{Shape, Check}
 use Rattle.ats_client.proofs.Public.{accepted_kept}
 use Rattle.ats_audit.specs.Verdicts.{IsVerdict}
 use Rattle.ats_audit.specs.declared.auditing.Verdict.{Verdict}

@@ -12,7 +12,8 @@ use Rattle.ats_plan.specs.Runs.{IsDone, IsStopped}
 use Rattle.ats_plan.proofs.Public.{Leads, done_get, done_end}
 use Rattle.ats_console.specs.Words.{VerifyWords}
 use Rattle.ats_console.specs.Print.{lines}
-use Rattle.ats_console.specs.Steps.{IsRowCount, AsksRanking, RejectsBytes, checks}
+use Rattle.ats_console.specs.Steps.{IsRowCount, AsksRanking}
+use Rattle.ats_top.specs.ProofSteps.{checks, RejectsBytes}
 use Rattle.ats_top.specs.Commands.Verify.{IsVerified, verify_plan}
 use Rattle.ats_console.specs.declared.stops.Stop.{Stop}
 use Rattle.ats_console.specs.declared.stops.Stop.TheVariants.{Shelf, Memory}

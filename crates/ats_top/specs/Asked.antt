@@ -8,7 +8,7 @@ use Rattle.ats_client.specs.Bytes.{IsAcceptedBytes, IsRejectedBytes}
 use Rattle.ats_client.specs.Headline.{IsTopOrCollides}
 use Rattle.ats_client.specs.Rows.{rows_of}
 use Rattle.ats_audit.specs.Verdicts.{IsTopOrTold}
-use Rattle.ats_client.specs.declared.fault.Rejection.{Rejection}
+use Rattle.ats_refusal.specs.declared.proof.Rejection.{Rejection}
 use Rattle.ats_console.specs.Words.{AskWords}
 use Rattle.ats_console.specs.Print.{lines}
 use Rattle.ats_top.specs.Conversation.{Converses, LosesLink, HearsFault}

@@ -7,7 +7,7 @@ use Rattle.ats_conjunction.specs.Bytes.{AreAcceptedBytes, AreRefusedBytes}
 use Rattle.ats_plan.specs.Plan.{Plan}
 use Rattle.ats_console.specs.Steps.{RejectsFile, checks_file}
 use Rattle.ats_console.specs.declared.stops.Stop.{Stop}
-use Rattle.ats_top.specs.BothLines.{both_refusal_words}
+use Rattle.ats_refusal.specs.Words.{both_refusal_words}
 
 -- the line is that of the first reason for which the bytes are not accepted as such a proof
 abbrev pub RejectsBoth : (List ℕ → List ℕ) → (root : List ℕ) → List (List ℕ × ℕ) → (bytes : List ℕ) → Stop → Type 0

@@ -10,12 +10,12 @@ use Rattle.ats_commit.specs.Root.{root_of}
 use Rattle.ats_proof.specs.declared.record.Algorithm.{Algorithm}
 use Rattle.ats_honest.specs.Honest.{IsProved}
 use Rattle.ats_client.specs.Bytes.{IsRejectedBytes}
-use Rattle.ats_client.specs.declared.fault.Rejection.{Rejection}
+use Rattle.ats_refusal.specs.declared.proof.Rejection.{Rejection}
 use Rattle.ats_audit.specs.Verdicts.{IsFoundRight, IsFoundCollision}
 use Rattle.ats_plan.specs.Files.{Files, IsFile}
 use Rattle.ats_console.specs.Words.{SweepWords}
 use Rattle.ats_console.specs.Read.{HasIndex}
-use Rattle.ats_console.specs.RejectionLines.{rejection_words}
+use Rattle.ats_refusal.specs.Words.{rejection_words}
 use Rattle.ats_top.specs.Listed.{Listed, IsList, names_of}
 use Rattle.ats_top.specs.Gathered.{AreGathered}
 use Rattle.ats_console.specs.Steps.{too_long}

@@ -2,8 +2,6 @@
 use Rattle.std.specs.Prelude.{◌++◌, ℕ, List, codes, decimal}
 use Rattle.ats_tree.specs.Differences.{Difference}
 use Rattle.ats_consistency.specs.Strings.{Beside}
-use Rattle.ats_consistency.specs.declared.refusal.GrowthRefusal.{GrowthRefusal}
-use Rattle.ats_consistency.specs.declared.refusal.GrowthRefusal.TheVariants.{OtherOld, OtherNew, Shrunk, GrowthMisfit, OldTexts, NewTexts}
 use Rattle.ats_console.specs.CollisionLines.{lines_of_pair}
 use Rattle.ats_console.specs.Stops.{input_line}
 
@@ -18,14 +16,6 @@ line_of_differing doc = input_line (codes "document " ++ (decimal doc ++ codes "
 -- grown M N: the numbers of documents of the old and of the new archive
 abbrev pub line_of_grown : ℕ → ℕ → List ℕ
 line_of_grown old new = codes "grown " ++ (decimal old ++ (codes " " ++ (decimal new ++ codes "\n")))
-
-abbrev pub growth_refusal_words : GrowthRefusal → List ℕ
-growth_refusal_words OtherOld = codes "other-old"
-growth_refusal_words OtherNew = codes "other-new"
-growth_refusal_words (Shrunk old new) = codes "shrunk " ++ (decimal old ++ (codes " " ++ decimal new))
-growth_refusal_words (GrowthMisfit digests) = codes "growth-misfit " ++ decimal digests
-growth_refusal_words OldTexts = codes "old-texts"
-growth_refusal_words NewTexts = codes "new-texts"
 
 -- the part of a pair of strings, and the two in their order
 abbrev pub lines_of_growth_collision : Difference Beside → List ℕ

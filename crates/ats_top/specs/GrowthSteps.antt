@@ -7,7 +7,7 @@ use Rattle.ats_consistency.specs.Bytes.{IsAcceptedGrowth, IsRefusedGrowth}
 use Rattle.ats_plan.specs.Plan.{Plan}
 use Rattle.ats_console.specs.Steps.{reads_shaped, RejectsFile, checks_file}
 use Rattle.ats_console.specs.declared.stops.Stop.{Stop}
-use Rattle.ats_top.specs.GrowthLines.{growth_refusal_words}
+use Rattle.ats_refusal.specs.Words.{growth_refusal_words}
 
 -- the bytes of a file that shows a growth
 abbrev pub reads_growth : (name : List ℕ) → (List ℕ → Plan Stop) → Plan Stop

@@ -2,8 +2,6 @@
 use Rattle.std.specs.Prelude.{◌++◌, ℕ, List, Bool, true, false, codes, decimal}
 use Rattle.ats_tree.specs.Differences.{Difference}
 use Rattle.ats_inclusion.specs.Strings.{TextPlace}
-use Rattle.ats_inclusion.specs.declared.refusal.TextRefusal.{TextRefusal}
-use Rattle.ats_inclusion.specs.declared.refusal.TextRefusal.TheVariants.{OtherRoot, DocOut, TextMisfit, TextRoot}
 use Rattle.ats_console.specs.CollisionLines.{lines_of_strings}
 use Rattle.ats_console.specs.Stops.{input_line}
 
@@ -18,12 +16,6 @@ line_of_document doc = input_line (codes "document " ++ decimal doc)
 -- the bytes of a text as they are, and a line feed
 abbrev pub printed_text : List ℕ → List ℕ
 printed_text text = text ++ codes "\n"
-
-abbrev pub text_refusal_words : TextRefusal → List ℕ
-text_refusal_words OtherRoot = codes "other-root"
-text_refusal_words (DocOut documents) = codes "doc-out " ++ decimal documents
-text_refusal_words (TextMisfit digests) = codes "text-misfit " ++ decimal digests
-text_refusal_words TextRoot = codes "text-root"
 
 abbrev pub text_tree_words : Bool → List ℕ
 text_tree_words true = codes "header"

@@ -7,7 +7,7 @@ use Rattle.ats_inclusion.specs.Bytes.{IsAcceptedText, IsRefusedText}
 use Rattle.ats_plan.specs.Plan.{Plan}
 use Rattle.ats_console.specs.Steps.{reads_shaped, RejectsFile, checks_file}
 use Rattle.ats_console.specs.declared.stops.Stop.{Stop}
-use Rattle.ats_top.specs.TextLines.{text_refusal_words}
+use Rattle.ats_refusal.specs.Words.{text_refusal_words}
 
 -- the bytes of a file that gives a text
 abbrev pub reads_text : (name : List ℕ) → (List ℕ → Plan Stop) → Plan Stop

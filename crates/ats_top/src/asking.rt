@@ -10,11 +10,11 @@ ghost use Rattle.ats_top.specs.Conversation.{stop_of_asking};
 
 use crate::verifying::verify_to_lines;
 use ats_base::Caller;
-use ats_client::Rejection;
-use ats_console::{Phrase, Stop, peer, rejected};
+use ats_console::{Stop, peer, rejected};
 use ats_hash::Hash32;
 use ats_impact::Top;
 use ats_prover::Algorithm;
+use ats_refusal::{Phrase, Rejection};
 use ats_terms::Query;
 use ats_wire::{AskFault, Fed, ask_fed};
 use std::alloc::Global;

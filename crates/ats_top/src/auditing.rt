@@ -13,11 +13,11 @@ ghost use Rattle.ats_console.specs.declared.stops.Stop.TheVariants.{Shelf as AtS
 
 use ats_audit::Verdict;
 use ats_base::Shelf;
-use ats_client::Rejection;
 use ats_console::{Line, Stop, collision_lines, lines, read, rejected};
 use ats_hash::Hash32;
 use ats_impact::Top;
 use ats_index::Index;
+use ats_refusal::Rejection;
 use ats_terms::Query;
 use std::alloc::Global;
 use std::thread::Threads;

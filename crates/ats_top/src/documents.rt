@@ -11,7 +11,8 @@ ghost use Rattle.ats_plan.specs.Runs.{IsDone, IsStopped};
 ghost use Rattle.ats_console.specs.Print.{lines_of_documents};
 ghost use Rattle.ats_console.specs.RejectionLines.{refused_line};
 ghost use Rattle.ats_console.specs.declared.stops.Stop.TheVariants.{Shelf as AtShelf, Memory, Rejected};
-ghost use Rattle.ats_top.specs.BothLines.{line_of_both, both_refusal_words};
+ghost use Rattle.ats_refusal.specs.Words.{both_refusal_words};
+ghost use Rattle.ats_top.specs.BothLines.{line_of_both};
 ghost use Rattle.ats_top.specs.BothSteps.{RejectsBoth};
 ghost use Rattle.ats_top.specs.Commands.ProveBoth.{AreBothBytes, prove_both_plan};
 ghost use Rattle.ats_top.specs.Commands.Both.{both_plan};
@@ -20,30 +21,16 @@ ghost use Rattle.ats_top.specs.Inner.Documents.{BothMakingStop, TellsBoth, Tells
 
 use crate::making::proof_too_long;
 use ats_base::{Bytes, Shelf, store};
-use ats_both::{BothFault, BothRefusal, BothVerdict, both_documents, check_both};
+use ats_both::{BothFault, BothVerdict, both_documents, check_both};
 use ats_bound::Work;
-use ats_client::Rejection;
-use ats_console::{
-    Line, Phrase, Stop, collision_lines, document_lines, read, refused_line, rejected,
-    rejection_words,
-};
+use ats_console::{Line, Stop, collision_lines, document_lines, read, refused_line, rejected};
 use ats_hash::{Hash32, Steps};
 use ats_index::Index;
 use ats_proof::ProofView;
+use ats_refusal::{BothRefusal, Rejection, both_refusal_words};
 use ats_terms::Query;
 use std::alloc::{AllocError, Global};
 use std::thread::Threads;
-
-fn both_refusal_words(refusal: BothRefusal) -> Phrase
-    ensures { result ≡ both_refusal_words refusal }
-{
-    match refusal {
-        BothRefusal::NotTra => Phrase::plain("not-tra"),
-        BothRefusal::AnswerShown { rows } => Phrase::number("answer-shown ", rows as u64),
-        BothRefusal::Section(refusal) => rejection_words(Rejection::Check(refusal)),
-        BothRefusal::NoWholeList => Phrase::plain("no-whole-list"),
-    }
-}
 
 // The stop of a proof that is refused.
 fn both_refused(refusal: BothRefusal) -> Stop

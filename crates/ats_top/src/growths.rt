@@ -10,7 +10,8 @@ ghost use Rattle.ats_growth.specs.Verdicts.{IsGrowthVerdict, collision_of};
 ghost use Rattle.ats_plan.specs.Runs.{IsDone, IsStopped};
 ghost use Rattle.ats_console.specs.RejectionLines.{refused_line};
 ghost use Rattle.ats_console.specs.declared.stops.Stop.TheVariants.{Shelf as AtShelf, Memory, Input, Rejected};
-ghost use Rattle.ats_top.specs.GrowthLines.{line_of_growth_size, line_of_differing, line_of_grown, growth_refusal_words, lines_of_growth_collision};
+ghost use Rattle.ats_refusal.specs.Words.{growth_refusal_words};
+ghost use Rattle.ats_top.specs.GrowthLines.{line_of_growth_size, line_of_differing, line_of_grown, lines_of_growth_collision};
 ghost use Rattle.ats_top.specs.GrowthSteps.{RejectsGrowth};
 ghost use Rattle.ats_top.specs.Commands.Grow.{HasKept, grow_plan};
 ghost use Rattle.ats_top.specs.Commands.Growth.{growth_plan};
@@ -18,11 +19,11 @@ ghost use Rattle.ats_top.specs.Commands.AuditGrowth.{audit_growth_plan};
 ghost use Rattle.ats_top.specs.Inner.Growths.{GrowingStop, TellsGrown, GrowthVerdictStop};
 
 use ats_base::{Bytes, Shelf, store};
-use ats_client::Rejection;
-use ats_console::{Line, Phrase, Stop, input_stop, pair_lines, read, refused_line, rejected};
-use ats_growth::{GrowFault, Grown, GrowthRefusal, GrowthVerdict, GrowthView, check_growth};
+use ats_console::{Line, Stop, input_stop, pair_lines, read, refused_line, rejected};
+use ats_growth::{GrowFault, Grown, GrowthVerdict, GrowthView, check_growth};
 use ats_hash::{Hash32, Steps};
 use ats_index::Index;
+use ats_refusal::{GrowthRefusal, Phrase, Rejection, growth_refusal_words};
 use std::alloc::{AllocError, Global};
 use std::thread::Threads;
 
@@ -34,21 +35,6 @@ fn differs(doc: u32) -> Stop
     ensures { result ≡ Input (line_of_differing doc) }
 {
     input_stop(Phrase::around("document ", doc as u64, " differs"))
-}
-
-fn growth_refusal_words(refusal: GrowthRefusal) -> Phrase
-    ensures { result ≡ growth_refusal_words refusal }
-{
-    match refusal {
-        GrowthRefusal::OtherOld => Phrase::plain("other-old"),
-        GrowthRefusal::OtherNew => Phrase::plain("other-new"),
-        GrowthRefusal::Shrunk { old, new } => Phrase::numbers(
-            "shrunk ", old as u64, " ", new as u64,
-        ),
-        GrowthRefusal::GrowthMisfit { digests } => Phrase::number("growth-misfit ", digests as u64),
-        GrowthRefusal::OldTexts => Phrase::plain("old-texts"),
-        GrowthRefusal::NewTexts => Phrase::plain("new-texts"),
-    }
 }
 
 // The stop of a growth that is refused.

@@ -8,12 +8,13 @@ ghost use Rattle.ats_console.specs.declared.stops.Stop.TheVariants.{Input};
 ghost use Rattle.ats_top.specs.Inner.Stops.{MakingStop, stop_of_proof};
 
 use ats_base::Bytes;
-use ats_console::{Phrase, Stop, input_stop};
+use ats_console::{Stop, input_stop};
 use ats_grammar::MAX_PROOF;
 use ats_hash::HashKind;
 use ats_impact::Top;
 use ats_index::Index;
 use ats_prover::{Algorithm, ProveFault, prove_within};
+use ats_refusal::Phrase;
 use ats_terms::Query;
 use std::alloc::Global;
 

@@ -16,10 +16,10 @@ use crate::gathering::{Gathered, gather_all};
 use crate::listing::{Entry, read_entries};
 use ats_audit::{Job, Verdict, Verdicts};
 use ats_base::Shelf;
-use ats_client::Rejection;
-use ats_console::{Line, Stop, read, rejection_words};
+use ats_console::{Line, Stop, read};
 use ats_hash::Hash32;
 use ats_index::Index;
+use ats_refusal::{Rejection, rejection_words};
 use std::alloc::{AllocError, Global};
 use std::thread::Threads;
 

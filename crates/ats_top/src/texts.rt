@@ -9,7 +9,8 @@ ghost use Rattle.ats_fetch.specs.Verdicts.{IsFoundOwn, IsTextVerdict, difference
 ghost use Rattle.ats_plan.specs.Runs.{IsDone, IsStopped};
 ghost use Rattle.ats_console.specs.RejectionLines.{refused_line};
 ghost use Rattle.ats_console.specs.declared.stops.Stop.TheVariants.{Shelf as AtShelf, Memory, Input, Rejected};
-ghost use Rattle.ats_top.specs.TextLines.{line_of_text_size, line_of_document, printed_text, text_refusal_words, lines_of_text_collision};
+ghost use Rattle.ats_refusal.specs.Words.{text_refusal_words};
+ghost use Rattle.ats_top.specs.TextLines.{line_of_text_size, line_of_document, printed_text, lines_of_text_collision};
 ghost use Rattle.ats_top.specs.TextSteps.{RejectsText};
 ghost use Rattle.ats_top.specs.Commands.Give.{HasDocument, give_plan};
 ghost use Rattle.ats_top.specs.Commands.Fetch.{fetch_plan};
@@ -17,11 +18,11 @@ ghost use Rattle.ats_top.specs.Commands.AuditFetch.{audit_fetch_plan};
 ghost use Rattle.ats_top.specs.Inner.Texts.{GivingStop, TextVerdictStop};
 
 use ats_base::{Bytes, Shelf, store};
-use ats_client::Rejection;
-use ats_console::{Line, Phrase, Stop, input_stop, read, refused_line, rejected, strings_lines};
-use ats_fetch::{TextClash, TextRefusal, TextVerdict, TextView, audit_text, check_text, give_text};
+use ats_console::{Line, Stop, input_stop, read, refused_line, rejected, strings_lines};
+use ats_fetch::{TextClash, TextVerdict, TextView, audit_text, check_text, give_text};
 use ats_hash::{Hash32, Steps};
 use ats_index::Index;
+use ats_refusal::{Phrase, Rejection, TextRefusal, text_refusal_words};
 use std::alloc::{AllocError, Global};
 use std::thread::Threads;
 
@@ -33,17 +34,6 @@ fn lacks_document(doc: u32) -> Stop
     ensures { result ≡ Input (line_of_document doc) }
 {
     input_stop(Phrase::number("document ", doc as u64))
-}
-
-fn text_refusal_words(refusal: TextRefusal) -> Phrase
-    ensures { result ≡ text_refusal_words refusal }
-{
-    match refusal {
-        TextRefusal::OtherRoot => Phrase::plain("other-root"),
-        TextRefusal::DocOut { documents } => Phrase::number("doc-out ", documents as u64),
-        TextRefusal::TextMisfit { digests } => Phrase::number("text-misfit ", digests as u64),
-        TextRefusal::TextRoot => Phrase::plain("text-root"),
-    }
 }
 
 // The stop of a text that is refused.

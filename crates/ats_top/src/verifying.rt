@@ -7,7 +7,7 @@ ghost use Rattle.ats_client.specs.Bytes.{AreVerifiedRows};
 ghost use Rattle.ats_plan.specs.Plan.{ComesToShelf};
 ghost use Rattle.ats_plan.specs.Runs.{IsDone, IsStopped};
 ghost use Rattle.ats_console.specs.Print.{lines};
-ghost use Rattle.ats_console.specs.Steps.{RejectsBytes};
+ghost use Rattle.ats_top.specs.ProofSteps.{RejectsBytes};
 ghost use Rattle.ats_top.specs.Commands.Verify.{verify_plan};
 ghost use Rattle.ats_console.specs.declared.stops.Stop.TheVariants.{Shelf as AtShelf, Memory};
 

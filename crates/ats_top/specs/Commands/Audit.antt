@@ -15,8 +15,9 @@ use Rattle.ats_plan.specs.Plan.{Plan, Finishes}
 use Rattle.ats_console.specs.Words.{AuditWords}
 use Rattle.ats_console.specs.Print.{lines}
 use Rattle.ats_console.specs.Read.{HasIndex}
-use Rattle.ats_console.specs.Steps.{AsksRanking, asks_ranking, reads_index, reads_proof, checks}
+use Rattle.ats_console.specs.Steps.{AsksRanking, asks_ranking, reads_index, reads_proof}
 use Rattle.ats_console.specs.declared.stops.Stop.{Stop}
+use Rattle.ats_top.specs.ProofSteps.{checks}
 use Rattle.ats_top.specs.Collided.{finds_none, lines_of_proof_collision}
 
 -- The first named file is the index of an archive, and the bytes of the second are accepted as a proof under its root.

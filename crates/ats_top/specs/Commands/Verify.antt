@@ -10,8 +10,9 @@ use Rattle.ats_plan.specs.Files.{Files, IsFile}
 use Rattle.ats_plan.specs.Plan.{Plan, Finishes}
 use Rattle.ats_console.specs.Words.{VerifyWords}
 use Rattle.ats_console.specs.Print.{lines}
-use Rattle.ats_console.specs.Steps.{AsksRanking, asks_ranking, reads_proof, checks}
+use Rattle.ats_console.specs.Steps.{AsksRanking, asks_ranking, reads_proof}
 use Rattle.ats_console.specs.declared.stops.Stop.{Stop}
+use Rattle.ats_top.specs.ProofSteps.{checks}
 
 -- the named file's bytes are accepted as this proof, under the root and for the query of the words
 pub record IsAccepted (H : List ℕ → List ℕ) (files : Files) (words : VerifyWords) : Type 0 where

@@ -6,7 +6,8 @@ use Rattle.ats_client.specs.Bytes.{IsAcceptedBytes}
 use Rattle.ats_client.specs.Strings.{extract}
 use Rattle.ats_console.specs.Words.{AskWords}
 use Rattle.ats_plan.specs.Plan.{Refuses}
-use Rattle.ats_console.specs.Steps.{AsksRanking, RejectsBytes}
+use Rattle.ats_console.specs.Steps.{AsksRanking}
+use Rattle.ats_top.specs.ProofSteps.{RejectsBytes}
 use Rattle.ats_top.specs.Commands.Ask.{ask_plan}
 use Rattle.ats_console.specs.declared.stops.Stop.{Stop}
 use Rattle.ats_console.specs.declared.stops.Stop.TheVariants.{Shelf, Memory, Input}

@@ -1,7 +1,7 @@
 -- The results of the steps of `sweep`: for the list, its proofs, the audits, and the lines.
 use Rattle.std.specs.Prelude.{◌≡◌, ◌^◌, ℕ, true, false, List, map}
 use Rattle.std.specs.List.{AllZip, list_any, zip}
-use Rattle.ats_client.specs.declared.fault.Rejection.TheVariants.{Shape, Check}
+use Rattle.ats_refusal.specs.declared.proof.Rejection.TheVariants.{Shape, Check}
 use Rattle.ats_grammar.specs.declared.fault.ShapeKind.TheVariants as kind
 use Rattle.ats_audit.specs.declared.auditing.Verdict.{Verdict}
 use Rattle.ats_audit.specs.declared.auditing.Verdict.TheVariants as verdict

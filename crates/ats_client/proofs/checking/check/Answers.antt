@@ -1,7 +1,7 @@
 use Rattle.std.proofs.Common.{ℕ, Result, Ok, Err}
 use Rattle.std.specs.Result.{OnOk}
 use Rattle.ats_proof.specs.Value.{IsProof, Proof}
-use Rattle.ats_client.specs.declared.refusal.Refusal.{Refusal}
+use Rattle.ats_refusal.specs.declared.proof.Refusal.{Refusal}
 use Rattle.ats_client.proofs.OneRefusal.{accepted}
 use Rattle.ats_client.proofs.Headline.{top_or_collides}
 use Rattle.ats_client.proofs.checking.check.Goals as goal

@@ -4,7 +4,7 @@ use Rattle.ats_commit.specs.Ours.{asked_term}
 use Rattle.ats_proof.specs.declared.record.Slot.{Slot}
 use Rattle.ats_proof.specs.SeenDocs.{section_of}
 use Rattle.ats_proof.specs.Value.{ShownTerm, TermsSection}
-use Rattle.ats_client.specs.declared.refusal.Refusal.TheVariants.{TermSlot}
+use Rattle.ats_refusal.specs.declared.proof.Refusal.TheVariants.{TermSlot}
 use Rattle.ats_client.specs.declared.term.Term.{Term}
 use Rattle.ats_client.specs.Bracketing.{impact_shown}
 use Rattle.ats_client.specs.Documents.{term_shown}

@@ -7,7 +7,7 @@ use Rattle.ats_proof.specs.SeenDocs.{documents_of, ids_of, doc_leaves_of, sectio
 use Rattle.ats_proof.specs.Value.{TermsSection, Documents, Proof, present_in, items_of_section}
 use Rattle.ats_proof.specs.Ranges.{IsSectionInRange}
 use Rattle.ats_client.specs.declared.present_terms.PresentTerm.{PresentTerm}
-use Rattle.ats_client.specs.declared.refusal.Refusal.{Refusal}
+use Rattle.ats_refusal.specs.declared.proof.Refusal.{Refusal}
 use Rattle.ats_client.specs.Bracketing.{impact_shown}
 use Rattle.ats_client.specs.Documents.{present_numbers, IsDocumentRight, document_rules, IsDocumentsFault}
 use Rattle.ats_client.specs.PresentTerms.{numbers_of, bare_lanes}

@@ -1,7 +1,7 @@
 use Rattle.std.proofs.Common.{subst, inl, inr}
 use Rattle.ats_client.specs.Accepts as client
-use Rattle.ats_client.specs.declared.refusal.Refusal.{Refusal}
-use Rattle.ats_client.specs.declared.refusal.Refusal.TheVariants.{NotSettled}
+use Rattle.ats_refusal.specs.declared.proof.Refusal.{Refusal}
+use Rattle.ats_refusal.specs.declared.proof.Refusal.TheVariants.{NotSettled}
 use Rattle.ats_client.proofs.Public.{never_unsettled, refused_sections}
 use Rattle.ats_conjunction.proofs.checking.sections.Goals as goal
 

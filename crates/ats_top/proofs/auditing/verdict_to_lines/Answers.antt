@@ -1,5 +1,5 @@
 use Rattle.std.proofs.Common.{inl, inr, ap, ◌∙◌}
-use Rattle.ats_client.specs.declared.fault.Rejection.TheVariants.{Shape, Check}
+use Rattle.ats_refusal.specs.declared.proof.Rejection.TheVariants.{Shape, Check}
 use Rattle.ats_console.specs.declared.stops.Stop.TheVariants.{Collision}
 use Rattle.ats_top.proofs.AuditEnds.{collision_stops}
 use Rattle.ats_top.proofs.auditing.verdict_to_lines.Goals as goal

@@ -1,8 +1,8 @@
-//! Why a proof is refused.
+//! Why a proof of all documents that have every term is refused.
 
-use ats_client::Refusal;
+use crate::proof::Refusal;
 
-/// The first rule that a proof breaks, in this order.
+/// The first rule that such a proof breaks, in this order.
 #[derive(Clone, Copy, Debug, PartialEq, Eq)]
 pub enum BothRefusal {
     /// The proof does not show the terms of its met documents: its algorithm is TNRA.

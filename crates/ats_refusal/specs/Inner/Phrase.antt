@@ -1,7 +1,7 @@
 -- The text of words with numbers between them.
 use Rattle.std.specs.Prelude.{◌++◌, ℕ, List, decimal}
-use Rattle.ats_console.specs.declared.phrases.Form.{Form}
-use Rattle.ats_console.specs.declared.phrases.Form.TheVariants.{Plain, Number, Numbers, Around}
+use Rattle.ats_refusal.specs.declared.phrases.Form.{Form}
+use Rattle.ats_refusal.specs.declared.phrases.Form.TheVariants.{Plain, Number, Numbers, Around}
 
 abbrev pub text_of_form : Form → List ℕ
 text_of_form (Plain words) = words.now

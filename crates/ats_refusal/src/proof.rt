@@ -1,5 +1,7 @@
 //! Why a proof is refused.
 
+use ats_grammar::ShapeFault;
+
 /// The first rule that a proof breaks. Terms are counted from 0 in the byte order of the query's terms, absent ones
 /// included; entries of a prefix, met documents and rows are counted from 0.
 #[derive(Clone, Copy, Debug, PartialEq, Eq)]
@@ -40,4 +42,13 @@ pub enum Refusal {
     AnswerRepeated { row: u32 },
     /// What is shown does not prove the answer right.
     NotSettled,
+}
+
+/// What is wrong with bytes as a proof: their shape, or the first rule that the proof breaks.
+#[derive(Clone, Copy, Debug, PartialEq, Eq)]
+pub enum Rejection {
+    /// The bytes spell no proof.
+    Shape(ShapeFault),
+    /// The first rule that the proof breaks.
+    Check(Refusal),
 }

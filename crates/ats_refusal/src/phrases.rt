@@ -1,4 +1,4 @@
-//! Phrases: words with numbers between them, and lines of them.
+//! Phrases: words with numbers between them.
 
 ghost use Rattle.std.specs.Prelude.{◌≡◌, ◌++◌, decimal, IfOk, string_bytes};
 
@@ -21,7 +21,7 @@ pub struct Phrase {
 
 impl Model for Phrase {
     ghost use Rattle.std.specs.Prelude.{ℕ, List};
-    ghost use Rattle.ats_console.specs.Inner.Phrase.{text_of_form};
+    ghost use Rattle.ats_refusal.specs.Inner.Phrase.{text_of_form};
 
     ghost Value = { List ℕ };
 
@@ -77,38 +77,5 @@ impl Phrase {
             }
             Form::Around(front, number, end) => format!(in alloc; "{front}{number}{end}"),
         }
-    }
-}
-
-/// A line of a phrase, between the first word and the end of the line. It needs no memory until it is printed.
-#[derive(Drop)]
-pub struct Said {
-    front: &'static str,
-    phrase: Phrase,
-    end: &'static str,
-}
-
-impl Model for Said {
-    ghost use Rattle.std.specs.Prelude.{◌++◌, ℕ, List};
-
-    ghost Value = { List ℕ };
-
-    ghost view = { λ said. said.front.now ++ (said.phrase ++ said.end.now) };
-}
-
-impl Said {
-    pub fn new(front: &'static str, phrase: Phrase, end: &'static str) -> Said
-        ensures { result ≡ front.now ++ (phrase ++ end.now) }
-    {
-        Said { front, phrase, end }
-    }
-
-    /// The text that it is printed as.
-    pub fn text(self, alloc: Global) -> Result<String, AllocError>
-        ensures { IfOk result (λ text. string_bytes text ≡ self) }
-    {
-        let (front, end) = (self.front, self.end);
-        let words = self.phrase.text(alloc)?;
-        format!(in alloc; "{front}{words}{end}")
     }
 }
