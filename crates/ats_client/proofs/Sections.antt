@@ -110,8 +110,8 @@ pub in_one_list : (H : List ℕ → List ℕ) (own : Place → Option (List ℕ)
 in_one_list H own tree ss found is = ap (option_map (moved_collision (in_tree tree))) is ∙ sym (collision-moved H (in_tree tree) own ss)
 
 -- the place of a clash, by the numbers that it has
-pub clash_placed : (tree : Tree) (clash : found.Clash) → clash.turns < 2 ^ clash.depth
-    → Some (difference_in tree clash) ≡ Some (placed_in tree (nodes.difference_of clash))
+pub clash_placed : (tree : Tree) (clash : found.Clash (List ℕ)) → clash.turns < 2 ^ clash.depth
+    → Some (difference_in tree clash) ≡ Some (placed_in tree (nodes.difference_of (λ s. s) clash))
 clash_placed tree clash inside =
     ap (λ (at : NodeNumbers). Some (let c : Difference Place = record { place = in_tree tree at; ours = clash.ours; theirs = clash.theirs } in c))
     (sym (numbers-back clash.depth clash.turns inside))

@@ -26,7 +26,7 @@ abbrev pub difference_of : Clash → Difference Place
 difference_of clash = record { place = clash.place; ours = clash.ours; theirs = clash.theirs }
 
 -- the two strings of a clash that was found in a tree or in a list
-abbrev pub difference_in : Tree → found.Clash → Difference Place
+abbrev pub difference_in : Tree → found.Clash (List ℕ) → Difference Place
 difference_in tree clash = record {
   place = record { tree = tree; depth = clash.depth; turns = clash.turns };
   ours = clash.ours;

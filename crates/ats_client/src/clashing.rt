@@ -109,7 +109,7 @@ fn header<'a, H: Hash32, O: OwnStrings<H>>(
     let theirs = string_of_header(format, &header);
     let digest = root_of_header_in::<H>(format, &header, steps);
     match own.hashed_string(&place, query) {
-        Some(ours) if collides::<H>(&ours, &theirs, &digest, steps) => Some(Clash {
+        Some(ours) if collides::<H, _>(&ours, &theirs, &digest, steps) => Some(Clash {
             place,
             ours,
             theirs,
@@ -151,14 +151,14 @@ fn in_tree<'a, H: Hash32, O: OwnStrings<H>, R: Revealed<'a> + Copy>(
         tree,
         kind: PhantomData,
     };
-    match ats_tree::first_clash::<H, R, _>(leaves, revealed, &nodes, steps) {
+    match ats_tree::first_clash::<H, R, HashedString, _>(leaves, revealed, &nodes, steps) {
         Some(clash) => Some(placed(tree, &clash)),
         None => None,
     }
 }
 
 // A clash of a tree, with its place.
-fn placed(tree: Tree, clash: &ats_tree::Clash) -> Clash
+fn placed(tree: Tree, clash: &ats_tree::Clash<HashedString>) -> Clash
     ensures { difference_of result ≡ difference_in tree clash.now }
 {
     Clash {

@@ -20,7 +20,7 @@ pub(crate) struct OneTree<'r, H, O> {
     pub ghost asked: { (term : ℕ) → tree ≡ ListOf term → term < length query.now },
 }
 
-impl<H: Hash32, O: OwnStrings<H>> OwnNodes for OneTree<'_, H, O> {
+impl<H: Hash32, O: OwnStrings<H>> OwnNodes<HashedString> for OneTree<'_, H, O> {
     ghost use Rattle.ats_tree.specs.Nodes.{numbers_of};
     ghost use Rattle.ats_commit.specs.Ours.{ours};
     ghost use Rattle.ats_commit.specs.Places.{in_tree};

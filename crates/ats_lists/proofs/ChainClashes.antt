@@ -79,11 +79,11 @@ no-clash H ours j ss shallow none =
     still (Some d) e = absurd (cc)
 
 -- a clash in the tree of block j, with these numbers, is one of the list
-abbrev in_list_at : ℕ → Clash → Difference NodeNumbers
+abbrev in_list_at : ℕ → Clash (List ℕ) → Difference NodeNumbers
 in_list_at j clash =
     record { place = record { depth = 1 + clash.depth; turns = 64 * j + clash.turns }; ours = clash.ours; theirs = clash.theirs }
 
-pub record IsTreeClash (H : List ℕ → List ℕ) (ours : NodeNumbers → Option (List ℕ)) (j : ℕ) (ss : List (Hashed Path)) (clash : Clash) : Type 0 where
+pub record IsTreeClash (H : List ℕ → List ℕ) (ours : NodeNumbers → Option (List ℕ)) (j : ℕ) (ss : List (Hashed Path)) (clash : Clash (List ℕ)) : Type 0 where
   pub few : clash.depth ≤ 6
   pub inside : clash.turns < 2 ^ clash.depth
   pub value : Some (in_list_at j clash) ≡ first_collision H ours (map (moved (numbers_in j)) ss)
@@ -94,12 +94,12 @@ same-value x y e = cc
 same-node : (p q : Path) → by_path p ≡ by_path q → p ≡ q
 same-node p q e = cc
 
-pub tree-clash : (H : List ℕ → List ℕ) (ours : NodeNumbers → Option (List ℕ)) (j : ℕ) (ss : List (Hashed Path)) (clash : Clash) → All (λ s. length s.place ≤ 6) ss
-    → clash.turns < 2 ^ clash.depth → Some (difference_of clash) ≡ first_collision H (ours_in ours j) (map (moved by_path) ss)
+pub tree-clash : (H : List ℕ → List ℕ) (ours : NodeNumbers → Option (List ℕ)) (j : ℕ) (ss : List (Hashed Path)) (clash : Clash (List ℕ)) → All (λ s. length s.place ≤ 6) ss
+    → clash.turns < 2 ^ clash.depth → Some (difference_of (λ s. s) clash) ≡ first_collision H (ours_in ours j) (map (moved by_path) ss)
     → IsTreeClash H ours j ss clash
 tree-clash H ours j ss clash shallow inside is =
     let own : ours_in ours j (by_path (path_of clash.depth clash.turns)) ≡ Some clash.ours =
-    collision-own H (ours_in ours j) (map (moved by_path) ss) (difference_of clash) (sym is)
+    collision-own H (ours_in ours j) (map (moved by_path) ss) (difference_of (λ s. s) clash) (sym is)
     in let deep : length (path_of clash.depth clash.turns) ≤ 6 = has-node ours j (path_of clash.depth clash.turns) clash.ours own
     in record {
       few = omega (arith, length-path_of clash.depth clash.turns);
@@ -110,11 +110,11 @@ tree-clash H ours j ss clash shallow inside is =
     at : number_of (path_of clash.depth clash.turns) ≡ clash.turns
     at = number_of-path_of clash.depth clash.turns ∙ mod-eq_of_lt inside
 
-    some : (c : Option (Difference Path)) → Some (difference_of clash) ≡ option_map (moved_collision by_path) c
+    some : (c : Option (Difference Path)) → Some (difference_of (λ s. s) clash) ≡ option_map (moved_collision by_path) c
         → option_map (moved_collision (numbers_in j)) c ≡ Some (in_list_at j clash)
     some None e = absurd (cc)
     some (Some d) e =
-        let same : difference_of clash ≡ moved_collision by_path d = same-value (difference_of clash) (moved_collision by_path d) e
+        let same : difference_of (λ s. s) clash ≡ moved_collision by_path d = same-value (difference_of (λ s. s) clash) (moved_collision by_path d) e
         in let path : d.place ≡ path_of clash.depth clash.turns = sym (same-node (path_of clash.depth clash.turns) d.place (ap (λ (x : Difference Node). x.place) same))
         in let a : d.ours ≡ clash.ours = sym (ap (λ (x : Difference Node). x.ours) same)
         in let b : d.theirs ≡ clash.theirs = sym (ap (λ (x : Difference Node). x.theirs) same)
@@ -188,7 +188,7 @@ block-collision H ours f j n shown shown₁ ds ds₁ found less count left diges
 
 module _ (H : List ℕ → List ℕ) (ours : NodeNumbers → Option (List ℕ)) (f : ℕ) (shown : List Shown) (ds : List (List ℕ)) (n b : ℕ) where
   -- the first clash of block n, if none was found before it
-  pub first-taken : (old tree : Option Clash) → is_some old ≡ false → is_some tree ≡ true
+  pub first-taken : (old tree : Option (Clash (List ℕ))) → is_some old ≡ false → is_some tree ≡ true
       → IsFirstInTrees H ours f shown ds n b (option_map list_difference_of old) → option_map list_difference_of tree ≡ tree_collision H ours f shown ds n
       → IsFirstInTrees H ours f shown ds (n + 1) n (option_map list_difference_of tree)
   first-taken (Some x) tree none some is here = absurd (cc)
@@ -203,7 +203,7 @@ module _ (H : List ℕ → List ℕ) (ours : NodeNumbers → Option (List ℕ)) 
       no-some e = absurd (cc)
 
   -- block n has none, nor has any before it
-  pub first-none : (end : ℕ) (old tree : Option Clash) → is_some old ≡ false → is_some tree ≡ false → n < end → (n ≤ b → end ≤ b)
+  pub first-none : (end : ℕ) (old tree : Option (Clash (List ℕ))) → is_some old ≡ false → is_some tree ≡ false → n < end → (n ≤ b → end ≤ b)
       → IsFirstInTrees H ours f shown ds n b (option_map list_difference_of old) → option_map list_difference_of tree ≡ tree_collision H ours f shown ds n
       → IsFirstInTrees H ours f shown ds (n + 1) b (option_map list_difference_of old)
   first-none end (Some x) tree none some inside past is here = absurd (cc)
@@ -215,7 +215,7 @@ module _ (H : List ℕ → List ℕ) (ours : NodeNumbers → Option (List ℕ)) 
       ]
 
   -- one was found before block n
-  pub first-kept : (old : Option Clash) → is_some old ≡ true
+  pub first-kept : (old : Option (Clash (List ℕ))) → is_some old ≡ true
       → IsFirstInTrees H ours f shown ds n b (option_map list_difference_of old)
       → IsFirstInTrees H ours f shown ds (n + 1) b (option_map list_difference_of old)
   first-kept None some is = absurd (cc)

@@ -9,7 +9,7 @@ use Rattle.ats_lists.specs.Chain.{link, chain_digest}
 use Rattle.ats_lists.specs.ChainPrefix.{tree_strings}
 
 -- the two strings with the same numbers that a clash has
-abbrev pub list_difference_of : Clash → Difference NodeNumbers
+abbrev pub list_difference_of : Clash (List ℕ) → Difference NodeNumbers
 list_difference_of clash =
     record { place = record { depth = clash.depth; turns = clash.turns }; ours = clash.ours; theirs = clash.theirs }
 

@@ -29,7 +29,7 @@ struct OwnBlock<'o, O> {
     pub ghost few: { block < 1024 },
 }
 
-impl<O: OwnList> OwnNodes for OwnBlock<'_, O> {
+impl<O: OwnList> OwnNodes<HashedString> for OwnBlock<'_, O> {
     ghost use Rattle.ats_lists.specs.ChainClash.{ours_in};
 
     ghost ours = { λ b node. ours_in (O.ours b.own.now) b.block node };
@@ -48,7 +48,7 @@ impl<O: OwnList> OwnNodes for OwnBlock<'_, O> {
 #[derive(Clone, Copy)]
 struct TreeClash {
     block: usize,
-    clash: Option<Clash>,
+    clash: Option<Clash<HashedString>>,
 }
 
 /// The first clash between our own strings and those that rebuilding the digest of a list of `f` leaves in blocks
@@ -60,7 +60,7 @@ pub fn chain_first_clash<'a, H: Hash32, R: Revealed<'a>, O: OwnList>(
     revealed: &mut R,
     own: &O,
     steps: &mut Steps,
-) -> Option<Clash>
+) -> Option<Clash<HashedString>>
     requires rebuilds { IsSome (chain_rebuilt H.hash f (R.shown revealed.old) (R.digests revealed.old)) }
     requires few { k ≤ 65536 }
     requires front { positions_of (R.shown revealed.old) ≡ range_with_len 0 k }
@@ -132,7 +132,7 @@ fn search_tree<'a, H: Hash32, R: Revealed<'a>, O: OwnList>(
     revealed: &mut R,
     own: &O,
     steps: &mut Steps,
-) -> ComparedPart
+) -> ComparedPart<HashedString>
     requires inside { block < 1024 }
     requires some { 1 ≤ n }
     requires few { n ≤ 64 }
@@ -149,7 +149,7 @@ fn search_tree<'a, H: Hash32, R: Revealed<'a>, O: OwnList>(
 {
     let start = BLOCK * block;
     let nodes: OwnBlock<'_, O> = OwnBlock { own, block };
-    let ComparedPart { digest, clash } = first_clash_in_part::<H, R, _>(
+    let ComparedPart { digest, clash } = first_clash_in_part::<H, R, HashedString, _>(
         start, n, revealed, &nodes, steps,
     );
     let Some(clash) = clash else {
@@ -178,7 +178,7 @@ fn search_links<H: Hash32, O: OwnList>(
     first: TreeClash,
     own: &O,
     steps: &mut Steps,
-) -> Option<Clash>
+) -> Option<Clash<HashedString>>
     requires few { length roots.now ≤ 1024 }
     requires room { steps.old + 2 * length roots.now < 2 ^ 64 }
     ensures clash { option_map list_difference_of result ≡ option_or (first_collision H.hash (O.ours own.now)
@@ -206,9 +206,9 @@ fn link_clash_or<H: Hash32, O: OwnList>(
     turns: u32,
     theirs: HashedString,
     digest: &[u8; 32],
-    later: Option<Clash>,
+    later: Option<Clash<HashedString>>,
     steps: &mut Steps,
-) -> Option<Clash>
+) -> Option<Clash<HashedString>>
     requires digest { digest.now ≡ H.hash theirs }
     requires room { steps.old + 1 < 2 ^ 64 }
     ensures clash { option_map list_difference_of result
@@ -217,7 +217,7 @@ fn link_clash_or<H: Hash32, O: OwnList>(
     ensures cost { steps.new ≤ steps.old + 1 }
 {
     match own.at(0, turns) {
-        Some(ours) if collides::<H>(&ours, &theirs, digest, steps) => Some(Clash {
+        Some(ours) if collides::<H, _>(&ours, &theirs, digest, steps) => Some(Clash {
             depth: 0,
             turns,
             ours,

@@ -14,8 +14,8 @@ fn types_of_texts_and_trees_cross_threads() {
     cross::<ats_tree::HashedString>();
     cross::<ats_tree::Place>();
     cross::<ats_tree::Tree>();
-    cross::<ats_tree::Clash>();
-    cross::<ats_tree::ComparedPart>();
+    cross::<ats_tree::Clash<ats_tree::HashedString>>();
+    cross::<ats_tree::ComparedPart<ats_tree::HashedString>>();
     cross::<ats_terms::OutOfMemory>();
     cross::<ats_terms::QueryFault>();
     cross::<ats_terms::Terms>();

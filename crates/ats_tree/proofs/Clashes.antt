@@ -97,9 +97,10 @@ collision-moved H f ours (s ∷ ss) =
     ∙ collision_or-moved H f (ours (f s.place)) s (first_collision H (λ p. ours (f p)) ss)
 
 -- the clash that is returned of two
-pub first_of_two : (a b : Option Clash) → option_map difference_of (option_or a b) ≡ option_or (option_map difference_of a) (option_map difference_of b)
-first_of_two None b = refl
-first_of_two (Some c) b = refl
+pub first_of_two : {S : Type 0} → (bytes : S → List ℕ) (a b : Option (Clash S))
+    → option_map (difference_of bytes) (option_or a b) ≡ option_or (option_map (difference_of bytes) a) (option_map (difference_of bytes) b)
+first_of_two bytes None b = refl
+first_of_two bytes (Some c) b = refl
 
 -- ---- the node of a part, and those of its parts
 
@@ -291,9 +292,9 @@ clash-bare H ours path from n shown ds rises =
 
 -- ---- what the recursion requires
 
-pub first-short : (shown : List Shown) (at : ℕ) → first_position shown ≡ Some at → All (λ (s : Shown). length s.1 ≤ 127) shown → length (first_leaf shown) ≤ 127
-first-short [] at first short = absurd (cc)
-first-short (s ∷ rest) at first short = All-head (λ (s : Shown). length s.1 ≤ 127) s rest short
+pub first-fits : (Fits : List ℕ → Type 0) (shown : List Shown) (at : ℕ) → first_position shown ≡ Some at → All (λ (s : Shown). Fits s.1) shown → Fits (first_leaf shown)
+first-fits Fits [] at first fit = absurd (cc)
+first-fits Fits (s ∷ rest) at first fit = All-head (λ (s : Shown). Fits s.1) s rest fit
 
 -- the right part has the digests that it needs
 pub right-enough : (H : List ℕ → List ℕ) (from k n : ℕ) (shown shown₁ : List Shown) (ds ds₁ : List (List ℕ)) (l : List ℕ)
@@ -349,27 +350,3 @@ collides-not H own s later none =
     not_not : (b : Bool) → not b ≡ false → b ≡ true
     not_not true e = refl
     not_not false e = absurd (cc)
-
--- a string is its tag and the rest
-tag-and-rest : (own : List ℕ) → 1 ≤ length own → slice_index_or own 0 0 ∷ (take (length own - 1) (drop 1 own) ++ []) ≡ own
-tag-and-rest [] some = absurd (omega arith)
-tag-and-rest (tag ∷ rest) some =
-    let less : length (tag ∷ rest) - 1 ≡ length rest = omega arith
-    in ap (λ (l : List ℕ). tag ∷ l) (append-nil (take (length (tag ∷ rest) - 1) rest) ∙ ap (λ n. take n rest) less ∙ take-length rest)
-
--- what `collides` returns
-pub tells : (H : List ℕ → List ℕ) (own text digest : List ℕ) (same : Bool) → 1 ≤ length own → bytes_eq own text ≡ false → digest ≡ H text
-    → same ≡ bytes_eq (H (slice_index_or own 0 0 ∷ (take (length own - 1) (drop 1 own) ++ []))) digest
-    → IsTrue same ↔ ((own ≢ text) × (H own ≡ H text))
-tells H own text digest same some other is told =
-    let test : same ≡ bytes_eq (H own) (H text) = told ∙ ap₂ (λ (a b : List ℕ). bytes_eq (H a) b) (tag-and-rest own some) is
-    in (
-      (λ yes. ((λ equal. true_false (sym ((bytes_eq-Decides own text).1 equal) ∙ other)), (bytes_eq-Decides (H own) (H text)).0 (sym test ∙ yes))),
-      (λ both. test ∙ (bytes_eq-Decides (H own) (H text)).1 both.1),
-    )
-  where
-    true_false : true ≡ false → ⊥
-    true_false e = absurd (cc)
-
-pub tells_same : (H : List ℕ → List ℕ) (own text : List ℕ) → bytes_eq own text ≡ true → IsTrue false ↔ ((own ≢ text) × (H own ≡ H text))
-tells_same H own text same = ((λ yes. absurd (cc)), (λ both. absurd (both.0 ((bytes_eq-Decides own text).0 same))))

@@ -9,12 +9,6 @@ increasing-tail : (p : ℕ) (ps : List ℕ) → IsStrictlyIncreasing (p ∷ ps) 
 increasing-tail p ps rises k less =
     let next : suc k + 1 ≡ suc (k + 1) = omega arith in rw next at (rises (suc k) (omega arith))
 
--- the leaves after the first rise if all do, each element of a list showing one
-pub rises-rest : {X : Type 0} (f : X → Shown) (xs : List X) → IsStrictlyIncreasing (positions_of (map f xs))
-    → IsStrictlyIncreasing (positions_of (map f (drop 1 xs)))
-rises-rest f [] rises = rises
-rises-rest f (x ∷ xs) rises = increasing-tail (f x).0 (positions_of (map f xs)) rises
-
 rises-first : (from : ℕ) (s : Shown) (rest : List Shown) → from ≤ s.0 → IsStrictlyIncreasing (positions_of (s ∷ rest)) → RisesFrom from (s ∷ rest)
 rises-first from s [] low rises = (low, tt)
 rises-first from s (t ∷ rest) low rises =
@@ -25,14 +19,6 @@ rises-first from s (t ∷ rest) low rises =
 pub rises-increasing : (shown : List Shown) → IsStrictlyIncreasing (positions_of shown) → RisesFrom 0 shown
 rises-increasing [] rises = tt
 rises-increasing (s ∷ rest) rises = rises-first 0 s rest (omega arith) rises
-
-pub increasing-rises : (from : ℕ) (shown : List Shown) → RisesFrom from shown → IsStrictlyIncreasing (positions_of shown)
-increasing-rises from [] rises k less = absurd (omega arith)
-increasing-rises from (s ∷ []) rises k less = absurd (omega arith)
-increasing-rises from (s ∷ t ∷ rest) rises zero less = let above : s.0 + 1 ≤ t.0 = rises.1.0 in omega arith
-increasing-rises from (s ∷ t ∷ rest) rises (suc k) less =
-    let next : suc k + 1 ≡ suc (k + 1) = omega arith
-    in rw next (increasing-rises (s.0 + 1) (t ∷ rest) rises.1 k (omega arith))
 
 within-first : (from end p : ℕ) (ps : List ℕ) → from ≤ p → IsStrictlyIncreasing (p ∷ ps) → All (λ q. q < end) (p ∷ ps) → RisesWithin from end (p ∷ ps)
 within-first from end p [] low rises below = (low, below 0 0 (omega arith), tt)

@@ -12,8 +12,6 @@ pub use Rattle.ats_tree.proofs.Trees.{below_power}
 pub use Rattle.ats_tree.proofs.Trees.{of-cut}
 -- shown leaves at strictly increasing positions rise from position 0 on
 pub use Rattle.ats_tree.proofs.Positions.{rises-increasing}
--- if the positions of shown leaves increase strictly, those of all leaves but the first do
-pub use Rattle.ats_tree.proofs.Positions.{rises-rest}
 -- strictly increasing positions below an end rise within the range from 0 to that end
 pub use Rattle.ats_tree.proofs.Positions.{within-increasing}
 -- the tree of part of a list is cut as a tree is, and the tree of one of its leaves is that leaf
@@ -122,8 +120,6 @@ pub use Rattle.ats_tree.proofs.ShownParts.{part-shallow}
 pub use Rattle.ats_tree.proofs.ShownParts.{IsFront, front-nil}
 -- a part that is all shown needs no digest; one of at most 2^h places with its first ones shown needs at most h
 pub use Rattle.ats_tree.proofs.ShownParts.{full-need, front-need}
--- a tree that needs no digest has the same digest with any digests
-pub use Rattle.ats_tree.proofs.ShownParts.{digest-full}
 -- the first difference of strings whose places are moved is their first difference with its place moved
 pub use Rattle.ats_tree.proofs.Differences.{moved_difference, difference-moved, both-parts}
 -- a shown leaf is found at its position

@@ -231,11 +231,6 @@ front-need h count os some short front =
     let same : need (tree_of os) ≡ need (tree_within h os) = ap need (of-within h os short)
     in omega (arith, front-within h count os some short front)
 
--- a tree that needs no digest has the same digest with any digests
-pub digest-full : (H : List ℕ → List ℕ) (t : Tree (Option (List ℕ))) (ds es : List (List ℕ)) → need t ≡ 0 → digest_with H t ds ≡ digest_with H t es
-digest-full H t ds es none =
-    let le : need t ≤ 0 = omega arith in sym (digest_with-take H t 0 ds le) ∙ digest_with-take H t 0 es le
-
 -- ---- parts with the digests that they need, and others after these
 
 -- with its elided digests first, a tree has the digest of the tree whose leaves it shows

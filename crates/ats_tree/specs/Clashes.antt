@@ -7,10 +7,10 @@ use Rattle.ats_tree.specs.Differences.{Hashed, moved, Difference}
 use Rattle.ats_tree.specs.Strings.{strings}
 use Rattle.ats_tree.specs.declared.clashing.Clash.{Clash}
 
--- the two strings at one node that a clash has
-abbrev pub difference_of : Clash → Difference Node
-difference_of clash =
-    record { place = by_path (path_of clash.depth clash.turns); ours = clash.ours; theirs = clash.theirs }
+-- the two strings at one node that a clash has, by their bytes
+abbrev pub difference_of : {S : Type 0} → (S → List ℕ) → Clash S → Difference Node
+difference_of bytes clash =
+    record { place = by_path (path_of clash.depth clash.turns); ours = bytes clash.ours; theirs = bytes clash.theirs }
 
 -- the node to which further turns lead from the node of a path
 abbrev pub under : Path → Path → Node

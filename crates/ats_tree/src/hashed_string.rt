@@ -2,6 +2,8 @@
 
 ghost use Rattle.std.specs.Prelude.{◌≡◌, ◌+◌, ◌≤◌, ◌++◌, ◌∷◌, [], length};
 
+use crate::preimage::{LeafPreimage, Preimage};
+use ats_hash::{Hash32, Steps};
 use std::marker::Model;
 
 const ROOM: usize = 128;
@@ -69,5 +71,32 @@ impl HashedString {
         ensures few { length result.now ≤ 128 }
     {
         &self.bytes[..self.len]
+    }
+}
+
+impl Preimage for HashedString {
+    ghost bytes = { λ s. s };
+
+    ghost fits = { λ leaf. length leaf ≤ 127 };
+
+    fn of_node(left: &[u8; 32], right: &[u8; 32]) -> HashedString {
+        HashedString::tagged(1, left, right)
+    }
+
+    fn is_same(&self, other: &HashedString) -> bool {
+        self.bytes() == other.bytes()
+    }
+
+    fn digest<H: Hash32>(&self, steps: &mut Steps) -> [u8; 32] {
+        match self.bytes() {
+            [tag, rest @ ..] => H::digest2(*tag, rest, &[], steps),
+            [] => unreachable!(),
+        }
+    }
+}
+
+impl<'a> LeafPreimage<'a> for HashedString {
+    fn of_leaf(front: &'a [u8], back: &'a [u8]) -> HashedString {
+        HashedString::tagged(0, front, back)
     }
 }

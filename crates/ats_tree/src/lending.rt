@@ -4,7 +4,7 @@ ghost use Rattle.std.specs.Prelude.{◌≡◌, ℕ, ◌+◌, ◌^◌, ◌<◌, �
 ghost use Rattle.std.proofs.Common.{◌∙◌};
 ghost use Rattle.ats_tree.specs.Shown.{Shown, first_position, first_leaf};
 
-use crate::hashed_string::HashedString;
+use crate::preimage::{LeafPreimage, Preimage};
 use crate::revealing::Revealed;
 use ats_hash::{Hash32, Steps};
 use std::marker::PhantomData;
@@ -25,12 +25,6 @@ pub(crate) trait Feed {
     fn first_position(&self) -> Option<u32>
         ensures first { result ≡ first_position (leaves self.now) }
         ensures sized { All (λ d. length d ≡ 32) (others self.now) };
-
-    /// The first leaf left, under its tag.
-    fn first_string(&self) -> HashedString
-        requires left { 0 < length (leaves self.now) }
-        requires short { length (first_leaf (leaves self.now)) ≤ 127 }
-        ensures { result ≡ 0 ∷ first_leaf (leaves self.now) };
 
     /// Removes the first leaf left, and returns its digest.
     fn take_leaf<H: Hash32>(&mut self, steps: &mut Steps) -> [u8; 32]
@@ -55,6 +49,15 @@ pub(crate) trait Feed {
     ghost kept_twice: { (x y z : Self) → kept x y → kept y z → kept x z };
 }
 
+/// A source whose first leaf is seen as a string.
+pub(crate) trait LeafFeed<S: Preimage>: Feed {
+    /// The first leaf left, under its tag.
+    fn first_string(&self) -> S
+        requires left { 0 < length (Self.leaves self.now) }
+        requires fits { S.fits (first_leaf (Self.leaves self.now)) }
+        ensures { S.bytes result ≡ 0 ∷ first_leaf (Self.leaves self.now) };
+}
+
 /// A `Revealed` that is lent to the recursion.
 pub(crate) struct Lent<'a, 'r, R> {
     pub(crate) revealed: &'r mut R,
@@ -74,10 +77,6 @@ impl<'a, R: Revealed<'a>> Feed for Lent<'a, '_, R> {
         self.revealed.position()
     }
 
-    fn first_string(&self) -> HashedString {
-        HashedString::tagged(0, self.revealed.leaf_front(), self.revealed.leaf_back())
-    }
-
     fn take_leaf<H: Hash32>(&mut self, steps: &mut Steps) -> [u8; 32] {
         let front = self.revealed.leaf_front();
         let back = self.revealed.leaf_back();
@@ -91,6 +90,12 @@ impl<'a, R: Revealed<'a>> Feed for Lent<'a, '_, R> {
             Some(bytes) => Some(digest_from(bytes)),
             None => None,
         }
+    }
+}
+
+impl<'a, R: Revealed<'a>, S: LeafPreimage<'a>> LeafFeed<S> for Lent<'a, '_, R> {
+    fn first_string(&self) -> S {
+        S::of_leaf(self.revealed.leaf_front(), self.revealed.leaf_back())
     }
 }
 

@@ -13,7 +13,7 @@ pub returns-in_default-clause-clash : goal.returns-in_default-clause-clash
 returns-in_default-clause-clash g c =
     no-clash g.H.HashKind.hash (g.O.OwnList.ours c.args.own.now) c.args.block _
     (part-shallow g.H.HashKind.hash 6 (64 * c.args.block) c.args.n (g.R.Revealed.shown c.args.revealed.now) (g.R.Revealed.digests c.args.revealed.now) c.requires.few)
-    (ap (option_map difference_of) (sym c.in_default.is) ∙ c.first_clash_in_part-clash.ensures.clash)
+    (ap (option_map (difference_of (λ s. s))) (sym c.in_default.is) ∙ c.first_clash_in_part-clash.ensures.clash)
 
 pub overflow_add-clash : goal.overflow_add-clash
 overflow_add-clash g c =
@@ -22,7 +22,7 @@ overflow_add-clash g c =
     tree-clash _ _ _ _ _
     (part-shallow g.H.HashKind.hash 6 (64 * c.args.block) c.args.n (g.R.Revealed.shown c.args.revealed.now) (g.R.Revealed.digests c.args.revealed.now) c.requires.few)
     (rw c.in-Some.is at c.first_clash_in_part-clash.ensures.place)
-    (ap (option_map difference_of) (sym c.in-Some.is) ∙ c.first_clash_in_part-clash.ensures.clash)
+    (ap (option_map (difference_of (λ s. s))) (sym c.in-Some.is) ∙ c.first_clash_in_part-clash.ensures.clash)
     in omega (arith, is.few)
 
 pub overflow_add-clash-2 : goal.overflow_add-clash-2
@@ -32,7 +32,7 @@ overflow_add-clash-2 g c =
     tree-clash _ _ _ _ _
     (part-shallow g.H.HashKind.hash 6 (64 * c.args.block) c.args.n (g.R.Revealed.shown c.args.revealed.now) (g.R.Revealed.digests c.args.revealed.now) c.requires.few)
     (rw c.in-Some.is at c.first_clash_in_part-clash.ensures.place)
-    (ap (option_map difference_of) (sym c.in-Some.is) ∙ c.first_clash_in_part-clash.ensures.clash)
+    (ap (option_map (difference_of (λ s. s))) (sym c.in-Some.is) ∙ c.first_clash_in_part-clash.ensures.clash)
     in let most : 2 ^ c.in-Some.clash.depth ≤ 2 ^ 6 = pow_mono is.few
     in omega (arith, is.inside, most)
 
@@ -43,5 +43,5 @@ returns-clause-clash g c =
     tree-clash _ _ _ _ _
     (part-shallow g.H.HashKind.hash 6 (64 * c.args.block) c.args.n (g.R.Revealed.shown c.args.revealed.now) (g.R.Revealed.digests c.args.revealed.now) c.requires.few)
     (rw c.in-Some.is at c.first_clash_in_part-clash.ensures.place)
-    (ap (option_map difference_of) (sym c.in-Some.is) ∙ c.first_clash_in_part-clash.ensures.clash)
+    (ap (option_map (difference_of (λ s. s))) (sym c.in-Some.is) ∙ c.first_clash_in_part-clash.ensures.clash)
     in is.value

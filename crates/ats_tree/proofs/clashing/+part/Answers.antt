@@ -3,13 +3,13 @@ use Rattle.ats_tree.specs.Shown.{Shown}
 use Rattle.ats_tree.specs.Part.{RisesFrom}
 use Rattle.ats_tree.proofs.Parts.{IsCut, is_cut, need-cut, node-part, leaf-part, bare-part, bare-short, rises_none, rises_past}
 use Rattle.ats_tree.proofs.Places.{All-from, rises-from}
-use Rattle.ats_tree.proofs.Clashes.{first_of_two, path-left, path-right, left-placed, right-placed, turns-fit, clash-node, clash-leaf, clash-bare, first-short, right-enough}
+use Rattle.ats_tree.proofs.Clashes.{first_of_two, path-left, path-right, left-placed, right-placed, turns-fit, clash-node, clash-leaf, clash-bare, first-fits, right-enough}
 use Rattle.ats_tree.proofs.clashing.+part.Goals as goal
 use Rattle.ats_tree.proofs.clashing.+part.Goals.{in_default-via-in-Some+else-at-from, in_default-via-in_default}
 
 -- one leaf
-pub first_string-theirs-requires-clause-short : goal.first_string-theirs-requires-clause-short
-first_string-theirs-requires-clause-short g t c = first-short _ _ (sym c.in-Some.ensures.first) c.requires.short
+pub first_string-theirs-requires-clause-fits : goal.first_string-theirs-requires-clause-fits
+first_string-theirs-requires-clause-fits g t c = first-fits g.S.Preimage.fits _ _ (sym c.in-Some.ensures.first) c.requires.fit
 
 pub returns-then-n-eq1-clause-whole : goal.returns-then-n-eq1-clause-whole
 returns-then-n-eq1-clause-whole g t c =
@@ -50,12 +50,15 @@ part-left-requires g t c κs within =
           (
             search rules,
             (
-              omega arith,
+              search rules,
               (
                 omega arith,
                 (
-                  left-placed c.args.n c.cut_of-k.result c.args.depth c.args.turns c.requires.placed c.cut_of-k.ensures.power c.cut_of-k.ensures.below c.cut_of-k.ensures.largest,
-                  (c.requires.rising, (omega (arith, need-cut _ _ _ _ cut, c.requires.enough), (c.requires.short, omega (arith, c.requires.room)))),
+                  omega arith,
+                  (
+                    left-placed c.args.n c.cut_of-k.result c.args.depth c.args.turns c.requires.placed c.cut_of-k.ensures.power c.cut_of-k.ensures.below c.cut_of-k.ensures.largest,
+                    (c.requires.rising, (omega (arith, need-cut _ _ _ _ cut, c.requires.enough), (c.requires.fit, omega (arith, c.requires.room)))),
+                  ),
                 ),
               ),
             ),
@@ -81,17 +84,20 @@ part-right-requires g t c κs within =
           (
             search rules,
             (
-              omega arith,
+              search rules,
               (
                 omega arith,
                 (
-                  right-placed c.args.n c.cut_of-k.result c.args.depth c.args.turns c.requires.placed c.cut_of-k.ensures.power c.cut_of-k.ensures.below c.cut_of-k.ensures.largest,
+                  omega arith,
                   (
-                    rises,
+                    right-placed c.args.n c.cut_of-k.result c.args.depth c.args.turns c.requires.placed c.cut_of-k.ensures.power c.cut_of-k.ensures.below c.cut_of-k.ensures.largest,
                     (
-                      right-enough g.H.HashKind.hash c.args.from c.cut_of-k.result c.args.n (g.F.Feed.leaves c.args.feed.now) (g.F.Feed.leaves c.part-left.new.feed) (g.F.Feed.others c.args.feed.now)
-                          (g.F.Feed.others c.part-left.new.feed) c.part-left.result.digest cut left c.requires.enough,
-                      (rw left.leaves_left (All-from (λ (s : Shown). length s.1 ≤ 127) (c.args.from + c.cut_of-k.result) _ c.requires.short), omega (arith, c.part-left.ensures.cost, c.requires.room)),
+                      rises,
+                      (
+                        right-enough g.H.HashKind.hash c.args.from c.cut_of-k.result c.args.n (g.F.Feed.leaves c.args.feed.now) (g.F.Feed.leaves c.part-left.new.feed) (g.F.Feed.others c.args.feed.now)
+                            (g.F.Feed.others c.part-left.new.feed) c.part-left.result.digest cut left c.requires.enough,
+                        (rw left.leaves_left (All-from (λ (s : Shown). g.S.Preimage.fits s.1) (c.args.from + c.cut_of-k.result) _ c.requires.fit), omega (arith, c.part-left.ensures.cost, c.requires.room)),
+                      ),
                     ),
                   ),
                 ),
@@ -120,7 +126,7 @@ returns-else-n-eq1-clause-clash g t c =
     c.part-left.result.digest c.part-right.result.digest _ _ _ cut c.part-left.ensures.whole c.part-right.ensures.whole
     (path-left c.args.depth c.args.turns c.requires.placed.inside) (path-right c.args.depth c.args.turns c.requires.placed.inside)
     c.part-left.ensures.clash c.part-right.ensures.clash
-    (rw (c.tagged-theirs.ensures, c.or-later.ensures, first_of_two) at c.clash_or-clash-else-n-eq1.ensures.clash)
+    (rw (c.of_node-theirs.ensures, c.or-later.ensures, first_of_two) at c.clash_or-clash-else-n-eq1.ensures.clash)
 
 -- no leaf among the places
 pub unreachable-requires : goal.unreachable-requires

@@ -7,7 +7,7 @@ use Rattle.ats_tree.specs.Shown.{Shown, first_leaf}
 use Rattle.ats_tree.specs.Kept.{elided_part}
 use Rattle.ats_tree.specs.Part.{RisesFrom, shown_from}
 use Rattle.ats_tree.specs.OwnShown.{IsOwnPart}
-use Rattle.ats_tree.proofs.Clashes.{first-short}
+use Rattle.ats_tree.proofs.Clashes.{first-fits}
 use Rattle.ats_tree.proofs.Parts.{IsCut, is_cut, rises_none, rises_past}
 use Rattle.ats_tree.proofs.Places.{All-from, rises-from, from-all}
 use Rattle.ats_tree.proofs.KeptLemmas.{HasSize}
@@ -18,7 +18,7 @@ use Rattle.ats_tree.proofs.comparing.+begins_with_part.Goals.{in_default-via-in-
 
 -- one leaf, which is shown
 pub take_leaf-requires-clause-short : goal.take_leaf-requires-clause-short
-take_leaf-requires-clause-short g t c = first-short _ _ (sym c.in-Some.ensures.first) c.requires.short
+take_leaf-requires-clause-short g t c = first-fits (λ (leaf : List ℕ). length leaf ≤ 127) _ _ (sym c.in-Some.ensures.first) c.requires.short
 
 pub returns-then-n-eq1-clause-exact : goal.returns-then-n-eq1-clause-exact
 returns-then-n-eq1-clause-exact g t c =
