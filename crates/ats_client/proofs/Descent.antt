@@ -31,7 +31,7 @@ use Rattle.ats_commit.specs.Root.{header_of, header_root, root_of}
 use Rattle.ats_commit.specs.Own.{AreTexts, IsHeaderOf, IsEntryOf}
 use Rattle.ats_commit.specs.Ours.{asked_term, ours}
 use Rattle.ats_commit.specs.Places.{in_tree}
-use Rattle.ats_commit.proofs.Public.{same_format, own_header, leaf_tells_entry}
+use Rattle.ats_commit.proofs.Public.{same_format, own_header, leaf_tells_entry, rest_same, tag_same}
 use Rattle.ats_proof.specs.Value.{ShownEntry, Proof, present_in}
 use Rattle.ats_proof.specs.Ranges.{AreDigests, IsShownInRange, IsInRange}
 use Rattle.ats_proof.specs.Runs.{shown_entry, shown_list}
@@ -61,13 +61,6 @@ pair_is query asked i pair at = (
 
 -- ---- the header
 
--- two preimages of roots that are equal
-head_same : (x y : ℕ) (xs ys : List ℕ) → x ∷ xs ≡ y ∷ ys → y ≡ x
-head_same x y xs ys same = cc
-
-tail_same : (x y : ℕ) (xs ys : List ℕ) → x ∷ xs ≡ y ∷ ys → ys ≡ xs
-tail_same x y xs ys same = cc
-
 -- The header says the archive's format and numbers.
 pub header-binds : (H : List ℕ → List ℕ) → ((m : List ℕ) → length (H m) ≡ 32) → (archive : Archive) (query : List (List ℕ × ℕ)) (format : Format) (header : Header)
     → AreTexts archive.texts → IsHeader header.documents header.dict_leaves header.dict_root header.docs_root header.texts_root
@@ -78,8 +71,8 @@ header-binds H sized archive query format header are is root =
     in let tag : ℕ = header_tag archive.format
     in binds-one H (ours H archive query) (hashed_header format header) (tag ∷ header_of H archive) ((format ≡ archive.format) × IsHeaderOf H archive header) refl root
     (λ same. (
-      same_format format archive.format (head_same tag (header_tag format) (header_of H archive) bytes same),
-      own_header H sized archive header are is (tail_same tag (header_tag format) (header_of H archive) bytes same),
+      same_format format archive.format (tag_same tag (header_tag format) (header_of H archive) bytes same),
+      own_header H sized archive header are is (rest_same tag (header_tag format) (header_of H archive) bytes same),
     ))
 
 -- ---- the dictionary

@@ -1,5 +1,6 @@
 -- A header with the bytes of an archive's own has the archive's numbers and roots.
-use Rattle.std.proofs.Common.{◌≡◌, ◌∙◌, ℕ, List, length, refl, sym, subst, arith}
+use Rattle.std.proofs.Common.{◌≡◌, ◌∙◌, ℕ, List, ◌∷◌, length, refl, sym, subst, arith}
+use Rattle.std.proofs.lemmas.Slice.Eq.{bytes_eq-Decides}
 use Rattle.ats_tree.specs.Tree.{mth}
 use Rattle.ats_dict.specs.Dictionary.{dict_leaves}
 use Rattle.ats_dict.specs.Header.{header_bytes, IsHeader}
@@ -9,7 +10,7 @@ use Rattle.ats_lists.specs.declared.format.Format.{Format}
 use Rattle.ats_lists.specs.declared.format.Format.TheVariants.{One, Two}
 use Rattle.ats_commit.specs.Archive.{Archive, header_tag}
 use Rattle.ats_commit.specs.Trees.{dictionary_of, documents_of}
-use Rattle.ats_commit.specs.Root.{header_of}
+use Rattle.ats_commit.specs.Root.{header_of, header_string, own_header_string, HasOwnHeader}
 use Rattle.ats_commit.specs.Own.{AreTexts, IsHeaderOf}
 use Rattle.ats_commit.proofs.HeaderLemmas.{header_in_range}
 use Rattle.ats_commit.proofs.TermLemmas.{few_within}
@@ -44,3 +45,19 @@ own_header H sized archive header are is same =
       all = sym here.docs ∙ there.docs;
       raw = sym here.texts ∙ there.texts;
     }
+
+-- equal strings have the same tag and the same bytes after it
+pub tag_same : (x y : ℕ) (xs ys : List ℕ) → x ∷ xs ≡ y ∷ ys → y ≡ x
+tag_same x y xs ys same = cc
+
+pub rest_same : (x y : ℕ) (xs ys : List ℕ) → x ∷ xs ≡ y ∷ ys → ys ≡ xs
+rest_same x y xs ys same = cc
+
+-- a header with the string of the archive's own has the archive's numbers and roots
+pub own_numbers : (H : List ℕ → List ℕ) → ((bytes : List ℕ) → length (H bytes) ≡ 32) → (archive : Archive) (format : Format) (header : Header) → AreTexts archive.texts
+    → IsHeader header.documents header.dict_leaves header.dict_root header.docs_root header.texts_root
+    → HasOwnHeader H archive format header → IsHeaderOf H archive header
+own_numbers H sized archive format header are is equal =
+    let bytes : List ℕ = header_bytes header.documents header.dict_leaves header.dict_root header.docs_root header.texts_root in
+    let same : own_header_string H archive ≡ header_string format header = (bytes_eq-Decides (own_header_string H archive) (header_string format header)).0 equal in
+    own_header H sized archive header are is (rest_same (header_tag archive.format) (header_tag format) (header_of H archive) bytes same)

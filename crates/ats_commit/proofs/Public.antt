@@ -16,8 +16,10 @@ pub use Rattle.ats_commit.proofs.TermLemmas.{few_within}
 pub use Rattle.ats_commit.proofs.OwnHeader.{same_format}
 -- what is known of a tree's strings, unless the first difference collides, is known of them by their numbers
 pub use Rattle.ats_commit.proofs.PrefixLemmas.{known-by-numbers}
--- a header in range with the bytes of the archive's header has the archive's numbers and roots
-pub use Rattle.ats_commit.proofs.OwnHeader.{own_header}
+-- a header in range with the bytes, or the string, of the archive's own has the archive's numbers and roots
+pub use Rattle.ats_commit.proofs.OwnHeader.{own_header, own_numbers}
+-- equal strings have the same tag, and the same bytes after it
+pub use Rattle.ats_commit.proofs.OwnHeader.{tag_same, rest_same}
 -- a dictionary leaf that is no sentinel has the length and the root of its term's list
 pub use Rattle.ats_commit.proofs.OwnLeaves.{leaf_tells_entry}
 -- an entry in range whose leaf bytes are at a position of a term's list is the posting there

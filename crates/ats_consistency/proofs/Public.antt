@@ -15,7 +15,7 @@ pub use Rattle.ats_consistency.proofs.Spelled.{spells, join_of, archive_join}
 -- what an accepted growth says of all archives with its two roots
 pub use Rattle.ats_consistency.proofs.Soundness.{grown_or_collides}
 -- each pair of strings of an accepted growth is equal, so that the new archive has grown, or the first that is not collides
-pub use Rattle.ats_consistency.proofs.Soundness.{growth-binds, tail-same}
+pub use Rattle.ats_consistency.proofs.Soundness.{growth-binds}
 -- the turns to the end of the old leaves, with the cuts on the way
 pub use Rattle.ats_consistency.proofs.Leads.{leads, turns-end, turns-left, turns-right}
 -- how many turns and digests there are at most

@@ -14,7 +14,7 @@ use Rattle.ats_lists.specs.declared.format.Format.{Format}
 use Rattle.ats_commit.specs.Archive.{Archive, header_tag}
 use Rattle.ats_commit.specs.Own.{AreTexts, IsHeaderOf}
 use Rattle.ats_commit.specs.Root.{header_of, header_root, header_string, root_of}
-use Rattle.ats_commit.proofs.Public.{own_header}
+use Rattle.ats_commit.proofs.Public.{own_header, rest_same}
 use Rattle.ats_consistency.specs.Headline.{IsPrefix, HasGrown, IsGrownOrCollides}
 use Rattle.ats_consistency.specs.Rules.{AcceptsGrowth}
 use Rattle.ats_consistency.specs.Shape.{turns, need}
@@ -29,16 +29,13 @@ use Rattle.ats_consistency.proofs.Trees.{leaves-of}
 
 -- ---- the headers
 
-pub tail-same : (x y : ℕ) (xs ys : List ℕ) → x ∷ xs ≡ y ∷ ys → ys ≡ xs
-tail-same x y xs ys same = cc
-
 header-binds : (H : List ℕ → List ℕ) → ((m : List ℕ) → length (H m) ≡ 32) → (part : ℕ) (archive : Archive) (format : Format) (header : Header)
     → AreTexts archive.texts → IsInRange header → header_root H format header ≡ root_of H archive
     → Binds H second_of (header_pair H part (header_string format header) archive ∷ []) (IsHeaderOf H archive header)
 header-binds H sized part archive format header are range root =
     let bytes : List ℕ = header_bytes header.documents header.dict_leaves header.dict_root header.docs_root header.texts_root
     in binds-one H second_of (header_pair H part (header_string format header) archive) (header_tag archive.format ∷ header_of H archive) (IsHeaderOf H archive header) refl root
-    (λ same. own_header H sized archive header are range (tail-same (header_tag archive.format) (header_tag format) (header_of H archive) bytes same))
+    (λ same. own_header H sized archive header are range (rest_same (header_tag archive.format) (header_tag format) (header_of H archive) bytes same))
 
 -- ---- the texts
 

@@ -1,28 +1,26 @@
--- The first collision of a text: the header, or the first difference on the path to the text.
-use Rattle.std.proofs.Common.{◌≡◌, ◌∙◌, ◌<◌, ℕ, List, length, map, take, Option, Some, None, IfSome, MatchOption, refl, sym, ap, ap₂, subst, arith}
+-- The first collision of a text: the header, or the first one on the path to the text.
+use Rattle.std.proofs.Common.{◌≡◌, ◌∙◌, ◌<◌, ◌^◌, ℕ, List, length, map, not, ◌||◌, Option, Some, None, IfSome, MatchOption, refl, sym, ap, subst}
 use Rattle.std.specs.Prelude.{Result, Ok, Err, IfOk}
 use Rattle.std.specs.Option.{option_map}
-use Rattle.std.proofs.Math.Seq.{take-length}
+use Rattle.std.specs.Str.{bytes_eq}
 use Rattle.std.proofs.lemmas.Bool.{cond-true, cond-false}
 use Rattle.ats_commit.specs.Archive.{Archive}
 use Rattle.ats_commit.specs.Own.{AreTexts}
-use Rattle.ats_commit.specs.Root.{header_string, root_of}
-use Rattle.ats_tree.specs.Differences.{Hashed, moved, Difference, first_difference}
-use Rattle.ats_tree.specs.Nodes.{Node, NodeNumbers, by_path, numbers_of}
-use Rattle.ats_tree.specs.Paths.{Path}
-use Rattle.ats_tree.specs.Rebuild.{need}
-use Rattle.ats_tree.specs.Strings.{node_string, string_at, strings}
-use Rattle.ats_tree.specs.Tree.{Tree, tree_of}
-use Rattle.ats_tree.proofs.Public.{difference-moved, moved_difference, numbers-lead}
-use Rattle.ats_inclusion.specs.Accepts.{AcceptsText}
+use Rattle.ats_commit.specs.Root.{header_string, own_header_string, HasOwnHeader, root_of}
+use Rattle.ats_tree.specs.Clashes as tree
+use Rattle.ats_tree.specs.Differences.{Hashed, moved, Difference, first_collision}
+use Rattle.ats_tree.specs.Nodes.{Node, NodeNumbers, numbers_of}
+use Rattle.ats_tree.specs.Strings.{node_string, node_strings}
+use Rattle.ats_tree.specs.declared.clashing.Clash.{Clash}
+use Rattle.ats_tree.proofs.Public.{collision-moved, moved_collision, numbers-back, numbers-lead}
+use Rattle.ats_inclusion.specs.Accepts.{AcceptsText, shown_text}
 use Rattle.ats_inclusion.specs.Strings.{TextPlace, header_place, in_texts, own_text_string, text_extract}
 use Rattle.ats_inclusion.specs.Value.{TextProof, IsTextInRange}
-use Rattle.ats_inclusion.proofs.Public.{own_numbers, tree_strings_of, text-extracts}
-use Rattle.ats_fetch.specs.Inner.Clashes.{own_header_string, HasOwnHeader, IsHeaderClash, at_node}
-use Rattle.ats_fetch.specs.Inner.Compare.{numbered, unlike_at}
-use Rattle.ats_fetch.specs.Inner.Trees.{text_tree, own_tree}
+use Rattle.ats_inclusion.proofs.Public.{tree_strings_of, text-extracts}
+use Rattle.ats_fetch.specs.Inner.Clashes.{IsHeaderClash, difference_in}
+use Rattle.ats_fetch.specs.Inner.TextString.{bytes_of}
 use Rattle.ats_fetch.specs.Verdicts.{difference_of}
-use Rattle.ats_fetch.specs.declared.path.Unlike.{Unlike}
+use Rattle.ats_fetch.specs.declared.own_texts.TextString.{TextString}
 use Rattle.ats_fetch.specs.declared.verdict.TextClash.{TextClash}
 
 -- what is known in either case of an option
@@ -36,12 +34,21 @@ some_means (Some y) P x is known = let same : y ≡ x = cc in subst P same known
 
 -- ---- the header
 
+-- below a header of one's own
+extract_below : (H : List ℕ → List ℕ) (archive : Archive) (doc : ℕ) (proof : TextProof) → HasOwnHeader H archive proof.format proof.header
+    → text_extract H archive doc proof ≡ first_collision H (own_text_string H archive) (tree_strings_of H doc proof)
+extract_below H archive doc proof equal =
+    cond-true _ _ _ (ap (λ same. same || not (bytes_eq (H (own_header_string H archive)) (H (header_string proof.format proof.header)))) equal)
+
+-- the same of what is found there
+pub below_found : (H : List ℕ → List ℕ) (archive : Archive) (doc : ℕ) (proof : TextProof) → HasOwnHeader H archive proof.format proof.header → {E : Type 0} → (result : Result (Option TextClash) E)
+    → IfOk result (λ found. option_map difference_of found ≡ first_collision H (own_text_string H archive) (tree_strings_of H doc proof))
+    → IfOk result (λ found. option_map difference_of found ≡ text_extract H archive doc proof)
+below_found H archive doc proof equal (Ok found) is = is ∙ sym (extract_below H archive doc proof equal)
+below_found H archive doc proof equal (Err fault) is = tt
+
 module _ (H : List ℕ → List ℕ) (sized : (m : List ℕ) → length (H m) ≡ 32) (archive : Archive) (doc : ℕ) (proof : TextProof) (are : AreTexts archive.texts) (range : IsTextInRange proof)
     (accepts : AcceptsText H (root_of H archive) doc proof) where
-  -- below a header of one's own
-  pub extract_below : HasOwnHeader H archive proof → text_extract H archive doc proof ≡ first_difference (own_text_string H archive) (tree_strings_of H doc proof)
-  extract_below equal = text-extracts H sized archive doc proof are range accepts ∙ cond-true _ _ _ equal
-
   -- another header
   pub extract_header : (clash : TextClash) → IsHeaderClash H archive proof clash → Some (difference_of clash) ≡ text_extract H archive doc proof
   extract_header clash is =
@@ -51,67 +58,27 @@ module _ (H : List ℕ → List ℕ) (sized : (m : List ℕ) → length (H m) �
 
 -- ---- the texts tree
 
-placed : (o : Option (Difference Path))
-    → option_map (moved_difference in_texts) (option_map (moved_difference numbers_of) (option_map (moved_difference by_path) o)) ≡ option_map at_node (option_map numbered o)
-placed None = refl
-placed (Some d) = refl
+-- a clash of the tree, at its place
+placed : (o : Option (Clash TextString)) → IfSome o (λ c. c.turns < 2 ^ c.depth)
+    → option_map (moved_collision in_texts) (option_map (moved_collision numbers_of) (option_map (tree.difference_of bytes_of) o)) ≡ option_map difference_in o
+placed None inside = refl
+placed (Some c) inside =
+    ap (λ (at : NodeNumbers). Some (let d : Difference TextPlace = record { place = in_texts at; ours = bytes_of c.ours; theirs = bytes_of c.theirs } in d))
+    (numbers-back c.depth c.turns inside)
 
-pub tree_first : (H : List ℕ → List ℕ) (archive : Archive) (doc n : ℕ) (proof : TextProof) → n ≡ length archive.texts → proof.header.documents ≡ n
-    → first_difference (own_text_string H archive) (tree_strings_of H doc proof)
-    ≡ option_map at_node (option_map numbered (first_difference (string_at H (own_tree 0 n archive.texts)) (strings H (text_tree 0 n doc proof.text) proof.digests)))
-tree_first H archive doc n proof many documents =
-    let texts : List (List ℕ) = archive.texts in
-    let own : TextPlace → Option (List ℕ) = own_text_string H archive in
-    let paths : List (Hashed Path) = strings H (text_tree 0 proof.header.documents doc proof.text) proof.digests in
-    let nodes : List (Hashed Node) = map (moved by_path) paths in
-    let lead : first_difference (λ (node : Node). own (in_texts (numbers_of node))) nodes ≡ first_difference (node_string H texts) nodes =
-    λ i. first_difference (λ (node : Node). ap (node_string H texts) (numbers-lead node) i) nodes in
-    let whole : own_tree 0 n texts ≡ tree_of texts = ap tree_of (ap (λ (m : ℕ). take m texts) many ∙ take-length texts) in
-    difference-moved in_texts own (map (moved numbers_of) nodes)
-    ∙ ap (option_map (moved_difference in_texts)) (difference-moved numbers_of (λ (at : NodeNumbers). own (in_texts at)) nodes)
-    ∙ ap (λ (o : Option (Difference Node)). option_map (moved_difference in_texts) (option_map (moved_difference numbers_of) o)) (lead ∙ difference-moved by_path (node_string H texts) paths)
-    ∙ placed (first_difference (string_at H (tree_of texts)) paths)
-    ∙ ap₂ (λ (u : Tree (List ℕ)) (m : ℕ). option_map at_node (option_map numbered (first_difference (string_at H u) (strings H (text_tree 0 m doc proof.text) proof.digests)))) (sym whole) documents
-
--- the same of what is found of texts and digests that are those
-pub tree_found : (H : List ℕ → List ℕ) → ((m : List ℕ) → length (H m) ≡ 32) → (archive : Archive) (doc : ℕ) (proof : TextProof) → AreTexts archive.texts → IsTextInRange proof → HasOwnHeader H archive proof
-    → (texts : List (List ℕ)) (n : ℕ) (text : List ℕ) (ds : List (List ℕ)) (found : Option (Difference NodeNumbers)) → texts ≡ archive.texts → n ≡ length texts → text ≡ proof.text → ds ≡ proof.digests
-    → found ≡ option_map numbered (first_difference (string_at H (own_tree 0 n texts)) (strings H (text_tree 0 n doc text) ds))
-    → option_map at_node found ≡ first_difference (own_text_string H archive) (tree_strings_of H doc proof)
-tree_found H sized archive doc proof are range equal texts n text ds found own many same those is =
-    let header = own_numbers H sized archive proof are range equal in
-    let all : n ≡ length archive.texts = many ∙ ap length own in
-    ap (option_map at_node) is
-    ∙ (λ i. option_map at_node (option_map numbered (first_difference (string_at H (own_tree 0 n (own i))) (strings H (text_tree 0 n doc (same i)) (those i)))))
-    ∙ sym (tree_first H archive doc n proof all (header.number ∙ sym all))
-
--- the document is one of the texts
-pub inside_texts : (H : List ℕ → List ℕ) → ((m : List ℕ) → length (H m) ≡ 32) → (archive : Archive) (root : List ℕ) (doc : ℕ) (proof : TextProof) → AreTexts archive.texts → IsTextInRange proof → HasOwnHeader H archive proof
-    → AcceptsText H root doc proof → (texts : List (List ℕ)) → texts ≡ archive.texts → doc < length texts
-inside_texts H sized archive root doc proof are range equal accepts texts own =
-    let header = own_numbers H sized archive proof are range equal in
-    omega (arith, accepts.kept.1.0, header.number, ap length own)
-
--- the digests are as many as the text needs there
-pub fits_texts : (H : List ℕ → List ℕ) → ((m : List ℕ) → length (H m) ≡ 32) → (archive : Archive) (root : List ℕ) (doc : ℕ) (proof : TextProof) → AreTexts archive.texts → IsTextInRange proof → HasOwnHeader H archive proof
-    → AcceptsText H root doc proof → (texts : List (List ℕ)) (n : ℕ) (text : List ℕ) (ds : List (List ℕ)) → texts ≡ archive.texts → n ≡ length texts → text ≡ proof.text → ds ≡ proof.digests
-    → length ds ≡ need (text_tree 0 n doc text)
-fits_texts H sized archive root doc proof are range equal accepts texts n text ds own many same those =
-    let header = own_numbers H sized archive proof are range equal in
-    let all : proof.header.documents ≡ n = header.number ∙ sym (many ∙ ap length own) in
-    ap length those ∙ accepts.kept.1.1.0 ∙ ap₂ (λ (m : ℕ) (x : List ℕ). need (text_tree 0 m doc x)) all (sym same)
-
--- what is found below a header of one's own is the first collision
-pub below_found : (H : List ℕ → List ℕ) → ((m : List ℕ) → length (H m) ≡ 32) → (archive : Archive) (doc : ℕ) (proof : TextProof) → AreTexts archive.texts → IsTextInRange proof
-    → AcceptsText H (root_of H archive) doc proof → HasOwnHeader H archive proof → {E : Type 0} → (result : Result (Option TextClash) E)
-    → IfOk result (λ found. option_map difference_of found ≡ first_difference (own_text_string H archive) (tree_strings_of H doc proof))
-    → IfOk result (λ found. option_map difference_of found ≡ text_extract H archive doc proof)
-below_found H sized archive doc proof are range accepts equal (Ok found) is = is ∙ sym (extract_below H sized archive doc proof are range accepts equal)
-below_found H sized archive doc proof are range accepts equal (Err fault) is = tt
-
--- a difference that is found, as a clash
-pub found_clash : {E : Type 0} → (result : Result (Option TextClash) E) (own text theirs : List ℕ) (o : Option Unlike) (first : Option (Difference TextPlace))
-    → IfOk result (λ found. option_map difference_of found ≡ option_map at_node (option_map (unlike_at text theirs) o)) → text ≡ own
-    → option_map at_node (option_map (unlike_at own theirs) o) ≡ first → IfOk result (λ found. option_map difference_of found ≡ first)
-found_clash (Ok found) own text theirs o first is same last = is ∙ ap (λ (x : List ℕ). option_map at_node (option_map (unlike_at x theirs) o)) same ∙ last
-found_clash (Err fault) own text theirs o first is same last = tt
+-- the first clash with the archive's texts is the first collision in their tree
+pub tree_found : (H : List ℕ → List ℕ) (archive : Archive) (doc : ℕ) (proof : TextProof) (texts : List (List ℕ)) (o : Option (Clash TextString)) → texts ≡ archive.texts
+    → IfSome o (λ c. c.turns < 2 ^ c.depth)
+    → option_map (tree.difference_of bytes_of) o ≡ first_collision H (node_string H texts) (node_strings H proof.header.documents (shown_text doc proof.text) proof.digests)
+    → option_map difference_in o ≡ first_collision H (own_text_string H archive) (tree_strings_of H doc proof)
+tree_found H archive doc proof texts o own inside is =
+    let ours : TextPlace → Option (List ℕ) = own_text_string H archive in
+    let nodes : List (Hashed Node) = node_strings H proof.header.documents (shown_text doc proof.text) proof.digests in
+    let lead : first_collision H (node_string H texts) nodes ≡ first_collision H (λ (node : Node). ours (in_texts (numbers_of node))) nodes =
+    λ i. first_collision H (λ (node : Node). node_string H (own i) (sym (numbers-lead node) i)) nodes in
+    sym (placed o inside)
+    ∙ ap (λ (c : Option (Difference Node)). option_map (moved_collision in_texts) (option_map (moved_collision numbers_of) c)) (is ∙ lead)
+    ∙ sym (
+    collision-moved H in_texts ours (map (moved numbers_of) nodes)
+    ∙ ap (option_map (moved_collision in_texts)) (collision-moved H numbers_of (λ (at : NodeNumbers). ours (in_texts at)) nodes)
+    )

@@ -1,3 +1,2 @@
 pub mod Clashes
-pub mod Compare
-pub mod Trees
+pub mod TextString

@@ -9,7 +9,7 @@
 //! The room stands on `ats_inclusion` for the check, on `ats_tree` and `ats_commit` for the texts tree and its digests, and
 //! on `ats_index` for the archive's own texts. What an archive gives is accepted and found right. For every archive with
 //! the root, an accepted text is the archive's own, or the audit returns two different strings with equal digests
-//! (`specs/Verdicts.antt`). How the path is compared may change freely; which strings an audit returns may not.
+//! (`specs/Verdicts.antt`). Which strings an audit returns may not change.
 //!
 //! ```
 //! use ats_hash::{Sha, Steps};
@@ -27,7 +27,7 @@ mod auditing;
 mod giving;
 mod laws;
 mod memory;
-mod path;
+mod own_texts;
 mod verdict;
 
 pub use ats_inclusion::{

@@ -8,8 +8,8 @@ use Rattle.std.proofs.lemmas.Bool.{cond-false}
 use Rattle.std.proofs.lemmas.Slice.Eq.{bytes_eq-Decides}
 use Rattle.ats_commit.specs.Archive.{Archive, header_tag}
 use Rattle.ats_commit.specs.Own.{AreTexts, IsHeaderOf}
-use Rattle.ats_commit.specs.Root.{header_of, header_string, root_of}
-use Rattle.ats_commit.proofs.Public.{own_header}
+use Rattle.ats_commit.specs.Root.{header_string, own_header_string, HasOwnHeader, root_of}
+use Rattle.ats_commit.proofs.Public.{own_numbers}
 use Rattle.ats_dict.specs.Header.{header_bytes}
 use Rattle.ats_dict.specs.declared.header.Header.{Header}
 use Rattle.ats_lists.specs.declared.format.Format.{Format}
@@ -24,9 +24,9 @@ use Rattle.ats_consistency.specs.Shape.{turns, need}
 use Rattle.ats_consistency.specs.Strings.{Beside, beside, header_pair, new_strings, old_strings, ranges, range_pairs, pairs, second_of, extract, part_of}
 use Rattle.ats_consistency.specs.Value.{Growth, IsGrowth, IsInRange, AreInRange}
 use Rattle.ats_consistency.specs.declared.checking.Grown.{Grown}
-use Rattle.ats_consistency.proofs.Public.{growth-binds, tail-same}
+use Rattle.ats_consistency.proofs.Public.{growth-binds}
 use Rattle.ats_growth.specs.Compared.{taken, AreCompared}
-use Rattle.ats_growth.specs.Found.{own_header_string, HasOwnHeader, IsHeaderCollision, new_pairs, old_pairs, shared_pairs, texts_pairs, difference_of}
+use Rattle.ats_growth.specs.Found.{IsHeaderCollision, new_pairs, old_pairs, shared_pairs, texts_pairs, difference_of}
 use Rattle.ats_growth.specs.Unlike.{Two, first_unlike, strings_of, in_part}
 use Rattle.ats_growth.specs.Verdicts.{IsFoundGrown}
 use Rattle.ats_growth.specs.declared.auditing.Collided.{Collided}
@@ -39,14 +39,6 @@ use Rattle.ats_growth.proofs.Told.{in-moved, in-ranges, in-first, in-second, in-
 use Rattle.ats_growth.proofs.Unlikes.{unlike-moved}
 
 -- ---- the headers
-
--- a header with the string of the archive's own has the archive's numbers and roots
-pub own_numbers : (H : List ℕ → List ℕ) → ((m : List ℕ) → length (H m) ≡ 32) → (archive : Archive) (format : Format) (header : Header) → AreTexts archive.texts
-    → IsInRange header → HasOwnHeader H archive format header → IsHeaderOf H archive header
-own_numbers H sized archive format header are range equal =
-    let bytes : List ℕ = header_bytes header.documents header.dict_leaves header.dict_root header.docs_root header.texts_root
-    in let same : own_header_string H archive ≡ header_string format header = (bytes_eq-Decides (own_header_string H archive) (header_string format header)).0 equal
-    in own_header H sized archive header are range (tail-same (header_tag archive.format) (header_tag format) (header_of H archive) bytes same)
 
 -- as many texts were read as the header says
 pub same-number : (H : List ℕ → List ℕ) → ((m : List ℕ) → length (H m) ≡ 32) → (archive : Archive) (format : Format) (header : Header) → AreTexts archive.texts

@@ -3,7 +3,7 @@ use Rattle.std.specs.Prelude.{◌≡◌, ℕ, List, ◌++◌, map, reverse, true
 use Rattle.std.specs.List.{flat_map}
 use Rattle.std.specs.Str.{bytes_eq}
 use Rattle.ats_commit.specs.Archive.{Archive}
-use Rattle.ats_commit.specs.Root.{header_parts, header_string}
+use Rattle.ats_commit.specs.Root.{header_string, own_header_string}
 use Rattle.ats_dict.specs.declared.header.Header.{Header}
 use Rattle.ats_lists.specs.declared.format.Format.{Format}
 use Rattle.ats_tree.specs.Differences.{Hashed, moved, Difference}
@@ -15,14 +15,6 @@ use Rattle.ats_growth.specs.Unlike.{strings_of, in_part}
 use Rattle.ats_growth.specs.Verdicts.{collision_of}
 use Rattle.ats_growth.specs.declared.auditing.Collided.{Collided}
 use Rattle.ats_growth.specs.declared.auditing.Found.{Found}
-
--- the string of an archive's own header
-abbrev pub own_header_string : (List ℕ → List ℕ) → Archive → List ℕ
-own_header_string H archive = header_string archive.format (header_parts H archive)
-
--- the header has the string of the archive's own
-abbrev pub HasOwnHeader : (List ℕ → List ℕ) → Archive → Format → Header → Type 0
-HasOwnHeader H archive format header = bytes_eq (own_header_string H archive) (header_string format header) ≡ true
 
 -- the headers have different strings, and these are the two
 pub record IsHeaderCollision (H : List ℕ → List ℕ) (part : ℕ) (archive : Archive) (format : Format) (header : Header)

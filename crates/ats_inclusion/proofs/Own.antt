@@ -1,16 +1,14 @@
 -- An accepted text is the archive's own, or the first string that differs from the archive's has an equal digest.
-use Rattle.std.proofs.Common.{◌≡◌, ◌⊎◌, ℕ, List, [], ◌∷◌, length, map, Option, Some, None, IsSome, MatchOption, slice_get, ◌≤◌, true, refl, sym, ap, subst, inl, inr, arith}
+use Rattle.std.proofs.Common.{◌≡◌, ◌⊎◌, ℕ, List, [], ◌∷◌, length, map, Option, Some, None, IsSome, MatchOption, slice_get, ◌≤◌, refl, sym, ap, subst, inl, inr, arith}
 use Rattle.std.specs.List.{All}
 use Rattle.std.specs.Prelude.{OnOk, Result, Ok, Err}
 use Rattle.std.specs.Str.{bytes_eq}
 use Rattle.std.proofs.lemmas.Bool.{cond-true, cond-false, cases_Bool}
 use Rattle.std.proofs.lemmas.List.Elements.{All-head}
-use Rattle.std.proofs.lemmas.Slice.Eq.{bytes_eq-Decides}
-use Rattle.ats_commit.specs.Archive.{Archive, header_tag}
+use Rattle.ats_commit.specs.Archive.{Archive}
 use Rattle.ats_commit.specs.Own.{AreTexts, IsHeaderOf}
-use Rattle.ats_commit.specs.Root.{header_of, header_parts, header_string, root_of}
-use Rattle.ats_commit.proofs.Public.{known-by-numbers, own_header}
-use Rattle.ats_dict.specs.Header.{header_bytes}
+use Rattle.ats_commit.specs.Root.{header_string, own_header_string, root_of}
+use Rattle.ats_commit.proofs.Public.{known-by-numbers, own_numbers}
 use Rattle.ats_tree.specs.Differences.{Hashed, moved, Difference, first_difference}
 use Rattle.ats_tree.specs.Nodes.{Node, NodeNumbers, numbers_of}
 use Rattle.ats_tree.specs.Shown.{Shown}
@@ -20,29 +18,6 @@ use Rattle.ats_inclusion.specs.Accepts.{shown_text, AcceptsText}
 use Rattle.ats_inclusion.specs.Strings.{TextPlace, in_texts, own_text_string, text_strings, text_extract, IsOwnText, IsOwnOrCollides}
 use Rattle.ats_inclusion.specs.Value.{TextProof, IsTextInRange}
 use Rattle.ats_refusal.specs.declared.text.TextRefusal.{TextRefusal}
-
--- ---- the header
-
--- the string of the archive's own header
-abbrev own_header_string : (List ℕ → List ℕ) → Archive → List ℕ
-own_header_string H archive = header_string archive.format (header_parts H archive)
-
-head_same : (x y : ℕ) (xs ys : List ℕ) → x ∷ xs ≡ y ∷ ys → y ≡ x
-head_same x y xs ys same = cc
-
-tail_same : (x y : ℕ) (xs ys : List ℕ) → x ∷ xs ≡ y ∷ ys → ys ≡ xs
-tail_same x y xs ys same = cc
-
--- a header with the string of the archive's own has the archive's numbers and roots
-pub own_numbers : (H : List ℕ → List ℕ) → ((m : List ℕ) → length (H m) ≡ 32) → (archive : Archive) (proof : TextProof) → AreTexts archive.texts → IsTextInRange proof
-    → bytes_eq (own_header_string H archive) (header_string proof.format proof.header) ≡ true → IsHeaderOf H archive proof.header
-own_numbers H sized archive proof are range equal =
-    let h = proof.header in
-    let bytes : List ℕ = header_bytes h.documents h.dict_leaves h.dict_root h.docs_root h.texts_root in
-    let same : own_header_string H archive ≡ header_string proof.format proof.header =
-    (bytes_eq-Decides (own_header_string H archive) (header_string proof.format proof.header)).0 equal in
-    own_header H sized archive proof.header are range.header
-    (tail_same (header_tag archive.format) (header_tag proof.format) (header_of H archive) bytes same)
 
 -- ---- the texts tree
 
@@ -80,7 +55,7 @@ text-bound H sized archive doc proof are range accepts =
     elim (cases_Bool (bytes_eq (own_header_string H archive) (header_string proof.format proof.header))) [
       | inl equal ↦
           subst Good (sym (cond-true _ _ _ equal))
-          (tree-bound H sized archive (root_of H archive) doc proof range accepts (own_numbers H sized archive proof are range equal))
+          (tree-bound H sized archive (root_of H archive) doc proof range accepts (own_numbers H sized archive proof.format proof.header are range.header equal))
       | inr other ↦ subst Good (sym (cond-false _ _ _ other)) accepts.kept.0
     ]
 

@@ -14,8 +14,6 @@ pub use Rattle.ats_inclusion.proofs.Refusals.{one_refusal, not_refused}
 pub use Rattle.ats_inclusion.proofs.Own.{own_or_collides}
 -- an accepted text that has no collision with an archive of the root is the archive's own
 pub use Rattle.ats_inclusion.proofs.Own.{own_text}
--- a header with the string of an archive's own has the archive's numbers and roots
-pub use Rattle.ats_inclusion.proofs.Own.{own_numbers}
 -- the strings of the texts tree that the check hashes
 pub use Rattle.ats_inclusion.proofs.Own.{tree_strings_of}
 -- the first string of an accepted text that differs from an archive's own is the first collision

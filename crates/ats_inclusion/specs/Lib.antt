@@ -3,4 +3,4 @@ pub mod Value
 pub mod Accepts
 pub mod Bytes
 pub mod Strings
-pub mod Inner
+pub mod Cursor

@@ -9,7 +9,7 @@ use ats_tree::Revealed;
 
 /// The text at the number of a document, unless it was passed, and the digests left.
 #[derive(Clone, Copy)]
-pub(crate) struct TextCursor<'a> {
+pub struct TextCursor<'a> {
     doc: u32,
     text: &'a [u8],
     is_left: bool,
@@ -19,10 +19,10 @@ pub(crate) struct TextCursor<'a> {
 impl<'a> TextCursor<'a> {
     ghost use Rattle.ats_proof.specs.Seen.{digests_of};
     ghost use Rattle.ats_inclusion.specs.Accepts.{shown_text};
-    ghost use Rattle.ats_inclusion.specs.Inner.Cursor.{leaves_left};
+    ghost use Rattle.ats_inclusion.specs.Cursor.{leaves_left};
 
     /// The text of a view as the leaf of this document.
-    pub(crate) fn of(proof: &TextView<'a>, doc: u32) -> TextCursor<'a>
+    pub fn of(proof: &TextView<'a>, doc: u32) -> TextCursor<'a>
         ensures shown { leaves_left result ≡ shown_text doc proof.now.text }
         ensures digests { digests_of result.digests ≡ proof.now.digests }
     {
@@ -37,7 +37,7 @@ impl<'a> TextCursor<'a> {
 
 impl<'a> Revealed<'a> for TextCursor<'a> {
     ghost use Rattle.ats_proof.specs.Seen.{digests_of};
-    ghost use Rattle.ats_inclusion.specs.Inner.Cursor.{leaves_left};
+    ghost use Rattle.ats_inclusion.specs.Cursor.{leaves_left};
 
     ghost shown = { λ s. leaves_left s };
 

@@ -30,6 +30,7 @@ mod view;
 
 pub use ats_refusal::TextRefusal;
 pub use checking::check_text;
+pub use cursor::TextCursor;
 pub use laws::{
     accepted_texts_are_own, bytes_say_one_text, texts_have_one_refusal, texts_in_range_are_spelled,
 };

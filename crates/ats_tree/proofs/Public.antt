@@ -70,6 +70,8 @@ pub use Rattle.ats_tree.proofs.NodeLemmas.{numbers-back}
 pub use Rattle.ats_tree.proofs.LawLemmas.{elided-rebuilds}
 -- a tree with no leaf has no string at any path
 pub use Rattle.ats_tree.proofs.TurnLemmas.{string-none}
+-- the string at a node of the tree of some leaves of a list: at its root, none below a leaf, and one turn further down
+pub use Rattle.ats_tree.proofs.TurnLemmas.{string-leaf, string-node, string-past, string-left, string-right}
 -- a string that differs from our own at its place and has an equal digest is found as a collision
 pub use Rattle.ats_tree.proofs.Clashes.{collides-is}
 -- a string that equals our own at its place, or has another digest, is not found as a collision

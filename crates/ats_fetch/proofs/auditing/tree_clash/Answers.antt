@@ -1,42 +1,29 @@
-use Rattle.std.proofs.Common.{◌∙◌, [], get_or, arith}
+use Rattle.std.proofs.Common.{◌≡◌, ◌∙◌, ℕ, List, Some, sym, ap}
 use Rattle.std.specs.Option.{option_map}
-use Rattle.ats_fetch.specs.Inner.Compare.{unlike_at}
-use Rattle.ats_fetch.proofs.Clashing.{tree_found, inside_texts, fits_texts, found_clash}
-use Rattle.ats_fetch.proofs.Comparing.{text_of}
+use Rattle.ats_tree.specs.Differences.{first_collision}
+use Rattle.ats_tree.specs.Strings.{node_string, node_strings}
+use Rattle.ats_inclusion.specs.Strings.{own_text_string}
+use Rattle.ats_inclusion.proofs.Public.{tree_strings_of}
+use Rattle.ats_fetch.specs.Inner.Clashes.{difference_in}
+use Rattle.ats_fetch.proofs.Clashing.{tree_found}
 use Rattle.ats_fetch.proofs.auditing.tree_clash.Goals as goal
 
-pub needed_digests-requires : goal.needed_digests-requires
-needed_digests-requires g c =
-    inside_texts g.H.HashKind.hash g.H.HashKind.sized c.args.index.now _ c.args.doc c.args.proof.now c.collection-collection.ensures.texts c.is_in_range.ensures c.requires.header
-    c.requires.accepts c.collection-collection.result.now c.collection-collection.ensures.same
+pub returns-in_ok-copied-in-Some-clause-clash : goal.returns-in_ok-copied-in-Some-clause-clash
+returns-in_ok-copied-in-Some-clause-clash g c =
+    let H = g.H.HashKind.hash in
+    let texts : List (List ℕ) = c.collection.result.now in
+    let found : option_map difference_in c.first_clash.result ≡ first_collision H (own_text_string H c.args.index.now) (tree_strings_of H c.args.doc c.args.proof.now) =
+    tree_found H c.args.index.now c.args.doc c.args.proof.now texts c.first_clash.result c.collection.ensures.same c.first_clash.ensures.place
+    (c.first_clash.ensures.clash
+    ∙ (λ i. first_collision H (node_string H texts) (node_strings H (c.archive.ensures.header i).documents (c.of-shown.ensures.shown i) (c.of-shown.ensures.digests i)))) in
+    ap Some c.in_ok-copied-in-Some.ensures.clash ∙ sym (ap (option_map difference_in) c.in-Some.is) ∙ found
 
-pub compare-compared-requires-clause-inside : goal.compare-compared-requires-clause-inside
-compare-compared-requires-clause-inside g c =
-    let less = inside_texts g.H.HashKind.hash g.H.HashKind.sized c.args.index.now _ c.args.doc c.args.proof.now c.collection-collection.ensures.texts c.is_in_range.ensures c.requires.header
-    c.requires.accepts c.collection-collection.result.now c.collection-collection.ensures.same in
-    (omega arith, omega (arith, less, c.documents.ensures.value))
-
-pub compare-compared-requires-clause-fit : goal.compare-compared-requires-clause-fit
-compare-compared-requires-clause-fit g c =
-    fits_texts g.H.HashKind.hash g.H.HashKind.sized c.args.index.now _ c.args.doc c.args.proof.now c.collection-collection.ensures.texts c.is_in_range.ensures c.requires.header
-    c.requires.accepts c.collection-collection.result.now c.documents.result c.text-their_text.result.now c.as_slice.result.now c.collection-collection.ensures.same c.documents.ensures.value
-    c.text-their_text.ensures.value
-    (c.as_slice.ensures.value ∙ c.in_ok-theirs.ensures ∙ c.digests.ensures)
-
-pub text-requires : goal.text-requires
-text-requires g c =
-    inside_texts g.H.HashKind.hash g.H.HashKind.sized c.args.index.now _ c.args.doc c.args.proof.now c.collection-collection.ensures.texts c.is_in_range.ensures c.requires.header
-    c.requires.accepts c.collection-collection.result.now c.collection-collection.ensures.same
-
-pub returns-clause-clash : goal.returns-clause-clash
-returns-clause-clash g c =
-    let texts = c.collection-collection.result.now in
-    let own = get_or texts c.args.doc [] in
-    let less = inside_texts g.H.HashKind.hash g.H.HashKind.sized c.args.index.now _ c.args.doc c.args.proof.now c.collection-collection.ensures.texts c.is_in_range.ensures c.requires.header
-    c.requires.accepts texts c.collection-collection.ensures.same in
-    let found = tree_found g.H.HashKind.hash g.H.HashKind.sized c.args.index.now c.args.doc c.args.proof.now c.collection-collection.ensures.texts c.is_in_range.ensures c.requires.header
-    texts c.documents.result c.text-their_text.result.now c.as_slice.result.now (option_map (unlike_at own c.text-their_text.result.now) c.compare-compared.result.unlike)
-    c.collection-collection.ensures.same c.documents.ensures.value c.text-their_text.ensures.value
-    (c.as_slice.ensures.value ∙ c.in_ok-theirs.ensures ∙ c.digests.ensures) c.compare-compared.ensures.unlike in
-    found_clash c.clash_at.result own c.as_bytes-text.result.now c.text-their_text.result.now c.compare-compared.result.unlike _
-    c.clash_at.ensures.clash (text_of texts c.args.doc c.text.result.now c.as_bytes-text.result.now less c.as_bytes-text.ensures.value c.text.ensures) found
+pub returns-in-None-clause-clash : goal.returns-in-None-clause-clash
+returns-in-None-clause-clash g c =
+    let H = g.H.HashKind.hash in
+    let texts : List (List ℕ) = c.collection.result.now in
+    let found : option_map difference_in c.first_clash.result ≡ first_collision H (own_text_string H c.args.index.now) (tree_strings_of H c.args.doc c.args.proof.now) =
+    tree_found H c.args.index.now c.args.doc c.args.proof.now texts c.first_clash.result c.collection.ensures.same c.first_clash.ensures.place
+    (c.first_clash.ensures.clash
+    ∙ (λ i. first_collision H (node_string H texts) (node_strings H (c.archive.ensures.header i).documents (c.of-shown.ensures.shown i) (c.of-shown.ensures.digests i)))) in
+    sym (ap (option_map difference_in) c.in-None.is) ∙ found

@@ -1,9 +1,0 @@
-use Rattle.ats_fetch.specs.Inner.Clashes.{HasOwnHeader, IsHeaderClash}
-use Rattle.ats_fetch.proofs.Clashing.{below_found, none_means}
-use Rattle.ats_fetch.proofs.auditing.first_clash.Goals as goal
-
-pub returns-in-None-clause-clash : goal.returns-in-None-clause-clash
-returns-in-None-clause-clash g c =
-    below_found g.H.HashKind.hash g.H.HashKind.sized c.args.index.now c.args.doc c.args.proof.now c.collection-texts.ensures.texts c.is_in_range.ensures c.requires
-    (none_means c.in_ok-clash.field-0 (HasOwnHeader g.H.HashKind.hash c.args.index.now c.args.proof.now) (IsHeaderClash g.H.HashKind.hash c.args.index.now c.args.proof.now) c.in-None.is c.in_ok-clash.ensures.clash)
-    c.tree_clash.result c.tree_clash.ensures.clash
