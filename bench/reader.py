@@ -7,7 +7,7 @@ import subprocess
 import sys
 import time
 from pathlib import Path
-from typing import Iterator, NamedTuple
+from typing import Callable, Iterator, NamedTuple
 
 import asking
 import blocks
@@ -67,12 +67,17 @@ def library(house: House) -> ats_reader.Reader:
 
 def seconds_of(reader: ats_reader.Reader, one: Proof) -> float:
     """The seconds of one check, which accepts."""
-    root, start = bytes.fromhex(one.root), time.perf_counter()
-    answer = reader.check(one.bytes, root, one.query, one.rows)
-    seconds = time.perf_counter() - start
-    if answer.status != 0:
-        measure.stop(f"the library does not accept a proof of {one.query!r}: {answer.line}")
-    return seconds
+    return accepted(reader.check, one.bytes, bytes.fromhex(one.root), one.query, one.rows)
+
+
+def accepted(check: Callable[..., object], *words: object) -> float:
+    """The seconds of one call of the library, which accepts."""
+    start = time.perf_counter()
+    try:
+        check(*words)
+    except ats_reader.Fault as fault:
+        measure.stop(f"the library does not accept what the program made: {fault}")
+    return time.perf_counter() - start
 
 
 def times_of(house: House, one: Proof) -> int:
@@ -106,7 +111,7 @@ def checking_in_page(house: House) -> Iterator[Figure]:
     for (name, algorithm, rows), one in zip(IN_PAGE, proofs(house, house.archive(house.large), IN_PAGE)):
         path.write_bytes(one.bytes)
         times = times_of(house, one)
-        words = ["--experimental-wasm-memory64", measure.HOME / "page" / "times.mjs", made, one.root, rows, one.query, path, times]
+        words = [measure.HOME / "page" / "times.mjs", made, one.root, rows, one.query, path, times]
         page = [float(line) for line in measure.run([node, *map(str, words)], memory=NODE).printed.splitlines()]
         native = [seconds_of(reader, one) * 1e3 for _ in range(times)]
         of = f"{name}, {algorithm}, {rows} rows, {len(one.bytes):,} bytes"
@@ -130,6 +135,12 @@ def checking_both(house: House) -> Iterator[Figure]:
             of = f"{name}, {format}, {path.stat().st_size:,} bytes"
             yield Figure("ms", of, both * 1e3)
             yield Figure("over verify", of, both / verify)
+            proof, root = path.read_bytes(), bytes.fromhex(archive.root)
+            if format == "One" and len(proof) >= LONG:
+                count, reader = blocks.of_check(proof), library(house)
+                turns = [(accepted(reader.both, proof, root, query), house.hashing.seconds(count)) for _ in range(4 * house.runs)]
+                alone, hashed = map(min, zip(*turns))
+                yield Figure("library over hashing", of, alone / hashed)
 
 
 def peak_of(command: list[str]) -> int:
@@ -158,6 +169,11 @@ def fetching(house: House) -> Iterator[Figure]:
     short, whole = measure.in_turns(4 * house.runs, *commands)
     count = blocks.of_string(1 + len(long)) - blocks.of_string(1 + FIRST)
     hashed = min(house.hashing.seconds(count) for _ in range(4 * house.runs))
+    file, root = files[1].read_bytes(), bytes.fromhex(archive.root)
+    count, reader = blocks.of_string(1 + len(long)), library(house)
+    turns = [(accepted(reader.text, file, root, 1), house.hashing.seconds(count)) for _ in range(4 * house.runs)]
+    alone, hashed = map(min, zip(*turns))
+    yield Figure("library over hashing", "a text of 1 MiB", alone / hashed)
     yield Figure("ms", "a text of 1 MiB", whole.seconds * 1e3)
     yield Figure("over hashing", "a text of 1 MiB, without one of 128 KiB", (whole.processor - short.processor) / hashed)
     bytes_more = files[1].stat().st_size - files[0].stat().st_size

@@ -1,4 +1,5 @@
-/* The check of answers of an archive: two calls. README.md says how to link, and what is proved.
+/* The checks of what an archive's server sends: five calls, and two for words. README.md says how to link, and what is
+ * proved.
  *
  * Never pass a null pointer, even with 0 bytes. Pointers are aligned as their types are. What a call writes overlaps
  * nothing else that it is passed, and nobody else changes what it is passed before it returns: no file that is mapped,
@@ -12,36 +13,70 @@
 extern "C" {
 #endif
 
+#define ATS_READER_VERSION 1
+
 /* A document of an answer: its number in the archive, from 0, and bounds of its score. */
 struct ats_row { uint64_t doc, lower, upper; };
 
+/* A term of a query: size bytes of UTF-8 (the rest of word is 0), and how often the query has it. */
+struct ats_term { uint8_t word[64]; uint32_t size, weight; };
+
 struct ats_verdict {
-    uint32_t status;        /* 0 accepted; 1 the proof is refused; 2 the query is not UTF-8, or there is too little
-                               room for rows; 4 r is not 1 to 1,000, or the query is out of its limits; 6 no memory */
+    uint32_t status;        /* 0 accepted; 1 refused; 2 the query is not UTF-8, or there is too little room; 4 r is not
+                               1 to 1,000, or the query is out of its limits; 6 no memory */
     uint32_t reason;        /* 0, or which fault: the first of the list below that the call comes to */
-    uint64_t rows;          /* how many rows are shown; 0 unless the status is 0 */
-    uint64_t first, second; /* the numbers of the fault, in the order of its line; 0 if it has none */
+    uint64_t count;         /* how many rows, documents or terms are shown; 0 unless the status is 0 */
+    uint64_t first, second; /* status 0: what the call says; else the numbers of the fault, 0 where it has none */
 };
 
-/* Faults in the order in which they are found; ats_line has their words, and docs/formats.md what they mean.
- * Status 2: 1 query is not UTF-8. 4: 2 r. 2: 3 room. 4: 4 bytes of the query, 5 no term, 6 words, 7 terms.
- * Status 1: 8 long, 9 cut, 10 magic, 11 version, 12 algorithm, 13 count, 14 order, 15 trailing (all of the shape);
- * 16 other-root, 17 slot-count, 18 dict-misfit, 19 dict-root, 20 slot-wrong, 21 index-out, 22 repeated,
- * 23 list-misfit, 24 list-root, 25 unmet, 26 docs-misfit, 27 docs-root, 28 terms-misfit, 29 terms-root,
- * 30 term-slot, 31 answer-out, 32 answer-repeated, 33 not-settled. Status 6, at any time: 34 memory. */
+/* Faults; ats_line has their words, and docs/formats.md what they mean. They are found in the order of these lists.
+ * All of a query: 1 not UTF-8 (status 2); 2 r, 3 room for rows (2; first: the room), both by ats_check alone; 4 bytes,
+ *   5 no term, 6 words, 7 terms (4). 34 memory (6), at any time.
+ * All but ats_query: 8 long, 9 cut, 10 magic, 11 version, 12 algorithm, 13 count, 14 order, 15 trailing (shape).
+ * ats_both: 35 not-tra, 36 answer-shown. ats_check, ats_both: 16 other-root, 17 slot-count, 18 dict-misfit,
+ *   19 dict-root, 20 slot-wrong, 21 index-out, 22 repeated, 23 list-misfit, 24 list-root, 25 unmet, 26 docs-misfit,
+ *   27 docs-root, 28 terms-misfit, 29 terms-root, 30 term-slot. ats_check: 31 answer-out, 32 answer-repeated,
+ *   33 not-settled. ats_both: 37 no-whole-list, 38 room for documents (2; first: the room, second: how many there are).
+ * ats_text: 16 other-root, 39 doc-out, 40 text-misfit, 41 text-root.
+ * ats_growth: 42 other-old, 43 other-new, 44 shrunk, 45 growth-misfit, 46 old-texts, 47 new-texts.
+ * ats_query: 48 room for terms (2; first: the room, second: how many there are). */
 
-/* Checks the proof_size bytes of a proof under a root of 32 bytes (not its digits), for a query of query_size bytes of
- * UTF-8 and the best r documents. rows has room for `room` rows, which must be at least r.
- * Status 0: the rows of the answer, best first, are in rows[0] to rows[verdict->rows - 1], and the rest of it is as it
- * was. There are at most r of them, or none. Any other status: all of rows is as it was. */
+/* In all calls: a root is 32 bytes (not its digits); a query is query_size bytes of UTF-8. With status 0 what is shown
+ * is in the first verdict->count places of its array, and the rest is as it was. With any other, all of it is. */
+
+/* Checks a proof, for a query and the best r documents. rows has room for `room` rows, which must be at least r.
+ * Status 0: rows has the rows of the answer, best first. There are at most r of them, or none. */
 void ats_check(const uint8_t *proof, size_t proof_size, const uint8_t *root, const uint8_t *query, size_t query_size,
                uint32_t r, struct ats_row *rows, size_t room, struct ats_verdict *verdict);
 
-/* Writes the line that the command `verify` prints for a verdict of status 1 or 4, without a line feed or a 0 byte, to
- * text, which has room for `room` bytes; 128 are always enough. For the status 0 it is empty: print the rows.
+/* Checks a proof of all documents that have every term of a query. docs has room for `room` numbers; 65,536 are always
+ * enough. Status 0: docs has the numbers of all these documents, rising. There may be none. */
+void ats_both(const uint8_t *proof, size_t proof_size, const uint8_t *root, const uint8_t *query, size_t query_size,
+              uint32_t *docs, size_t room, struct ats_verdict *verdict);
+
+/* Checks a file that gives the text of document doc, from 0. Status 0: the text is the verdict->second bytes of the
+ * file from byte verdict->first on, counted from 0. They may be any bytes, and none. */
+void ats_text(const uint8_t *file, size_t file_size, const uint8_t *root, uint32_t doc, struct ats_verdict *verdict);
+
+/* Checks a file that shows how an archive grew. Status 0: the archive of the old root has verdict->first documents,
+ * that of the new root verdict->second, and the texts of the old one are the first of the new one. */
+void ats_growth(const uint8_t *file, size_t file_size, const uint8_t *old_root, const uint8_t *new_root,
+                struct ats_verdict *verdict);
+
+/* Reads a query. terms has room for `room` terms; 32 are always enough. Status 0: terms has its terms, each once, in
+ * the order of their bytes. */
+void ats_query(const uint8_t *query, size_t query_size, struct ats_term *terms, size_t room,
+               struct ats_verdict *verdict);
+
+/* Writes the line that a command prints for a verdict of status 1 or 4, without a line feed or a 0 byte, to text, which
+ * has room for `room` bytes; 128 are always enough. For the status 0 it is empty: print what is shown.
  * Returns 0, and *size is the size of the line; 2 if there is too little room, and *size is the same, but text is as
  * it was; 6 if there is no memory, and both are as they were. */
 uint32_t ats_line(const struct ats_verdict *verdict, uint8_t *text, size_t room, size_t *size);
+
+/* Returns the version of the library, which must be ATS_READER_VERSION, and puts the three numbers of the version of
+ * Unicode by which it finds words into unicode[0] to unicode[2]. */
+uint32_t ats_version(uint32_t *unicode);
 
 #ifdef __cplusplus
 }

@@ -1,22 +1,26 @@
 #!/usr/bin/env python3
-"""Builds the two callers, and plays all vectors for proofs with each. Prints how many passed and failed.
+"""Builds the callers, and plays all vectors of the four checks and of words with each. Prints how many passed and failed, and
+which callers were skipped since their toolchain is missing.
 
 python3 reader/play.py              proves the static library by ./prove, builds it and plays
 python3 reader/play.py ARCHIVE.a    takes a static library that is built already
 """
+import concurrent.futures
 import ctypes
 import json
 import os
+import shutil
 import subprocess
 import sys
 import tempfile
+import time
 
 HERE = os.path.dirname(os.path.abspath(__file__))
 TOP = os.path.dirname(HERE)
 CRATE = os.path.join(TOP, "crates", "ats_reader")
 sys.dont_write_bytecode = True
 sys.path.insert(0, HERE)
-from ats_reader import Reader, Row, Verdict
+from ats_reader import CTerm, CRow, Fault, Reader, Verdict, printed
 
 
 def proved():
@@ -26,16 +30,75 @@ def proved():
     return os.path.join(CRATE, "out", "libats_reader.a")
 
 
+def install(archive, folder):
+    """Installs the library below a folder by the Makefile, and returns the paths of its two forms."""
+    words = [f"ARCHIVE={os.path.abspath(archive)}", f"PREFIX={folder}/prefix", f"OUT={folder}/made"]
+    subprocess.run(["make", "--silent", "-C", HERE, "install", *words], check=True)
+    return os.path.join(folder, "prefix", "lib", "libats_reader.a"), os.path.join(folder, "prefix", "lib", "libats_reader.so.1")
+
+
 def build(archive, folder):
-    """Makes `check` and `libats_reader.so` in the folder, by the lines of README.md."""
-    kit = os.path.dirname(subprocess.run(["rt", "doc"], check=True, capture_output=True, text=True).stdout.strip())
-    heap = os.path.join(kit, "c", "liblibc_c.a")
-    check, shared = os.path.join(folder, "check"), os.path.join(folder, "libats_reader.so")
+    """Makes `check` by C and `libats_reader.so.1` in the folder."""
+    static, shared = install(archive, folder)
+    check = os.path.join(folder, "check")
     subprocess.run(["gcc", "-std=c11", "-O2", "-Wall", "-Wextra", "-Werror", "-I", HERE, "-o", check,
-                    os.path.join(HERE, "check.c"), archive, heap], check=True)
-    subprocess.run(["gcc", "-shared", "-Wl,-u,ats_check,-u,ats_line,-z,defs", "-o", shared, archive, heap], check=True)
+                    os.path.join(HERE, "check.c"), static], check=True)
     return check, shared
 
+
+# ---- the callers: each a name, and the words that call it
+
+def by_go(folder):
+    made, lib = os.path.join(folder, "check-go"), os.path.join(folder, "prefix", "lib")
+    flags = {"PKG_CONFIG_PATH": os.path.join(lib, "pkgconfig"), "GOCACHE": os.path.join(folder, "go"), "GOPROXY": "off",
+             "CGO_LDFLAGS_ALLOW": "-Wl,-rpath.*", "CGO_LDFLAGS": f"-Wl,-rpath,{lib}"}
+    subprocess.run(["go", "build", "-o", made, os.path.join(HERE, "check.go")], check=True, env={**os.environ, **flags},
+                   cwd=folder)
+    return [made]
+
+
+def by_rust(folder):
+    made, lib = os.path.join(folder, "check-rust"), os.path.join(folder, "prefix", "lib")
+    subprocess.run(["rustc", "--edition", "2021", "-O", "-L", lib, "-C", f"link-arg=-Wl,-rpath,{lib}", "-o", made,
+                    os.path.join(HERE, "check.rs")], check=True)
+    return [made]
+
+
+def by_node(folder):
+    return ["node", os.path.join(HERE, "check.mjs"), os.path.join(TOP, "page", "out", "page.wasm")]
+
+
+def by_portable(folder):
+    return [os.path.join(HERE, "portable", "out", "check")]
+
+
+def by_arm64(folder):
+    return ["qemu-aarch64", "-L", "/usr/aarch64-linux-gnu", os.path.join(HERE, "portable", "out", "check-arm64")]
+
+
+SAMPLES = {  # a caller: what must be there, and what makes it
+    "go": (["go", "pkg-config"], [], by_go),
+    "rust": (["rustc"], [], by_rust),
+    "node": (["node"], ["page/out/page.wasm"], by_node),
+    "portable": ([], ["reader/portable/out/check"], by_portable),
+    "arm64": (["qemu-aarch64"], ["reader/portable/out/check-arm64"], by_arm64),
+}
+
+
+def callers(check, folder):
+    """The callers that can be made here; the others are named."""
+    made = {"c": [check]}
+    for name, (tools, files, make) in SAMPLES.items():
+        lacks = [tool for tool in tools if not shutil.which(tool)]
+        lacks += [file for file in files if not os.path.exists(os.path.join(TOP, file))]
+        if lacks:
+            print(f"skipped: {name}, since there is no {lacks[0]}")
+        else:
+            made[name] = make(folder)
+    return made
+
+
+# ---- the vectors
 
 def vector(name):
     with open(os.path.join(TOP, "vectors", name + ".json"), encoding="ascii") as file:
@@ -54,60 +117,102 @@ def joined(parts):
     return bytes(out)
 
 
+def changed(proof, changes):
+    for start, end, digits in changes:
+        proof = proof[:start] + bytes.fromhex(digits) + proof[end:]
+    return proof
+
+
+def lines(it):
+    return "".join(line + "\n" for line in it["lines"]).encode("ascii")
+
+
+def verified(it, proof):
+    return ["verify", it["root"], str(it["r"]), it["query"]], proof, it["status"], lines(it)
+
+
 def cases():
-    """Each vector: file, proof, root, query, r, status, lines."""
+    """Each vector: file, the words of a command but for its file, that file or None, the status, and what is printed."""
     proofs = vector("proofs")
     for it in proofs.values():
-        yield "proofs", bytes.fromhex(it["proof"]), it["root"], it["query"], it["r"], it["status"], it["lines"]
+        yield "proofs", *verified(it, bytes.fromhex(it["proof"]))
     for it in vector("changed"):
         of = proofs[it["of"]]
-        proof = bytes.fromhex(of["proof"])
-        for start, end, digits in it["changes"]:
-            proof = proof[:start] + bytes.fromhex(digits) + proof[end:]
-        asked = [it.get(name, of[name]) for name in ("root", "query", "r")]
-        yield "changed", proof, *asked, it["status"], it["lines"]
+        yield "changed", *verified({**of, **it}, changed(bytes.fromhex(of["proof"]), it["changes"]))
     for it in vector("made"):
-        yield "made", bytes.fromhex(it["proof"]), it["root"], it["query"], it["r"], it["status"], it["lines"]
+        yield "made", *verified(it, bytes.fromhex(it["proof"]))
     for it in vector("inputs"):
-        yield "inputs", bytes(it["zeros"]), "00" * 32, it["text"] * it["times"], it["r"], it["status"], it["lines"]
+        yield "inputs", *verified({**it, "root": "00" * 32, "query": it["text"] * it["times"]}, bytes(it["zeros"]))
     for it in vector("large"):
-        yield "large", joined(it["proof"]), it["root"], it["query"], it["r"], it["status"], it["lines"]
+        yield "large", *verified(it, joined(it["proof"]))
+    for it in vector("both"):
+        yield "both", ["both", it["root"], it["query"]], joined(it["proof"]), it["status"], lines(it)
+    for it in vector("texts"):
+        text = joined(it["text"]) + b"\n" if it["status"] == 0 else lines(it)
+        yield "texts", ["fetch", it["root"], str(it["document"])], joined(it["file"]), it["status"], text
+    for it in vector("growths"):
+        yield "growths", ["growth", it["old_root"], it["new_root"]], joined(it["file"]), it["status"], lines(it)
+    for it in vector("words"):
+        if it["terms"] and len(it["terms"]) <= 32 and sum(count for _, count in it["terms"]) <= 255:
+            yield "words", ["query", it["text"]], None, 0, "".join(f"{term} {count}\n" for term, count in it["terms"]).encode()
 
 
-def by_c(check, folder, proof, root, query, r):
-    name = os.path.join(folder, "proof")
-    with open(name, "wb") as file:
-        file.write(proof)
-    ran = subprocess.run([check, root, str(r), query.encode(), name], capture_output=True, timeout=60)
-    return ran.returncode, ran.stdout.decode("ascii").splitlines()
+def by_program(program, folder, number, words, file):
+    """What a caller prints and how it ends."""
+    if file is not None:
+        name = os.path.join(folder, f"file-{number % 64}-{program[0].rpartition('/')[2]}")
+        with open(name, "wb") as to:
+            to.write(file)
+        words = [*words, name]
+    ran = subprocess.run([*program, *(word.encode() for word in words)], capture_output=True, timeout=120)
+    return ran.returncode, ran.stdout
 
 
-def by_python(reader, proof, root, query, r):
-    answer = reader.check(proof, bytes.fromhex(root), query, r)
-    return answer.status, answer.lines()
+def by_python(reader, folder, number, words, file):
+    name = os.path.join(folder, "file-python")
+    with open(name, "wb") as to:
+        to.write(file or b"")
+    try:
+        return 0, printed(reader, *words, *([] if file is None else [name]))
+    except Fault as fault:
+        return fault.status, fault.line.encode("ascii") + b"\n"
 
+
+# ---- what no vector shows
 
 def rooms(shared):
-    """What no vector shows: too little room, what is left of it, and a query that is not UTF-8."""
-    calls = ctypes.CDLL(shared)
-    it = vector("proofs")["two terms, three rows by tnra"]
+    """Too little room, what is left of it, and a query that is not UTF-8."""
+    calls, size = ctypes.CDLL(shared), ctypes.c_size_t
+    it, all_of = vector("proofs")["two terms, three rows by tnra"], vector("both")[0]
     proof, root, query = bytes.fromhex(it["proof"]), bytes.fromhex(it["root"]), it["query"].encode()
     shown = [tuple(map(int, line.split()[1:])) for line in it["lines"]]
-    size = ctypes.c_size_t
+
+    def told(verdict):
+        return verdict.status, verdict.reason, verdict.count, verdict.first, verdict.second
 
     def check(query, r, room):
-        rows, verdict = (Row * 6)(*[(7, 8, 9)] * 6), Verdict()
-        calls.ats_check(proof, size(len(proof)), root, query, size(len(query)), r, rows, size(room),
-                        ctypes.byref(verdict))
-        told = (verdict.status, verdict.reason, verdict.rows, verdict.first, verdict.second)
-        return told, [(row.doc, row.lower, row.upper) for row in rows]
+        rows, verdict = (CRow * 6)(*[(7, 8, 9)] * 6), Verdict()
+        calls.ats_check(proof, size(len(proof)), root, query, size(len(query)), r, rows, size(room), ctypes.byref(verdict))
+        return told(verdict), [(row.doc, row.lower, row.upper) for row in rows]
+
+    def both(room):
+        docs, verdict, bytes_of = (ctypes.c_uint32 * 6)(*[7] * 6), Verdict(), joined(all_of["proof"])
+        text = all_of["query"].encode()
+        calls.ats_both(bytes_of, size(len(bytes_of)), bytes.fromhex(all_of["root"]), text, size(len(text)), docs, size(room),
+                       ctypes.byref(verdict))
+        return told(verdict), list(docs)
+
+    def terms(query, room):
+        terms, verdict = (CTerm * 3)(*[(tuple([7] * 64), 8, 9)] * 3), Verdict()
+        calls.ats_query(query, size(len(query)), terms, size(room), ctypes.byref(verdict))
+        return told(verdict), [(bytes(term.word), term.size, term.weight) for term in terms]
 
     def line(verdict, room):
         text, told = ctypes.create_string_buffer(b"." * 30, 30), size(99)
         status = calls.ats_line(ctypes.byref(Verdict(*verdict)), text, size(room), ctypes.byref(told))
         return status, told.value, text.raw
 
-    untouched = [(7, 8, 9)] * 6
+    untouched, kept = [(7, 8, 9)] * 6, (bytes([7] * 64), 8, 9)
     yield check(query, 3, 6) == ((0, 0, 3, 0, 0), shown + untouched[3:])
     yield check(query, 3, 3) == ((0, 0, 3, 0, 0), shown + untouched[3:])
     yield check(query, 3, 2) == ((2, 3, 0, 2, 0), untouched)
@@ -116,41 +221,78 @@ def rooms(shared):
     yield check(b"red \xff", 3, 6) == ((2, 1, 0, 0, 0), untouched)
     yield check(b"...", 3, 6) == ((4, 5, 0, 0, 0), untouched)
     yield check(query, 2, 6) == ((1, 33, 0, 0, 0), untouched)
+    found = list(map(int, all_of["lines"]))
+    yield both(6) == ((0, 0, len(found), 0, 0), found + [7] * (6 - len(found)))
+    yield both(len(found)) == ((0, 0, len(found), 0, 0), found + [7] * (6 - len(found)))
+    yield both(len(found) - 1) == ((2, 38, 0, len(found) - 1, len(found)), [7] * 6)
+    yield terms(b"Red hen red", 3) == ((0, 0, 2, 0, 0), [(b"hen" + bytes(61), 3, 1), (b"red" + bytes(61), 3, 2), kept])
+    yield terms(b"Red hen red", 1) == ((2, 48, 0, 1, 2), [kept] * 3)
+    yield terms(b"red \xff", 3) == ((2, 1, 0, 0, 0), [kept] * 3)
+    yield terms(b"...", 3) == ((4, 5, 0, 0, 0), [kept] * 3)
     yield line((1, 30, 0, 12, 3), 30) == (0, 23, b"refused: term-slot 12 3" + b"." * 7)
     yield line((1, 30, 0, 12, 3), 23) == (0, 23, b"refused: term-slot 12 3" + b"." * 7)
     yield line((1, 30, 0, 12, 3), 22) == (2, 23, b"." * 30)
     yield line((2, 3, 0, 2, 0), 30) == (0, 22, b"usage: room for 2 rows" + b"." * 8)
+    yield line((2, 38, 0, 2, 3), 30) == (0, 27, b"usage: room for 2 documents" + b"." * 3)
     yield line((2, 1, 0, 0, 0), 30) == (0, 25, b"usage: query is not UTF-8" + b"." * 5)
     yield line((6, 34, 0, 0, 0), 30) == (0, 6, b"memory" + b"." * 24)
     yield line((0, 0, 3, 0, 0), 30) == (0, 0, b"." * 30)
-    yield line((1, 35, 0, 0, 0), 30) == (0, 0, b"." * 30)
+    yield line((1, 49, 0, 0, 0), 30) == (0, 0, b"." * 30)
+
+
+def compare(made, folder):
+    """Prints how long the library and its portable form take for the longest accepted proof, from start to end."""
+    number, words, file = max(((i, it[1], it[2]) for i, it in enumerate(cases()) if it[0] == "large" and it[3] == 0),
+                              key=lambda it: len(it[2]))
+    for name in ("c", "portable"):
+        times = []
+        for _ in range(5 if name in made else 0):
+            start = time.perf_counter()
+            by_program(made[name], folder, number, words, file)
+            times.append(time.perf_counter() - start)
+        if times:
+            print(f"{name}: {min(times) * 1e3:.0f} ms for a proof of {len(file):,} bytes")
+
+
+class Count:
+    def __init__(self):
+        self.passed, self.failed = {}, 0
+
+    def see(self, name, right, about):
+        if right:
+            self.passed[name] = self.passed.get(name, 0) + 1
+        else:
+            self.failed += 1
+            print(f"failed: {name}: {about}")
+
+
+def play(count, name, call, many):
+    """Plays all vectors with a caller; a program is called for several at a time."""
+    with concurrent.futures.ThreadPoolExecutor(os.cpu_count() if many else 1) as pool:
+        # A word that a program is called with has no byte 0.
+        all_cases = [it for it in cases() if not (many and "\0" in "".join(it[1]))]
+        got = pool.map(lambda it: call(it[0], it[1][1], it[1][2]), enumerate(all_cases))
+        for (file, words, _, status, text), found in zip(all_cases, got):
+            about = f"{words[-1][:40]!r} {text[:60]} {found[0]} {found[1][:60]}"
+            count.see(f"{file} by {name}", found == (status, text), about)
 
 
 def main(archive=None):
-    archive = archive or proved()
-    passed, failed = {}, 0
-
-    def count(name, right, about):
-        nonlocal failed
-        if right:
-            passed[name] = passed.get(name, 0) + 1
-        else:
-            failed += 1
-            print(f"failed: {name}: {about}")
-
+    archive, count = archive or proved(), Count()
     with tempfile.TemporaryDirectory() as folder:
         check, shared = build(archive, folder)
         reader = Reader(shared)
-        for name, proof, root, query, r, status, lines in cases():
-            for caller, got in (("c", by_c(check, folder, proof, root, query, r)),
-                                ("python", by_python(reader, proof, root, query, r))):
-                count(f"{name} by {caller}", got == (status, lines), f"{query[:40]!r} {lines[:1]} {got[0]} {got[1][:1]}")
+        play(count, "python", lambda number, words, file: by_python(reader, folder, number, words, file), False)
+        made = callers(check, folder)
+        for name, program in made.items():
+            play(count, name, lambda number, words, file: by_program(program, folder, number, words, file), True)
+        compare(made, folder)
         for i, right in enumerate(rooms(shared)):
-            count("rooms", right, i)
-    for name, number in passed.items():
+            count.see("rooms", right, i)
+    for name, number in count.passed.items():
         print(f"{name}: {number}")
-    print(f"{sum(passed.values())} passed, {failed} failed")
-    return 1 if failed else 0
+    print(f"{sum(count.passed.values())} passed, {count.failed} failed")
+    return 1 if count.failed else 0
 
 
 if __name__ == "__main__":

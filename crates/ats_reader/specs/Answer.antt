@@ -1,5 +1,5 @@
--- What a caller is shown, and why nothing is shown otherwise.
-use Rattle.std.specs.Prelude.{◌≡◌, ◌⊎◌, ◌<◌, ◌≤◌, ℕ, List, length, take, drop, map}
+-- What `ats_check` shows, and why it shows nothing.
+use Rattle.std.specs.Prelude.{◌≡◌, ◌⊎◌, ◌<◌, ◌≤◌, ℕ, List, length, map}
 use Rattle.std.specs.Str.{IsUtf8}
 use Rattle.sha2.specs.Sha256.{sha256}
 use Rattle.ats_terms.specs.Query.{IsQueryOf}
@@ -8,11 +8,13 @@ use Rattle.ats_proof.specs.Value.{Proof}
 use Rattle.ats_client.specs.Bytes.{IsAcceptedBytes, IsRejectedBytes}
 use Rattle.ats_client.specs.Headline.{IsTopOrCollides}
 use Rattle.ats_client.specs.Rows.{rows_of}
+use Rattle.ats_refusal.specs.declared.proof.Rejection.TheVariants.{Shape, Check}
+use Rattle.ats_reader.specs.Shown.{IsShown}
+use Rattle.ats_reader.specs.Verdicts.{shown_row, accepted}
 use Rattle.ats_reader.specs.declared.fault.Fault.{Fault}
-use Rattle.ats_reader.specs.declared.fault.Fault.TheVariants.{NoText, RowsOut, LittleRoom, NoQuery, Refused, OutOfMemory}
+use Rattle.ats_reader.specs.declared.fault.Fault.TheVariants.{NoText, RowsOut, FewRows, NoQuery, BadShape, Refused, OutOfMemory}
 use Rattle.ats_reader.specs.declared.shown.ShownRow.{ShownRow}
 use Rattle.ats_reader.specs.declared.shown.Verdict.{Verdict}
-use Rattle.ats_reader.specs.Verdicts.{shown_row, with_rows}
 
 -- the query is a text, and the number of rows is within its limits and the room
 pub record IsAsked (text : List ℕ) (r room : ℕ) : Type 0 where
@@ -22,24 +24,26 @@ pub record IsAsked (text : List ℕ) (r room : ℕ) : Type 0 where
   pub fits : r ≤ room
 
 -- the bytes spell an accepted proof under the root for the terms of the text, so that for every archive with the root its
--- rows are right or strings collide; these rows stand at the front of the room, and the rest of it is as it was
+-- rows are right or strings collide; these rows are shown
 pub record IsAnswer (root text : List ℕ) (r : ℕ) (bytes : List ℕ) (before after : List ShownRow) (verdict : Verdict) : Type 0 where
   pub asked : IsAsked text r (length before)
   pub query : List (List ℕ × ℕ)
   pub terms : IsQueryOf text query
   pub proof : Proof
-  pub accepted : IsAcceptedBytes sha256 root query r bytes proof
+  pub proved : IsAcceptedBytes sha256 root query r bytes proof
   pub headline : IsTopOrCollides sha256 root query r proof
-  pub shown : take (length (rows_of query proof)) after ≡ map shown_row (rows_of query proof)
-  pub rest : drop (length (rows_of query proof)) after ≡ drop (length (rows_of query proof)) before
-  pub counted : verdict ≡ with_rows (length (rows_of query proof))
+  pub shown : IsShown ShownRow (map shown_row (rows_of query proof)) before after
+  pub counted : verdict ≡ accepted (length (rows_of query proof)) 0 0
 
 -- why nothing is shown, in the order in which it is found; out of memory needs no cause
 abbrev pub IsFault : List ℕ → List ℕ → ℕ → List ℕ → ℕ → Fault → Type 0
 IsFault root text r bytes room NoText = ¬ IsUtf8 text
 IsFault root text r bytes room (RowsOut told) = IsUtf8 text × (told ≡ r) × ((r ≡ 0) ⊎ (1000 < r))
-IsFault root text r bytes room (LittleRoom told) = IsUtf8 text × (told ≡ room) × (1 ≤ r) × (r ≤ 1000) × (room < r)
+IsFault root text r bytes room (FewRows told) = IsUtf8 text × (told ≡ room) × (1 ≤ r) × (r ≤ 1000) × (room < r)
 IsFault root text r bytes room (NoQuery fault) = IsAsked text r room × IsFirstFault text fault
-IsFault root text r bytes room (Refused rejection) =
-    IsAsked text r room × (query : List (List ℕ × ℕ)) × IsQueryOf text query × IsRejectedBytes sha256 root query r bytes rejection
+IsFault root text r bytes room (BadShape fault) =
+    IsAsked text r room × (query : List (List ℕ × ℕ)) × IsQueryOf text query × IsRejectedBytes sha256 root query r bytes (Shape fault)
+IsFault root text r bytes room (Refused refusal) =
+    IsAsked text r room × (query : List (List ℕ × ℕ)) × IsQueryOf text query × IsRejectedBytes sha256 root query r bytes (Check refusal)
 IsFault root text r bytes room OutOfMemory = Unit {0}
+IsFault root text r bytes room _ = ⊥

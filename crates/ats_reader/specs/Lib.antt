@@ -1,3 +1,9 @@
+pub mod Asked
 pub mod Answer
+pub mod Both
+pub mod Text
+pub mod Growth
+pub mod Query
+pub mod Shown
 pub mod Verdicts
 pub mod Lines

@@ -1,51 +1,86 @@
--- The line of a verdict, as `verify` prints it, without the line feed.
-use Rattle.std.specs.Prelude.{◌++◌, [], ◌==◌, ℕ, List, codes, decimal, if◌then◌else◌}
+-- The line of a verdict, as the commands print it, without the line feed.
+use Rattle.std.specs.Prelude.{◌++◌, [], ◌==◌, ◌^◌, ℕ, List, Option, Some, None, nat_lt, codes, decimal, if◌then◌else◌}
+use Rattle.ats_grammar.specs.declared.fault.ShapeKind.{ShapeKind}
+use Rattle.ats_grammar.specs.declared.fault.ShapeKind.TheVariants.{Long, Cut, Magic, Version, Algorithm, Count, Order, Trailing}
+use Rattle.ats_refusal.specs.Words.{shape_words, refusal_words, text_refusal_words, both_refusal_words, growth_refusal_words}
+use Rattle.ats_refusal.specs.declared.documents.BothRefusal.TheVariants.{NotTra, AnswerShown, NoWholeList}
+use Rattle.ats_refusal.specs.declared.growth.GrowthRefusal.TheVariants.{OtherOld, OtherNew, Shrunk, GrowthMisfit, OldTexts, NewTexts}
+use Rattle.ats_refusal.specs.declared.proof.Refusal.TheVariants.{OtherRoot, SlotCount, DictMisfit, DictRoot, SlotWrong, IndexOut, Repeated, ListMisfit, ListRoot, Unmet, DocsMisfit, DocsRoot, TermsMisfit, TermsRoot, TermSlot, AnswerOut, AnswerRepeated, NotSettled}
+use Rattle.ats_refusal.specs.declared.text.TextRefusal.TheVariants as text
 use Rattle.ats_reader.specs.declared.shown.Verdict.{Verdict}
 
--- the words of a reason's line before its numbers, how many numbers it has, and the words after them; reason 0 is that of an
--- accepted proof, which has no line, and other numbers are no reasons
-abbrev pub words_of : ℕ → List ℕ × ℕ × List ℕ
-words_of reason =
-    if reason == 1 then (codes "usage: query is not UTF-8", 0, codes "")
-    else if reason == 2 then (codes "input: r ", 1, codes "")
-    else if reason == 3 then (codes "usage: room for ", 1, codes " rows")
-    else if reason == 4 then (codes "input: query of ", 1, codes " bytes")
-    else if reason == 5 then (codes "input: query has no term", 0, codes "")
-    else if reason == 6 then (codes "input: query of ", 1, codes " words")
-    else if reason == 7 then (codes "input: query of ", 1, codes " terms")
-    else if reason == 8 then (codes "refused: shape long ", 1, codes "")
-    else if reason == 9 then (codes "refused: shape cut ", 1, codes "")
-    else if reason == 10 then (codes "refused: shape magic ", 1, codes "")
-    else if reason == 11 then (codes "refused: shape version ", 1, codes "")
-    else if reason == 12 then (codes "refused: shape algorithm ", 1, codes "")
-    else if reason == 13 then (codes "refused: shape count ", 1, codes "")
-    else if reason == 14 then (codes "refused: shape order ", 1, codes "")
-    else if reason == 15 then (codes "refused: shape trailing ", 1, codes "")
-    else if reason == 16 then (codes "refused: other-root", 0, codes "")
-    else if reason == 17 then (codes "refused: slot-count ", 1, codes "")
-    else if reason == 18 then (codes "refused: dict-misfit", 0, codes "")
-    else if reason == 19 then (codes "refused: dict-root", 0, codes "")
-    else if reason == 20 then (codes "refused: slot-wrong ", 1, codes "")
-    else if reason == 21 then (codes "refused: index-out ", 2, codes "")
-    else if reason == 22 then (codes "refused: repeated ", 2, codes "")
-    else if reason == 23 then (codes "refused: list-misfit ", 1, codes "")
-    else if reason == 24 then (codes "refused: list-root ", 1, codes "")
-    else if reason == 25 then (codes "refused: unmet ", 1, codes "")
-    else if reason == 26 then (codes "refused: docs-misfit", 0, codes "")
-    else if reason == 27 then (codes "refused: docs-root", 0, codes "")
-    else if reason == 28 then (codes "refused: terms-misfit ", 1, codes "")
-    else if reason == 29 then (codes "refused: terms-root ", 1, codes "")
-    else if reason == 30 then (codes "refused: term-slot ", 2, codes "")
-    else if reason == 31 then (codes "refused: answer-out ", 1, codes "")
-    else if reason == 32 then (codes "refused: answer-repeated ", 1, codes "")
-    else if reason == 33 then (codes "refused: not-settled", 0, codes "")
-    else if reason == 34 then (codes "memory", 0, codes "")
-    else ([], 0, [])
+-- the kind of a fault of the shape
+abbrev pub shape_of : ℕ → Option ShapeKind
+shape_of reason =
+    if reason == 8 then Some Long
+    else if reason == 9 then Some Cut
+    else if reason == 10 then Some Magic
+    else if reason == 11 then Some Version
+    else if reason == 12 then Some Algorithm
+    else if reason == 13 then Some Count
+    else if reason == 14 then Some Order
+    else if reason == 15 then Some Trailing
+    else None
 
-abbrev pub numbers : ℕ → ℕ → ℕ → List ℕ
-numbers count first second =
-    if count == 0 then [] else if count == 1 then decimal first else decimal first ++ (codes " " ++ decimal second)
+-- the words of a rule that does not hold
+abbrev pub rule_words : (reason first second : ℕ) → Option (List ℕ)
+rule_words reason first second =
+    if reason == 16 then Some (refusal_words OtherRoot)
+    else if reason == 17 then Some (refusal_words (SlotCount first))
+    else if reason == 18 then Some (refusal_words DictMisfit)
+    else if reason == 19 then Some (refusal_words DictRoot)
+    else if reason == 20 then Some (refusal_words (SlotWrong first))
+    else if reason == 21 then Some (refusal_words (IndexOut first second))
+    else if reason == 22 then Some (refusal_words (Repeated first second))
+    else if reason == 23 then Some (refusal_words (ListMisfit first))
+    else if reason == 24 then Some (refusal_words (ListRoot first))
+    else if reason == 25 then Some (refusal_words (Unmet first))
+    else if reason == 26 then Some (refusal_words DocsMisfit)
+    else if reason == 27 then Some (refusal_words DocsRoot)
+    else if reason == 28 then Some (refusal_words (TermsMisfit first))
+    else if reason == 29 then Some (refusal_words (TermsRoot first))
+    else if reason == 30 then Some (refusal_words (TermSlot first second))
+    else if reason == 31 then Some (refusal_words (AnswerOut first))
+    else if reason == 32 then Some (refusal_words (AnswerRepeated first))
+    else if reason == 33 then Some (refusal_words NotSettled)
+    else if reason == 35 then Some (both_refusal_words NotTra)
+    else if reason == 36 then Some (both_refusal_words (AnswerShown first))
+    else if reason == 37 then Some (both_refusal_words NoWholeList)
+    else if reason == 39 then Some (text_refusal_words (text.DocOut first))
+    else if reason == 40 then Some (text_refusal_words (text.TextMisfit first))
+    else if reason == 41 then Some (text_refusal_words text.TextRoot)
+    else if reason == 42 then Some (growth_refusal_words OtherOld)
+    else if reason == 43 then Some (growth_refusal_words OtherNew)
+    else if reason == 44 then Some (growth_refusal_words (Shrunk first second))
+    else if reason == 45 then Some (growth_refusal_words (GrowthMisfit first))
+    else if reason == 46 then Some (growth_refusal_words OldTexts)
+    else if reason == 47 then Some (growth_refusal_words NewTexts)
+    else None
+
+-- the words of a refusal after the first one; no rule has numbers of 2^32 or more
+abbrev pub refused_words : (reason first second : ℕ) → Option (List ℕ)
+refused_words reason first second = elim (shape_of reason) [
+  | Some kind ↦ Some (shape_words kind ++ decimal first)
+  | None ↦ if nat_lt first (2 ^ 32) then (if nat_lt second (2 ^ 32) then rule_words reason first second else None) else None
+]
+
+-- the line of any other reason; what is accepted has none, and neither have other numbers
+abbrev pub other_words : (reason first : ℕ) → List ℕ
+other_words reason first =
+    if reason == 1 then codes "usage: query is not UTF-8"
+    else if reason == 2 then codes "input: r " ++ decimal first
+    else if reason == 3 then codes "usage: room for " ++ (decimal first ++ codes " rows")
+    else if reason == 4 then codes "input: query of " ++ (decimal first ++ codes " bytes")
+    else if reason == 5 then codes "input: query has no term"
+    else if reason == 6 then codes "input: query of " ++ (decimal first ++ codes " words")
+    else if reason == 7 then codes "input: query of " ++ (decimal first ++ codes " terms")
+    else if reason == 34 then codes "memory"
+    else if reason == 38 then codes "usage: room for " ++ (decimal first ++ codes " documents")
+    else if reason == 48 then codes "usage: room for " ++ (decimal first ++ codes " terms")
+    else []
 
 abbrev pub line_of : Verdict → List ℕ
-line_of verdict =
-    (words_of verdict.reason).0 ++ (numbers (words_of verdict.reason).1 verdict.first verdict.second ++ (words_of verdict.reason).2)
+line_of verdict = elim (refused_words verdict.reason verdict.first verdict.second) [
+  | Some words ↦ codes "refused: " ++ words
+  | None ↦ other_words verdict.reason verdict.first
+]

@@ -1,25 +1,45 @@
 //! The calls for C.
 
-ghost use Rattle.std.specs.Prelude.{◌≡◌, ◌≢◌, ◌⊎◌, ◌<◌, ◌≤◌, ◌++◌, length, take, drop, map};
+ghost use Rattle.std.specs.Prelude.{◌≡◌, ◌≢◌, ◌⊎◌, ◌<◌, ◌≤◌, ◌++◌, ◌∷◌, [], length, take, drop, map};
 ghost use Rattle.ats_reader.specs.declared.fault.Fault.{Fault};
 ghost use Rattle.ats_reader.specs.Answer.{IsAnswer, IsFault};
-ghost use Rattle.ats_reader.specs.Verdicts.{shown_row, verdict_of};
+ghost use Rattle.ats_reader.specs.Both.{IsBothAnswer, IsBothFault};
+ghost use Rattle.ats_reader.specs.Growth.{IsGrowthAnswer, IsGrowthFault};
 ghost use Rattle.ats_reader.specs.Lines.{line_of};
+ghost use Rattle.ats_reader.specs.Query.{IsQueryAnswer, IsQueryFault};
+ghost use Rattle.ats_reader.specs.Text.{IsTextAnswer, IsTextFault};
+ghost use Rattle.ats_reader.specs.Verdicts.{shown_row, shown_term, verdict_of};
 
-use crate::asking::rows_for;
+use crate::answers::{documents_for, growth_for, rows_for, terms_for, text_for};
 use crate::lines::line;
-use crate::shown::{ShownRow, Verdict, of_fault, shown, with_rows};
+use crate::shown::{ShownRow, ShownTerm, Verdict, accepted, of_fault, shown_row, shown_term};
 use ats_impact::Rows;
+use ats_terms::Query;
 use std::alloc::Global;
+use unicode_segmentation::UNICODE_VERSION;
+
+// The version of the calls and of what they write.
+const VERSION: u32 = 1;
 
 // Puts the rows at the front of the room for them.
-fn show_all(rows: &Rows, room: &mut [ShownRow])
+fn show_rows(rows: &Rows, room: &mut [ShownRow])
     requires { length rows.now ≤ length room.old }
     ensures shown { take (length rows.now) room.new ≡ map shown_row rows.now }
     ensures rest { drop (length rows.now) room.new ≡ drop (length rows.now) room.old }
 {
     for i in 0..rows.len() {
-        room[i] = shown(rows.get(i));
+        room[i] = shown_row(rows.get(i));
+    }
+}
+
+// Puts the terms at the front of the room for them.
+fn show_terms(query: &Query, room: &mut [ShownTerm])
+    requires { length query.now ≤ length room.old }
+    ensures shown { take (length query.now) room.new ≡ map shown_term query.now }
+    ensures rest { drop (length query.now) room.new ≡ drop (length query.now) room.old }
+{
+    for i in 0..query.len() {
+        room[i] = shown_term(query, i);
     }
 }
 
@@ -42,8 +62,96 @@ pub extern "C" fn ats_check(
 {
     *verdict = match rows_for(alloc, proof, root, query, r, rows.len()) {
         Ok(answer) => {
-            show_all(&answer, rows);
-            with_rows(answer.len())
+            show_rows(&answer, rows);
+            accepted(answer.len(), 0, 0)
+        }
+        Err(fault) => of_fault(fault),
+    };
+}
+
+/// Checks the bytes of a proof under a root, as one of all documents that have every term of a query. `docs` needs room
+/// for these documents.
+#[unsafe(no_mangle)]
+pub extern "C" fn ats_both(
+    alloc: Global,
+    proof: &[u8],
+    root: &[u8; 32],
+    query: &[u8],
+    docs: &mut [u32],
+    verdict: &mut Verdict,
+)
+    ensures accepted { verdict.new.status ≡ 0
+        → IsBothAnswer root.now query.now proof.now docs.old docs.new verdict.new }
+    ensures fault { verdict.new.status ≢ 0 → (fault : Fault)
+        × IsBothFault root.now query.now proof.now (length docs.old) fault × (verdict.new ≡ verdict_of fault) }
+    ensures unchanged { verdict.new.status ≢ 0 → docs.new ≡ docs.old }
+{
+    *verdict = match documents_for(alloc, proof, root, query, docs.len()) {
+        Ok(shown) => {
+            docs[..shown.len()].copy_from_slice(shown.as_slice());
+            accepted(shown.len(), 0, 0)
+        }
+        Err(fault) => of_fault(fault),
+    };
+}
+
+/// Checks the bytes of a file that gives the text of document `doc`, from 0, under a root, and tells where the text lies
+/// in them.
+#[unsafe(no_mangle)]
+pub extern "C" fn ats_text(
+    alloc: Global,
+    file: &[u8],
+    root: &[u8; 32],
+    doc: u32,
+    verdict: &mut Verdict,
+)
+    ensures accepted { verdict.new.status ≡ 0 → IsTextAnswer root.now doc file.now verdict.new }
+    ensures fault { verdict.new.status ≢ 0 → (fault : Fault)
+        × IsTextFault root.now doc file.now fault × (verdict.new ≡ verdict_of fault) }
+{
+    *verdict = match text_for(alloc, file, root, doc) {
+        Ok(text) => accepted(0, text.first, text.size),
+        Err(fault) => of_fault(fault),
+    };
+}
+
+/// Checks the bytes of a file that shows how the archive of one root grew to that of the other, and tells how many
+/// documents both have.
+#[unsafe(no_mangle)]
+pub extern "C" fn ats_growth(
+    alloc: Global,
+    file: &[u8],
+    old_root: &[u8; 32],
+    new_root: &[u8; 32],
+    verdict: &mut Verdict,
+)
+    ensures accepted { verdict.new.status ≡ 0 → IsGrowthAnswer old_root.now new_root.now file.now verdict.new }
+    ensures fault { verdict.new.status ≢ 0 → (fault : Fault)
+        × IsGrowthFault old_root.now new_root.now file.now fault × (verdict.new ≡ verdict_of fault) }
+{
+    *verdict = match growth_for(alloc, file, old_root, new_root) {
+        Ok(grown) => accepted(0, grown.old as u64, grown.new as u64),
+        Err(fault) => of_fault(fault),
+    };
+}
+
+/// Reads a query. `terms` needs room for its terms.
+#[unsafe(no_mangle)]
+pub extern "C" fn ats_query(
+    alloc: Global,
+    query: &[u8],
+    terms: &mut [ShownTerm],
+    verdict: &mut Verdict,
+)
+    ensures accepted { verdict.new.status ≡ 0 → IsQueryAnswer query.now terms.old terms.new verdict.new }
+    ensures fault { verdict.new.status ≢ 0 → (fault : Fault)
+        × IsQueryFault query.now (length terms.old) fault × (verdict.new ≡ verdict_of fault) }
+    ensures unchanged { verdict.new.status ≢ 0 → terms.new ≡ terms.old }
+{
+    *verdict = match terms_for(alloc, query, terms.len()) {
+        Ok(read) => {
+            show_terms(&read, terms);
+            accepted(read.len(), 0, 0)
         }
         Err(fault) => of_fault(fault),
     };
@@ -76,4 +184,15 @@ pub extern "C" fn ats_line(
     }
     text[..line.len()].copy_from_slice(line.as_bytes());
     0
+}
+
+/// Returns the version of the calls, and writes the three numbers of that of Unicode by which words are found.
+#[unsafe(no_mangle)]
+pub extern "C" fn ats_version(unicode: &mut [u32; 3]) -> u32
+    ensures calls { result ≡ 1 }
+    ensures unicode { unicode.new ≡ 18 ∷ 0 ∷ 0 ∷ [] }
+{
+    let (major, minor, update) = UNICODE_VERSION;
+    *unicode = [major as u32, minor as u32, update as u32];
+    VERSION
 }

@@ -1,12 +1,14 @@
-//! Why no rows are shown.
+//! Why nothing is shown.
 
 ghost use Rattle.std.specs.Prelude.{◌≡◌};
+ghost use Rattle.ats_reader.specs.declared.fault.Fault.TheVariants.{RowsOut, NoQuery, BadShape, BothRefused, TextRefused, GrowthRefused, OutOfMemory};
 
-use ats_client::Rejection;
+use ats_grammar::ShapeFault;
 use ats_impact::ROut;
+use ats_refusal::{BothRefusal, GrowthRefusal, Refusal, TextRefusal};
 use ats_terms::QueryFault;
 
-/// Why no rows are shown: the first of these that holds, in this order. Memory may run out at any time.
+/// Why a call shows nothing: the first of those that it can come to. Memory may run out at any time.
 #[derive(Clone, Copy)]
 pub(crate) enum Fault {
     /// The query is not UTF-8.
@@ -14,17 +16,27 @@ pub(crate) enum Fault {
     /// The number of rows is not in 1 to 1,000.
     RowsOut { r: u32 },
     /// There is room for fewer rows than are asked for.
-    LittleRoom { room: usize },
+    FewRows { room: usize },
     /// The text is no query, or memory ran out.
     NoQuery(QueryFault),
-    /// The bytes are not accepted.
-    Refused(Rejection),
+    /// The bytes do not spell what they are checked for.
+    BadShape(ShapeFault),
+    /// The proof of an answer is refused.
+    Refused(Refusal),
+    /// The proof of all documents is refused.
+    BothRefused(BothRefusal),
+    /// There is room for fewer documents than the accepted proof shows.
+    FewDocuments { room: usize, documents: usize },
+    /// The text is refused.
+    TextRefused(TextRefusal),
+    /// The growth is refused.
+    GrowthRefused(GrowthRefusal),
+    /// There is room for fewer terms than the query has.
+    FewTerms { room: usize, terms: usize },
     OutOfMemory,
 }
 
 impl From<ROut> for Fault {
-    ghost use Rattle.ats_reader.specs.declared.fault.Fault.TheVariants.{RowsOut};
-
     ghost from_gives = { λ out fault. fault ≡ RowsOut out.r };
 
     fn from(out: ROut) -> Self {
@@ -33,11 +45,49 @@ impl From<ROut> for Fault {
 }
 
 impl From<QueryFault> for Fault {
-    ghost use Rattle.ats_reader.specs.declared.fault.Fault.TheVariants.{NoQuery};
-
     ghost from_gives = { λ query fault. fault ≡ NoQuery query };
 
     fn from(query: QueryFault) -> Self {
         Fault::NoQuery(query)
+    }
+}
+
+impl From<ShapeFault> for Fault {
+    ghost from_gives = { λ shape fault. fault ≡ BadShape shape };
+
+    fn from(shape: ShapeFault) -> Self {
+        Fault::BadShape(shape)
+    }
+}
+
+impl From<BothRefusal> for Fault {
+    ghost from_gives = { λ refusal fault. fault ≡ BothRefused refusal };
+
+    fn from(refusal: BothRefusal) -> Self {
+        Fault::BothRefused(refusal)
+    }
+}
+
+impl From<TextRefusal> for Fault {
+    ghost from_gives = { λ refusal fault. fault ≡ TextRefused refusal };
+
+    fn from(refusal: TextRefusal) -> Self {
+        Fault::TextRefused(refusal)
+    }
+}
+
+impl From<GrowthRefusal> for Fault {
+    ghost from_gives = { λ refusal fault. fault ≡ GrowthRefused refusal };
+
+    fn from(refusal: GrowthRefusal) -> Self {
+        Fault::GrowthRefused(refusal)
+    }
+}
+
+impl From<ats_bound::OutOfMemory> for Fault {
+    ghost from_gives = { λ _ fault. fault ≡ OutOfMemory };
+
+    fn from(_: ats_bound::OutOfMemory) -> Self {
+        Fault::OutOfMemory
     }
 }

@@ -1,71 +1,126 @@
 //! The line of a verdict.
 
 ghost use Rattle.std.specs.Prelude.{◌≡◌, IfOk, string_bytes};
-ghost use Rattle.ats_reader.specs.Lines.{words_of, numbers, line_of};
+ghost use Rattle.ats_reader.specs.Lines.{shape_of, rule_words, refused_words, other_words, line_of};
 
 use crate::shown::Verdict;
+use ats_grammar::{ShapeFault, ShapeKind};
+use ats_refusal::{
+    BothRefusal, GrowthRefusal, Phrase, Refusal, Rejection, TextRefusal, both_refusal_words,
+    growth_refusal_words, refusal_words, rejection_words, text_refusal_words,
+};
 use std::alloc::{AllocError, Global};
 
-// The words of a reason's line before its numbers, how many numbers it has, and the words after them.
-fn words(reason: u32) -> (&'static str, u32, &'static str)
-    ensures before { result.0.now ≡ (words_of reason).0 }
-    ensures count { result.1 ≡ (words_of reason).1 }
-    ensures after { result.2.now ≡ (words_of reason).2 }
+// The kind of a fault of the shape.
+fn shape_of(reason: u32) -> Option<ShapeKind>
+    ensures { result ≡ shape_of reason }
 {
     match reason {
-        1 => ("usage: query is not UTF-8", 0, ""),
-        2 => ("input: r ", 1, ""),
-        3 => ("usage: room for ", 1, " rows"),
-        4 => ("input: query of ", 1, " bytes"),
-        5 => ("input: query has no term", 0, ""),
-        6 => ("input: query of ", 1, " words"),
-        7 => ("input: query of ", 1, " terms"),
-        8 => ("refused: shape long ", 1, ""),
-        9 => ("refused: shape cut ", 1, ""),
-        10 => ("refused: shape magic ", 1, ""),
-        11 => ("refused: shape version ", 1, ""),
-        12 => ("refused: shape algorithm ", 1, ""),
-        13 => ("refused: shape count ", 1, ""),
-        14 => ("refused: shape order ", 1, ""),
-        15 => ("refused: shape trailing ", 1, ""),
-        16 => ("refused: other-root", 0, ""),
-        17 => ("refused: slot-count ", 1, ""),
-        18 => ("refused: dict-misfit", 0, ""),
-        19 => ("refused: dict-root", 0, ""),
-        20 => ("refused: slot-wrong ", 1, ""),
-        21 => ("refused: index-out ", 2, ""),
-        22 => ("refused: repeated ", 2, ""),
-        23 => ("refused: list-misfit ", 1, ""),
-        24 => ("refused: list-root ", 1, ""),
-        25 => ("refused: unmet ", 1, ""),
-        26 => ("refused: docs-misfit", 0, ""),
-        27 => ("refused: docs-root", 0, ""),
-        28 => ("refused: terms-misfit ", 1, ""),
-        29 => ("refused: terms-root ", 1, ""),
-        30 => ("refused: term-slot ", 2, ""),
-        31 => ("refused: answer-out ", 1, ""),
-        32 => ("refused: answer-repeated ", 1, ""),
-        33 => ("refused: not-settled", 0, ""),
-        34 => ("memory", 0, ""),
-        _ => ("", 0, ""),
+        8 => Some(ShapeKind::Long),
+        9 => Some(ShapeKind::Cut),
+        10 => Some(ShapeKind::Magic),
+        11 => Some(ShapeKind::Version),
+        12 => Some(ShapeKind::Algorithm),
+        13 => Some(ShapeKind::Count),
+        14 => Some(ShapeKind::Order),
+        15 => Some(ShapeKind::Trailing),
+        _ => None,
     }
 }
 
-fn numbers(alloc: Global, count: u32, first: u64, second: u64) -> Result<String, AllocError>
-    ensures { IfOk result (λ text. string_bytes text ≡ numbers count first second) }
+// The words of a rule that does not hold.
+fn rule_words(reason: u32, first: u32, second: u32) -> Option<Phrase>
+    ensures { result ≡ rule_words reason first second }
 {
-    match count {
-        0 => format!(in alloc; ""),
-        1 => format!(in alloc; "{first}"),
-        _ => format!(in alloc; "{first} {second}"),
+    let words = match reason {
+        16 => refusal_words(Refusal::OtherRoot),
+        17 => refusal_words(Refusal::SlotCount { shown: first }),
+        18 => refusal_words(Refusal::DictMisfit),
+        19 => refusal_words(Refusal::DictRoot),
+        20 => refusal_words(Refusal::SlotWrong { term: first }),
+        21 => refusal_words(Refusal::IndexOut {
+            term: first,
+            entry: second,
+        }),
+        22 => refusal_words(Refusal::Repeated {
+            term: first,
+            entry: second,
+        }),
+        23 => refusal_words(Refusal::ListMisfit { term: first }),
+        24 => refusal_words(Refusal::ListRoot { term: first }),
+        25 => refusal_words(Refusal::Unmet { index: first }),
+        26 => refusal_words(Refusal::DocsMisfit),
+        27 => refusal_words(Refusal::DocsRoot),
+        28 => refusal_words(Refusal::TermsMisfit { doc: first }),
+        29 => refusal_words(Refusal::TermsRoot { doc: first }),
+        30 => refusal_words(Refusal::TermSlot {
+            doc: first,
+            term: second,
+        }),
+        31 => refusal_words(Refusal::AnswerOut { row: first }),
+        32 => refusal_words(Refusal::AnswerRepeated { row: first }),
+        33 => refusal_words(Refusal::NotSettled),
+        35 => both_refusal_words(BothRefusal::NotTra),
+        36 => both_refusal_words(BothRefusal::AnswerShown { rows: first }),
+        37 => both_refusal_words(BothRefusal::NoWholeList),
+        39 => text_refusal_words(TextRefusal::DocOut { documents: first }),
+        40 => text_refusal_words(TextRefusal::TextMisfit { digests: first }),
+        41 => text_refusal_words(TextRefusal::TextRoot),
+        42 => growth_refusal_words(GrowthRefusal::OtherOld),
+        43 => growth_refusal_words(GrowthRefusal::OtherNew),
+        44 => growth_refusal_words(GrowthRefusal::Shrunk {
+            old: first,
+            new: second,
+        }),
+        45 => growth_refusal_words(GrowthRefusal::GrowthMisfit { digests: first }),
+        46 => growth_refusal_words(GrowthRefusal::OldTexts),
+        47 => growth_refusal_words(GrowthRefusal::NewTexts),
+        _ => return None,
+    };
+    Some(words)
+}
+
+// The words after the first one of what is refused.
+fn refused_words(reason: u32, first: u64, second: u64) -> Option<Phrase>
+    ensures { result ≡ refused_words reason first second }
+{
+    if let Some(kind) = shape_of(reason) {
+        return Some(rejection_words(Rejection::Shape(ShapeFault { at: first, kind })));
+    }
+    if first < 1 << 32 && second < 1 << 32 {
+        return rule_words(reason, first as u32, second as u32);
+    }
+    None
+}
+
+// The line of any other reason. It is empty for what is accepted, and for a reason that is none.
+fn other_words(reason: u32, first: u64) -> Phrase
+    ensures { result ≡ other_words reason first }
+{
+    match reason {
+        1 => Phrase::plain("usage: query is not UTF-8"),
+        2 => Phrase::number("input: r ", first),
+        3 => Phrase::around("usage: room for ", first, " rows"),
+        4 => Phrase::around("input: query of ", first, " bytes"),
+        5 => Phrase::plain("input: query has no term"),
+        6 => Phrase::around("input: query of ", first, " words"),
+        7 => Phrase::around("input: query of ", first, " terms"),
+        34 => Phrase::plain("memory"),
+        38 => Phrase::around("usage: room for ", first, " documents"),
+        48 => Phrase::around("usage: room for ", first, " terms"),
+        _ => Phrase::plain(""),
     }
 }
 
-/// The line of a verdict, without a line feed. It is empty for an accepted proof and for a reason that is none.
+/// The line of a verdict, without a line feed.
 pub(crate) fn line(alloc: Global, verdict: &Verdict) -> Result<String, AllocError>
     ensures { IfOk result (λ line. string_bytes line ≡ line_of verdict.now) }
 {
-    let (before, count, after) = words(verdict.reason);
-    let numbers = numbers(alloc, count, verdict.first, verdict.second)?;
-    format!(in alloc; "{before}{numbers}{after}")
+    match refused_words(verdict.reason, verdict.first, verdict.second) {
+        Some(words) => {
+            let words = words.text(alloc)?;
+            format!(in alloc; "refused: {words}")
+        }
+        None => other_words(verdict.reason, verdict.first).text(alloc),
+    }
 }

@@ -1,6 +1,6 @@
 use Rattle.std.proofs.Common.{◌≡◌, length, take, drop, map}
 use Rattle.ats_reader.specs.Verdicts.{shown_row}
-use Rattle.ats_reader.proofs.export.show_all.Given as goal
+use Rattle.ats_reader.proofs.export.show_rows.Given as goal
 
 -- the rows so far are shown, and the rest is as it was
 abbrev pub invariant-loop-i : goal.invariant-loop-i
