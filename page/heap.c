@@ -23,7 +23,8 @@ static u64 from_top(u64 size) {
     u64 has = (u64)__builtin_wasm_memory_size(0) * PAGE;
     if (top + size > has) {
         u64 pages = (top + size - has + PAGE - 1) / PAGE;
-        if (__builtin_wasm_memory_grow(0, pages) == (u64)-1) return 0;
+        /* A refusal is -1, of which a module that was lowered to 32-bit memory keeps the low half alone. */
+        if ((unsigned)__builtin_wasm_memory_grow(0, pages) == (unsigned)-1) return 0;
     }
     u64 at = top;
     top += size;

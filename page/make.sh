@@ -1,6 +1,6 @@
 #!/bin/bash
-# Makes the page in page/out: proves crates/ats_reader by ./prove, compiles what was proved for the browser, and pins every
-# file of the page by its SHA-256. README.md says what of this is proved, and what is trusted.
+# Makes the page in page/out: proves crates/ats_reader by ./prove, compiles what was proved for browsers, lowers it to 32-bit
+# memory, and pins every file of the page by its SHA-256. README.md says what of this is proved, and what is trusted.
 set -eu
 here=$(dirname "$(readlink -f "$0")")
 top=$(dirname "$here")
@@ -11,6 +11,7 @@ trap 'rm -rf "$work"' EXIT
 
 # All that the module may call: the heap, and what clang itself makes on every processor.
 calls='rattle_(alloc|realloc|dealloc)|llvm\.(memset|memmove|memcpy|cttz|ctlz|ctpop|bswap|trap)(\..*)?'
+exports='ats_check ats_both ats_text ats_growth ats_query ats_line ats_version page_room page_give'
 # LLVM's own description of memory in wasm64; pointers and whole numbers have the sizes of x86-64.
 layout='e-m:e-p:64:64-p10:8:8-p20:8:8-i64:64-i128:128-n32:64-S128-ni:1:10:20'
 wasm='--target=wasm64-unknown-unknown -mcpu=lime1 -ffunction-sections -fdata-sections --no-default-config -fintegrated-cc1 -Werror'
@@ -64,13 +65,28 @@ compile() {
     "$clang" $wasm -O3 -mllvm -expand-div-rem-bits=64 -c -x ir "$work/page.ll" -o "$work/page.o"
     # shellcheck disable=SC2086
     "$clang" $wasm -O2 -Wall -Wextra -ffreestanding -nostdinc -mbulk-memory -c "$here/heap.c" -o "$work/heap.o"
-    "$kit/toolchain/bin/ld.lld" -flavor wasm -mwasm64 --no-entry --stack-first -z stack-size=1048576 --gc-sections \
-        --strip-all --fatal-warnings --threads=1 --export=ats_check --export=ats_line --export=page_room --export=page_give \
+    # The last page of 4 GiB stays free, so that an address below 0 is outside the memory in the lowered module, too.
+    # shellcheck disable=SC2046
+    "$kit/toolchain/bin/ld.lld" -flavor wasm -mwasm64 --no-entry --stack-first -z stack-size=1048576 \
+        --max-memory=4294901760 --gc-sections --strip-all --fatal-warnings --threads=1 $(printf -- ' --export=%s' $exports) \
         -o "$work/page.wasm" "$work/heap.o" "$work/page.o"
 }
 
+# Lowers the module to 32-bit memory, which every browser has.
+shorten() {
+    if ! command -v wasm-opt >/dev/null; then
+        echo 'make.sh: there is no wasm-opt (Debian: binaryen), so the page will want a browser with 64-bit memory' >&2
+        return
+    fi
+    wasm-opt --enable-memory64 --enable-bulk-memory --enable-sign-ext --enable-mutable-globals \
+        --enable-nontrapping-float-to-int --memory64-lowering "$work/page.wasm" -o "$work/page32.wasm"
+    mv "$work/page32.wasm" "$work/page.wasm"
+}
+
 "$top/prove" ats_reader
+echo 'make.sh: compiling it for browsers' >&2
 lower
 only_known_calls
 compile
+shorten
 python3 "$here/pin.py" "$work/page.wasm" "$here/out"

@@ -1,9 +1,9 @@
-// Plays the vectors for proofs with page.wasm, and those of `ask` with ask.mjs: in a page that page/test serves, or in Node:
-// node --experimental-wasm-memory64 page/play.mjs page/out
+// Plays the vectors of the four checks and of words with page.wasm, and those of `ask` with ask.mjs: in a page that page/test
+// serves, or in Node: node page/play.mjs page/out
 import { readReply, request } from './ask.mjs';
 import { bytesOf, checker, compile, linesOf } from './check.mjs';
 
-const FILES = ['proofs', 'changed', 'made', 'inputs', 'large', 'asked'];
+const FILES = ['proofs', 'changed', 'made', 'inputs', 'large', 'both', 'texts', 'growths', 'words', 'asked'];
 
 function changed(proof, changes) {
   for (const [start, end, digits] of changes) {
@@ -28,8 +28,8 @@ function joined(parts) {
   return out;
 }
 
-/** Each vector: file, what it is about, the proof, root, query, r, and the status and lines that are wanted. */
-function* cases(files) {
+/** Each vector for proofs: file, what it is about, the proof, root, query, r, and the status and lines that are wanted. */
+function* proofs(files) {
   const whole = (file, about, it) => ({ file, about, ...it, proof: bytesOf(it.proof) });
   for (const [about, it] of Object.entries(files.proofs)) yield whole('proofs', about, it);
   for (const it of files.changed) {
@@ -44,14 +44,37 @@ function* cases(files) {
   for (const it of files.large) yield { ...it, file: 'large', proof: joined(it.proof) };
 }
 
+/** Each vector of a check: file, what it is about, what is wanted, and what the call answers. */
+function* cases(it, files) {
+  for (const { file, about, proof, root, query, r, status, lines } of proofs(files)) {
+    yield { file, about, status, lines, bytes: proof.length, got: it.check(proof, bytesOf(root), query, r) };
+  }
+  for (const { about, proof, root, query, status, lines } of files.both) {
+    yield { file: 'both', about, status, lines, got: it.both(joined(proof), bytesOf(root), query) };
+  }
+  for (const { about, file, root, document: doc, status, text, lines } of files.texts) {
+    const got = it.text(joined(file), bytesOf(root), doc);
+    yield { file: 'texts', about, status, lines: status === 0 ? [...joined(text)] : lines, got, shown: got.text && [...got.text] };
+  }
+  for (const { about, file, old_root: old, new_root: now, status, lines } of files.growths) {
+    yield { file: 'growths', about, status, lines, got: it.growth(joined(file), bytesOf(old), bytesOf(now)) };
+  }
+  for (const { text, terms } of files.words.filter(isQuery)) {
+    const got = it.query(text), shown = got.terms.map(({ term, weight }) => [new TextDecoder().decode(term), weight]);
+    yield { file: 'words', about: text, status: 0, lines: terms, got, shown };
+  }
+}
+
+// A text with some terms, and no more than a query may have.
+const isQuery = ({ terms }) => terms.length > 0 && terms.length <= 32 && terms.reduce((sum, [, count]) => sum + count, 0) <= 255;
+
 /** Plays all vectors. Returns the numbers that passed, by file, and what failed. */
 export async function play(module, files) {
   const it = await checker(module), passed = {}, failed = [], times = [];
-  for (const { file, about, proof, root, query, r, status, lines } of cases(files)) {
-    const got = it.check(proof, bytesOf(root), query, r);
-    if (got.status === status && same(linesOf(got), lines)) passed[file] = (passed[file] ?? 0) + 1;
+  for (const { file, about, status, lines, bytes, got, shown = linesOf(got) } of cases(it, files)) {
+    if (got.status === status && same(shown, lines)) passed[file] = (passed[file] ?? 0) + 1;
     else failed.push(`${file}: ${about}: status ${got.status} ${linesOf(got)[0]}`);
-    if (proof.length >= 100000) times.push({ about, bytes: proof.length, ms: got.ms });
+    if (bytes >= 100000) times.push({ about, bytes, ms: got.ms });
   }
   for (const { about, request: wanted, reply, root, algorithm, r, query, status, lines } of files.asked) {
     const bytes = request(algorithm, r, query), got = await answerTo(it, joined(reply), bytesOf(root), query, r);

@@ -1,5 +1,5 @@
 // Checks one proof many times as the page does, in Node, and prints the milliseconds of each check:
-// node --experimental-wasm-memory64 page/times.mjs page/out ROOT R QUERY PROOF TIMES
+// node page/times.mjs page/out ROOT R QUERY PROOF TIMES
 import { readFileSync } from 'node:fs';
 import { bytesOf, checker, compile } from './check.mjs';
 
