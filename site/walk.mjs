@@ -1,0 +1,152 @@
+// The TNRA walk: the first cut of the schedule at which an answer is settled, as docs/client.md defines it.
+
+const STEPS = [1117, 1218, 1328, 1448, 1579, 1722, 1878];
+
+export function idf(documents, having) {
+  const q = Math.floor(1024 * (2 * documents + 2) / (2 * having + 1));
+  if (q < 1024) return 1;
+  const e = 21 - Math.clz32(q), m = q >>> e; // q is below 2^28
+  return 1 + 8 * e + STEPS.filter(step => step <= m).length;
+}
+
+/** What a list may still add to a score after its first `shown` entries. */
+const restOf = ({ list, coefficient }, shown) => shown === list.length ? 0 : coefficient * list.impacts[shown - 1];
+
+/** The schedule: which list each turn advances, as far as the entries go that are here. A lane is { list, coefficient }. */
+class Schedule {
+  constructor(lanes) {
+    this.lanes = lanes;
+    this.turns = new Uint8Array(1024); // there are at most 32 lanes
+    this.count = 0;
+    this.shown = lanes.map(() => 1); // the cut after all turns
+  }
+
+  take(lane) {
+    if (this.count === this.turns.length) {
+      const larger = new Uint8Array(2 * this.count);
+      larger.set(this.turns);
+      this.turns = larger;
+    }
+    this.turns[this.count++] = lane;
+    this.shown[lane]++;
+  }
+
+  /** Goes on until the entry of the next turn is not here. Returns whether there is such an entry: false once all lists are shown. */
+  run() {
+    const { lanes, shown } = this, rests = lanes.map((lane, i) => restOf(lane, shown[i]));
+    for (;;) {
+      let next = -1;
+      for (let i = 0; i < lanes.length; i++) {
+        if (shown[i] < lanes[i].list.length && (next < 0 || rests[i] > rests[next])) next = i;
+      }
+      if (next < 0) return false;
+      if (shown[next] === lanes[next].list.known) return true;
+      this.take(next);
+      rests[next] = restOf(lanes[next], shown[next]);
+    }
+  }
+
+  cutAfter(turns) {
+    const cut = this.lanes.map(() => 1);
+    for (let i = 0; i < turns; i++) cut[this.turns[i]]++;
+    return cut;
+  }
+}
+
+/** The r-th largest of the values of these documents, or the least if there are fewer: without sorting all. */
+function largest(r, docs, values) {
+  let kept = [], floor = -1;
+  const trim = () => { kept = kept.sort((a, b) => b - a).slice(0, r); };
+  for (const doc of docs) {
+    if (values[doc] > floor && kept.push(values[doc]) === 2 * r) {
+      trim();
+      floor = kept[r - 1];
+    }
+  }
+  trim();
+  return kept.at(-1);
+}
+
+/** Bounds of the met documents at a cut, and whether the best rows are settled there. */
+class Bounds {
+  constructor(documents) {
+    this.low = new Uint32Array(documents); // 255 × 124 × 65,535 is below 2^32
+    this.high = new Uint32Array(documents);
+    this.named = new Uint32Array(documents); // which lists name the document, a bit for each
+    this.room = new Uint32Array(documents);
+    this.met = this.room.subarray(0, 0);
+  }
+
+  at(lanes, cut) {
+    const { low, high, named, room } = this;
+    for (const doc of this.met) low[doc] = named[doc] = 0;
+    let count = 0;
+    lanes.forEach(({ list, coefficient }, lane) => {
+      const { docs, impacts } = list;
+      for (let i = 0; i < cut[lane]; i++) {
+        const doc = docs[i];
+        if (named[doc] === 0) room[count++] = doc;
+        low[doc] += coefficient * impacts[i];
+        named[doc] |= 1 << lane;
+      }
+    });
+    this.met = room.subarray(0, count);
+    const rests = lanes.map((lane, i) => restOf(lane, cut[i]));
+    this.threshold = rests.reduce((sum, rest) => sum + rest, 0);
+    for (const doc of this.met) {
+      let bound = low[doc];
+      for (let i = 0; i < rests.length; i++) if (!(named[doc] >>> i & 1)) bound += rests[i];
+      high[doc] = bound;
+    }
+  }
+
+  /** The first r of these documents by low, then high, both falling, then by number. */
+  best(r, docs) {
+    const { low, high } = this, least = largest(r, docs, low); // so few of them are sorted by all three
+    return [...docs.filter(doc => low[doc] >= least)].sort((a, b) => low[b] - low[a] || high[b] - high[a] || a - b).slice(0, r);
+  }
+
+  /** The best r of the met documents, or all if there are fewer, if they are settled. */
+  settled(r) {
+    const { low, high, met, threshold } = this;
+    if (met.length < r && threshold > 0) return undefined;
+    // A row below the threshold settles nothing, and most documents are below it.
+    const above = met.filter(doc => low[doc] >= threshold);
+    if (above.length < Math.min(r, met.length)) return undefined;
+    const rows = this.best(r, above), last = low[rows.at(-1)], inside = new Set(rows);
+    if (rows.some((doc, i) => i > 0 && high[doc] > low[rows[i - 1]])) return undefined;
+    for (const doc of met) if (high[doc] > last && !inside.has(doc)) return undefined;
+    return rows;
+  }
+}
+
+// All lists at once, though one would do for now: the others come up soon, and a further round costs more than bytes.
+const readOn = lanes => Promise.all(lanes.filter(({ list }) => !list.whole).map(({ list }) => list.more()));
+
+/** The cut, the rows and the met documents. Reads lists on only as far as what is here settles no answer. */
+export async function walk(lanes, documents, r) {
+  if (lanes.length === 0) return { cut: [], rows: [], met: [] };
+  const schedule = new Schedule(lanes), bounds = new Bounds(documents);
+  const settledAfter = turns => {
+    const cut = schedule.cutAfter(turns);
+    bounds.at(lanes, cut);
+    const rows = bounds.settled(r);
+    return rows && { cut, rows, met: bounds.met.slice().sort() };
+  };
+  let unsettled = -1, found;
+  while (!found) {
+    await readOn(lanes);
+    const goesOn = schedule.run();
+    found = settledAfter(schedule.count);
+    if (!found && !goesOn) throw new Error('whole lists settle nothing');
+    if (!found) unsettled = schedule.count;
+  }
+  // Impacts fall along a list, so what is settled stays settled: bounds only tighten, and a document that is met later was below the
+  // threshold. So halving finds the first settled cut.
+  for (let settled = schedule.count; settled - unsettled > 1;) {
+    const middle = settled + unsettled >> 1, earlier = settledAfter(middle);
+    if (earlier) [found, settled] = [earlier, middle];
+    else unsettled = middle;
+  }
+  return found;
+}
