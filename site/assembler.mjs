@@ -31,7 +31,7 @@ export class Assembler {
     return this.asked(how, question => this.fromArchive(root, question, archive => proofs.text(archive, doc)));
   }
 
-  /** The newest root that the owner publishes beside the folders of archives for the one with this root, or undefined. */
+  /** The newest root that the owner publishes beside the folders for the archive of this root: { root, titles }, or undefined. */
   newest({ root }, how) {
     return this.asked(how, question => this.fromHosts(host => newest(host, root, question)));
   }

@@ -5,7 +5,8 @@ import { hostFault } from './fields.mjs';
 import { DIGEST, ENTRIES, rootOfEntries, sha256 } from './sha256.mjs';
 import { KnownTree, leafDigest, same } from './tree.mjs';
 
-export const BLOCK = ENTRIES, ENTRY = 6;
+export const BLOCK = ENTRIES;
+const ENTRY = 6; // bytes
 const ROOM = BLOCK * ENTRY + DIGEST; // of a block that another one follows
 const CHAIN_TAG = 3, NO_DIGEST = new Uint8Array(DIGEST);
 const FIRST_BLOCKS = 16;

@@ -7,14 +7,15 @@ const MOST_PUBLICATION = 2 ** 20, MOST_GROWTH = 4096, MOST_STEPS = 64;
 const LATEST = 'publication.txt', numbered = number => `publication-${number}.txt`;
 const SHELF = /^shelf: [0-9]+\nroot: ([0-9a-f]{64})\nformat: [12]\ndocuments: [0-9]+\nbefore: (none|[0-9a-f]{64})\ngrowth: (none|[a-z0-9][a-z0-9.-]{0,63})$/gm;
 
-/** A publication: its number, and of each shelf its root, the root before, and the name of the growth between them. */
+/** A publication: its number, whether first lines are titles, and of each shelf its root, the root before, and the name of the growth
+ *  between them. */
 async function read(host, name, question) {
   const bytes = await host.file(name, MOST_PUBLICATION, question);
   if (!bytes) return undefined;
   const said = new TextDecoder().decode(bytes), number = Number(/^publication: ([0-9]{1,9})\n/.exec(said)?.[1]);
   const shelves = [...said.matchAll(SHELF)].map(([, root, before, growth]) => ({ root, before, growth }));
   if (!number || shelves.length === 0) throw hostFault('wrong', name, 'no publication');
-  return { number, shelves };
+  return { number, titles: /^titles: first-line$/m.test(said), shelves };
 }
 
 /** The newest publication and those before it, as long as there are any. */
@@ -26,13 +27,13 @@ async function* backward(host, question) {
   }
 }
 
-/** The newest root of the shelf that has or had this root, or undefined. */
+/** The newest root of the shelf that has or had this root, and whether its first lines are titles; or undefined. */
 export async function newest(host, root, question) {
   let latest;
-  for await (const { shelves } of backward(host, question)) {
-    latest ??= shelves;
-    const place = shelves.findIndex(shelf => shelf.root === root);
-    if (place >= 0) return latest[place]?.root;
+  for await (const one of backward(host, question)) {
+    latest ??= one;
+    const place = one.shelves.findIndex(shelf => shelf.root === root);
+    if (place >= 0) return latest.shelves[place] && { root: latest.shelves[place].root, titles: latest.titles };
   }
   return undefined;
 }
