@@ -7,7 +7,7 @@ import { DIGEST, sha256 } from './sha256.mjs';
 import { KnownTree, besides, leafDigest, same } from './tree.mjs';
 
 const LAYOUT = 1, HEADER = 105, HEADER_TAG = 4, MOST_HEAD = 2 ** 16;
-const LEAST_SHIFT = 6, MOST_SHIFT = 18, GROUP_SHIFT = 5;
+const LEAST_SHIFT = 6, MOST_SHIFT = 18, GROUP_SHIFT = 2;
 const MOST_TEXT = 2 ** 20, MOST_TERM = 64, MOST_DOCUMENTS = 2 ** 16, MOST_LEAVES = 2 ** 24 + 2;
 
 /** The leaf of a term, or the leaf below and the one above, as far as they are among these leaves. */

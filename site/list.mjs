@@ -5,11 +5,9 @@ import { hostFault } from './fields.mjs';
 import { DIGEST, ENTRIES, rootOfEntries, sha256 } from './sha256.mjs';
 import { KnownTree, leafDigest, same } from './tree.mjs';
 
-export const BLOCK = ENTRIES;
-const ENTRY = 6; // bytes
+const BLOCK = ENTRIES, ENTRY = 6; // bytes
 const ROOM = BLOCK * ENTRY + DIGEST; // of a block that another one follows
 const CHAIN_TAG = 3, NO_DIGEST = new Uint8Array(DIGEST);
-const FIRST_BLOCKS = 16;
 
 /** Bytes of a list with so many entries. */
 export const sizeOfList = entries => ENTRY * entries + DIGEST * Math.max(Math.ceil(entries / BLOCK) - 1, 0);
@@ -25,10 +23,11 @@ export class InvertedList {
 
   get whole() { return this.known === this.length; }
 
-  /** Reads on: the first blocks, or twice as many as are here. */
-  more(blocks = Math.max(FIRST_BLOCKS, 2 * this.known / BLOCK)) {
-    const from = this.known / BLOCK * ROOM, to = Math.min(from + blocks * ROOM, sizeOfList(this.length));
-    return this.archive.range('lists', this.at + from, this.at + to, bytes => {
+  /** Reads on, until so many entries are here, or a few more of a block. */
+  async upTo(entries) {
+    if (this.whole || entries <= this.known) return;
+    const from = this.known / BLOCK * ROOM, to = Math.min(Math.ceil(entries / BLOCK) * ROOM, sizeOfList(this.length));
+    await this.archive.range('lists', this.at + from, this.at + to, bytes => {
       for (let at = 0; at < bytes.length;) at = this.takeBlock(bytes, at);
     });
   }

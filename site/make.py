@@ -23,7 +23,7 @@ from typing import Callable, Iterable, Iterator, NamedTuple, NoReturn, Optional,
 
 LAYOUT = 1
 BLOCK, ENTRY = 64, 6  # entries of a block of a list; bytes of an entry
-GROUP_SHIFT = 5  # 32 documents in a group
+GROUP_SHIFT = 2  # 4 documents in a group
 LEAST_SHIFT, MOST_HEAD = 6, 1 << 16  # a page has 64 leaves, or twice as many until the head is this short
 LONGEST_INDEX = 1 << 29
 NO_ROOT, LOW, HIGH = bytes(32), b"", b"\xff"

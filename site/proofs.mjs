@@ -3,7 +3,6 @@
 
 import { neighbours } from './archive.mjs';
 import { Fault } from './fields.mjs';
-import { BLOCK } from './list.mjs';
 import { idf, walk } from './walk.mjs';
 
 const FORMAT = 2, TRA = 1, TNRA = 2, MOST_PROOF = 2 ** 26;
@@ -138,7 +137,7 @@ export async function both(archive, terms, most) {
   const lists = present.map(leaf => archive.list(leaf)), cut = cutOfAll(terms, lists);
   const shown = cut.reduce((sum, count) => sum + count, 0);
   if (shown > most) throw new Fault('input', `input: ${shown} documents to look into, of at most ${most}`);
-  await Promise.all(lists.map((list, i) => list.more(Math.ceil(cut[i] / BLOCK))));
+  await Promise.all(lists.map((list, i) => list.upTo(cut[i])));
   const met = [...new Set(lists.flatMap((list, i) => [...list.docs.subarray(0, cut[i])]))].sort((a, b) => a - b);
   const { writer } = startProof(archive, TRA, found, met, lists, cut);
   const documents = await Promise.all(met.map(doc => archive.termsOf(doc)));

@@ -120,8 +120,12 @@ class Bounds {
   }
 }
 
-// All lists at once, though one would do for now: the others come up soon, and a further round costs more than bytes.
-const readOn = lanes => Promise.all(lanes.filter(({ list }) => !list.whole).map(({ list }) => list.more()));
+// Entries of all lists together that are read first: some 52 KiB. Of one list the first r settle the answer.
+const FIRST = 8192, FURTHER = 4;
+const readFirst = (lanes, r) => Promise.all(lanes.map(({ list }) => list.upTo(lanes.length === 1 ? r : Math.ceil(FIRST / lanes.length))));
+
+/** Reads each list on to several times its shown entries, if most of it is shown: a further round costs more than bytes. */
+const readOn = (lanes, shown) => Promise.all(lanes.map(({ list }, i) => 2 * shown[i] > list.known && list.upTo(FURTHER * shown[i])));
 
 /** The cut, the rows and the met documents. Reads lists on only as far as what is here settles no answer. */
 export async function walk(lanes, documents, r) {
@@ -133,13 +137,14 @@ export async function walk(lanes, documents, r) {
     const rows = bounds.settled(r);
     return rows && { cut, rows, met: bounds.met.slice().sort() };
   };
-  let unsettled = -1, found;
+  await readFirst(lanes, r);
+  let unsettled = -1, goesOn = schedule.run(), found = settledAfter(schedule.count);
   while (!found) {
-    await readOn(lanes);
-    const goesOn = schedule.run();
+    if (!goesOn) throw new Error('whole lists settle nothing');
+    unsettled = schedule.count;
+    await readOn(lanes, schedule.shown);
+    goesOn = schedule.run();
     found = settledAfter(schedule.count);
-    if (!found && !goesOn) throw new Error('whole lists settle nothing');
-    if (!found) unsettled = schedule.count;
   }
   // Impacts fall along a list, so what is settled stays settled: bounds only tighten, and a document that is met later was below the
   // threshold. So halving finds the first settled cut.

@@ -43,7 +43,7 @@ export function collections(seed) {
     middle: random(5000, 24, 3000),
     'long and short': texts(400, i => words(draw, i % 40 === 0 ? 2000 : 5, 400)),
     ...named([60, 61, 62, 63, 64, 125, 126, 127, 190], 'terms', n => numbered(draw, n)),
-    ...named([31, 32, 33, 63, 64, 65, 96, 97, 1023, 1025], 'documents', n => random(n, 8, 30)),
+    ...named([3, 4, 5, 7, 8, 9, 17, 63, 64, 65, 97, 1023, 1025], 'documents', n => random(n, 8, 30)),
     'beyond ASCII': texts(150, () => texts(1 + draw(6), () => FOREIGN[draw(FOREIGN.length)][0]).join(' ') + (draw(3) ? '' : ' a')),
     'pages of 128 leaves': texts(62, i => texts(1000, k => `t${i * 1000 + k}`.padEnd(60, 'x')).join(' ')),
     empty: ['', 'a', '', 'a'.repeat(65)],

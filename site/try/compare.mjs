@@ -18,7 +18,7 @@ const at = name => `${room}/${name}`;
 mkdirSync(room, { recursive: true });
 
 // The program loads the index for each of its commands. Over a large one that takes too long to do often.
-const USUAL = { prove: 40, both: 12, texts: 30 }, SELDOM = { prove: 300, both: 100, texts: 2 };
+const USUAL = { prove: 40, both: 12, texts: Math.min(questions, 30) }, SELDOM = { prove: 300, both: 100, texts: 2 };
 const totals = { proofs: 0, both: 0, texts: 0 };
 
 function same(kind, name, what, ours, theirs) {
