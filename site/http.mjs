@@ -26,8 +26,7 @@ class Gate {
 class Watch {
   constructor(question) {
     Object.assign(this, { question, silent: false, controller: new AbortController() });
-    this.stop = () => this.controller.abort(question.signal.reason);
-    question.signal.addEventListener('abort', this.stop);
+    this.forget = question.whenEnded(() => this.controller.abort(question.signal.reason));
     this.moved();
   }
   get signal() { return this.controller.signal; }
@@ -37,7 +36,7 @@ class Watch {
   }
   end() {
     clearTimeout(this.timer);
-    this.question.signal.removeEventListener('abort', this.stop);
+    this.forget();
   }
 }
 

@@ -9,8 +9,9 @@ export const LIMITS = { inFlight: 16, silence: 30000, total: 300000, bytes: 2 **
 /** One question: it counts, shows progress, and ends by `how.signal` or after its time. */
 export class Question {
   constructor(limits, { signal, progress = () => {} } = {}) {
-    Object.assign(this, { limits, progress, outside: signal, requests: 0, bytes: 0 });
+    Object.assign(this, { limits, progress, outside: signal, requests: 0, bytes: 0, ends: new Set() });
     this.controller = new AbortController();
+    this.signal.addEventListener('abort', () => this.ends.forEach(end => end()));
     this.stop = () => this.controller.abort(signal.reason);
     if (signal?.aborted) this.stop();
     signal?.addEventListener('abort', this.stop);
@@ -34,25 +35,31 @@ export class Question {
 
   show() { this.progress({ bytes: this.bytes, of: undefined, requests: this.requests }); }
 
+  /** Calls `end` if the question ends. Returns a function that takes this back. */
+  whenEnded(end) {
+    this.ends.add(end);
+    return () => this.ends.delete(end);
+  }
+
   /** Waits, or ends with the question. */
   pause(ms) {
     return new Promise((done, failed) => {
-      const timer = setTimeout(() => { this.signal.removeEventListener('abort', end); done(); }, ms);
-      const end = () => { clearTimeout(timer); failed(this.signal.reason); };
-      this.signal.addEventListener('abort', end, { once: true });
+      const timer = setTimeout(() => { forget(); done(); }, ms);
+      const forget = this.whenEnded(() => { clearTimeout(timer); failed(this.signal.reason); });
     });
   }
 
   /** What `work` returns, or the reason why the question ended before. */
   async ended(work) {
-    let stopped;
-    const end = new Promise((_, failed) => { stopped = () => failed(this.signal.reason); });
-    if (this.signal.aborted) stopped();
-    this.signal.addEventListener('abort', stopped);
+    let forget;
+    const end = new Promise((_, failed) => {
+      if (this.signal.aborted) failed(this.signal.reason);
+      forget = this.whenEnded(() => failed(this.signal.reason));
+    });
     try {
       return await Promise.race([end, work(this)]);
     } finally {
-      this.signal.removeEventListener('abort', stopped);
+      forget();
       this.close();
     }
   }

@@ -12,8 +12,16 @@ const tools = { terms: async query => query, worker: async ([name]) => new Worke
 const asked = (source, { call, words: { terms, ...words } }, how) =>
   source[call]({ ...words, algorithm: 'tnra', query: terms && termsOf(terms) }, how);
 
+/** Forgets what the browser keeps. */
+const emptied = () => new Promise((done, failed) => {
+  const request = indexedDB.deleteDatabase('ats-ranges');
+  request.onsuccess = done;
+  request.onerror = request.onblocked = failed;
+});
+
 /** Asks all, four at a time. Returns how many were equal, what failed, and how long it took. */
-export async function compare(place, questions) {
+export async function compare(place, questions, isKept) {
+  if (!isKept) await emptied();
   const source = open(place, tools), failed = [], start = performance.now(), left = [...questions.entries()];
   let equal = 0, progress = 0;
   const run = async () => {
@@ -50,10 +58,12 @@ export async function fault(place, it, stopAfter) {
 }
 
 /** Milliseconds of one question, from opening the source. */
-export async function timed(place, it) {
+export async function timed(place, it, isKept) {
+  if (!isKept) await emptied();
   const source = open(place, tools), start = performance.now();
   await asked(source, it);
   const ms = Math.round(performance.now() - start);
+  await new Promise(done => setTimeout(done, 200)); // what is kept is stored within a moment
   source.close();
   return ms;
 }
