@@ -3,6 +3,7 @@
 import { Fault, hostFault } from './fields.mjs';
 
 const PAUSES = [250, 1000]; // milliseconds before a read is tried again
+const PACE = 1000; // bytes: a host that sends fewer in the time of silence is silent
 const MOST_FILE = { head: 2 ** 16, texts: 2 ** 24, lists: 2 ** 26 }, MOST_OTHER = 2 ** 27; // bytes of a whole file
 
 /** At most so many pieces of work at the same time. */
@@ -22,15 +23,18 @@ class Gate {
   }
 }
 
-/** Ends a request with its question, or when nothing has moved for too long. */
+/** Ends a request with its question, or when next to nothing has moved for too long. */
 class Watch {
   constructor(question) {
-    Object.assign(this, { question, silent: false, controller: new AbortController() });
+    Object.assign(this, { question, silent: false, moving: 0, controller: new AbortController() });
     this.forget = question.whenEnded(() => this.controller.abort(question.signal.reason));
-    this.moved();
+    this.moved(PACE);
   }
   get signal() { return this.controller.signal; }
-  moved() {
+  moved(bytes) {
+    this.moving += bytes;
+    if (this.moving < PACE) return;
+    this.moving = 0;
     clearTimeout(this.timer);
     this.timer = setTimeout(() => { this.silent = true; this.controller.abort(); }, this.question.limits.silence);
   }
@@ -98,7 +102,7 @@ export class HttpHost {
     let reply;
     try {
       reply = await this.fetcher(`${this.base}/${path}`, { headers, cache, credentials: 'omit', redirect: 'error', signal: watch.signal });
-      watch.moved();
+      watch.moved(PACE);
       return await use(reply, watch);
     } catch (fault) {
       question.signal.throwIfAborted();
@@ -137,7 +141,7 @@ async function take(reply, most, question, watch) {
   while (length < most) {
     const { value, done } = await reader.read();
     if (done) break;
-    watch.moved();
+    watch.moved(value.length);
     const part = value.subarray(0, most - length);
     bytes.set(part, length);
     length += part.length;
@@ -153,7 +157,7 @@ async function takeAll(reply, most, name, question, watch) {
   for (;;) {
     const { value, done } = await reader.read();
     if (done) break;
-    watch.moved();
+    watch.moved(value.length);
     parts.push(value);
     length += value.length;
     if (length > most) throw hostFault('long', name, `more than ${most} bytes`);

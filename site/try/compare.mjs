@@ -9,6 +9,7 @@ import { Assembler } from '../assembler.mjs';
 import { LIMITS } from '../question.mjs';
 import { collections, drawer, question } from './collections.mjs';
 import { FolderHost } from './folder.mjs';
+import { checkOf } from './module.mjs';
 import { run, serve } from './program.mjs';
 import { termsOf } from './terms.mjs';
 
@@ -19,7 +20,8 @@ mkdirSync(room, { recursive: true });
 
 // The program loads the index for each of its commands. Over a large one that takes too long to do often.
 const USUAL = { prove: 40, both: 12, texts: Math.min(questions, 30) }, SELDOM = { prove: 300, both: 100, texts: 2 };
-const totals = { proofs: 0, both: 0, texts: 0 };
+const totals = { proofs: 0, both: 0, texts: 0 }, check = await checkOf();
+console.log(check ? 'each answer goes through the module of the page, which also gives the terms' : 'skipped: the module of the page (page/out) is not made');
 
 function same(kind, name, what, ours, theirs) {
   if (Buffer.compare(ours, theirs)) {
@@ -37,7 +39,11 @@ function stored(command, index, ...words) {
 
 async function compareProofs(assembler, root, name, index, asked) {
   const server = await serve(program, index);
-  for (const { query, r } of asked) same('proofs', name, { query, r }, await assembler.ranked({ root, terms: termsOf(query), r }), await server.prove(r, query));
+  for (const { query, r } of asked) {
+    const terms = termsOf(query), ours = await assembler.ranked({ root, terms, r });
+    same('proofs', name, { query, r }, ours, await server.prove(r, query));
+    check?.ranked(ours, root, query, terms, r);
+  }
   await server.end(); // before the link has been silent for too long
 }
 
@@ -50,11 +56,16 @@ async function compare(name, texts, index, often) {
     const terms = termsOf(query);
     if (i % often.prove === 0) same('proofs', name, { query, r }, await assembler.ranked({ root, terms, r }), stored('prove', index, 'tnra', `${r}`, query));
     const all = i % often.both === 0 && stored('prove-both', index, query);
-    if (all) same('both', name, query, await assembler.both({ root, terms }), all);
+    if (!all) continue;
+    const ours = await assembler.both({ root, terms });
+    same('both', name, query, ours, all);
+    check?.both(ours, root, query);
   }
   for (let i = 0; i < Math.min(texts.length, often.texts); i++) {
     const doc = texts.length <= often.texts ? i : draw(texts.length);
-    same('texts', name, doc, await assembler.text({ root, doc }), stored('give', index, `${doc}`));
+    const ours = await assembler.text({ root, doc });
+    same('texts', name, doc, ours, stored('give', index, `${doc}`));
+    check?.text(ours, root, doc);
   }
   console.log(`${name}: ${texts.length} documents; so far equal: ${totals.proofs} proofs, ${totals.both} of all documents, ${totals.texts} texts`);
 }

@@ -106,7 +106,6 @@ const dead = 'http://127.0.0.1:9';
 see('nobody listens', 'link', await outcome([new HttpHost(dead, limits)]), '');
 await served(good, async base => {
   for (const [name, [answer]] of Object.entries(hosts)) {
-    if (name === 'byte by byte') continue; // it takes all the time that a question has
     see(`a mirror after: ${name}`, 'honest', await served(answer, bad => outcome([new HttpHost(bad, limits), new HttpHost(base, limits)])), '');
   }
 });

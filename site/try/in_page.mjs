@@ -42,10 +42,17 @@ export async function compare(place, questions, isKept) {
   return { equal, failed: failed.slice(0, 5), progress, ms: Math.round(performance.now() - start) };
 }
 
-/** The same from files that a person could have dropped. */
+// What a browser gives for a dropped folder, which only a person can drop: its entries come some at a time.
+const fileEntry = file => ({ isFile: true, name: file.name, file: done => done(file) });
+const folderEntry = (name, entries) => ({ isFile: false, name, createReader: () => {
+  const left = [...entries];
+  return { readEntries: done => done(left.splice(0, 3)) };
+} });
+
+/** The same from a folder that is as a dropped one. */
 export async function dropped(base, root, names, questions) {
-  const files = await Promise.all(names.map(async name => [`/shelf/${root}-1/${name}`, new File([await (await fetch(`${base}/${root}-1/${name}`)).blob()], name)]));
-  return compare(files, questions);
+  const files = await Promise.all(names.map(async name => new File([await (await fetch(`${base}/${root}-1/${name}`)).blob()], name)));
+  return compare(folderEntry('shelf', [folderEntry(`${root}-1`, files.map(fileEntry)), folderEntry('other', [])]), questions);
 }
 
 /** The word of the fault with which a question ends, and after how long. */

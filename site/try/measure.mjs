@@ -1,4 +1,4 @@
-// Requests, rounds, bytes and milliseconds of questions. usage: node measure.mjs BASE ROOT WORDS.json [ROUND_TRIP_MS BYTES_PER_MS]
+// Requests, rounds, bytes, milliseconds, and those of the processor, of questions. usage: node measure.mjs BASE ROOT WORDS.json [ROUND_TRIP_MS BYTES_PER_MS]
 // BASE is an address or a folder; WORDS.json has the words of the texts, the most frequent first. The head is read before.
 
 import { readFileSync } from 'node:fs';
@@ -49,18 +49,19 @@ async function measured(label, ask) {
   let bytes;
   for (let i = 0; i < times; i++) {
     host.zero();
-    const start = performance.now();
+    const start = performance.now(), before = process.cpuUsage();
     bytes = await ask(assembler);
-    found.push(performance.now() - start);
+    const { user, system } = process.cpuUsage(before);
+    found.push([performance.now() - start, (user + system) / 1000]);
   }
-  const { requests, rounds, bytes: fetched } = host.count, ms = found.sort((a, b) => a - b)[times >> 1];
-  console.log(`| ${label} | ${bytes.length} | ${requests} / ${rounds} | ${fetched} | ${ms.toFixed(0)} |`);
+  const { requests, rounds, bytes: fetched } = host.count, middle = i => found.map(it => it[i]).sort((a, b) => a - b)[times >> 1].toFixed(0);
+  console.log(`| ${label} | ${bytes.length} | ${requests} / ${rounds} | ${fetched} | ${middle(0)} | ${middle(1)} |`);
 }
 
 const ranked = (label, ...places) => measured(label, it => it.ranked({ root, r: 10, terms: termsOf(places.map(place => words[place] ?? place).join(' ')) }));
 const both = (label, ...places) => measured(label, it => it.both({ root, terms: termsOf(places.map(place => words[place]).join(' ')) }));
 const FIVE = [10, 30, 100, 300, 1000];
-console.log('| question | bytes | requests / rounds | fetched | ms |\n|---|---|---|---|---|');
+console.log('| question | bytes | requests / rounds | fetched | ms | processor ms |\n|---|---|---|---|---|---|');
 await ranked('the most frequent word', 0);
 await ranked('the two most frequent', 0, 1);
 await ranked('a rare word', last);
