@@ -71,18 +71,16 @@ function largest(r, docs, values) {
 class Bounds {
   constructor(documents) {
     this.low = new Uint32Array(documents); // 255 × 124 × 65,535 is below 2^32
-    this.high = new Uint32Array(documents);
     this.named = new Uint32Array(documents); // which lists name the document, a bit for each
     this.room = new Uint32Array(documents);
     this.met = this.room.subarray(0, 0);
   }
 
   at(lanes, cut) {
-    const { low, high, named, room } = this;
-    for (const doc of this.met) low[doc] = named[doc] = 0;
+    const { low, named, room, met } = this;
+    for (let i = 0; i < met.length; i++) low[met[i]] = named[met[i]] = 0;
     let count = 0;
-    lanes.forEach(({ list, coefficient }, lane) => {
-      const { docs, impacts } = list;
+    lanes.forEach(({ list: { docs, impacts }, coefficient }, lane) => {
       for (let i = 0; i < cut[lane]; i++) {
         const doc = docs[i];
         if (named[doc] === 0) room[count++] = doc;
@@ -91,32 +89,49 @@ class Bounds {
       }
     });
     this.met = room.subarray(0, count);
-    const rests = lanes.map((lane, i) => restOf(lane, cut[i]));
-    this.threshold = rests.reduce((sum, rest) => sum + rest, 0);
-    for (const doc of this.met) {
-      let bound = low[doc];
-      for (let i = 0; i < rests.length; i++) if (!(named[doc] >>> i & 1)) bound += rests[i];
-      high[doc] = bound;
-    }
+    this.rests = lanes.map((lane, i) => restOf(lane, cut[i]));
+    this.threshold = this.rests.reduce((sum, rest) => sum + rest, 0);
+  }
+
+  high(doc) {
+    const { rests } = this, named = this.named[doc];
+    let bound = this.low[doc];
+    for (let i = 0; i < rests.length; i++) if (!(named >>> i & 1)) bound += rests[i];
+    return bound;
+  }
+
+  /** The met documents with at least the threshold: a row below it settles nothing, and most documents are below it. */
+  above() {
+    const { low, met, threshold } = this, found = [];
+    for (let i = 0; i < met.length; i++) if (low[met[i]] >= threshold) found.push(met[i]);
+    return found;
   }
 
   /** The first r of these documents by low, then high, both falling, then by number. */
   best(r, docs) {
-    const { low, high } = this, least = largest(r, docs, low); // so few of them are sorted by all three
-    return [...docs.filter(doc => low[doc] >= least)].sort((a, b) => low[b] - low[a] || high[b] - high[a] || a - b).slice(0, r);
+    const { low } = this, least = largest(r, docs, low); // so few of them are sorted by all three
+    return docs.filter(doc => low[doc] >= least).sort((a, b) => low[b] - low[a] || this.high(b) - this.high(a) || a - b).slice(0, r);
+  }
+
+  /** Whether a met document that is no row may score more than this. */
+  hasOther(rows, last) {
+    const { low, met, threshold } = this, inside = new Set(rows);
+    for (let i = 0; i < met.length; i++) {
+      const doc = met[i];
+      if (low[doc] + threshold > last && this.high(doc) > last && !inside.has(doc)) return true;
+    }
+    return false;
   }
 
   /** The best r of the met documents, or all if there are fewer, if they are settled. */
   settled(r) {
-    const { low, high, met, threshold } = this;
+    const { low, met, threshold } = this;
     if (met.length < r && threshold > 0) return undefined;
-    // A row below the threshold settles nothing, and most documents are below it.
-    const above = met.filter(doc => low[doc] >= threshold);
+    const above = this.above();
     if (above.length < Math.min(r, met.length)) return undefined;
-    const rows = this.best(r, above), last = low[rows.at(-1)], inside = new Set(rows);
-    if (rows.some((doc, i) => i > 0 && high[doc] > low[rows[i - 1]])) return undefined;
-    for (const doc of met) if (high[doc] > last && !inside.has(doc)) return undefined;
-    return rows;
+    const rows = this.best(r, above);
+    if (rows.some((doc, i) => i > 0 && this.high(doc) > low[rows[i - 1]])) return undefined;
+    return this.hasOther(rows, low[rows.at(-1)]) ? undefined : rows;
   }
 }
 
