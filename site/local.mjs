@@ -3,7 +3,7 @@
 import { hostFault } from './fields.mjs';
 
 export class LocalHost {
-  /** `files` are pairs of a path and a File. The folder may be dropped, one above it, or its files. */
+  /** `files` are pairs of a path and a File. The folder of the archive may be dropped, or one above it. */
   constructor(files) {
     this.files = new Map(files.flatMap(([path, file]) => {
       const names = path.split('/').filter(Boolean);
@@ -11,18 +11,14 @@ export class LocalHost {
     }));
   }
 
-  found(path) {
-    return this.files.get(path) ?? this.files.get(path.replace(/.*\//, ''));
-  }
-
   async read(path, from, to, question) {
-    const file = this.found(path);
+    const file = this.files.get(path);
     if (!file) throw hostFault('missing', path.replace(/.*\//, ''), 'not among the files');
     return this.part(file, path, from, to, question);
   }
 
   async file(path, most, question) {
-    const file = this.found(path);
+    const file = this.files.get(path);
     if (file && file.size > most) throw hostFault('long', path, `more than ${most} bytes`);
     return file && this.part(file, path, 0, file.size, question);
   }

@@ -1,4 +1,4 @@
-// A folder of this machine as a host, for Node, and one that changes what another one answers.
+// A folder of this machine as a host, for Node.
 
 import { open } from 'node:fs/promises';
 
