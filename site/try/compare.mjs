@@ -19,7 +19,7 @@ const at = name => `${room}/${name}`;
 mkdirSync(room, { recursive: true });
 
 // The program loads the index for each of its commands. Over a large one that takes too long to do often.
-const USUAL = { prove: 40, both: 12, texts: Math.min(questions, 30) }, SELDOM = { prove: 300, both: 100, texts: 2 };
+const USUAL = { prove: 40, both: 12, texts: Math.min(questions >> 2, 30) }, SELDOM = { prove: 300, both: 100, texts: 2 };
 const totals = { proofs: 0, both: 0, texts: 0 }, check = await checkOf();
 console.log(check ? 'each answer goes through the module of the page, which also gives the terms' : 'skipped: the module of the page (page/out) is not made');
 
