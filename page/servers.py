@@ -16,13 +16,6 @@ def free_port():
         return it.getsockname()[1]
 
 
-def root_of(program, index):
-    ran = subprocess.run([program, "root", index], stdin=subprocess.DEVNULL, stdout=subprocess.PIPE, text=True)
-    if ran.returncode:
-        sys.exit(f"{index}: {ran.stdout.strip()}")
-    return ran.stdout.strip()
-
-
 class Server:
     """A server at `address`. The lines of its connections go to `say`."""
 
