@@ -1,4 +1,5 @@
-// Asks a server by one frame and reads one frame, as docs/formats.md says, within bounds of size and of silence. Not proved.
+// The frames of a question and of its reply, as docs/formats.md says, within bounds of size and of silence. Not proved.
+import { Fault } from './fault.mjs';
 
 const MOST = 2 ** 26 + 1, HEAD = 4, SILENCE_MS = 30000;
 
@@ -23,9 +24,10 @@ function faultOf(length, kind) {
   if (kind !== undefined && (kind > 1 || (kind === 1 && length !== 2))) return peer('bad', length, kind);
 }
 
-async function withinSilence(promise) {
+/** The value of the promise, or a fault if it takes too long. */
+export async function withinSilence(promise) {
   let timer;
-  const silent = new Promise((_, reject) => { timer = setTimeout(() => reject(new Error('silent')), SILENCE_MS); });
+  const silent = new Promise((_, reject) => { timer = setTimeout(() => reject(new Fault('silent')), SILENCE_MS); });
   try { return await Promise.race([promise, silent]); } finally { clearTimeout(timer); }
 }
 
@@ -57,15 +59,4 @@ export async function readReply(reader, onBytes = () => {}) {
     onBytes(got, wanted);
   }
   return frame[HEAD] === 1 ? peer('refused', frame[HEAD + 1]) : { proof: frame.subarray(HEAD + 1) };
-}
-
-/** Sends the request to the page's own host and reads the reply. Throws if the server cannot be reached or falls silent. */
-export async function ask(frame, signal, onBytes) {
-  const reply = await withinSilence(fetch('ask', {
-    method: 'POST', body: frame, signal, headers: { 'Content-Type': 'application/octet-stream' },
-    credentials: 'omit', cache: 'no-store', redirect: 'error',
-  }));
-  if (!reply.ok) throw new Error(`the gateway answered ${reply.status}`);
-  const reader = reply.body.getReader();
-  try { return await readReply(reader, onBytes); } finally { reader.cancel().catch(() => {}); }
 }

@@ -1,58 +1,95 @@
-// The page: takes a root and a query, asks, has the reply checked, and says what came of it. Not proved.
-import { bytesOf, checker, compile } from './check.mjs';
-import { ask, request } from './ask.mjs';
-import { bytes, checkedOf, countingOf, duration, peerWords, reasonOf, scoreOf } from './words.mjs';
+// The page: takes a root and a question, asks, has the reply checked, and says what came of it. Not proved.
+import { bytesOf, compile } from './check.mjs';
+import { Checks, workersOf } from './checks.mjs';
+import { Fault } from './fault.mjs';
+import { open as gateway } from './gateway.mjs';
+import { keep, kept, leftOn, originOf, relation } from './roots.mjs';
+import { Rows } from './rows.mjs';
+import { citeOf, linkOf, nameOf, opened, saved } from './saved.mjs';
+import { acceptedOf, bytes, checkedOf, countingOf, dayOf, duration, faultWords, grewOf, grownOf, quoted, reasonOf } from './words.mjs';
 
 const $ = id => document.getElementById(id);
 const show = (id, shown) => { $(id).hidden = !shown; };
 const write = (id, text) => { $(id).textContent = text; };
-const pause = ms => new Promise(done => setTimeout(done, ms));
+const on = (id, event, act) => $(id).addEventListener(event, act);
 
 // Below this size a check is over before a person sees that it started.
 const LONG_PROOF = 1000000;
 
-let module, stopper, last;
+let checks, source, stopper, last, newest, titles = false;
+const came = { link: '', file: '', grown: '' };
+const rows = new Rows({ list: $('list'), pageOf: $('page-of'), pages: $('pages'), earlier: $('earlier'), later: $('later') }, cite);
 
 // ---- the root, and where it came from
 
-const KEPT = 'root';
-function kept() {
-  try { return JSON.parse(localStorage.getItem(KEPT)) ?? {}; } catch { return {}; }
-}
-const linked = () => new URLSearchParams(location.hash.slice(1)).get('root') ?? '';
-
-function originOf(root) {
-  const { root: own, day } = kept();
-  const link = linked(), other = link && own && link !== own;
-  if (!root) return '64 digits that the archive’s owner published. Take them from the owner, not from the server.';
-  if (root === own && other) return `Kept in this browser on ${day}. The link that you opened has another root, ${link}: ask the owner which is right.`;
-  if (root === own) return `Kept in this browser on ${day}.`;
-  if (root === link && other) return `From the link that you opened. It is not the root that you kept on ${day}: ask the owner which is right.`;
-  if (root === link) return 'From the link that you opened. Compare it with the root that the owner published.';
-  return 'You entered it. It must come from the archive’s owner.';
-}
+const linked = () => new URLSearchParams(location.hash.slice(1));
+const host = linked().get('host');
+const rootText = () => $('root').value.replace(/\s/g, '').toLowerCase();
+const isRoot = text => /^[0-9a-f]{64}$/.test(text);
 
 function rootChanged() {
   const root = rootText();
-  write('origin', originOf(root));
+  write('origin', originOf(root, came));
   show('keep', isRoot(root) && root !== kept().root);
+  show('newer', false);
   clear();
 }
 
 function keepRoot() {
-  const day = new Date().toISOString().slice(0, 10);
-  try {
-    localStorage.setItem(KEPT, JSON.stringify({ root: rootText(), day }));
-  } catch {
-    return say('This browser keeps nothing for this page.');
-  }
-  write('origin', originOf(rootText()));
+  if (!keep(rootText(), false)) return say('This browser keeps nothing for this page.');
+  write('origin', originOf(rootText(), came));
   show('keep', false);
   say('The root is kept.');
 }
 
-const rootText = () => $('root').value.replace(/\s/g, '').toLowerCase();
-const isRoot = text => /^[0-9a-f]{64}$/.test(text);
+// ---- a newer root
+
+/** Asks for the newest root, and says what it is to the person's. It changes nothing by itself. */
+async function lookForNewer() {
+  const root = rootText();
+  if (!isRoot(root) || !checks) return;
+  const offered = await source.newest({ root }, {}).catch(() => undefined);
+  titles = offered?.titles ?? false;
+  if (!offered || root !== rootText()) return;
+  const found = await relation(source, checks, root, offered.root).catch(() => undefined);
+  if (found && root === rootText()) newerShown(found, offered.root);
+}
+
+const NEWER = {
+  grown: ({ before, after }) => [grewOf(before, after), grownOf(before, after),
+    'This does not show whether what was added is the owner’s. Compare the new root with the one that the owner published, and use it if they are the same.'],
+  older: ({ day }) => ['The server is behind', `It offers a root that you left on ${day}, when the archive had grown. Its answers will be refused.`,
+    'Stay with your root. Ask again later, or ask another server.'],
+  other: () => ['The server offers another archive', 'Nothing shows that it grew from yours: texts may have been withdrawn or changed.',
+    'Stay with your root. If the owner published the other one, ask the owner why it did not grow from yours.'],
+  refused: ({ got }) => ['The growth that the server offers is refused', reasonOf(got, 'growth'),
+    'Stay with your root. If the owner published the other one, ask the owner for a growth that leads there.'],
+};
+
+function newerShown(found, offered) {
+  show('newer', found.kind !== 'same');
+  if (found.kind === 'same') return;
+  const good = found.kind === 'grown', [heading, said, what] = NEWER[found.kind](found);
+  newest = offered;
+  $('newer').className = good ? 'good' : 'bad';
+  write('newer-verdict', `${good ? '✓' : '✗'} ${heading}`);
+  write('newer-said', said);
+  write('newer-line', found.got?.line ?? '');
+  show('newer-line-place', found.kind === 'refused');
+  write('newer-root', offered);
+  write('newer-do', what);
+  show('newer-tools', good);
+  write('heard', `${heading}. ${said} ${what}`);
+}
+
+function takeNewer() {
+  if (rootText() === kept().root) keep(newest, true);
+  came.grown = newest;
+  $('root').value = newest;
+  rootChanged();
+  say('Your root is now the new one.');
+  $('query').focus();
+}
 
 // ---- what the page says
 
@@ -60,13 +97,19 @@ const isRoot = text => /^[0-9a-f]{64}$/.test(text);
 const say = text => { write('state', text); write('heard', ''); };
 const announce = text => { write('state', ''); write('heard', text); };
 
+function intoView(it) {
+  if (it.getBoundingClientRect().bottom > innerHeight) it.scrollIntoView({ block: 'start' });
+}
+
 function clear() {
   last = undefined;
-  ['answer', 'lied'].forEach(id => show(id, false));
+  rows.clear();
+  ['answer', 'lied', 'copied-place'].forEach(id => show(id, false));
+  write('done', '');
 }
 
 function busy(is) {
-  $('go').disabled = is || !module;
+  ['go', 'open'].forEach(id => { $(id).disabled = is || !checks; });
   $('stop').disabled = !is;
   $('bar').classList.toggle('idle', !is);
   if (!is) { $('bar').value = 0; write('came', ''); }
@@ -78,38 +121,43 @@ function invalid(id, text) {
   $(id).focus();
 }
 
-function rowOf({ doc, lower, upper }, rank) {
-  const row = document.createElement('tr');
-  for (const text of [rank, doc, scoreOf({ lower, upper })]) row.insertCell().textContent = text;
-  return row;
-}
-
-function verdict(good, heading, said, { line = '', counting = '', rows = [], facts = '' } = {}) {
+function verdict(good, heading, said, { line = '', counting = '', facts = '', other = false } = {}) {
   $('answer').className = good ? 'good' : 'bad';
   write('verdict', `${good ? '✓' : '✗'} ${heading}`);
   write('said', said);
   write('line', line);
   show('line-place', line !== '');
   write('counting', counting);
-  $('body').replaceChildren(...rows.map((row, i) => rowOf(row, i + 1)));
-  show('table', rows.length > 0);
   write('facts', facts);
-  show('lie', good);
+  ['tools', 'save-hint'].forEach(id => show(id, good));
+  show('other-place', other);
   show('lied', false);
   show('answer', true);
   announce(`${heading}. ${said}`);
+  intoView($('verdict'));
 }
 
-function shown(got, { query, r, proof }, ms) {
-  const facts = `Query “${query}”, ${r} ${r === 1 ? 'row' : 'rows'} asked for. The proof has ${bytes(proof.length)}. `
-    + `It came in ${duration(ms)} and was checked in ${duration(got.ms)}.`;
-  if (got.status === 0) {
-    const count = got.rows.length;
-    const heading = count === 0 ? 'Accepted: no document' : `Accepted: ${count} ${count === 1 ? 'document' : 'documents'}`;
-    return verdict(true, heading, checkedOf(count, r), { rows: got.rows, facts });
+const factsOf = ({ way, query, r, proof, terms, from, date }, ms, got) => [
+  `Query ${quoted(query)}${way === 'best' ? `, ${r} ${r === 1 ? 'row' : 'rows'} asked for` : ''}.`,
+  `Words searched for: ${terms.map(quoted).join(', ')}.`,
+  from ? `From the file ${quoted(from)}, which says that it was saved on ${quoted(date.slice(0, 10))}.` : `The proof came in ${duration(ms)}.`,
+  `It has ${bytes(proof.length)} and was checked in ${duration(got.ms)}.`,
+].join(' ');
+
+function shown(got, answer, ms) {
+  const facts = factsOf(answer, ms, got), { way, r, textOf, terms } = answer;
+  if (got.status !== 0) {
+    const heading = got.status === 1 ? 'Refused: do not use this answer' : 'Not checked';
+    const other = Boolean(answer.from) && answer.file.root !== answer.root;
+    verdict(false, heading, reasonOf(got, way), { line: got.line, counting: countingOf(got), facts, other });
+    if (got.line === 'refused: other-root' && !answer.from) lookForNewer();
+    return;
   }
-  const heading = got.status === 1 ? 'Refused: do not use this answer' : 'Not checked';
-  verdict(false, heading, reasonOf(got), { line: got.line, counting: countingOf(got), facts });
+  const found = way === 'all' ? got.docs.map(doc => ({ doc })) : got.rows;
+  answer.docs = found.map(({ doc }) => Number(doc));
+  const root = answer.root === rootText() ? 'the root above' : `the root ${answer.root}, which you left on ${leftOn(answer.root)}`;
+  verdict(true, acceptedOf(way, found.length), checkedOf(way, found.length, r, root), { facts });
+  rows.show({ way, rows: found, terms, titles: answer.titles, textOf });
 }
 
 // ---- one question
@@ -117,46 +165,68 @@ function shown(got, { query, r, proof }, ms) {
 // The question of the form, or undefined after saying what is wrong with it.
 function question() {
   ['root', 'rows', 'query'].forEach(id => $(id).removeAttribute('aria-invalid'));
-  const root = rootText(), r = $('rows').value.trim(), query = $('query').value;
+  const root = rootText(), r = $('rows').value.trim(), way = $('all').checked ? 'all' : 'best';
   if (!isRoot(root)) return invalid('root', `The root has 64 digits from 0 to 9 and a to f. Here are ${root.length} characters.`);
-  if (!/^(0|[1-9][0-9]{0,8})$/.test(r)) return invalid('rows', 'The number of rows is a whole number.');
-  return { root: bytesOf(root), r: Number(r), query, algorithm: $('exact').checked ? 'tra' : 'tnra' };
+  if (way === 'best' && !/^(0|[1-9][0-9]{0,8})$/.test(r)) return invalid('rows', 'The number of rows is a whole number.');
+  return { way, root, r: way === 'best' ? Number(r) : 0, query: $('query').value, algorithm: $('exact').checked ? 'tra' : 'tnra' };
 }
 
+const checked = ({ way, root, query, r }, proof, signal) => way === 'all'
+  ? checks.call('both', [proof, bytesOf(root), query], signal)
+  : checks.call('check', [proof, bytesOf(root), query, r], signal);
+
 // The check itself says whether query and rows are within their limits: it looks at them before the bytes of a proof.
-async function outOfLimits({ root, query, r }) {
-  const got = (await checker(module)).check(new Uint8Array(0), root, query, r);
+async function outOfLimits(asked, signal) {
+  const got = await checked(asked, new Uint8Array(0), signal);
   return got.status === 1 ? undefined : got;
 }
 
-function arriving(got, wanted) {
-  $('bar').max = wanted;
-  $('bar').value = got;
-  write('came', `${bytes(got)} of ${bytes(wanted)}`);
+/** The terms of a query by the module: what is searched for, and what is marked. */
+async function termsOf(query, signal) {
+  const got = await checks.call('query', [query], signal);
+  if (got.status !== 0) throw new Fault('input', { line: got.line, said: reasonOf(got) });
+  return got.terms;
+}
+const wordsOf = async (query, signal) => (await termsOf(query, signal)).map(({ term }) => new TextDecoder().decode(term));
+
+function arriving({ bytes: got, of, requests }) {
+  if (of) Object.assign($('bar'), { max: of, value: got });
+  else $('bar').removeAttribute('value');
+  write('came', `${bytes(got)}${of ? ` of ${bytes(of)}` : ''}${requests ? `, ${requests} requests` : ''}`);
 }
 
-async function answerTo(asked) {
-  const limit = await outOfLimits(asked);
-  if (limit) return verdict(false, 'Not asked', reasonOf(limit), { line: limit.line });
+const textFrom = root => async (doc, signal) => {
+  const file = await source.text({ root, doc }, { signal });
+  return { file, got: await checks.call('text', [file, bytesOf(root), doc], signal) };
+};
+
+async function answerTo(asked, signal) {
+  const limit = await outOfLimits(asked, signal);
+  if (limit) return verdict(false, 'Not asked', reasonOf(limit, asked.way), { line: limit.line });
   say('Asking …');
-  const start = performance.now();
-  const reply = await ask(request(asked.algorithm, asked.r, asked.query), stopper.signal, arriving);
-  const ms = performance.now() - start;
-  if (reply.line) return verdict(false, 'No answer', peerWords[reply.word](...reply.numbers), { line: reply.line });
-  if (reply.proof.length > LONG_PROOF) { say('Checking …'); await pause(30); }
-  last = { ...asked, proof: reply.proof };
-  shown((await checker(module)).check(last.proof, asked.root, asked.query, asked.r), last, ms);
+  const start = performance.now(), terms = await wordsOf(asked.query, signal);
+  const proof = await (asked.way === 'all' ? source.both(asked, { signal, progress: arriving }) : source.ranked(asked, { signal, progress: arriving }));
+  await judge({ ...asked, proof, terms, titles: () => titles, textOf: textFrom(asked.root) }, performance.now() - start, signal);
 }
 
-async function submitted(event) {
-  event.preventDefault();
-  const asked = question();
-  if (!asked || !module || !$('stop').disabled) return;
+async function judge(answer, ms, signal) {
+  if (answer.proof.length > LONG_PROOF) {
+    say('Checking …');
+    $('bar').removeAttribute('value');
+  }
+  const got = await checked(answer, answer.proof, signal);
+  last = answer;
+  shown(got, answer, ms);
+}
+
+/** Does something that takes time, with a way to stop it. */
+async function working(act) {
+  if (!checks || !$('stop').disabled) return say('Wait until the page is ready, and try again.');
   clear();
   stopper = new AbortController();
   busy(true);
   try {
-    await answerTo(asked);
+    await act(stopper.signal);
   } catch (fault) {
     failed(fault);
   } finally {
@@ -164,27 +234,102 @@ async function submitted(event) {
   }
 }
 
+function submitted(event) {
+  event.preventDefault();
+  const asked = question();
+  if (asked) working(signal => answerTo(asked, signal));
+}
+
 function failed(fault) {
   if (fault.name === 'AbortError') return say('Stopped.');
-  if (fault instanceof WebAssembly.RuntimeError) return verdict(false, 'Not checked', 'The check stopped before it had a verdict.');
   if (fault instanceof RangeError) return verdict(false, 'Not checked', 'This browser ran out of memory.', { line: 'memory' });
-  if (fault.message === 'silent') return verdict(false, 'No answer', 'Nothing came for 30 seconds.', { line: 'fault: link' });
-  verdict(false, 'No answer', 'The server cannot be reached.', { line: 'fault: link' });
+  if (fault instanceof Fault) return verdict(false, 'No answer', faultWords(fault), { line: fault.line });
+  verdict(false, 'Not checked', 'The check stopped before it had a verdict.');
+}
+
+// ---- evidence
+
+async function save() {
+  const answer = last;
+  write('done', 'Getting the texts on this page …');
+  await rows.whole();
+  if (answer !== last) return;
+  const now = new Date(), texts = rows.files(), name = nameOf(answer, dayOf(now));
+  const place = URL.createObjectURL(saved({ ...answer, titles: answer.titles() }, texts, now));
+  Object.assign(document.createElement('a'), { href: place, download: name }).click();
+  setTimeout(() => URL.revokeObjectURL(place), 60000);
+  write('done', `Saved as ${name}, with the texts of ${texts.size} ${texts.size === 1 ? 'document' : 'documents'}.`);
+}
+
+const textIn = ({ root, file }) => async (doc, signal) => {
+  const bytes = file.texts.get(doc);
+  if (!bytes) throw new Fault('missing', { line: 'no text in the file', said: 'The saved file does not have it.' });
+  return { file: bytes, got: await checks.call('text', [bytes, bytesOf(root), doc], signal) };
+};
+
+function openFile(it) {
+  return working(async signal => {
+    const file = await opened(it);
+    if (!file) return verdict(false, 'Not a saved proof', 'This file is none that the page saved, or it is damaged. Get it again from whoever sent it to you.');
+    if (!isRoot(rootText())) useRoot(file.root, 'file');
+    await judgeFile(file, it.name, signal);
+  });
+}
+
+async function judgeFile(file, from, signal) {
+  const { way, r, query, algorithm, date, proof } = file, root = leftOn(file.root) ? file.root : rootText();
+  fillIn({ way, r, query, algorithm });
+  const limit = await outOfLimits({ way, root, r, query }, signal);
+  if (limit) return verdict(false, 'Not checked', reasonOf(limit, way), { line: limit.line });
+  const answer = { way, root, r, query, algorithm, proof, from, date, file, titles: () => file.titles, terms: await wordsOf(query, signal) };
+  await judge({ ...answer, textOf: textIn(answer) }, 0, signal);
+}
+
+function checkUnderOther() {
+  const { file, from } = last;
+  useRoot(file.root, 'file');
+  working(signal => judgeFile(file, from, signal));
+}
+
+function useRoot(root, how) {
+  came[how] = root;
+  $('root').value = root;
+  rootChanged();
+}
+
+async function copy(text, said) {
+  try {
+    await navigator.clipboard.writeText(text);
+    show('copied-place', false);
+    write('done', said);
+    return true;
+  } catch {
+    $('copied').value = text;
+    show('copied-place', true);
+    $('copied').focus();
+    $('copied').select();
+    return false;
+  }
+}
+
+const copyLink = () => copy(`${location.href.split('#')[0]}#${linkOf(last, host === null ? {} : { host })}`, 'The link is copied. It has the root, the query and how you asked.');
+
+function cite(doc, rank) {
+  return copy(citeOf(last, doc, rank, dayOf(new Date())), `Copied: a line that names document ${doc}, the root and the query.`);
 }
 
 // ---- a lie
 
 async function lie() {
-  const { proof, root, query, r } = last, changed = proof.slice();
+  const { proof, root, query, r, way } = last, changed = proof.slice();
   const at = Number(crypto.getRandomValues(new BigUint64Array(1))[0] % BigInt(8 * proof.length));
   changed[at >> 3] ^= 1 << (at & 7);
-  const got = (await checker(module)).check(changed, root, query, r);
-  const good = got.status === 0;
+  const got = await checked({ way, root, query, r }, changed), good = got.status === 0;
   $('lied').className = good ? 'good' : 'bad';
-  write('lied-what', `The page turned one bit of the proof in the server’s reply, as a server that lies could have done: `
+  write('lied-what', `The page turned one bit of the proof, as a server that lies could have done: `
     + `bit ${at & 7} of byte ${at >> 3}, of ${proof.length} bytes (both count from 0).`);
   write('lied-verdict', good ? '✓ The changed reply is no lie' : '✗ The lie is refused');
-  write('lied-said', good ? 'The check accepts it: its answer is right as well. Documents may tie, for example. Try again.' : reasonOf(got));
+  write('lied-said', good ? 'The check accepts it: its answer is right as well. Documents may tie, for example. Try again.' : reasonOf(got, way));
   write('lied-line', got.line);
   show('lied-place', !good);
   show('lied', true);
@@ -193,26 +338,98 @@ async function lie() {
 
 // ---- the start
 
-const NO_MODULE = 'The file page.wasm did not come, or is not the one that this page names.';
-const NO_BROWSER = 'This browser cannot run the check: it needs WebAssembly with 64-bit memory. Try a newer Chromium or Firefox.';
+const NO_FILE = name => `The file ${name} did not come, or is not the one that this page names. Load the page again, or take it from somebody you trust.`;
+const NO_BROWSER = 'This browser cannot run the check, which needs WebAssembly. Try a newer one.';
+const NO_HOST = 'This page was not made to ask a host of files. Take the page that the archive’s owner made for it.';
 
-async function start() {
-  const pin = document.querySelector('meta[name=module]').content;
-  write('module', [...atob(pin.slice(pin.indexOf('-') + 1))].map(it => it.charCodeAt(0).toString(16).padStart(2, '0')).join(''));
-  $('root').value = kept().root ?? linked();
-  rootChanged();
-  const reply = await fetch('page.wasm', { integrity: pin, credentials: 'omit' }).catch(() => { throw new Error(NO_MODULE); });
-  const file = await reply.arrayBuffer();
-  module = await compile(file).catch(() => { throw new Error(NO_BROWSER); });
-  await checker(module);
+// The pins of the files: the browser compares those that are imported, and fetch the others.
+const pins = JSON.parse(document.querySelector('script[type=importmap]').textContent).integrity;
+
+async function pinned(name) {
+  const failing = () => { throw new Error(NO_FILE(name)); };
+  const reply = await fetch(name, { integrity: pins[`./${name}`], credentials: 'omit' }).catch(failing);
+  return reply.blob().catch(failing);
 }
 
-$('form').addEventListener('submit', submitted);
-$('root').addEventListener('input', rootChanged);
-$('keep').addEventListener('click', keepRoot);
-$('stop').addEventListener('click', () => stopper.abort());
-$('lie').addEventListener('click', () => lie().catch(failed));
-addEventListener('hashchange', () => { $('root').value = linked() || $('root').value; rootChanged(); });
+// The gateway, or a host of files: its address, or a folder that was dropped.
+async function sourceOf(host) {
+  if (!host) return gateway();
+  if (!pins['./host.mjs']) throw new Error(NO_HOST);
+  const worker = async names => workersOf(await Promise.all(names.map(pinned)))();
+  return (await import('./host.mjs')).open(host, { terms: termsOf, worker });
+}
+
+/** What the link has goes into the form; the root that is kept comes before that of a link. */
+function fillIn({ way, r, query, algorithm }) {
+  $(way === 'all' ? 'all' : 'best').checked = true;
+  $('query').value = query;
+  if (way === 'best') $('rows').value = r;
+  $('exact').checked = algorithm === 'tra';
+  wayChanged();
+}
+
+function readLink() {
+  const link = linked();
+  came.link = link.get('root') ?? '';
+  $('root').value = kept().root ?? (came.link || $('root').value);
+  const query = link.get('query');
+  if (query !== null) fillIn({ way: link.get('way'), r: link.get('rows') ?? '10', query, algorithm: link.has('exact') ? 'tra' : 'tnra' });
+  rootChanged();
+  return query === null ? 'Ready.' : 'The link has a question. Press Ask.';
+}
+
+const wayChanged = () => show('best-more', $('best').checked);
+
+async function start() {
+  write('module', [...atob(pins['./page.wasm'].replace(/^.*?-/, ''))].map(it => it.charCodeAt(0).toString(16).padStart(2, '0')).join(''));
+  const ready = readLink();
+  const [module, ...files] = await Promise.all(['page.wasm', 'check.mjs', 'worker.mjs'].map(pinned));
+  const compiled = await compile(await module.arrayBuffer()).catch(() => { throw new Error(NO_BROWSER); });
+  const made = new Checks(compiled, files);
+  await made.call('version', []).catch(() => { throw new Error(NO_BROWSER); });
+  source = await sourceOf(host);
+  checks = made;
+  return ready;
+}
+
+async function dropped(event) {
+  event.preventDefault();
+  const entry = event.dataTransfer.items[0]?.webkitGetAsEntry?.(), [file] = event.dataTransfer.files;
+  if (entry?.isDirectory) return asksFolder(entry).catch(fault => say(fault.message));
+  if (file) openFile(file);
+}
+
+async function asksFolder(entry) {
+  const folder = await sourceOf(entry);
+  source.close();
+  source = folder;
+  clear();
+  say(`Your questions now go to the folder ${quoted(entry.name)} on this machine.`);
+  lookForNewer();
+}
+
+on('form', 'submit', submitted);
+on('root', 'input', rootChanged);
+on('root', 'change', lookForNewer);
+on('keep', 'click', keepRoot);
+on('take', 'click', takeNewer);
+on('stay', 'click', () => { show('newer', false); say('Your root stays as it is.'); $('query').focus(); });
+on('best', 'change', wayChanged);
+on('all', 'change', wayChanged);
+on('stop', 'click', () => stopper.abort());
+on('open', 'click', () => $('file').click());
+on('file', 'change', ({ target }) => { if (target.files[0]) openFile(target.files[0]).finally(() => { target.value = ''; }); });
+on('other', 'click', checkUnderOther);
+on('save', 'click', () => save().catch(failed));
+on('link', 'click', copyLink);
+on('lie', 'click', () => lie().catch(failed));
+addEventListener('dragover', event => event.preventDefault());
+addEventListener('drop', dropped);
+addEventListener('hashchange', () => {
+  if (linked().get('host') !== host) return location.reload();
+  say(readLink());
+  lookForNewer();
+});
 busy(true);
 $('stop').disabled = true;
-start().then(() => { say('Ready.'); busy(false); }, fault => say(fault.message));
+start().then(ready => { say(ready); busy(false); lookForNewer(); }, fault => say(fault.message));

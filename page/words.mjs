@@ -1,6 +1,6 @@
 // What the page says, in plain words. The lines are those of docs/formats.md.
 
-/** Query words are numbered from 0 in byte order, documents and rows from 0. */
+// Query words are numbered from 0 in byte order, documents and rows from 0. `it` is what was checked: see NAMES.
 const REASONS = {
   1: () => 'The query is no text that can be sent.',
   2: n => `You asked for ${n} rows. Ask for 1 to 1,000.`,
@@ -9,15 +9,15 @@ const REASONS = {
   5: () => 'The query has no word to look for. A word has a letter or a digit, and 64 bytes at most.',
   6: n => `The query has ${n} words. It may have 255.`,
   7: n => `The query has ${n} different words. It may have 32.`,
-  8: () => 'The reply is longer than any proof may be (67,108,864 bytes).',
-  9: n => `The reply is cut off: it ends inside the field that starts at byte ${n}.`,
-  10: () => 'The reply does not start as a proof does.',
-  11: n => `Byte ${n} of the reply names a version of the format that this page does not know.`,
-  12: n => `Byte ${n} of the reply names neither of the two kinds of proof.`,
-  13: n => `The number at byte ${n} of the reply is outside its range.`,
-  14: n => `The number at byte ${n} of the reply is out of order.`,
-  15: n => `The reply goes on after the proof, which ends before byte ${n}.`,
-  16: () => 'The proof is not for the root above. It is of another archive, or of an older or newer state of this one.',
+  8: (n, m, it) => `The ${it} is longer than any may be (${n} bytes).`,
+  9: (n, m, it) => `The ${it} is cut off: it ends inside the field that starts at byte ${n}.`,
+  10: (n, m, it) => `The ${it} does not start as one does.`,
+  11: (n, m, it) => `Byte ${n} of the ${it} names a version that this page does not know.`,
+  12: (n, m, it) => `Byte ${n} of the ${it} names neither of the two kinds of proof.`,
+  13: (n, m, it) => `The number at byte ${n} of the ${it} is outside its range.`,
+  14: (n, m, it) => `The number at byte ${n} of the ${it} is out of order.`,
+  15: (n, m, it) => `The ${it} goes on after its end, which is before byte ${n}.`,
+  16: (n, m, it) => `The ${it} is not for the root above. It is of another archive, or of an older or newer state of this one.`,
   17: n => `The proof is for a query with ${n} different words. Your query has another number of them.`,
   18: () => 'The part of the archive’s dictionary in the proof does not fit the size of the dictionary.',
   19: () => 'The part of the archive’s dictionary in the proof is not the archive’s: it leads to another root.',
@@ -36,10 +36,25 @@ const REASONS = {
   32: n => `Row ${n} of the answer names the document of an earlier row.`,
   33: () => 'What the proof shows does not settle this answer. For example, a row was left out, added or moved, or the proof is for another number of rows.',
   34: () => 'This browser ran out of memory.',
+  35: () => 'The proof is of the other kind, which never shows that no document is missing.',
+  36: n => `The proof has ${n} rows of an answer. One of all documents has none.`,
+  37: () => 'The proof shows no list of a query word to its end. So a document may be missing.',
+  38: () => 'The page made too little room for the documents. This is a fault of the page.',
+  39: n => `The archive has only ${n} documents, and this is none of them.`,
+  40: () => 'The digests beside the text do not fit the place of this document in the archive.',
+  41: () => 'This is not the archive’s text of this document: it leads to another root. It was changed, or is that of another document.',
+  42: () => 'The file of the growth does not begin at your root.',
+  43: () => 'The file of the growth does not lead to the root that is offered.',
+  44: (n, m) => `The archive had ${n} documents, and would now have ${m}. Documents were withdrawn.`,
+  45: () => 'The digests in the file of the growth do not fit the numbers of documents.',
+  46: () => 'The file of the growth leads to other texts than those under your root.',
+  47: () => 'The file of the growth leads to other texts than those under the root that is offered.',
 };
+const NAMES = { best: 'proof', all: 'proof', text: 'file of the text', growth: 'file of the growth' };
 
-/** One sentence for a verdict that is not green. */
-export const reasonOf = ({ reason, first, second }) => (REASONS[reason] ?? (() => 'The check gave a reason that this page does not know.'))(first, second);
+/** One sentence for a verdict that is not green. `what` was checked: `best`, `all`, `text` or `growth`. */
+export const reasonOf = ({ reason, first, second }, what = 'best') =>
+  (REASONS[reason] ?? (() => 'The check gave a reason that this page does not know.'))(first, second, NAMES[what]);
 
 // Which of these has numbers that count from 0.
 const COUNTED = new Set([20, 21, 22, 23, 24, 25, 30, 31, 32]);
@@ -51,27 +66,60 @@ const CODES = {
   5: 'the proof would have more than 67,108,864 bytes; ask without exact scores, or for fewer rows', 6: 'it ran out of memory',
 };
 
-/** A sentence for each line about the server itself. */
-export const peerWords = {
-  short: (got, wanted) => `The server stopped after ${got} bytes of a reply of ${wanted}.`,
-  long: length => `The server announced a reply of ${length} bytes, which is longer than any reply may be. Nothing of it was read.`,
+const FAULTS = {
+  link: () => 'The server cannot be reached. Look at your connection, and ask again.',
+  silent: () => 'Nothing came for 30 seconds. Ask again.',
+  missing: () => 'This server does not have that.',
+  busy: () => 'The server has too much to do. Ask again in a minute.',
+  short: (got, wanted) => `The server stopped after ${got} bytes of a reply of ${wanted}. Ask again.`,
+  cut: () => 'The server stopped in the middle. Ask again.',
+  long: length => `The server announced ${length} bytes, which is longer than any reply may be. Nothing of it was read.`,
   bad: () => 'The server sent something that is no reply.',
+  wrong: () => 'The server sent something that is not of this archive.',
+  input: () => 'The server says that it cannot answer this question.',
   refused: code => `The server sent no proof: ${CODES[code] ?? 'it gave a code that this page does not know'}.`,
 };
 
-const rows = n => n === 1 ? 'this is the best document' : `these are the best ${n} documents, best first`;
+/** A sentence for a fault of a source. */
+export const faultWords = ({ word, numbers = [], said }) => said || (FAULTS[word] ?? FAULTS.link)(...numbers);
+
+const documents = n => n === 1 ? '1 document' : `${number(n)} documents`;
+const best = n => n === 1 ? 'this is the best document' : `these are the best ${number(n)} documents, best first`;
+
+/** The heading of an accepted answer with so many documents. */
+export const acceptedOf = (way, shown) => way === 'best'
+  ? `Accepted: ${shown === 0 ? 'no document' : documents(shown)}`
+  : `Accepted: ${shown === 0 ? 'no document has' : shown === 1 ? '1 document has' : `${documents(shown)} have`} every word, and none is missing`;
 
 /** The sentence beside a green answer: what was checked, for so many rows of those asked for. */
-export function checkedOf(shown, asked) {
-  const hashed = 'This page rebuilt the hashes of all that the proof shows of the archive, up to the root above, and checked that';
+export function checkedOf(way, shown, asked, root) {
+  const hashed = `This page rebuilt the hashes of all that the proof shows of the archive, up to ${root}, and checked that`;
+  if (way === 'all') return `${hashed} ${shown === 0 ? 'no document has' : 'these documents, and no others, have'} every word of the query.`;
   if (shown === 0) return `${hashed} no document scores above 0 for this query.`;
-  if (shown < asked) return `${hashed} ${rows(shown)}, and that no other document scores above 0.`;
-  return `${hashed} ${rows(shown)}: no other document can score higher than ${shown === 1 ? 'it' : 'the last one'}.`;
+  if (shown < asked) return `${hashed} ${best(shown)}, and that no other document scores above 0.`;
+  return `${hashed} ${best(shown)}: no other document can score higher than ${shown === 1 ? 'it' : 'the last one'}.`;
 }
 
-export const scoreOf = ({ lower, upper }) => lower === upper ? `${lower}` : `between ${lower} and ${upper}`;
+/** What a growth from old to new numbers of documents says. */
+export function grownOf(before, after) {
+  const known = before === 1 ? 'text 0 is' : `texts 0 to ${number(before - 1)} are`;
+  const same = `Nothing was withdrawn, and nothing was changed: ${known} the same under both roots.`;
+  return after === before ? `${same} Nothing was added either.` : same;
+}
+export const grewOf = (before, after) => after === before
+  ? `The archive has another root, and the same ${documents(before)}`
+  : `The archive grew from ${number(before)} to ${documents(after)}; nothing was withdrawn`;
+
+export const scoreOf = ({ lower, upper }) => lower === upper ? `score ${lower}` : `score between ${lower} and ${upper}`;
 
 /** Browsers give the time in steps, some of 1 ms. */
 export const duration = ms => ms < 1.5 ? '1 ms or less' : `${Math.round(ms)} ms`;
 
 export const bytes = n => n < 1000 ? `${n} bytes` : n < 1000000 ? `${(n / 1000).toFixed(1)} KB` : `${(n / 1000000).toFixed(1)} MB`;
+export const number = n => Number(n).toLocaleString('en-US');
+
+/** The day of a moment, as 2031-05-31. */
+export const dayOf = moment => moment.toISOString().slice(0, 10);
+
+/** A text that may run from right to left, inside a sentence. */
+export const quoted = text => `“\u2068${text}\u2069”`;
