@@ -100,7 +100,7 @@ class Chromium(Browser):
         return got["result"].get("value")
 
     def press(self, key, text=""):
-        code = {"Tab": 9, "Enter": 13, " ": 32}[key]
+        code = {"Tab": 9, "Enter": 13, " ": 32, "ArrowDown": 40}[key]
         for kind in ("keyDown", "keyUp"):
             more = {"text": text} if text and kind == "keyDown" else {}
             self.send("Input.dispatchKeyEvent", type=kind, key=key, windowsVirtualKeyCode=code, **more)
@@ -171,6 +171,9 @@ class Firefox(Browser):
 
     def open(self, url):
         self.send("WebDriver:Navigate", url=url)
+
+    def size(self, width, height):
+        self.send("WebDriver:SetWindowRect", width=width, height=height)
 
     def run(self, expression):
         script = ("const done = arguments[0]; "

@@ -1,9 +1,11 @@
-"""A server that cheats: it asks an honest one, and changes the reply. For page/test."""
+"""Servers and archives that cheat: they ask an honest one, and change what it says. For page/test."""
 import json
 import os
 import socket
 import socketserver
 import time
+
+from archive import Refused
 
 TOP = os.path.dirname(os.path.dirname(os.path.abspath(__file__)))
 
@@ -120,3 +122,78 @@ CHEATS = [
     ("silence", silent, "fault: link"),
     ("silence in the middle of a reply", half_silent, "peer: short 100 830"),
 ]
+
+
+# ---- texts, all documents and growths, which do not come over the wire
+
+class Lying:
+    """An archive that lies: its answers pass through functions, of which each gets what was asked for and the honest one."""
+
+    def __init__(self, honest, text=lambda doc, file: file, all_of=lambda query, proof: proof, root=None):
+        self.honest, self.change_text, self.change_all = honest, text, all_of
+        self.root = root or honest.root
+
+    def text(self, doc):
+        return self.change_text(doc, self.honest.text(doc))
+
+    def all(self, query):
+        return self.change_all(query, self.honest.all(query))
+
+
+class Offered:
+    """Growths that are these steps, whatever is asked for: the two roots and the file of each."""
+
+    def __init__(self, steps):
+        self.steps = steps
+
+    def way(self, *_):
+        return self.steps
+
+    def titles(self):
+        return False
+
+
+def forged(growth, old=None, new=None):
+    """The file of a growth with the format and the header of other archives, as their texts have them. The number of documents is at
+    byte 6 and at byte 112."""
+    if old:
+        growth = growth[:4] + old.archive.text(0)[4:110] + growth[110:]
+    if new:
+        growth = growth[:110] + new.archive.text(0)[4:110] + growth[216:]
+    return growth
+
+
+def missing(*_):
+    raise Refused(404, "this archive has no such text")
+
+
+def text_cheats(honest, other):
+    """Each cheat on the text of a document, and the line that the row must show. In the file the text begins at byte 114."""
+    return [
+        ("the text of another document", lambda doc, file: honest.text(doc ^ 1), "refused: text-root"),
+        ("a letter of the text changed", lambda doc, file: turned(120)(file), "refused: text-root"),
+        ("a digest changed", lambda doc, file: turned(len(file) - 1)(file), "refused: text-root"),
+        ("the number of documents changed", lambda doc, file: turned(9)(file), "refused: other-root"),
+        ("a text of another archive", lambda doc, file: other.text(doc), "refused: other-root"),
+        ("a text without its last byte", lambda doc, file: file[:-1], "refused: shape cut"),
+        ("a text with a byte more", lambda doc, file: file + b"!", "refused: shape trailing"),
+        ("an empty file", lambda doc, file: b"", "refused: shape cut 0"),
+        ("a text that is too long", lambda doc, file: bytes(2 ** 21 + 1), "fault: more than 2097152 bytes"),
+        ("no text", missing, "this archive has no such text"),
+    ]
+
+
+def all_cheats(honest, other, ranked):
+    """Each cheat on all documents, and the line that the page must show."""
+    def with_answer(kind):
+        return lambda query, proof: ranked(kind, query)[1:]
+    return [
+        ("an answer of one row, by TRA", with_answer(1), "refused: answer-shown 1"),
+        ("an answer of one row, by TNRA", with_answer(2), "refused: not-tra"),
+        ("the proof of another query", lambda query, proof: honest.all(b"court"), "refused: slot-count 1"),
+        ("the proof of another archive", lambda query, proof: other.all(query), "refused: other-root"),
+        ("a bit changed", lambda query, proof: turned(len(proof) // 2)(proof), "refused: "),
+        ("a proof without its last byte", lambda query, proof: proof[:-1], "refused: shape cut"),
+        ("a proof that is too long", lambda query, proof: bytes(2 ** 26 + 1), "fault: more than 67108864 bytes"),
+        ("no proof", missing, "this archive has no such text"),
+    ]
