@@ -12,7 +12,7 @@ import time
 from servers import free_port
 
 QUIET = {"stdin": subprocess.DEVNULL, "stdout": subprocess.DEVNULL, "stderr": subprocess.DEVNULL}
-PATIENCE = 240  # seconds for the longest step
+PATIENCE = 600  # seconds for the longest step, on a machine with much other work
 
 
 # Chromium reads from file descriptor 3 and writes to 4.

@@ -6,7 +6,7 @@ import { open as gateway } from './gateway.mjs';
 import { keep, kept, leftOn, originOf, relation } from './roots.mjs';
 import { Rows } from './rows.mjs';
 import { citeOf, linkOf, nameOf, opened, saved } from './saved.mjs';
-import { acceptedOf, bytes, checkedOf, countingOf, dayOf, duration, faultWords, grewOf, grownOf, quoted, reasonOf } from './words.mjs';
+import { acceptedOf, afterRefusal, bytes, checkedOf, countingOf, dayOf, duration, faultWords, grewOf, grownOf, quoted, reasonOf } from './words.mjs';
 
 const $ = id => document.getElementById(id);
 const show = (id, shown) => { $(id).hidden = !shown; };
@@ -56,7 +56,7 @@ async function lookForNewer() {
 }
 
 const NEWER = {
-  grown: ({ before, after }) => [grewOf(before, after), grownOf(before, after),
+  grown: ({ before, after }) => [grewOf(before, after), grownOf(before),
     'This does not show whether what was added is the owner’s. Compare the new root with the one that the owner published, and use it if they are the same.'],
   older: ({ day }) => ['The server is behind', `It offers a root that you left on ${day}, when the archive had grown. Its answers will be refused.`,
     'Stay with your root. Ask again later, or ask another server.'],
@@ -147,9 +147,9 @@ const factsOf = ({ way, query, r, proof, terms, from, date }, ms, got) => [
 function shown(got, answer, ms) {
   const facts = factsOf(answer, ms, got), { way, r, textOf, terms } = answer;
   if (got.status !== 0) {
-    const heading = got.status === 1 ? 'Refused: do not use this answer' : 'Not checked';
+    const refused = got.status === 1, heading = refused ? 'Refused: do not use this answer' : 'Not checked';
     const other = Boolean(answer.from) && answer.file.root !== answer.root;
-    verdict(false, heading, reasonOf(got, way), { line: got.line, counting: countingOf(got), facts, other });
+    verdict(false, heading, reasonOf(got, way) + (refused ? ` ${afterRefusal(answer.from)}` : ''), { line: got.line, counting: countingOf(got), facts, other });
     if (got.line === 'refused: other-root' && !answer.from) lookForNewer();
     return;
   }
@@ -242,9 +242,9 @@ function submitted(event) {
 
 function failed(fault) {
   if (fault.name === 'AbortError') return say('Stopped.');
-  if (fault instanceof RangeError) return verdict(false, 'Not checked', 'This browser ran out of memory.', { line: 'memory' });
+  if (fault instanceof RangeError) return verdict(false, 'Not checked', 'This browser ran out of memory. Close other pages, and ask again.', { line: 'memory' });
   if (fault instanceof Fault) return verdict(false, 'No answer', faultWords(fault), { line: fault.line });
-  verdict(false, 'Not checked', 'The check stopped before it had a verdict.');
+  verdict(false, 'Not checked', 'The check stopped before it had a verdict. Load the page again, and ask again.');
 }
 
 // ---- evidence

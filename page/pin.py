@@ -19,6 +19,10 @@ MODULES = ("page.mjs", "ask.mjs", "check.mjs", "checks.mjs", "fault.mjs", "gatew
 SITE = os.path.join(os.path.dirname(HERE), "site")
 
 
+# Whole lines of comment, which the page goes without: they are some 4,000 of its bytes by gzip.
+COMMENT = re.compile(rb"^ *(//.*|/\*\*(?s:.*?)\*/)\n", re.M)
+
+
 def read(path):
     with open(path, "rb") as file:
         return file.read()
@@ -53,8 +57,8 @@ def main(module, out, *hosts):
     for it in hosts:
         if not re.fullmatch(r"https?://[a-z0-9.:\[\]-]+", it):
             sys.exit(f"pin.py: {it} is not the address of a host, as in https://archive.example.org")
-    files = {it: read(os.path.join(HERE, it)) for it in ("page.css", *MODULES)}
-    files["page.wasm"] = read(module)
+    files = {it: COMMENT.sub(b"", read(os.path.join(HERE, it))) for it in MODULES}
+    files.update({"page.css": read(os.path.join(HERE, "page.css")), "page.wasm": read(module)})
     later = for_hosts()
     files.update(later)
     files["index.html"] = filled(read(os.path.join(HERE, "index.html")).decode(), files, hosts).encode()

@@ -5,6 +5,20 @@ import { faultWords, number, reasonOf, scoreOf } from './words.mjs';
 
 const A_PAGE = 50, AT_ONCE = 4;
 
+// A busy server is asked again after these milliseconds.
+const WAITS = [1000, 3000];
+
+async function patiently(act, signal) {
+  for (const ms of WAITS) {
+    try { return await act(); } catch (fault) { if (fault.word !== 'busy') throw fault; }
+    await new Promise((done, failed) => {
+      setTimeout(done, ms);
+      signal.addEventListener('abort', () => failed(signal.reason), { once: true });
+    });
+  }
+  return act();
+}
+
 function element(name, text = '', more = {}) {
   const it = Object.assign(document.createElement(name), more);
   it.textContent = text;
@@ -127,7 +141,7 @@ export class Rows {
   async #get(doc, answer, signal) {
     const state = this.#states.get(doc);
     try {
-      const { file, got } = await answer.textOf(doc, signal);
+      const { file, got } = await patiently(() => answer.textOf(doc, signal), signal);
       if (got.status === 0) Object.assign(state, { file, text: new TextDecoder().decode(got.text) });
       else state.refused = got;
     } catch (fault) {

@@ -69,13 +69,13 @@ const CODES = {
 const FAULTS = {
   link: () => 'The server cannot be reached. Look at your connection, and ask again.',
   silent: () => 'Nothing came for 30 seconds. Ask again.',
-  missing: () => 'This server does not have that.',
+  missing: () => 'This server does not have it. Ask another one.',
   busy: () => 'The server has too much to do. Ask again in a minute.',
   short: (got, wanted) => `The server stopped after ${got} bytes of a reply of ${wanted}. Ask again.`,
   cut: () => 'The server stopped in the middle. Ask again.',
-  long: length => `The server announced ${length} bytes, which is longer than any reply may be. Nothing of it was read.`,
-  bad: () => 'The server sent something that is no reply.',
-  wrong: () => 'The server sent something that is not of this archive.',
+  long: length => `The server announced ${length} bytes, which is longer than any reply may be. Nothing of it was read. Ask another server.`,
+  bad: () => 'The server sent something that is no reply. Ask again, or ask another server.',
+  wrong: () => 'The server sent something that is not of this archive. Ask another one.',
   input: () => 'The server says that it cannot answer this question.',
   refused: code => `The server sent no proof: ${CODES[code] ?? 'it gave a code that this page does not know'}.`,
 };
@@ -85,6 +85,11 @@ export const faultWords = ({ word, numbers = [], said }) => said || (FAULTS[word
 
 const documents = n => n === 1 ? '1 document' : `${number(n)} documents`;
 const best = n => n === 1 ? 'this is the best document' : `these are the best ${number(n)} documents, best first`;
+
+/** What to do about a refusal: of what a server sent, or of a saved proof. */
+export const afterRefusal = from => from
+  ? 'Get the file again from whoever sent it to you, and compare the root with theirs.'
+  : 'Ask again. If it is refused again, ask another server, and tell the archive’s owner.';
 
 /** The heading of an accepted answer with so many documents. */
 export const acceptedOf = (way, shown) => way === 'best'
@@ -100,12 +105,8 @@ export function checkedOf(way, shown, asked, root) {
   return `${hashed} ${best(shown)}: no other document can score higher than ${shown === 1 ? 'it' : 'the last one'}.`;
 }
 
-/** What a growth from old to new numbers of documents says. */
-export function grownOf(before, after) {
-  const known = before === 1 ? 'text 0 is' : `texts 0 to ${number(before - 1)} are`;
-  const same = `Nothing was withdrawn, and nothing was changed: ${known} the same under both roots.`;
-  return after === before ? `${same} Nothing was added either.` : same;
-}
+/** What a growth says of the texts that were there before. */
+export const grownOf = before => before === 1 ? 'Text 0 is the same under both roots.' : `Texts 0 to ${number(before - 1)} are the same under both roots.`;
 export const grewOf = (before, after) => after === before
   ? `The archive has another root, and the same ${documents(before)}`
   : `The archive grew from ${number(before)} to ${documents(after)}; nothing was withdrawn`;

@@ -6,7 +6,7 @@ from trials.common import asked, do, forgotten, opened, press
 
 def taken(browser, file):
     """The page as a person sees it, from its top to what they need to trust."""
-    browser.run("(scrollTo(0, 0), document.activeElement.blur())")
+    browser.run("(scrollTo(0, 0), document.activeElement.blur(), document.documentElement.style.overflow = 'hidden')")
     browser.size(900, browser.run("Math.floor(document.querySelector('.trust').getBoundingClientRect().top)"))
     browser.screenshot(file)
 

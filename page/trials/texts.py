@@ -1,4 +1,7 @@
 """Texts of rows, and all documents with every word: honest ones, and those of archives that cheat."""
+import time
+
+from archive import Refused
 from cheats import Lying, all_cheats, text_cheats
 from trials.common import asked, do, opened, press
 
@@ -53,6 +56,21 @@ def try_text_cheats(browser, world, trial):
     trial.see(all(it["checked"] for it in do(browser, "texts")), "texts that are asked for again")
 
 
+def try_busy(browser, world, trial):
+    """A server that is busy at first: the page asks again by itself."""
+    asked_for, honest = [], world.gateway.archive
+
+    def busy_once(doc, file):
+        asked_for.append(doc)
+        if asked_for.count(doc) == 1:
+            raise Refused(503, "busy")
+        return file
+    world.gateway.archive = Lying(honest, text=busy_once)
+    asked(browser, world.first.root)
+    trial.see(all(it["checked"] for it in do(browser, "texts")), "texts of a server that was busy")
+    world.gateway.archive = honest
+
+
 def try_all(browser, world, trial):
     root, honest = world.first.root, world.gateway.archive
     got = asked(browser, root, all_of=True)
@@ -73,8 +91,12 @@ def try_pages(browser, world, trial):
     """A word of more than 100 documents: three pages."""
     grown, own = world.grown, world.gateway.archive
     world.gateway.archive = grown.archive
+    browser.size(1000, 900)
     got = asked(browser, grown.root, "ledger", all_of=True)
     trial.see(f"{len(grown.ledgers)} documents have every word" in got["verdict"] and len(got["rows"]) == 50, "the first page", got)
+    time.sleep(1)
+    early = browser.run("document.querySelectorAll('.checked').length")
+    trial.see(0 < early < 50, "texts of the rows on the screen, and no others", early)
     seen = [it["doc"] for it in do(browser, "texts")]
     for _ in range(2):
         press(browser, "later")
@@ -86,4 +108,4 @@ def try_pages(browser, world, trial):
     world.gateway.archive = own
 
 
-TRIALS = (try_texts, try_text_cheats, try_grown_texts, try_all, try_pages)
+TRIALS = (try_texts, try_text_cheats, try_busy, try_grown_texts, try_all, try_pages)
