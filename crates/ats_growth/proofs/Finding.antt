@@ -6,11 +6,10 @@ use Rattle.std.specs.Str.{bytes_eq}
 use Rattle.std.proofs.Math.Seq.{take-length}
 use Rattle.std.proofs.lemmas.Bool.{cond-false}
 use Rattle.std.proofs.lemmas.Slice.Eq.{bytes_eq-Decides}
-use Rattle.ats_commit.specs.Archive.{Archive, header_tag}
-use Rattle.ats_commit.specs.Own.{AreTexts, IsHeaderOf}
+use Rattle.ats_commit.specs.Archive.{Archive}
+use Rattle.ats_commit.specs.Own.{AreTexts}
 use Rattle.ats_commit.specs.Root.{header_string, own_header_string, HasOwnHeader, root_of}
 use Rattle.ats_commit.proofs.Public.{own_numbers}
-use Rattle.ats_dict.specs.Header.{header_bytes}
 use Rattle.ats_dict.specs.declared.header.Header.{Header}
 use Rattle.ats_lists.specs.declared.format.Format.{Format}
 use Rattle.ats_tree.specs.Differences.{Hashed, Difference, first_difference}

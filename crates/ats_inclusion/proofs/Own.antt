@@ -1,5 +1,5 @@
 -- An accepted text is the archive's own, or the first string that differs from the archive's has an equal digest.
-use Rattle.std.proofs.Common.{◌≡◌, ◌⊎◌, ℕ, List, [], ◌∷◌, length, map, Option, Some, None, IsSome, MatchOption, slice_get, ◌≤◌, refl, sym, ap, subst, inl, inr, arith}
+use Rattle.std.proofs.Common.{◌≡◌, ◌⊎◌, ℕ, List, [], length, map, Option, Some, None, IsSome, MatchOption, slice_get, ◌≤◌, refl, sym, ap, subst, inl, inr, arith}
 use Rattle.std.specs.List.{All}
 use Rattle.std.specs.Prelude.{OnOk, Result, Ok, Err}
 use Rattle.std.specs.Str.{bytes_eq}
