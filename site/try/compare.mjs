@@ -38,13 +38,15 @@ function stored(command, index, ...words) {
 }
 
 async function compareProofs(assembler, root, name, index, asked) {
-  const server = await serve(program, index);
-  for (const { query, r } of asked) {
+  const server = await serve(program, index), theirs = [];
+  // All at once, since the server ends a link that is silent for 30 seconds.
+  for (const { query, r } of asked) theirs.push(await server.prove(r, query));
+  await server.end();
+  for (const [i, { query, r }] of asked.entries()) {
     const terms = termsOf(query), ours = await assembler.ranked({ root, terms, r });
-    same('proofs', name, { query, r }, ours, await server.prove(r, query));
+    same('proofs', name, { query, r }, ours, theirs[i]);
     check?.ranked(ours, root, query, terms, r);
   }
-  await server.end(); // before the link has been silent for too long
 }
 
 async function compare(name, texts, index, often) {
