@@ -1,6 +1,5 @@
-use Rattle.std.proofs.Common.{rules, ◌≡◌, ◌∙◌, ◌<◌, ◌+◌, ℕ, List, [], ◌∷◌, ◌++◌, length, take, map, slice_index_or, ap, sym, arith}
-use Rattle.std.proofs.lemmas.Grind.{drop_more_same}
-use Rattle.std.proofs.lemmas.List.{drop-set-lt, map-append, take_more, take_more_set}
+use Rattle.std.proofs.Common.{rules, ◌≡◌, ◌∙◌, ◌<◌, ◌+◌, ℕ, List, [], ◌∷◌, ◌++◌, length, take, drop, map, slice_index_or, ap, sym, arith}
+use Rattle.std.proofs.lemmas.List.{drop-drop, drop-set-lt, map-append, take_more, take_more_set}
 use Rattle.ats_reader.specs.Verdicts.{shown_term}
 use Rattle.ats_reader.specs.declared.shown.ShownTerm.{ShownTerm}
 use Rattle.ats_reader.proofs.export.show_terms.Goals as goal
@@ -19,5 +18,5 @@ loop-i-preserved c =
       shown = take_more_set c.loop-i.room i c.shown_term.result fits
           ∙ (ap (λ (rows : List ShownTerm). rows ++ c.shown_term.result ∷ []) c.loop-i.invariant.shown
           ∙ (ap (λ (last : ShownTerm). map shown_term (take i query) ++ last ∷ []) (c.shown_term.ensures none) ∙ sym one));
-      rest = drop-set-lt (i + 1) c.loop-i.room i c.shown_term.result (omega arith) ∙ drop_more_same c.loop-i.room c.args.room.now i c.loop-i.invariant.rest;
+      rest = drop-set-lt (i + 1) c.loop-i.room i c.shown_term.result (omega arith) ∙ (sym (drop-drop 1 i c.loop-i.room) ∙ (ap (drop 1) c.loop-i.invariant.rest ∙ drop-drop 1 i c.args.room.now));
     }
