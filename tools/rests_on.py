@@ -37,7 +37,7 @@ BY_LAW = ("verify", "ask", "fetch", "both", "growth")
 COMMANDS = {
     "rank": "IsRanked",
     "build": "IsBuilt",
-    "root": "IsRooted",
+    "root": "Root.IsRooted",
     "prove": "IsProofStored",
     "serve": "AreAllServed",
     "audit": "IsAuditedRight",
@@ -390,7 +390,7 @@ def asked(house, name):
         crate, call = name.split("::", 1)
         found = [key for key in house.public_contracts() if key.crate == crate and key.name == call]
     else:
-        *where, last = f"ats_top.{COMMANDS[name]}".split(".") if name in COMMANDS else name.split(".")
+        *where, last = COMMANDS.get(name, name).split(".")
         found = [
             key
             for key in house.all_definitions()
