@@ -1,5 +1,5 @@
 -- The first steps of a command: how it stops at them, and that it goes on after them.
-use Rattle.std.proofs.Common.{◌≡◌, ◌⊎◌, ◌≢◌, ◌<◌, ◌∙◌, ℕ, List, [], Result, Err, IfErr, inl, inr, refl, sym, ap, subst, arith}
+use Rattle.std.proofs.Common.{◌≡◌, ◌⊎◌, ◌≢◌, ◌<◌, ◌≤◌, ◌∙◌, ℕ, List, [], Result, Ok, Err, IfErr, inl, inr, refl, sym, ap, subst, arith}
 use Rattle.ats_base.specs.Outside.{ShelfTold}
 use Rattle.ats_terms.specs.Query.{IsQueryOf}
 use Rattle.ats_terms.specs.Faults.{IsFirstFault}
@@ -10,8 +10,7 @@ use Rattle.ats_plan.specs.Plan.{Plan, Fails, Tries, Gets, Reads}
 use Rattle.ats_plan.specs.Runs.{Does, Stops, IsDone, IsStopped}
 use Rattle.ats_plan.proofs.Public.{Leads, leads_try, leads_get, leads_read, at_memory, at_get, at_try}
 use Rattle.ats_console.specs.Read.{HasCollection, HasIndex}
-use Rattle.ats_console.specs.Steps.{StopsBy, IsRowCount, asks_query, asks_ranking, reads_collection, reads_index}
-use Rattle.ats_console.specs.Steps.{no_more, comes_to}
+use Rattle.ats_console.specs.Steps.{StopsBy, IsRowCount, AsksRanking, asks_query, asks_ranking, reads_collection, reads_index, no_more, comes_to}
 use Rattle.ats_console.specs.Stops.{line_of_rows, stop_of_query}
 use Rattle.ats_console.specs.declared.stops.Stop.{Stop}
 use Rattle.ats_console.specs.declared.stops.Stop.TheVariants.{Usage, Shelf, Input, Rejected, Memory, Link, Peer, Faults, Collision}
@@ -38,6 +37,13 @@ stops_by first stop_of fault stop is same = elim (other_stop stop) [
 ]
 
 -- ---- the first steps are taken
+
+pub rows_of_range : (r : ℕ) → (1 ≤ r) × (r ≤ 1000) → IsRowCount r
+rows_of_range r within = record { some = within.0; few = within.1 }
+
+-- rows and a query that were read are within the limits
+pub asks_of : (r : ℕ) (text : List ℕ) (query : List (List ℕ × ℕ)) → (1 ≤ r) × (r ≤ 1000) → IsQueryOf text query → AsksRanking r text
+asks_of r text query within asked = record { rows = rows_of_range r within; query = asked.has }
 
 module _ {plan : Plan Stop} {before mid : ShelfTold} where
   pub leads_query : {text : List ℕ} {query : List (List ℕ × ℕ)} {rest : List (List ℕ × ℕ) → Plan Stop}
@@ -218,6 +224,13 @@ module _ {plan : Plan Stop} {before mid : ShelfTold} {stop : Stop} where
       → Leads Shelf Memory plan before (Tries kept fault rest) mid → (stop ≡ Memory) ⊎ fault stop → IsStopped Shelf Memory plan before mid stop
   try_stops leads (inl memory) = memory_stops leads memory
   try_stops leads (inr fault) = leads.stops mid stop (at_try fault)
+
+-- bytes that were refused, or memory ran out
+pub check_stops : {plan : Plan Stop} {before mid : ShelfTold} {V : Type 0} {accepted : V → Type 0} {rejects : Stop → Type 0} {T : Type 0} {rest : V → Plan Stop}
+    → Leads Shelf Memory plan before (Gets V accepted rejects rest) mid → (result : Result T Stop) → IfErr result (λ stop. (stop ≡ Memory) ⊎ rejects stop)
+    → IfErr result (IsStopped Shelf Memory plan before mid)
+check_stops leads (Ok text) stops = tt
+check_stops leads (Err stop) stops = get_stops leads stops
 
 module _ {plan : Plan Stop} {before mid : ShelfTold} where
   -- the first fault of some bytes or texts

@@ -3,3 +3,6 @@ mod JsonLemmas
 mod OneFault
 mod Fronts
 mod RootWords
+mod OneFile
+mod OneProof
+mod Sound

@@ -37,3 +37,23 @@ pub use Rattle.ats_console.proofs.JsonLemmas.{same_texts}
 pub use Rattle.ats_console.proofs.OneFault.{no_collection_fault, one_collection_fault}
 -- the bytes of an index have no fault, and others at most one
 pub use Rattle.ats_console.proofs.OneFault.{no_load_fault, one_load_fault}
+-- a number of rows in range and a query that was read are within the limits
+pub use Rattle.ats_console.proofs.Fronts.{rows_of_range, asks_of}
+-- bytes that are refused stop what comes to their check
+pub use Rattle.ats_console.proofs.Fronts.{check_stops}
+-- a file that is checked is accepted or refused in one way if its kind is
+pub use Rattle.ats_console.proofs.OneFile.{IsFileOne}
+-- bytes are accepted as one proof
+pub use Rattle.ats_console.proofs.Sound.{one_accepted}
+-- a plan that goes one way at most and stops for no words, by its first step
+pub use Rattle.ats_console.proofs.Sound.{Sound, ends, stores, fails, tries, gets, makes, reads}
+-- these stops are not for words
+pub use Rattle.ats_console.proofs.Sound.{not_shelf, not_memory, not_input, not_rejected, not_collision}
+-- a step that commands share keeps that
+pub use Rattle.ats_console.proofs.Sound.{query_sound, ranking_sound, collection_sound, index_sound, checks_sound, file_sound}
+-- bytes that spell a proof are its fields
+pub use Rattle.ats_console.proofs.OneProof.{spelled_fields}
+-- an honest proof within a limit is not too long, and one that is has one length
+pub use Rattle.ats_console.proofs.OneProof.{honest_short, one_length}
+-- the honest proof that is made is one, and it is made or too long in one way
+pub use Rattle.ats_console.proofs.OneProof.{one_made, made_short, length_exact}

@@ -6,4 +6,5 @@ pub mod CollisionLines
 pub mod Stops
 pub mod Read
 pub mod Steps
+pub mod Making
 pub mod Inner

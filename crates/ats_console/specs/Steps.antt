@@ -1,5 +1,5 @@
 -- The steps that commands share: words that ask for a ranking, a file that is read in one of its forms, and the check of
--- what a file says.
+-- a proof's bytes.
 use Rattle.std.specs.Prelude.{◌≡◌, ◌≢◌, ◌⊎◌, ◌≤◌, ◌^◌, ℕ, List}
 use Rattle.ats_terms.specs.Query.{HasQuery, IsQueryOf}
 use Rattle.ats_terms.specs.Faults.{IsFirstFault}
@@ -10,6 +10,8 @@ use Rattle.ats_impact.specs.CollectionFaults.{IsFirstCollectionFault}
 use Rattle.ats_commit.specs.Archive.{Archive}
 use Rattle.ats_index.specs.Spelling.{IsSpelling}
 use Rattle.ats_index.specs.LoadFaults.{IsLoadFault}
+use Rattle.ats_proof.specs.Value.{Proof}
+use Rattle.ats_client.specs.Bytes.{IsAcceptedBytes, IsRejectedBytes}
 use Rattle.ats_refusal.specs.declared.proof.Rejection.{Rejection}
 use Rattle.ats_refusal.specs.declared.proof.Rejection.TheVariants.{Shape}
 use Rattle.ats_plan.specs.Plan.{Plan, Finishes, Fails, Tries, Gets, Reads}
@@ -71,7 +73,19 @@ reads_shaped name limit rest = Reads name limit (Fails (Rejected (line_of_reject
 abbrev pub reads_proof : (name : List ℕ) → (List ℕ → Plan Stop) → Plan Stop
 reads_proof name rest = reads_shaped name (2 ^ 26) rest
 
--- ---- files that are checked
+-- the line is that of the first reason for which the bytes are no accepted proof
+abbrev pub RejectsBytes : (List ℕ → List ℕ) → (root : List ℕ) → List (List ℕ × ℕ) → (r : ℕ) → (bytes : List ℕ) → Stop
+    → Type 0
+RejectsBytes H root query r bytes stop = (rejection : Rejection)
+    × IsRejectedBytes H root query r bytes rejection × (stop ≡ Rejected (line_of_rejection rejection))
+
+-- the proof that the bytes spell, which is accepted
+abbrev pub checks : (List ℕ → List ℕ) → (root : List ℕ) → List (List ℕ × ℕ) → (r : ℕ) → (bytes : List ℕ)
+    → (Proof → Plan Stop) → Plan Stop
+checks H root query r bytes rest =
+    Gets Proof (IsAcceptedBytes H root query r bytes) (RejectsBytes H root query r bytes) rest
+
+-- ---- files of other kinds, which are checked like proofs
 
 -- the line is that of the first reason for which bytes are not accepted: a fault of their shape, or a rule
 abbrev pub RejectsFile : {F : Type 0} → (bad : ShapeFault → Type 0) → (refused : F → Type 0) → (words_of : F → List ℕ)

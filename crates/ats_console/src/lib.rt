@@ -6,7 +6,7 @@
 //! Words mean the command that `specs/Words.antt` says, or none. Each call of [`read`] is a step of a plan
 //! (`specs/Steps.antt`): it comes to what the named file holds, or stops as the step does. Each fault has one stop
 //! ([`Stop`]) with one line, in one table for each type of fault (`specs/Stops.antt`). The commands themselves, and what
-//! they promise, are in `ats_top`. How words and files are read may change freely; forms, lines and the order in which a
+//! they promise, are in the rooms above. How words and files are read may change freely; forms, lines and the order in which a
 //! file is refused may not.
 //!
 //! ```
@@ -33,6 +33,7 @@ pub use rejection::{refused_line, rejection_line};
 pub use said::Said;
 pub use stop_lines::Line;
 pub use stops::{
-    Stop, bad_line, faults_line, file_too_long, input_stop, peer, proofs_too_long, rejected,
+    Stop, bad_line, faults_line, file_too_long, input_stop, peer, proof_too_long, proofs_too_long,
+    rejected,
 };
 pub use words::{Command, number, read_words};

@@ -1,7 +1,7 @@
 //! Why a command ends with another status than 0, and what it prints in this case.
 
 ghost use Rattle.std.specs.Prelude.{◌≡◌};
-ghost use Rattle.ats_console.specs.Stops.{input_line, peer_line, line_of_rows, line_of_limit, line_of_bad_line, line_of_long_proofs, line_of_faults, stop_of_query, stop_of_json, stop_of_collection, stop_of_load};
+ghost use Rattle.ats_console.specs.Stops.{input_line, peer_line, line_of_rows, line_of_limit, line_of_bad_line, line_of_long_proof, line_of_long_proofs, line_of_faults, stop_of_query, stop_of_json, stop_of_collection, stop_of_load};
 ghost use Rattle.ats_console.specs.RejectionLines.{line_of_rejection};
 ghost use Rattle.ats_console.specs.declared.stops.Stop.TheVariants.{Memory, Input, Rejected, Peer};
 
@@ -55,6 +55,13 @@ pub fn bad_line(line: usize) -> Stop
     ensures { result ≡ Input (line_of_bad_line line) }
 {
     input_stop(Phrase::number("list line ", line as u64))
+}
+
+/// The stop of a proof that would have more bytes than a proof may have.
+pub fn proof_too_long(length: u64) -> Stop
+    ensures { result ≡ Input (line_of_long_proof length) }
+{
+    input_stop(Phrase::around("proof of ", length, " bytes"))
 }
 
 /// The stop of proofs that have so many bytes together, which are more than a sweep may gather.

@@ -16,12 +16,11 @@ use Rattle.ats_wire.specs.declared.feeding.Fed.TheVariants.{Whole, Refused}
 use Rattle.ats_console.specs.Words.{AskWords}
 use Rattle.ats_console.specs.Print.{lines}
 use Rattle.ats_console.specs.RejectionLines.{line_of_rejection}
-use Rattle.ats_top.specs.ProofSteps.{RejectsBytes}
 use Rattle.ats_top.specs.Conversation.{Converses}
 use Rattle.ats_top.specs.Inner.Conversation.{ConversesFed, ConversationStop}
 use Rattle.ats_top.specs.Asked.{question_of, IsReplyRead, IsReplyRejected, IsReplyVerified, CallStop}
 use Rattle.ats_top.specs.Inner.Stops.{AskStop}
-use Rattle.ats_console.specs.Steps.{IsRowCount, AsksRanking}
+use Rattle.ats_console.specs.Steps.{IsRowCount, AsksRanking, RejectsBytes}
 use Rattle.ats_console.specs.Stops.{line_of_rows, stop_of_query}
 use Rattle.ats_console.specs.declared.stops.Stop.{Stop}
 use Rattle.ats_console.specs.declared.stops.Stop.TheVariants.{Usage, Shelf, Input, Rejected, Memory, Link, Peer, Faults, Collision}

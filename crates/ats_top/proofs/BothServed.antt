@@ -23,7 +23,7 @@ use Rattle.ats_plan.specs.Files.{Files, IsFile}
 use Rattle.ats_console.specs.Words.{Command, ProveBoth, Both, AuditBoth, root_word, both_words, command_of}
 use Rattle.ats_console.specs.Read.{HasIndex}
 use Rattle.ats_top.specs.Run.{Said, IsCommandServed}
-use Rattle.ats_top.proofs.OneBoth.{both_short}
+use Rattle.ats_makers.proofs.Public.{both_short}
 
 module _ (H : List ℕ → List ℕ) (archive : Archive) (query : List (List ℕ × ℕ)) (proof : Proof) (made : IsBothMade H archive query proof) where
   abbrev cut : List ℕ

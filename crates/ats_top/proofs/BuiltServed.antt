@@ -16,12 +16,12 @@ use Rattle.ats_console.specs.Words.{Command, Prove, Root, Migrate, Give, algorit
 use Rattle.ats_plan.specs.Plan.{Passes}
 use Rattle.ats_console.specs.Read.{HasIndex}
 use Rattle.ats_console.specs.Steps.{IsRowCount, AsksRanking}
-use Rattle.ats_top.specs.Commands.Give.{HasDocument}
+use Rattle.ats_makers.specs.Commands.Give.{HasDocument}
 use Rattle.ats_top.specs.Commands.Serve.{serve_plan}
-use Rattle.ats_top.specs.Commands.Migrate.{in_blocks}
-use Rattle.ats_top.specs.Commands.Prove.{IsNotTooLong}
+use Rattle.ats_makers.specs.Commands.Migrate.{in_blocks}
+use Rattle.ats_console.specs.Making.{IsNotTooLong}
 use Rattle.ats_top.specs.Run.{Said, IsCommandServed}
-use Rattle.ats_top.proofs.OneProof.{made_short}
+use Rattle.ats_console.proofs.Public.{made_short}
 
 -- the command of the words of `prove`, from what its algorithm and its number of rows spell
 abbrev said_by : List ℕ → List ℕ → List ℕ → Option Algorithm → Option ℕ → Option Command

@@ -27,17 +27,16 @@ use Rattle.ats_console.specs.Words.{Audit, AuditBoth, AuditFetch, AuditGrowth, C
 use Rattle.ats_console.specs.Read.{HasIndex}
 use Rattle.ats_console.specs.Steps.{AsksRanking}
 use Rattle.ats_top.specs.Calling.{MayCall, MayOpen}
-use Rattle.ats_top.specs.Collided.{Collides, lines_of_proof_collision}
+use Rattle.ats_auditors.specs.Collided.{Collides, lines_of_proof_collision}
 use Rattle.ats_top.specs.Commands.{plan_of}
-use Rattle.ats_top.specs.Commands.Audit.{audit_plan}
+use Rattle.ats_auditors.specs.Commands.Audit.{audit_plan}
 use Rattle.ats_top.specs.Commands.AuditBoth.{audit_both_plan}
 use Rattle.ats_top.specs.Commands.AuditFetch.{audit_fetch_plan}
 use Rattle.ats_top.specs.Commands.AuditGrowth.{audit_growth_plan}
-use Rattle.ats_top.specs.GrowthLines.{lines_of_growth_collision}
+use Rattle.ats_top.specs.CollisionLines.{lines_of_growth_collision, lines_of_text_collision}
 use Rattle.ats_top.specs.Outside.{Outside}
 use Rattle.ats_top.specs.Run.{IsCommandServed, Excuse, NoMemory, SinkFailed, ShelfFailed, CallerFailed, DoorBroke, Ran}
 use Rattle.ats_top.specs.Serving.{Took}
-use Rattle.ats_top.specs.TextLines.{lines_of_text_collision}
 use Rattle.ats_top.specs.Theorem.{AuditsProof, AuditsText, AuditsBoth, AuditsGrowth, IsHindered, IsCaught}
 use Rattle.ats_console.specs.declared.stops.Stop.TheVariants.{Shelf, Collision}
 use Rattle.ats_top.proofs.OneCommand.{its}

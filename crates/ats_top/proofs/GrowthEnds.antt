@@ -1,15 +1,13 @@
--- How `growth` and `audit-growth` end, from the results of their steps.
-use Rattle.std.proofs.Common.{◌≡◌, ◌∙◌, ◌⊎◌, ℕ, List, length, Result, Ok, Err, refl, sym, ap₂, inl, inr}
+-- How `audit-growth` ends, from the results of its steps.
+use Rattle.std.proofs.Common.{◌≡◌, ◌∙◌, ℕ, List, length, Result, Ok, Err, refl, sym, ap₂, inl, inr}
 use Rattle.std.specs.Prelude.{IfOk, IfErr}
 use Rattle.ats_base.specs.Outside.{ShelfTold}
 use Rattle.ats_commit.specs.Archive.{Archive}
 use Rattle.ats_commit.specs.Own.{AreTexts}
 use Rattle.ats_commit.specs.Root.{root_of}
 use Rattle.ats_consistency.specs.Strings.{extract}
-use Rattle.ats_consistency.specs.Value.{Growth}
-use Rattle.ats_consistency.specs.Bytes.{IsAcceptedGrowth}
 use Rattle.ats_growth.specs.Verdicts.{IsFoundGrown, IsFoundCollision, collision_of}
-use Rattle.ats_consistency.specs.Headline.{HasGrown, IsGrownOrCollides}
+use Rattle.ats_consistency.specs.Headline.{HasGrown}
 use Rattle.ats_consistency.specs.declared.checking.Grown.{Grown}
 use Rattle.ats_growth.specs.declared.verdict.GrowthVerdict.TheVariants.{Right}
 use Rattle.ats_growth.proofs.Public.{told, extract-collides}
@@ -17,42 +15,18 @@ use Rattle.ats_plan.specs.Files.{IsFile}
 use Rattle.ats_plan.specs.Plan.{Finishes}
 use Rattle.ats_plan.specs.Runs.{IsDone, IsStopped}
 use Rattle.ats_plan.proofs.Public.{Leads, done_get, done_try, done_end}
-use Rattle.ats_console.specs.Words.{GrowthWords, AuditGrowthWords}
+use Rattle.ats_console.specs.Words.{AuditGrowthWords}
 use Rattle.ats_console.specs.Read.{HasIndex}
 use Rattle.ats_console.specs.declared.stops.Stop.{Stop}
 use Rattle.ats_console.specs.declared.stops.Stop.TheVariants.{Shelf, Memory, Collision}
-use Rattle.ats_top.specs.Collided.{finds_none}
-use Rattle.ats_top.specs.GrowthLines.{line_of_grown, lines_of_growth_collision}
-use Rattle.ats_top.specs.GrowthSteps.{RejectsGrowth, checks_growth}
-use Rattle.ats_top.specs.Commands.Growth.{IsGrowthChecked, growth_plan}
+use Rattle.ats_auditors.specs.Collided.{finds_none}
+use Rattle.ats_checkers.specs.GrowthLines.{line_of_grown}
+use Rattle.ats_top.specs.CollisionLines.{lines_of_growth_collision}
+use Rattle.ats_checkers.specs.GrowthSteps.{checks_growth}
 use Rattle.ats_top.specs.Commands.AuditGrowth.{IsGrowthAudited, audit_growth_plan}
 use Rattle.ats_top.specs.Inner.Growths.{TellsGrown, GrowthVerdictStop}
-use Rattle.ats_top.proofs.CheckEnds.{check_stops, audit_stops}
+use Rattle.ats_auditors.proofs.Public.{audit_stops}
 use Rattle.ats_top.proofs.IndexTexts.{texts_of}
-
-module _ (H : List ℕ → List ℕ) (words : GrowthWords) (before mid : ShelfTold) (bytes : List ℕ)
-    (leads : Leads Shelf Memory (growth_plan H words) before
-    (checks_growth H words.old words.new bytes (λ growth. Finishes (λ files text. IsGrowthChecked H files words text))) mid) where
-  -- bytes that were refused
-  pub growth_stops : {T : Type 0} (result : Result T Stop) → IfErr result (λ stop. (stop ≡ Memory) ⊎ RejectsGrowth H words.old words.new bytes stop)
-      → IfErr result (IsStopped Shelf Memory (growth_plan H words) before mid)
-  growth_stops result stops = check_stops leads result stops
-
-  -- bytes that were accepted
-  pub growth_end : IsFile mid.files words.file 4096 bytes → ((m : List ℕ) → length (H m) ≡ 32) → {T : Type 0} (bytes_of : T → List ℕ) (result : Result T Stop)
-      → IfOk result (λ text. (growth : Growth) × IsAcceptedGrowth H words.old words.new bytes growth × IsGrownOrCollides H words.old words.new growth × (bytes_of text ≡ line_of_grown growth.old.documents growth.new.documents))
-      → IfOk result (λ text. IsDone (growth_plan H words) before mid (bytes_of text))
-  growth_end file sized bytes_of (Ok text) (growth, accepted, headline, printed) =
-      leads.does mid (bytes_of text) (done_get growth accepted (done_end (record {
-        bytes = bytes;
-        file = file;
-        growth = growth;
-        accepted = accepted;
-        headline = headline;
-        audited = told H sized words.old words.new bytes growth accepted.says accepted.accepts;
-        printed = printed;
-      })))
-  growth_end file sized bytes_of (Err stop) is = tt
 
 module _ (H : List ℕ → List ℕ) (older newer : Archive) (bytes : List ℕ) where
   -- what is found to have grown has grown by the numbers that the growth says

@@ -12,7 +12,7 @@ use Rattle.ats_growth.proofs.Public.{honest_accepted, honest-none}
 use Rattle.ats_plan.specs.Files.{Files, IsFile}
 use Rattle.ats_console.specs.Words.{Command, Grow, Growth, AuditGrowth, root_word, growth_words, command_of}
 use Rattle.ats_console.specs.Read.{HasIndex}
-use Rattle.ats_top.specs.Commands.Grow.{HasKept}
+use Rattle.ats_makers.specs.Commands.Grow.{HasKept}
 use Rattle.ats_top.specs.Run.{Said, IsCommandServed}
 
 -- the command of the words of `growth`, from what its roots spell

@@ -22,17 +22,17 @@ use Rattle.ats_plan.specs.Plan.{Plan, Passes}
 use Rattle.ats_plan.proofs.Public.{one_file, file_short}
 use Rattle.ats_console.specs.Words.{SweepWords, Sweep}
 use Rattle.ats_console.specs.Read.{HasIndex}
-use Rattle.ats_top.specs.Listed.{Listed, lines_of, IsListed, IsListOf, IsList, names_of}
-use Rattle.ats_top.specs.Gathered.{IsGathered, AreGathered, AreAllThere, size, total}
-use Rattle.ats_top.specs.Findings.{Finding, FoundRight, IsFinding, AreFindings, IsHonestLine, is_refused, is_collision}
+use Rattle.ats_auditors.specs.Listed.{Listed, lines_of, IsListed, IsListOf, IsList, names_of}
+use Rattle.ats_auditors.specs.Gathered.{IsGathered, AreGathered, AreAllThere, size, total}
+use Rattle.ats_auditors.specs.Findings.{Finding, FoundRight, IsFinding, AreFindings, IsHonestLine, is_refused, is_collision}
 use Rattle.ats_console.specs.Steps.{reads_file}
-use Rattle.ats_top.specs.Commands.Sweep.{gathers, audits, sweeps}
+use Rattle.ats_auditors.specs.Commands.Sweep.{gathers, audits, sweeps}
 use Rattle.ats_top.specs.Run.{IsCommandServed}
-use Rattle.ats_top.specs.declared.gathering.Gathered.{Gathered}
-use Rattle.ats_top.specs.declared.gathering.Gathered.TheVariants.{Whole, Long}
+use Rattle.ats_auditors.specs.declared.gathering.Gathered.{Gathered}
+use Rattle.ats_auditors.specs.declared.gathering.Gathered.TheVariants.{Whole, Long}
 use Rattle.ats_console.specs.declared.stops.Stop.{Stop}
 use Rattle.ats_top.proofs.HonestServed.{bytes_accepted}
-use Rattle.ats_top.proofs.OneFinding.{one_findings}
+use Rattle.ats_auditors.proofs.Public.{one_findings}
 
 -- ---- the proofs that are gathered
 

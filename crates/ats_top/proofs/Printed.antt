@@ -1,5 +1,5 @@
 -- What a run with status 0 printed, for the commands that check what came from elsewhere.
-use Rattle.std.proofs.Common.{◌≡◌, ◌∙◌, ℕ, List, [], ◌∷◌, codes, Option, Some, refl, ap, ap₂, subst}
+use Rattle.std.proofs.Common.{◌≡◌, ◌∙◌, ℕ, List, [], ◌∷◌, codes, Option, Some, refl, ap, ap₂}
 use Rattle.std.specs.Prelude.{option_map, option_and_then}
 use Rattle.ats_proof.specs.declared.record.Algorithm.{Algorithm}
 use Rattle.ats_plan.specs.Files.{Files}
@@ -7,10 +7,10 @@ use Rattle.ats_plan.proofs.Public.{EndsIn, does_end}
 use Rattle.ats_console.specs.Words.{AskWords, Ask, Both, BothWords, Command, Fetch, FetchWords, Growth, GrowthWords, Verify, VerifyWords, algorithm_of, command_of, number_of, root_word}
 use Rattle.ats_top.specs.Asked.{IsReplyVerified}
 use Rattle.ats_top.specs.Commands.{plan_of}
-use Rattle.ats_top.specs.Commands.Both.{IsBothChecked}
-use Rattle.ats_top.specs.Commands.Fetch.{IsFetched}
-use Rattle.ats_top.specs.Commands.Growth.{IsGrowthChecked}
-use Rattle.ats_top.specs.Commands.Verify.{IsVerified}
+use Rattle.ats_checkers.specs.Commands.Both.{IsBothChecked}
+use Rattle.ats_checkers.specs.Commands.Fetch.{IsFetched}
+use Rattle.ats_checkers.specs.Commands.Growth.{IsGrowthChecked}
+use Rattle.ats_checkers.specs.Commands.Verify.{IsVerified}
 use Rattle.ats_top.specs.Outside.{Outside}
 use Rattle.ats_top.specs.Run.{IsCompleted, Ran}
 use Rattle.ats_top.specs.Serving.{Took}

@@ -1,6 +1,6 @@
 -- What a check with status 0 printed is right for each archive with the root, or it is caught.
 use Rattle.std.proofs.Common.{◌≡◌, ◌⊎◌, ◌^◌, ℕ, List, [], ◌∷◌, codes, Some, Ok, subst, inl, inr}
-use Rattle.std.specs.Prelude.{slice_get, IsSome}
+use Rattle.std.specs.Prelude.{slice_get}
 use Rattle.ats_terms.specs.Query.{IsQueryOf}
 use Rattle.ats_impact.specs.declared.rank.Row.{Row}
 use Rattle.ats_commit.specs.Archive.{Archive}
@@ -14,13 +14,14 @@ use Rattle.ats_consistency.specs.Headline.{HasGrown}
 use Rattle.ats_plan.specs.Files.{IsFile}
 use Rattle.ats_console.specs.Words.{algorithm_of, number_of, root_word, verify_words, fetch_words, both_words, growth_words}
 use Rattle.ats_console.specs.Print.{lines, lines_of_documents}
-use Rattle.ats_top.specs.Collided.{lines_of_proof_collision}
+use Rattle.ats_auditors.specs.Collided.{lines_of_proof_collision}
 use Rattle.ats_top.specs.Conversation.{Converses}
-use Rattle.ats_top.specs.GrowthLines.{line_of_grown, lines_of_growth_collision}
+use Rattle.ats_checkers.specs.GrowthLines.{line_of_grown}
+use Rattle.ats_top.specs.CollisionLines.{lines_of_growth_collision, lines_of_text_collision}
 use Rattle.ats_top.specs.Outside.{Outside}
 use Rattle.ats_top.specs.Run.{Ran}
 use Rattle.ats_top.specs.Serving.{Took}
-use Rattle.ats_top.specs.TextLines.{printed_text, lines_of_text_collision}
+use Rattle.ats_checkers.specs.TextLines.{printed_text}
 use Rattle.ats_top.specs.Theorem.{AuditsProof, AuditsText, AuditsBoth, AuditsGrowth, IsCaught}
 use Rattle.ats_top.proofs.BothServed.{both_said}
 use Rattle.ats_top.proofs.Caught.{proof_caught, text_caught, both_caught, growth_caught}

@@ -1,5 +1,5 @@
 -- Sessions at a door, one after another, and their lines.
-use Rattle.std.proofs.Common.{◌≡◌, ◌≤◌, ◌+◌, ◌∙◌, ◌++◌, ◌∷◌, ℕ, Bool, true, List, [], length, take, fold, is_some, option_map, Option, Some, None, refl, sym, ap, subst, arith, append_assoc, append-nil, add-zero, length-append, cond}
+use Rattle.std.proofs.Common.{◌≡◌, ◌≤◌, ◌+◌, ◌∙◌, ◌++◌, ◌∷◌, ℕ, Bool, true, List, [], length, take, fold, is_some, option_map, Option, Some, None, refl, sym, ap, subst, arith, append_assoc, append-nil, add-zero, cond}
 use Rattle.std.specs.List.{All}
 use Rattle.std.proofs.lemmas.List.Sums.{fold-append, sum_by_push}
 use Rattle.std.proofs.lemmas.List.Elements.{All-append, All-cons, All-nil}

@@ -1,6 +1,6 @@
 -- A run of a command that its plan refuses ends with the status and the text of that stop, or has an excuse. So two runs of
 -- the same words over the same files end alike.
-use Rattle.std.proofs.Common.{◌≡◌, ◌≢◌, ◌⊎◌, ◌∙◌, ℕ, List, [], ◌++◌, Some, refl, sym, ap, subst, inl, inr, arith}
+use Rattle.std.proofs.Common.{◌≡◌, ◌≢◌, ◌⊎◌, ◌∙◌, ℕ, List, ◌++◌, Some, refl, sym, ap, subst, inl, inr, arith}
 use Rattle.ats_plan.specs.Files.{Files}
 use Rattle.ats_plan.specs.Plan.{Refuses, Passes, IsKnown}
 use Rattle.ats_plan.specs.Runs.{IsDone}
@@ -11,7 +11,7 @@ use Rattle.ats_console.specs.Stops.{End, Done, Stopped, Unprinted, status_of, st
 use Rattle.ats_top.specs.Calling.{MayCall, MayOpen}
 use Rattle.ats_top.specs.Commands.{plan_of}
 use Rattle.ats_top.specs.Outside.{Outside}
-use Rattle.ats_top.specs.Run.{IsCompleted, StoppedEarly, IsHalted, IsUnprinted, RunEnds, IsCommandServed, LinksStop, LinksUnprinted, PrintsLast, Excuse, NoMemory, SinkFailed, ShelfFailed, Ran}
+use Rattle.ats_top.specs.Run.{IsCompleted, IsHalted, IsUnprinted, RunEnds, IsCommandServed, LinksStop, LinksUnprinted, PrintsLast, Excuse, NoMemory, SinkFailed, ShelfFailed, Ran}
 use Rattle.ats_top.specs.Serving.{Took}
 use Rattle.ats_console.specs.declared.stops.Stop.{Stop}
 use Rattle.ats_console.specs.declared.stops.Stop.TheVariants.{Usage, Shelf, Input, Rejected, Memory, Link, Peer, Faults, Collision}

@@ -1,5 +1,5 @@
 -- How a command that is done or stopped ends.
-use Rattle.std.proofs.Common.{◌≡◌, ◌≢◌, ◌⊎◌, ◌++◌, ℕ, List, [], refl, sym, subst, inl, inr, Some, None, Result, Ok, Err, IfErr, append-nil}
+use Rattle.std.proofs.Common.{◌≡◌, ◌≢◌, ◌⊎◌, ℕ, List, [], refl, sym, subst, inl, inr, Some, None, Result, Ok, Err, IfErr, append-nil}
 use Rattle.std.specs.Prelude.{IfOk}
 use Rattle.ats_base.specs.Outside.{ShelfTold, SinkTold}
 use Rattle.ats_base.specs.Links.{CallerTold, DoorTold}

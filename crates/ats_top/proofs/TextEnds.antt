@@ -1,55 +1,30 @@
--- How `fetch` and `audit-fetch` end, from the results of their steps.
-use Rattle.std.proofs.Common.{◌≡◌, ◌∙◌, ◌⊎◌, ◌^◌, ℕ, List, length, Result, Ok, Err, ap, inr}
+-- How `audit-fetch` ends, from the results of its steps.
+use Rattle.std.proofs.Common.{◌≡◌, ◌∙◌, ◌^◌, ℕ, List, Result, Ok, Err, ap, inr}
 use Rattle.std.specs.Prelude.{IfOk, IfErr}
 use Rattle.ats_base.specs.Outside.{ShelfTold}
 use Rattle.ats_commit.specs.Archive.{Archive}
 use Rattle.ats_commit.specs.Root.{root_of}
 use Rattle.ats_inclusion.specs.Strings.{text_extract}
 use Rattle.ats_inclusion.specs.Value.{TextProof, IsTextProof}
-use Rattle.ats_inclusion.specs.Bytes.{IsAcceptedText}
 use Rattle.ats_fetch.specs.Verdicts.{IsFoundOwn, IsFoundClash, difference_of}
 use Rattle.ats_fetch.specs.declared.verdict.TextClash.{TextClash}
-use Rattle.ats_inclusion.proofs.Public.{one_text, in_range, own_or_collides}
-use Rattle.ats_fetch.proofs.Public.{told, extract-collides}
+use Rattle.ats_inclusion.proofs.Public.{one_text}
+use Rattle.ats_fetch.proofs.Public.{extract-collides}
 use Rattle.ats_plan.specs.Files.{IsFile}
 use Rattle.ats_plan.specs.Plan.{Finishes}
 use Rattle.ats_plan.specs.Runs.{IsDone, IsStopped}
 use Rattle.ats_plan.proofs.Public.{Leads, done_get, done_try, done_end}
-use Rattle.ats_console.specs.Words.{FetchWords, AuditFetchWords}
+use Rattle.ats_console.specs.Words.{AuditFetchWords}
 use Rattle.ats_console.specs.Read.{HasIndex}
 use Rattle.ats_console.specs.declared.stops.Stop.{Stop}
 use Rattle.ats_console.specs.declared.stops.Stop.TheVariants.{Shelf, Memory, Collision}
-use Rattle.ats_top.specs.Collided.{finds_none}
-use Rattle.ats_top.specs.TextLines.{printed_text, lines_of_text_collision}
-use Rattle.ats_top.specs.TextSteps.{RejectsText, checks_text}
-use Rattle.ats_top.specs.Commands.Fetch.{IsFetched, fetch_plan}
+use Rattle.ats_auditors.specs.Collided.{finds_none}
+use Rattle.ats_checkers.specs.TextLines.{printed_text}
+use Rattle.ats_top.specs.CollisionLines.{lines_of_text_collision}
+use Rattle.ats_checkers.specs.TextSteps.{checks_text}
 use Rattle.ats_top.specs.Commands.AuditFetch.{IsFetchAudited, audit_fetch_plan}
 use Rattle.ats_top.specs.Inner.Texts.{TextVerdictStop}
-use Rattle.ats_top.proofs.CheckEnds.{check_stops, audit_stops}
-
-module _ (H : List ℕ → List ℕ) (words : FetchWords) (before mid : ShelfTold) (bytes : List ℕ)
-    (leads : Leads Shelf Memory (fetch_plan H words) before
-    (checks_text H words.root words.doc bytes (λ proof. Finishes (λ files text. IsFetched H files words text))) mid) where
-  -- bytes that were refused
-  pub fetch_stops : {T : Type 0} (result : Result T Stop) → IfErr result (λ stop. (stop ≡ Memory) ⊎ RejectsText H words.root words.doc bytes stop)
-      → IfErr result (IsStopped Shelf Memory (fetch_plan H words) before mid)
-  fetch_stops result stops = check_stops leads result stops
-
-  -- bytes that were accepted
-  pub fetch_end : IsFile mid.files words.file (2 ^ 21) bytes → ((m : List ℕ) → length (H m) ≡ 32) → {T : Type 0} (bytes_of : T → List ℕ) (result : Result T Stop)
-      → IfOk result (λ text. (proof : TextProof) × IsAcceptedText H words.root words.doc bytes proof × (bytes_of text ≡ printed_text proof.text))
-      → IfOk result (λ text. IsDone (fetch_plan H words) before mid (bytes_of text))
-  fetch_end file sized bytes_of (Ok text) (proof, accepted, printed) =
-      leads.does mid (bytes_of text) (done_get proof accepted (done_end (record {
-        bytes = bytes;
-        file = file;
-        proof = proof;
-        accepted = accepted;
-        headline = own_or_collides H sized words.root words.doc proof (in_range bytes proof accepted.says) accepted.accepts;
-        audited = told H sized words.root words.doc bytes proof accepted.says accepted.accepts;
-        printed = printed;
-      })))
-  fetch_end file sized bytes_of (Err stop) is = tt
+use Rattle.ats_auditors.proofs.Public.{audit_stops}
 
 module _ (H : List ℕ → List ℕ) (words : AuditFetchWords) (before mid : ShelfTold) (archive : Archive) (bytes : List ℕ)
     (leads : Leads Shelf Memory (audit_fetch_plan H words) before

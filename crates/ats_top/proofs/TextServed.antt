@@ -11,7 +11,7 @@ use Rattle.ats_fetch.proofs.Public.{given-accepted, given-none}
 use Rattle.ats_plan.specs.Files.{Files, IsFile}
 use Rattle.ats_console.specs.Words.{Command, Fetch, AuditFetch, number_of, root_word, fetch_words, command_of}
 use Rattle.ats_console.specs.Read.{HasIndex}
-use Rattle.ats_top.specs.Commands.Give.{HasDocument}
+use Rattle.ats_makers.specs.Commands.Give.{HasDocument}
 use Rattle.ats_top.specs.Run.{Said, IsCommandServed}
 
 -- the command of the words of `fetch`, from what its root and its document spell

@@ -3,46 +3,31 @@ use Rattle.std.specs.Prelude.{ℕ, List}
 use Rattle.ats_plan.specs.Plan.{Plan}
 use Rattle.ats_console.specs.Words.{Command}
 use Rattle.ats_console.specs.Words as command
-use Rattle.ats_top.specs.Commands.Rank.{rank_plan}
-use Rattle.ats_top.specs.Commands.Build.{build_plan}
-use Rattle.ats_top.specs.Commands.Root.{root_plan}
-use Rattle.ats_top.specs.Commands.Prove.{prove_plan}
-use Rattle.ats_top.specs.Commands.Verify.{verify_plan}
+use Rattle.ats_makers.specs.Commands.Rank.{rank_plan}
+use Rattle.ats_makers.specs.Commands.Build.{build_plan}
+use Rattle.ats_makers.specs.Commands.Root.{root_plan}
+use Rattle.ats_makers.specs.Commands.Prove.{prove_plan}
+use Rattle.ats_checkers.specs.Commands.Verify.{verify_plan}
 use Rattle.ats_top.specs.Commands.Ask.{ask_plan}
 use Rattle.ats_top.specs.Commands.Serve.{serve_plan}
-use Rattle.ats_top.specs.Commands.Audit.{audit_plan}
-use Rattle.ats_top.specs.Commands.Sweep.{sweep_plan}
-use Rattle.ats_top.specs.Commands.Trial.{trial_plan}
-use Rattle.ats_top.specs.Commands.Migrate.{migrate_plan}
-use Rattle.ats_top.specs.Commands.Give.{give_plan}
-use Rattle.ats_top.specs.Commands.Fetch.{fetch_plan}
+use Rattle.ats_auditors.specs.Commands.Audit.{audit_plan}
+use Rattle.ats_auditors.specs.Commands.Sweep.{sweep_plan}
+use Rattle.ats_auditors.specs.Commands.Trial.{trial_plan}
+use Rattle.ats_makers.specs.Commands.Migrate.{migrate_plan}
+use Rattle.ats_makers.specs.Commands.Give.{give_plan}
+use Rattle.ats_checkers.specs.Commands.Fetch.{fetch_plan}
 use Rattle.ats_top.specs.Commands.AuditFetch.{audit_fetch_plan}
-use Rattle.ats_top.specs.Commands.ProveBoth.{prove_both_plan}
-use Rattle.ats_top.specs.Commands.Both.{both_plan}
+use Rattle.ats_makers.specs.Commands.ProveBoth.{prove_both_plan}
+use Rattle.ats_checkers.specs.Commands.Both.{both_plan}
 use Rattle.ats_top.specs.Commands.AuditBoth.{audit_both_plan}
-use Rattle.ats_top.specs.Commands.Grow.{grow_plan}
-use Rattle.ats_top.specs.Commands.Growth.{growth_plan}
+use Rattle.ats_makers.specs.Commands.Grow.{grow_plan}
+use Rattle.ats_checkers.specs.Commands.Growth.{growth_plan}
 use Rattle.ats_top.specs.Commands.AuditGrowth.{audit_growth_plan}
 use Rattle.ats_console.specs.declared.stops.Stop.{Stop}
-pub mod Rank
-pub mod Build
-pub mod Root
-pub mod Prove
-pub mod Verify
 pub mod Ask
 pub mod Serve
-pub mod Audit
-pub mod Sweep
-pub mod Trial
-pub mod Migrate
-pub mod Give
-pub mod Fetch
 pub mod AuditFetch
-pub mod ProveBoth
-pub mod Both
 pub mod AuditBoth
-pub mod Grow
-pub mod Growth
 pub mod AuditGrowth
 
 abbrev pub plan_of : (List ℕ → List ℕ) → Command → Plan Stop

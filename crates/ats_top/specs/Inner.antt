@@ -8,5 +8,3 @@ pub mod Serving
 pub mod Stops
 pub mod Texts
 pub mod Growths
-pub mod Sweeping
-pub mod Trial

@@ -3,13 +3,12 @@
 ghost use Rattle.std.specs.Prelude.{◌≡◌, ◌⊎◌, ◌≤◌, length, IfOk, IfErr};
 ghost use Rattle.ats_console.specs.Steps.{AsksRanking};
 ghost use Rattle.ats_top.specs.Inner.Conversation.{ConversesFed, ConversationStop, IsRanged, KeepsCallerCount};
-ghost use Rattle.ats_top.specs.Conversation.{Calls};
+ghost use Rattle.ats_top.specs.Conversation.{Calls, stop_of_asking};
 ghost use Rattle.ats_top.specs.Asked.{IsReplyVerified};
 ghost use Rattle.ats_top.specs.Inner.Stops.{AskStop};
-ghost use Rattle.ats_top.specs.Conversation.{stop_of_asking};
 
-use crate::verifying::verify_to_lines;
 use ats_base::Caller;
+use ats_checkers::verify_to_lines;
 use ats_console::{Stop, peer, rejected};
 use ats_hash::Hash32;
 use ats_impact::Top;

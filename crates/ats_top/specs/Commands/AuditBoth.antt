@@ -14,8 +14,8 @@ use Rattle.ats_console.specs.Print.{lines_of_documents}
 use Rattle.ats_console.specs.Read.{HasIndex}
 use Rattle.ats_console.specs.Steps.{asks_query, reads_index, reads_proof}
 use Rattle.ats_console.specs.declared.stops.Stop.{Stop}
-use Rattle.ats_top.specs.BothSteps.{checks_both}
-use Rattle.ats_top.specs.Collided.{finds_none, lines_of_proof_collision}
+use Rattle.ats_checkers.specs.BothSteps.{checks_both}
+use Rattle.ats_auditors.specs.Collided.{finds_none, lines_of_proof_collision}
 
 -- The archive is that of the named index, the second file is accepted under its root as a proof of all documents with every
 -- term of the query and has no collision with it, and the text is a line for each document that the proof shows. These are

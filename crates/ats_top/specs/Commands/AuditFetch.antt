@@ -11,9 +11,10 @@ use Rattle.ats_console.specs.Words.{AuditFetchWords}
 use Rattle.ats_console.specs.Read.{HasIndex}
 use Rattle.ats_console.specs.Steps.{reads_index}
 use Rattle.ats_console.specs.declared.stops.Stop.{Stop}
-use Rattle.ats_top.specs.Collided.{finds_none}
-use Rattle.ats_top.specs.TextLines.{printed_text, lines_of_text_collision}
-use Rattle.ats_top.specs.TextSteps.{reads_text, checks_text}
+use Rattle.ats_auditors.specs.Collided.{finds_none}
+use Rattle.ats_checkers.specs.TextLines.{printed_text}
+use Rattle.ats_top.specs.CollisionLines.{lines_of_text_collision}
+use Rattle.ats_checkers.specs.TextSteps.{reads_text, checks_text}
 
 -- The archive is that of the named index, the second file is accepted as the text of the document under its root and has
 -- no collision with it, and the text, which is the archive's own, was printed with a line feed.

@@ -12,9 +12,10 @@ use Rattle.ats_console.specs.Words.{AuditGrowthWords}
 use Rattle.ats_console.specs.Read.{HasIndex}
 use Rattle.ats_console.specs.Steps.{reads_index}
 use Rattle.ats_console.specs.declared.stops.Stop.{Stop}
-use Rattle.ats_top.specs.Collided.{finds_none}
-use Rattle.ats_top.specs.GrowthLines.{line_of_grown, lines_of_growth_collision}
-use Rattle.ats_top.specs.GrowthSteps.{reads_growth, checks_growth}
+use Rattle.ats_auditors.specs.Collided.{finds_none}
+use Rattle.ats_checkers.specs.GrowthLines.{line_of_grown}
+use Rattle.ats_top.specs.CollisionLines.{lines_of_growth_collision}
+use Rattle.ats_checkers.specs.GrowthSteps.{reads_growth, checks_growth}
 
 -- The archives are those of the two named indexes, the file is accepted as the growth from the root of the old one to that
 -- of the new one and has no collision with them, nothing was withdrawn, and the line of the two numbers of documents was

@@ -1,30 +1,14 @@
 -- Why a step of the commands for all documents with every term stops, as its function returns it.
-use Rattle.std.specs.Prelude.{◌≡◌, ◌⊎◌, ℕ, List}
+use Rattle.std.specs.Prelude.{◌≡◌, ℕ, List}
 use Rattle.ats_commit.specs.Archive.{Archive}
 use Rattle.ats_commit.specs.Root.{root_of}
-use Rattle.ats_proof.specs.Value.{Proof}
 use Rattle.ats_client.specs.Strings.{extract}
-use Rattle.ats_conjunction.specs.Documents.{documents_shown}
-use Rattle.ats_conjunction.specs.Headline.{AreBothOrCollide}
 use Rattle.ats_conjunction.specs.Bytes.{AreAcceptedBytes}
 use Rattle.ats_both.specs.Verdicts.{AreFoundRight}
 use Rattle.ats_console.specs.Print.{lines_of_documents}
 use Rattle.ats_console.specs.declared.stops.Stop.{Stop}
-use Rattle.ats_console.specs.declared.stops.Stop.TheVariants.{Memory}
-use Rattle.ats_top.specs.BothSteps.{RejectsBoth}
-use Rattle.ats_top.specs.Collided.{lines_of_proof_collision}
-use Rattle.ats_top.specs.Commands.ProveBoth.{IsBothUnmade}
-use Rattle.ats_top.specs.Inner.Stops.{AuditStop}
-
--- why no proof is made: memory ran out, or it is too long
-abbrev pub BothMakingStop : (List ℕ → List ℕ) → Archive → List (List ℕ × ℕ) → Stop → Type 0
-BothMakingStop H archive query stop = (stop ≡ Memory) ⊎ IsBothUnmade H archive query stop
-
--- the bytes are accepted as this proof, of which the theorem holds, and the text is the lines of its documents
-abbrev pub TellsBoth : (List ℕ → List ℕ) → (root : List ℕ) → List (List ℕ × ℕ) → (bytes : List ℕ) → (text : List ℕ) → Type 0
-TellsBoth H root query bytes text =
-    (proof : Proof) × AreAcceptedBytes H root query bytes proof × AreBothOrCollide H root query proof
-    × (text ≡ lines_of_documents (documents_shown proof))
+use Rattle.ats_checkers.specs.BothSteps.{RejectsBoth}
+use Rattle.ats_auditors.specs.Collided.{lines_of_proof_collision, AuditStop}
 
 -- the bytes are found to show these documents, and the text is their lines
 abbrev pub TellsRight : (List ℕ → List ℕ) → Archive → List (List ℕ × ℕ) → (bytes : List ℕ) → (text : List ℕ) → Type 0

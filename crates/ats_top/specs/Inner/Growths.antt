@@ -1,5 +1,5 @@
 -- Why a step of the commands of a growth stops, as its function returns it.
-use Rattle.std.specs.Prelude.{◌≡◌, ◌⊎◌, ℕ, List}
+use Rattle.std.specs.Prelude.{◌≡◌, ℕ, List}
 use Rattle.ats_commit.specs.Archive.{Archive}
 use Rattle.ats_commit.specs.Root.{root_of}
 use Rattle.ats_consistency.specs.Strings.{extract}
@@ -7,15 +7,10 @@ use Rattle.ats_consistency.specs.Bytes.{IsAcceptedGrowth}
 use Rattle.ats_growth.specs.Verdicts.{IsFoundGrown}
 use Rattle.ats_consistency.specs.declared.checking.Grown.{Grown}
 use Rattle.ats_console.specs.declared.stops.Stop.{Stop}
-use Rattle.ats_console.specs.declared.stops.Stop.TheVariants.{Memory}
-use Rattle.ats_top.specs.GrowthLines.{line_of_grown, lines_of_growth_collision}
-use Rattle.ats_top.specs.GrowthSteps.{RejectsGrowth}
-use Rattle.ats_top.specs.Commands.Grow.{Withdraws}
-use Rattle.ats_top.specs.Inner.Stops.{AuditStop}
-
--- why no growth is shown: memory ran out, or a text was withdrawn
-abbrev pub GrowingStop : (older newer : Archive) → Stop → Type 0
-GrowingStop older newer stop = (stop ≡ Memory) ⊎ Withdraws older newer stop
+use Rattle.ats_checkers.specs.GrowthLines.{line_of_grown}
+use Rattle.ats_top.specs.CollisionLines.{lines_of_growth_collision}
+use Rattle.ats_checkers.specs.GrowthSteps.{RejectsGrowth}
+use Rattle.ats_auditors.specs.Collided.{AuditStop}
 
 -- the bytes are found to show that nothing was withdrawn, and the text is the line of the numbers that were found
 abbrev pub TellsGrown : (List ℕ → List ℕ) → (older newer : Archive) → (bytes : List ℕ) → (text : List ℕ) → Type 0

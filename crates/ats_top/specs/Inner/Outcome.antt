@@ -6,7 +6,7 @@ use Rattle.ats_top.specs.declared.serving.Halt.TheVariants.{Door, Sink, Memory}
 use Rattle.ats_console.specs.declared.stops.Stop.TheVariants as stop
 use Rattle.ats_console.specs.Stops.{status_of_stop, text_of_stop}
 use Rattle.ats_console.specs.declared.stops.Stop.{Stop}
-use Rattle.ats_console.specs.declared.stops.Stop.TheVariants.{Usage, Shelf, Memory, Input, Rejected, Link, Peer, Faults, Collision}
+use Rattle.ats_console.specs.declared.stops.Stop.TheVariants.{Memory, Input, Rejected, Link, Peer, Faults, Collision}
 use Rattle.ats_top.specs.Run.{Prints}
 
 -- the text is a line that needs memory

@@ -1,19 +1,13 @@
 -- Why a step of the commands of a text stops, as its function returns it.
-use Rattle.std.specs.Prelude.{◌≡◌, ◌⊎◌, ℕ, List}
+use Rattle.std.specs.Prelude.{ℕ, List}
 use Rattle.ats_commit.specs.Archive.{Archive}
 use Rattle.ats_commit.specs.Root.{root_of}
 use Rattle.ats_inclusion.specs.Strings.{text_extract}
 use Rattle.ats_inclusion.specs.Bytes.{IsAcceptedText}
 use Rattle.ats_console.specs.declared.stops.Stop.{Stop}
-use Rattle.ats_console.specs.declared.stops.Stop.TheVariants.{Memory}
-use Rattle.ats_top.specs.TextLines.{lines_of_text_collision}
-use Rattle.ats_top.specs.TextSteps.{RejectsText}
-use Rattle.ats_top.specs.Commands.Give.{LacksDocument}
-use Rattle.ats_top.specs.Inner.Stops.{AuditStop}
-
--- why no text is given: memory ran out, or the archive has no such document
-abbrev pub GivingStop : Archive → (doc : ℕ) → Stop → Type 0
-GivingStop archive doc stop = (stop ≡ Memory) ⊎ LacksDocument archive doc stop
+use Rattle.ats_top.specs.CollisionLines.{lines_of_text_collision}
+use Rattle.ats_checkers.specs.TextSteps.{RejectsText}
+use Rattle.ats_auditors.specs.Collided.{AuditStop}
 
 -- why the bytes are not found to give the archive's own text: memory ran out, or they are rejected, or they have a
 -- collision

@@ -3,8 +3,7 @@ use Rattle.ats_console.specs.Words.{AskWords}
 use Rattle.ats_top.specs.Conversation.{Converses}
 use Rattle.ats_top.specs.Asked.{question_of}
 use Rattle.std.proofs.lemmas.Result.{err_from_is_err_and}
-use Rattle.ats_console.proofs.Public.{passed_on}
-use Rattle.ats_top.proofs.VerifyEnds.{rows_of_range, asks_of}
+use Rattle.ats_console.proofs.Public.{passed_on, rows_of_range, asks_of}
 use Rattle.ats_top.proofs.AskEnds.{whole_reply, refused_stops, bytes_stops, bytes_end, rows_refused, query_refused, unheard_stops}
 use Rattle.ats_top.proofs.asking.ask.Goals as goal
 

@@ -1,0 +1,17 @@
+pub mod Public
+mod OneList
+mod OneCollision
+mod OneFinding
+mod OneTrial
+mod CheckEnds
+mod AuditEnds
+mod ListLines
+mod ListCuts
+mod ListEntries
+mod Gathers
+mod GatherSteps
+mod Reports
+mod JobSteps
+mod SweepSteps
+mod Tried
+mod Sound

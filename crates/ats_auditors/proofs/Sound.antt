@@ -1,0 +1,84 @@
+-- The plan of each command goes one way at most, and stops none for its words.
+use Rattle.std.proofs.Common.{◌≡◌, ◌≤◌, ◌^◌, ◌++◌, ◌∷◌, ◌∙◌, ℕ, Bool, true, false, List, [], Option, sym, ap, arith, true≢false}
+use Rattle.std.specs.List.{list_any}
+use Rattle.ats_tree.specs.Differences.{Difference}
+use Rattle.ats_commit.specs.Archive.{Archive}
+use Rattle.ats_plan.specs.Plan.{Plan, Tries}
+use Rattle.ats_plan.specs.Sound.{IsExact, IsOne}
+use Rattle.ats_console.specs.Words.{AuditWords, SweepWords, TrialWords}
+use Rattle.ats_console.specs.Stops.{line_of_bad_line}
+use Rattle.ats_console.specs.declared.stops.Stop.{Stop}
+use Rattle.ats_console.specs.declared.stops.Stop.TheVariants.{Input, Rejected, Collision}
+use Rattle.ats_console.proofs.Public.{Sound, ends, fails, tries, gets, makes, reads, not_input, not_rejected, not_collision, ranking_sound, index_sound, checks_sound}
+use Rattle.ats_auditors.specs.Listed.{Listed, lines_of, IsListOf, names_of}
+use Rattle.ats_auditors.specs.Gathered.{total}
+use Rattle.ats_auditors.specs.Findings.{Finding, is_refused, is_collision, lines_of_findings}
+use Rattle.ats_auditors.specs.Trial.{IsTrialServed, RefusesTrial}
+use Rattle.ats_auditors.specs.Collided.{finds_none}
+use Rattle.ats_auditors.specs.Commands.Audit.{audit_plan}
+use Rattle.ats_auditors.specs.Commands.Sweep.{IsListStop, PassesRoom, gathers, concludes, audits, sweeps, sweep_plan}
+use Rattle.ats_auditors.specs.Commands.Trial.{trial_plan}
+use Rattle.ats_auditors.specs.declared.gathering.Gathered.{Gathered}
+use Rattle.ats_auditors.specs.declared.gathering.Gathered.TheVariants.{Whole, Long}
+use Rattle.ats_auditors.proofs.OneList.{one_list, no_bad_line, one_bad_line}
+use Rattle.ats_auditors.proofs.OneFinding.{one_findings}
+use Rattle.ats_auditors.proofs.OneCollision.{collision_exact}
+use Rattle.ats_auditors.proofs.OneTrial.{trial_kept, one_trial}
+
+pub none_sound : {P : Type 0} {H : List ℕ → List ℕ} {first : Option (Difference P)} {lines_of : Difference P → List ℕ} {rest : Plan Stop} → Sound rest
+    → Sound (finds_none H first lines_of rest)
+none_sound {H = H} {first = first} {lines_of = lines_of} later = tries (collision_exact H first lines_of) (λ stops. not_collision stops.2) later
+
+list_kept : (bytes : List ℕ) (listed : List Listed) (stop : Stop) → IsListStop bytes stop → IsListOf bytes listed → ⊥
+list_kept bytes listed stop (number, bad, same) is = no_bad_line bytes listed is number bad
+
+one_list_stop : (bytes : List ℕ) (a b : Stop) → IsListStop bytes a → IsListStop bytes b → a ≡ b
+one_list_stop bytes a b (number, is, same) (other, also, like) =
+    same ∙ ap (λ (line : ℕ). Input (line_of_bad_line line)) (one_bad_line (lines_of bytes) number other is also) ∙ sym like
+
+list_one : (bytes : List ℕ) → IsOne (IsListOf bytes) (IsListStop bytes)
+list_one bytes = record { single = one_list bytes; breaks = list_kept bytes; one = one_list_stop bytes }
+
+room_exact : (bytes : ℕ) → IsExact (bytes ≤ 2 ^ 28) (PassesRoom bytes)
+room_exact bytes = record {
+  breaks = λ stop is within. omega (arith, is.0, within);
+  one = λ a b is also. is.1 ∙ sym also.1;
+}
+
+gathers_sound : {rest : List Gathered → Plan Stop} (got : List Gathered) (names : List (List ℕ)) → ((proofs : List Gathered) → Sound (rest proofs))
+    → Sound (gathers got names rest)
+gathers_sound got [] later = later got
+gathers_sound {rest = rest} got (name ∷ names) later =
+    let next : (proof : Gathered) → Sound (Tries (total (got ++ proof ∷ []) ≤ 2 ^ 28) (PassesRoom (total (got ++ proof ∷ []))) (gathers (got ++ proof ∷ []) names rest)) =
+    λ proof. tries (room_exact (total (got ++ proof ∷ []))) (λ stops. not_input stops.1) (gathers_sound {rest = rest} (got ++ proof ∷ []) names later) in
+    reads (next Long) (λ bytes. next (Whole bytes))
+
+-- a test that is to be false
+test_exact : (test : Bool) (to : Stop) → IsExact (test ≡ false) (λ (stop : Stop). (test ≡ true) × (stop ≡ to))
+test_exact test to = record {
+  breaks = λ stop is not. true≢false (sym is.0 ∙ not);
+  one = λ a b is also. is.1 ∙ sym also.1;
+}
+
+concludes_sound : (findings : List Finding) {rest : Plan Stop} → Sound rest → Sound (concludes findings rest)
+concludes_sound findings later =
+    tries (test_exact (list_any is_collision findings) (Collision (lines_of_findings findings))) (λ stops. not_collision stops.1)
+    (tries (test_exact (list_any is_refused findings) (Rejected (lines_of_findings findings))) (λ stops. not_rejected stops.1) later)
+
+sweeps_sound : (H : List ℕ → List ℕ) (words : SweepWords) (archive : Archive) (bytes : List ℕ) → Sound (sweeps H words archive bytes)
+sweeps_sound H words archive bytes =
+    gets (list_one bytes) (λ stops. not_input stops.2) (λ listed. gathers_sound {rest = audits H words archive listed} [] (names_of listed)
+    (λ proofs. makes (one_findings H archive listed proofs) (λ findings. concludes_sound findings ends)))
+
+trial_exact : (H : List ℕ → List ℕ) (number : ℕ) → IsExact (IsTrialServed H number) (RefusesTrial H number)
+trial_exact H number = record { breaks = trial_kept H number; one = one_trial H number }
+
+module _ (H : List ℕ → List ℕ) where
+  pub audit_sound : (words : AuditWords) → Sound (audit_plan H words)
+  audit_sound words = ranking_sound (λ query. index_sound (λ archive. reads (fails not_rejected) (λ bytes. checks_sound (λ proof. none_sound ends))))
+
+  pub sweep_sound : (words : SweepWords) → Sound (sweep_plan H words)
+  sweep_sound words = index_sound (λ archive. reads (fails not_input) (λ bytes. sweeps_sound H words archive bytes))
+
+  pub trial_sound : (words : TrialWords) → Sound (trial_plan H words)
+  trial_sound words = tries (trial_exact H words.number) (λ stops. not_input stops.2) ends

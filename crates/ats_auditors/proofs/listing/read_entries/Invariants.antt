@@ -1,0 +1,10 @@
+use Rattle.std.proofs.Common.{length}
+use Rattle.ats_auditors.proofs.ListEntries.{AreRead}
+use Rattle.ats_auditors.proofs.listing.read_entries.Given as goal
+
+-- the lines so far were read
+abbrev pub invariant-lines : goal.invariant-lines
+invariant-lines l = AreRead l.bytes l.rest l.entries.items
+
+abbrev pub decreases-lines : goal.decreases-lines
+decreases-lines l = length l.rest

@@ -1,0 +1,7 @@
+pub mod Collided
+pub mod Listed
+pub mod Gathered
+pub mod Findings
+pub mod Trial
+pub mod Commands
+pub mod Inner

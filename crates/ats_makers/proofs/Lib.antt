@@ -1,0 +1,5 @@
+pub mod Public
+mod Stored
+mod OneBoth
+mod OneGrowth
+mod Sound
