@@ -51,15 +51,16 @@ async function framed(reader, progress) {
   return proof;
 }
 
-// All bytes, at most so many.
+// All bytes, at most so many. One that announces more is not read.
 const whole = most => async (reader, progress, of) => {
-  const pieces = [];
+  const pieces = [], within = bytes => { if (bytes > most) throw new Fault('long', { line: `fault: more than ${most} bytes`, numbers: [bytes] }); };
   let bytes = 0;
+  within(of);
   for (;;) {
     const { value, done } = await withinSilence(reader.read());
     if (done) break;
     bytes += value.length;
-    if (bytes > most) throw new Fault('long', { line: `fault: more than ${most} bytes`, numbers: [bytes] });
+    within(bytes);
     pieces.push(value);
     progress({ bytes, of });
   }
