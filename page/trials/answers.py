@@ -5,7 +5,7 @@ import time
 import browsers
 import gateway
 from cheats import CHEATS, QUERY, pass_on, silent
-from trials.common import ANSWER, asked, do, opened, press, text
+from trials.common import ANSWER, asked, do, opened, text
 
 
 def try_vectors(browser, world, trial):

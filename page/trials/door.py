@@ -134,7 +134,8 @@ def try_lines(address, world, trial):
     world.gateway.say = own
     trial.see([it["what"] for it in lines] == ["ask", "all", "text", "healthz", "page", "page"], "gateway: its lines", lines)
     trial.see([it["status"] for it in lines] == [200, 200, 200, 200, 404, 200], "gateway: their statuses", lines)
-    trial.see(all(it["ended"] == "whole" and it["bytes"] > 0 and it["ms"] >= 0 and it["at"].endswith("Z") for it in lines), "gateway: their fields", lines)
+    right = all(it["ended"] == "whole" and it["bytes"] > 0 and it["ms"] >= 0 and it["at"].endswith("Z") for it in lines)
+    trial.see(right, "gateway: their fields", lines)
     trial.see("hen" not in json.dumps(lines), "gateway: no query in them", lines)
 
 

@@ -5,7 +5,7 @@ from trials.common import asked, do, opened, text
 
 
 def at(browser):
-    return browser.run("document.activeElement.id || document.activeElement.getAttribute('aria-label') || document.activeElement.textContent")
+    return browser.run("document.activeElement.id || document.activeElement.getAttribute('aria-label')")
 
 
 def tabbed_to(browser, name):

@@ -6,7 +6,7 @@ import re
 import subprocess
 import zipfile
 
-from trials.common import ANSWER, asked, do, forgotten, opened, press, text
+from trials.common import asked, do, forgotten, opened, press, text
 
 QUERIES = [("blood count", False), ("it's a 'quoted' court", False), ("ledger's שלום", False), ("the court", True)]
 
@@ -48,7 +48,8 @@ def try_links(browser, world, trial):
     opened(browser, f"{world.url}#root={root}")
     for all_of in (False, True):
         got = asked(browser, root, "Gärtner & “court”", 3, all_of=all_of, exact=not all_of)
-        link, cited = do(browser, "copied", "#link"), do(browser, "copied", "#list [aria-label^=Cite]") if got["rows"] else ""
+        link = do(browser, "copied", "#link")
+        cited = do(browser, "copied", "#list [aria-label^=Cite]") if got["rows"] else ""
         trial.see(not got["rows"] or (root in cited and "Document " in cited and "Gärtner & “court”" in cited), "a line to quote", cited)
         opened(browser, link, "The link has a question. Press Ask.")
         press(browser, "go")
@@ -109,7 +110,8 @@ def try_changed(browser, world, data, got, trial):
     proof = start["answer.proof"]
     for at in (proof, proof + 20, proof + size["answer.proof"] // 2, proof + size["answer.proof"] - 1):
         changed = open_file(with_bit(data, at))
-        trial.see(changed["kind"] == "bad" and changed["line"].startswith("refused: ") and not changed["rows"], f"a bit of the proof at {at}", changed)
+        refused = changed["kind"] == "bad" and changed["line"].startswith("refused: ") and not changed["rows"]
+        trial.see(refused, f"a bit of the proof at {at}", changed)
     for name in [it for it in start if it.endswith(".text")][:1]:
         open_file(with_bit(data, start[name] + 120))
         row, = [it for it in do(browser, "texts") if f"{it['doc']}.text" == name]

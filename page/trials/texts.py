@@ -25,7 +25,8 @@ def try_grown_texts(browser, world, trial):
     world.gateway.archive, world.gateway.growths, own = grown.archive, world.titles, (world.gateway.archive, world.gateway.growths)
     world.between.honest = grown.address
     opened(browser, f"{world.url}#root={grown.root}")
-    for query, doc, shows in (("zugzwang", grown.long, "zugzwang"), ("שלום", grown.hebrew, "שלום"), ("markup", grown.markup, "<b>")):
+    for query, doc, shows in (
+            ("zugzwang", grown.long, "zugzwang"), ("שלום", grown.hebrew, "שלום"), ("markup", grown.markup, "<b>")):
         got = asked(browser, grown.root, query, 1)
         row, = do(browser, "texts")
         trial.see(row["doc"] == doc and shows in row["place"] and row["checked"], f"the text for {query}", row)
