@@ -1,6 +1,7 @@
 #!/bin/bash
 # Makes the page in page/out: proves crates/ats_reader by ./prove, compiles what was proved for browsers, lowers it to 32-bit
 # memory, and pins every file of the page by its SHA-256. README.md says what of this is proved, and what is trusted.
+# Words are hosts, such as https://archive.example.org, that the page may ask beside the one that it came from.
 set -eu
 here=$(dirname "$(readlink -f "$0")")
 top=$(dirname "$here")
@@ -89,4 +90,4 @@ lower
 only_known_calls
 compile
 shorten
-python3 "$here/pin.py" "$work/page.wasm" "$here/out"
+python3 "$here/pin.py" "$work/page.wasm" "$here/out" "$@"

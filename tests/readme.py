@@ -15,6 +15,7 @@ import shutil
 import subprocess
 import sys
 import tempfile
+import zipfile
 from pathlib import Path
 from typing import NamedTuple, Optional
 
@@ -113,12 +114,14 @@ class Session:
         for block in blocks(page):
             self.try_block(lines_of(block))
 
-    def grow(self) -> None:
-        """Makes what the questions name: the archive's collection here, and an index with one text more."""
+    def prepare_questions(self) -> None:
+        """Makes what the questions name: the archive's collection here, an index with one text more, a proof that a page saved."""
         texts = json.loads((HOME / "examples" / "archive.json").read_text(encoding="utf-8"))
         (self.folder / "archive.json").write_text(json.dumps(texts), encoding="utf-8")
         (self.folder / "archive-2.json").write_text(json.dumps([*texts, "A new note."]), encoding="utf-8")
         self.variables.append("ROOT2=" + self.run("./ats build archive-2.json archive-2.index").stdout.strip())
+        with zipfile.ZipFile(self.folder / "blood-count.zip", "w") as saved:
+            saved.write(self.folder / "answer.proof", "answer.proof")
 
 
 def prepare(folder: Path, program: Path) -> None:
@@ -139,7 +142,7 @@ def main() -> int:
         for session in sessions:
             prepare(session.folder, program)
         sessions[0].try_page("README.md")
-        sessions[0].grow()
+        sessions[0].prepare_questions()
         sessions[0].try_page("docs/questions.md")
         sessions[1].try_page("docs/owners.md")
         return 1 if any(session.failed for session in sessions) else 0
