@@ -14,9 +14,9 @@ use ats_console::{Stop, proofs_too_long};
 use ats_grammar::MAX_PROOF;
 use std::alloc::Global;
 
-/// The file of a proof: its bytes, or `Long` if they are more than a proof may have.
+/// The file of a proof of a sweep: its bytes, or `Long` if they are more than a proof may have.
 #[derive(Drop)]
-pub(crate) enum Gathered {
+pub enum Gathered {
     Whole(Bytes),
     Long,
 }

@@ -22,5 +22,6 @@ mod sweeping;
 mod trials;
 
 pub use auditing::audit;
+pub use gathering::Gathered;
 pub use sweeping::sweep;
 pub use trials::trial;
