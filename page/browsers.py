@@ -1,13 +1,17 @@
-"""Chromium and Firefox, driven by what they have built in, without packages: DevTools over a pipe, and Marionette."""
+"""Chromium, Firefox and WebKit, driven by what they have built in, without packages: DevTools over a pipe, Marionette, and
+WebKitGTK's own WebDriver."""
 import base64
+import glob
 import json
 import os
 import shutil
+import signal
 import socket
 import subprocess
 import sys
 import tempfile
 import time
+import urllib.request
 
 from servers import free_port
 
@@ -184,6 +188,47 @@ class Firefox(Browser):
         return value
 
 
+class WebKit(Browser):
+    """Plays the vectors alone. It has no headless form, so it runs below Xvfb."""
+
+    name = "webkit"
+    programs = ("WebKitWebDriver",)
+    windows = "/usr/lib/*/webkit2gtk-4.*/MiniBrowser"
+
+    def __init__(self, program):
+        super().__init__()
+        port = free_port()
+        self.url = f"http://127.0.0.1:{port}/session"
+        self.process = subprocess.Popen(["xvfb-run", "-a", program, f"--port={port}"], start_new_session=True,
+                                        env={**os.environ, "HOME": self.folder}, **QUIET)
+        connected(port, self.process).close()
+        options = {"binary": sorted(glob.glob(self.windows))[-1], "args": ["--automation"]}
+        begun = self.send("", {"capabilities": {"alwaysMatch": {"webkitgtk:browserOptions": options}}})
+        self.url += "/" + begun["sessionId"]
+
+    def send(self, path, words, method="POST"):
+        request = urllib.request.Request(self.url + path, json.dumps(words).encode(), {"Content-Type": "application/json"}, method=method)
+        with urllib.request.urlopen(request, timeout=PATIENCE) as reply:
+            return json.load(reply)["value"]
+
+    def open(self, url):
+        self.send("/url", {"url": url})
+
+    def run(self, expression):
+        return self.send("/execute/sync", {"script": f"return {expression}", "args": []})
+
+    def close(self):
+        try:
+            self.send("", {}, "DELETE")
+        finally:
+            os.killpg(self.process.pid, signal.SIGTERM)
+            super().close()
+
+    @classmethod
+    def is_there(cls):
+        return bool(shutil.which("xvfb-run") and glob.glob(cls.windows))
+
+
 def connected(port, process):
     end = time.monotonic() + 60
     while process.poll() is None and time.monotonic() < end:
@@ -193,7 +238,7 @@ def connected(port, process):
             return link
         except OSError:
             time.sleep(0.2)
-    raise OSError("Firefox does not answer")
+    raise OSError("the browser does not answer")
 
 
 def wait(holds, seconds=60):
