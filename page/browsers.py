@@ -144,8 +144,8 @@ class Firefox(Browser):
         self.link = connected(port, self.process)
         self.number = 0
         self.message()
-        timeouts = {"script": PATIENCE * 1000, "pageLoad": 60000}
-        self.send("WebDriver:NewSession", capabilities={"alwaysMatch": {"timeouts": timeouts}})
+        self.send("WebDriver:NewSession")
+        self.send("WebDriver:SetTimeouts", script=PATIENCE * 1000, pageLoad=60000)
 
     def message(self):
         size = b""

@@ -356,7 +356,8 @@ async function sourceOf(host) {
   if (!host) return gateway();
   if (!pins['./host.mjs']) throw new Error(NO_HOST);
   const worker = async names => workersOf(await Promise.all(names.map(pinned)))();
-  return (await import('./host.mjs')).open(host, { terms: termsOf, worker });
+  const { open } = await import('./host.mjs').catch(() => { throw new Error(NO_FILE('host.mjs')); });
+  return open(host, { terms: termsOf, worker });
 }
 
 /** What the link has goes into the form; the root that is kept comes before that of a link. */

@@ -7,6 +7,8 @@ import gateway
 from cheats import CHEATS, QUERY, pass_on, silent
 from trials.common import ANSWER, asked, do, opened, text
 
+FOR_HOSTS = ("/assembling.mjs", "/host.mjs")
+
 
 def try_vectors(browser, world, trial):
     browser.open(world.url + "play.html")
@@ -91,14 +93,17 @@ def try_long(browser, world, trial):
 
 
 def try_pins(browser, world, trial):
-    """Each file that the page loads, changed by one bit: the page must not get ready."""
+    """Each file that the page loads, changed by one bit: the page must not get ready, or, with a file that only a host of files
+    needs, not ask one."""
     for path in sorted(it for it in world.page.files if it.endswith((".mjs", ".wasm")) and it != "/play.mjs"):
         own = world.page.files[path]
         world.page.add(path, own[1][:-2] + bytes([own[1][-2] ^ 1]) + own[1][-1:])
         browser.open("about:blank")
-        browser.open(world.url)
+        browser.open(world.url + (f"#host={world.url[:-1]}" if path in FOR_HOSTS else ""))
         time.sleep(1)
         state = text(browser, "state")
+        if path in FOR_HOSTS and state == "Ready.":
+            state = asked(browser, world.first.root)["said"]
         trial.see("the page" in state or "this page" in state, f"{browser.name}: a changed {path}", state)
         world.page.files[path] = own
 
