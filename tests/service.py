@@ -23,6 +23,8 @@ import sys
 import tempfile
 import threading
 import time
+import urllib.error
+import urllib.request
 from concurrent.futures import ThreadPoolExecutor
 from pathlib import Path
 from typing import Callable, Iterator, NamedTuple, Optional
@@ -31,6 +33,8 @@ from trying import Differs, Skipped, corpora, expect, free_port
 
 HOME = Path(__file__).resolve().parent.parent
 SERVICE = HOME / "service"
+sys.path.append(str(HOME / "site" / "try"))
+from nginx import Nginx  # noqa: E402
 
 READERS = 200
 TRICKLING = 20
@@ -499,6 +503,32 @@ def web_server_is_valid(folder: Path) -> None:
     expect("nginx -t", (said.returncode, said.stderr), (0, ""))
 
 
+KEPT, ASKED_AGAIN = "public, max-age=31536000, immutable", "no-cache"
+
+
+def caches_keep_what_never_changes(folder: Path) -> None:
+    """A file in a folder ROOT-1 is kept for ever, and what lies beside it is asked for again. Other sites may read both."""
+    need("nginx")
+    shelf, kept = folder / "shelf", f"{'0123456789abcdef' * 4}-1"
+    (shelf / kept).mkdir(parents=True)
+    for name in (f"{kept}/head", "publication.txt", "growth-2-1"):
+        (shelf / name).write_bytes(bytes(100))
+    with Nginx(shelf, folder / "nginx") as host:
+        for name, status, caches in ((f"{kept}/head", 206, KEPT), ("publication.txt", 206, ASKED_AGAIN),
+                                     ("growth-2-1", 206, ASKED_AGAIN), (f"{kept}/none", 404, None), ("none", 404, None)):
+            expect(f"status, caches and other sites of {name}", headers(f"{host.base}/{name}"), (status, caches, "*"))
+
+
+def headers(address: str) -> "tuple[int, Optional[str], Optional[str]]":
+    """The status of a request for ten bytes, how long it is kept, and which sites may read it."""
+    try:
+        reply = urllib.request.urlopen(urllib.request.Request(address, headers={"Range": "bytes=0-9"}), timeout=LIMIT)
+    except urllib.error.HTTPError as refused:
+        reply = refused
+    with reply:
+        return reply.status, reply.headers["Cache-Control"], reply.headers["Access-Control-Allow-Origin"]
+
+
 # What it takes
 
 
@@ -547,7 +577,8 @@ def measure(program: str, folder: Path, mib: int) -> None:
 
 def tries(house: House) -> list[tuple[str, Callable[[], None]]]:
     on_files = [("the units are valid", units_are_valid), ("the units are closed", units_are_closed),
-                ("the web server's configuration is valid", web_server_is_valid)]
+                ("the web server's configuration is valid", web_server_is_valid),
+                ("caches keep what never changes", caches_keep_what_never_changes)]
     on_processes = [("200 readers at once", many_readers), ("peers that trickle", peers_that_trickle),
                     ("a whole connection ends", whole_connections_end), ("one address is bounded", one_address_is_bounded),
                     ("a killed process", killed_process), ("another index", changed_index),
