@@ -1,18 +1,22 @@
-"""Tries ./package and what it packs: the same bytes twice, the tools of Debian, the manual page and the completions.
+"""Tries ./package and what it packs: the same bytes twice, each part from the packed files alone, and the tools of Debian.
 
-usage: python3 tests/package.py
+usage: python3 tests/package.py [--parts FOLDER]
 
-It needs a clone without changes in which ./prove has ended. Prints each try and whether it passed, what was skipped, and at
-the end 'N passed, M failed'. Ends with status 0 if none failed.
+It needs a clone without changes; ./package first proves what is not proved yet. With --parts it packs the parts in that
+folder instead, and packs them a second time in another clone. Prints each try and whether it passed, what was skipped, and
+at the end 'N passed, M failed'. Ends with status 0 if none failed.
 """
 
+import argparse
 import os
+import re
 import shutil
 import subprocess
 import sys
 import tempfile
+import urllib.request
 from pathlib import Path
-from typing import Callable, Optional
+from typing import Callable, NamedTuple, Optional
 
 from trying import Differs, Skipped, expect
 
@@ -20,107 +24,240 @@ HOME = Path(__file__).resolve().parent.parent
 sys.path.append(str(HOME / "tools"))
 import manual  # noqa: E402
 
-PACKAGES = HOME / "out" / "package"
-LIMIT = 600  # the longest wait in seconds
+SAMPLE = HOME / "examples" / "archive.json"
+QUERY = "blood count"
+ROWS = "1 31 80138 80138\n2 10 38892 38892\n3 28 28252 28252\n"
+LIMIT = 600  # the longest wait in seconds; proofs have no limit
 
 
-def run(*words: object, **more: object) -> "subprocess.CompletedProcess[str]":
+class House(NamedTuple):
+    """The words of ./package, and a folder to which the package is unpacked below root/."""
+
+    words: "list[object]"
+    folder: Path
+
+    @property
+    def root(self) -> Path:
+        return self.folder / "root"
+
+    @property
+    def program(self) -> Path:
+        return self.root / "usr/bin/ats"
+
+
+def run(*words: object, limit: Optional[int] = LIMIT, **more: object) -> "subprocess.CompletedProcess[str]":
     return subprocess.run([str(word) for word in words], stdout=subprocess.PIPE, stderr=subprocess.STDOUT, text=True,
-                          timeout=LIMIT, check=False, **more)
+                          timeout=limit, check=False, **more)
 
 
-def need(tool: str) -> None:
-    if shutil.which(tool) is None:
-        raise Skipped(f"{tool} is not installed")
+def well(*words: object, **more: object) -> str:
+    """What a command prints that must end with 0."""
+    ran = run(*words, **more)
+    expect(f"the status of {words[0]}, which said {ran.stdout[-300:]!r}", ran.returncode, 0)
+    return ran.stdout
 
 
-def one(ending: str) -> Path:
-    return next(PACKAGES.glob(f"*{ending}"))
+def need(*tools: str) -> None:
+    for tool in tools:
+        if shutil.which(tool) is None:
+            raise Skipped(f"{tool} is not installed")
 
 
-def same_bytes_twice() -> None:
-    """Under another umask, zone and language, and over sources that were touched."""
-    shutil.rmtree(PACKAGES, ignore_errors=True)
-    first = run(HOME / "package")
-    for path in run("git", "-C", HOME, "ls-files", "service", "docs").stdout.splitlines():
-        (HOME / path).touch()
+def package() -> Path:
+    return next((HOME / "out" / "package").glob("*.deb"))
+
+
+# What ./package does
+
+
+def same_bytes_twice(house: House) -> None:
+    """Again in another place, if it need not be proved there, and under another umask, zone and language."""
+    first = digests(well(HOME / "package", *house.words, limit=None))
+    place = HOME
+    if house.words:
+        place = house.folder / "another place"
+        well("git", "clone", "--quiet", HOME, place)
     other = {**os.environ, "TZ": "Asia/Tokyo", "LC_ALL": "C"}
-    second = run("sh", "-c", 'umask 077 && exec "$0"', HOME / "package", env=other)
-    expect("statuses", (first.returncode, second.returncode), (0, 0))
-    expect("what it printed", second.stdout, first.stdout)
+    second = digests(well("sh", "-c", 'umask 077 && exec "$0" "$@"', place / "package", *house.words, limit=None, env=other))
+    expect("the digests", second, first)
+    well("dpkg-deb", "-x", package(), house.root)
 
 
-def debian_finds_no_fault() -> None:
-    """What lintian calls an error, apart from what the package cannot have: a maintainer, and a licence of its own."""
-    need("lintian")
-    known = ("bogus-mail-host", "copyright-", "unstripped-binary")
-    said = run("lintian", "--no-tag-display-limit", "--allow-root", one(".deb"))
-    expect("lintian", [line for line in said.stdout.splitlines() if line.startswith("E:") and not any(it in line for it in known)], [])
+def digests(said: str) -> "list[str]":
+    """The lines of ./package that name a file."""
+    return re.findall("^[0-9a-f]{64}  .*$", said, re.M)
 
 
-def is_installed_and_purged() -> None:
-    """In a system of its own, made of Debian's packages."""
-    need("debootstrap")
-    with tempfile.TemporaryDirectory() as room:
-        made = run("debootstrap", "--variant=minbase", "stable", room)
-        if made.returncode != 0:
-            raise Skipped(f"debootstrap: {made.stdout.splitlines()[-1:]}")
-        shutil.copy(one(".deb"), Path(room) / "ats.deb")
-        shutil.copy(HOME / "examples" / "archive.json", room)
-        said = run("chroot", room, "dpkg", "-i", "ats.deb")
-        expect("dpkg -i", said.returncode, 0)
-        expect("the program", run("chroot", room, "ats", "rank", "archive.json", "1", "blood count").stdout, "1 31 80138 80138\n")
-        expect("dpkg --purge", run("chroot", room, "dpkg", "--purge", "ats").returncode, 0)
-        expect("what is left", [str(path) for path in Path(room).glob("usr/**/*ats.1*")], [])
+def no_place_is_named(house: House) -> None:
+    """No file names the repository, the kit or a temporary folder."""
+    places = [str(HOME), str(Path(well("rt", "doc").strip()).parent), f"{tempfile.gettempdir()}/tmp"]
+    naming = [str(path) for path in house.root.rglob("*") if path.is_file()
+              and any(place.encode() in path.read_bytes() for place in places)]
+    expect(f"files that name one of {places}", naming, [])
 
 
-def manual_page_is_well_formed() -> None:
+# Each part, from the packed files alone
+
+
+def index(house: House) -> "tuple[Path, str]":
+    """An index of the sample, and its root."""
+    made = house.folder / "archive.index"
+    return made, well(house.program, "build", SAMPLE, made).strip()
+
+
+def checks_as_the_program(house: House, *check: object) -> None:
+    """A caller of the checks prints the rows of a proof, and the refusal of one that is cut."""
+    source, root = index(house)
+    proof, cut = house.folder / "answer.proof", house.folder / "cut.proof"
+    well(house.program, "prove", source, "tnra", 3, QUERY, proof)
+    cut.write_bytes(proof.read_bytes()[:-1])
+    for file in (proof, cut):
+        wanted, came = (run(*words, "verify", root, 3, QUERY, file) for words in ([house.program], check))
+        expect(f"what a caller says of {file.name}", (came.returncode, came.stdout), (wanted.returncode, wanted.stdout))
+        expect("the rows", wanted.stdout == ROWS, file == proof)
+
+
+def library(house: House) -> None:
+    """The static library, the shared one as pkg-config names it, and the class for Python."""
+    need("gcc", "pkg-config")
+    there = {"PKG_CONFIG_SYSROOT_DIR": str(house.root), "PKG_CONFIG_LIBDIR": str(house.root / "usr/lib/pkgconfig")}
+    flags = well("pkg-config", "--cflags", "--libs", "ats_reader", env={**os.environ, **there}).split()
+    source, lib, check = house.root / "usr/share/doc/ats/examples/check.c", house.root / "usr/lib", house.folder / "check"
+    for words in ([*flags, f"-Wl,-rpath,{lib}"], [f"-I{house.root}/usr/include", lib / "libats_reader.a"]):
+        well("gcc", "-std=c11", "-Wall", "-Werror", "-o", check, source, *words)
+        checks_as_the_program(house, check)
+    checks_as_the_program(house, sys.executable, source.parent / "ats_reader.py", lib / "libats_reader.so")
+
+
+def portable(house: House) -> None:
+    """The C of the checks, compiled as docs/service.md says."""
+    need("gcc")
+    sources, check = house.folder / "portable", house.folder / "check"
+    shutil.copytree(house.root / "usr/src/ats_reader", sources)
+    well("sh", "-c", "gcc @flags -c *.c", cwd=sources)
+    caller = house.root / "usr/share/doc/ats/examples/check.c"
+    well("gcc", "-std=c11", "-I", sources, "-o", check, caller, *sources.glob("*.o"), "-lm")
+    checks_as_the_program(house, check)
+
+
+def page(house: House) -> None:
+    """The packed gateway gives out the packed page, and runs the packed program."""
+    source, root = index(house)
+    place = house.root / "usr/lib/ats/page"
+    with subprocess.Popen([sys.executable, place / "gateway.py", "0", "--index", source], stdout=subprocess.PIPE,
+                          stderr=subprocess.DEVNULL, text=True) as gateway:
+        assert gateway.stdout is not None
+        try:
+            address = gateway.stdout.readline().strip()
+            for name in (path.name for path in (place / "out").iterdir()):
+                with urllib.request.urlopen(address + name, timeout=LIMIT) as reply:
+                    expect(f"the bytes of {name}", reply.read() == (place / "out" / name).read_bytes(), True)
+            with urllib.request.urlopen(f"{address}newest", timeout=LIMIT) as reply:
+                expect("its root", root in reply.read().decode(), True)
+        finally:
+            gateway.terminate()
+
+
+def folder_maker(house: House) -> None:
+    source, _ = index(house)
+    second, made = house.folder / "archive.index2", house.folder / "site"
+    root = well(house.program, "migrate", source, second).strip()
+    well(sys.executable, house.root / "usr/lib/ats/site/make.py", second, made)
+    expect("what is in the folder of the archive", (made / f"{root}-1" / "head").is_file(), True)
+
+
+# The manual page and the completions
+
+
+def manual_page_is_well_formed(house: House) -> None:
     need("man")
-    with tempfile.NamedTemporaryFile("w", suffix=".1", encoding="utf-8") as page:
-        page.write(manual.manual(manual.FORMATS.read_text(encoding="utf-8")))
-        page.flush()
-        said = subprocess.run(["man", "--warnings", "-E", "UTF-8", "-l", page.name], stdout=subprocess.DEVNULL, stderr=subprocess.PIPE,
-                              text=True, env={**os.environ, "LC_ALL": "C.UTF-8", "MANPAGER": "cat"}, check=False)
+    said = subprocess.run(["man", "--warnings", "-E", "UTF-8", "-l", house.root / "usr/share/man/man1/ats.1.gz"],
+                          stdout=subprocess.DEVNULL, stderr=subprocess.PIPE, text=True, check=False,
+                          env={**os.environ, "LC_ALL": "C.UTF-8", "MANPAGER": "cat"})
     expect("man --warnings", said.stderr, "")
 
 
-def examples_of_the_manual() -> None:
+def statuses_of_the_manual(_: House) -> None:
+    """The statuses of each command are those of the table in docs/theorems.md, which leaves out 0, 2, 6 and 7."""
+    text = (HOME / "docs" / "theorems.md").read_text(encoding="utf-8")
+    own = {command.name: command for command in manual.commands(manual.FORMATS.read_text(encoding="utf-8"))}
+    for typed, _, others in manual.table(text, "`INDEX` is the index of an archive"):
+        name = typed.strip("`").split()[0]
+        wanted = {0, 2, 6, 7, *map(int, re.findall(r"\b[0-9]\b", re.sub(r"\([^()]*\)", "", others)))}
+        expect(f"the statuses of {name}", set(manual.ends(own[name])), wanted)
+
+
+def examples_of_the_manual(house: House) -> None:
     """Each command of the manual has an example, and all of them, typed in order, end with status 0."""
     names = [command.name for command in manual.commands(manual.FORMATS.read_text(encoding="utf-8"))]
     expect("commands with an example", sorted(manual.EXAMPLES), sorted(names))
     with tempfile.TemporaryDirectory() as room:
-        shutil.copy(HOME / "examples" / "archive.json", room)
-        shutil.copy(HOME / "out" / "ats", Path(room) / "ats")
-        path = {**os.environ, "PATH": f"{room}:{os.environ['PATH']}"}
-        said = run("bash", "-e", "-c", "\n".join([*manual.EXAMPLES.values(), "wait"]), cwd=room, env=path)
-    expect("the examples", (said.returncode, said.stdout[-200:] if said.returncode else ""), (0, ""))
+        shutil.copy(SAMPLE, room)
+        path = {**os.environ, "PATH": f"{house.program.parent}:{os.environ['PATH']}"}
+        well("bash", "-e", "-c", "\n".join([*manual.EXAMPLES.values(), "wait"]), cwd=room, env=path)
 
 
-def completions() -> None:
-    skipped = [shell for shell in ("bash", "zsh", "fish") if shutil.which(shell) is None]
-    for shell in {"bash", "zsh", "fish"} - set(skipped):
-        with tempfile.NamedTemporaryFile("w", encoding="utf-8") as file:
-            file.write(run(sys.executable, HOME / "tools" / "manual.py", shell).stdout)
-            file.flush()
-            said = run(shell, "--no-execute" if shell == "fish" else "-n", file.name)
-        expect(f"the completion for {shell}", (said.returncode, said.stdout), (0, ""))
-    if skipped:
-        print(f"    not installed: {' '.join(skipped)}")
+COMPLETIONS = {"bash": "usr/share/bash-completion/completions/ats", "zsh": "usr/share/zsh/vendor-completions/_ats",
+               "fish": "usr/share/fish/vendor_completions.d/ats.fish"}
 
 
-TRIES: "dict[str, Callable[[], None]]" = {
+def completions(house: House) -> None:
+    for shell, path in COMPLETIONS.items():
+        if shutil.which(shell) is None:
+            print(f"    not installed: {shell}")
+        else:
+            expect(f"the completion for {shell}", well(shell, "--no-execute" if shell == "fish" else "-n", house.root / path), "")
+
+
+# The tools of Debian
+
+
+def debian_finds_no_fault(_: House) -> None:
+    """What lintian calls an error, apart from what the package cannot have: a maintainer, and a licence of its own."""
+    need("lintian")
+    known = ("bogus-mail-host", "copyright-", "unstripped-binary")
+    said = run("lintian", "--tag-display-limit", "0", "--allow-root", package())
+    errors = [line for line in said.stdout.splitlines() if line.startswith("E:")]
+    expect("lintian", [line for line in errors if not any(it in line for it in known)], [])
+
+
+def is_installed_and_purged(house: House) -> None:
+    """In a system of its own, made of Debian's packages."""
+    maker, system = shutil.which("mmdebstrap") or shutil.which("debootstrap"), house.folder / "system"
+    if maker is None:
+        raise Skipped("neither mmdebstrap nor debootstrap is installed")
+    made = run(maker, "--variant=minbase", "stable", system, limit=None)
+    if made.returncode != 0:
+        raise Skipped(f"{maker}: {made.stdout.splitlines()[-1:]}")
+    names = {str(path) for path in system.glob("usr/**/*")}
+    shutil.copy(package(), system / "ats.deb")
+    shutil.copy(SAMPLE, system)
+    well("chroot", system, "dpkg", "-i", "ats.deb")
+    expect("the program", well("chroot", system, "ats", "rank", "archive.json", "3", QUERY), ROWS)
+    expect("the library is found", "libats_reader.so.1" in well("chroot", system, "/sbin/ldconfig", "-p"), True)
+    well("chroot", system, "dpkg", "--purge", "ats")
+    expect("what is left", sorted({str(path) for path in system.glob("usr/**/*")} - names), [])
+
+
+TRIES: "dict[str, Callable[[House], None]]" = {
     "the same bytes twice": same_bytes_twice,
-    "lintian": debian_finds_no_fault,
-    "installed and purged": is_installed_and_purged,
+    "no place is named": no_place_is_named,
+    "the library": library,
+    "the portable C": portable,
+    "the page": page,
+    "the maker of folders": folder_maker,
     "the manual page": manual_page_is_well_formed,
+    "the statuses of the manual": statuses_of_the_manual,
     "the examples of the manual": examples_of_the_manual,
     "the completions": completions,
+    "lintian": debian_finds_no_fault,
+    "installed and purged": is_installed_and_purged,
 }
 
 
-def tried(name: str, skipped: "list[str]") -> Optional[bool]:
+def tried(name: str, house: House, skipped: "list[str]") -> Optional[bool]:
     try:
-        TRIES[name]()
+        TRIES[name](house)
     except Skipped as why:
         skipped.append(f"{name}: {why}")
         return None
@@ -132,8 +269,12 @@ def tried(name: str, skipped: "list[str]") -> Optional[bool]:
 
 
 def main() -> int:
-    skipped: "list[str]" = []
-    results = [tried(name, skipped) for name in TRIES]
+    words = argparse.ArgumentParser(description=__doc__, formatter_class=argparse.RawDescriptionHelpFormatter)
+    words.add_argument("--parts", metavar="FOLDER", type=Path)
+    parts, skipped = words.parse_args().parts, []
+    with tempfile.TemporaryDirectory() as name:
+        house = House(["--parts", parts.resolve()] if parts else [], Path(name))
+        results = [tried(name, house, skipped) for name in TRIES]
     for line in skipped:
         print(f"skipped {line}")
     print(f"{results.count(True)} passed, {results.count(False)} failed")

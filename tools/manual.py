@@ -40,6 +40,18 @@ EXAMPLES = {
 
 FILES = {"COLLECTION", "INDEX", "INDEX2", "OLDINDEX", "NEWINDEX", "PROOF", "LIST", "FILE"}
 
+# Each command may end with 0, 2, 6 and 7, and with a status below if it takes one of these words, or its name begins so.
+# tests/package.py compares this with docs/theorems.md.
+ENDS = {
+    1: {"ROOT", "OLDROOT", "audit", "sweep"},
+    3: FILES,
+    4: {"COLLECTION", "INDEX", "OLDINDEX", "R", "QUERY", "trial"},
+    5: {"audit", "sweep"},
+    8: {"ADDRESS"},
+    9: {"ask"},
+    10: {"serve"},
+}
+
 
 class Command(NamedTuple):
     """A command, its words, and what it does."""
@@ -68,6 +80,12 @@ def statuses(text: str) -> list[list[str]]:
     return table(text, "Any other status has one line.")
 
 
+def ends(command: Command) -> list[int]:
+    """The statuses with which a command may end."""
+    own = {command.name.partition("-")[0], *command.words}
+    return sorted({0, 2, 6, 7, *(status for status, causes in ENDS.items() if causes & own)})
+
+
 def plain(markdown: str) -> str:
     """Text without links and marks, in which roff reads nothing as its own."""
     text = re.sub(r"\[([^]]*)\]\([^)]*\)", r"\1", markdown).replace("`", "")
@@ -83,7 +101,8 @@ def manual(text: str) -> str:
               "answers ranked queries with proofs. A reader who holds only the root checks them.", ".SH COMMANDS"]
     for command in commands(text):
         lines += [".TP", f".B {plain(command.name)} \\fI{plain(' '.join(command.words))}\\fR",
-                  plain(command.does[0].upper() + command.does[1:]) + ".", ".IP", f".nf\n{plain(EXAMPLES[command.name])}\n.fi"]
+                  plain(command.does[0].upper() + command.does[1:]) + ".", ".IP",
+                  f"Ends with {', '.join(map(str, ends(command)))}.", ".IP", f".nf\n{plain(EXAMPLES[command.name])}\n.fi"]
     lines += [".SH WORDS"]
     for word, means in table(text, "Each word has its place"):
         lines += [".TP", f".I {plain(word)}", plain(means) + "."]
