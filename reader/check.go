@@ -5,7 +5,6 @@ package main
 // #cgo pkg-config: ats_reader
 // #include <ats_reader.h>
 import "C"
-
 import (
 	"encoding/hex"
 	"fmt"
@@ -27,8 +26,10 @@ func must[T any](value T, fault error) T {
 }
 
 func root(digits string) *C.uint8_t {
-	at := [32]byte{}
-	copy(at[:], must(hex.DecodeString(digits)))
+	at := must(hex.DecodeString(digits))
+	if len(at) != 32 {
+		panic("a root has 64 digits")
+	}
 	return (*C.uint8_t)(unsafe.Pointer(&at[0]))
 }
 
@@ -37,11 +38,9 @@ func number(word string) C.uint32_t { return C.uint32_t(must(strconv.ParseUint(w
 func main() {
 	words, verdict := os.Args[1:], new(C.struct_ats_verdict)
 	rows, docs, terms := make([]C.struct_ats_row, 1000), make([]C.uint32_t, 65536), make([]C.struct_ats_term, 32)
-	query, file := words[len(words)-2], []byte{}
-	if words[0] == "query" {
-		query = words[1]
-	} else {
-		file = must(os.ReadFile(words[len(words)-1]))
+	query, file := words[len(words)-1], []byte{}
+	if words[0] != "query" {
+		query, file = words[len(words)-2], must(os.ReadFile(words[len(words)-1]))
 	}
 	at, size := bytes(file)
 	text, length := bytes([]byte(query))
