@@ -126,7 +126,8 @@ class Session:
 
 def prepare(folder: Path, program: Path) -> None:
     (folder / "ats").symlink_to(program)
-    shutil.copytree(HOME / "examples", folder / "examples")  # copied, so that the scripts find the program beside them
+    for name in ("examples", "site"):  # copied, so that the scripts find the program beside them
+        shutil.copytree(HOME / name, folder / name)
     (folder / "folder").mkdir()
     for name, text in TEXTS.items():
         (folder / "folder" / name).write_text(text, encoding="utf-8")
