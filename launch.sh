@@ -5,7 +5,7 @@
 kept=$home/out
 proved=$kept/ats
 quick=$kept/quick
-estimate='41 minutes on four processors'
+estimate='17 to 41 minutes on four processors'
 working=
 
 say() {
