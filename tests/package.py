@@ -221,12 +221,18 @@ def debian_finds_no_fault(_: House) -> None:
     expect("lintian", [line for line in errors if not any(it in line for it in known)], [])
 
 
+def mirror() -> str:
+    """Where this machine takes Debian's packages from. Without it, lists of updates are wanted too, which may be out of date."""
+    places = run("apt-get", "indextargets", "--format", "$(REPO_URI)", "Origin: Debian", "Component: main").stdout.split()
+    return next(place for place in places if "security" not in place)
+
+
 def is_installed_and_purged(house: House) -> None:
     """In a system of its own, made of Debian's packages."""
     maker, system = shutil.which("mmdebstrap") or shutil.which("debootstrap"), house.folder / "system"
     if maker is None:
         raise Skipped("neither mmdebstrap nor debootstrap is installed")
-    made = run(maker, "--variant=minbase", "stable", system, limit=None)
+    made = run(maker, "--variant=minbase", "stable", system, mirror(), limit=None)
     if made.returncode != 0:
         raise Skipped(f"{maker}: {made.stdout.splitlines()[-1:]}")
     names = {str(path) for path in system.glob("usr/**/*")}
