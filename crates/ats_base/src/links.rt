@@ -37,6 +37,7 @@ pub trait Caller {
     /// What the caller reports of itself. Its count never falls.
     ghost told: { Self → CallerTold };
 
+    /// Calls the address. No order of its reasons is stated, so a caller may note the address before it hands out a link.
     fn call(&mut self, address: &str) -> Result<Self::Link, Failed>
         ensures ok { OnOk result ((told self.new).content
             ≡ option_map (calling_out address.now) (told self.old).content) }
