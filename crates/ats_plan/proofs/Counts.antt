@@ -2,7 +2,7 @@
 use Rattle.std.proofs.Common.{◌≡◌, ◌≤◌, ◌∙◌, ℕ, List, inl, inr, ap, subst, arith}
 use Rattle.ats_base.specs.Outside.{ShelfTold}
 use Rattle.ats_plan.specs.Plan.{Plan, Finishes, Stores, Fails, Tries, Gets, Makes, Reads, LacksFirst}
-use Rattle.ats_plan.specs.Runs.{IsUnread, Missing, Failed, NoMemory, Does, Stops}
+use Rattle.ats_plan.specs.Runs.{HasRead, IsUnread, Missing, Failed, NoMemory, Does, Stops}
 use Rattle.ats_plan.proofs.Files.{file_there, missing_short}
 
 same_counts : (before now : ShelfTold) → now ≡ before → now.faults ≡ before.faults
@@ -31,44 +31,43 @@ module _ {F : Type 0} (shelf memory : F) where
   unread_counts before now name stop (Failed is rose) other = absurd (other is)
   unread_counts before now name stop (NoMemory is counts) other = counts
 
+  -- What holds if nothing changed, after a failed store and after a file that was not read, and stays so after a file that
+  -- was, holds between the two ends of a command that stopped.
+  module _ (holds : (before now : ShelfTold) → Type 0) (stop : F) (same : (before now : ShelfTold) → now ≡ before → holds before now)
+      (store : (before now : ShelfTold) → stop ≡ shelf → before.faults ≤ now.faults → holds before now)
+      (unread : (before now : ShelfTold) (name : List ℕ) (limit : ℕ) → HasRead before now name limit → IsUnread shelf memory before now name stop → holds before now)
+      (read : (before mid now : ShelfTold) (name : List ℕ) (limit : ℕ) → HasRead before mid name limit → mid.faults ≡ before.faults → holds mid now → holds before now) where
+    pub stops_keep : (plan : Plan F) (before now : ShelfTold) → Stops shelf memory plan before now stop → holds before now
+    stops_keep (Finishes says) before now (is, _) = same before now is
+    stops_keep (Stores name bytes says) before now (inl (is, _)) = same before now is
+    stops_keep (Stores name bytes says) before now (inr (is, later, _, _, _)) = store before now is later
+    stops_keep (Fails fault) before now (is, _) = same before now is
+    stops_keep (Tries kept fault rest) before now (inl (is, _)) = same before now is
+    stops_keep (Tries kept fault rest) before now (inr (_, later)) = stops_keep rest before now later
+    stops_keep (Gets A is fault rest) before now (inl (is_same, _)) = same before now is_same
+    stops_keep (Gets A is fault rest) before now (inr (a, _, later)) = stops_keep (rest a) before now later
+    stops_keep (Makes A is rest) before now (inl (is_same, _)) = same before now is_same
+    stops_keep (Makes A is rest) before now (inr (a, _, later)) = stops_keep (rest a) before now later
+    stops_keep (Reads name limit long rest) before now (inl (is, _)) = same before now is
+    stops_keep (Reads name limit long rest) before now (inr (inl (has, why))) = unread before now name limit has why
+    stops_keep (Reads name limit long rest) before now (inr (inr (mid, has, counts, inl (_, later)))) =
+        read before mid now name limit has counts (stops_keep long mid now later)
+    stops_keep (Reads name limit long rest) before now (inr (inr (mid, has, counts, inr (bytes, _, later)))) =
+        read before mid now name limit has counts (stops_keep (rest bytes) mid now later)
+
   -- a stop for another cause than the shelf leaves the count
   pub stops_counts : (plan : Plan F) (before now : ShelfTold) (stop : F) → Stops shelf memory plan before now stop → (stop ≡ shelf → ⊥)
       → now.faults ≡ before.faults
-  stops_counts (Finishes says) before now stop (same, is) other = same_counts before now same
-  stops_counts (Stores name bytes says) before now stop (inl (same, is)) other = same_counts before now same
-  stops_counts (Stores name bytes says) before now stop (inr (is, later, rose, asked, files)) other = absurd (other is)
-  stops_counts (Fails fault) before now stop (same, is) other = same_counts before now same
-  stops_counts (Tries kept fault rest) before now stop (inl (same, is)) other = same_counts before now same
-  stops_counts (Tries kept fault rest) before now stop (inr (is, later)) other = stops_counts rest before now stop later other
-  stops_counts (Gets A is fault rest) before now stop (inl (same, here)) other = same_counts before now same
-  stops_counts (Gets A is fault rest) before now stop (inr (a, holds, later)) other = stops_counts (rest a) before now stop later other
-  stops_counts (Makes A is rest) before now stop (inl (same, here)) other = same_counts before now same
-  stops_counts (Makes A is rest) before now stop (inr (a, holds, later)) other = stops_counts (rest a) before now stop later other
-  stops_counts (Reads name limit long rest) before now stop (inl (same, is)) other = same_counts before now same
-  stops_counts (Reads name limit long rest) before now stop (inr (inl (read, unread))) other = unread_counts before now name stop unread other
-  stops_counts (Reads name limit long rest) before now stop (inr (inr (mid, read, counts, inl (longer, later)))) other =
-      stops_counts long mid now stop later other ∙ counts
-  stops_counts (Reads name limit long rest) before now stop (inr (inr (mid, read, counts, inr (bytes, file, later)))) other =
-      stops_counts (rest bytes) mid now stop later other ∙ counts
+  stops_counts plan before now stop stops other = stops_keep (λ (before now : ShelfTold). now.faults ≡ before.faults) stop same_counts
+      (λ before now is later. absurd (other is)) (λ before now name limit read unread. unread_counts before now name stop unread other)
+      (λ before mid now name limit read counts rest. rest ∙ counts) plan before now stops
 
   -- no stop lowers the count
   pub stops_later : (plan : Plan F) (before now : ShelfTold) (stop : F) → Stops shelf memory plan before now stop → before.faults ≤ now.faults
-  stops_later (Finishes says) before now stop (same, is) = not_fewer before.faults now.faults (same_counts before now same)
-  stops_later (Stores name bytes says) before now stop (inl (same, is)) = not_fewer before.faults now.faults (same_counts before now same)
-  stops_later (Stores name bytes says) before now stop (inr (is, later, rose, asked, files)) = later
-  stops_later (Fails fault) before now stop (same, is) = not_fewer before.faults now.faults (same_counts before now same)
-  stops_later (Tries kept fault rest) before now stop (inl (same, is)) = not_fewer before.faults now.faults (same_counts before now same)
-  stops_later (Tries kept fault rest) before now stop (inr (is, later)) = stops_later rest before now stop later
-  stops_later (Gets A is fault rest) before now stop (inl (same, here)) = not_fewer before.faults now.faults (same_counts before now same)
-  stops_later (Gets A is fault rest) before now stop (inr (a, holds, later)) = stops_later (rest a) before now stop later
-  stops_later (Makes A is rest) before now stop (inl (same, here)) = not_fewer before.faults now.faults (same_counts before now same)
-  stops_later (Makes A is rest) before now stop (inr (a, holds, later)) = stops_later (rest a) before now stop later
-  stops_later (Reads name limit long rest) before now stop (inl (same, is)) = not_fewer before.faults now.faults (same_counts before now same)
-  stops_later (Reads name limit long rest) before now stop (inr (inl (read, unread))) = read.later
-  stops_later (Reads name limit long rest) before now stop (inr (inr (mid, read, counts, inl (longer, later)))) =
-      subst (λ (faults : ℕ). faults ≤ now.faults) counts (stops_later long mid now stop later)
-  stops_later (Reads name limit long rest) before now stop (inr (inr (mid, read, counts, inr (bytes, file, later)))) =
-      subst (λ (faults : ℕ). faults ≤ now.faults) counts (stops_later (rest bytes) mid now stop later)
+  stops_later plan before now stop stops = stops_keep (λ (before now : ShelfTold). before.faults ≤ now.faults) stop
+      (λ before now same. not_fewer before.faults now.faults (same_counts before now same)) (λ before now is later. later)
+      (λ before now name limit read unread. read.later)
+      (λ before mid now name limit read counts rest. subst (λ (faults : ℕ). faults ≤ now.faults) counts rest) plan before now stops
 
   -- if the first file is missing, a stop leaves the count
   pub stops_uncounted : (plan : Plan F) (before now : ShelfTold) (stop : F) → LacksFirst before.files plan → Stops shelf memory plan before now stop

@@ -5,6 +5,7 @@ use Rattle.ats_base.specs.Outside.{ShelfTold, IsLonger, Puts}
 use Rattle.ats_plan.specs.Files.{Files, IsFile, PutsPart}
 use Rattle.ats_plan.specs.Plan.{Plan, Finishes, Stores, Fails, Tries, Gets, Makes, Reads, Leaves}
 use Rattle.ats_plan.specs.Runs.{HasRead, Does, Stops}
+use Rattle.ats_plan.proofs.Counts.{stops_keep}
 
 -- all of the bytes are a prefix of them
 puts_all : (before now : Files) (name bytes : List ℕ) → Puts before now name bytes → PutsPart before now name bytes
@@ -69,19 +70,6 @@ module _ {F : Type 0} (shelf memory : F) where
   -- a stop for another cause than the shelf leaves the files as they were
   pub stops_files : (plan : Plan F) (before now : ShelfTold) (stop : F) → Stops shelf memory plan before now stop → (stop ≡ shelf → ⊥)
       → now.files ≡ before.files
-  stops_files (Finishes says) before now stop (same, is) other = same_files before now same
-  stops_files (Stores name bytes says) before now stop (inl (same, is)) other = same_files before now same
-  stops_files (Stores name bytes says) before now stop (inr (is, later, rose, asked, files)) other = absurd (other is)
-  stops_files (Fails fault) before now stop (same, is) other = same_files before now same
-  stops_files (Tries kept fault rest) before now stop (inl (same, is)) other = same_files before now same
-  stops_files (Tries kept fault rest) before now stop (inr (is, later)) other = stops_files rest before now stop later other
-  stops_files (Gets A is fault rest) before now stop (inl (same, here)) other = same_files before now same
-  stops_files (Gets A is fault rest) before now stop (inr (a, holds, later)) other = stops_files (rest a) before now stop later other
-  stops_files (Makes A is rest) before now stop (inl (same, here)) other = same_files before now same
-  stops_files (Makes A is rest) before now stop (inr (a, holds, later)) other = stops_files (rest a) before now stop later other
-  stops_files (Reads name limit long rest) before now stop (inl (same, is)) other = same_files before now same
-  stops_files (Reads name limit long rest) before now stop (inr (inl (read, unread))) other = read.files
-  stops_files (Reads name limit long rest) before now stop (inr (inr (mid, read, counts, inl (longer, later)))) other =
-      stops_files long mid now stop later other ∙ read.files
-  stops_files (Reads name limit long rest) before now stop (inr (inr (mid, read, counts, inr (bytes, file, later)))) other =
-      stops_files (rest bytes) mid now stop later other ∙ read.files
+  stops_files plan before now stop stops other = stops_keep shelf memory (λ (before now : ShelfTold). now.files ≡ before.files) stop same_files
+      (λ before now is later. absurd (other is)) (λ before now name limit read unread. read.files)
+      (λ before mid now name limit read counts rest. rest ∙ read.files) plan before now stops

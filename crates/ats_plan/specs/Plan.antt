@@ -32,7 +32,8 @@ Refuses shelf files (Reads name limit long rest) stop = ((stop ≡ shelf) × IsM
     ⊎ ((IsLonger files name limit × Refuses shelf files long stop)
     ⊎ ((bytes : List ℕ) × IsFile files name limit bytes × Refuses shelf files (rest bytes) stop))
 
--- all steps hold, whatever values it makes
+-- All steps hold, whatever values it makes. A made value is always there unless memory runs out, so a reader of the
+-- clause never has to show that it exists.
 abbrev pub Passes : {F : Type 0} → Files → Plan F → Type 0
 Passes files (Finishes says) = Unit {0}
 Passes files (Stores name bytes says) = Unit {0}
