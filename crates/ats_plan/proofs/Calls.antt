@@ -1,5 +1,5 @@
 -- The calls of a command on the shelf are those of its plan.
-use Rattle.std.proofs.Common.{◌≡◌, ℕ, List, [], inl, inr, sym, subst, refl, append-nil}
+use Rattle.std.proofs.Common.{◌≡◌, ◌⊎◌, ℕ, List, [], inl, inr, sym, subst, refl, append-nil}
 use Rattle.ats_base.specs.Outside.{Ask, ShelfTold, IsLonger, Asked, ReadsAtMostOnce, StoresOnce}
 use Rattle.ats_base.proofs.Public.{asked_none, asked_then, asked_as}
 use Rattle.ats_plan.specs.Files.{Files, IsFile}
@@ -43,31 +43,14 @@ module _ {F : Type 0} (stores : List ℕ → List Ask → Type 0) where
         (λ asks reads. (asks, [], sym (append-nil asks), reads, inl refl))
 
     -- the calls of a read and those after it
-    asked_read : (mid now : ShelfTold) (bytes : List ℕ) → HasRead before mid name limit → IsFile before.files name limit bytes
-        → Asked mid.asked now.asked (AsksFor stores mid.files (rest bytes)) → Asked before.asked now.asked (AsksFor stores before.files (Reads name limit long rest))
-    asked_read mid now bytes read file asked =
-        asked_then before.asked mid.asked now.asked (ReadsAtMostOnce name limit) (AsksFor stores mid.files (rest bytes)) (AsksFor stores before.files (Reads name limit long rest))
+    asked_past : (next : Plan F) (mid now : ShelfTold) → HasRead before mid name limit
+        → ((asks : List Ask) → AsksFor stores before.files next asks → (IsLonger before.files name limit × AsksFor stores before.files long asks)
+        ⊎ ((bytes : List ℕ) × IsFile before.files name limit bytes × AsksFor stores before.files (rest bytes) asks))
+        → Asked mid.asked now.asked (AsksFor stores mid.files next) → Asked before.asked now.asked (AsksFor stores before.files (Reads name limit long rest))
+    asked_past next mid now read goes asked =
+        asked_then before.asked mid.asked now.asked (ReadsAtMostOnce name limit) (AsksFor stores mid.files next) (AsksFor stores before.files (Reads name limit long rest))
         read.asked asked
-        (λ first later reads right. (
-          first,
-          later,
-          refl,
-          reads,
-          inr (inr (bytes, file, subst (λ (files : Files). AsksFor stores files (rest bytes) later) read.files right)),
-        ))
-
-    asked_long : (mid now : ShelfTold) → HasRead before mid name limit → IsLonger before.files name limit
-        → Asked mid.asked now.asked (AsksFor stores mid.files long) → Asked before.asked now.asked (AsksFor stores before.files (Reads name limit long rest))
-    asked_long mid now read longer asked =
-        asked_then before.asked mid.asked now.asked (ReadsAtMostOnce name limit) (AsksFor stores mid.files long) (AsksFor stores before.files (Reads name limit long rest))
-        read.asked asked
-        (λ first later reads right. (
-          first,
-          later,
-          refl,
-          reads,
-          inr (inl (longer, subst (λ (files : Files). AsksFor stores files long later) read.files right)),
-        ))
+        (λ first later reads right. (first, later, refl, reads, inr (goes later (subst (λ (files : Files). AsksFor stores files next later) read.files right))))
 
 -- the calls of a command that is done are those of its plan
 pub does_asked : {F : Type 0} (plan : Plan F) (before now : ShelfTold) (text : List ℕ) → Does plan before now text
@@ -82,9 +65,9 @@ does_asked (Gets A is fault rest) before now text (a, holds, done) =
 does_asked (Makes A is rest) before now text (a, holds, done) =
     asked_make StoresOnce A is rest before now a holds (does_asked (rest a) before now text done)
 does_asked (Reads name limit long rest) before now text (mid, read, counts, inl (longer, done)) =
-    asked_long StoresOnce name limit long rest before mid now read longer (does_asked long mid now text done)
+    asked_past StoresOnce name limit long rest before long mid now read (λ asks right. inl (longer, right)) (does_asked long mid now text done)
 does_asked (Reads name limit long rest) before now text (mid, read, counts, inr (bytes, file, done)) =
-    asked_read StoresOnce name limit long rest before mid now bytes read file (does_asked (rest bytes) mid now text done)
+    asked_past StoresOnce name limit long rest before (rest bytes) mid now read (λ asks right. inr (bytes, file, right)) (does_asked (rest bytes) mid now text done)
 
 module _ {F : Type 0} (shelf memory : F) (stores : List ℕ → List Ask → Type 0) where
   -- the calls of a command that stopped are those of its plan, if a failed store is as `stores` says
@@ -108,9 +91,9 @@ module _ {F : Type 0} (shelf memory : F) (stores : List ℕ → List Ask → Typ
   stopped_asked (Reads name limit long rest) before now stop failed (inl (same, is)) = asked_nothing stores (Reads name limit long rest) before now same
   stopped_asked (Reads name limit long rest) before now stop failed (inr (inl (read, unread))) = asked_unread stores name limit long rest before now read
   stopped_asked (Reads name limit long rest) before now stop failed (inr (inr (mid, read, counts, inl (longer, later)))) =
-      asked_long stores name limit long rest before mid now read longer (stopped_asked long mid now stop failed later)
+      asked_past stores name limit long rest before long mid now read (λ asks right. inl (longer, right)) (stopped_asked long mid now stop failed later)
   stopped_asked (Reads name limit long rest) before now stop failed (inr (inr (mid, read, counts, inr (bytes, file, later)))) =
-      asked_read stores name limit long rest before mid now bytes read file (stopped_asked (rest bytes) mid now stop failed later)
+      asked_past stores name limit long rest before (rest bytes) mid now read (λ asks right. inr (bytes, file, right)) (stopped_asked (rest bytes) mid now stop failed later)
 
 module _ {F : Type 0} (shelf memory : F) (plan : Plan F) (before now : ShelfTold) (stop : F) where
   pub stops_asked : Stops shelf memory plan before now stop → Asked before.asked now.asked (AsksFor StoresOnce before.files plan)

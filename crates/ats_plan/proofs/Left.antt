@@ -1,10 +1,10 @@
 -- A command leaves the files as they were, or as its plan allows.
 use Rattle.std.proofs.Common.{◌≡◌, ◌⊎◌, ◌∙◌, ℕ, List, length, inl, inr, ap, subst, arith}
 use Rattle.std.proofs.Math.Seq.{take-length}
-use Rattle.ats_base.specs.Outside.{ShelfTold, IsLonger, Puts}
-use Rattle.ats_plan.specs.Files.{Files, IsFile, PutsPart}
+use Rattle.ats_base.specs.Outside.{ShelfTold, Puts}
+use Rattle.ats_plan.specs.Files.{Files, PutsPart}
 use Rattle.ats_plan.specs.Plan.{Plan, Finishes, Stores, Fails, Tries, Gets, Makes, Reads, Leaves}
-use Rattle.ats_plan.specs.Runs.{HasRead, Does, Stops}
+use Rattle.ats_plan.specs.Runs.{Does, Stops}
 use Rattle.ats_plan.proofs.Counts.{stops_keep}
 
 -- all of the bytes are a prefix of them
@@ -23,16 +23,10 @@ left_past : {A B C : Type 0} → A ⊎ B → (B → C) → A ⊎ C
 left_past (inl same) on = inl same
 left_past (inr leaves) on = inr (on leaves)
 
-module _ {F : Type 0} (name : List ℕ) (limit : ℕ) (long : Plan F) (rest : List ℕ → Plan F) (before mid : ShelfTold) (now : Files) (read : HasRead before mid name limit) where
-  left_read : (bytes : List ℕ) → IsFile before.files name limit bytes → (now ≡ mid.files) ⊎ Leaves mid.files now (rest bytes)
-      → (now ≡ before.files) ⊎ Leaves before.files now (Reads name limit long rest)
-  left_read bytes file (inl same) = inl (same ∙ read.files)
-  left_read bytes file (inr leaves) = inr (inr (bytes, file, subst (λ (files : Files). Leaves files now (rest bytes)) read.files leaves))
-
-  left_long : IsLonger before.files name limit → (now ≡ mid.files) ⊎ Leaves mid.files now long
-      → (now ≡ before.files) ⊎ Leaves before.files now (Reads name limit long rest)
-  left_long longer (inl same) = inl (same ∙ read.files)
-  left_long longer (inr leaves) = inr (inl (longer, subst (λ (files : Files). Leaves files now long) read.files leaves))
+-- what the steps after a read leave is what the plan allows
+left_read : {F : Type 0} (plan next : Plan F) (before mid : ShelfTold) (now : Files) → mid.files ≡ before.files
+    → (Leaves before.files now next → Leaves before.files now plan) → (now ≡ mid.files) ⊎ Leaves mid.files now next → (now ≡ before.files) ⊎ Leaves before.files now plan
+left_read plan next before mid now read on left = left_past (subst (λ (files : Files). (now ≡ files) ⊎ Leaves files now next) read left) on
 
 pub does_leaves : {F : Type 0} (plan : Plan F) (before now : ShelfTold) (text : List ℕ) → Does plan before now text
     → (now.files ≡ before.files) ⊎ Leaves before.files now.files plan
@@ -43,9 +37,9 @@ does_leaves (Tries kept fault rest) before now text (is, done) = left_past (does
 does_leaves (Gets A is fault rest) before now text (a, holds, done) = left_past (does_leaves (rest a) before now text done) (λ leaves. (a, holds, leaves))
 does_leaves (Makes A is rest) before now text (a, holds, done) = left_past (does_leaves (rest a) before now text done) (λ leaves. (a, holds, leaves))
 does_leaves (Reads name limit long rest) before now text (mid, read, counts, inl (longer, done)) =
-    left_long name limit long rest before mid now.files read longer (does_leaves long mid now text done)
+    left_read (Reads name limit long rest) long before mid now.files read.files (λ leaves. inl (longer, leaves)) (does_leaves long mid now text done)
 does_leaves (Reads name limit long rest) before now text (mid, read, counts, inr (bytes, file, done)) =
-    left_read name limit long rest before mid now.files read bytes file (does_leaves (rest bytes) mid now text done)
+    left_read (Reads name limit long rest) (rest bytes) before mid now.files read.files (λ leaves. inr (bytes, file, leaves)) (does_leaves (rest bytes) mid now text done)
 
 module _ {F : Type 0} (shelf memory : F) where
   pub stops_leaves : (plan : Plan F) (before now : ShelfTold) (stop : F) → Stops shelf memory plan before now stop
@@ -63,9 +57,9 @@ module _ {F : Type 0} (shelf memory : F) where
   stops_leaves (Reads name limit long rest) before now stop (inl (same, is)) = inl (same_files before now same)
   stops_leaves (Reads name limit long rest) before now stop (inr (inl (read, unread))) = inl read.files
   stops_leaves (Reads name limit long rest) before now stop (inr (inr (mid, read, counts, inl (longer, later)))) =
-      left_long name limit long rest before mid now.files read longer (stops_leaves long mid now stop later)
+      left_read (Reads name limit long rest) long before mid now.files read.files (λ leaves. inl (longer, leaves)) (stops_leaves long mid now stop later)
   stops_leaves (Reads name limit long rest) before now stop (inr (inr (mid, read, counts, inr (bytes, file, later)))) =
-      left_read name limit long rest before mid now.files read bytes file (stops_leaves (rest bytes) mid now stop later)
+      left_read (Reads name limit long rest) (rest bytes) before mid now.files read.files (λ leaves. inr (bytes, file, leaves)) (stops_leaves (rest bytes) mid now stop later)
 
   -- a stop for another cause than the shelf leaves the files as they were
   pub stops_files : (plan : Plan F) (before now : ShelfTold) (stop : F) → Stops shelf memory plan before now stop → (stop ≡ shelf → ⊥)

@@ -1,23 +1,15 @@
 -- A plan that passes is not refused, and a plan is refused in one way at most.
 use Rattle.std.proofs.Common.{◌≡◌, ◌∙◌, ℕ, List, inl, inr, sym, subst}
 use Rattle.ats_plan.specs.Files.{Files, IsTold}
-use Rattle.ats_plan.specs.Plan.{Plan, Finishes, Stores, Fails, Tries, Gets, Makes, Reads, Refuses, Passes, IsKnown}
+use Rattle.ats_plan.specs.Plan.{Plan, Finishes, Stores, Fails, Tries, Gets, Makes, Reads, Refuses, Passes, ComesToShelf, IsKnown}
 use Rattle.ats_plan.specs.Sound.{IsSound}
 use Rattle.ats_plan.proofs.Files.{one_file, file_there, file_short, missing_short}
 
 module _ {F : Type 0} (files : Files) where
-  -- after a step that holds, the files are known if they were before it
-  known_try : (kept : Type 0) (fault : F → Type 0) (rest : Plan F) → kept → IsKnown files (Tries kept fault rest) → IsKnown files rest
-  known_try kept fault rest is (inl told) = inl told
-  known_try kept fault rest is (inr none) = inr (λ comes. none (is, comes))
-
-  known_get : (A : Type 0) (is : A → Type 0) (fault : F → Type 0) (rest : A → Plan F) (a : A) → is a → IsKnown files (Gets A is fault rest) → IsKnown files (rest a)
-  known_get A is fault rest a holds (inl told) = inl told
-  known_get A is fault rest a holds (inr none) = inr (λ comes. none (a, holds, comes))
-
-  known_make : (A : Type 0) (is : A → Type 0) (rest : A → Plan F) (a : A) → is a → IsKnown files (Makes A is rest) → IsKnown files (rest a)
-  known_make A is rest a holds (inl told) = inl told
-  known_make A is rest a holds (inr none) = inr (λ comes. none (a, holds, comes))
+  -- if the rest of a plan comes to the shelf only if the plan does, its files are known if those of the plan are
+  known_past : (plan rest : Plan F) → (ComesToShelf rest → ComesToShelf plan) → IsKnown files plan → IsKnown files rest
+  known_past plan rest comes (inl told) = inl told
+  known_past plan rest comes (inr none) = inr (λ came. none (comes came))
 
   -- a plan that reads a file comes to the shelf
   known_read : (name : List ℕ) (limit : ℕ) (long : Plan F) (rest : List ℕ → Plan F) → IsKnown files (Reads name limit long rest) → IsTold files
@@ -32,13 +24,13 @@ module _ {F : Type 0} (shelf : F) (files : Files) where
   passes_kept (Fails fault) stop known sound passes refused = passes
   passes_kept (Tries kept fault rest) stop known sound passes (inl here) = sound.0.breaks stop here passes.0
   passes_kept (Tries kept fault rest) stop known sound passes (inr later) =
-      passes_kept rest stop (known_try files kept fault rest later.0 known) sound.1 passes.1 later.1
+      passes_kept rest stop (known_past files (Tries kept fault rest) rest (λ comes. (later.0, comes)) known) sound.1 passes.1 later.1
   passes_kept (Gets A is fault rest) stop known sound (a, holds, passes) (inl here) = sound.0.breaks a stop here holds
   passes_kept (Gets A is fault rest) stop known sound (a, holds, passes) (inr (b, also, later)) =
-      passes_kept (rest b) stop (known_get files A is fault rest b also known) (sound.1 b)
+      passes_kept (rest b) stop (known_past files (Gets A is fault rest) (rest b) (λ comes. (b, also, comes)) known) (sound.1 b)
       (subst (λ (x : A). Passes files (rest x)) (sound.0.single a b holds also) passes) later
   passes_kept (Makes A is rest) stop known sound passes (a, holds, later) =
-      passes_kept (rest a) stop (known_make files A is rest a holds known) (sound.1 a) (passes a holds) later
+      passes_kept (rest a) stop (known_past files (Makes A is rest) (rest a) (λ comes. (a, holds, comes)) known) (sound.1 a) (passes a holds) later
   passes_kept (Reads name limit long rest) stop known sound (inl (longer, passes)) (inl missing) = missing_short files name limit missing.1 longer
   passes_kept (Reads name limit long rest) stop known sound (inl (longer, passes)) (inr (inl (also, later))) =
       passes_kept long stop (inl (known_read files name limit long rest known)) sound.0 passes later
@@ -61,15 +53,15 @@ module _ {F : Type 0} (shelf : F) (files : Files) where
   one_refusal (Tries kept fault rest) a b known sound (inl here) (inr later) = absurd (sound.0.breaks a here later.0)
   one_refusal (Tries kept fault rest) a b known sound (inr later) (inl here) = absurd (sound.0.breaks b here later.0)
   one_refusal (Tries kept fault rest) a b known sound (inr later) (inr also) =
-      one_refusal rest a b (known_try files kept fault rest later.0 known) sound.1 later.1 also.1
+      one_refusal rest a b (known_past files (Tries kept fault rest) rest (λ comes. (later.0, comes)) known) sound.1 later.1 also.1
   one_refusal (Gets A is fault rest) a b known sound (inl here) (inl also) = sound.0.one a b here also
   one_refusal (Gets A is fault rest) a b known sound (inl here) (inr (x, holds, later)) = absurd (sound.0.breaks x a here holds)
   one_refusal (Gets A is fault rest) a b known sound (inr (x, holds, later)) (inl here) = absurd (sound.0.breaks x b here holds)
   one_refusal (Gets A is fault rest) a b known sound (inr (x, holds, later)) (inr (y, same, also)) =
-      one_refusal (rest y) a b (known_get files A is fault rest y same known) (sound.1 y)
+      one_refusal (rest y) a b (known_past files (Gets A is fault rest) (rest y) (λ comes. (y, same, comes)) known) (sound.1 y)
       (subst (λ (z : A). Refuses shelf files (rest z) a) (sound.0.single x y holds same) later) also
   one_refusal (Makes A is rest) a b known sound (x, holds, later) (y, same, also) =
-      one_refusal (rest y) a b (known_make files A is rest y same known) (sound.1 y)
+      one_refusal (rest y) a b (known_past files (Makes A is rest) (rest y) (λ comes. (y, same, comes)) known) (sound.1 y)
       (subst (λ (z : A). Refuses shelf files (rest z) a) (sound.0 x y holds same) later) also
   one_refusal (Reads name limit long rest) a b known sound (inl missing) (inl also) = missing.0 ∙ sym also.0
   one_refusal (Reads name limit long rest) a b known sound (inl missing) (inr (inl (longer, later))) = absurd (missing_short files name limit missing.1 longer)
