@@ -15,13 +15,7 @@ use Rattle.ats_grammar.specs.Grammar.{proof_schema}
 use Rattle.ats_grammar.specs.Front.{IsField, IsFront, IsSpelling, IsFirst, IsBad}
 use Rattle.ats_grammar.specs.State.{remaining}
 use Rattle.ats_grammar.specs.Reading.{IsNumberOf, IsTaken, IsStuck, IsRefused, IsReached}
-use Rattle.ats_grammar.specs.Pending.{is_cut, may_be_empty, HasOwnKind}
-use Rattle.ats_grammar.specs.declared.state.DictPart.{DictPart}
-use Rattle.ats_grammar.specs.declared.state.DictPart.TheVariants as dict
-use Rattle.ats_grammar.specs.declared.state.TermsPart.{TermsPart}
-use Rattle.ats_grammar.specs.declared.state.TermsPart.TheVariants as terms
-use Rattle.ats_grammar.specs.declared.state.Part.{Part}
-use Rattle.ats_grammar.specs.declared.state.Part.TheVariants as parts
+use Rattle.ats_grammar.specs.Pending.{is_cut, is_term, may_be_empty, HasOwnKind}
 use Rattle.ats_grammar.specs.Standing.{IsAt, IsOn, IsWaiting, IsWrong}
 use Rattle.ats_grammar.specs.declared.feeder.Place.{Place}
 use Rattle.ats_grammar.specs.declared.feeder.Place.TheVariants as places
@@ -57,34 +51,9 @@ no_cut kind own same = absurd (true≢false (sym (ap is_cut same) ∙ own))
 
 -- ---- steps
 
-at_most_one_dict : (p : DictPart) → may_be_empty (parts.Dict p) ≤ 1
-at_most_one_dict dict.LeafCount = omega arith
-at_most_one_dict dict.Position = omega arith
-at_most_one_dict dict.Length = omega arith
-at_most_one_dict dict.Term = omega arith
-at_most_one_dict dict.Frequency = omega arith
-at_most_one_dict dict.ListRoot = omega arith
-at_most_one_dict dict.DigestCount = omega arith
-at_most_one_dict dict.Digest = omega arith
-
-at_most_one_terms : (p : TermsPart) → may_be_empty (parts.Terms p) ≤ 1
-at_most_one_terms terms.LeafCount = omega arith
-at_most_one_terms terms.Position = omega arith
-at_most_one_terms terms.Length = omega arith
-at_most_one_terms terms.Term = omega arith
-at_most_one_terms terms.Impact = omega arith
-at_most_one_terms terms.DigestCount = omega arith
-at_most_one_terms terms.Digest = omega arith
-at_most_one_terms terms.SlotKind = omega arith
-at_most_one_terms terms.SlotIndex = omega arith
-
-at_most_one : (p : Part) → may_be_empty p ≤ 1
-at_most_one (parts.Front p) = omega arith
-at_most_one (parts.Dict p) = at_most_one_dict p
-at_most_one (parts.Met p) = omega arith
-at_most_one (parts.List p) = omega arith
-at_most_one (parts.Docs p) = omega arith
-at_most_one (parts.Terms p) = at_most_one_terms p
+one_at_most : (b : Bool) → cond b 1 0 ≤ 1
+one_at_most true = omega arith
+one_at_most false = omega arith
 
 empty_number : (n : Next) → IsNumberOf n [] 0
 empty_number next.End = tt
@@ -141,17 +110,6 @@ own_refusal (next.Number size low high other) rest kind own enough is =
 own_refusal (next.Bytes size) rest kind own enough is =
     absurd (is.stuck (take size rest) (drop size rest) (sym (take-append-drop size rest)) (length-take-le size rest enough))
 
-pub wrong_at : (bytes : List ℕ) (stand : Stand) (rest : List ℕ) (kind : ShapeKind) (at : IsAt bytes stand rest) → IsRefused (head (remaining stand.state)) (at.left ++ rest) kind → kind ≢ Cut
-    → IsWrong bytes kind (stand.came + length rest)
-wrong_at bytes stand rest kind at is here = record {
-  table = remaining stand.state;
-  left = at.left ++ rest;
-  reached = at.reached;
-  refused = is;
-  same = omega (arith, length-append at.left rest, at.many);
-  here = here;
-}
-
 pub wrong_start : (bytes : List ℕ) (stand : Stand) (rest : List ℕ) (kind : ShapeKind) → IsAt bytes stand rest → stand.came ≡ 0 → IsRefused (head (remaining stand.state)) rest kind → kind ≢ Cut
     → IsWrong bytes kind (stand.came + length rest)
 wrong_start bytes stand rest kind at none is here = record {
@@ -190,7 +148,7 @@ pub on_whole : (stand after : Stand) (part rest : List ℕ) (n : ℕ)
 on_whole stand after part rest n whole follows start nought some = record {
   at = λ bytes at. at_whole bytes stand after part rest n at whole follows start nought;
   fewer = omega (arith, start, length-append part rest);
-  smaller = omega (arith, some, length-append part rest, at_most_one after.state.part);
+  smaller = omega (arith, some, length-append part rest, one_at_most (is_term after.state.part));
 }
 
 pub on_part : (stand after : Stand) (part rest : List ℕ) → after.state ≡ stand.state → after.came ≡ stand.came + length part
@@ -199,7 +157,7 @@ pub on_part : (stand after : Stand) (part rest : List ℕ) → after.state ≡ s
 on_part stand after part rest same came value some = record {
   at = λ bytes at. at_part bytes stand after part rest at same came value;
   fewer = omega (arith, came, length-append part rest);
-  smaller = omega (arith, some, length-append part rest, at_most_one after.state.part);
+  smaller = omega (arith, some, length-append part rest, one_at_most (is_term after.state.part));
 }
 
 -- ---- a number of which one more byte was read
@@ -266,30 +224,15 @@ pub one_or_more : (n : ℕ) → 1 ≤ 256 ^ n
 one_or_more zero = omega arith
 one_or_more (suc n) = omega (arith, pow-suc 256 n, one_or_more n)
 
--- at most three bytes of a number were read
-pub few_came : (stand : Stand) (size low high : ℕ) (kind : ShapeKind) → head (remaining stand.state) ≡ next.Number size low high kind
-    → (size ≡ 1) ⊎ (size ≡ 2) ⊎ (size ≡ 4) → stand.came ≤ 3
-few_came stand size low high kind is sized =
+-- at most three bytes of a number were read, and the last one makes it whole
+pub came_of : (stand : Stand) (size low high : ℕ) (kind : ShapeKind) → head (remaining stand.state) ≡ next.Number size low high kind
+    → (size ≡ 1) ⊎ (size ≡ 2) ⊎ (size ≡ 4) → (stand.came ≤ 3) × (size ≤ stand.came + 1 → stand.came + 1 ≡ size)
+came_of stand size low high kind is sized =
     let most : stand.came ≤ size - 1 = subst (λ n. stand.came ≤ size_of n - 1) is stand.inside in
     elim sized [
-      | inl one ↦ omega (arith, most, one)
-      | inr others ↦ elim others [
-        | inl two ↦ omega (arith, most, two)
-        | inr four ↦ omega (arith, most, four)
-      ]
-    ]
-
--- one more byte makes the number whole
-pub last_came : (stand : Stand) (size low high : ℕ) (kind : ShapeKind) → head (remaining stand.state) ≡ next.Number size low high kind
-    → (size ≡ 1) ⊎ (size ≡ 2) ⊎ (size ≡ 4) → size ≤ stand.came + 1 → stand.came + 1 ≡ size
-last_came stand size low high kind is sized enough =
-    let most : stand.came ≤ size - 1 = subst (λ n. stand.came ≤ size_of n - 1) is stand.inside in
-    elim sized [
-      | inl one ↦ omega (arith, most, one, enough)
-      | inr others ↦ elim others [
-        | inl two ↦ omega (arith, most, two, enough)
-        | inr four ↦ omega (arith, most, four, enough)
-      ]
+      | inl one ↦ (omega (arith, most, one), λ enough. omega (arith, most, one, enough))
+      | inr (inl two) ↦ (omega (arith, most, two), λ enough. omega (arith, most, two, enough))
+      | inr (inr four) ↦ (omega (arith, most, four), λ enough. omega (arith, most, four, enough))
     ]
 
 -- ---- which bytes a feeder was fed

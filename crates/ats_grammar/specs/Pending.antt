@@ -1,5 +1,5 @@
 -- What the next field may be: one that finds a term present, an empty one; and that its own fault is no cut.
-use Rattle.std.specs.Prelude.{◌≡◌, ℕ, Bool, true, false}
+use Rattle.std.specs.Prelude.{◌≡◌, ℕ, Bool, true, false, if◌then◌else◌}
 use Rattle.ats_grammar.specs.declared.fault.ShapeKind.{ShapeKind}
 use Rattle.ats_grammar.specs.declared.fault.ShapeKind.TheVariants.{Cut}
 use Rattle.ats_grammar.specs.declared.next.Next.{Next}
@@ -16,10 +16,13 @@ pending (Met SlotKind) = 1
 pending _ = 0
 
 -- a term may have no bytes; no other field does
+abbrev pub is_term : Part → Bool
+is_term (Dict dict.Term) = true
+is_term (Terms terms.Term) = true
+is_term _ = false
+
 abbrev pub may_be_empty : Part → ℕ
-may_be_empty (Dict dict.Term) = 1
-may_be_empty (Terms terms.Term) = 1
-may_be_empty _ = 0
+may_be_empty part = if is_term part then 1 else 0
 
 abbrev pub is_cut : ShapeKind → Bool
 is_cut Cut = true

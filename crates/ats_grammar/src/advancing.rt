@@ -1,10 +1,10 @@
 //! The state of a reader after the next field.
 
-ghost use Rattle.std.specs.Prelude.{◌≡◌, ◌+◌, ◌*◌, ◌<◌};
+ghost use Rattle.std.specs.Prelude.{◌≡◌};
 ghost use Rattle.ats_grammar.specs.declared.state.Part.TheVariants as parts;
-ghost use Rattle.ats_grammar.specs.Pending.{pending, may_be_empty};
-ghost use Rattle.ats_grammar.specs.Table.{head, follow, size_of, IsWithin};
-ghost use Rattle.ats_grammar.specs.State.{in_front, in_dict, in_met, in_list, in_docs, in_terms, remaining_in, remaining};
+ghost use Rattle.ats_grammar.specs.Pending.{pending};
+ghost use Rattle.ats_grammar.specs.Table.{IsWithin};
+ghost use Rattle.ats_grammar.specs.State.{in_front, in_dict, in_met, in_list, in_docs, in_terms, remaining_in, remaining, IsPast};
 
 use crate::state::{DictPart, DocsPart, FrontPart, ListPart, MetPart, Part, State, TermsPart};
 
@@ -21,9 +21,7 @@ impl State {
     /// Moves past the next field. `number` is its value if it is a number.
     pub(crate) fn advance(&mut self, number: u32)
         requires { IsWithin (remaining self.old) number }
-        ensures part { remaining self.new ≡ follow (remaining self.old) number }
-        ensures smaller { may_be_empty self.new.part
-            < may_be_empty self.old.part + 2 * size_of (head (remaining self.old)) }
+        ensures { IsPast self.old self.new (remaining self.old) number }
     {
         match self.part {
             Part::Front(part) => self.advance_in_front(part, number),
@@ -37,9 +35,7 @@ impl State {
 
     fn advance_in_front(&mut self, part: FrontPart, number: u32)
         requires part { self.old.part ≡ parts.Front part }
-        ensures part { remaining self.new ≡ follow (in_front part self.old) number }
-        ensures smaller { may_be_empty self.new.part
-            < may_be_empty self.old.part + 2 * size_of (head (in_front part self.old)) }
+        ensures { IsPast self.old self.new (in_front part self.old) number }
     {
         match part {
             FrontPart::Magic => self.before(Part::Front(FrontPart::Version)),
@@ -64,9 +60,7 @@ impl State {
 
     fn advance_in_dict(&mut self, part: DictPart, number: u32)
         requires part { self.old.part ≡ parts.Dict part }
-        ensures part { remaining self.new ≡ follow (in_dict part self.old) number }
-        ensures smaller { may_be_empty self.new.part
-            < may_be_empty self.old.part + 2 * size_of (head (in_dict part self.old)) }
+        ensures { IsPast self.old self.new (in_dict part self.old) number }
     {
         match part {
             DictPart::LeafCount => self.at_dict_leaves(number, 0),
@@ -89,9 +83,7 @@ impl State {
     fn advance_in_met(&mut self, part: MetPart, number: u32)
         requires part { self.old.part ≡ parts.Met part }
         requires range { IsWithin (in_met part self.old) number }
-        ensures part { remaining self.new ≡ follow (in_met part self.old) number }
-        ensures smaller { may_be_empty self.new.part
-            < may_be_empty self.old.part + 2 * size_of (head (in_met part self.old)) }
+        ensures { IsPast self.old self.new (in_met part self.old) number }
     {
         match part {
             MetPart::SlotKind => {
@@ -109,9 +101,7 @@ impl State {
 
     fn advance_in_list(&mut self, part: ListPart, number: u32)
         requires part { self.old.part ≡ parts.List part }
-        ensures part { remaining self.new ≡ follow (in_list part self.old) number }
-        ensures smaller { may_be_empty self.new.part
-            < may_be_empty self.old.part + 2 * size_of (head (in_list part self.old)) }
+        ensures { IsPast self.old self.new (in_list part self.old) number }
     {
         match part {
             ListPart::EntryCount => self.at_entries(number),
@@ -125,9 +115,7 @@ impl State {
     fn advance_in_docs(&mut self, part: DocsPart, number: u32)
         requires part { self.old.part ≡ parts.Docs part }
         requires range { IsWithin (in_docs part self.old) number }
-        ensures part { remaining self.new ≡ follow (in_docs part self.old) number }
-        ensures smaller { may_be_empty self.new.part
-            < may_be_empty self.old.part + 2 * size_of (head (in_docs part self.old)) }
+        ensures { IsPast self.old self.new (in_docs part self.old) number }
     {
         match part {
             DocsPart::LeafTerms => self.before(Part::Docs(DocsPart::TermsRoot)),
@@ -142,9 +130,7 @@ impl State {
 
     fn advance_in_terms(&mut self, part: TermsPart, number: u32)
         requires part { self.old.part ≡ parts.Terms part }
-        ensures part { remaining self.new ≡ follow (in_terms part self.old) number }
-        ensures smaller { may_be_empty self.new.part
-            < may_be_empty self.old.part + 2 * size_of (head (in_terms part self.old)) }
+        ensures { IsPast self.old self.new (in_terms part self.old) number }
     {
         match part {
             TermsPart::LeafCount => self.at_term_leaves(number, 0),

@@ -4,7 +4,7 @@ ghost use Rattle.std.specs.Prelude.{◌≡◌};
 ghost use Rattle.ats_grammar.specs.Table.{head, IsSized};
 ghost use Rattle.ats_grammar.specs.Grammar.{proof};
 ghost use Rattle.ats_grammar.specs.Pending.{HasOwnKind};
-ghost use Rattle.ats_grammar.specs.State.{in_front, in_dict, in_met, in_list, in_docs, in_terms, remaining};
+ghost use Rattle.ats_grammar.specs.State.{in_front, in_dict, in_met, in_list, in_docs, in_terms, remaining, IsNext};
 
 use crate::fault::ShapeKind;
 use crate::next::Next;
@@ -47,9 +47,7 @@ impl State {
     }
 
     fn next_in_front(&self, part: FrontPart) -> Next
-        ensures next { result ≡ head (in_front part self.now) }
-        ensures size { IsSized result }
-        ensures kind { HasOwnKind result }
+        ensures { IsNext (in_front part self.now) result }
     {
         match part {
             FrontPart::Magic => Next::number(4, MAGIC.into(), MAGIC, ShapeKind::Magic),
@@ -64,9 +62,7 @@ impl State {
     }
 
     fn next_in_dict(&self, part: DictPart) -> Next
-        ensures next { result ≡ head (in_dict part self.now) }
-        ensures size { IsSized result }
-        ensures kind { HasOwnKind result }
+        ensures { IsNext (in_dict part self.now) result }
     {
         match part {
             DictPart::LeafCount => Next::count(2, 1, 64),
@@ -80,9 +76,7 @@ impl State {
     }
 
     fn next_in_met(&self, part: MetPart) -> Next
-        ensures next { result ≡ head (in_met part self.now) }
-        ensures size { IsSized result }
-        ensures kind { HasOwnKind result }
+        ensures { IsNext (in_met part self.now) result }
     {
         match part {
             MetPart::SlotKind => Next::count(1, 0, 1),
@@ -93,9 +87,7 @@ impl State {
     }
 
     fn next_in_list(&self, part: ListPart) -> Next
-        ensures next { result ≡ head (in_list part self.now) }
-        ensures size { IsSized result }
-        ensures kind { HasOwnKind result }
+        ensures { IsNext (in_list part self.now) result }
     {
         match part {
             ListPart::EntryCount => Next::count(4, 1, 65_536),
@@ -106,9 +98,7 @@ impl State {
     }
 
     fn next_in_docs(&self, part: DocsPart) -> Next
-        ensures next { result ≡ head (in_docs part self.now) }
-        ensures size { IsSized result }
-        ensures kind { HasOwnKind result }
+        ensures { IsNext (in_docs part self.now) result }
     {
         match part {
             DocsPart::LeafTerms | DocsPart::Row => Next::any_4(),
@@ -120,9 +110,7 @@ impl State {
     }
 
     fn next_in_terms(&self, part: TermsPart) -> Next
-        ensures next { result ≡ head (in_terms part self.now) }
-        ensures size { IsSized result }
-        ensures kind { HasOwnKind result }
+        ensures { IsNext (in_terms part self.now) result }
     {
         match part {
             TermsPart::LeafCount => Next::count(2, 1, 64),

@@ -1,18 +1,16 @@
 //! The state of a reader before a run of parts, which may be empty.
 
-ghost use Rattle.std.specs.Prelude.{◌≡◌, ◌+◌, ◌<◌, ◌^◌};
+ghost use Rattle.std.specs.Prelude.{◌+◌, ◌<◌, ◌^◌};
 ghost use Rattle.ats_grammar.specs.Grammar.{dict_leaves, dict_digests, digests, slots, met_ids, prefixes};
 ghost use Rattle.ats_grammar.specs.Grammar.{entries, list_digests, documents, doc_leaves, doc_digests};
 ghost use Rattle.ats_grammar.specs.Grammar.{term_sections, term_leaves, term_digests, doc_slots, rows};
-ghost use Rattle.ats_grammar.specs.Pending.{may_be_empty};
-ghost use Rattle.ats_grammar.specs.State.{lists_left, sections_left, docs_left, remaining};
+ghost use Rattle.ats_grammar.specs.State.{lists_left, sections_left, docs_left, IsBefore};
 
 use crate::state::{DictPart, DocsPart, ListPart, MetPart, Part, State, TermsPart};
 
 impl State {
     pub(crate) fn at_rows(&mut self, n: u32)
-        ensures part { remaining self.new ≡ rows n }
-        ensures weight { may_be_empty self.new.part ≡ 0 }
+        ensures { IsBefore self.new (rows n) }
     {
         if n == 0 {
             self.part = Part::Docs(DocsPart::End);
@@ -23,8 +21,7 @@ impl State {
     }
 
     pub(crate) fn at_term_sections(&mut self, n: u32)
-        ensures part { remaining self.new ≡ term_sections n self.old.present }
-        ensures weight { may_be_empty self.new.part ≡ 0 }
+        ensures { IsBefore self.new (term_sections n self.old.present) }
     {
         if n == 0 {
             self.part = Part::Docs(DocsPart::RowCount);
@@ -35,8 +32,7 @@ impl State {
     }
 
     pub(crate) fn at_doc_slots(&mut self, n: u32, low: u64)
-        ensures part { remaining self.new ≡ doc_slots n low (sections_left self.old) }
-        ensures weight { may_be_empty self.new.part ≡ 0 }
+        ensures { IsBefore self.new (doc_slots n low (sections_left self.old)) }
     {
         if n == 0 {
             return self.at_term_sections(self.sections);
@@ -47,8 +43,7 @@ impl State {
     }
 
     pub(crate) fn at_term_digests(&mut self, n: u32)
-        ensures part { remaining self.new ≡ digests n (doc_slots self.old.present 0 (sections_left self.old)) }
-        ensures weight { may_be_empty self.new.part ≡ 0 }
+        ensures { IsBefore self.new (digests n (doc_slots self.old.present 0 (sections_left self.old))) }
     {
         if n == 0 {
             return self.at_doc_slots(self.present, 0);
@@ -58,8 +53,7 @@ impl State {
     }
 
     pub(crate) fn at_term_leaves(&mut self, n: u32, low: u64)
-        ensures part { remaining self.new ≡ term_leaves n low (term_digests self.old.present (sections_left self.old)) }
-        ensures weight { may_be_empty self.new.part ≡ 0 }
+        ensures { IsBefore self.new (term_leaves n low (term_digests self.old.present (sections_left self.old))) }
     {
         if n == 0 {
             self.part = Part::Terms(TermsPart::DigestCount);
@@ -71,8 +65,7 @@ impl State {
     }
 
     pub(crate) fn at_docs_digests(&mut self, n: u32)
-        ensures part { remaining self.new ≡ digests n (term_sections self.old.met self.old.present) }
-        ensures weight { may_be_empty self.new.part ≡ 0 }
+        ensures { IsBefore self.new (digests n (term_sections self.old.met self.old.present)) }
     {
         if n == 0 {
             return self.at_term_sections(self.met);
@@ -82,8 +75,7 @@ impl State {
     }
 
     pub(crate) fn at_doc_leaves(&mut self, n: u32)
-        ensures part { remaining self.new ≡ doc_leaves n (docs_left self.old) }
-        ensures weight { may_be_empty self.new.part ≡ 0 }
+        ensures { IsBefore self.new (doc_leaves n (docs_left self.old)) }
     {
         if n == 0 {
             self.part = Part::Docs(DocsPart::DigestCount);
@@ -94,8 +86,7 @@ impl State {
     }
 
     pub(crate) fn at_documents(&mut self)
-        ensures part { remaining self.new ≡ documents self.old.tra self.old.met self.old.present }
-        ensures weight { may_be_empty self.new.part ≡ 0 }
+        ensures { IsBefore self.new (documents self.old.tra self.old.met self.old.present) }
     {
         if self.tra {
             return self.at_doc_leaves(self.met);
@@ -104,8 +95,7 @@ impl State {
     }
 
     pub(crate) fn at_prefixes(&mut self, n: u32)
-        ensures part { remaining self.new ≡ prefixes n (documents self.old.tra self.old.met self.old.present) }
-        ensures weight { may_be_empty self.new.part ≡ 0 }
+        ensures { IsBefore self.new (prefixes n (documents self.old.tra self.old.met self.old.present)) }
     {
         if n == 0 {
             return self.at_documents();
@@ -115,8 +105,7 @@ impl State {
     }
 
     pub(crate) fn at_list_digests(&mut self, n: u32)
-        ensures part { remaining self.new ≡ digests n (lists_left self.old) }
-        ensures weight { may_be_empty self.new.part ≡ 0 }
+        ensures { IsBefore self.new (digests n (lists_left self.old)) }
     {
         if n == 0 {
             return self.at_prefixes(self.sections);
@@ -126,8 +115,7 @@ impl State {
     }
 
     pub(crate) fn at_entries(&mut self, n: u32)
-        ensures part { remaining self.new ≡ entries n (list_digests (lists_left self.old)) }
-        ensures weight { may_be_empty self.new.part ≡ 0 }
+        ensures { IsBefore self.new (entries n (list_digests (lists_left self.old))) }
     {
         if n == 0 {
             self.part = Part::List(ListPart::DigestCount);
@@ -138,9 +126,7 @@ impl State {
     }
 
     pub(crate) fn at_met_ids(&mut self, n: u32, low: u64)
-        ensures part { remaining self.new
-            ≡ met_ids n low (prefixes self.old.present (documents self.old.tra self.old.met self.old.present)) }
-        ensures weight { may_be_empty self.new.part ≡ 0 }
+        ensures { IsBefore self.new (met_ids n low (prefixes self.old.present (documents self.old.tra self.old.met self.old.present))) }
     {
         if n == 0 {
             return self.at_prefixes(self.present);
@@ -152,8 +138,7 @@ impl State {
 
     pub(crate) fn at_slots(&mut self, n: u32, low: u64)
         requires { self.old.present + n < 2 ^ 32 }
-        ensures part { remaining self.new ≡ slots self.old.tra n low self.old.present }
-        ensures weight { may_be_empty self.new.part ≡ 0 }
+        ensures { IsBefore self.new (slots self.old.tra n low self.old.present) }
     {
         if n == 0 {
             self.part = Part::Met(MetPart::MetCount);
@@ -166,8 +151,7 @@ impl State {
     }
 
     pub(crate) fn at_dict_digests(&mut self, n: u32)
-        ensures part { remaining self.new ≡ digests n (slots self.old.tra self.old.slots 0 0) }
-        ensures weight { may_be_empty self.new.part ≡ 0 }
+        ensures { IsBefore self.new (digests n (slots self.old.tra self.old.slots 0 0)) }
     {
         if n == 0 {
             self.present = 0;
@@ -178,8 +162,7 @@ impl State {
     }
 
     pub(crate) fn at_dict_leaves(&mut self, n: u32, low: u64)
-        ensures part { remaining self.new ≡ dict_leaves n low (dict_digests self.old.tra self.old.slots) }
-        ensures weight { may_be_empty self.new.part ≡ 0 }
+        ensures { IsBefore self.new (dict_leaves n low (dict_digests self.old.tra self.old.slots)) }
     {
         if n == 0 {
             self.part = Part::Dict(DictPart::DigestCount);
