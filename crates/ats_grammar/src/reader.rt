@@ -158,9 +158,7 @@ impl<'a> Reader<'a> {
         reader.number(1, 1, 1, ShapeKind::Version)?;
         reader.number(4, 1, 65_536, ShapeKind::Count)?;
         reader.number(4, 2, 16_777_218, ShapeKind::Count)?;
-        reader.bytes(32)?;
-        reader.bytes(32)?;
-        reader.bytes(32)?;
+        reader.digests(3)?;
         let (header, _) = self.rest.split_at(HEADER_BYTES);
         *self = reader;
         Ok(header)
