@@ -62,9 +62,6 @@ fold_more (first ∷ front) term pairs = fold_more front term (put_term pairs fi
 counted_more : (all : List (List ℕ)) (i : ℕ) → i < length all → counted (take (i + 1) all) ≡ put_term (counted (take i all)) (get_or all i [])
 counted_more all i inside = ap counted (take_more all i [] inside) ∙ fold_more (take i all) (get_or all i []) []
 
-pub runs_start : (all : List (List ℕ)) → AreRuns all 0 []
-runs_start all = record { made = refl; ends = λ some. absurd (omega (arith, some)) }
-
 -- no run is longer than the terms so far
 pub run_few : (all : List (List ℕ)) (i : ℕ) (pairs : List (List ℕ × ℕ)) (k : ℕ) (d : List ℕ × ℕ) → AreRuns all i pairs → k < length pairs
     → (get_or pairs k d).1 ≤ i

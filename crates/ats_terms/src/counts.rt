@@ -94,7 +94,8 @@ fn runs(alloc: Global, sorted: &[Key<'_>]) -> Result<TermCounts, OutOfMemory>
 }
 
 impl TermCounts {
-    /// The distinct terms of a list. A list of 2^32 terms or more is reported as out of memory.
+    /// The distinct terms of a list: it is sorted, and the runs of equal terms are measured. A list of 2^32 terms or more
+    /// is reported as out of memory.
     pub fn of(alloc: Global, terms: &Terms) -> Result<Self, OutOfMemory>
         ensures counted { IfOk result (λ made. made ≡ counted terms.now) }
         ensures counts { IfOk result (Counts terms.now) }
