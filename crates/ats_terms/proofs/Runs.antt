@@ -7,10 +7,11 @@ use Rattle.std.specs.Ordering.{is_lt, ordering_reverse}
 use Rattle.std.specs.declared.cmp.Ordering.{Ordering}
 use Rattle.std.specs.declared.cmp.Ordering.TheVariants.{Less, Equal, Greater}
 use Rattle.std.proofs.lemmas.Cmp.{nat_list_cmp_total, tied_itself}
-use Rattle.std.proofs.lemmas.List.{get_or_default, take_more}
+use Rattle.std.proofs.lemmas.List.{get_or_default, map-append, take_more}
 use Rattle.std.proofs.lemmas.List.Elements.{All-nil, All-tail, All-push}
-use Rattle.std.proofs.lemmas.Slice.Zip.{firsts-zip, seconds-zip, get_or-zip}
-use Rattle.std.proofs.lemmas.List.Sums.{get_or-le-sum_by}
+use Rattle.std.proofs.lemmas.Slice.Zip.{firsts-zip, seconds-zip, get_or-zip, length-zip}
+use Rattle.std.proofs.lemmas.List.Sums.{fold-append, get_or-le-sum_by}
+use Rattle.std.proofs.Math.Seq.{get_or-append_seam, set-append_seam}
 use Rattle.ats_terms.specs.Order.{byte_cmp}
 use Rattle.ats_terms.specs.Query.{put_term, counted}
 use Rattle.ats_terms.proofs.Counting.{equal_from, all_weigh}
@@ -55,12 +56,8 @@ pub record AreRuns (all : List (List ℕ)) (i : ℕ) (pairs : List (List ℕ × 
   pub made : pairs ≡ counted (take i all)
   pub ends : 0 < i → EndsWith pairs (get_or all (i - 1) [])
 
-fold_more : (front : List (List ℕ)) (term : List ℕ) (pairs : List (List ℕ × ℕ)) → fold put_term pairs (front ++ term ∷ []) ≡ put_term (fold put_term pairs front) term
-fold_more [] term pairs = refl
-fold_more (first ∷ front) term pairs = fold_more front term (put_term pairs first)
-
 counted_more : (all : List (List ℕ)) (i : ℕ) → i < length all → counted (take (i + 1) all) ≡ put_term (counted (take i all)) (get_or all i [])
-counted_more all i inside = ap counted (take_more all i [] inside) ∙ fold_more (take i all) (get_or all i []) []
+counted_more all i inside = ap counted (take_more all i [] inside) ∙ fold-append put_term [] (take i all) (get_or all i [] ∷ [])
 
 -- no run is longer than the terms so far
 pub run_few : (all : List (List ℕ)) (i : ℕ) (pairs : List (List ℕ × ℕ)) (k : ℕ) (d : List ℕ × ℕ) → AreRuns all i pairs → k < length pairs
@@ -135,41 +132,26 @@ zip_push [] (w ∷ vs) k v same = absurd (omega arith)
 zip_push (j ∷ ks) [] k v same = absurd (omega arith)
 zip_push (j ∷ ks) (w ∷ vs) k v same = ap (λ ps. (j, w) ∷ ps) (zip_push ks vs k v (omega arith))
 
-set_last : (ws : List ℕ) (w v : ℕ) → set (ws ++ w ∷ []) (length ws) v ≡ ws ++ v ∷ []
-set_last [] w v = refl
-set_last (x ∷ ws) w v = ap (λ l. x ∷ l) (set_last ws w v)
-
-get_last : (ws : List ℕ) (w d : ℕ) → get_or (ws ++ w ∷ []) (length ws) d ≡ w
-get_last [] w d = refl
-get_last (x ∷ ws) w d = get_last ws w d
-
 zip_parts : (front : List (List ℕ × ℕ)) (k : List ℕ) (w : ℕ) → zip (map (λ p. p.0) front ++ k ∷ []) (map (λ p. p.1) front ++ w ∷ []) ≡ front ++ (k, w) ∷ []
 zip_parts [] k w = refl
 zip_parts (p ∷ front) k w = ap (λ ps. p ∷ ps) (zip_parts front k w)
-
-map_parts : {X : Type 0} (f : List ℕ × ℕ → X) (front : List (List ℕ × ℕ)) (p : List ℕ × ℕ) → map f (front ++ p ∷ []) ≡ map f front ++ f p ∷ []
-map_parts f [] p = refl
-map_parts f (q ∷ front) p = ap (λ l. f q ∷ l) (map_parts f front p)
 
 -- the last pair gets one more
 pub zip_bump : (ks : List (List ℕ)) (ws : List ℕ) (run d : ℕ) (front : List (List ℕ × ℕ)) (k : List ℕ) (w : ℕ) → length ws ≡ length ks
     → run + 1 ≡ length ws → zip ks ws ≡ front ++ (k, w) ∷ [] → zip ks (set ws run (get_or ws run d + 1)) ≡ front ++ (k, w + 1) ∷ []
 zip_bump ks ws run d front k w same last is =
-    let names : ks ≡ map (λ p. p.0) front ++ k ∷ [] = sym (firsts-zip ks ws same) ∙ ap (map (λ p. p.0)) is ∙ map_parts (λ p. p.0) front (k, w) in
-    let weights : ws ≡ map (λ p. p.1) front ++ w ∷ [] = sym (seconds-zip ks ws same) ∙ ap (map (λ p. p.1)) is ∙ map_parts (λ p. p.1) front (k, w) in
+    let names : ks ≡ map (λ p. p.0) front ++ k ∷ [] = sym (firsts-zip ks ws same) ∙ ap (map (λ p. p.0)) is ∙ map-append (λ (p : List ℕ × ℕ). p.0) front ((k, w) ∷ []) in
+    let weights : ws ≡ map (λ p. p.1) front ++ w ∷ [] = sym (seconds-zip ks ws same) ∙ ap (map (λ p. p.1)) is ∙ map-append (λ (p : List ℕ × ℕ). p.1) front ((k, w) ∷ []) in
     let place : run ≡ length (map (λ (p : List ℕ × ℕ). p.1) front) =
     omega (arith, ap length weights, length-append (map (λ (p : List ℕ × ℕ). p.1) front) (w ∷ [])) in
-    let here : get_or ws run d ≡ w = ap₂ (λ l i. get_or l i d) weights place ∙ get_last (map (λ p. p.1) front) w d in
+    let here : get_or ws run d ≡ w = ap₂ (λ l i. get_or l i d) weights place ∙ get_or-append_seam (map (λ (p : List ℕ × ℕ). p.1) front) w [] d in
     let bumped : set ws run (get_or ws run d + 1) ≡ map (λ p. p.1) front ++ (w + 1) ∷ [] =
-    ap (λ v. set ws run (v + 1)) here ∙ ap₂ (λ l i. set l i (w + 1)) weights place ∙ set_last (map (λ p. p.1) front) w (w + 1) in
+    ap (λ v. set ws run (v + 1)) here ∙ ap₂ (λ l i. set l i (w + 1)) weights place ∙ set-append_seam (map (λ (p : List ℕ × ℕ). p.1) front) w [] (w + 1) in
     ap₂ zip names bumped ∙ zip_parts front k (w + 1)
 
 -- zipped terms and counts have the length of the terms
 pub length_zipped : {A B : Type 0} (ks : List A) (vs : List B) → length vs ≡ length ks → length (zip ks vs) ≡ length ks
-length_zipped [] [] same = refl
-length_zipped [] (v ∷ vs) same = refl
-length_zipped (k ∷ ks) [] same = absurd (omega arith)
-length_zipped (k ∷ ks) (v ∷ vs) same = ap suc (length_zipped ks vs (omega arith))
+length_zipped ks vs same = omega (arith, length-zip ks vs, same)
 
 -- the count at a place of the pairs
 pub count_at : (terms : List (List ℕ)) (counts : List ℕ) (i seen : ℕ) (d : List ℕ × ℕ) → length counts ≡ length terms → i < length terms
