@@ -25,9 +25,6 @@ use Rattle.ats_lists.proofs.ChainOutcomes.{chain-rebuilt}
 
 -- ---- how a list is cut
 
-first-block : (ds : List (List ℕ)) → block ds 0 ≡ take 64 ds
-first-block ds = refl
-
 pub chain-one : (H : List ℕ → List ℕ) (ds : List (List ℕ)) → 1 ≤ length ds → length ds ≤ 64
     → chain H ds ≡ H (3 ∷ mth H ds ++ replicate 32 0)
 chain-one H ds some few =

@@ -270,37 +270,3 @@ string-past H leaves (suc depth) turns past =
       | inl is ↦ cond-true _ _ _ is ∙ string-none H (block leaves (turns / 64)) (path_of depth (turns % 64)) empty
       | inr not ↦ cond-false _ _ _ not
     ]
-
--- that of a block
-pub string-block : (H : List ℕ → List ℕ) (leaves : List (List ℕ)) (depth turns : ℕ) → depth ≡ 0 → turns % 64 ≡ 0
-    → turns / 64 < blocks_in (length leaves)
-    → chain_string H leaves depth turns ≡ Some (link (mth H (block leaves (turns / 64))) (chain_from H leaves (turns / 64 + 1)))
-string-block H leaves depth turns root first less =
-    ap (λ d. chain_string H leaves d turns) root
-    ∙ cond-true _ _ _ (eq-eqb (turns % 64) 0 first)
-    ∙ cond-true _ _ _ (lt-ltb (turns / 64) (blocks_in (length leaves)) less)
-
-pub string-between : (H : List ℕ → List ℕ) (leaves : List (List ℕ)) (depth turns : ℕ) → depth ≡ 0 → (turns % 64 ≡ 0 → ⊥)
-    → chain_string H leaves depth turns ≡ None
-string-between H leaves depth turns root other =
-    ap (λ d. chain_string H leaves d turns) root ∙ cond-false _ _ _ (ne_eqb (turns % 64) 0 other)
-
--- that of a node
-pub string-inside : (H : List ℕ → List ℕ) (leaves : List (List ℕ)) (depth further turns : ℕ) → depth ≡ suc further
-    → (turns % 64) / 2 ^ further ≡ 0
-    → chain_string H leaves depth turns ≡ string_at H (tree_of (block leaves (turns / 64))) (path_of further (turns % 64))
-string-inside H leaves depth further turns deep none =
-    let some : 0 < 2 ^ further = pow_pos further
-    in let high : turns % 64 < (turns % 64) / 2 ^ further * 2 ^ further + 2 ^ further = lt-div-mul-add some
-    in let P : ℕ → Type 0 = λ q. turns % 64 < q * 2 ^ further + 2 ^ further
-    in let low : turns % 64 < 0 * 2 ^ further + 2 ^ further = subst P none high
-    in let less : turns % 64 < 2 ^ further = omega arith
-    in ap (λ d. chain_string H leaves d turns) deep ∙ cond-true _ _ _ (lt-ltb (turns % 64) (2 ^ further) less)
-
-pub string-outside : (H : List ℕ → List ℕ) (leaves : List (List ℕ)) (depth further turns : ℕ) → depth ≡ suc further
-    → ((turns % 64) / 2 ^ further ≡ 0 → ⊥) → chain_string H leaves depth turns ≡ None
-string-outside H leaves depth further turns deep other =
-    elim (cases_lt (turns % 64) (2 ^ further)) [
-      | inl less ↦ absurd (other (div-eq_of_lt less))
-      | inr past ↦ ap (λ d. chain_string H leaves d turns) deep ∙ cond-false _ _ _ (le-ltb (turns % 64) (2 ^ further) past)
-    ]

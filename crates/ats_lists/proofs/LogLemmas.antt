@@ -88,14 +88,6 @@ module _ (terms new : List (List ℕ)) (term : List ℕ) (n : ℕ) (grows : Grow
 pub no_log : IsLogOf [] []
 no_log = record { inside = λ k d inside. absurd (omega arith); used = λ n inside. absurd (omega arith) }
 
-pub no_new_numbers : (old others : List (List ℕ)) → AreNewNumbers old others old 0 []
-no_new_numbers old others = record {
-  size = refl;
-  kept = λ n inside. (inside, refl);
-  right = λ j inside. absurd (omega arith);
-  used = λ n inside. inl inside;
-}
-
 pub one_number_more : (old others new more : List (List ℕ)) (i : ℕ) (numbers : List ℕ) (term : List ℕ) (n : ℕ)
     → AreNewNumbers old others new i numbers → Grows new more term n → n < length more → term_of more n ≡ term → term ≡ term_of others i
     → AreNewNumbers old others more (i + 1) (numbers ++ n ∷ [])
@@ -228,40 +220,6 @@ equal_numbers a b is = grind (arith, nat_tests)
 
 numbers_equal : (a b : ℕ) → a ≡ b → (a == b) ≡ true
 numbers_equal a b is = grind (arith, nat_tests)
-
--- one entry more under the numbers
-pub under_push : (n : ℕ) (log : List Logged) (l : Logged)
-    → entries_under n (log ++ l ∷ []) ≡ entries_under n log ++ cond (l.number == n) (l.entry ∷ []) []
-under_push n log l =
-    ap (map (λ (m : Logged). m.entry)) (filter-append (λ (m : Logged). m.number == n) log (l ∷ []))
-    ∙ map-append (λ (m : Logged). m.entry) (filter (λ m. m.number == n) log) (filter (λ m. m.number == n) (l ∷ []))
-    ∙ ap (λ (es : List Entry). entries_under n log ++ es) (one_logged (l.number == n) l)
-  where
-    one_logged : (b : Bool) (l : Logged) → map (λ (m : Logged). m.entry) (cond b (l ∷ []) []) ≡ cond b (l.entry ∷ []) []
-    one_logged true l = refl
-    one_logged false l = refl
-
-push_case : (lists : List (List ℕ × List Entry)) (m n : ℕ) (e : Entry) (was : List ℕ × List Entry) → m < length lists → was ≡ get_or lists m was
-    → (b : Bool) → (m == n) ≡ b
-    → get_or (set lists m (was.0, was.1 ++ e ∷ [])) n ([], [])
-    ≡ ((get_or lists n ([], [])).0, (get_or lists n ([], [])).1 ++ cond b (e ∷ []) [])
-push_case lists m n e was inside at true is =
-    let same : m ≡ n = equal_numbers m n is in
-    rw (← same) (get_or-set_same lists m (was.0, was.1 ++ e ∷ []) ([], []) inside
-    ∙ ap (λ (list : List ℕ × List Entry). (list.0, list.1 ++ e ∷ [])) (at ∙ get_or_default lists m was ([], []) inside))
-push_case lists m n e was inside at false is =
-    let differs : n ≢ m = λ same. let clash : true ≡ false = sym (numbers_equal m n (sym same)) ∙ is in absurd (cc) in
-    let list : List ℕ × List Entry = get_or lists n ([], []) in
-    get_or-set_other lists m n (was.0, was.1 ++ e ∷ []) ([], []) differs ∙ ap (λ (es : List Entry). (list.0, es)) (sym (append-nil list.1))
-
--- one entry more in the room of its number
-pub parted_push : (terms : List (List ℕ)) (lists : List (List ℕ × List Entry)) (n : ℕ) (log : List Logged) (l : Logged) (was : List ℕ × List Entry)
-    → l.number < length lists → was ≡ get_or lists l.number was → get_or lists n ([], []) ≡ (term_of terms n, entries_under n log)
-    → get_or (set lists l.number (was.0, was.1 ++ l.entry ∷ [])) n ([], []) ≡ (term_of terms n, entries_under n (log ++ l ∷ []))
-parted_push terms lists n log l was inside at so_far =
-    push_case lists l.number n l.entry was inside at (l.number == n) refl
-    ∙ ap (λ (list : List ℕ × List Entry). (list.0, list.1 ++ cond (l.number == n) (l.entry ∷ []) [])) so_far
-    ∙ ap (λ (es : List Entry). (term_of terms n, es)) (sym (under_push n log l))
 
 -- the terms are at one place each
 module _ (terms : List (List ℕ)) (log : List Logged) (rises : IsStrictlySortedBy byte_cmp terms) (is : IsLogOf terms log) where

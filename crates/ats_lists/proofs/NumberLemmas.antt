@@ -89,16 +89,6 @@ numbered_moved terms all moved same are = record {
   size = length_permutation all moved same ∙ are.size;
 }
 
-first_decides : (o p : Ordering) → is_lt (ordering_then o p) ≡ false → is_lt o ≡ false
-first_decides Less p is = is
-first_decides Equal p is = refl
-first_decides Greater p is = refl
-
--- what is sorted by term and then by number is sorted by term
-pub sorted_by_term : (all : List (List ℕ × ℕ)) → IsSorted (λ (a b : List ℕ × ℕ). ordering_then (byte_cmp a.0 b.0) (nat_cmp a.1 b.1)) all
-    → IsSortedByKey (λ (pair : List ℕ × ℕ). pair.0) byte_cmp all
-sorted_by_term all sorted k d low inside = first_decides _ _ (sorted k d low inside)
-
 -- ---- the numbers of each term, merged
 
 -- no term that is left is below this one
