@@ -1,11 +1,9 @@
 -- The first collision of strings one after another, and that of a part of a tree from those of its two parts.
-use Rattle.std.proofs.Common.{◌≡◌, ◌≢◌, ℕ, suc, ◌+◌, ◌-◌, ◌*◌, ◌^◌, ◌<◌, ◌≤◌, List, [], ◌∷◌, ◌++◌, length, take, drop, map, Bool, true, false, not, ◌||◌, ◌&&◌, cond, refl, sym, ◌∙◌, ap, ap₂, arith, inl, inr, ◌⊎◌, Option, Some, None, subst, All, IsTrue, ◌↔◌, append_assoc}
-use Rattle.std.specs.List.{slice_index_or}
+use Rattle.std.proofs.Common.{◌≡◌, ◌≢◌, ℕ, suc, ◌+◌, ◌-◌, ◌*◌, ◌^◌, ◌<◌, ◌≤◌, List, [], ◌∷◌, ◌++◌, length, take, drop, map, Bool, true, false, not, ◌||◌, ◌&&◌, cond, refl, sym, ◌∙◌, ap, ap₂, arith, inl, inr, ◌⊎◌, Option, Some, None, subst, All, append_assoc}
 use Rattle.std.specs.Option.{option_map, option_or, IsSome}
 use Rattle.std.specs.Str.{bytes_eq}
 use Rattle.std.proofs.Math.Nat.{two-pow-succ, mod-eq_of_lt}
 use Rattle.std.proofs.Math.Pow.{pow_mono}
-use Rattle.std.proofs.Math.Seq.{take-length}
 use Rattle.std.proofs.lemmas.Bool.{cond-true, cond-false, cases_lt, cases_Bool, or_left}
 use Rattle.std.proofs.lemmas.List.{length-append, length-drop, take-take, drop-take, append-nil, map-append}
 use Rattle.std.proofs.lemmas.List.Elements.{All-head, All-tail}

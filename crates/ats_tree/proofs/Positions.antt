@@ -1,5 +1,5 @@
 -- Rising positions: by neighbours, as contracts say it, and by recursion, as the proofs use it.
-use Rattle.std.proofs.Common.{◌≡◌, ℕ, zero, suc, ◌+◌, ◌<◌, ◌≤◌, List, [], ◌∷◌, arith, All, drop, map}
+use Rattle.std.proofs.Common.{◌≡◌, ℕ, suc, ◌+◌, ◌<◌, ◌≤◌, List, [], ◌∷◌, arith, All}
 use Rattle.std.specs.List.Sorted.{IsStrictlyIncreasing}
 use Rattle.ats_tree.specs.Shown.{Shown, positions_of}
 use Rattle.ats_tree.specs.Part.{RisesFrom, RisesWithin}

@@ -1,4 +1,4 @@
-use Rattle.std.proofs.Common.{rules, arith, sym, length, ◌+◌, ◌≤◌}
+use Rattle.std.proofs.Common.{rules, arith, sym, ◌+◌}
 use Rattle.ats_tree.specs.Shown.{Shown}
 use Rattle.ats_tree.specs.Part.{RisesFrom}
 use Rattle.ats_tree.proofs.Parts.{IsCut, is_cut, need-cut, node-part, leaf-part, bare-part, bare-short, rises_none, rises_past}
