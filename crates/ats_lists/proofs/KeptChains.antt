@@ -1,9 +1,7 @@
 -- The digests of a list in blocks, as they stand in one run, and as they are seen.
-use Rattle.std.proofs.Common.{◌≡◌, ℕ, zero, suc, ◌+◌, ◌-◌, ◌*◌, ◌/◌, ◌%◌, ◌^◌, ◌<◌, ◌≤◌, List, [], ◌∷◌, ◌++◌, length, map, take, drop, get_or, min, refl, sym, ◌∙◌, ap, ap₂, arith, inl, inr, Result, Ok, Err, OnErr, Some, None, Option, IsTrue, true, false, Bool, not, subst, nat_eq, nat_lt}
+use Rattle.std.proofs.Common.{◌≡◌, ℕ, zero, suc, ◌+◌, ◌-◌, ◌*◌, ◌/◌, ◌%◌, ◌^◌, ◌<◌, ◌≤◌, List, [], ◌∷◌, ◌++◌, length, map, take, drop, get_or, min, refl, sym, ◌∙◌, ap, ap₂, arith, inl, inr, Result, Ok, Err, OnErr, Some, None, Option, IsTrue, true, false, Bool, not, nat_eq, nat_lt}
 use Rattle.std.specs.List.{range_with_len}
-use Rattle.std.proofs.Math.Nat.{lt-div-mul-add, div-eq_of_lt}
-use Rattle.std.proofs.lemmas.Nat.{pow_pos}
-use Rattle.std.proofs.lemmas.Bool.{cases_lt, cases_Bool, cond-true, cond-false, lt-ltb, le-ltb, eq-eqb, ne_eqb}
+use Rattle.std.proofs.lemmas.Bool.{cases_lt, cases_Bool, cond-true, cond-false, le-ltb}
 use Rattle.std.specs.List.{All, slice_get}
 use Rattle.std.specs.Option.{is_none, is_some}
 use Rattle.std.proofs.lemmas.List.{append-nil, drop-drop, drop-take, get_or-take, get_or-drop, take_all, take_at, drop_at, drop_all, length-take, length-drop}
@@ -12,9 +10,8 @@ use Rattle.std.proofs.lemmas.Slice.{drop-put_mid}
 use borrow.Rule.Slice.PartMut.{put_mid, post_of}
 use Rattle.std.proofs.lemmas.List.FromFn.{get_or-map-range_with_len, get_or-range_with_len, length-range_with_len}
 use Rattle.ats_tree.specs.Kept.{kept_digests}
-use Rattle.ats_tree.specs.Tree.{mth, tree_of}
+use Rattle.ats_tree.specs.Tree.{mth}
 use Rattle.ats_tree.specs.Paths.{path_of}
-use Rattle.ats_tree.specs.Strings.{string_at}
 use Rattle.ats_tree.proofs.Public.{length-kept, sized-kept, string-none}
 use Rattle.ats_lists.specs.Blocks.{blocks_in, items_in, block, blocks_from}
 use Rattle.ats_lists.specs.Chain.{link, chain_from, chain_link, chain_string}
