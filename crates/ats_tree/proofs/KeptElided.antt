@@ -1,9 +1,10 @@
 -- The digests at the places of the subtrees with no shown leaf: of a part and of its two parts, and of kept digests.
-use Rattle.std.proofs.Common.{◌≡◌, ℕ, zero, suc, ◌+◌, ◌-◌, ◌*◌, ◌/◌, ◌^◌, ◌<◌, ◌≤◌, List, [], ◌∷◌, ◌++◌, length, take, drop, map, get_or, true, ◌&&◌, refl, sym, ◌∙◌, ap, ap₂, arith, inl, inr, Option, Some, None, nat_lt, eqb}
-use Rattle.std.specs.List.{prefix_len}
+use Rattle.std.proofs.Common.{◌≡◌, ℕ, zero, suc, ◌+◌, ◌-◌, ◌*◌, ◌/◌, ◌^◌, ◌<◌, ◌≤◌, List, [], ◌∷◌, ◌++◌, length, take, drop, map, get_or, true, false, ◌==◌, ◌&&◌, refl, sym, ◌∙◌, ap, ap₂, subst, arith, inl, inr, Option, Some, None, nat_lt, eqb}
+use Rattle.std.specs.List.{All, prefix_len}
 use Rattle.std.proofs.Math.Seq.{drop-append_seam}
 use Rattle.std.proofs.lemmas.Bool.{cond-true, cond-false, cases_lt, cases_eq, cases_Bool, eq-eqb, ne_eqb}
 use Rattle.std.proofs.lemmas.List.{append-nil, append_assoc, take_all, length-drop, drop-drop, get_or-drop, length-map, map-append, take-map, drop-map}
+use Rattle.std.proofs.lemmas.List.Elements.{All-drop}
 use Rattle.ats_tree.specs.Tree.{Tree, empty, leaf, node, tree_within, tree_of, IsPowerOfTwo}
 use Rattle.ats_tree.specs.Shown.{Shown, positions_of, shown_at, places}
 use Rattle.ats_tree.specs.Part.{RisesFrom, shown_from, RisesWithin}
@@ -15,11 +16,14 @@ use Rattle.ats_tree.proofs.Places.{length-places, places-none, places-one}
 use Rattle.ats_tree.proofs.Parts.{HasLeaf, has_leaf-of, IsCut, is_cut}
 use Rattle.ats_tree.proofs.Bound.{SameShape}
 use Rattle.ats_tree.proofs.ElidedLemmas.{rises-with, places-front, shown-back}
-use Rattle.ats_tree.proofs.KeptLemmas.{nodes-of, length-digests, length-kept}
+use Rattle.ats_tree.proofs.KeptLemmas.{HasSize, nodes-of, length-digests, length-kept}
 use Rattle.ats_tree.proofs.LawLemmas.{shown-shape}
 
--- all digests from a place on
-pub all-from : (m : ℕ) (ds : List (List ℕ)) → take (length ds - m) (drop m ds) ≡ drop m ds
+-- all digests from a place on, as a slice has them
+abbrev pub slice_from : ℕ → List (List ℕ) → List (List ℕ)
+slice_from m ds = take (length ds - m) (drop m ds)
+
+all-from : (m : ℕ) (ds : List (List ℕ)) → slice_from m ds ≡ drop m ds
 all-from m ds =
     let few : length (drop m ds) ≤ length ds - m = omega (arith, length-drop m ds) in take_all (length ds - m) (drop m ds) few
 
@@ -77,10 +81,10 @@ part-one ds from n s rest one low high =
     in ap (λ t. digests_at ds (elided_places 0 t)) t
 
 -- two parts
-pub part-cut : (ds : List (List ℕ)) (from k n : ℕ) (shown : List Shown) → IsCut from k n shown → 1 ≤ k
+pub part-cut : (ds : List (List ℕ)) (from k n : ℕ) (shown : List Shown) → IsCut from k n shown → k < n → n ≤ 2 * k
     → elided_part ds from n shown
-    ≡ elided_part (drop 1 ds) from k shown ++ elided_part (drop (2 * k) ds) (from + k) (n - k) (shown_from (from + k) shown)
-part-cut ds from k n shown c some =
+    ≡ elided_part (slice_from 1 ds) from k shown ++ elided_part (slice_from (2 * k) ds) (from + k) (n - k) (shown_from (from + k) shown)
+part-cut ds from k n shown c below largest =
     let l : Tree (Option (List ℕ)) = tree_of (places from k shown)
     in let r : Tree (Option (List ℕ)) = tree_of (places (from + k) (n - k) (shown_from (from + k) shown))
     in let many : 1 ≤ length (places from k shown) = omega (arith, length-places from k shown)
@@ -89,10 +93,11 @@ part-cut ds from k n shown c some =
     in let left : digests_at ds (elided_places (0 + 1) l) ≡ digests_at (drop 1 ds) (elided_places 0 l) = shifted ds 1 0 l
     in let right : digests_at ds (elided_places (0 + 1 + nodes_in l) r) ≡ digests_at (drop (2 * k) ds) (elided_places 0 r) =
     ap (λ (i : ℕ). digests_at ds (elided_places i r)) second ∙ shifted ds (2 * k) 0 r
-    in ap (λ t. digests_at ds (elided_places 0 t)) c.tree
+    in rw (all-from 1 ds, all-from (2 * k) ds)
+    (ap (λ t. digests_at ds (elided_places 0 t)) c.tree
     ∙ ap (digests_at ds) (cond-false _ _ _ c.shows)
     ∙ map-append _ (elided_places (0 + 1) l) (elided_places (0 + 1 + nodes_in l) r)
-    ∙ ap₂ ◌++◌ left right
+    ∙ ap₂ ◌++◌ left right)
 
 -- ---- the same of positions
 
@@ -110,22 +115,36 @@ kept-shown ds items from n (p ∷ ps) one some rises =
     part-one ds from n (p, get_or items p []) (shown_with items ps) one rises.0 rises.1
 
 -- two parts
-pub kept-parts : (ds items : List (List ℕ)) (from k n m : ℕ) (ps : List ℕ) → m ≡ prefix_len (λ p. nat_lt p (from + k)) ps
-    → IsPowerOfTwo k → 1 ≤ k → k < n → n ≤ 2 * k → 0 < length ps → RisesWithin from (from + n) ps
+pub kept-parts : (ds items : List (List ℕ)) (from k n m : ℕ) (ps front back : List ℕ) → m ≡ prefix_len (λ p. nat_lt p (from + k)) ps
+    → front ≡ take m ps → back ≡ drop m ps → IsPowerOfTwo k → k < n → n ≤ 2 * k → (length ps == 0) ≡ false → RisesWithin from (from + n) ps
     → elided_part ds from n (shown_with items ps)
-    ≡ elided_part (drop 1 ds) from k (shown_with items (take m ps))
-    ++ elided_part (drop (2 * k) ds) (from + k) (n - k) (shown_with items (drop m ps))
-kept-parts ds items from k n m [] is power part below largest some rises = absurd (omega arith)
-kept-parts ds items from k n m (p ∷ ps) is power part below largest some rises =
+    ≡ elided_part (slice_from 1 ds) from k (shown_with items front) ++ elided_part (slice_from (2 * k) ds) (from + k) (n - k) (shown_with items back)
+kept-parts ds items from k n m [] front back is first second power below largest some rises = absurd (cc)
+kept-parts ds items from k n m (p ∷ ps) front back is first second power below largest some rises =
     let shown : List Shown = shown_with items (p ∷ ps)
     in let c : IsCut from k n shown =
     is_cut from k n p shown power below largest (rises-with items from (from + n) (p ∷ ps) rises) refl rises.1
     in let reach : from + k ≤ from + k = omega arith
-    in part-cut ds from k n shown c part
+    in rw (first, second)
+    (part-cut ds from k n shown c below largest
     ∙ ap₂ ◌++◌
-    (ap (λ os. digests_at (drop 1 ds) (elided_places 0 (tree_of os)))
+    (ap (λ os. digests_at (slice_from 1 ds) (elided_places 0 (tree_of os)))
     (sym (places-front items from (from + n) (from + k) m from k (p ∷ ps) is rises reach)))
-    (ap (elided_part (drop (2 * k) ds) (from + k) (n - k)) (shown-back items from (from + n) (from + k) m (p ∷ ps) is rises))
+    (ap (elided_part (slice_from (2 * k) ds) (from + k) (n - k)) (shown-back items from (from + n) (from + k) m (p ∷ ps) is rises)))
+
+-- ---- the nodes of two parts
+
+-- at least the nodes of a tree of n leaves, each of the size of a digest
+abbrev pub HasNodes : ℕ → List (List ℕ) → Type 0
+HasNodes n ds = (2 * n ≤ length ds + 1) × All HasSize ds
+
+pub left-nodes : (ds : List (List ℕ)) (k n : ℕ) → k < n → HasNodes n ds → HasNodes k (slice_from 1 ds)
+left-nodes ds k n below has =
+    subst (HasNodes k) (sym (all-from 1 ds)) (omega (arith, length-drop 1 ds, has.0, below), All-drop HasSize 1 ds has.1)
+
+pub right-nodes : (ds : List (List ℕ)) (k n : ℕ) → k < n → HasNodes n ds → HasNodes (n - k) (slice_from (2 * k) ds)
+right-nodes ds k n below has =
+    subst (HasNodes (n - k)) (sym (all-from (2 * k) ds)) (omega (arith, length-drop (2 * k) ds, has.0, below), All-drop HasSize (2 * k) ds has.1)
 
 -- ---- the bytes of shown leaves play no part
 

@@ -13,7 +13,7 @@ use Rattle.ats_tree.specs.Kept.{kept_digests, elided_part}
 use Rattle.ats_tree.specs.OwnShown.{IsOwnShown, IsOwnPart}
 use Rattle.ats_tree.proofs.Places.{All-from, from-from, from-all, from-skip, rises-less}
 use Rattle.ats_tree.proofs.Parts.{IsCut}
-use Rattle.ats_tree.proofs.KeptElided.{part-none, part-one, part-cut, part-blank, kept-elided}
+use Rattle.ats_tree.proofs.KeptElided.{slice_from, part-none, part-one, part-cut, part-blank, kept-elided}
 use Rattle.ats_tree.proofs.KeptLemmas.{length-kept}
 
 -- an answer that is no is not yes
@@ -69,20 +69,36 @@ IsOf leaves s = slice_get leaves s.0 ≡ Some s.1
 
 -- ---- digests that begin with others
 
-pub begins-parts : (a b ds : List (List ℕ)) → take (length (a ++ b)) ds ≡ a ++ b
-    → (take (length a) ds ≡ a) × (take (length b) (drop (length a) ds) ≡ b)
-begins-parts a b ds is =
-    let both : take (length a + length b) ds ≡ a ++ b = ap (λ (n : ℕ). take n ds) (sym (length-append a b)) ∙ is
-    in let less : length a ≤ length a + length b = omega arith
-    in (
-      sym (take-take (length a) (length a + length b) ds less) ∙ ap (take (length a)) both ∙ take-append_seam a b,
-      sym (drop-take (length a) (length b) ds) ∙ ap (drop (length a)) both ∙ drop-append_seam a b,
-    )
+-- these digests begin with those
+abbrev pub Begin : List (List ℕ) → List (List ℕ) → Type 0
+Begin ds e = take (length e) ds ≡ e
 
-pub parts-begin : (a b ds : List (List ℕ)) → take (length a) ds ≡ a → take (length b) (drop (length a) ds) ≡ b
-    → take (length (a ++ b)) ds ≡ a ++ b
-parts-begin a b ds first second =
-    ap (λ (n : ℕ). take n ds) (length-append a b) ∙ take-add (length a) (length b) ds ∙ ap₂ ◌++◌ first second
+-- those of two parts
+module _ (whole left right ds : List (List ℕ)) (both : whole ≡ left ++ right) where
+  pub begins-parts : Begin ds whole → Begin ds left × Begin (drop (length left) ds) right
+  begins-parts is =
+      let all : take (length left + length right) ds ≡ left ++ right =
+      ap (λ (n : ℕ). take n ds) (sym (length-append left right)) ∙ subst (Begin ds) both is
+      in let less : length left ≤ length left + length right = omega arith
+      in (
+        sym (take-take (length left) (length left + length right) ds less) ∙ ap (take (length left)) all ∙ take-append_seam left right,
+        sym (drop-take (length left) (length right) ds) ∙ ap (drop (length left)) all ∙ drop-append_seam left right,
+      )
+
+  -- after the left part, they go on with the right part exactly where they begin with both
+  pub parts-begin : (after : List (List ℕ)) → after ≡ drop (length left) ds → Begin ds left
+      → (Begin after right → Begin ds whole) × (Begin ds whole → Begin after right)
+  parts-begin after is first =
+      rw is (
+        λ second. subst (Begin ds) (sym both)
+            (ap (λ (n : ℕ). take n ds) (length-append left right) ∙ take-add (length left) (length right) ds ∙ ap₂ ◌++◌ first second),
+        λ all. (begins-parts all).1,
+      )
+
+  pub drop-parts : (after later : List (List ℕ)) → after ≡ drop (length left) ds → later ≡ drop (length right) after → later ≡ drop (length whole) ds
+  drop-parts after later first second =
+      second ∙ ap (drop (length right)) first ∙ drop-drop (length right) (length left) ds
+      ∙ ap (λ (n : ℕ). drop n ds) (sym (length-append left right) ∙ ap length (sym both))
 
 -- digests that begin with one
 pub begins-one : (d : List ℕ) (ds : List (List ℕ)) → slice_get ds 0 ≡ Some d → take 1 ds ≡ d ∷ []
@@ -94,14 +110,6 @@ one-begins d [] got = absurd (cc)
 one-begins d (x ∷ xs) got = let same : x ≡ d = cc in ap Some same
 
 -- ---- the returns
-
--- the same of equal nodes, leaves and digests
-pub same-part : (leaves nodes nodes' : List (List ℕ)) (from n : ℕ) (shown shown' : List Shown) (ds ds' : List (List ℕ)) → nodes ≡ nodes'
-    → shown ≡ shown' → ds ≡ ds' → IsOwnPart leaves nodes from n shown ds → IsOwnPart leaves nodes' from n shown' ds'
-same-part leaves nodes nodes' from n shown shown' ds ds' a b c is =
-    subst (λ (xs : List (List ℕ)). IsOwnPart leaves nodes' from n shown' xs) c
-    (subst (λ (ss : List Shown). IsOwnPart leaves nodes' from n ss ds) b
-    (subst (λ (xs : List (List ℕ)). IsOwnPart leaves xs from n shown ds) a is))
 
 module _ (leaves nodes : List (List ℕ)) (from n : ℕ) (shown : List Shown) (ds : List (List ℕ)) where
   abbrev Own : Type 0
@@ -121,56 +129,48 @@ module _ (leaves nodes : List (List ℕ)) (from n : ℕ) (shown : List Shown) (d
   none-digests some rises = ap (λ (e : List (List ℕ)). drop (length e) ds) (sym (part-none nodes from n shown some rises))
 
   -- two parts
-  module _ (k : ℕ) (c : IsCut from k n shown) (some : 1 ≤ k) (less : k < n) where
-    abbrev Left : Type 0
-    Left = IsOwnPart leaves (drop 1 nodes) from k shown ds
-
+  module _ (k : ℕ) (c : IsCut from k n shown) (below : k < n) (largest : n ≤ 2 * k) where
     abbrev left : List (List ℕ)
-    left = elided_part (drop 1 nodes) from k shown
+    left = elided_part (slice_from 1 nodes) from k shown
 
     abbrev right : List (List ℕ)
-    right = elided_part (drop (2 * k) nodes) (from + k) (n - k) (shown_from (from + k) shown)
+    right = elided_part (slice_from (2 * k) nodes) (from + k) (n - k) (shown_from (from + k) shown)
 
-    abbrev Right : Type 0
-    Right = IsOwnPart leaves (drop (2 * k) nodes) (from + k) (n - k) (shown_from (from + k) shown) (drop (length left) ds)
+    cut : elided_part nodes from n shown ≡ left ++ right
+    cut = part-cut nodes from k n shown c below largest
 
-    ends : from + k + (n - k) ≡ from + n
-    ends = omega arith
-
-    pub both-own : Left → Right → Own
-    both-own l r = record {
-      own = joined (IsOf leaves) (from + k) (from + n) shown l.own
-          (subst (λ (e : ℕ). All (Before (IsOf leaves) e) (shown_from (from + k) shown)) ends r.own);
-      needed = subst (λ (e : List (List ℕ)). take (length e) ds ≡ e) (sym (part-cut nodes from k n shown c some))
-          (parts-begin left right ds l.needed r.needed);
-    }
-
-    abbrev parts : Own → (take (length left) ds ≡ left) × (take (length right) (drop (length left) ds) ≡ right)
-    parts is = begins-parts left right ds (subst (λ (e : List (List ℕ)). take (length e) ds ≡ e) (part-cut nodes from k n shown c some) is.needed)
+    abbrev Left : Type 0
+    Left = IsOwnPart leaves (slice_from 1 nodes) from k shown ds
 
     pub own-left : Own → Left
-    own-left is = record { own = λ i d inside low. is.own i d inside (omega (arith, low)); needed = (parts is).0 }
+    own-left is = record { own = λ i d inside low. is.own i d inside (omega (arith, low, below)); needed = (begins-parts _ left right ds cut is.needed).0 }
 
-    pub own-right : Own → Right
-    own-right is = record {
-      own = subst (λ (e : ℕ). All (Before (IsOf leaves) e) (shown_from (from + k) shown)) (sym ends)
-          (All-from (Before (IsOf leaves) (from + n)) (from + k) shown is.own);
-      needed = (parts is).1;
-    }
+    -- what is left after the left part is the right part's exactly where all is the whole's
+    pub own-parts : (after : List Shown) (over : List (List ℕ)) → after ≡ shown_from (from + k) shown → over ≡ drop (length left) ds → Left
+        → (IsOwnPart leaves (slice_from (2 * k) nodes) (from + k) (n - k) after over → Own)
+        × (Own → IsOwnPart leaves (slice_from (2 * k) nodes) (from + k) (n - k) after over)
+    own-parts after over later further l =
+        let needs = parts-begin _ left right ds cut (drop (length left) ds) refl l.needed
+        in let ends : from + k + (n - k) ≡ from + n = omega (arith, below)
+        in let Rest : ℕ → Type 0 = λ e. All (Before (IsOf leaves) e) (shown_from (from + k) shown)
+        in rw (later, further) (
+          λ r. record { own = joined (IsOf leaves) (from + k) (from + n) shown l.own (subst Rest ends r.own); needed = needs.0 r.needed },
+          λ is. record {
+            own = subst Rest (sym ends) (All-from (Before (IsOf leaves) (from + n)) (from + k) shown is.own);
+            needed = needs.1 is.needed;
+          },
+        )
 
     -- what both leave
-    pub left-after : (after later : List Shown) → after ≡ shown_from (from + k) shown → later ≡ shown_from (from + k + (n - k)) after
-        → later ≡ shown_from (from + n) shown
-    left-after after later first second =
-        let reach : from + k ≤ from + n = omega arith
-        in second ∙ ap₂ shown_from ends first ∙ from-from (from + k) (from + n) shown reach
+    pub digests-after : (after : List Shown) (over rest : List (List ℕ)) → after ≡ shown_from (from + k) shown → over ≡ drop (length left) ds
+        → rest ≡ drop (length (elided_part (slice_from (2 * k) nodes) (from + k) (n - k) after)) over → rest ≡ drop (length (elided_part nodes from n shown)) ds
+    digests-after after over rest later further is = drop-parts _ left right ds cut over rest further (rw later at is)
 
-    pub digests-after : (after later : List (List ℕ)) → after ≡ drop (length left) ds → later ≡ drop (length right) after
-        → later ≡ drop (length (elided_part nodes from n shown)) ds
-    digests-after after later first second =
-        let size : length left + length right ≡ length (elided_part nodes from n shown) =
-        sym (length-append left right) ∙ sym (ap length (part-cut nodes from k n shown c some))
-        in second ∙ ap (drop (length right)) first ∙ drop-drop (length right) (length left) ds ∙ ap (λ (m : ℕ). drop m ds) size
+pub left-after : (from k n : ℕ) (shown after later : List Shown) → k < n → after ≡ shown_from (from + k) shown
+    → later ≡ shown_from (from + k + (n - k)) after → later ≡ shown_from (from + n) shown
+left-after from k n shown after later below first second =
+    let ends : from + k + (n - k) ≡ from + n = omega (arith, below)
+    in second ∙ ap₂ shown_from ends first ∙ from-from (from + k) (from + n) shown (omega (arith, below))
 
 -- one leaf, which is shown
 module _ (leaves nodes : List (List ℕ)) (from n : ℕ) (s : Shown) (rest : List Shown) (ds : List (List ℕ)) (one : n ≡ 1)
@@ -201,20 +201,16 @@ module _ (leaves nodes : List (List ℕ)) (from n : ℕ) (s : Shown) (rest : Lis
 -- that, where the first leaf that is left is the one
 pub one-own : (leaves nodes : List (List ℕ)) (from n at : ℕ) (shown : List Shown) (ds : List (List ℕ)) → n ≡ 1 → RisesFrom from shown → first_position shown ≡ Some at
     → at < from + n → from + n ≤ length leaves
-    → 0 ∷ first_leaf shown ≡ 0 ∷ get_or leaves from [] → IsOwnPart leaves nodes from n shown ds
-one-own leaves nodes from n at [] ds one rises first low within same = absurd (cc)
-one-own leaves nodes from n at (s ∷ rest) ds one rises first low within same =
+    → (0 ∷ first_leaf shown ≡ 0 ∷ get_or leaves from [] → IsOwnPart leaves nodes from n shown ds)
+    × (IsOwnPart leaves nodes from n shown ds → 0 ∷ first_leaf shown ≡ 0 ∷ get_or leaves from [])
+one-own leaves nodes from n at [] ds one rises first low within = absurd (cc)
+one-own leaves nodes from n at (s ∷ rest) ds one rises first low within =
     let place : s.0 ≡ at = cc
-    in let text : s.1 ≡ get_or leaves from [] = cc
-    in leaf-own leaves nodes from n s rest ds one rises (omega arith) within text
-
-pub own-one : (leaves nodes : List (List ℕ)) (from n at : ℕ) (shown : List Shown) (ds : List (List ℕ)) → n ≡ 1 → RisesFrom from shown → first_position shown ≡ Some at
-    → at < from + n → from + n ≤ length leaves
-    → IsOwnPart leaves nodes from n shown ds → 0 ∷ first_leaf shown ≡ 0 ∷ get_or leaves from []
-own-one leaves nodes from n at [] ds one rises first low within is = absurd (cc)
-own-one leaves nodes from n at (s ∷ rest) ds one rises first low within is =
-    let place : s.0 ≡ at = cc
-    in ap (λ (x : List ℕ). 0 ∷ x) (own-leaf leaves nodes from n s rest ds one rises (omega arith) within is)
+    in let less : s.0 < from + n = omega arith
+    in (
+      λ same. let text : s.1 ≡ get_or leaves from [] = cc in leaf-own leaves nodes from n s rest ds one rises less within text,
+      λ is. ap (λ (x : List ℕ). 0 ∷ x) (own-leaf leaves nodes from n s rest ds one rises less within is),
+    )
 
 pub one-left : (leaves nodes : List (List ℕ)) (from n at : ℕ) (shown : List Shown) (ds : List (List ℕ)) → n ≡ 1 → RisesFrom from shown → first_position shown ≡ Some at
     → at < from + n → from + n ≤ length leaves

@@ -1,7 +1,6 @@
-use Rattle.std.proofs.Common.{◌≡◌, ℕ, ◌+◌, ◌-◌, ◌*◌, ◌<◌, ◌≤◌, List, [], ◌∷◌, ◌++◌, length, take, drop, get_or, arith, refl, sym, ◌∙◌, ap, subst, Some, None, IsTrue}
+use Rattle.std.proofs.Common.{◌≡◌, ℕ, ◌+◌, ◌-◌, ◌<◌, ◌≤◌, ◌^◌, List, [], ◌∷◌, length, drop, get_or, arith, refl, sym, ◌∙◌, ap, subst, Some, None}
 use Rattle.std.specs.List.{All, slice_get}
 use Rattle.std.proofs.lemmas.Bool.{eqb-true, eqb-false}
-use Rattle.std.proofs.lemmas.List.{length-append, length-drop, drop-drop}
 use Rattle.std.proofs.lemmas.List.Elements.{All-drop}
 use Rattle.std.proofs.lemmas.Slice.Eq.{bytes_eq-Decides}
 use Rattle.ats_tree.specs.Part.{RisesWithin}
@@ -9,13 +8,9 @@ use Rattle.ats_tree.specs.Elided.{shown_with}
 use Rattle.ats_tree.specs.Kept.{elided_part}
 use Rattle.ats_tree.proofs.ElidedLemmas.{front-rises, back-rises}
 use Rattle.ats_tree.proofs.KeptLemmas.{HasSize}
-use Rattle.ats_tree.proofs.KeptElided.{all-from, kept-none, kept-shown, kept-parts}
-use Rattle.ats_tree.proofs.OwnParts.{no, begins-one, one-begins, begins-parts, parts-begin}
+use Rattle.ats_tree.proofs.KeptElided.{kept-none, kept-shown, kept-parts, left-nodes, right-nodes}
+use Rattle.ats_tree.proofs.OwnParts.{no, Begin, begins-one, one-begins, begins-parts, parts-begin, drop-parts}
 use Rattle.ats_tree.proofs.comparing.+begins_with_elided_part.Goals as goal
-
--- digests begin with these
-abbrev Begin : List (List ℕ) → List (List ℕ) → Type 0
-Begin ds e = take (length e) ds ≡ e
 
 -- no position
 pub returns-in-Some-clause-exact : goal.returns-in-Some-clause-exact
@@ -77,113 +72,54 @@ returns-then-n-eq1-clause-left g t c holds =
 -- what the left part requires
 pub begins_with_elided_part-requires : goal.begins_with_elided_part-requires
 begins_with_elided_part-requires g t c κs within =
-    let ds : List (List ℕ) = c.args.digests.now
-    in let k : ℕ = c.cut_of-k.result
+    let k : ℕ = c.cut_of-k.result
     in let some : 1 ≤ k = omega (arith, c.cut_of-k.ensures.below, c.cut_of-k.ensures.largest)
-    in let count : 2 * k ≤ length (drop 1 ds) + 1 = omega (arith, length-drop 1 ds, c.requires.nodes, c.cut_of-k.ensures.below)
     in let rises : RisesWithin c.args.from (c.args.from + k) c.split_at.result.0.now =
     rw c.split_at.ensures.front (front-rises c.args.from (c.args.from + c.args.n) (c.args.from + k) c.count_below.result c.args.positions.now c.count_below.ensures.value c.requires.rising)
-    in let Part : List (List ℕ) → Type 0 = λ part. (2 * k ≤ length part + 1) × All HasSize part
-    in let part : Part (take (length ds - 1) (drop 1 ds)) = subst Part (sym (all-from 1 ds)) (count, All-drop HasSize 1 ds c.requires.sized)
+    in let part = left-nodes c.args.digests.now k c.args.n c.cut_of-k.ensures.below (c.requires.nodes, c.requires.sized)
     in (omega arith, (within, (some, (part.0, (part.1, (omega arith, (rises, (c.requires.theirs, omega arith))))))))
-
--- the digests of the whole are those of the left part, then those of the right part
-abbrev Both : List (List ℕ) → List (List ℕ) → List (List ℕ) → Type 0
-Both whole left right = whole ≡ left ++ right
 
 pub returns-then-not-begins_with_elided_part-clause-exact : goal.returns-then-not-begins_with_elided_part-clause-exact
 returns-then-not-begins_with_elided_part-clause-exact g t c =
-    let ps : List ℕ = c.args.positions.now
-    in let ds : List (List ℕ) = c.args.digests.now
-    in let theirs : List (List ℕ) = g.S.ShownTree.digests c.args.shown.now
-    in let k : ℕ = c.cut_of-k.result
-    in let ne : length ps ≡ 0 → ⊥ = eqb-false _ _ (sym c.if-is_empty.ensures)
-    in let some : 0 < length ps = omega arith
-    in let part : 1 ≤ k = omega (arith, c.cut_of-k.ensures.below, c.cut_of-k.ensures.largest)
-    in let left : List (List ℕ) = elided_part (take (length ds - 1) (drop 1 ds)) c.args.from k (shown_with [] c.split_at.result.0.now)
-    in let right : List (List ℕ) =
-    elided_part (take (length ds - 2 * k) (drop (2 * k) ds)) (c.args.from + k) (c.args.n - k) (shown_with [] c.split_at.result.1.now)
-    in let both : Both (elided_part ds c.args.from c.args.n (shown_with [] ps)) left right =
-    rw (c.split_at.ensures.front, c.split_at.ensures.back, all-from 1 ds, all-from (2 * k) ds)
-    (kept-parts ds [] c.args.from k c.args.n c.count_below.result ps c.count_below.ensures.value
-    c.cut_of-k.ensures.power part c.cut_of-k.ensures.below c.cut_of-k.ensures.largest some c.requires.rising)
+    let both = kept-parts c.args.digests.now [] c.args.from c.cut_of-k.result c.args.n c.count_below.result c.args.positions.now _ _ c.count_below.ensures.value
+    c.split_at.ensures.front c.split_at.ensures.back c.cut_of-k.ensures.power c.cut_of-k.ensures.below c.cut_of-k.ensures.largest
+    (sym c.if-is_empty.ensures) c.requires.rising
     in (
       no,
-      λ is. sym c.if-not-begins_with_elided_part.true
-          ∙ c.begins_with_elided_part.ensures.exact.1 (begins-parts left right theirs (subst (Begin theirs) both is)).0,
+      λ is. sym c.if-not-begins_with_elided_part.true ∙ c.begins_with_elided_part.ensures.exact.1 (begins-parts _ _ _ _ both is).0,
     )
 
 -- what the right part requires
 pub begins_with_elided_part-requires-2 : goal.begins_with_elided_part-requires-2
 begins_with_elided_part-requires-2 g t c κs within =
-    let ds : List (List ℕ) = c.args.digests.now
-    in let k : ℕ = c.cut_of-k.result
-    in let count : 2 * (c.args.n - k) ≤ length (drop (2 * k) ds) + 1 =
-    omega (arith, length-drop (2 * k) ds, c.requires.nodes, c.cut_of-k.ensures.below)
+    let k : ℕ = c.cut_of-k.result
     in let ends : c.args.from + k + (c.args.n - k) ≡ c.args.from + c.args.n = omega (arith, c.cut_of-k.ensures.below)
     in let rises : RisesWithin (c.args.from + k) (c.args.from + k + (c.args.n - k)) c.split_at.result.1.now =
     rw (ends, c.split_at.ensures.back) (back-rises c.args.from (c.args.from + c.args.n) (c.args.from + k) c.count_below.result c.args.positions.now c.count_below.ensures.value c.requires.rising)
-    in let Part : List (List ℕ) → Type 0 = λ part. (2 * (c.args.n - k) ≤ length part + 1) × All HasSize part
-    in let part : Part (take (length ds - 2 * k) (drop (2 * k) ds)) =
-    subst Part (sym (all-from (2 * k) ds)) (count, All-drop HasSize (2 * k) ds c.requires.sized)
-    in let left : List (List ℕ) = elided_part (take (length ds - 1) (drop 1 ds)) c.args.from k (shown_with [] c.split_at.result.0.now)
+    in let part = right-nodes c.args.digests.now k c.args.n c.cut_of-k.ensures.below (c.requires.nodes, c.requires.sized)
     in let theirs : All HasSize (g.S.ShownTree.digests c.begins_with_elided_part.new.shown) =
     subst (All HasSize) (sym (c.begins_with_elided_part.ensures.left c.if-not-begins_with_elided_part.false))
-    (All-drop HasSize (length left) (g.S.ShownTree.digests c.args.shown.now) c.requires.theirs)
-    in (
-      omega arith,
-      (within, (omega arith, (part.0, (part.1, (omega arith, (rises, (theirs, omega (arith, c.begins_with_elided_part.ensures.cost)))))))),
-    )
+    (All-drop HasSize _ (g.S.ShownTree.digests c.args.shown.now) c.requires.theirs)
+    in let room : c.begins_with_elided_part.new.steps + (c.args.n - k) < 2 ^ 64 = omega (arith, c.begins_with_elided_part.ensures.cost, c.cut_of-k.ensures.below)
+    in (omega arith, (within, (omega arith, (part.0, (part.1, (omega arith, (rises, (theirs, room))))))))
 
 -- two parts
 pub returns-clause-exact : goal.returns-clause-exact
 returns-clause-exact g t c =
-    let ps : List ℕ = c.args.positions.now
-    in let ds : List (List ℕ) = c.args.digests.now
-    in let theirs : List (List ℕ) = g.S.ShownTree.digests c.args.shown.now
-    in let k : ℕ = c.cut_of-k.result
-    in let ne : length ps ≡ 0 → ⊥ = eqb-false _ _ (sym c.if-is_empty.ensures)
-    in let some : 0 < length ps = omega arith
-    in let part : 1 ≤ k = omega (arith, c.cut_of-k.ensures.below, c.cut_of-k.ensures.largest)
-    in let left : List (List ℕ) = elided_part (take (length ds - 1) (drop 1 ds)) c.args.from k (shown_with [] c.split_at.result.0.now)
-    in let right : List (List ℕ) =
-    elided_part (take (length ds - 2 * k) (drop (2 * k) ds)) (c.args.from + k) (c.args.n - k) (shown_with [] c.split_at.result.1.now)
-    in let both : Both (elided_part ds c.args.from c.args.n (shown_with [] ps)) left right =
-    rw (c.split_at.ensures.front, c.split_at.ensures.back, all-from 1 ds, all-from (2 * k) ds)
-    (kept-parts ds [] c.args.from k c.args.n c.count_below.result ps c.count_below.ensures.value
-    c.cut_of-k.ensures.power part c.cut_of-k.ensures.below c.cut_of-k.ensures.largest some c.requires.rising)
+    let both = kept-parts c.args.digests.now [] c.args.from c.cut_of-k.result c.args.n c.count_below.result c.args.positions.now _ _ c.count_below.ensures.value
+    c.split_at.ensures.front c.split_at.ensures.back c.cut_of-k.ensures.power c.cut_of-k.ensures.below c.cut_of-k.ensures.largest
+    (sym c.if-is_empty.ensures) c.requires.rising
     in let begins = c.if-not-begins_with_elided_part.false
-    in let over : g.S.ShownTree.digests c.begins_with_elided_part.new.shown ≡ drop (length left) theirs = c.begins_with_elided_part.ensures.left begins
-    in let first : Begin theirs left = c.begins_with_elided_part.ensures.exact.0 begins
-    in let exact : (IsTrue c.begins_with_elided_part-2.result → Begin (drop (length left) theirs) right)
-    × (Begin (drop (length left) theirs) right → IsTrue c.begins_with_elided_part-2.result) =
-    subst (λ (xs : List (List ℕ)). (IsTrue c.begins_with_elided_part-2.result → Begin xs right) × (Begin xs right → IsTrue c.begins_with_elided_part-2.result))
-    over c.begins_with_elided_part-2.ensures.exact
+    in let same = parts-begin _ _ _ (g.S.ShownTree.digests c.args.shown.now) both _ (c.begins_with_elided_part.ensures.left begins) (c.begins_with_elided_part.ensures.exact.0 begins)
     in (
-      λ holds. subst (Begin theirs) (sym both) (parts-begin left right theirs first (exact.0 holds)),
-      λ is. exact.1 (begins-parts left right theirs (subst (Begin theirs) both is)).1,
+      λ holds. same.0 (c.begins_with_elided_part-2.ensures.exact.0 holds),
+      λ is. c.begins_with_elided_part-2.ensures.exact.1 (same.1 is),
     )
 
 pub returns-clause-left : goal.returns-clause-left
 returns-clause-left g t c holds =
-    let ps : List ℕ = c.args.positions.now
-    in let ds : List (List ℕ) = c.args.digests.now
-    in let theirs : List (List ℕ) = g.S.ShownTree.digests c.args.shown.now
-    in let k : ℕ = c.cut_of-k.result
-    in let ne : length ps ≡ 0 → ⊥ = eqb-false _ _ (sym c.if-is_empty.ensures)
-    in let some : 0 < length ps = omega arith
-    in let part : 1 ≤ k = omega (arith, c.cut_of-k.ensures.below, c.cut_of-k.ensures.largest)
-    in let left : List (List ℕ) = elided_part (take (length ds - 1) (drop 1 ds)) c.args.from k (shown_with [] c.split_at.result.0.now)
-    in let right : List (List ℕ) =
-    elided_part (take (length ds - 2 * k) (drop (2 * k) ds)) (c.args.from + k) (c.args.n - k) (shown_with [] c.split_at.result.1.now)
-    in let both : Both (elided_part ds c.args.from c.args.n (shown_with [] ps)) left right =
-    rw (c.split_at.ensures.front, c.split_at.ensures.back, all-from 1 ds, all-from (2 * k) ds)
-    (kept-parts ds [] c.args.from k c.args.n c.count_below.result ps c.count_below.ensures.value
-    c.cut_of-k.ensures.power part c.cut_of-k.ensures.below c.cut_of-k.ensures.largest some c.requires.rising)
-    in let over : g.S.ShownTree.digests c.begins_with_elided_part.new.shown ≡ drop (length left) theirs =
-    c.begins_with_elided_part.ensures.left c.if-not-begins_with_elided_part.false
-    in c.begins_with_elided_part-2.ensures.left holds
-    ∙ ap (λ (xs : List (List ℕ)). drop (length right) xs) over
-    ∙ drop-drop (length right) (length left) theirs
-    ∙ ap (λ (n : ℕ). drop n theirs) (sym (length-append left right))
-    ∙ ap (λ (e : List (List ℕ)). drop (length e) theirs) (sym both)
+    let both = kept-parts c.args.digests.now [] c.args.from c.cut_of-k.result c.args.n c.count_below.result c.args.positions.now _ _ c.count_below.ensures.value
+    c.split_at.ensures.front c.split_at.ensures.back c.cut_of-k.ensures.power c.cut_of-k.ensures.below c.cut_of-k.ensures.largest
+    (sym c.if-is_empty.ensures) c.requires.rising
+    in drop-parts _ _ _ (g.S.ShownTree.digests c.args.shown.now) both _ _
+    (c.begins_with_elided_part.ensures.left c.if-not-begins_with_elided_part.false) (c.begins_with_elided_part-2.ensures.left holds)

@@ -1,18 +1,13 @@
-use Rattle.std.proofs.Common.{◌≡◌, ◌+◌, ◌-◌, ◌*◌, ◌≤◌, ℕ, List, [], ◌∷◌, length, take, drop, get_or, arith, sym, ◌∙◌, ap, ap₂, refl, Some, None, subst}
+use Rattle.std.proofs.Common.{◌≡◌, ◌+◌, ◌-◌, ◌^◌, ◌<◌, ◌≤◌, ℕ, List, [], ◌∷◌, length, get_or, arith, sym, ◌∙◌, ap, Some, None}
 use Rattle.std.specs.List.{All, slice_get}
-use Rattle.std.proofs.lemmas.List.{length-drop}
-use Rattle.std.proofs.lemmas.List.Elements.{All-drop}
 use Rattle.std.proofs.lemmas.Slice.Eq.{bytes_eq-Decides}
 use Rattle.ats_tree.specs.Shown.{Shown, first_leaf}
-use Rattle.ats_tree.specs.Kept.{elided_part}
 use Rattle.ats_tree.specs.Part.{RisesFrom, shown_from}
-use Rattle.ats_tree.specs.OwnShown.{IsOwnPart}
 use Rattle.ats_tree.proofs.Clashes.{first-fits}
 use Rattle.ats_tree.proofs.Parts.{IsCut, is_cut, rises_none, rises_past}
 use Rattle.ats_tree.proofs.Places.{All-from, rises-from, from-all}
-use Rattle.ats_tree.proofs.KeptLemmas.{HasSize}
-use Rattle.ats_tree.proofs.KeptElided.{all-from}
-use Rattle.ats_tree.proofs.OwnParts.{no, same-part, one-own, own-one, one-left, one-digests, none-own, own-none, none-digests, both-own, own-left, own-right, left-after, digests-after}
+use Rattle.ats_tree.proofs.KeptElided.{left-nodes, right-nodes}
+use Rattle.ats_tree.proofs.OwnParts.{no, one-own, one-left, one-digests, none-own, own-none, none-digests, own-left, own-parts, left-after, digests-after}
 use Rattle.ats_tree.proofs.comparing.+begins_with_part.Goals as goal
 use Rattle.ats_tree.proofs.comparing.+begins_with_part.Goals.{in_default-via-in-Some+else-at-from, in_default-via-in_default}
 
@@ -22,19 +17,15 @@ take_leaf-requires-clause-short g t c = first-fits (λ (leaf : List ℕ). length
 
 pub returns-then-n-eq1-clause-exact : goal.returns-then-n-eq1-clause-exact
 returns-then-n-eq1-clause-exact g t c =
-    let shown : List Shown = g.S.ShownTree.shown c.args.shown.now
-    in let leaves : List (List ℕ) = g.L.Leaves.items c.args.leaves.now
+    let leaves : List (List ℕ) = g.L.Leaves.items c.args.leaves.now
     in let tried = bytes_eq-Decides c.bytes.result.now c.bytes-then-n-eq1.result.now
-    in let theirs : c.bytes.result.now ≡ 0 ∷ first_leaf shown = c.bytes.ensures.value ∙ c.take_leaf.ensures.string
+    in let theirs : c.bytes.result.now ≡ 0 ∷ first_leaf (g.S.ShownTree.shown c.args.shown.now) = c.bytes.ensures.value ∙ c.take_leaf.ensures.string
     in let ours : c.bytes-then-n-eq1.result.now ≡ 0 ∷ get_or leaves c.args.from [] = c.bytes-then-n-eq1.ensures.value ∙ c.leaf_string.ensures
+    in let own = one-own leaves c.args.digests.now c.args.from c.args.n c.in-Some.at (g.S.ShownTree.shown c.args.shown.now) (g.S.ShownTree.digests c.args.shown.now)
+    c.if-n-eq1.true c.requires.rising (sym c.in-Some.ensures.first) c.if-at-from.true c.requires.within
     in (
-      λ holds. one-own leaves c.args.digests.now c.args.from c.args.n c.in-Some.at shown (g.S.ShownTree.digests c.args.shown.now)
-          c.if-n-eq1.true c.requires.rising (sym c.in-Some.ensures.first) c.if-at-from.true c.requires.within
-          (sym theirs ∙ tried.0 (sym c.eq.ensures ∙ holds) ∙ ours),
-      λ is. c.eq.ensures ∙ tried.1 (theirs
-          ∙ own-one leaves c.args.digests.now c.args.from c.args.n c.in-Some.at shown (g.S.ShownTree.digests c.args.shown.now)
-          c.if-n-eq1.true c.requires.rising (sym c.in-Some.ensures.first) c.if-at-from.true c.requires.within is
-          ∙ sym ours),
+      λ holds. own.0 (sym theirs ∙ tried.0 (sym c.eq.ensures ∙ holds) ∙ ours),
+      λ is. c.eq.ensures ∙ tried.1 (theirs ∙ own.1 is ∙ sym ours),
     )
 
 pub returns-then-n-eq1-clause-leaves_left : goal.returns-then-n-eq1-clause-leaves_left
@@ -52,135 +43,63 @@ returns-then-n-eq1-clause-digests_left g t c holds =
 -- what the left part asks for
 pub begins_with_part-requires : goal.begins_with_part-requires
 begins_with_part-requires g t c κs within =
-    let ds : List (List ℕ) = c.args.digests.now
-    in let k : ℕ = c.cut_of-k.result
-    in let some : 1 ≤ k = omega (arith, c.cut_of-k.ensures.below, c.cut_of-k.ensures.largest)
-    in let count : 2 * k ≤ length (drop 1 ds) + 1 = omega (arith, length-drop 1 ds, c.requires.nodes, c.cut_of-k.ensures.below)
-    in let Part : List (List ℕ) → Type 0 = λ part. (2 * k ≤ length part + 1) × All HasSize part
-    in let part : Part (take (length ds - 1) (drop 1 ds)) = subst Part (sym (all-from 1 ds)) (count, All-drop HasSize 1 ds c.requires.sized)
-    in (
-      omega arith,
-      (
-        within.0,
-        (within.1, (some, (part.0, (part.1, (omega arith, (omega arith, (c.requires.rising, (c.requires.short, omega arith)))))))),
-      ),
-    )
+    let some : 1 ≤ c.cut_of-k.result = omega (arith, c.cut_of-k.ensures.below, c.cut_of-k.ensures.largest)
+    in let part = left-nodes c.args.digests.now c.cut_of-k.result c.args.n c.cut_of-k.ensures.below (c.requires.nodes, c.requires.sized)
+    in (omega arith, (within.0, (within.1, (some, (part.0, (part.1, (omega arith, (omega arith, (c.requires.rising, (c.requires.short, omega arith))))))))))
 
 pub returns-then-not-begins_with_part-clause-exact : goal.returns-then-not-begins_with_part-clause-exact
 returns-then-not-begins_with_part-clause-exact g t c =
-    let shown : List Shown = g.S.ShownTree.shown c.args.shown.now
-    in let leaves : List (List ℕ) = g.L.Leaves.items c.args.leaves.now
-    in let digests : List (List ℕ) = g.S.ShownTree.digests c.args.shown.now
-    in let ds : List (List ℕ) = c.args.digests.now
-    in let k : ℕ = c.cut_of-k.result
-    in let some : 1 ≤ k = omega (arith, c.cut_of-k.ensures.below, c.cut_of-k.ensures.largest)
-    in let cut : IsCut c.args.from k c.args.n shown =
+    let cut : IsCut c.args.from c.cut_of-k.result c.args.n (g.S.ShownTree.shown c.args.shown.now) =
     is_cut _ _ _ c.in-Some.at _ c.cut_of-k.ensures.power c.cut_of-k.ensures.below c.cut_of-k.ensures.largest
     c.requires.rising (sym c.in-Some.ensures.first) c.if-at-from.true
     in (
       no,
       λ is. sym c.if-not-begins_with_part.true
-          ∙ c.begins_with_part.ensures.exact.1
-          (same-part leaves _ _ _ _ shown shown digests digests (sym (all-from 1 ds)) refl refl
-          (own-left leaves ds c.args.from c.args.n shown digests k cut some c.cut_of-k.ensures.below is)),
+          ∙ c.begins_with_part.ensures.exact.1 (own-left _ _ _ _ _ _ _ cut c.cut_of-k.ensures.below c.cut_of-k.ensures.largest is),
     )
 
 -- what the right part asks for
 pub begins_with_part-requires-in-Some : goal.begins_with_part-requires-in-Some
 begins_with_part-requires-in-Some g t c κs within =
-    let ds : List (List ℕ) = c.args.digests.now
-    in let k : ℕ = c.cut_of-k.result
+    let k : ℕ = c.cut_of-k.result
     in let left : g.S.ShownTree.shown c.begins_with_part.new.shown ≡ shown_from (c.args.from + k) (g.S.ShownTree.shown c.args.shown.now) =
     c.begins_with_part.ensures.leaves_left c.if-not-begins_with_part.false
-    in let count : 2 * (c.args.n - k) ≤ length (drop (2 * k) ds) + 1 =
-    omega (arith, length-drop (2 * k) ds, c.requires.nodes, c.cut_of-k.ensures.below)
-    in let Part : List (List ℕ) → Type 0 = λ part. (2 * (c.args.n - k) ≤ length part + 1) × All HasSize part
-    in let part : Part (take (length ds - 2 * k) (drop (2 * k) ds)) =
-    subst Part (sym (all-from (2 * k) ds)) (count, All-drop HasSize (2 * k) ds c.requires.sized)
+    in let part = right-nodes c.args.digests.now k c.args.n c.cut_of-k.ensures.below (c.requires.nodes, c.requires.sized)
     in let rises : RisesFrom (c.args.from + k) (g.S.ShownTree.shown c.begins_with_part.new.shown) =
     rw left (rises-from c.args.from (c.args.from + k) _ c.requires.rising)
     in let short : All (λ (s : Shown). length s.1 ≤ 127) (g.S.ShownTree.shown c.begins_with_part.new.shown) =
     rw left (All-from (λ (s : Shown). length s.1 ≤ 127) (c.args.from + k) _ c.requires.short)
-    in (
-      omega arith,
-      (
-        within.0,
-        (
-          within.1,
-          (omega arith, (part.0, (part.1, (omega arith, (omega arith, (rises, (short, omega (arith, c.begins_with_part.ensures.cost)))))))),
-        ),
-      ),
-    )
+    in let room : c.begins_with_part.new.steps + (c.args.n - k) < 2 ^ 64 = omega (arith, c.begins_with_part.ensures.cost, c.cut_of-k.ensures.below)
+    in (omega arith, (within.0, (within.1, (omega arith, (part.0, (part.1, (omega arith, (omega arith, (rises, (short, room))))))))))
 
 pub returns-else-not-begins_with_part-clause-exact : goal.returns-else-not-begins_with_part-clause-exact
 returns-else-not-begins_with_part-clause-exact g t c =
-    let shown : List Shown = g.S.ShownTree.shown c.args.shown.now
-    in let leaves : List (List ℕ) = g.L.Leaves.items c.args.leaves.now
-    in let digests : List (List ℕ) = g.S.ShownTree.digests c.args.shown.now
-    in let ds : List (List ℕ) = c.args.digests.now
-    in let k : ℕ = c.cut_of-k.result
-    in let some : 1 ≤ k = omega (arith, c.cut_of-k.ensures.below, c.cut_of-k.ensures.largest)
-    in let cut : IsCut c.args.from k c.args.n shown =
+    let cut : IsCut c.args.from c.cut_of-k.result c.args.n (g.S.ShownTree.shown c.args.shown.now) =
     is_cut _ _ _ c.in-Some.at _ c.cut_of-k.ensures.power c.cut_of-k.ensures.below c.cut_of-k.ensures.largest
     c.requires.rising (sym c.in-Some.ensures.first) c.if-at-from.true
-    in let after : List Shown = g.S.ShownTree.shown c.begins_with_part.new.shown
-    in let over : List (List ℕ) = g.S.ShownTree.digests c.begins_with_part.new.shown
-    in let left : after ≡ shown_from (c.args.from + k) shown = c.begins_with_part.ensures.leaves_left c.if-not-begins_with_part.false
-    in let over_is : over ≡ drop (length (elided_part (drop 1 ds) c.args.from k shown)) digests =
-    c.begins_with_part.ensures.digests_left c.if-not-begins_with_part.false
-    ∙ ap (λ (xs : List (List ℕ)). drop (length (elided_part xs c.args.from k shown)) digests) (all-from 1 ds)
-    in let first : IsOwnPart leaves (drop 1 ds) c.args.from k shown digests =
-    same-part leaves _ _ _ _ shown shown digests digests (all-from 1 ds) refl refl
-    (c.begins_with_part.ensures.exact.0 c.if-not-begins_with_part.false)
+    in let begins = c.if-not-begins_with_part.false
+    in let own = own-parts (g.L.Leaves.items c.args.leaves.now) c.args.digests.now c.args.from c.args.n _ (g.S.ShownTree.digests c.args.shown.now) c.cut_of-k.result cut
+    c.cut_of-k.ensures.below c.cut_of-k.ensures.largest _ _ (c.begins_with_part.ensures.leaves_left begins) (c.begins_with_part.ensures.digests_left begins)
+    (c.begins_with_part.ensures.exact.0 begins)
     in (
-      λ holds. both-own leaves ds c.args.from c.args.n shown digests k cut some c.cut_of-k.ensures.below first
-          (same-part leaves _ _ _ _ after _ over _ (all-from (2 * k) ds) left over_is (c.begins_with_part-in-Some.ensures.exact.0 holds)),
-      λ is. c.begins_with_part-in-Some.ensures.exact.1
-          (same-part leaves _ _ _ _ _ after _ over (sym (all-from (2 * k) ds)) (sym left) (sym over_is)
-          (own-right leaves ds c.args.from c.args.n shown digests k cut some c.cut_of-k.ensures.below is)),
+      λ holds. own.0 (c.begins_with_part-in-Some.ensures.exact.0 holds),
+      λ is. c.begins_with_part-in-Some.ensures.exact.1 (own.1 is),
     )
 
 pub returns-else-not-begins_with_part-clause-leaves_left : goal.returns-else-not-begins_with_part-clause-leaves_left
 returns-else-not-begins_with_part-clause-leaves_left g t c holds =
-    let shown : List Shown = g.S.ShownTree.shown c.args.shown.now
-    in let leaves : List (List ℕ) = g.L.Leaves.items c.args.leaves.now
-    in let digests : List (List ℕ) = g.S.ShownTree.digests c.args.shown.now
-    in let ds : List (List ℕ) = c.args.digests.now
-    in let k : ℕ = c.cut_of-k.result
-    in let some : 1 ≤ k = omega (arith, c.cut_of-k.ensures.below, c.cut_of-k.ensures.largest)
-    in let cut : IsCut c.args.from k c.args.n shown =
-    is_cut _ _ _ c.in-Some.at _ c.cut_of-k.ensures.power c.cut_of-k.ensures.below c.cut_of-k.ensures.largest
-    c.requires.rising (sym c.in-Some.ensures.first) c.if-at-from.true
-    in let after : List Shown = g.S.ShownTree.shown c.begins_with_part.new.shown
-    in let over : List (List ℕ) = g.S.ShownTree.digests c.begins_with_part.new.shown
-    in let left : after ≡ shown_from (c.args.from + k) shown = c.begins_with_part.ensures.leaves_left c.if-not-begins_with_part.false
-    in let over_is : over ≡ drop (length (elided_part (drop 1 ds) c.args.from k shown)) digests =
-    c.begins_with_part.ensures.digests_left c.if-not-begins_with_part.false
-    ∙ ap (λ (xs : List (List ℕ)). drop (length (elided_part xs c.args.from k shown)) digests) (all-from 1 ds)
-    in left-after leaves ds c.args.from c.args.n shown digests k cut some c.cut_of-k.ensures.below after _ left
-    (c.begins_with_part-in-Some.ensures.leaves_left holds)
+    left-after c.args.from c.cut_of-k.result c.args.n (g.S.ShownTree.shown c.args.shown.now) _ _ c.cut_of-k.ensures.below
+    (c.begins_with_part.ensures.leaves_left c.if-not-begins_with_part.false) (c.begins_with_part-in-Some.ensures.leaves_left holds)
 
 pub returns-else-not-begins_with_part-clause-digests_left : goal.returns-else-not-begins_with_part-clause-digests_left
 returns-else-not-begins_with_part-clause-digests_left g t c holds =
-    let shown : List Shown = g.S.ShownTree.shown c.args.shown.now
-    in let leaves : List (List ℕ) = g.L.Leaves.items c.args.leaves.now
-    in let digests : List (List ℕ) = g.S.ShownTree.digests c.args.shown.now
-    in let ds : List (List ℕ) = c.args.digests.now
-    in let k : ℕ = c.cut_of-k.result
-    in let some : 1 ≤ k = omega (arith, c.cut_of-k.ensures.below, c.cut_of-k.ensures.largest)
-    in let cut : IsCut c.args.from k c.args.n shown =
+    let cut : IsCut c.args.from c.cut_of-k.result c.args.n (g.S.ShownTree.shown c.args.shown.now) =
     is_cut _ _ _ c.in-Some.at _ c.cut_of-k.ensures.power c.cut_of-k.ensures.below c.cut_of-k.ensures.largest
     c.requires.rising (sym c.in-Some.ensures.first) c.if-at-from.true
-    in let after : List Shown = g.S.ShownTree.shown c.begins_with_part.new.shown
-    in let over : List (List ℕ) = g.S.ShownTree.digests c.begins_with_part.new.shown
-    in let left : after ≡ shown_from (c.args.from + k) shown = c.begins_with_part.ensures.leaves_left c.if-not-begins_with_part.false
-    in let over_is : over ≡ drop (length (elided_part (drop 1 ds) c.args.from k shown)) digests =
-    c.begins_with_part.ensures.digests_left c.if-not-begins_with_part.false
-    ∙ ap (λ (xs : List (List ℕ)). drop (length (elided_part xs c.args.from k shown)) digests) (all-from 1 ds)
-    in let right : List (List ℕ) → List Shown → List (List ℕ) = λ xs ss. elided_part xs (c.args.from + k) (c.args.n - k) ss
-    in digests-after leaves ds c.args.from c.args.n shown digests k cut some c.cut_of-k.ensures.below over _ over_is
-    (c.begins_with_part-in-Some.ensures.digests_left holds
-    ∙ ap₂ (λ (xs : List (List ℕ)) (ss : List Shown). drop (length (right xs ss)) over) (all-from (2 * k) ds) left)
+    in let begins = c.if-not-begins_with_part.false
+    in digests-after (g.L.Leaves.items c.args.leaves.now) c.args.digests.now c.args.from c.args.n _ (g.S.ShownTree.digests c.args.shown.now) c.cut_of-k.result cut
+    c.cut_of-k.ensures.below c.cut_of-k.ensures.largest _ _ _ (c.begins_with_part.ensures.leaves_left begins) (c.begins_with_part.ensures.digests_left begins)
+    (c.begins_with_part-in-Some.ensures.digests_left holds)
 
 -- no leaf among the places
 pub returns-in-Some-take_digest-clause-exact : goal.returns-in-Some-take_digest-clause-exact
