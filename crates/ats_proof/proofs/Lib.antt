@@ -7,7 +7,6 @@ mod Tables
 mod Taking
 mod Sections
 mod Cutting
-mod Items
 mod Whole
 mod Answering
 mod Beginning

@@ -12,7 +12,7 @@ use Rattle.ats_proof.proofs.InRange.{in_range}
 use Rattle.ats_proof.proofs.Runs.{length-parts}
 use Rattle.ats_proof.proofs.Taking.{total_fixed}
 
-module _ (view : Inside) (placed : IsPlaced view.bytes.now view.tra view.begun view.ended view.docs view.items) where
+module _ (view : Inside) (placed : IsPlaced view.bytes.now view.tra view.begun view.ended view.docs) where
   pub ids_start : drop (view.begun.met_at + 4) view.bytes.now ≡ drop 4 (drop (met_place view.bytes.now) view.bytes.now)
   ids_start = ap (λ (n : ℕ). drop (n + 4) view.bytes.now) placed.first.met_at ∙ sym (drop-drop 4 (met_place view.bytes.now) view.bytes.now)
 
@@ -35,12 +35,12 @@ tra_alone true bytes some = refl
 tra_alone false bytes some = absurd (some refl)
 
 -- a view of a proof that shows documents knows it
-pub knows_documents : (view : Inside) (placed : IsPlaced view.bytes.now view.tra view.begun view.ended view.docs view.items) (proof : Proof)
+pub knows_documents : (view : Inside) (placed : IsPlaced view.bytes.now view.tra view.begun view.ended view.docs) (proof : Proof)
     → proof_in view.bytes.now ≡ proof → proof.docs ≢ None → view.tra ≡ true
 knows_documents view placed proof same some =
     tra_alone view.tra view.bytes.now (λ none. some (ap (λ (p : Proof). p.docs) (sym same) ∙ ap (λ (t : Bool). documents_in t view.bytes.now) (sym placed.same) ∙ none))
 
-module _ (view : Inside) (placed : IsPlaced view.bytes.now view.tra view.begun view.ended view.docs view.items) (tra : view.tra ≡ true) where
+module _ (view : Inside) (placed : IsPlaced view.bytes.now view.tra view.begun view.ended view.docs) (tra : view.tra ≡ true) where
   is_true : is_tra view.bytes.now ≡ true
   is_true = sym placed.same ∙ tra
 

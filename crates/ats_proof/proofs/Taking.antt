@@ -1,7 +1,6 @@
 -- Taking parts from the front of a run, and reading one of a run of one size.
 use Rattle.std.proofs.Common.{◌≡◌, ◌∙◌, ℕ, zero, suc, ◌+◌, ◌-◌, ◌*◌, ◌<◌, ◌≤◌, List, ◌∷◌, length, drop, slice_get, slice_index, Some, zero-mul, sym, ap, subst, arith}
-use Rattle.std.specs.List.{All, AllByRecursion, sum_by}
-use Rattle.std.proofs.lemmas.List.Sums.{sum_by-cons}
+use Rattle.std.specs.List.{All, AllByRecursion}
 use Rattle.std.specs.List.Sorted.{IsStrictlyIncreasing}
 use Rattle.std.proofs.lemmas.List.{drop-drop, length-take-le, length-drop}
 use Rattle.std.proofs.lemmas.List.Elements.{All-from_recursion}
@@ -72,19 +71,4 @@ along_more size count bytes left rest some is =
     record {
       fits = rest_fits size left rest some is.fits;
       same = omega (arith, is.same, is.fits, e, length-drop (size rest) rest);
-    }
-
--- the items of the parts passed are no more than their bytes
-pub record AreCounted {X : Type 0} (size : List ℕ → ℕ) (read : List ℕ → X) (items_of : X → ℕ) (count : ℕ) (bytes : List ℕ) (left : ℕ) (rest : List ℕ) (items : ℕ) : Type 0 where
-  pub sum : items + sum_by items_of (parts_in size read left rest) ≡ sum_by items_of (parts_in size read count bytes)
-  pub few : items + length rest ≤ length bytes
-
-pub counted_more : {X : Type 0} (size : List ℕ → ℕ) (read : List ℕ → X) (items_of : X → ℕ) (count : ℕ) (bytes : List ℕ) (left : ℕ) (rest : List ℕ) (items more : ℕ) → 0 < left
-    → size rest ≤ length rest → more ≡ items_of (read rest) → more ≤ size rest
-    → AreCounted size read items_of count bytes left rest items → AreCounted size read items_of count bytes (left - 1) (drop (size rest) rest) (items + more)
-counted_more size read items_of count bytes left rest items more some room same few is =
-    let e = ap (sum_by items_of) (parts_more size read left rest some) ∙ sum_by-cons items_of (read rest) (parts_in size read (left - 1) (drop (size rest) rest)) in
-    record {
-      sum = omega (arith, is.sum, e, same);
-      few = omega (arith, is.few, room, few, length-drop (size rest) rest);
     }

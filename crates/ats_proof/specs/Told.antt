@@ -3,8 +3,8 @@ use Rattle.std.specs.Prelude.{◌≡◌, ◌≤◌, ◌+◌, ◌^◌, ℕ, Bool,
 use Rattle.ats_proof.specs.declared.places.Begun.{Begun}
 use Rattle.ats_proof.specs.declared.places.Ended.{Ended}
 use Rattle.ats_proof.specs.Parts.{counted_size}
-use Rattle.ats_proof.specs.Value.{IsProof, items_of, items_of_documents, present_in}
-use Rattle.ats_proof.specs.Reading.{id_size, is_tra, terms_in, slots_in, met_in, dict_digests_place, slots_place, met_place, lists_place, docs_place, doc_digests_place, sections_place, answer_place, documents_in, proof_in}
+use Rattle.ats_proof.specs.Value.{IsProof, present_in}
+use Rattle.ats_proof.specs.Reading.{id_size, is_tra, terms_in, slots_in, met_in, dict_digests_place, slots_place, met_place, lists_place, docs_place, doc_digests_place, sections_place, answer_place, proof_in}
 
 -- the bytes have room for their parts
 pub record HasRoom (bytes : List ℕ) : Type 0 where
@@ -22,19 +22,17 @@ pub record IsBegun (bytes : List ℕ) (begun : Begun) : Type 0 where
   pub met : begun.met ≡ met_in bytes
   pub lists : begun.lists ≡ lists_place bytes
 
--- the places of the documents and the answer, and how many items the documents have
+-- the places of the documents and the answer
 pub record IsEnded (bytes : List ℕ) (tra : Bool) (ended : Ended) : Type 0 where
   pub doc_digests : tra ≡ true → ended.doc_digests ≡ doc_digests_place bytes
   pub sections : tra ≡ true → ended.sections ≡ sections_place bytes
   pub answer : ended.answer ≡ answer_place tra bytes
-  pub items : ended.items ≡ items_of_documents (documents_in tra bytes)
 
 -- all of these, of bytes that spell a proof
-pub record IsPlaced (bytes : List ℕ) (tra : Bool) (begun : Begun) (ended : Ended) (docs : ℕ) (items : ℕ) : Type 0 where
+pub record IsPlaced (bytes : List ℕ) (tra : Bool) (begun : Begun) (ended : Ended) (docs : ℕ) : Type 0 where
   pub room : HasRoom bytes
   pub same : tra ≡ is_tra bytes
   pub first : IsBegun bytes begun
   pub rest : IsEnded bytes tra ended
   pub docs_at : docs ≡ docs_place bytes
-  pub counted : items ≡ items_of (proof_in bytes)
   pub spelled : IsProof bytes (proof_in bytes)

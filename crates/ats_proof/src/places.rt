@@ -8,7 +8,7 @@ use crate::bytes::{number_2, number_4};
 use crate::record::{DICT_BACK_BYTES, FRONT_BYTES};
 use crate::sizes::{
     counted_digests_size_2, counted_digests_size_4, counted_leaves_size, present_count,
-    sections_sum,
+    sections_size,
 };
 use ats_doctree::DOC_LEAF_BYTES;
 
@@ -26,13 +26,12 @@ pub(crate) struct Begun {
     pub(crate) lists: usize,
 }
 
-/// The parts after the prefixes, and how many items the documents have.
+/// The parts after the prefixes.
 #[derive(Clone, Copy)]
 pub(crate) struct Ended {
     pub(crate) doc_digests: usize,
     pub(crate) sections: usize,
     pub(crate) answer: usize,
-    pub(crate) items: u64,
 }
 
 // Where the digests of the dictionary begin.
@@ -88,10 +87,9 @@ impl Begun {
 }
 
 impl Ended {
-    ghost use Rattle.ats_proof.specs.Reading.{is_tra, docs_place, documents_in, met_in, slots_in};
+    ghost use Rattle.ats_proof.specs.Reading.{is_tra, docs_place, met_in, slots_in};
     ghost use Rattle.ats_proof.specs.Told.{IsEnded};
-    ghost use Rattle.ats_proof.specs.Value.{items_of_documents, present_in};
-    ghost use Rattle.std.specs.Prelude.{false};
+    ghost use Rattle.ats_proof.specs.Value.{present_in};
 
     // The parts after the prefixes if documents are shown.
     fn of_tra(bytes: &[u8], docs: usize, met: u32, present: u32) -> Ended
@@ -100,18 +98,14 @@ impl Ended {
         requires met { met ≡ met_in bytes.now }
         requires present { present ≡ present_in (slots_in bytes.now) }
         requires room { answer_place true bytes.now ≤ length bytes.now }
-        ensures ended { IsEnded bytes.now true result }
-        ensures few { result.items ≤ 2 ^ 34 }
+        ensures { IsEnded bytes.now true result }
     {
         let doc_digests = docs + met as usize * DOC_LEAF_BYTES;
-        let digests = bytes.split_at(doc_digests).1;
         let sections = sections_at(bytes, doc_digests);
-        let sum = sections_sum(present, met, bytes.split_at(sections).1);
         Ended {
             doc_digests,
             sections,
-            answer: sections + sum.size,
-            items: u64::from(met) + u64::from(number_4(digests)) + sum.items,
+            answer: sections + sections_size(present, met, bytes.split_at(sections).1),
         }
     }
 
@@ -122,8 +116,7 @@ impl Ended {
         requires docs { docs ≡ docs_place bytes.now }
         requires met { met ≡ met_in bytes.now }
         requires present { present ≡ present_in (slots_in bytes.now) }
-        ensures ended { IsEnded bytes.now tra result }
-        ensures few { result.items ≤ 2 ^ 34 }
+        ensures { IsEnded bytes.now tra result }
     {
         if tra {
             return Ended::of_tra(bytes, docs, met, present);
@@ -132,7 +125,6 @@ impl Ended {
             doc_digests: docs,
             sections: docs,
             answer: docs,
-            items: 0,
         }
     }
 }

@@ -8,10 +8,9 @@ ghost use Rattle.ats_proof.specs.Reading.{proof_in};
 ghost use Rattle.ats_proof.specs.Told.{HasRoom};
 ghost use Rattle.ats_proof.specs.Value.{IsProof};
 
-use crate::bytes::{number_1, number_2};
+use crate::bytes::number_1;
 use crate::places::{Begun, Ended};
-use crate::record::FRONT_BYTES;
-use crate::sizes::lists_sum;
+use crate::sizes::lists_size;
 use crate::view::ProofView;
 use ats_grammar::{ShapeFault, scan};
 
@@ -33,25 +32,14 @@ impl<'a> ProofView<'a> {
         are_a_proof(bytes);
         let tra = number_1(bytes.split_at(5).1) == 1;
         let begun = Begun::of(bytes);
-        let lists = lists_sum(begun.present, bytes.split_at(begun.lists).1);
-        let docs = begun.lists + lists.size;
+        let docs = begun.lists + lists_size(begun.present, bytes.split_at(begun.lists).1);
         let ended = Ended::of(bytes, tra, docs, begun.met, begun.present);
-        let dict = u64::from(number_2(bytes.split_at(FRONT_BYTES).1));
-        let digests = u64::from(number_2(bytes.split_at(begun.dict_digests).1));
-        let rows = u64::from(number_2(bytes.split_at(ended.answer).1));
         ProofView {
             bytes,
             tra,
             begun,
             docs,
             ended,
-            items: dict
-                + digests
-                + u64::from(begun.terms)
-                + u64::from(begun.met)
-                + lists.items
-                + ended.items
-                + rows,
         }
     }
 

@@ -1,20 +1,13 @@
-//! How many bytes and items the sections have whose parts have sizes of their own.
+//! How many bytes the sections have whose parts have sizes of their own.
 
-ghost use Rattle.std.specs.Prelude.{◌≡◌, ◌≤◌, ◌<◌, ◌+◌, ◌*◌, ◌^◌, length, sum_by};
-ghost use Rattle.ats_proof.specs.Parts.{total_size, parts_in, counted_size, number_in};
-ghost use Rattle.ats_proof.specs.Value.{items_of_prefix, items_of_section, kind_of_slot, present_in};
-ghost use Rattle.ats_proof.specs.Reading.{leaf_size, prefix_size, prefix_in, section_size, section_in, slot_size, slot_in, digest_size, posting_size};
+ghost use Rattle.std.specs.Prelude.{◌≡◌, ◌≤◌, ◌+◌, ◌*◌, length};
+ghost use Rattle.ats_proof.specs.Parts.{total_size, parts_in, counted_size};
+ghost use Rattle.ats_proof.specs.Value.{kind_of_slot, present_in};
+ghost use Rattle.ats_proof.specs.Reading.{leaf_size, prefix_size, section_size, slot_size, slot_in, digest_size, posting_size};
 
 use crate::bytes::{number_1, number_2, number_4};
 use crate::leaves::cut_leaf;
 use crate::record::ENTRY_BYTES;
-
-/// How many bytes and items some parts have.
-#[derive(Clone, Copy)]
-pub(crate) struct Sum {
-    pub(crate) size: usize,
-    pub(crate) items: u64,
-}
 
 // How many bytes `count` leaves have, each with `behind` bytes after its term.
 fn leaves_size(count: u32, behind: usize, bytes: &[u8]) -> usize
@@ -90,82 +83,52 @@ fn counted_postings_size(bytes: &[u8]) -> usize
     4 + number_4(bytes) as usize * ENTRY_BYTES
 }
 
-// How many bytes and items a prefix has.
-fn list_sum(bytes: &[u8]) -> Sum
-    requires few { length bytes.now ≤ 2 ^ 26 }
-    requires fits { prefix_size bytes.now ≤ length bytes.now }
-    ensures size { result.size ≡ prefix_size bytes.now }
-    ensures items { result.items ≡ items_of_prefix (prefix_in bytes.now) }
+// How many bytes a prefix has.
+fn list_size(bytes: &[u8]) -> usize
+    requires { prefix_size bytes.now ≤ length bytes.now }
+    ensures { result ≡ prefix_size bytes.now }
 {
     let entries = counted_postings_size(bytes);
     let (_, digests) = bytes.split_at(entries);
-    Sum {
-        size: entries + counted_digests_size_2(digests),
-        items: u64::from(number_4(bytes)) + u64::from(number_2(digests)),
-    }
+    entries + counted_digests_size_2(digests)
 }
 
-/// How many bytes and items `count` prefixes have.
-pub(crate) fn lists_sum(count: u32, bytes: &[u8]) -> Sum
-    requires few { length bytes.now ≤ 2 ^ 26 }
-    requires fits { total_size prefix_size count bytes.now ≤ length bytes.now }
-    ensures size { result.size ≡ total_size prefix_size count bytes.now }
-    ensures items { result.items ≡ sum_by items_of_prefix (parts_in prefix_size prefix_in count bytes.now) }
-    ensures few { result.items ≤ 2 ^ 26 }
+/// How many bytes `count` prefixes have.
+pub(crate) fn lists_size(count: u32, bytes: &[u8]) -> usize
+    requires { total_size prefix_size count bytes.now ≤ length bytes.now }
+    ensures { result ≡ total_size prefix_size count bytes.now }
 {
     let mut left = count;
     let mut rest = bytes;
-    let mut items = 0;
     'lists: while left > 0 {
-        let list = list_sum(rest);
-        items += list.items;
-        let (_, after) = rest.split_at(list.size);
+        let (_, after) = rest.split_at(list_size(rest));
         rest = after;
         left -= 1;
     }
-    Sum {
-        size: bytes.len() - rest.len(),
-        items,
-    }
+    bytes.len() - rest.len()
 }
 
-// How many bytes and items a terms section has, with `present` slots.
-fn section_sum(present: u32, bytes: &[u8]) -> Sum
-    requires few { length bytes.now ≤ 2 ^ 26 }
-    requires fits { section_size present bytes.now ≤ length bytes.now }
-    ensures size { result.size ≡ section_size present bytes.now }
-    ensures items { result.items ≡ items_of_section (section_in present bytes.now) }
+// How many bytes a terms section has, with `present` slots.
+fn section_size(present: u32, bytes: &[u8]) -> usize
+    requires { section_size present bytes.now ≤ length bytes.now }
+    ensures { result ≡ section_size present bytes.now }
 {
     let leaves = counted_leaves_size(2, bytes);
     let (_, digests) = bytes.split_at(leaves);
-    let slots = leaves + counted_digests_size_2(digests);
-    Sum {
-        size: slots + present as usize * 3,
-        items: u64::from(number_2(bytes)) + u64::from(number_2(digests)) + u64::from(present),
-    }
+    leaves + counted_digests_size_2(digests) + present as usize * 3
 }
 
-/// How many bytes and items `count` terms sections have.
-pub(crate) fn sections_sum(present: u32, count: u32, bytes: &[u8]) -> Sum
-    requires few { length bytes.now ≤ 2 ^ 26 }
-    requires fits { total_size (section_size present) count bytes.now ≤ length bytes.now }
-    ensures size { result.size ≡ total_size (section_size present) count bytes.now }
-    ensures items { result.items
-        ≡ sum_by items_of_section (parts_in (section_size present) (section_in present) count bytes.now) }
-    ensures few { result.items ≤ 2 ^ 26 }
+/// How many bytes `count` terms sections have.
+pub(crate) fn sections_size(present: u32, count: u32, bytes: &[u8]) -> usize
+    requires { total_size (section_size present) count bytes.now ≤ length bytes.now }
+    ensures { result ≡ total_size (section_size present) count bytes.now }
 {
     let mut left = count;
     let mut rest = bytes;
-    let mut items = 0;
     'sections: while left > 0 {
-        let section = section_sum(present, rest);
-        items += section.items;
-        let (_, after) = rest.split_at(section.size);
+        let (_, after) = rest.split_at(section_size(present, rest));
         rest = after;
         left -= 1;
     }
-    Sum {
-        size: bytes.len() - rest.len(),
-        items,
-    }
+    bytes.len() - rest.len()
 }

@@ -25,7 +25,6 @@ pub struct ProofView<'a> {
     pub(crate) begun: Begun,
     pub(crate) docs: usize,
     pub(crate) ended: Ended,
-    pub(crate) items: u64,
 }
 
 impl<'a> Model for ProofView<'a> {
@@ -37,12 +36,12 @@ impl<'a> Model for ProofView<'a> {
 
     ghost view = { λ v. proof_in v.bytes.now };
 
-    ghost invariant = { λ v. IsPlaced v.bytes.now v.tra v.begun v.ended v.docs v.items };
+    ghost invariant = { λ v. IsPlaced v.bytes.now v.tra v.begun v.ended v.docs };
 }
 
 impl<'a> ProofView<'a> {
     ghost use Rattle.std.specs.Prelude.{None, true, false};
-    ghost use Rattle.ats_proof.specs.Value.{IsProof, IsSpelled, algorithm_of, items_of, present_in};
+    ghost use Rattle.ats_proof.specs.Value.{IsProof, IsSpelled, algorithm_of, present_in};
     ghost use Rattle.ats_proof.specs.Ranges.{IsInRange};
     ghost use Rattle.ats_proof.specs.Runs.{shown_entry};
     ghost use Rattle.ats_proof.specs.Seen.{entries_of, digests_of, leaves_of};
@@ -146,13 +145,6 @@ impl<'a> ProofView<'a> {
         steps.tick();
         let rows = self.bytes.split_at(self.ended.answer + 2).1;
         number_4(nth(rows, self.answers(), 4, i))
-    }
-
-    /// The number of digests, leaves, slots, met ids, entries and rows.
-    pub fn items(&self) -> u64
-        ensures { result ≡ items_of self.now }
-    {
-        self.items
     }
 
     /// The dictionary section.
