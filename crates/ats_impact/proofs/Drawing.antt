@@ -2,7 +2,7 @@
 use Rattle.std.proofs.Common.{◌≡◌, ◌≢◌, ◌<◌, ◌≤◌, ◌+◌, ◌*◌, ◌/◌, ◌%◌, ◌++◌, ℕ, zero, suc, List, [], ◌∷◌, codes, decimal, length, refl, sym, ◌∙◌, ap, ap₂, arith, add-zero, add-suc, append-nil, append_assoc}
 use Rattle.std.specs.List.{All, flat_map, join_by, range_with_len}
 use Rattle.std.proofs.lemmas.Fmt.{length-decimal-le}
-use Rattle.std.proofs.lemmas.List.{length-append}
+use Rattle.std.proofs.lemmas.List.{length-append, map-id}
 use Rattle.std.proofs.lemmas.List.Sums.{sum_by-le}
 use Rattle.std.proofs.lemmas.Grind.{flat_map-append}
 use Rattle.std.proofs.lemmas.List.FromFn.{get_or-map-range_with_len, length-map-range_with_len, map-range_with_len_more}
@@ -41,13 +41,9 @@ word-from : (x j i : ℕ) → word (number_at x (2 * j)) i ≡ word x (j + i)
 word-from x j i = rw (word_number-from x j i) refl
 
 range_more : (a n : ℕ) → range_with_len a (n + 1) ≡ range_with_len a n ++ (a + n) ∷ []
-range_more a zero = ap (λ k. k ∷ []) (sym (add-zero a))
-range_more a (suc n) =
-    let longer : suc n + 1 ≡ suc (suc n) = omega arith in
-    let shorter : suc n ≡ n + 1 = omega arith in
-    let last : (a + 1) + n ≡ a + suc n = omega arith in
-    ap (range_with_len a) longer
-    ∙ ap (λ ks. a ∷ ks) (ap (range_with_len (a + 1)) shorter ∙ range_more (a + 1) n ∙ ap (λ k. range_with_len (a + 1) n ++ k ∷ []) last)
+range_more a n =
+    sym (map-id (range_with_len a (n + 1))) ∙ map-range_with_len_more (λ (k : ℕ). k) a n (a + n) refl
+    ∙ ap (λ ks. ks ++ (a + n) ∷ []) (map-id (range_with_len a n))
 
 pub joined_none : (x j : ℕ) → joined_words x j 0 ≡ []
 unfolding joined_words

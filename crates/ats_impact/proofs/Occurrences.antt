@@ -33,12 +33,6 @@ counted_one query found term i k rises same inside is within = elim (cases_eq k 
       rw (get_or-set_other found i k (get_or found i 0 + 1) 0 other, not_so) (omega arith)
 ]
 
--- the occurrences in one term more
-pub occurs_more : (term : List ℕ) (all : List (List ℕ)) (i : ℕ) (next : List ℕ) → i < length all → next ≡ get_or all i next
-    → occurrences term (take (i + 1) all) ≡ occurrences term (take i all) + cond (bytes_eq term next) 1 0
-occurs_more term all i next inside is =
-    rw (← is) at (sum_by_more (λ x. cond (bytes_eq term x) 1 0) all i next inside)
-
 pub occurs_few : (term : List ℕ) (all : List (List ℕ)) → occurrences term all ≤ length all
 occurs_few term all = count_by-le-length (bytes_eq term) all
 
@@ -51,11 +45,6 @@ counted_all query found all same each =
     (λ k d inside.
     get_or_default found k d 0 inside ∙ each k (omega arith)
     ∙ sym (get_or-map (λ (pair : List ℕ × ℕ). occurrences pair.0 all) query k ([], 0) d (omega arith)))
-
--- a row of the table, and a place of it
-pub row_at : (query : List (List ℕ × ℕ)) (texts : List (List ℕ)) (i : ℕ) (row : List ℕ) → i < length texts → row ≡ get_or (map (counts query) texts) i row
-    → row ≡ counts query (get_or texts i [])
-row_at query texts i row inside is = is ∙ get_or-map (counts query) texts i [] row inside
 
 pub count_at : (query : List (List ℕ × ℕ)) (text : List ℕ) (k : ℕ) → k < length query → get_or (counts query text) k 0 ≡ count (term_at query k) text
 count_at query text k inside = get_or-map (λ (pair : List ℕ × ℕ). count pair.0 text) query k ([], 0) 0 inside
@@ -90,6 +79,3 @@ pub made_more : {X Y : Type 0} (f : X → Y) (xs : List X) (i : ℕ) (d : X) (ma
     → y ≡ f (get_or xs i d) → made ++ y ∷ [] ≡ map f (take (i + 1) xs)
 made_more f xs i d made y inside so_far is =
     ap₂ (λ m z. m ++ z ∷ []) so_far is ∙ sym (ap (map f) (take_more xs i d inside) ∙ map-append f (take i xs) (get_or xs i d ∷ []))
-
-pub made_all : {X Y : Type 0} (f : X → Y) (xs : List X) (i : ℕ) (made : List Y) → length xs ≤ i → made ≡ map f (take i xs) → made ≡ map f xs
-made_all f xs i made all so_far = so_far ∙ ap (map f) (take_all i xs all)
