@@ -12,6 +12,9 @@ use crate::state::{DictPart, DocsPart, FrontPart, ListPart, MetPart, Part, State
 
 const MAGIC: u32 = 0x4154_5350;
 
+/// The most documents. It is a limit of the format, so the crate names it itself.
+pub(crate) const MAX_DOCUMENTS: u32 = 65_536;
+
 impl State {
     /// Before the first field.
     pub(crate) fn start() -> State
@@ -54,7 +57,7 @@ impl State {
             FrontPart::Version => Next::number(1, 1, 2, ShapeKind::Version),
             FrontPart::Algorithm => Next::number(1, 1, 2, ShapeKind::Algorithm),
             FrontPart::HeaderVersion => Next::number(1, 1, 1, ShapeKind::Version),
-            FrontPart::Documents => Next::count(4, 1, 65_536),
+            FrontPart::Documents => Next::count(4, 1, MAX_DOCUMENTS),
             FrontPart::DictLeaves => Next::count(4, 2, 16777218),
             FrontPart::DictRoot | FrontPart::DocsRoot | FrontPart::TextsRoot => Next::bytes(32),
             FrontPart::Terms => Next::count(2, 1, 32),
@@ -81,7 +84,7 @@ impl State {
         match part {
             MetPart::SlotKind => Next::count(1, 0, 1),
             MetPart::SlotIndex => Next::index(self.low),
-            MetPart::MetCount => Next::count(4, 0, 65_536),
+            MetPart::MetCount => Next::count(4, 0, MAX_DOCUMENTS),
             MetPart::MetId => Next::rising(self.low),
         }
     }
@@ -90,7 +93,7 @@ impl State {
         ensures { IsNext (in_list part self.now) result }
     {
         match part {
-            ListPart::EntryCount => Next::count(4, 1, 65_536),
+            ListPart::EntryCount => Next::count(4, 1, MAX_DOCUMENTS),
             ListPart::MetIndex => Next::any_4(),
             ListPart::Impact | ListPart::DigestCount => Next::any_2(),
             ListPart::Digest => Next::bytes(32),
@@ -102,7 +105,7 @@ impl State {
     {
         match part {
             DocsPart::LeafTerms | DocsPart::Row => Next::any_4(),
-            DocsPart::DigestCount => Next::count(4, 0, 65_536),
+            DocsPart::DigestCount => Next::count(4, 0, MAX_DOCUMENTS),
             DocsPart::TermsRoot | DocsPart::Digest => Next::bytes(32),
             DocsPart::RowCount => Next::count(2, 0, 1000),
             DocsPart::End => Next::End,

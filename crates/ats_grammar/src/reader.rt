@@ -7,6 +7,7 @@ ghost use Rattle.ats_grammar.specs.Grammar.{digests, header};
 ghost use Rattle.ats_grammar.specs.Front.{Spells, IsLong};
 ghost use Rattle.ats_grammar.specs.Reading.{IsTaken, IsRefused};
 
+use crate::coming::MAX_DOCUMENTS;
 use crate::fault::{ShapeFault, ShapeKind};
 use crate::next::Next;
 use crate::reading::{are_bytes, take};
@@ -156,7 +157,7 @@ impl<'a> Reader<'a> {
     {
         let mut reader = *self;
         reader.number(1, 1, 1, ShapeKind::Version)?;
-        reader.number(4, 1, 65_536, ShapeKind::Count)?;
+        reader.number(4, 1, MAX_DOCUMENTS, ShapeKind::Count)?;
         reader.number(4, 2, 16_777_218, ShapeKind::Count)?;
         reader.digests(3)?;
         let (header, _) = self.rest.split_at(HEADER_BYTES);
