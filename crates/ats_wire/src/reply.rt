@@ -16,7 +16,8 @@ pub enum Reply {
     Code(u8),
 }
 
-/// Answers requests. It has one relation between questions and replies, and its calls keep it.
+/// Answers requests. It has one relation between questions and replies. The relation may depend on what the answerer
+/// holds, so each call keeps it, in both directions.
 pub trait Answerer {
     ghost gives: { Self → Question → Reply → Type 0 };
 
