@@ -17,7 +17,7 @@ use Rattle.ats_wire.specs.Feeding.{IsFed, IsAskedFed, SaysFed}
 use Rattle.ats_wire.specs.declared.asking.AskFault.{AskFault}
 use Rattle.ats_wire.specs.declared.asking.AskFault.TheVariants.{ShortReply, LongReply, BadReply, PeerRefused, ReadFault, WriteFault, OutOfMemory}
 use Rattle.ats_wire.specs.declared.feeding.Fed.{Fed}
-use Rattle.ats_wire.proofs.Replying.{asked, rest_fault}
+use Rattle.ats_wire.proofs.Replying.{asked, rest_said}
 use Rattle.ats_wire.proofs.Moved.{moves_then, moves_idle}
 
 -- a fault of a front of the bytes is theirs, if it is not a missing byte
@@ -43,9 +43,7 @@ read_said before mid now n (Ok fed) good head (bytes, long, moved, is) =
     let whole : start ++ bytes ≡ framed (0 ∷ bytes) = append_assoc (to_be_bytes w32 n) (0 ∷ []) bytes
     ∙ ap (λ (m : ℕ). to_be_bytes w32 m ++ 0 ∷ bytes) (omega (arith, long, good.0)) in
     (start ++ bytes, moves_idle before now (start ++ bytes) [] (moves_then before mid now start [] bytes [] 0 head moved), (bytes, (whole, omega (arith, long, good.1)), is))
-read_said before mid now n (Err fault) good head (came, moved, fails) =
-    let start = to_be_bytes w32 n ++ 0 ∷ [] in
-    (start ++ came, moves_then before mid now start [] came [] 1 head moved, rest_fault now n 0 came fault good (inl refl) fails)
+read_said before mid now n (Err fault) good head failed = rest_said before mid now n 0 fault (good, inl refl, head) failed
 
 pub proof_said : (before mid now : LinkTold) (n kind : ℕ) (result : Result Fed AskFault) → kind ≡ 0 → IsReplyLength n → Moves before mid (to_be_bytes w32 n ++ kind ∷ []) [] 0 false
     → IfOk result (λ fed. (bytes : List ℕ) × (length bytes ≡ n - 1) × Moves mid now bytes [] 0 false × IsFed fed bytes)

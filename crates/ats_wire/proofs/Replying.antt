@@ -5,7 +5,7 @@ use Rattle.std.proofs.lemmas.Bool.{cases_lt}
 use Rattle.ats_base.specs.Links.{LinkTold}
 use Rattle.ats_wire.specs.Requests.{Question, framed}
 use Rattle.ats_wire.specs.Moving.{Moves}
-use Rattle.ats_wire.specs.Asking.{is_broken, IsReplyLength, IsKind, IsBegun, ReplyFault, RestFault, Says, Exchanges, IsAsked, request_frame}
+use Rattle.ats_wire.specs.Asking.{breaks_link, is_broken, IsReplyLength, IsKind, IsBegun, ReplyFault, RestFault, Says, Exchanges, IsAsked, request_frame}
 use Rattle.ats_wire.specs.declared.asking.AskFault.{AskFault}
 use Rattle.ats_wire.specs.declared.asking.AskFault.TheVariants.{ShortReply, LongReply, BadReply, PeerRefused, ReadFault, WriteFault, OutOfMemory}
 use Rattle.ats_wire.proofs.Moved.{moves_then}
@@ -54,7 +54,7 @@ begun_or_whole n kind came good is few = elim (cases_lt (length came) (n - 1)) [
 ]
 
 -- a fault after a head is that fault of the reply
-pub rest_fault : (now : LinkTold) (n kind : ℕ) (came : List ℕ) (fault : AskFault)
+rest_fault : (now : LinkTold) (n kind : ℕ) (came : List ℕ) (fault : AskFault)
     → IsReplyLength n → IsKind n kind → RestFault now (n - 1) came fault
     → ReplyFault now ((to_be_bytes w32 n ++ kind ∷ []) ++ came) fault
 rest_fault now n kind came (ShortReply got wanted) good is (short, got_is, wanted_is, end) =
@@ -69,6 +69,14 @@ rest_fault now n kind came (PeerRefused code) good is fails = absurd fails
 rest_fault now n kind came ReadFault good is short = (n + 4, begun n kind came good is short)
 rest_fault now n kind came WriteFault good is fails = absurd fails
 rest_fault now n kind came OutOfMemory good is few = begun_or_whole n kind came good is few
+
+-- the head was read, and then a fault came
+pub rest_said : (before mid now : LinkTold) (n kind : ℕ) (fault : AskFault) → IsReplyLength n × IsKind n kind × Moves before mid (to_be_bytes w32 n ++ kind ∷ []) [] 0 false
+    → (came : List ℕ) × Moves mid now came [] 1 (breaks_link fault) × RestFault now (n - 1) came fault
+    → (read : List ℕ) × Moves before now read [] 1 (breaks_link fault) × ReplyFault now read fault
+rest_said before mid now n kind fault (good, is, head) (came, moved, fails) =
+    let start = to_be_bytes w32 n ++ kind ∷ [] in
+    (start ++ came, moves_then before mid now start [] came [] 1 head moved, rest_fault now n kind came fault good is fails)
 
 exchanged : (frame : List ℕ) (now : LinkTold) (read : List ℕ) (result : Result (List ℕ) AskFault)
     → Says now read result → Exchanges frame now read frame result

@@ -1,6 +1,6 @@
 //! Asks one question over a link.
 
-ghost use Rattle.std.specs.Prelude.{◌≡◌, ◌≤◌, ◌+◌, ◌^◌, ◌++◌, ◌∷◌, [], ℕ, List, length, IfOk, IfErr, OnOk, IsTrue, ◌↔◌, false, Err};
+ghost use Rattle.std.specs.Prelude.{◌≡◌, ◌≤◌, ◌<◌, ◌+◌, ◌^◌, ◌++◌, ◌∷◌, [], ℕ, List, length, take, IfOk, IfErr, OnOk, IsTrue, ◌↔◌, false, Err};
 ghost use Rattle.std.specs.Int.{to_be_bytes, w32};
 ghost use Rattle.ats_wire.specs.Requests.{framed, request_body};
 ghost use Rattle.ats_wire.specs.Moving.{Moves};
@@ -19,7 +19,7 @@ use std::alloc::Global;
 const MAX_REPLY: u32 = (1 << 26) + 1;
 
 // The bytes of a reply before its proof or code: its length and its kind.
-pub(crate) const HEAD: u64 = 5;
+const HEAD: u64 = 5;
 
 // How many bytes of a reply are read at a time.
 pub(crate) const PIECE: usize = 1 << 13;
@@ -115,6 +115,32 @@ pub(crate) fn read_head<L: Link>(link: &mut L) -> Result<(u32, u8), AskFault>
     Ok((length, kind))
 }
 
+// Reads a piece of the `size` bytes after a reply's head, of which `done` were read. Returns how many bytes it has.
+pub(crate) fn read_piece<L: Link>(
+    link: &mut L,
+    piece: &mut [u8],
+    done: usize,
+    size: u32,
+) -> Result<usize, AskFault>
+    requires some { done < size }
+    requires room { 1 ≤ length piece.old }
+    ensures ok { IfOk result (λ n. (1 ≤ n) × (n ≤ length piece.new) × (done + n ≤ size)
+        × Moves (L.told link.old) (L.told link.new) (take n piece.new) [] 0 false) }
+    ensures err { IfErr result (λ fault. (came : List ℕ) × Moves (L.told link.old) (L.told link.new) came [] 1 (breaks_link fault)
+        × ((front : List ℕ) → length front ≡ done
+        → RestFault (L.told link.new) size (front ++ came) fault)) }
+{
+    let room = (size as usize - done).min(piece.len());
+    match fill(link, &mut piece[..room]) {
+        Filling::Whole => Ok(room),
+        Filling::Ended(came) => Err(AskFault::ShortReply {
+            got: (done + came) as u64 + HEAD,
+            wanted: u64::from(size) + HEAD,
+        }),
+        Filling::Broken => Err(AskFault::ReadFault),
+    }
+}
+
 // The `size` bytes after a reply's head. Memory grows as they arrive, so a peer that announces many and sends few costs
 // little.
 pub(crate) fn read_rest<L: Link>(alloc: Global, link: &mut L, size: u32) -> Result<Bytes, AskFault>
@@ -125,17 +151,7 @@ pub(crate) fn read_rest<L: Link>(alloc: Global, link: &mut L, size: u32) -> Resu
     let mut bytes = Bytes::new(alloc);
     let mut piece = [0; PIECE];
     'pieces: while bytes.len() < size as usize {
-        let room = (size as usize - bytes.len()).min(PIECE);
-        match fill(link, &mut piece[..room]) {
-            Filling::Whole => {}
-            Filling::Ended(came) => {
-                return Err(AskFault::ShortReply {
-                    got: (bytes.len() + came) as u64 + HEAD,
-                    wanted: size as u64 + HEAD,
-                });
-            }
-            Filling::Broken => return Err(AskFault::ReadFault),
-        }
+        let room = read_piece(link, &mut piece, bytes.len(), size)?;
         if bytes.extend(&piece[..room]).is_err() {
             return Err(AskFault::OutOfMemory);
         }

@@ -5,8 +5,7 @@ ghost use Rattle.ats_wire.specs.Moving.{Moves};
 ghost use Rattle.ats_wire.specs.Asking.{RestFault, breaks_link, is_broken};
 ghost use Rattle.ats_wire.specs.Feeding.{IsFed, IsAskedFed, SaysFed};
 
-use crate::asking::{AskFault, HEAD, PIECE, read_head, read_rest, send_request};
-use crate::receiving::{Filling, fill};
+use crate::asking::{AskFault, PIECE, read_head, read_piece, read_rest, send_request};
 use ats_base::{Bytes, Link};
 use ats_grammar::{Feeder, ShapeFault};
 use ats_impact::Top;
@@ -34,18 +33,7 @@ fn pass_rest<L: Link>(link: &mut L, size: u32, read: u32) -> Result<(), AskFault
     let mut done = read;
     let mut piece = [0; PIECE];
     'pieces: while done < size {
-        let room = ((size - done) as usize).min(PIECE);
-        match fill(link, &mut piece[..room]) {
-            Filling::Whole => {}
-            Filling::Ended(came) => {
-                return Err(AskFault::ShortReply {
-                    got: u64::from(done) + came as u64 + HEAD,
-                    wanted: u64::from(size) + HEAD,
-                });
-            }
-            Filling::Broken => return Err(AskFault::ReadFault),
-        }
-        done += room as u32;
+        done += read_piece(link, &mut piece, done as usize, size)? as u32;
     }
     Ok(())
 }
@@ -64,17 +52,7 @@ fn read_proof<L: Link>(alloc: Global, link: &mut L, size: u32) -> Result<Fed, As
     let mut bytes = Bytes::new(alloc);
     let mut piece = [0; PIECE];
     'pieces: while bytes.len() < size as usize {
-        let room = (size as usize - bytes.len()).min(PIECE);
-        match fill(link, &mut piece[..room]) {
-            Filling::Whole => {}
-            Filling::Ended(came) => {
-                return Err(AskFault::ShortReply {
-                    got: (bytes.len() + came) as u64 + HEAD,
-                    wanted: u64::from(size) + HEAD,
-                });
-            }
-            Filling::Broken => return Err(AskFault::ReadFault),
-        }
+        let room = read_piece(link, &mut piece, bytes.len(), size)?;
         if let Err(fault) = feeder.feed(&piece[..room]) {
             let read = (bytes.len() + room) as u32;
             return match pass_rest(link, size, read) {

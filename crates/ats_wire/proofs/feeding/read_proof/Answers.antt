@@ -1,6 +1,6 @@
-use Rattle.std.proofs.Common.{false, ◌≡◌, ◌≤◌, ◌-◌, ◌++◌, ◌∙◌, ℕ, List, [], length, take, drop, arith, length-append}
-use Rattle.std.proofs.lemmas.Grind.{common_steps}
-use Rattle.std.proofs.lemmas.List.{length-take-le, take_at}
+use Rattle.std.proofs.Common.{false, ◌≡◌, ◌≤◌, ◌-◌, ◌++◌, ◌∙◌, ℕ, List, [], length, take, drop, sym, arith, length-append}
+use Rattle.std.proofs.lemmas.List.{length-take-le}
+use Rattle.std.proofs.lemmas.Result.{err_from_is_err_and}
 use Rattle.ats_wire.proofs.Moved.{moves_then, moves_none, moves_idle}
 use Rattle.ats_wire.proofs.PiecesRead.{bad_stays, extended}
 use Rattle.ats_wire.proofs.feeding.read_proof.Goals as goal
@@ -15,40 +15,25 @@ pieces-init g c = rw c.new-bytes.ensures (record {
   stands = c.in-Ok.ensures.none.1;
 })
 
-pub returns-in-Ended-clause-err : goal.returns-in-Ended-clause-err
-returns-in-Ended-clause-err g c =
-    let bytes : List ℕ = c.pieces.bytes in
-    let buf : List ℕ = c.fill.new.buf in
-    let filled = c.in-Ended.ensures.fills in
-    let room : length buf ≤ c.args.size - length bytes = grind (arith, common_steps, c.fill.auto.buf, c.min-room.ensures, c.len-in-pieces.ensures) in
-    let came_is = length-take-le c.in-Ended.came buf (omega (arith, filled.0)) in
-    let long = length-append bytes (take c.in-Ended.came buf) in (
-      bytes ++ take c.in-Ended.came buf,
-      moves_then (g.L.Link.told c.args.link.now) (g.L.Link.told c.pieces.link) (g.L.Link.told c.fill.new.link) bytes [] (take c.in-Ended.came buf) [] 1 c.pieces.invariant.moved filled.2,
-      (omega (arith, long, came_is, room, filled.0), omega (arith, long, came_is, c.len-in-Ended.ensures), omega (arith, c.from-in-Ended.ensures), filled.1),
-    )
-
-pub returns-in-Broken-clause-err : goal.returns-in-Broken-clause-err
-returns-in-Broken-clause-err g c =
-    let bytes : List ℕ = c.pieces.bytes in
-    let buf : List ℕ = c.fill.new.buf in
-    let filled = c.in-Broken.ensures.fills in
-    let room : length buf ≤ c.args.size - length bytes = grind (arith, common_steps, c.fill.auto.buf, c.min-room.ensures, c.len-in-pieces.ensures) in
-    let came_is = length-take-le filled.0 buf (omega (arith, filled.1)) in
-    let long = length-append bytes (take filled.0 buf) in (
-      bytes ++ take filled.0 buf,
-      moves_then (g.L.Link.told c.args.link.now) (g.L.Link.told c.pieces.link) (g.L.Link.told c.fill.new.link) bytes [] (take filled.0 buf) [] 1 c.pieces.invariant.moved filled.2,
-      omega (arith, long, came_is, room, filled.1),
+pub returns-in_err-room-clause-err : goal.returns-in_err-room-clause-err
+returns-in_err-room-clause-err g c =
+    let failed = c.in_err-room.ensures.err in
+    let told = err_from_is_err_and c.from_residual.result c.from_residual.ensures.1 in
+    rw (told.1, told.2) (
+      c.pieces.bytes ++ failed.0,
+      moves_then (g.L.Link.told c.args.link.now) (g.L.Link.told c.pieces.link) (g.L.Link.told c.read_piece.new.link) c.pieces.bytes [] failed.0 [] 1 c.pieces.invariant.moved failed.1,
+      failed.2 c.pieces.bytes (sym c.len-in-pieces.ensures),
     )
 
 pub returns-in-Err-clause-ok : goal.returns-in-Err-clause-ok
 returns-in-Err-clause-ok g c =
     let bytes : List ℕ = c.pieces.bytes in
-    let buf : List ℕ = c.fill.new.buf in
+    let read = c.in_ok-room.ensures.ok in
+    let buf : List ℕ = take c.in_ok-room.room c.read_piece.new.piece in
     let before = g.L.Link.told c.args.link.now in
-    let mid = g.L.Link.told c.fill.new.link in
-    let room : length buf ≡ c.min-room.result = grind (arith, common_steps, c.fill.auto.buf) in
-    let bad = rw (take_at buf (drop c.min-room.result c.pieces.piece) c.min-room.result room) at (c.in-Err.ensures.refused bytes c.pieces.invariant.stands) in
+    let mid = g.L.Link.told c.read_piece.new.link in
+    let room : length buf ≡ c.in_ok-room.room = length-take-le c.in_ok-room.room c.read_piece.new.piece read.1 in
+    let bad = c.in-Err.ensures.refused bytes c.pieces.invariant.stands in
     let long = length-append bytes buf in
     elim c.match-pass_rest.branch [
       | in-Ok-pass_rest w ↦
@@ -58,7 +43,7 @@ returns-in-Err-clause-ok g c =
             (bytes ++ buf) ++ rest.0,
             omega (arith, all, long, room, rest.1, c.len-in-Err.ensures),
             moves_then before mid (g.L.Link.told c.pass_rest.new.link) (bytes ++ buf) [] rest.0 [] 0
-                (moves_then before (g.L.Link.told c.pieces.link) mid bytes [] buf [] 0 c.pieces.invariant.moved c.in-Whole.ensures.fills) rest.2,
+                (moves_then before (g.L.Link.told c.pieces.link) mid bytes [] buf [] 0 c.pieces.invariant.moved read.3) rest.2,
             bad_stays (bytes ++ buf) rest.0 c.in-Err.fault bad.0 bad.1 (omega (arith, all, long, room, rest.1, c.len-in-Err.ensures, c.requires)),
           )
       | in-Err-pass_rest w ↦ rw w.result-is tt
@@ -67,12 +52,13 @@ returns-in-Err-clause-ok g c =
 pub returns-in-Err-clause-err : goal.returns-in-Err-clause-err
 returns-in-Err-clause-err g c =
     let bytes : List ℕ = c.pieces.bytes in
-    let buf : List ℕ = c.fill.new.buf in
+    let read = c.in_ok-room.ensures.ok in
+    let buf : List ℕ = take c.in_ok-room.room c.read_piece.new.piece in
     let before = g.L.Link.told c.args.link.now in
-    let mid = g.L.Link.told c.fill.new.link in
+    let mid = g.L.Link.told c.read_piece.new.link in
     let now = g.L.Link.told c.pass_rest.new.link in
-    let room : length buf ≡ c.min-room.result = grind (arith, common_steps, c.fill.auto.buf) in
-    let first = moves_then before (g.L.Link.told c.pieces.link) mid bytes [] buf [] 0 c.pieces.invariant.moved c.in-Whole.ensures.fills in
+    let room : length buf ≡ c.in_ok-room.room = length-take-le c.in_ok-room.room c.read_piece.new.piece read.1 in
+    let first = moves_then before (g.L.Link.told c.pieces.link) mid bytes [] buf [] 0 c.pieces.invariant.moved read.3 in
     elim c.match-pass_rest.branch [
       | in-Ok-pass_rest w ↦ rw w.result-is tt
       | in-Err-pass_rest w ↦
@@ -87,28 +73,28 @@ returns-in-Err-clause-err g c =
 pub returns-then-is_err-clause-err : goal.returns-then-is_err-clause-err
 returns-then-is_err-clause-err g c =
     let bytes : List ℕ = c.pieces.bytes in
-    let buf : List ℕ = c.fill.new.buf in
-    let room : length buf ≤ c.args.size - length bytes = grind (arith, common_steps, c.fill.auto.buf, c.min-room.ensures, c.len-in-pieces.ensures) in (
+    let read = c.in_ok-room.ensures.ok in
+    let buf : List ℕ = take c.in_ok-room.room c.read_piece.new.piece in
+    let room : length buf ≡ c.in_ok-room.room = length-take-le c.in_ok-room.room c.read_piece.new.piece read.1 in (
       bytes ++ buf,
-      moves_idle _ _ _ _ (moves_then (g.L.Link.told c.args.link.now) (g.L.Link.told c.pieces.link) (g.L.Link.told c.fill.new.link) bytes [] buf [] 0
-          c.pieces.invariant.moved c.in-Whole.ensures.fills),
-      omega (arith, length-append bytes buf, room, c.pieces.invariant.few),
+      moves_idle _ _ _ _ (moves_then (g.L.Link.told c.args.link.now) (g.L.Link.told c.pieces.link) (g.L.Link.told c.read_piece.new.link) bytes [] buf [] 0
+          c.pieces.invariant.moved read.3),
+      omega (arith, length-append bytes buf, room, read.2),
     )
 
 pub pieces-preserved : goal.pieces-preserved
 pieces-preserved g c =
     let bytes : List ℕ = c.pieces.bytes in
-    let buf : List ℕ = c.fill.new.buf in
-    let room : length buf ≡ c.min-room.result = grind (arith, common_steps, c.fill.auto.buf) in
-    let within : c.min-room.result ≤ c.args.size - length bytes = grind (arith, common_steps, c.min-room.ensures, c.len-in-pieces.ensures) in
-    let same = take_at buf (drop c.min-room.result c.pieces.piece) c.min-room.result room in
+    let read = c.in_ok-room.ensures.ok in
+    let buf : List ℕ = take c.in_ok-room.room c.read_piece.new.piece in
+    let room : length buf ≡ c.in_ok-room.room = length-take-le c.in_ok-room.room c.read_piece.new.piece read.1 in
     let long = length-append bytes buf in
-    let more = rw same at c.feed.ensures.more in
-    let kept : c.extend.new.self ≡ bytes ++ buf = rw same at (extended c.extend.result c.is_err.result c.extend.new.self _ _ c.is_err.ensures.value c.if-is_err.false c.extend.ensures) in
+    let more = c.feed.ensures.more in
+    let kept : c.extend.new.self ≡ bytes ++ buf = extended c.extend.result c.is_err.result c.extend.new.self _ _ c.is_err.ensures.value c.if-is_err.false c.extend.ensures in
     rw kept (record {
-      few = omega (arith, long, room, within, c.pieces.invariant.few);
-      moved = moves_then (g.L.Link.told c.args.link.now) (g.L.Link.told c.pieces.link) (g.L.Link.told c.fill.new.link) bytes [] buf [] 0 c.pieces.invariant.moved c.in-Whole.ensures.fills;
+      few = omega (arith, long, room, read.2);
+      moved = moves_then (g.L.Link.told c.args.link.now) (g.L.Link.told c.pieces.link) (g.L.Link.told c.read_piece.new.link) bytes [] buf [] 0 c.pieces.invariant.moved read.3;
       all = more.0 ∙ c.pieces.invariant.all;
       fed = omega (arith, long, more.1, c.pieces.invariant.fed);
-      stands = rw same at (c.feed.ensures.stands bytes c.pieces.invariant.stands);
+      stands = c.feed.ensures.stands bytes c.pieces.invariant.stands;
     })
