@@ -1,5 +1,5 @@
 -- A proof that is read while it arrives.
-use Rattle.std.proofs.Common.{true, ◌≡◌, ◌≢◌, ℕ, ◌+◌, ◌-◌, ◌≤◌, ◌^◌, List, [], ◌∷◌, ◌++◌, ◌∙◌, length, refl, sym, ap, subst, Bool, false, append_assoc, arith, inl, inr, Result, Ok, Err}
+use Rattle.std.proofs.Common.{◌≡◌, ◌≢◌, ℕ, ◌+◌, ◌-◌, ◌≤◌, ◌^◌, List, [], ◌∷◌, ◌++◌, ◌∙◌, length, refl, sym, ap, subst, Bool, false, append_assoc, arith, inl, inr, Result, Ok, Err}
 use Rattle.std.specs.Prelude.{IfOk, IfErr, if◌then◌else◌}
 use Rattle.std.specs.Result.{is_ok, is_err}
 use Rattle.std.proofs.lemmas.Bool.{true≢false}
@@ -15,7 +15,6 @@ use Rattle.ats_wire.specs.Requests.{Question, framed}
 use Rattle.ats_wire.specs.Asking.{request_frame, breaks_link, is_broken, IsReplyLength, RestFault}
 use Rattle.ats_wire.specs.Feeding.{IsFed, IsAskedFed, SaysFed}
 use Rattle.ats_wire.specs.declared.asking.AskFault.{AskFault}
-use Rattle.ats_wire.specs.declared.asking.AskFault.TheVariants.{ShortReply, LongReply, BadReply, PeerRefused, ReadFault, WriteFault, OutOfMemory}
 use Rattle.ats_wire.specs.declared.feeding.Fed.{Fed}
 use Rattle.ats_wire.proofs.Replying.{asked, rest_said}
 use Rattle.ats_wire.proofs.Moved.{moves_then, moves_idle}

@@ -1,5 +1,5 @@
 -- A connection, turn after turn.
-use Rattle.std.proofs.Common.{◌≡◌, ◌≤◌, ◌<◌, ◌+◌, ◌∙◌, ◌++◌, ◌∷◌, ◌↔◌, inl, inr, ℕ, true, false, List, [], length, take, refl, sym, subst, ap, arith, append-nil, length-append, Result, Ok, Err, OnOk, OnErr}
+use Rattle.std.proofs.Common.{◌≡◌, ◌<◌, ◌+◌, ◌∙◌, ◌++◌, ◌∷◌, ◌↔◌, inl, inr, ℕ, true, false, List, [], length, take, refl, sym, subst, ap, arith, append-nil, length-append, Result, Ok, Err, OnOk, OnErr}
 use Rattle.std.specs.Prelude.{is_err}
 use Rattle.std.specs.List.{All}
 use Rattle.std.proofs.lemmas.Grind.{flat_map-append}

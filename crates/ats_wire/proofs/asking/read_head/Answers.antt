@@ -1,4 +1,4 @@
-use Rattle.std.proofs.Common.{false, ◌≡◌, ◌+◌, ◌∙◌, ◌++◌, ◌∷◌, inl, inr, ℕ, List, [], get_or, take, refl, ap, arith}
+use Rattle.std.proofs.Common.{◌≡◌, ◌+◌, ◌∙◌, ◌++◌, ◌∷◌, inl, inr, ℕ, List, [], get_or, take, refl, ap, arith}
 use Rattle.std.specs.Int.{to_be_bytes, w32}
 use Rattle.std.proofs.lemmas.List.{length-take-le}
 use Rattle.ats_wire.specs.Asking.{IsReplyLength}

@@ -1,4 +1,4 @@
-use Rattle.std.proofs.Common.{◌++◌, ℕ, List, [], length, take, sym, arith, length-append}
+use Rattle.std.proofs.Common.{◌++◌, ℕ, List, [], take, sym, arith, length-append}
 use Rattle.std.proofs.lemmas.List.{length-take-le}
 use Rattle.std.proofs.lemmas.Result.{err_from_is_err_and}
 use Rattle.ats_wire.proofs.Moved.{moves_then, moves_none, moves_idle}

@@ -1,4 +1,4 @@
-use Rattle.std.proofs.Common.{◌++◌, ℕ, List, [], length, take, arith, append_assoc, length-append, subst}
+use Rattle.std.proofs.Common.{◌++◌, ℕ, List, [], take, arith, append_assoc, length-append, subst}
 use Rattle.std.proofs.lemmas.List.{length-take-le}
 use Rattle.std.proofs.lemmas.Result.{err_from_is_err_and}
 use Rattle.ats_wire.specs.Asking.{RestFault}

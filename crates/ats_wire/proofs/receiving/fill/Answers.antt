@@ -1,4 +1,4 @@
-use Rattle.std.proofs.Common.{false, arith}
+use Rattle.std.proofs.Common.{arith}
 use Rattle.std.proofs.lemmas.Grind.{common_steps}
 use Rattle.ats_wire.proofs.Moved.{took_mid, moves_then, moves_read}
 use Rattle.ats_wire.proofs.receiving.fill.Goals as goal

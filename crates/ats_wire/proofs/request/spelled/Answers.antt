@@ -1,4 +1,4 @@
-use Rattle.std.proofs.Common.{false, subst, ◌≡◌, ◌<◌, ◌-◌, ◌∙◌, ℕ, List, get_or, length, drop, ap, sym, subst, arith}
+use Rattle.std.proofs.Common.{subst, ◌≡◌, ◌<◌, ◌-◌, ◌∙◌, ℕ, List, get_or, length, drop, ap, sym, subst, arith}
 use Rattle.std.specs.Str.{IsUtf8}
 use Rattle.byteorder.specs.Endian.{big_number}
 use Rattle.ats_wire.specs.Requests.{request_body, algorithm_byte}

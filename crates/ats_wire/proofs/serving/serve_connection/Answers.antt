@@ -1,4 +1,4 @@
-use Rattle.std.proofs.Common.{false, true, ◌≡◌, ◌∙◌, ℕ, List, [], length, take, sym, arith, length-take-le}
+use Rattle.std.proofs.Common.{◌≡◌, ◌∙◌, ℕ, List, [], length, take, sym, arith, length-take-le}
 use Rattle.ats_wire.proofs.Moved.{moves_then}
 use Rattle.ats_wire.proofs.Turns.{err_part, ok_part, answers_same, ends_reading, one_more, cut_turn}
 use Rattle.std.proofs.Common.{subst}
