@@ -1,5 +1,5 @@
 -- The runs of equal terms in a list in byte order.
-use Rattle.std.proofs.Common.{◌≡◌, ◌≢◌, ◌<◌, ◌≤◌, ◌+◌, ◌-◌, ℕ, suc, List, [], ◌∷◌, ◌++◌, length, get_or, take, set, map, fold, false, inl, inr, refl, sym, ap, ap₂, subst, ◌∙◌, arith, length-append, length-take, sum_by, zero-add}
+use Rattle.std.proofs.Common.{◌≡◌, ◌≢◌, ◌<◌, ◌≤◌, ◌+◌, ◌-◌, ℕ, List, [], ◌∷◌, ◌++◌, length, get_or, take, set, map, false, inl, inr, refl, sym, ap, ap₂, subst, ◌∙◌, arith, length-append, length-take, sum_by, zero-add}
 use Rattle.std.specs.List.{All, zip}
 use Rattle.std.proofs.lemmas.Bool.{cases_lt}
 use Rattle.std.specs.List.Sorted.{IsSorted}
