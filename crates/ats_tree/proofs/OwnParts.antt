@@ -231,7 +231,13 @@ one-digests leaves nodes from n at (s ∷ rest) ds one rises first low within =
 -- ---- the whole
 
 module _ (H : List ℕ → List ℕ) (leaves nodes : List (List ℕ)) (n : ℕ) (shown : List Shown) (ds : List (List ℕ))
-    (kept : nodes ≡ kept_digests H leaves) (some : 1 ≤ length leaves) (number : length leaves ≡ n) where
+    (kept : nodes ≡ kept_digests H leaves) (m : ℕ) (counted : m / 2 + 1 ≡ length leaves) (same : m / 2 + 1 ≡ n) where
+  some : 1 ≤ length leaves
+  some = omega (arith, counted)
+
+  number : length leaves ≡ n
+  number = sym counted ∙ same
+
   abbrev needs : List (List ℕ)
   needs = elided_part nodes 0 n shown
 
@@ -248,7 +254,7 @@ module _ (H : List ℕ → List ℕ) (leaves nodes : List (List ℕ)) (n : ℕ) 
   own-whole is none over =
       let before : All (IsBefore (0 + n)) shown = all-before (0 + n) shown none
       in record {
-        some = omega arith;
+        some = omega (arith, counted, same);
         number = number;
         own = λ i d inside. is.own i d inside (before i d inside);
         needed = sym (take-append-drop (length needs) ds) ∙ ap₂ ◌++◌ is.needed over ∙ append-nil needs ∙ needs-is;
@@ -256,10 +262,10 @@ module _ (H : List ℕ → List ℕ) (leaves nodes : List (List ℕ)) (n : ℕ) 
 
   pub whole-own : IsOwnShown H leaves n shown ds → IsOwnPart leaves nodes 0 n shown ds
   whole-own is =
-      let same : ds ≡ needs = is.needed ∙ sym needs-is
+      let equal : ds ≡ needs = is.needed ∙ sym needs-is
       in record {
         own = λ i d inside low. is.own i d inside;
-        needed = ap (take (length needs)) same ∙ take-length needs;
+        needed = ap (take (length needs)) equal ∙ take-length needs;
       }
 
   pub whole-leaves : IsOwnShown H leaves n shown ds → shown_from (0 + n) shown ≡ []
@@ -267,8 +273,8 @@ module _ (H : List ℕ → List ℕ) (leaves nodes : List (List ℕ)) (n : ℕ) 
 
   pub whole-digests : IsOwnShown H leaves n shown ds → drop (length needs) ds ≡ []
   whole-digests is =
-      let same : ds ≡ needs = is.needed ∙ sym needs-is
-      in ap (drop (length needs)) same ∙ drop-length needs
+      let equal : ds ≡ needs = is.needed ∙ sym needs-is
+      in ap (drop (length needs)) equal ∙ drop-length needs
     where
       drop-length : (xs : List (List ℕ)) → drop (length xs) xs ≡ []
       drop-length [] = refl

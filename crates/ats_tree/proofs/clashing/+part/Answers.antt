@@ -1,5 +1,9 @@
-use Rattle.std.proofs.Common.{rules, arith, sym, ◌+◌}
+use Rattle.std.proofs.Common.{◌*◌, ◌-◌, ◌^◌, ◌<◌, ◌≤◌, length, rules, arith, sym, ◌+◌}
 use Rattle.ats_tree.specs.Shown.{Shown}
+use Rattle.std.specs.List.{All}
+use Rattle.ats_tree.specs.Tree.{tree_of}
+use Rattle.ats_tree.specs.Shown.{places}
+use Rattle.ats_tree.specs.Rebuild.{need}
 use Rattle.ats_tree.specs.Part.{RisesFrom}
 use Rattle.ats_tree.proofs.Parts.{IsCut, is_cut, need-cut, node-part, leaf-part, bare-part, bare-short, rises_none, rises_past}
 use Rattle.ats_tree.proofs.Places.{All-from, rises-from}
@@ -41,31 +45,11 @@ part-left-requires g t c κs within =
     let cut : IsCut c.args.from c.cut_of-k.result c.args.n (g.F.Feed.leaves c.args.feed.now) =
     is_cut _ _ _ c.in-Some.at _ c.cut_of-k.ensures.power c.cut_of-k.ensures.below c.cut_of-k.ensures.largest
     c.requires.rising (sym c.in-Some.ensures.first) c.if-at-from.true
-    in (
-      omega arith,
-      (
-        search rules,
-        (
-          search rules,
-          (
-            search rules,
-            (
-              search rules,
-              (
-                omega arith,
-                (
-                  omega arith,
-                  (
-                    left-placed c.args.n c.cut_of-k.result c.args.depth c.args.turns c.requires.placed c.cut_of-k.ensures.power c.cut_of-k.ensures.below c.cut_of-k.ensures.largest,
-                    (c.requires.rising, (omega (arith, need-cut _ _ _ _ cut, c.requires.enough), (c.requires.fit, omega (arith, c.requires.room)))),
-                  ),
-                ),
-              ),
-            ),
-          ),
-        ),
-      ),
-    )
+    in let placed = left-placed c.args.n c.cut_of-k.result c.args.depth c.args.turns c.requires.placed c.cut_of-k.ensures.power c.cut_of-k.ensures.below c.cut_of-k.ensures.largest
+    in let enough : need (tree_of (places c.args.from c.cut_of-k.result (g.F.Feed.leaves c.args.feed.now))) ≤ length (g.F.Feed.others c.args.feed.now) =
+    omega (arith, need-cut _ _ _ _ cut, c.requires.enough)
+    in let more : c.args.steps.now + 5 * c.cut_of-k.result < 2 ^ 64 = omega (arith, c.requires.room, c.cut_of-k.ensures.below)
+    in (omega arith, (search rules, (search rules, (search rules, (search rules, (omega arith, (omega arith, (placed, (c.requires.rising, (enough, (c.requires.fit, more)))))))))))
 
 pub part-right-requires : goal.part-right-requires
 part-right-requires g t c κs within =
@@ -73,40 +57,15 @@ part-right-requires g t c κs within =
     is_cut _ _ _ c.in-Some.at _ c.cut_of-k.ensures.power c.cut_of-k.ensures.below c.cut_of-k.ensures.largest
     c.requires.rising (sym c.in-Some.ensures.first) c.if-at-from.true
     in let left = c.part-left.ensures.whole
+    in let placed = right-placed c.args.n c.cut_of-k.result c.args.depth c.args.turns c.requires.placed c.cut_of-k.ensures.power c.cut_of-k.ensures.below c.cut_of-k.ensures.largest
     in let rises : RisesFrom (c.args.from + c.cut_of-k.result) (g.F.Feed.leaves c.part-left.new.feed) =
     rw left.leaves_left (rises-from c.args.from (c.args.from + c.cut_of-k.result) _ c.requires.rising)
-    in (
-      omega arith,
-      (
-        search rules,
-        (
-          search rules,
-          (
-            search rules,
-            (
-              search rules,
-              (
-                omega arith,
-                (
-                  omega arith,
-                  (
-                    right-placed c.args.n c.cut_of-k.result c.args.depth c.args.turns c.requires.placed c.cut_of-k.ensures.power c.cut_of-k.ensures.below c.cut_of-k.ensures.largest,
-                    (
-                      rises,
-                      (
-                        right-enough g.H.HashKind.hash c.args.from c.cut_of-k.result c.args.n (g.F.Feed.leaves c.args.feed.now) (g.F.Feed.leaves c.part-left.new.feed) (g.F.Feed.others c.args.feed.now)
-                            (g.F.Feed.others c.part-left.new.feed) c.part-left.result.digest cut left c.requires.enough,
-                        (rw left.leaves_left (All-from (λ (s : Shown). g.S.Preimage.fits s.1) (c.args.from + c.cut_of-k.result) _ c.requires.fit), omega (arith, c.part-left.ensures.cost, c.requires.room)),
-                      ),
-                    ),
-                  ),
-                ),
-              ),
-            ),
-          ),
-        ),
-      ),
-    )
+    in let enough = right-enough g.H.HashKind.hash c.args.from c.cut_of-k.result c.args.n (g.F.Feed.leaves c.args.feed.now) (g.F.Feed.leaves c.part-left.new.feed)
+    (g.F.Feed.others c.args.feed.now) (g.F.Feed.others c.part-left.new.feed) c.part-left.result.digest cut left c.requires.enough
+    in let fit : All (λ (s : Shown). g.S.Preimage.fits s.1) (g.F.Feed.leaves c.part-left.new.feed) =
+    rw left.leaves_left (All-from (λ (s : Shown). g.S.Preimage.fits s.1) (c.args.from + c.cut_of-k.result) _ c.requires.fit)
+    in let more : c.part-left.new.steps + 5 * (c.args.n - c.cut_of-k.result) < 2 ^ 64 = omega (arith, c.part-left.ensures.cost, c.requires.room)
+    in (omega arith, (search rules, (search rules, (search rules, (search rules, (omega arith, (omega arith, (placed, (rises, (enough, (fit, more)))))))))))
 
 -- both parts
 pub returns-else-n-eq1-clause-whole : goal.returns-else-n-eq1-clause-whole

@@ -35,22 +35,8 @@ string_of_part-requires g t c κs lives =
     omega (arith, length-take (2 * k - 1) (drop 1 ds), length-drop 1 ds, c.requires.nodes, c.cut_of-k.ensures.below)
     in let kept = left-of-kept g.H.HashKind.hash c.args.from k c.args.n (g.L.Leaves.items c.args.leaves.now) ds
     c.cut_of-k.ensures.power c.cut_of-k.ensures.below c.cut_of-k.ensures.largest c.requires.within c.requires.kept
-    in (
-      omega arith,
-      (
-        lives.0,
-        (
-          lives.1,
-          (
-            count,
-            (
-              All-take HasSize (2 * k - 1) (drop 1 ds) (All-drop HasSize 1 ds c.requires.sized),
-              (omega arith, (omega arith, (omega arith, kept))),
-            ),
-          ),
-        ),
-      ),
-    )
+    in let sized = All-take HasSize (2 * k - 1) (drop 1 ds) (All-drop HasSize 1 ds c.requires.sized)
+    in (omega arith, (lives.0, (lives.1, (count, (sized, (omega arith, (omega arith, (omega arith, kept))))))))
 
 -- what the right part requires
 pub string_of_part-requires-else-turns-further-eq0 : goal.string_of_part-requires-else-turns-further-eq0
@@ -61,22 +47,8 @@ string_of_part-requires-else-turns-further-eq0 g t c κs lives =
     omega (arith, length-take (length ds - 2 * k) (drop (2 * k) ds), length-drop (2 * k) ds, c.requires.nodes, c.cut_of-k.ensures.below)
     in let kept = right-of-kept g.H.HashKind.hash c.args.from k c.args.n (g.L.Leaves.items c.args.leaves.now) ds
     c.cut_of-k.ensures.power c.cut_of-k.ensures.below c.cut_of-k.ensures.largest c.requires.within c.requires.kept
-    in (
-      omega arith,
-      (
-        lives.0,
-        (
-          lives.1,
-          (
-            count,
-            (
-              All-take HasSize (length ds - 2 * k) (drop (2 * k) ds) (All-drop HasSize (2 * k) ds c.requires.sized),
-              (omega arith, (omega arith, (omega arith, kept))),
-            ),
-          ),
-        ),
-      ),
-    )
+    in let sized = All-take HasSize (length ds - 2 * k) (drop (2 * k) ds) (All-drop HasSize (2 * k) ds c.requires.sized)
+    in (omega arith, (lives.0, (lives.1, (count, (sized, (omega arith, (omega arith, (omega arith, kept))))))))
 
 pub returns-then-turns-further-eq0 : goal.returns-then-turns-further-eq0
 returns-then-turns-further-eq0 g t c =

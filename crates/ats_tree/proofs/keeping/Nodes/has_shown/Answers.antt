@@ -46,67 +46,47 @@ begins_with_part-requires-clause-rising g c = rises-increasing _ c.position-firs
 -- other leaves or digests
 pub returns-then-not-begins_with_part-clause-exact : goal.returns-then-not-begins_with_part-clause-exact
 returns-then-not-begins_with_part-clause-exact g c =
-    let H : List ℕ → List ℕ = g.H.HashKind.hash
-    in let leaves : List (List ℕ) = g.L.Leaves.items c.args.leaves.now
-    in let kept : c.as_slice.result.now ≡ kept_digests H leaves = c.as_slice.ensures.value ∙ c.self.view_is ∙ c.requires.kept
-    in let number : c.len.result / 2 + 1 ≡ length leaves =
-    kept-number H leaves c.self.inside.digests.items _ _ c.self.invariant.odd c.self.view_is c.len.ensures c.requires.kept
-    in let some : 1 ≤ length leaves = omega (arith, number)
+    let leaves : List (List ℕ) = g.L.Leaves.items c.args.leaves.now
+    in let kept : c.as_slice.result.now ≡ kept_digests g.H.HashKind.hash leaves = c.as_slice.ensures.value ∙ c.self.view_is ∙ c.requires.kept
+    in let counted = kept-number g.H.HashKind.hash leaves c.self.inside.digests.items _ _ c.self.invariant.odd c.self.view_is c.len.ensures c.requires.kept
     in (
       no,
       λ is. sym c.if-not-begins_with_part.true
-          ∙ c.begins_with_part.ensures.exact.1
-          (whole-own H leaves c.as_slice.result.now c.args.n (g.S.ShownTree.shown c.args.shown.now) (g.S.ShownTree.digests c.args.shown.now)
-          kept some (sym number ∙ c.if-len-n.false) is),
+          ∙ c.begins_with_part.ensures.exact.1 (whole-own _ leaves _ c.args.n _ _ kept _ counted c.if-len-n.false is),
     )
 
 -- no leaf is left, and maybe a digest
 pub returns-then-is_none-clause-exact : goal.returns-then-is_none-clause-exact
 returns-then-is_none-clause-exact g c =
-    let H : List ℕ → List ℕ = g.H.HashKind.hash
-    in let leaves : List (List ℕ) = g.L.Leaves.items c.args.leaves.now
-    in let nodes : List (List ℕ) = c.as_slice.result.now
+    let leaves : List (List ℕ) = g.L.Leaves.items c.args.leaves.now
     in let shown : List Shown = g.S.ShownTree.shown c.args.shown.now
     in let digests : List (List ℕ) = g.S.ShownTree.digests c.args.shown.now
-    in let after : List Shown = g.S.ShownTree.shown c.begins_with_part.new.shown
-    in let over : List (List ℕ) = g.S.ShownTree.digests c.begins_with_part.new.shown
-    in let kept : nodes ≡ kept_digests H leaves = c.as_slice.ensures.value ∙ c.self.view_is ∙ c.requires.kept
-    in let number : c.len.result / 2 + 1 ≡ length leaves =
-    kept-number H leaves c.self.inside.digests.items _ _ c.self.invariant.odd c.self.view_is c.len.ensures c.requires.kept
-    in let some : 1 ≤ length leaves = omega (arith, number)
-    in let size : length leaves ≡ c.args.n = sym number ∙ c.if-len-n.false
-    in let left : after ≡ shown_from (0 + c.args.n) shown = c.begins_with_part.ensures.leaves_left c.if-not-begins_with_part.false
-    in let over_is : over ≡ drop (length (elided_part nodes 0 c.args.n shown)) digests =
-    c.begins_with_part.ensures.digests_left c.if-not-begins_with_part.false
-    in let none : after ≡ [] = no-leaf after (ap is_some (sym c.position.ensures.first) ∙ c.is_none.ensures ∙ ap not c.if-is_none.true)
+    in let kept : c.as_slice.result.now ≡ kept_digests g.H.HashKind.hash leaves = c.as_slice.ensures.value ∙ c.self.view_is ∙ c.requires.kept
+    in let counted = kept-number g.H.HashKind.hash leaves c.self.inside.digests.items _ _ c.self.invariant.odd c.self.view_is c.len.ensures c.requires.kept
+    in let begins = c.if-not-begins_with_part.false
+    in let over_is = c.begins_with_part.ensures.digests_left begins
+    in let none = no-leaf _ (ap is_some (sym c.position.ensures.first) ∙ c.is_none.ensures ∙ ap not c.if-is_none.true)
     in (
       λ holds.
-          let empty : over ≡ [] = no-digest over (ap is_some (sym c.take_digest.ensures.first) ∙ c.is_none-then-is_none.ensures ∙ ap not holds)
-          in own-whole H leaves nodes c.args.n shown digests kept some size
-          (c.begins_with_part.ensures.exact.0 c.if-not-begins_with_part.false) (sym left ∙ none) (sym over_is ∙ empty),
+          let empty = no-digest _ (ap is_some (sym c.take_digest.ensures.first) ∙ c.is_none-then-is_none.ensures ∙ ap not holds)
+          in own-whole _ leaves _ c.args.n shown digests kept _ counted c.if-len-n.false
+          (c.begins_with_part.ensures.exact.0 begins) (sym (c.begins_with_part.ensures.leaves_left begins) ∙ none) (sym over_is ∙ empty),
       λ is.
-          let empty : over ≡ [] = over_is ∙ whole-digests H leaves nodes c.args.n shown digests kept some size is
+          let empty = over_is ∙ whole-digests _ leaves _ c.args.n shown digests kept _ counted c.if-len-n.false is
           in is-true _ (sym c.is_none-then-is_none.ensures ∙ ap is_some c.take_digest.ensures.first ∙ ap (λ (ds : List (List ℕ)). is_some (slice_get ds 0)) empty),
     )
 
 -- a leaf is left
 pub returns-else-is_none-clause-exact : goal.returns-else-is_none-clause-exact
 returns-else-is_none-clause-exact g c =
-    let H : List ℕ → List ℕ = g.H.HashKind.hash
-    in let leaves : List (List ℕ) = g.L.Leaves.items c.args.leaves.now
-    in let nodes : List (List ℕ) = c.as_slice.result.now
+    let leaves : List (List ℕ) = g.L.Leaves.items c.args.leaves.now
     in let shown : List Shown = g.S.ShownTree.shown c.args.shown.now
     in let digests : List (List ℕ) = g.S.ShownTree.digests c.args.shown.now
-    in let after : List Shown = g.S.ShownTree.shown c.begins_with_part.new.shown
-    in let kept : nodes ≡ kept_digests H leaves = c.as_slice.ensures.value ∙ c.self.view_is ∙ c.requires.kept
-    in let number : c.len.result / 2 + 1 ≡ length leaves =
-    kept-number H leaves c.self.inside.digests.items _ _ c.self.invariant.odd c.self.view_is c.len.ensures c.requires.kept
-    in let some : 1 ≤ length leaves = omega (arith, number)
-    in let size : length leaves ≡ c.args.n = sym number ∙ c.if-len-n.false
-    in let left : after ≡ shown_from (0 + c.args.n) shown = c.begins_with_part.ensures.leaves_left c.if-not-begins_with_part.false
+    in let kept : c.as_slice.result.now ≡ kept_digests g.H.HashKind.hash leaves = c.as_slice.ensures.value ∙ c.self.view_is ∙ c.requires.kept
+    in let counted = kept-number g.H.HashKind.hash leaves c.self.inside.digests.items _ _ c.self.invariant.odd c.self.view_is c.len.ensures c.requires.kept
     in (
       λ holds. no (sym c.if-is_none.false ∙ holds),
       λ is.
-          let none : after ≡ [] = left ∙ whole-leaves H leaves nodes c.args.n shown digests kept some size is
+          let none = c.begins_with_part.ensures.leaves_left c.if-not-begins_with_part.false ∙ whole-leaves _ leaves _ c.args.n shown digests kept _ counted c.if-len-n.false is
           in is-true _ (sym c.is_none.ensures ∙ ap is_some c.position.ensures.first ∙ ap (λ (ss : List Shown). is_some (first_position ss)) none),
     )
