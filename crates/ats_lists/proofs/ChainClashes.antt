@@ -1,5 +1,5 @@
 -- The first collision of the strings of a list in blocks, from those of its blocks.
-use Rattle.std.proofs.Common.{◌≡◌, ℕ, zero, suc, ◌+◌, ◌-◌, ◌*◌, ◌%◌, ◌^◌, ◌<◌, ◌≤◌, List, [], ◌∷◌, ◌++◌, length, map, drop, min, true, false, refl, sym, ◌∙◌, ap, ap₂, arith, inl, inr, Option, Some, None, All, IsSome, get_or}
+use Rattle.std.proofs.Common.{◌≡◌, ℕ, zero, suc, ◌+◌, ◌-◌, ◌*◌, ◌%◌, ◌^◌, ◌<◌, ◌≤◌, List, [], ◌∷◌, ◌++◌, length, map, drop, min, true, false, refl, sym, ◌∙◌, ap, ap₂, arith, inl, inr, Option, Some, None, All, IsSome, IfSome, get_or}
 use Rattle.std.specs.List.{range_with_len, flat_map}
 use Rattle.std.specs.Option.{option_map, option_or, is_some}
 use Rattle.std.proofs.Math.Seq.{drop-cons}
@@ -17,7 +17,7 @@ use Rattle.ats_tree.specs.Part.{shown_from as left_from}
 use Rattle.ats_tree.specs.Rebuild.{need}
 use Rattle.ats_tree.specs.Strings.{strings}
 use Rattle.ats_tree.specs.declared.clashing.Clash.{Clash}
-use Rattle.ats_tree.proofs.Public.{collision-append, moved_collision, collision-moved, collision_or-or, collision-alike, collision-own, length-path_of, number_of-path_of}
+use Rattle.ats_tree.proofs.Public.{collision-append, moved_collision, collision-moved, collision_or-or, collision-alike, collision-own, length-path_of, number_of-path_of, part-shallow}
 use Rattle.ats_lists.specs.Blocks.{blocks_in, items_in, blocks_from}
 use Rattle.ats_lists.specs.Chain.{link, chain_digest}
 use Rattle.ats_lists.specs.ChainPrefix.{block_tree, block_need, block_root, next_digest, tree_strings, block_strings, chain_strings}
@@ -94,7 +94,7 @@ same-value x y e = cc
 same-node : (p q : Path) → by_path p ≡ by_path q → p ≡ q
 same-node p q e = cc
 
-pub tree-clash : (H : List ℕ → List ℕ) (ours : NodeNumbers → Option (List ℕ)) (j : ℕ) (ss : List (Hashed Path)) (clash : Clash (List ℕ)) → All (λ s. length s.place ≤ 6) ss
+tree-clash : (H : List ℕ → List ℕ) (ours : NodeNumbers → Option (List ℕ)) (j : ℕ) (ss : List (Hashed Path)) (clash : Clash (List ℕ)) → All (λ s. length s.place ≤ 6) ss
     → clash.turns < 2 ^ clash.depth → Some (difference_of (λ s. s) clash) ≡ first_collision H (ours_in ours j) (map (moved by_path) ss)
     → IsTreeClash H ours j ss clash
 tree-clash H ours j ss clash shallow inside is =
@@ -121,6 +121,15 @@ tree-clash H ours j ss clash shallow inside is =
         in let depth : length d.place ≡ clash.depth = ap length path ∙ length-path_of clash.depth clash.turns
         in let turns : number_of d.place ≡ clash.turns = ap number_of path ∙ at
         in rw (depth, turns, a, b) refl
+
+-- a clash that is found in the part of the tree in block j
+pub part-clash : (H : List ℕ → List ℕ) (ours : NodeNumbers → Option (List ℕ)) (j n : ℕ) (shown : List Shown) (ds : List (List ℕ))
+    (found : Option (Clash (List ℕ))) (clash : Clash (List ℕ)) → n ≤ 2 ^ 6 → found ≡ Some clash → IfSome found (λ c. c.turns < 2 ^ c.depth)
+    → option_map (difference_of (λ s. s)) found ≡ first_collision H (ours_in ours j) (map (moved by_path) (strings H (tree_of (places (64 * j) n shown)) ds))
+    → IsTreeClash H ours j (strings H (tree_of (places (64 * j) n shown)) ds) clash
+part-clash H ours j n shown ds found clash few is place same =
+    tree-clash H ours j (strings H (tree_of (places (64 * j) n shown)) ds) clash (part-shallow H 6 (64 * j) n shown ds few)
+    (rw is at place) (ap (option_map (difference_of (λ s. s))) (sym is) ∙ same)
 
 -- ---- all blocks
 

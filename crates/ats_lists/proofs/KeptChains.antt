@@ -1,7 +1,7 @@
 -- The digests of a list in blocks, as they stand in one run, and as they are seen.
-use Rattle.std.proofs.Common.{◌≡◌, ℕ, zero, suc, ◌+◌, ◌-◌, ◌*◌, ◌/◌, ◌%◌, ◌^◌, ◌<◌, ◌≤◌, List, [], ◌∷◌, ◌++◌, length, map, take, drop, get_or, min, refl, sym, ◌∙◌, ap, ap₂, arith, inl, inr, Result, Ok, Err, OnErr, Some, None, Option, IsTrue, true, false, Bool, not, nat_eq, nat_lt}
+use Rattle.std.proofs.Common.{◌≡◌, ℕ, zero, suc, ◌+◌, ◌-◌, ◌*◌, ◌/◌, ◌%◌, ◌^◌, ◌<◌, ◌≤◌, List, [], ◌∷◌, ◌++◌, length, map, take, drop, get_or, min, if◌then◌else◌, nat_lt, refl, sym, ◌∙◌, ap, ap₂, arith, inl, inr, Result, Ok, Err, OnErr, Some, None, Option, IsTrue, true, false, Bool, not, nat_eq}
 use Rattle.std.specs.List.{range_with_len}
-use Rattle.std.proofs.lemmas.Bool.{cases_lt, cases_Bool, cond-true, cond-false, le-ltb}
+use Rattle.std.proofs.lemmas.Bool.{cases_lt, cases_Bool, cond-true, cond-false, le-ltb, lt-ltb}
 use Rattle.std.specs.List.{All, slice_get}
 use Rattle.std.specs.Option.{is_none, is_some}
 use Rattle.std.proofs.lemmas.List.{append-nil, drop-drop, drop-take, get_or-take, get_or-drop, take_all, take_at, drop_at, drop_all, length-take, length-drop}
@@ -85,6 +85,16 @@ first-seen H leaves run same j d even inside =
     in let less : j < blocks_in (length leaves) = omega arith
     in let some : 0 < length (digests_in run j) = omega (arith, length-take 128 (drop (128 * j) run), length-drop (128 * j) run)
     in sym (first-there run j d) ∙ first-other (digests_in run j) d [] some ∙ link-seen H leaves run same j less
+
+-- the digest that a link to a block needs
+pub next-seen : (H : List ℕ → List ℕ) (leaves run : List (List ℕ)) → chain_in run ≡ kept_chain H leaves → (j : ℕ) (own d : List ℕ)
+    → length run % 2 ≡ 0 → 128 * j < length run → own ≡ get_or run (128 * j) d
+    → (if nat_lt (64 * j) (length leaves) then chain_from H leaves j ∷ [] else []) ≡ own ∷ []
+next-seen H leaves run same j own d even inside at =
+    let count : length run / 2 ≡ length leaves = entries-seen H leaves run same
+    in let less : 64 * j < length leaves = omega (arith, even)
+    in cond-true _ _ _ (lt-ltb (64 * j) (length leaves) less)
+    ∙ ap (λ (x : List ℕ). x ∷ []) (sym (at ∙ first-seen H leaves run same j d even inside))
 
 -- the digests of the nodes of a block's tree, as a part of the run
 pub nodes-there : (run : List (List ℕ)) (j end : ℕ) → end ≡ min (length run) (128 * j + 128) → 128 * j < length run

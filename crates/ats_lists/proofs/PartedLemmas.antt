@@ -1,5 +1,5 @@
 -- The lists of all texts, from the entries under the numbers of their terms.
-use Rattle.std.proofs.Common.{◌≡◌, ◌<◌, ℕ, List, [], length, get_or, map, ap, ◌∙◌}
+use Rattle.std.proofs.Common.{◌≡◌, ◌<◌, ℕ, List, [], length, get_or, map, ap, subst, sym, ◌∙◌}
 use Rattle.std.specs.List.{All}
 use Rattle.std.specs.List.Sorted.{IsStrictlySortedBy}
 use Rattle.std.specs.BTreeMap.{is_at}
@@ -8,7 +8,7 @@ use Rattle.ats_terms.specs.Terms.{IsTerm}
 use Rattle.ats_terms.specs.Query.{byte_cmp}
 use Rattle.ats_lists.specs.Postings.{postings}
 use Rattle.ats_lists.specs.Lists.{by_impact, vocabulary, lists_of}
-use Rattle.ats_lists.specs.Gathered.{entries_for, entries_under, term_of, pairs_of, HasRun, AreGathered, IsLogOf}
+use Rattle.ats_lists.specs.Gathered.{Pairs, entries_for, entries_under, term_of, pairs_of, HasRun, AreGathered, IsLogOf}
 use Rattle.ats_lists.specs.declared.entry.Entry.{Entry}
 use Rattle.ats_lists.specs.declared.gathering.Logged.{Logged}
 use Rattle.ats_lists.proofs.PostingLemmas.{run_of_all}
@@ -16,12 +16,15 @@ use Rattle.ats_lists.proofs.VocabularyLemmas.{if_some, keys_made}
 use Rattle.ats_lists.proofs.WholeLemmas.{all_gathered, made_lists, terms_are}
 use Rattle.ats_lists.proofs.LogLemmas.{parted_is, parted_finds, numbered_terms}
 
-module _ (texts : List (List ℕ)) (terms : List (List ℕ)) (log : List Logged) (rises : IsStrictlySortedBy byte_cmp terms)
-    (is : IsLogOf terms log) (has : HasRun 0 (length texts) texts (pairs_of terms log)) (lists : List (List ℕ × List Entry))
-    (size : length lists ≡ length terms)
-    (entries : (n : ℕ) → n < length terms → get_or lists n ([], []) ≡ (term_of terms n, entries_under n log)) where
+module _ (texts : List (List ℕ)) (terms : List (List ℕ)) (log : List Logged) (run : Pairs) (pairs : pairs_of terms log ≡ run)
+    (gathered : HasRun 0 (length texts) texts run) (rises : IsStrictlySortedBy byte_cmp terms) (is : IsLogOf terms log) (slice : List Logged) (same : slice ≡ log)
+    (lists : List (List ℕ × List Entry)) (size : length lists ≡ length terms)
+    (entries : (n : ℕ) → n < length terms → get_or lists n ([], []) ≡ (term_of terms n, entries_under n slice)) where
+  has : HasRun 0 (length texts) texts (pairs_of terms log)
+  has = subst (HasRun 0 (length texts) texts) (sym pairs) gathered
+
   made : lists ≡ map (λ term. (term, entries_for term (pairs_of terms log))) terms
-  made = parted_is terms log rises is lists size entries
+  made = parted_is terms log rises is lists size (rw same at entries)
 
   keys : keys_of lists ≡ terms
   keys = ap keys_of made ∙ keys_made (λ term. entries_for term (pairs_of terms log)) terms

@@ -45,11 +45,9 @@ pub unreachable-requires : goal.unreachable-requires
 unreachable-requires g c =
     let blocks : c.div_ceil-blocks.result ≡ blocks_in (length (g.R.Revealed.shown c.args.revealed.now)) =
     blocks-div_ceil c.args.k (g.R.Revealed.shown c.args.revealed.now) c.requires.front c.div_ceil-blocks.ensures
-    in let same : nat_lt (64 * c.div_ceil-blocks.result) c.args.f ≡ has_next c.args.f (g.R.Revealed.shown c.args.revealed.now) =
-    ap (λ b. nat_lt (64 * b) c.args.f) blocks
     in not-none _
     (sym (none-next g.H.HashKind.hash c.args.f (g.R.Revealed.shown c.args.revealed.now) _ (g.R.Revealed.digests c.args.revealed.now) _ _
-    (nat_lt (64 * c.div_ceil-blocks.result) c.args.f) c.search_trees-first.ensures.whole same c.in_default.ensures.value))
+    (nat_lt (64 * c.div_ceil-blocks.result) c.args.f) c.search_trees-first.ensures.whole (ap (λ b. nat_lt (64 * b) c.args.f) blocks) c.in_default.ensures.value))
     c.requires.rebuilds
 
 pub search_links-requires-clause-few : goal.search_links-requires-clause-few
@@ -71,11 +69,9 @@ pub returns-clause-clash : goal.returns-clause-clash
 returns-clause-clash g c =
     let blocks : c.div_ceil-blocks.result ≡ blocks_in (length (g.R.Revealed.shown c.args.revealed.now)) =
     blocks-div_ceil c.args.k (g.R.Revealed.shown c.args.revealed.now) c.requires.front c.div_ceil-blocks.ensures
-    in let same : nat_lt (64 * c.div_ceil-blocks.result) c.args.f ≡ has_next c.args.f (g.R.Revealed.shown c.args.revealed.now) =
-    ap (λ b. nat_lt (64 * b) c.args.f) blocks
     in let next : c.in-Some.next ≡ next_digest c.args.f (g.R.Revealed.shown c.args.revealed.now) (g.R.Revealed.digests c.args.revealed.now) =
     next-is c.args.f (g.R.Revealed.shown c.args.revealed.now) (g.R.Revealed.digests c.args.revealed.now) _ c.in-Some.next
-    (nat_lt (64 * c.div_ceil-blocks.result) c.args.f) c.search_trees-first.ensures.whole.digests_left same c.in-Some.ensures.value
+    (nat_lt (64 * c.div_ceil-blocks.result) c.args.f) c.search_trees-first.ensures.whole.digests_left (ap (λ b. nat_lt (64 * b) c.args.f) blocks) c.in-Some.ensures.value
     in chain-first g.H.HashKind.hash (g.O.OwnList.ours c.args.own.now) c.args.f (g.R.Revealed.shown c.args.revealed.now) (g.R.Revealed.digests c.args.revealed.now)
     c.search_trees-first.new.roots c.in-Some.next (length c.search_trees-first.new.roots) c.search_trees-first.result.block
     (option_map list_difference_of c.search_trees-first.result.clash) (option_map list_difference_of c.search_links.result)

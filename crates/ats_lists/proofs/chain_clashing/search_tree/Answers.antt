@@ -2,11 +2,8 @@ use Rattle.std.proofs.Common.{◌∙◌, ◌≤◌, ◌*◌, ◌^◌, sym, ap, a
 use Rattle.std.specs.Option.{option_map}
 use Rattle.std.proofs.Math.Pow.{pow_mono}
 use Rattle.ats_tree.specs.Clashes.{difference_of}
-use Rattle.ats_tree.specs.Shown.{places}
-use Rattle.ats_tree.specs.Tree.{tree_of}
-use Rattle.ats_tree.specs.Strings.{strings}
 use Rattle.ats_tree.proofs.Public.{part-shallow}
-use Rattle.ats_lists.proofs.ChainClashes.{no-clash, tree-clash, IsTreeClash}
+use Rattle.ats_lists.proofs.ChainClashes.{no-clash, part-clash}
 use Rattle.ats_lists.proofs.chain_clashing.search_tree.Goals as goal
 
 pub returns-in_default-clause-clash : goal.returns-in_default-clause-clash
@@ -17,31 +14,19 @@ returns-in_default-clause-clash g c =
 
 pub overflow_add-clash : goal.overflow_add-clash
 overflow_add-clash g c =
-    let is : IsTreeClash g.H.HashKind.hash (g.O.OwnList.ours c.args.own.now) c.args.block
-    (strings g.H.HashKind.hash (tree_of (places (64 * c.args.block) c.args.n (g.R.Revealed.shown c.args.revealed.now))) (g.R.Revealed.digests c.args.revealed.now)) c.in-Some.clash =
-    tree-clash _ _ _ _ _
-    (part-shallow g.H.HashKind.hash 6 (64 * c.args.block) c.args.n (g.R.Revealed.shown c.args.revealed.now) (g.R.Revealed.digests c.args.revealed.now) c.requires.few)
-    (rw c.in-Some.is at c.first_clash_in_part-clash.ensures.place)
-    (ap (option_map (difference_of (λ s. s))) (sym c.in-Some.is) ∙ c.first_clash_in_part-clash.ensures.clash)
+    let is = part-clash g.H.HashKind.hash (g.O.OwnList.ours c.args.own.now) c.args.block c.args.n (g.R.Revealed.shown c.args.revealed.now) (g.R.Revealed.digests c.args.revealed.now)
+    _ c.in-Some.clash c.requires.few c.in-Some.is c.first_clash_in_part-clash.ensures.place c.first_clash_in_part-clash.ensures.clash
     in omega (arith, is.few)
 
 pub overflow_add-clash-2 : goal.overflow_add-clash-2
 overflow_add-clash-2 g c =
-    let is : IsTreeClash g.H.HashKind.hash (g.O.OwnList.ours c.args.own.now) c.args.block
-    (strings g.H.HashKind.hash (tree_of (places (64 * c.args.block) c.args.n (g.R.Revealed.shown c.args.revealed.now))) (g.R.Revealed.digests c.args.revealed.now)) c.in-Some.clash =
-    tree-clash _ _ _ _ _
-    (part-shallow g.H.HashKind.hash 6 (64 * c.args.block) c.args.n (g.R.Revealed.shown c.args.revealed.now) (g.R.Revealed.digests c.args.revealed.now) c.requires.few)
-    (rw c.in-Some.is at c.first_clash_in_part-clash.ensures.place)
-    (ap (option_map (difference_of (λ s. s))) (sym c.in-Some.is) ∙ c.first_clash_in_part-clash.ensures.clash)
+    let is = part-clash g.H.HashKind.hash (g.O.OwnList.ours c.args.own.now) c.args.block c.args.n (g.R.Revealed.shown c.args.revealed.now) (g.R.Revealed.digests c.args.revealed.now)
+    _ c.in-Some.clash c.requires.few c.in-Some.is c.first_clash_in_part-clash.ensures.place c.first_clash_in_part-clash.ensures.clash
     in let most : 2 ^ c.in-Some.clash.depth ≤ 2 ^ 6 = pow_mono is.few
     in omega (arith, is.inside, most)
 
 pub returns-clause-clash : goal.returns-clause-clash
 returns-clause-clash g c =
-    let is : IsTreeClash g.H.HashKind.hash (g.O.OwnList.ours c.args.own.now) c.args.block
-    (strings g.H.HashKind.hash (tree_of (places (64 * c.args.block) c.args.n (g.R.Revealed.shown c.args.revealed.now))) (g.R.Revealed.digests c.args.revealed.now)) c.in-Some.clash =
-    tree-clash _ _ _ _ _
-    (part-shallow g.H.HashKind.hash 6 (64 * c.args.block) c.args.n (g.R.Revealed.shown c.args.revealed.now) (g.R.Revealed.digests c.args.revealed.now) c.requires.few)
-    (rw c.in-Some.is at c.first_clash_in_part-clash.ensures.place)
-    (ap (option_map (difference_of (λ s. s))) (sym c.in-Some.is) ∙ c.first_clash_in_part-clash.ensures.clash)
+    let is = part-clash g.H.HashKind.hash (g.O.OwnList.ours c.args.own.now) c.args.block c.args.n (g.R.Revealed.shown c.args.revealed.now) (g.R.Revealed.digests c.args.revealed.now)
+    _ c.in-Some.clash c.requires.few c.in-Some.is c.first_clash_in_part-clash.ensures.place c.first_clash_in_part-clash.ensures.clash
     in is.value

@@ -35,26 +35,9 @@ search_tree-tree-requires g c κs =
     rw c.loop-j.invariant.leaves_left (rises-from 0 (64 * c.loop-j.j) _ (front-rises 0 _ _ c.requires.front))
     in let short : All (λ (s : Shown). length s.1 ≤ 127) (g.R.Revealed.shown c.loop-j.revealed) =
     rw c.loop-j.invariant.leaves_left (All-from (λ (s : Shown). length s.1 ≤ 127) (64 * c.loop-j.j) _ c.requires.short)
-    in (
-      (refl, tt),
-      (
-        omega arith,
-        (
-          omega arith,
-          (
-            omega arith,
-            (
-              rises,
-              (
-                block-enough c.args.f c.loop-j.j c.min-n.result _ _ _ _ c.requires.front less c.min-n.ensures c.loop-j.invariant.leaves_left
-                    c.loop-j.invariant.digests_left c.requires.enough,
-                (short, omega (arith, c.loop-j.invariant.cost)),
-              ),
-            ),
-          ),
-        ),
-      ),
-    )
+    in let enough = block-enough c.args.f c.loop-j.j c.min-n.result _ _ _ _ c.requires.front less c.min-n.ensures c.loop-j.invariant.leaves_left
+    c.loop-j.invariant.digests_left c.requires.enough
+    in ((refl, tt), (omega arith, (omega arith, (omega arith, (rises, (enough, (short, omega (arith, c.loop-j.invariant.cost))))))))
 
 pub loop-j-preserved : goal.loop-j-preserved
 loop-j-preserved g c =

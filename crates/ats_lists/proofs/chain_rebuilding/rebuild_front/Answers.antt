@@ -18,10 +18,8 @@ returns-in_err-rebuild_blocks-clause-by_items g c =
 -- the digest of the next block is missing
 pub returns-in_err-next-clause-value : goal.returns-in_err-next-clause-value
 returns-in_err-next-clause-value g c =
-    let same : nat_lt (64 * length c.args.roots.now) c.args.f ≡ has_next c.args.f (g.R.Revealed.shown c.args.revealed.now) =
-    ap (λ b. nat_lt (64 * b) c.args.f) c.requires.size
-    in c.from_residual-in_err-next.ensures
-    ∙ none-next g.H.HashKind.hash c.args.f (g.R.Revealed.shown c.args.revealed.now) _ (g.R.Revealed.digests c.args.revealed.now) _ _ (nat_lt (64 * length c.args.roots.now) c.args.f) c.in_ok-rebuild_blocks.ensures.whole same c.in_err-next.ensures.value
+    c.from_residual-in_err-next.ensures
+    ∙ none-next g.H.HashKind.hash c.args.f (g.R.Revealed.shown c.args.revealed.now) _ (g.R.Revealed.digests c.args.revealed.now) _ _ (nat_lt (64 * length c.args.roots.now) c.args.f) c.in_ok-rebuild_blocks.ensures.whole (ap (λ b. nat_lt (64 * b) c.args.f) c.requires.size) c.in_err-next.ensures.value
 
 pub returns-in_err-next-clause-by_items : goal.returns-in_err-next-clause-by_items
 returns-in_err-next-clause-by_items g c =
@@ -29,10 +27,8 @@ returns-in_err-next-clause-by_items g c =
 
 pub returns-in_err-next-clause-by_places : goal.returns-in_err-next-clause-by_places
 returns-in_err-next-clause-by_places g c =
-    let same : nat_lt (64 * length c.args.roots.now) c.args.f ≡ has_next c.args.f (g.R.Revealed.shown c.args.revealed.now) =
-    ap (λ b. nat_lt (64 * b) c.args.f) c.requires.size
-    in let few : c.pass_next.new.steps + blocks_in (length (g.R.Revealed.shown c.args.revealed.now)) ≤ c.args.steps.now + 3 * c.args.f =
-    steps-by_places c.args.f (blocks_in (length (g.R.Revealed.shown c.args.revealed.now))) c.args.steps.now c.rebuild_blocks.new.steps c.pass_next.new.steps (nat_lt (64 * length c.args.roots.now) c.args.f) same
+    let few : c.pass_next.new.steps + blocks_in (length (g.R.Revealed.shown c.args.revealed.now)) ≤ c.args.steps.now + 3 * c.args.f =
+    steps-by_places c.args.f (blocks_in (length (g.R.Revealed.shown c.args.revealed.now))) c.args.steps.now c.rebuild_blocks.new.steps c.pass_next.new.steps (nat_lt (64 * length c.args.roots.now) c.args.f) (ap (λ b. nat_lt (64 * b) c.args.f) c.requires.size)
     c.in_ok-rebuild_blocks.ensures.by_places c.pass_next.ensures.cost
     in omega (arith, c.requires.some, few)
 
@@ -42,9 +38,7 @@ pass_digest-requires g c κs = ((refl, tt), omega (arith, c.in_ok-rebuild_blocks
 -- a digest is left
 pub returns-in-Some-clause-value : goal.returns-in-Some-clause-value
 returns-in-Some-clause-value g c =
-    let same : nat_lt (64 * length c.args.roots.now) c.args.f ≡ has_next c.args.f (g.R.Revealed.shown c.args.revealed.now) =
-    ap (λ b. nat_lt (64 * b) c.args.f) c.requires.size
-    in none-left g.H.HashKind.hash c.args.f (g.R.Revealed.shown c.args.revealed.now) _ (g.R.Revealed.digests c.args.revealed.now) _ _ _ (nat_lt (64 * length c.args.roots.now) c.args.f) c.in_ok-rebuild_blocks.ensures.whole same c.pass_next.ensures.digests
+    none-left g.H.HashKind.hash c.args.f (g.R.Revealed.shown c.args.revealed.now) _ (g.R.Revealed.digests c.args.revealed.now) _ _ _ (nat_lt (64 * length c.args.roots.now) c.args.f) c.in_ok-rebuild_blocks.ensures.whole (ap (λ b. nat_lt (64 * b) c.args.f) c.requires.size) c.pass_next.ensures.digests
     (some-left _ _ c.in-Some.ensures.first)
 
 pub returns-in-Some-clause-by_items : goal.returns-in-Some-clause-by_items
@@ -53,10 +47,8 @@ returns-in-Some-clause-by_items g c =
 
 pub returns-in-Some-clause-by_places : goal.returns-in-Some-clause-by_places
 returns-in-Some-clause-by_places g c =
-    let same : nat_lt (64 * length c.args.roots.now) c.args.f ≡ has_next c.args.f (g.R.Revealed.shown c.args.revealed.now) =
-    ap (λ b. nat_lt (64 * b) c.args.f) c.requires.size
-    in let few : c.pass_next.new.steps + blocks_in (length (g.R.Revealed.shown c.args.revealed.now)) ≤ c.args.steps.now + 3 * c.args.f =
-    steps-by_places c.args.f (blocks_in (length (g.R.Revealed.shown c.args.revealed.now))) c.args.steps.now c.rebuild_blocks.new.steps c.pass_next.new.steps (nat_lt (64 * length c.args.roots.now) c.args.f) same
+    let few : c.pass_next.new.steps + blocks_in (length (g.R.Revealed.shown c.args.revealed.now)) ≤ c.args.steps.now + 3 * c.args.f =
+    steps-by_places c.args.f (blocks_in (length (g.R.Revealed.shown c.args.revealed.now))) c.args.steps.now c.rebuild_blocks.new.steps c.pass_next.new.steps (nat_lt (64 * length c.args.roots.now) c.args.f) (ap (λ b. nat_lt (64 * b) c.args.f) c.requires.size)
     c.in_ok-rebuild_blocks.ensures.by_places c.pass_next.ensures.cost
     in omega (arith, c.requires.some, few, c.pass_digest.ensures.cost)
 
@@ -73,13 +65,9 @@ pub returns-in-None-clause-value : goal.returns-in-None-clause-value
 returns-in-None-clause-value g c =
     let some : 1 ≤ length (g.R.Revealed.shown c.args.revealed.now) = omega (arith, c.requires.some)
     in let within : length (g.R.Revealed.shown c.args.revealed.now) ≤ c.args.f = omega arith
-    in let same : nat_lt (64 * length c.args.roots.now) c.args.f ≡ has_next c.args.f (g.R.Revealed.shown c.args.revealed.now) =
-    ap (λ b. nat_lt (64 * b) c.args.f) c.requires.size
-    in let value : Some c.link_blocks.result ≡ chain_rebuilt g.H.HashKind.hash c.args.f (g.R.Revealed.shown c.args.revealed.now) (g.R.Revealed.digests c.args.revealed.now) =
-    chain-some g.H.HashKind.hash c.args.f (g.R.Revealed.shown c.args.revealed.now) (g.R.Revealed.shown c.rebuild_blocks.new.revealed) (g.R.Revealed.digests c.args.revealed.now) (g.R.Revealed.digests c.rebuild_blocks.new.revealed) _ _ (nat_lt (64 * length c.args.roots.now) c.args.f) c.in_ok-next.next c.link_blocks.result
-    some within c.in_ok-rebuild_blocks.ensures.whole same c.in_ok-next.ensures.value
+    in chain-some g.H.HashKind.hash c.args.f (g.R.Revealed.shown c.args.revealed.now) (g.R.Revealed.shown c.rebuild_blocks.new.revealed) (g.R.Revealed.digests c.args.revealed.now) (g.R.Revealed.digests c.rebuild_blocks.new.revealed) _ _ (nat_lt (64 * length c.args.roots.now) c.args.f) c.in_ok-next.next c.link_blocks.result
+    some within c.in_ok-rebuild_blocks.ensures.whole (ap (λ b. nat_lt (64 * b) c.args.f) c.requires.size) c.in_ok-next.ensures.value
     c.pass_next.ensures.digests c.in-None.ensures.first c.link_blocks.ensures.value
-    in value
 
 pub returns-in-None-clause-used : goal.returns-in-None-clause-used
 returns-in-None-clause-used g c = (
@@ -90,16 +78,8 @@ returns-in-None-clause-used g c = (
 -- the shown leaves are bound, or there is a collision
 pub returns-in-None-clause-bound : goal.returns-in-None-clause-bound
 returns-in-None-clause-bound g c =
-    let some : 1 ≤ length (g.R.Revealed.shown c.args.revealed.now) = omega (arith, c.requires.some)
-    in let within : length (g.R.Revealed.shown c.args.revealed.now) ≤ c.args.f = omega arith
-    in let same : nat_lt (64 * length c.args.roots.now) c.args.f ≡ has_next c.args.f (g.R.Revealed.shown c.args.revealed.now) =
-    ap (λ b. nat_lt (64 * b) c.args.f) c.requires.size
-    in let value : Some c.link_blocks.result ≡ chain_rebuilt g.H.HashKind.hash c.args.f (g.R.Revealed.shown c.args.revealed.now) (g.R.Revealed.digests c.args.revealed.now) =
-    chain-some g.H.HashKind.hash c.args.f (g.R.Revealed.shown c.args.revealed.now) (g.R.Revealed.shown c.rebuild_blocks.new.revealed) (g.R.Revealed.digests c.args.revealed.now) (g.R.Revealed.digests c.rebuild_blocks.new.revealed) _ _ (nat_lt (64 * length c.args.roots.now) c.args.f) c.in_ok-next.next c.link_blocks.result
-    some within c.in_ok-rebuild_blocks.ensures.whole same c.in_ok-next.ensures.value
-    c.pass_next.ensures.digests c.in-None.ensures.first c.link_blocks.ensures.value
-    in chain-bound_to g.H.HashKind.hash g.H.HashKind.sized c.args.f (g.R.Revealed.shown c.args.revealed.now) (g.R.Revealed.digests c.args.revealed.now) c.link_blocks.result
-    c.requires.front c.position-first.ensures.sized (sym value)
+    chain-bound_to g.H.HashKind.hash g.H.HashKind.sized c.args.f (g.R.Revealed.shown c.args.revealed.now) (g.R.Revealed.digests c.args.revealed.now) c.link_blocks.result
+    c.requires.front c.position-first.ensures.sized (sym (returns-in-None-clause-value g c))
 
 pub returns-in-None-clause-by_items : goal.returns-in-None-clause-by_items
 returns-in-None-clause-by_items g c =
@@ -118,10 +98,8 @@ returns-in-None-clause-by_items g c =
 
 pub returns-in-None-clause-by_places : goal.returns-in-None-clause-by_places
 returns-in-None-clause-by_places g c =
-    let same : nat_lt (64 * length c.args.roots.now) c.args.f ≡ has_next c.args.f (g.R.Revealed.shown c.args.revealed.now) =
-    ap (λ b. nat_lt (64 * b) c.args.f) c.requires.size
-    in let few : c.pass_next.new.steps + blocks_in (length (g.R.Revealed.shown c.args.revealed.now)) ≤ c.args.steps.now + 3 * c.args.f =
-    steps-by_places c.args.f (blocks_in (length (g.R.Revealed.shown c.args.revealed.now))) c.args.steps.now c.rebuild_blocks.new.steps c.pass_next.new.steps (nat_lt (64 * length c.args.roots.now) c.args.f) same
+    let few : c.pass_next.new.steps + blocks_in (length (g.R.Revealed.shown c.args.revealed.now)) ≤ c.args.steps.now + 3 * c.args.f =
+    steps-by_places c.args.f (blocks_in (length (g.R.Revealed.shown c.args.revealed.now))) c.args.steps.now c.rebuild_blocks.new.steps c.pass_next.new.steps (nat_lt (64 * length c.args.roots.now) c.args.f) (ap (λ b. nat_lt (64 * b) c.args.f) c.requires.size)
     c.in_ok-rebuild_blocks.ensures.by_places c.pass_next.ensures.cost
     in let count : length c.rebuild_blocks.new.roots ≡ blocks_in (length (g.R.Revealed.shown c.args.revealed.now)) =
     block-count g.H.HashKind.hash c.args.f (g.R.Revealed.shown c.args.revealed.now) (g.R.Revealed.shown c.rebuild_blocks.new.revealed) (g.R.Revealed.digests c.args.revealed.now) (g.R.Revealed.digests c.rebuild_blocks.new.revealed) _ c.in_ok-rebuild_blocks.ensures.whole
@@ -139,10 +117,9 @@ returns-in_err-next-clause-cost g c =
 
 pub returns-in-Some-clause-cost : goal.returns-in-Some-clause-cost
 returns-in-Some-clause-cost g c =
-    let leaves : length (g.R.Revealed.shown c.pass_next.new.revealed) ≡ 0 = ap length (c.pass_next.ensures.leaves ∙ c.in_ok-rebuild_blocks.ensures.whole.leaves_left)
+    let leaves : length (g.R.Revealed.shown c.pass_digest.new.self) ≡ 0 = ap length (c.pass_digest.ensures.others ∙ c.pass_next.ensures.leaves ∙ c.in_ok-rebuild_blocks.ensures.whole.leaves_left)
     in let left : length (g.R.Revealed.digests c.pass_next.new.revealed) ≡ length (g.R.Revealed.digests c.rebuild_blocks.new.revealed) - for_next (nat_lt (64 * length c.args.roots.now) c.args.f) = ap length c.pass_next.ensures.digests ∙ length-drop _ _
-    in let leaves' : length (g.R.Revealed.shown c.pass_digest.new.self) ≡ 0 = ap length c.pass_digest.ensures.others ∙ leaves
-    in let left' : length (g.R.Revealed.digests c.pass_digest.new.self) ≡ length (g.R.Revealed.digests c.pass_next.new.revealed) - 1 = ap length c.pass_digest.ensures.passed ∙ length-drop _ _
+    in let last : length (g.R.Revealed.digests c.pass_digest.new.self) ≡ length (g.R.Revealed.digests c.pass_next.new.revealed) - 1 = ap length c.pass_digest.ensures.passed ∙ length-drop _ _
     in omega (
       arith,
       some-left _ _ c.in-Some.ensures.first,
@@ -153,10 +130,9 @@ returns-in-Some-clause-cost g c =
 
 pub returns-in-None-clause-cost : goal.returns-in-None-clause-cost
 returns-in-None-clause-cost g c =
-    let leaves : length (g.R.Revealed.shown c.pass_next.new.revealed) ≡ 0 = ap length (c.pass_next.ensures.leaves ∙ c.in_ok-rebuild_blocks.ensures.whole.leaves_left)
+    let leaves : length (g.R.Revealed.shown c.pass_digest.new.self) ≡ 0 = ap length (c.pass_digest.ensures.others ∙ c.pass_next.ensures.leaves ∙ c.in_ok-rebuild_blocks.ensures.whole.leaves_left)
     in let left : length (g.R.Revealed.digests c.pass_next.new.revealed) ≡ length (g.R.Revealed.digests c.rebuild_blocks.new.revealed) - for_next (nat_lt (64 * length c.args.roots.now) c.args.f) = ap length c.pass_next.ensures.digests ∙ length-drop _ _
-    in let leaves' : length (g.R.Revealed.shown c.pass_digest.new.self) ≡ 0 = ap length c.pass_digest.ensures.others ∙ leaves
-    in let left' : length (g.R.Revealed.digests c.pass_digest.new.self) ≡ length (g.R.Revealed.digests c.pass_next.new.revealed) - 1 = ap length c.pass_digest.ensures.passed ∙ length-drop _ _
+    in let last : length (g.R.Revealed.digests c.pass_digest.new.self) ≡ length (g.R.Revealed.digests c.pass_next.new.revealed) - 1 = ap length c.pass_digest.ensures.passed ∙ length-drop _ _
     in let count : length c.rebuild_blocks.new.roots ≡ blocks_in (length (g.R.Revealed.shown c.args.revealed.now)) =
     block-count g.H.HashKind.hash c.args.f (g.R.Revealed.shown c.args.revealed.now) (g.R.Revealed.shown c.rebuild_blocks.new.revealed) (g.R.Revealed.digests c.args.revealed.now) (g.R.Revealed.digests c.rebuild_blocks.new.revealed) _ c.in_ok-rebuild_blocks.ensures.whole
     in let there : for_next (nat_lt (64 * length c.args.roots.now) c.args.f) ≤ length (g.R.Revealed.digests c.rebuild_blocks.new.revealed) = next-there (g.R.Revealed.digests c.rebuild_blocks.new.revealed) c.in_ok-next.next (nat_lt (64 * length c.args.roots.now) c.args.f) c.in_ok-next.ensures.value

@@ -3,7 +3,7 @@ use Rattle.std.proofs.lemmas.Bool.{cond-true, lt-ltb}
 use Rattle.std.proofs.lemmas.Slice.Eq.{bytes_eq-Decides}
 use Rattle.ats_lists.specs.Chain.{chain_from}
 use Rattle.ats_lists.specs.KeptChain.{kept_chain, chain_in}
-use Rattle.ats_lists.proofs.KeptChains.{entries-seen, first-seen, none-left, none-told, one-left, left-one}
+use Rattle.ats_lists.proofs.KeptChains.{next-seen, none-left, none-told, one-left, left-one}
 use Rattle.ats_lists.proofs.chain_keeping.Chain.is_link.Goals as goal
 
 abbrev next : (List ℕ → List ℕ) → List (List ℕ) → ℕ → List (List ℕ)
@@ -15,39 +15,29 @@ returns-then-eq g c H leaves same =
     in let ds : List (List ℕ) = g.S.ShownTree.digests c.args.shown.now
     in let after : List (List ℕ) = g.S.ShownTree.digests c.take_digest-2.new.self
     in let theirs : List ℕ = c.in-Some.theirs
-    in let kept : chain_in run ≡ kept_chain H leaves = c.self.view_is ∙ same
-    in let count : length run / 2 ≡ length leaves = entries-seen H leaves run kept
     in let inside : 128 * c.args.j < length run = omega (arith, c.if-at-len.false, c.len.ensures)
-    in let less : 64 * c.args.j < length leaves = omega (arith, c.self.invariant.even)
-    in let own : c.index.result.now ≡ chain_from H leaves c.args.j =
-    c.index.ensures ∙ first-seen H leaves run kept c.args.j _ c.self.invariant.even inside
-    in let link : next H leaves c.args.j ≡ chain_from H leaves c.args.j ∷ [] = cond-true _ _ _ (lt-ltb (64 * c.args.j) (length leaves) less)
+    in let own : next H leaves c.args.j ≡ c.index.result.now ∷ [] =
+    next-seen H leaves run (c.self.view_is ∙ same) c.args.j c.index.result.now _ c.self.invariant.even inside c.index.ensures
     in let equal : theirs ≡ c.index.result.now = (bytes_eq-Decides theirs c.index.result.now).0 (sym c.eq.ensures ∙ c.if-eq.true)
     in let passed : after ≡ drop 1 ds = c.take_digest-2.ensures.passed
     in let none = none-left after c.take_digest-then-eq.result c.take_digest-then-eq.ensures.first
     in let told = none-told c.is_none-then-eq.result c.take_digest-then-eq.result (sym c.is_none-then-eq.ensures)
     in (
       λ holds. one-left ds theirs c.in-Some.ensures.first (sym passed ∙ none.0 (sym told ∙ holds))
-          ∙ ap (λ (d : List ℕ). d ∷ []) (equal ∙ own) ∙ sym link,
-      λ is. told
-          ∙ none.1 (passed ∙ (left-one ds theirs (chain_from H leaves c.args.j) c.in-Some.ensures.first (is ∙ link)).1),
+          ∙ ap (λ (d : List ℕ). d ∷ []) equal ∙ sym own,
+      λ is. told ∙ none.1 (passed ∙ (left-one ds theirs c.index.result.now c.in-Some.ensures.first (is ∙ own)).1),
     )
 
 pub returns-else-eq : goal.returns-else-eq
 returns-else-eq g c H leaves same =
     let run : List (List ℕ) = c.self.inside.digests.items
-    in let ds : List (List ℕ) = g.S.ShownTree.digests c.args.shown.now
     in let theirs : List ℕ = c.in-Some.theirs
-    in let kept : chain_in run ≡ kept_chain H leaves = c.self.view_is ∙ same
-    in let count : length run / 2 ≡ length leaves = entries-seen H leaves run kept
     in let inside : 128 * c.args.j < length run = omega (arith, c.if-at-len.false, c.len.ensures)
-    in let less : 64 * c.args.j < length leaves = omega (arith, c.self.invariant.even)
-    in let own : c.index.result.now ≡ chain_from H leaves c.args.j =
-    c.index.ensures ∙ first-seen H leaves run kept c.args.j _ c.self.invariant.even inside
-    in let link : next H leaves c.args.j ≡ chain_from H leaves c.args.j ∷ [] = cond-true _ _ _ (lt-ltb (64 * c.args.j) (length leaves) less)
+    in let own : next H leaves c.args.j ≡ c.index.result.now ∷ [] =
+    next-seen H leaves run (c.self.view_is ∙ same) c.args.j c.index.result.now _ c.self.invariant.even inside c.index.ensures
     in (
       λ holds. let clash : true ≡ false = sym holds ∙ c.if-eq.false in absurd (cc),
       λ is. c.eq.ensures
           ∙ (bytes_eq-Decides theirs c.index.result.now).1
-          ((left-one ds theirs (chain_from H leaves c.args.j) c.in-Some.ensures.first (is ∙ link)).0 ∙ sym own),
+          (left-one (g.S.ShownTree.digests c.args.shown.now) theirs c.index.result.now c.in-Some.ensures.first (is ∙ own)).0,
     )
