@@ -34,15 +34,6 @@ reached_after bounds lanes r cut i reached cannot next = record {
   ];
 }
 
--- if the chosen answer is not settled, none is
-pub cannot_settle : (bounds : Bounding) (lanes : List WholeLane) (r : ℕ) (cut : List ℕ) (walk : Walk) → IsStand bounds lanes r cut walk
-    → (IsSettled walk.brackets walk.picks walk.threshold r → ⊥) → CanSettleBy bounds lanes r cut → ⊥
-cannot_settle bounds lanes r cut walk stand unsettled can =
-    let same : can.brackets ≡ walk.brackets = one_bracketing bounds (shown lanes cut) can.brackets walk.brackets can.bounded stand.brackets in
-    let inside : ArePicks walk.brackets can.answer = subst (λ (bs : List Bracket). ArePicks bs can.answer) same can.inside in
-    let here : IsSettled can.brackets can.answer walk.threshold r = subst (λ (t : ℕ). IsSettled can.brackets can.answer t r) (sym stand.threshold) can.settled in
-    unsettled (stand.best can.answer inside (subst (λ (bs : List Bracket). IsSettled bs can.answer walk.threshold r) same here))
-
 -- if it is settled, the walk ends
 pub end_at : (bounds : Bounding) (lanes : List WholeLane) (r : ℕ) (cut : List ℕ) (walk : Walk) → IsReached bounds lanes r cut → IsStand bounds lanes r cut walk
     → IsSettled walk.brackets walk.picks walk.threshold r → IsEnd bounds lanes r walk

@@ -1,5 +1,5 @@
 -- The chosen answer is settled if any answer is.
-use Rattle.std.proofs.Common.{◌≡◌, ◌⊎◌, ◌<◌, ◌≤◌, ◌+◌, ◌-◌, ◌*◌, min, ℕ, zero, suc, true, false, nat_eq, cond, List, length, take, drop, get_or, sym, ap, ◌∙◌, inl, inr, arith, take_all, length-take, length-drop, drop-cons}
+use Rattle.std.proofs.Common.{◌≡◌, ◌⊎◌, ◌<◌, ◌≤◌, ◌+◌, ◌-◌, ◌*◌, min, ℕ, zero, suc, true, false, nat_eq, cond, List, length, take, drop, get_or, refl, sym, ap, ◌∙◌, inl, inr, arith, take_all, length-take, length-drop, drop-cons}
 use Rattle.std.specs.List.{All, sum_by, range_with_len}
 use Rattle.std.specs.Ordering.{nat_cmp, is_lt}
 use Rattle.std.specs.declared.cmp.Ordering.TheVariants.{Less, Equal}
@@ -18,7 +18,7 @@ use Rattle.ats_bound.specs.Chosen.{AreBrackets, IsChosen, bracket_cmp, place_cmp
 use Rattle.ats_bound.proofs.Places.{counted_places, few_places, some_place, position_of, stands_twice, range_once, range_has, range_below}
 
 -- b is not before a
-abbrev NotBefore : Bracket → Bracket → Type 0
+abbrev pub NotBefore : Bracket → Bracket → Type 0
 NotBefore a b = (b.lo ≤ a.lo) × (a.lo ≤ b.lo → b.hi ≤ a.hi)
 
 lower_of : (a b : Bracket) → is_lt (bracket_cmp b a) ≡ false → b.lo ≤ a.lo
@@ -71,10 +71,77 @@ module _ (brackets : List Bracket) (all : List ℕ) (ordered : IsSorted (place_c
       rw step (not_before_trans (at p) (at (p + suc m)) (at ((p + suc m) + 1)) (falls_by m p (omega (arith, inside))) here)
 
   -- a later place is not before an earlier one in the order
-  falls : (p q : ℕ) → p < q → q < length all → NotBefore (at p) (at q)
+  pub falls : (p q : ℕ) → p < q → q < length all → NotBefore (at p) (at q)
   falls p q less inside =
       let step : p + suc (q - p - 1) ≡ q = omega arith in
       rw step at (falls_by (q - p - 1) p (omega (arith, inside)))
+
+-- sorted places
+module _ (brackets : List Bracket) (all : List ℕ) (same : IsPermutation (range_with_len 0 (length brackets)) all) where
+  abbrev put : ℕ → Bracket
+  put p = bracket_at brackets (get_or all p 0)
+
+  abbrev total : ℕ
+  total = length brackets
+
+  below : All (λ i. i < total) all
+  below = All-permutation (λ i. i < total) _ _ same (range_below total)
+
+  times_all : (i : ℕ) → times i all ≡ times i (range_with_len 0 total)
+  times_all i = sum_by-IsPermutation (λ x. cond (nat_eq x i) 1 0) _ _ same
+
+  once_all : (i : ℕ) → times i all ≤ 1
+  once_all i = omega (arith, times_all i, range_once i 0 total)
+
+  size : length all ≡ total
+  size = length_permutation _ _ same ∙ length-range_with_len 0 total
+
+  -- their first ones are settled, if each scores at least what any later one can score, and nothing that is not met can score more
+  module _ (threshold r : ℕ) (falls : (p q : ℕ) → p < q → q < length all → p < r → (put q).hi ≤ (put p).lo) (none : total < r → threshold ≡ 0)
+      (unmet : 0 < length (take r all) → 0 < threshold → threshold ≤ (put (length (take r all) - 1)).lo) where
+    count_split : (i : ℕ) → times i (take r all) + times i (drop r all) ≡ times i all
+    count_split i = sum_by-take-drop (λ x. cond (nat_eq x i) 1 0) all r
+
+    whole_size : length (take r all) ≡ min r total
+    whole_size = rw size at (length-take r all)
+
+    row_is : (k : ℕ) → k < length (take r all) → get_or (take r all) k 0 ≡ get_or all k 0
+    row_is k low = get_or-take r all k 0 (omega (arith, low, whole_size))
+
+    whole : (length (take r all) ≡ r) ⊎ (((i : ℕ) → i < total → 1 ≤ times i (take r all)) × (threshold ≡ 0))
+    whole = elim (cases_lt total r) [
+      | inr long ↦ inl (omega (arith, whole_size, long))
+      | inl short ↦
+          let all_of : take r all ≡ all = take_all r all (omega (arith, size, short)) in
+          inr ((λ (i : ℕ) (low : i < total). rw all_of (omega (arith, times_all i, range_has i total low))), none short)
+    ]
+
+    falling : (k : ℕ) → k + 1 < length (take r all) → (row brackets (take r all) (k + 1)).hi ≤ (row brackets (take r all) k).lo
+    falling k low =
+        let here : k < length (take r all) = omega (arith, low) in
+        rw (row_is (k + 1) low, row_is k here) (falls k (k + 1) (omega arith) (omega (arith, low, whole_size, size)) (omega (arith, low, whole_size)))
+
+    abbrev last : ℕ
+    last = length (take r all) - 1
+
+    rest : (i : ℕ) → IsOutside brackets (take r all) i → 0 < length (take r all) → (bracket_at brackets i).hi ≤ (last_row brackets (take r all)).lo
+    rest i out some =
+        let there : 1 ≤ times i (drop r all) = omega (arith, times_all i, range_has i total out.0, count_split i, out.1) in
+        let found = position_of i (drop r all) there in
+        let is : get_or all (r + found.0) 0 ≡ i = sym (get_or-drop r all found.0 0) ∙ found.2 in
+        let low : r + found.0 < length all = omega (arith, found.1, length-drop r all) in
+        let few : last < r = omega (arith, some, whole_size) in
+        rw (row_is last (omega arith)) (rw is at (falls last (r + found.0) (omega (arith, few)) low few))
+
+    places_settled : IsSettled brackets (take r all) threshold r
+    places_settled = record {
+      once = λ i. omega (arith, count_split i, once_all i);
+      most = omega (arith, whole_size);
+      whole = whole;
+      falling = falling;
+      rest = rest;
+      unmet = λ some more. rw (row_is last (omega arith)) (unmet some more);
+    }
 
 module _ (brackets : List Bracket) (threshold r : ℕ) (answer all : List ℕ) (proper : AreBrackets brackets)
     (inside : ArePicks brackets answer) (settled : IsSettled brackets answer threshold r)
@@ -87,21 +154,6 @@ module _ (brackets : List Bracket) (threshold r : ℕ) (answer all : List ℕ) (
 
   proper_at : (i : ℕ) → i < n → (of i).lo ≤ (of i).hi
   proper_at i low = proper i (record { doc = 0; lo = 0; hi = 0 }) low
-
-  below : All (λ i. i < n) all
-  below = All-permutation (λ i. i < n) _ _ same (range_below n)
-
-  times_all : (i : ℕ) → times i all ≡ times i (range_with_len 0 n)
-  times_all i = sum_by-IsPermutation (λ x. cond (nat_eq x i) 1 0) _ _ same
-
-  once_all : (i : ℕ) → times i all ≤ 1
-  once_all i = omega (arith, times_all i, range_once i 0 n)
-
-  has_all : (i : ℕ) → i < n → 1 ≤ times i all
-  has_all i low = omega (arith, times_all i, range_has i n low)
-
-  size : length all ≡ n
-  size = length_permutation _ _ same ∙ length-range_with_len 0 n
 
   chain : (m k : ℕ) → k + suc m < length answer → (row brackets answer (k + suc m)).hi ≤ (row brackets answer k).lo
   chain zero k low =
@@ -167,37 +219,37 @@ module _ (brackets : List Bracket) (threshold r : ℕ) (answer all : List ℕ) (
         rw (is, js) at (apart_rows first.0 second.0 first.1 second.1 (λ (e : get_or answer first.0 0 ≡ get_or answer second.0 0). differ (sym is ∙ e ∙ js)))
   ]
 
-  abbrev put : ℕ → ℕ
-  put p = get_or all p 0
+  abbrev place : ℕ → ℕ
+  place p = get_or all p 0
 
-  put_low : (p : ℕ) → p < length all → put p < n
-  put_low p low = below p 0 low
+  put_low : (p : ℕ) → p < length all → place p < n
+  put_low p low = below brackets all same p 0 low
 
-  put_apart : (p q : ℕ) → p < q → q < length all → put p ≡ put q → ⊥
-  put_apart p q less low is = omega (arith, stands_twice all p q less low is, once_all (put q))
+  put_apart : (p q : ℕ) → p < q → q < length all → place p ≡ place q → ⊥
+  put_apart p q less low is = omega (arith, stands_twice all p q less low is, once_all brackets all same (place q))
 
   -- if the answer has r rows and one of the first r brackets is outside it, a later one is in it
-  later_pick : (p : ℕ) → p < length all → p < r → length answer ≡ r → times (put p) answer ≡ 0
-      → (q : ℕ) × (p < q) × (q < length all) × (1 ≤ times (put q) answer)
+  later_pick : (p : ℕ) → p < length all → p < r → length answer ≡ r → times (place p) answer ≡ 0
+      → (q : ℕ) × (p < q) × (q < length all) × (1 ≤ times (place q) answer)
   later_pick p low few full none =
       let weight : ℕ → ℕ = λ i. times i answer in
       let total : sum_by weight all ≡ length answer = sum_by-IsPermutation weight _ _ same ∙ counted_places n answer inside in
       let parts : sum_by weight (take p all) + sum_by weight (drop p all) ≡ sum_by weight all = sum_by-take-drop weight all p in
-      let next : sum_by weight (drop p all) ≡ weight (put p) + sum_by weight (drop (suc p) all) =
-      ap (sum_by weight) (drop-cons all p 0 low) ∙ sum_by-cons weight (put p) (drop (suc p) all) in
+      let next : sum_by weight (drop p all) ≡ weight (place p) + sum_by weight (drop (suc p) all) =
+      ap (sum_by weight) (drop-cons all p 0 low) ∙ sum_by-cons weight (place p) (drop (suc p) all) in
       let front : sum_by weight (take p all) ≤ length (take p all) * 1 = sum_by-le weight 1 (take p all) (λ k d within. settled.once (get_or (take p all) k d)) in
       let some : 0 < sum_by weight (drop (suc p) all) = omega (arith, total, parts, next, front, length-take p all, none, full, few) in
       let found = some_place answer (drop (suc p) all) some in
-      let there : get_or (drop (suc p) all) found.0 0 ≡ put (suc p + found.0) = get_or-drop (suc p) all found.0 0 in
+      let there : get_or (drop (suc p) all) found.0 0 ≡ place (suc p + found.0) = get_or-drop (suc p) all found.0 0 in
       (suc p + found.0, omega arith, omega (arith, found.1, length-drop (suc p) all), rw there at found.2)
 
-  put_floor : (p : ℕ) → p < length all → p < r → length answer ≡ r → floor ≤ (of (put p)).lo
-  put_floor p low few full = elim (cases_lt 0 (times (put p) answer)) [
-    | inl some ↦ pick_floor (put p) (omega (arith, some))
+  put_floor : (p : ℕ) → p < length all → p < r → length answer ≡ r → floor ≤ (of (place p)).lo
+  put_floor p low few full = elim (cases_lt 0 (times (place p) answer)) [
+    | inl some ↦ pick_floor (place p) (omega (arith, some))
     | inr none ↦
         let later = later_pick p low few full (omega (arith, none)) in
         let order = falls brackets all ordered p later.0 later.1 later.2 in
-        omega (arith, order.0, pick_floor (put later.0) later.3)
+        omega (arith, order.0, pick_floor (place later.0) later.3)
   ]
 
   by_apart : (a b : Bracket) → a.lo ≤ a.hi → NotBefore a b → ((a.hi ≤ b.lo) ⊎ (b.hi ≤ a.lo)) → b.hi ≤ a.lo
@@ -212,91 +264,58 @@ module _ (brackets : List Bracket) (threshold r : ℕ) (answer all : List ℕ) (
   flip i j (inr le) = inl le
 
   -- the least that one of the first r brackets scores is at least what any later one can score
-  put_falls : (p q : ℕ) → p < q → q < length all → p < r → (of (put q)).hi ≤ (of (put p)).lo
+  put_falls : (p q : ℕ) → p < q → q < length all → p < r → (of (place q)).hi ≤ (of (place p)).lo
   put_falls p q less low few =
       let first : p < length all = omega (arith, low) in
-      let order : NotBefore (of (put p)) (of (put q)) = falls brackets all ordered p q less low in
-      let right : (of (put p)).lo ≤ (of (put p)).hi = proper_at (put p) (put_low p first) in
+      let order : NotBefore (of (place p)) (of (place q)) = falls brackets all ordered p q less low in
+      let right : (of (place p)).lo ≤ (of (place p)).hi = proper_at (place p) (put_low p first) in
       let differ = put_apart p q less low in
-      elim (cases_lt 0 (times (put p) answer)) [
-        | inl some ↦ by_apart (of (put p)) (of (put q)) right order (apart (put p) (put q) (put_low q low) differ (omega (arith, some)))
-        | inr none ↦ elim (cases_lt 0 (times (put q) answer)) [
+      elim (cases_lt 0 (times (place p) answer)) [
+        | inl some ↦ by_apart (of (place p)) (of (place q)) right order (apart (place p) (place q) (put_low q low) differ (omega (arith, some)))
+        | inr none ↦ elim (cases_lt 0 (times (place q) answer)) [
           | inl some ↦
-              by_apart (of (put p)) (of (put q)) right order
-              (flip (put q) (put p) (apart (put q) (put p) (put_low p first) (λ (e : put q ≡ put p). differ (sym e)) (omega (arith, some))))
+              by_apart (of (place p)) (of (place q)) right order
+              (flip (place q) (place p) (apart (place q) (place p) (put_low p first) (λ (e : place q ≡ place p). differ (sym e)) (omega (arith, some))))
           | inr neither ↦ elim settled.whole [
             | inl full ↦
-                let out : (of (put q)).hi ≤ floor = settled.rest (put q) (put_low q low, omega (arith, neither)) (omega (arith, few, full)) in
+                let out : (of (place q)).hi ≤ floor = settled.rest (place q) (put_low q low, omega (arith, neither)) (omega (arith, few, full)) in
                 omega (arith, out, put_floor p first few full)
-            | inr every ↦ absurd (omega (arith, every.0 (put p) (put_low p first), none))
+            | inr every ↦ absurd (omega (arith, every.0 (place p) (put_low p first), none))
           ]
         ]
       ]
 
-  count_split : (i : ℕ) → times i (take r all) + times i (drop r all) ≡ times i all
-  count_split i = sum_by-take-drop (λ x. cond (nat_eq x i) 1 0) all r
-
-  whole_size : length (take r all) ≡ min r n
-  whole_size = rw size at (length-take r all)
-
-  row_is : (k : ℕ) → k < length (take r all) → get_or (take r all) k 0 ≡ put k
-  row_is k low = get_or-take r all k 0 (omega (arith, low, whole_size))
-
-  whole : (length (take r all) ≡ r) ⊎ (((i : ℕ) → i < n → 1 ≤ times i (take r all)) × (threshold ≡ 0))
-  whole = elim settled.whole [
-    | inl full ↦ inl (omega (arith, whole_size, full, few_places n answer inside settled.once))
-    | inr every ↦ elim (cases_lt n r) [
-      | inr long ↦ inl (omega (arith, whole_size, long))
-      | inl short ↦
-          let all_of : take r all ≡ all = take_all r all (omega (arith, size, short)) in
-          inr ((λ (i : ℕ) (low : i < n). rw all_of (has_all i low)), every.1)
-    ]
-  ]
-
-  falling : (k : ℕ) → k + 1 < length (take r all) → (row brackets (take r all) (k + 1)).hi ≤ (row brackets (take r all) k).lo
-  falling k low =
-      let here : k < length (take r all) = omega (arith, low) in
-      rw (row_is (k + 1) low, row_is k here) (put_falls k (k + 1) (omega arith) (omega (arith, low, whole_size, size)) (omega (arith, low, whole_size)))
-
-  abbrev last : ℕ
-  last = length (take r all) - 1
-
-  last_is : 0 < length (take r all) → get_or (take r all) last 0 ≡ put last
-  last_is some = row_is last (omega arith)
-
-  rest : (i : ℕ) → IsOutside brackets (take r all) i → 0 < length (take r all) → (of i).hi ≤ (last_row brackets (take r all)).lo
-  rest i out some =
-      let there : 1 ≤ times i (drop r all) = omega (arith, has_all i out.0, count_split i, out.1) in
-      let found = position_of i (drop r all) there in
-      let is : put (r + found.0) ≡ i = sym (get_or-drop r all found.0 0) ∙ found.2 in
-      let low : r + found.0 < length all = omega (arith, found.1, length-drop r all) in
-      let few : last < r = omega (arith, some, whole_size) in
-      rw (last_is some) (rw is at (put_falls last (r + found.0) (omega (arith, few)) low few))
-
-  unmet : 0 < length (take r all) → 0 < threshold → threshold ≤ (last_row brackets (take r all)).lo
-  unmet some more = elim settled.whole [
+  last_floor : 0 < length (take r all) → 0 < threshold → threshold ≤ (of (place (length (take r all) - 1))).lo
+  last_floor some more = elim settled.whole [
     | inr every ↦ absurd (omega (arith, every.1, more))
     | inl full ↦
-        let few : last < r = omega (arith, some, whole_size) in
+        let few : length (take r all) - 1 < r = omega (arith, some, length-take r all) in
         let here : threshold ≤ floor = settled.unmet (omega (arith, full, few)) more in
-        rw (last_is some) (omega (arith, here, put_floor last (omega (arith, some, whole_size, size)) few full))
+        omega (arith, here, put_floor (length (take r all) - 1) (omega (arith, some, length-take r all)) few full)
+  ]
+
+  none : n < r → threshold ≡ 0
+  none short = elim settled.whole [
+    | inl full ↦ absurd (omega (arith, short, full, few_places n answer inside settled.once))
+    | inr every ↦ every.1
   ]
 
   chosen_settled : IsSettled brackets (take r all) threshold r
-  chosen_settled = record {
-    once = λ i. omega (arith, count_split i, once_all i);
-    most = omega (arith, whole_size);
-    whole = whole;
-    falling = falling;
-    rest = rest;
-    unmet = unmet;
-  }
+  chosen_settled = places_settled brackets all same threshold r put_falls none last_floor
 
 -- if any answer is settled, the chosen one is
 pub chosen_is_settled : (brackets : List Bracket) (threshold r : ℕ) (answer picks : List ℕ) → AreBrackets brackets → ArePicks brackets answer
     → IsSettled brackets answer threshold r → IsChosen brackets r picks → IsSettled brackets picks threshold r
 chosen_is_settled brackets threshold r answer picks proper inside settled chosen =
     rw chosen.first (chosen_settled brackets threshold r answer chosen.all proper inside settled chosen.same chosen.ordered)
+
+-- if no bracket leaves a score open, the chosen answer is settled at a threshold of 0
+pub even_settled : (brackets : List Bracket) (r : ℕ) (all : List ℕ) → ((i : ℕ) → i < length brackets → (bracket_at brackets i).hi ≤ (bracket_at brackets i).lo)
+    → IsPermutation (range_with_len 0 (length brackets)) all → IsSorted (place_cmp brackets) all → IsSettled brackets (take r all) 0 r
+even_settled brackets r all even same ordered =
+    places_settled brackets all same 0 r
+    (λ p q less inside few. omega (arith, even (get_or all q 0) (below brackets all same q 0 inside), (falls brackets all ordered p q less inside).0))
+    (λ short. refl) (λ some more. omega (arith, more))
 
 -- the picks of the chosen answer are places
 pub chosen_are_picks : (brackets : List Bracket) (r : ℕ) (picks : List ℕ) → IsChosen brackets r picks → ArePicks brackets picks

@@ -25,11 +25,6 @@ decided_if (inr not) second = inl (λ here. absurd (not here))
 decided_if (inl here) (inl also) = inl (λ _. also)
 decided_if (inl here) (inr not) = inr (λ from. not (from here))
 
-pub decided_both : {P Q : Type 0} → IsDecided P → IsDecided Q → IsDecided (P × Q)
-decided_both (inr not) second = inr (λ both. not both.0)
-decided_both (inl here) (inl also) = inl (here, also)
-decided_both (inl here) (inr not) = inr (λ both. not both.1)
-
 more_below : (P : ℕ → Type 0) (n : ℕ) → IsDecided (P n) → IsDecided ((k : ℕ) → k < n → P k) → IsDecided ((k : ℕ) → k < suc n → P k)
 more_below P n last (inr not) = inr (λ all. not (λ k less. all k (omega (arith, less))))
 more_below P n (inr not) (inl before) = inr (λ all. not (all n (omega arith)))

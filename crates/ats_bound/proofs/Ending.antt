@@ -11,7 +11,7 @@ use Rattle.ats_bound.specs.Schedule.{WholeLane, Bounding, AreWholeLanes, CanSett
 use Rattle.ats_bound.specs.Stand.{IsReached}
 use Rattle.ats_bound.specs.Lookup.{Table, looked_up}
 use Rattle.ats_bound.proofs.Advance.{reached_first, reached_after}
-use Rattle.ats_bound.proofs.Chain.{chosen_are_picks}
+use Rattle.ats_bound.proofs.Chain.{chosen_are_picks, even_settled}
 use Rattle.ats_bound.proofs.Deciding.{decided_can_settle}
 use Rattle.ats_bound.proofs.Gathered.{brackets_exist}
 use Rattle.ats_bound.proofs.Greatest.{IsGreatest, none_yet, greater, no_greater, none_left, next_at}
@@ -19,7 +19,6 @@ use Rattle.ats_bound.proofs.Narrow.{is_narrow}
 use Rattle.ats_bound.proofs.Scores.{held_or_missing}
 use Rattle.ats_bound.proofs.Shown.{cut_after, fewer_hidden, first_is_cut, have_entries, hidden, length-shown, no_shown}
 use Rattle.ats_bound.proofs.Sorted.{chosen_exists}
-use Rattle.ats_bound.proofs.Whole.{even_settled}
 
 -- the largest rest of the first lanes is at some place
 abbrev HasGreatest : List ShownLane → ℕ → Type 0

@@ -76,13 +76,6 @@ sifted_end xs k but next i j le inside = elim (cases_order i k) [
       ]
 ]
 
--- after a write of a value that is no lower, all but it ascend
-pub put_ascends : (xs : List ℕ) (k v : ℕ) → Ascends xs → k < length xs → get_or xs k 0 ≤ v → AscendsBut k (set xs k v)
-put_ascends xs k v up inside more = record {
-  before = λ i low. omega (arith, get_or-set_other xs k i v 0 (λ e. omega (arith, e, low)), get_or-set_same xs k v 0 inside, up i k (omega (arith, low)) inside, more);
-  others = λ i j le low not_i not_j. omega (arith, get_or-set_other xs k i v 0 not_i, get_or-set_other xs k j v 0 not_j, up i j le (omega (arith, low, length-set xs k v)));
-}
-
 -- ---- counts
 
 -- 1 if the value is at least `least`, else 0

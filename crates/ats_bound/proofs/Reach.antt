@@ -24,7 +24,7 @@ use Rattle.ats_bound.proofs.Kept.{count_cons, count_permuted, count_set, reached
 use Rattle.ats_bound.proofs.One.{one_bracketing}
 use Rattle.ats_bound.proofs.Places.{range_below, stands, times-cons, times_same}
 use Rattle.ats_bound.proofs.Exactly.{lows_are, scored_proper}
-use Rattle.ats_bound.proofs.Whole.{even_settled, falls}
+use Rattle.ats_bound.proofs.Chain.{even_settled, falls}
 
 pub count_none : (least : ℕ) (xs : List ℕ) → ((i : ℕ) → i < length xs → get_or xs i 0 < least) → count_at_least least xs ≡ 0
 count_none least [] low = refl
@@ -144,7 +144,7 @@ module _ (brackets : List Bracket) (r : ℕ) (some : 1 ≤ r) (all : List ℕ) (
   fall : (i j : ℕ) → i < j → j < length lows → get_or lows j 0 ≤ get_or lows i 0
   fall i j less inside =
       let there : j < n = omega (arith, inside, lows_size) in
-      rw (lows_at j there, lows_at i (omega (arith, less, there))) (falls brackets r all even same ordered i j less (omega (arith, there, size)))
+      rw (lows_at j there, lows_at i (omega (arith, less, there))) (falls brackets all ordered i j less (omega (arith, there, size))).0
 
   last_is : r ≤ n → (last_row brackets (take r all)).lo ≡ get_or lows (r - 1) 0
   last_is enough =

@@ -17,7 +17,7 @@ use Rattle.ats_bound.specs.QuickTest.{PassesQuickTest, TellsSettled}
 use Rattle.ats_bound.specs.Running.{DoOverlap, IsAround, IsOpenAt, IsRunning}
 use Rattle.ats_bound.specs.Schedule.{AreBracketsOf, CanSettleBy}
 use Rattle.ats_bound.specs.Settled.{ArePicks, IsSettled, bracket_at, last_row}
-use Rattle.ats_bound.proofs.Chain.{chosen_are_picks, chosen_is_settled}
+use Rattle.ats_bound.proofs.Chain.{chosen_are_picks, chosen_is_settled, even_settled}
 use Rattle.ats_bound.proofs.Kept.{count_short, reached}
 use Rattle.ats_bound.proofs.KnownBrackets.{bracket_of_slot, counts_agree}
 use Rattle.ats_bound.proofs.One.{are_brackets, one_bracketing, risen_are_distinct}
@@ -25,7 +25,6 @@ use Rattle.ats_bound.proofs.OneAnswer.{one_chosen}
 use Rattle.ats_bound.proofs.Open.{above_least, few_above, full, no_overlap, found, sum_of_map}
 use Rattle.ats_bound.proofs.Reach.{count_lows, settled_passes}
 use Rattle.ats_bound.proofs.Scores.{missing_within}
-use Rattle.ats_bound.proofs.Whole.{even_settled}
 
 abbrev none : Bracket
 none = record { doc = 0; lo = 0; hi = 0 }

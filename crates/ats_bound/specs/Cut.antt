@@ -10,10 +10,6 @@ pub record ShownLane : Type 0 where
   pub total : ℕ
   pub shown : List Entry
 
--- at least one entry is shown, and at most all
-abbrev pub IsShownLane : ShownLane → Type 0
-IsShownLane lane = (1 ≤ length lane.shown) × (length lane.shown ≤ lane.total)
-
 -- the first k entries of a list are shown
 abbrev pub lane_of : ℕ → List Entry → ℕ → ShownLane
 lane_of coefficient entries k = record { coefficient = coefficient; total = length entries; shown = take k entries }
