@@ -51,15 +51,6 @@ scores_are_looked table lanes cut brackets same of = record {
   each = λ i d inside. of.each i d inside ∙ exact_is_looked table lanes cut (get_or brackets i d).doc same;
 }
 
--- and back
-pub looked_are_scores : (table : Table) (lanes : List WholeLane) (cut : List ℕ) (brackets : List Bracket) → length cut ≡ length lanes
-    → AreBracketsBy (looked_up table) (shown lanes cut) brackets → AreBracketsBy (exactly (score_by table lanes)) (shown lanes cut) brackets
-looked_are_scores table lanes cut brackets same of = record {
-  rise = of.rise;
-  met = of.met;
-  each = λ i d inside. of.each i d inside ∙ sym (exact_is_looked table lanes cut (get_or brackets i d).doc same);
-}
-
 pub looked_is_narrow : (table : Table) (lanes : List ShownLane) (doc : ℕ) → IsNarrow (threshold lanes) doc (looked_up table lanes doc)
 looked_is_narrow table lanes doc =
     let score : ℕ = looked_score table lanes doc in
