@@ -4,7 +4,7 @@ use Rattle.std.proofs.lemmas.List.{length-take-le}
 use Rattle.std.proofs.lemmas.List.Elements.{All-drop}
 use Rattle.ats_lists.specs.Blocks.{blocks_in}
 use Rattle.ats_lists.specs.ChainClash.{list_difference_of}
-use Rattle.ats_lists.specs.ChainPrefix.{has_next, next_digest}
+use Rattle.ats_lists.specs.ChainPrefix.{next_digest}
 use Rattle.ats_lists.proofs.Fronts.{front-length}
 use Rattle.ats_lists.proofs.BlockLemmas.{blocks-div_ceil, shown-front}
 use Rattle.ats_lists.proofs.ChainOutcomes.{chain-fits, not-none, none-next, next-is, block-count, for-next-few, search-steps}

@@ -1,7 +1,6 @@
-use Rattle.std.proofs.Common.{◌≡◌, ◌+◌, ◌-◌, ◌*◌, ◌≤◌, length, nat_lt, refl, sym, ◌∙◌, ap, arith, Some}
+use Rattle.std.proofs.Common.{◌≡◌, ◌+◌, ◌-◌, ◌*◌, ◌≤◌, length, nat_lt, refl, sym, ◌∙◌, ap, arith}
 use Rattle.std.proofs.lemmas.List.{length-drop}
 use Rattle.ats_lists.specs.Blocks.{blocks_in}
-use Rattle.ats_lists.specs.ChainPrefix.{has_next, chain_rebuilt}
 use Rattle.ats_lists.proofs.ChainOutcomes.{none-short, none-next, none-left, chain-some, none-gone, next-there, some-left, steps-by_places, for-next-few, for_next, block-count}
 use Rattle.ats_lists.proofs.ChainBinding.{chain-bound_to}
 use Rattle.ats_lists.proofs.chain_rebuilding.rebuild_front.Goals as goal

@@ -1,6 +1,4 @@
-use Rattle.std.proofs.Common.{◌≡◌, ℕ, ◌*◌, ◌/◌, ◌<◌, List, [], ◌∷◌, ◌++◌, length, ◌∙◌, ap, sym, arith}
-use Rattle.std.proofs.lemmas.Bool.{cond-true, lt-ltb}
-use Rattle.ats_lists.specs.KeptChain.{kept_chain, chain_in}
+use Rattle.std.proofs.Common.{ℕ, ◌*◌, ◌<◌, List, ◌++◌, length, ◌∙◌, ap, sym, arith}
 use Rattle.ats_lists.proofs.KeptChains.{next-seen}
 use Rattle.ats_lists.proofs.chain_keeping.Chain.elide_link.Goals as goal
 

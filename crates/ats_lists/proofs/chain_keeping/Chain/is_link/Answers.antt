@@ -1,8 +1,6 @@
-use Rattle.std.proofs.Common.{◌≡◌, ℕ, ◌*◌, ◌/◌, ◌<◌, List, [], ◌∷◌, length, drop, true, false, nat_lt, if◌then◌else◌, ◌∙◌, ap, sym, arith}
-use Rattle.std.proofs.lemmas.Bool.{cond-true, lt-ltb}
+use Rattle.std.proofs.Common.{◌≡◌, ℕ, ◌*◌, ◌<◌, List, [], ◌∷◌, length, drop, true, false, nat_lt, if◌then◌else◌, ◌∙◌, ap, sym, arith}
 use Rattle.std.proofs.lemmas.Slice.Eq.{bytes_eq-Decides}
 use Rattle.ats_lists.specs.Chain.{chain_from}
-use Rattle.ats_lists.specs.KeptChain.{kept_chain, chain_in}
 use Rattle.ats_lists.proofs.KeptChains.{next-seen, none-left, none-told, one-left, left-one}
 use Rattle.ats_lists.proofs.chain_keeping.Chain.is_link.Goals as goal
 

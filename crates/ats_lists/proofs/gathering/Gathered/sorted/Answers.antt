@@ -1,7 +1,4 @@
-use Rattle.std.proofs.Common.{◌≡◌, ◌<◌, ◌∙◌, ℕ, List, [], length, get_or, sym, subst, arith}
-use Rattle.ats_lists.specs.Gathered.{Pairs, entries_under, term_of, pairs_of, HasRun}
-use Rattle.ats_lists.specs.declared.entry.Entry.{Entry}
-use Rattle.ats_lists.specs.declared.gathering.Logged.{Logged}
+use Rattle.std.proofs.Common.{◌∙◌, arith}
 use Rattle.ats_lists.proofs.PartedLemmas.{parted_gathered, parted_lists, parted_terms}
 use Rattle.ats_lists.proofs.WholeLemmas.{lists_keep}
 use Rattle.ats_lists.proofs.gathering.Gathered.sorted.Goals as goal

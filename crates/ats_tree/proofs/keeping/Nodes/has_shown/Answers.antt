@@ -1,9 +1,8 @@
-use Rattle.std.proofs.Common.{◌≡◌, ◌+◌, ◌/◌, ◌≤◌, ℕ, List, [], ◌∷◌, length, drop, arith, sym, refl, ◌∙◌, ap, true, false, not, Bool}
+use Rattle.std.proofs.Common.{◌≡◌, ◌+◌, ◌/◌, ◌≤◌, ℕ, List, [], ◌∷◌, length, arith, sym, refl, ◌∙◌, ap, true, false, not, Bool}
 use Rattle.std.specs.List.{slice_get}
 use Rattle.std.specs.Option.{is_some}
 use Rattle.ats_tree.specs.Shown.{Shown, first_position}
-use Rattle.ats_tree.specs.Part.{shown_from}
-use Rattle.ats_tree.specs.Kept.{kept_digests, elided_part}
+use Rattle.ats_tree.specs.Kept.{kept_digests}
 use Rattle.ats_tree.proofs.Positions.{rises-increasing}
 use Rattle.ats_tree.proofs.KeptLemmas.{kept-number, length-kept}
 use Rattle.ats_tree.proofs.OwnParts.{no, own-whole, whole-own, whole-leaves, whole-digests}
