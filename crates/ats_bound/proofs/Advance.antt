@@ -1,12 +1,10 @@
 -- The walk takes turn after turn until an answer is settled.
-use Rattle.std.proofs.Common.{◌≡◌, ◌+◌, ℕ, suc, List, set, get_or, refl, sym, subst, arith, inl, inr}
+use Rattle.std.proofs.Common.{◌+◌, ℕ, suc, List, set, get_or, refl, sym, subst, arith, inl, inr}
 use Rattle.std.proofs.lemmas.Bool.{cases_order}
-use Rattle.ats_bound.specs.declared.bracket.Bracket.{Bracket}
 use Rattle.ats_bound.specs.declared.walk.Walk.{Walk}
-use Rattle.ats_bound.specs.Settled.{ArePicks, IsSettled}
-use Rattle.ats_bound.specs.Schedule.{WholeLane, Bounding, IsNextLane, IsScheduled, CanSettleBy, IsFirstSettledBy, first_cut, shown}
+use Rattle.ats_bound.specs.Settled.{IsSettled}
+use Rattle.ats_bound.specs.Schedule.{WholeLane, Bounding, IsNextLane, IsScheduled, CanSettleBy, IsFirstSettledBy, first_cut}
 use Rattle.ats_bound.specs.Stand.{IsStand, IsEnd, IsReached}
-use Rattle.ats_bound.proofs.One.{one_bracketing}
 use Rattle.ats_bound.proofs.OneCut.{one_schedule}
 
 -- the walk begins at the first cut
