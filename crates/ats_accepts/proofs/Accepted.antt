@@ -14,7 +14,7 @@ use Rattle.ats_accepts.proofs.AcceptedRows.{honest_accepted}
 pub has_documents : (H : List ℕ → List ℕ) (archive : Archive) (query : List (List ℕ × ℕ)) (r : ℕ) (algorithm : Algorithm) (bytes : List ℕ)
     → IsProved H archive query r algorithm bytes → 1 ≤ length archive.texts
 has_documents H archive query r algorithm bytes is =
-    let documents : is.proof.header.documents ≡ length archive.texts = ap (λ (h : Header). h.documents) is.honest.header in
+    let documents : is.proof.header.documents ≡ length archive.texts = ap (λ (h : Header). h.documents) is.honest.shows.header in
     let range = in_range bytes is.proof is.spells in
     omega (arith, documents, range.front.numbers.some)
 

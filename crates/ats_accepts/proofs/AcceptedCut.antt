@@ -1,8 +1,7 @@
 -- The check accepts all that a proof shows of a cut of the lists, before the rows of its answer.
-use Rattle.std.proofs.Common.{◌≡◌, ◌+◌, ◌<◌, ◌≤◌, ℕ, List, [], length, map, sym, ap, ap₂, subst, ◌∙◌, arith}
+use Rattle.std.proofs.Common.{◌≡◌, ◌<◌, ◌≤◌, ℕ, List, length, map, sym, ap, ap₂, subst, ◌∙◌}
 use Rattle.std.specs.List.{All}
 use Rattle.std.specs.List.Sorted.{IsStrictlyIncreasing}
-use Rattle.std.proofs.lemmas.List.{get_or_default}
 use Rattle.ats_base.specs.Rules.{AreKept}
 use Rattle.ats_dict.specs.declared.header.Header.{Header}
 use Rattle.ats_lists.specs.declared.format.Format.{Format}
@@ -25,6 +24,7 @@ use Rattle.ats_honest.specs.Terms.{shown_entry, slot_of}
 use Rattle.ats_honest.specs.Lanes.{lanes_of, present}
 use Rattle.ats_honest.specs.Honest.{AreMet, IsShownAt, prefixes}
 use Rattle.ats_honest.proofs.Public.{lanes_have_lists, met_low, met_named, spot_each, standing_present}
+use Rattle.ats_accepts.proofs.Asking.{asks_own}
 use Rattle.ats_accepts.proofs.AcceptedSlots.{needed_shown}
 use Rattle.ats_accepts.proofs.AcceptedTerms.{shown_dictionary, shown_opened, shown_slots}
 use Rattle.ats_accepts.proofs.AcceptedSections.{numbers_ask}
@@ -34,9 +34,7 @@ use Rattle.ats_accepts.proofs.ShownPlaces.{at_place}
 
 -- a document that a shown entry names is among those that the cut meets
 named_in : (lanes : List ShownLane) (documents : List ℕ) → AreMet lanes documents → AreIn documents lanes
-named_in lanes documents are doc is =
-    let at = at_place documents doc are.rise (are.named doc ∙ is) in
-    record { inside = at.within; back = at.there }
+named_in lanes documents are doc is = at_place documents doc are.rise (are.named doc ∙ is)
 
 module _ (H : List ℕ → List ℕ) (archive : Archive) (query : List (List ℕ × ℕ)) (algorithm : Algorithm) (cut documents : List ℕ) (proof : Proof)
     (is_cut : IsCut (lanes_of archive.texts query) cut) (are_met : AreMet (shown (lanes_of archive.texts query) cut) documents)
@@ -67,9 +65,9 @@ module _ (H : List ℕ → List ℕ) (archive : Archive) (query : List (List ℕ
       ∙ ap₂ (λ (s : List Slot) (l : List Prefix). presented_from dict 0 query s l) is.slots is.lists
 
   -- the present terms show the fronts of their lists, as many entries as the cut says
-  pub shown_presented : AreFronts H archive.format (length archive.texts) proof.met lanes cut (presented query proof)
-  shown_presented = subst (AreFronts H archive.format (length archive.texts) proof.met lanes cut) (sym presented_are)
-      (show_terms H archive proof.met is.positions 0 query is.spots is.needed.rise is.found
+  pub shown_presented : AreFronts H archive query proof.met lanes cut (presented query proof)
+  shown_presented = subst (AreFronts H archive query proof.met lanes cut) (sym presented_are)
+      (show_terms H archive query proof.met is.positions 0 query is.spots (asks_own query) is.needed.rise is.found
       (needed_shown is.spots is.positions is.needed) cut is_cut.size)
 
   number : proof.header.documents ≡ length archive.texts
@@ -79,11 +77,11 @@ module _ (H : List ℕ → List ℕ) (archive : Archive) (query : List (List ℕ
   pub shown_lanes : client.lanes_of query proof ≡ cut_lanes
   shown_lanes =
       ap (λ (n : ℕ). map (client.lane_of n proof.met) (presented query proof)) number
-      ∙ front_lanes H archive.format (length archive.texts) proof.met lanes cut (presented query proof) shown_presented are_in
+      ∙ front_lanes H archive query proof.met lanes cut (presented query proof) shown_presented are_in
 
   shown_lists : AreListsRight H query proof
   shown_lists = subst (λ (format : Format). All (IsListRight H format proof.met) (presented query proof)) (sym is.format)
-      (fronts_right H archive.format (length archive.texts) (length archive.texts) proof.met lanes cut (presented query proof) shown_presented (lanes_have_lists archive.texts query) is_cut are_in)
+      (fronts_right H archive query proof.met (length archive.texts) lanes cut (presented query proof) shown_presented (lanes_have_lists archive.texts query) is_cut are_in)
 
   shown_met : AreAllMet (client.lanes_of query proof) proof.met
   shown_met = subst (λ (ls : List ShownLane). AreAllMet ls proof.met) (sym shown_lanes)
@@ -106,10 +104,7 @@ module _ (H : List ℕ → List ℕ) (archive : Archive) (query : List (List ℕ
   named =
       let entries = dictionary_of H archive in
       ap (λ (s : List Slot). map (asked_term query) (present_from 0 s)) is.slots
-      ∙ numbers_ask (asked_term query) is.positions 0 query is.spots (spot_each entries query is.spots is.found)
-      (λ i d inside.
-      let from : 0 + i ≡ i = omega arith in
-      ap (asked_term query) from ∙ ap (λ (pair : List ℕ × ℕ). pair.0) (get_or_default query i ([], 0) d inside))
+      ∙ numbers_ask (asked_term query) is.positions 0 query is.spots (spot_each entries query is.spots is.found) (asks_own query)
       ∙ ap (map (λ (pair : List ℕ × ℕ). pair.0)) (standing_present H archive query is.spots is.found)
 
   -- a tree without leaves is never rebuilt

@@ -7,6 +7,7 @@ use Rattle.ats_commit.specs.Archive.{Archive}
 use Rattle.ats_commit.specs.Root.{root_of}
 use Rattle.ats_bound.specs.declared.bracket.Bracket.{Bracket}
 use Rattle.ats_bound.specs.Cut.{ShownLane, threshold}
+use Rattle.ats_bound.specs.Ranked.{docs_of}
 use Rattle.ats_bound.specs.Settled.{ArePicks, IsSettled}
 use Rattle.ats_bound.specs.Schedule.{Bounding, WholeLane, IsCut, shown}
 use Rattle.ats_bound.proofs.Public.{chosen_are_picks, chosen_is_settled, are_brackets, one_bracketing, has_contained}
@@ -20,8 +21,8 @@ use Rattle.ats_client.specs.Accepts.{Accepts}
 use Rattle.ats_client.proofs.Public.{accepts_each}
 use Rattle.ats_honest.specs.Terms.{has}
 use Rattle.ats_honest.specs.Lanes.{bounding, lanes_of, present}
-use Rattle.ats_honest.specs.Honest.{AreMet, IsHonest, IsShownAt}
-use Rattle.ats_honest.proofs.Public.{docs_of, honest_cut, honest_met, honest_shown}
+use Rattle.ats_honest.specs.Honest.{AreMet, IsHonest}
+use Rattle.ats_honest.proofs.Public.{honest_cut, honest_met}
 use Rattle.ats_accepts.proofs.AcceptedCut.{met_within, sections_kept, shown_lanes}
 use Rattle.ats_accepts.proofs.AcceptedImpacts.{honest_bounds}
 
@@ -61,9 +62,6 @@ module _ (H : List ℕ → List ℕ) (archive : Archive) (query : List (List ℕ
   are_met : AreMet cut_lanes documents
   are_met = honest_met H archive query r algorithm proof honest
 
-  shows : IsShownAt H archive query algorithm honest.cut documents proof
-  shows = honest_shown H archive query r algorithm proof honest
-
   -- ---- the answer
 
   abbrev bounds : Bounding
@@ -81,7 +79,7 @@ module _ (H : List ℕ → List ℕ) (archive : Archive) (query : List (List ℕ
   pub honest_rows : AreRowsRight proof.met proof.answer
   honest_rows = record {
     inside =
-        let size : length honest.brackets ≡ length proof.met = sym (ap (λ (ids : List ℕ). length ids) honest.met ∙ length-map honest.brackets (λ (b : Bracket). b.doc)) in
+        let size : length honest.brackets ≡ length proof.met = sym (ap (λ (ids : List ℕ). length ids) honest.shows.met ∙ length-map honest.brackets (λ (b : Bracket). b.doc)) in
         subst (λ (n : ℕ). All (λ i. i < n) proof.answer) size (chosen_are_picks honest.brackets r proof.answer honest.answer);
     once = settled.once;
   }
@@ -93,19 +91,19 @@ module _ (H : List ℕ → List ℕ) (archive : Archive) (query : List (List ℕ
       let size = length-map honest.brackets (λ (b : Bracket). b.doc) in
       let here : has b.doc (docs_of honest.brackets) ≡ true =
       has_contained b.doc (docs_of honest.brackets) (k, omega (arith, inside, size), get_or-map (λ (b : Bracket). b.doc) honest.brackets k d b.doc inside) in
-      honest_bounds H archive.texts (present archive.texts query) algorithm proof.met proof.docs honest.docs
-      (met_within H archive query algorithm honest.cut documents proof is_cut are_met shows) cut_lanes b.doc (ap (λ (met : List ℕ). has b.doc met) honest.met ∙ here)
+      honest_bounds H archive.texts (present archive.texts query) algorithm proof.met proof.docs honest.shows.docs
+      (met_within H archive query algorithm honest.cut documents proof is_cut are_met honest.shows) cut_lanes b.doc (ap (λ (met : List ℕ). has b.doc met) honest.shows.met ∙ here)
 
   pub honest_settled : IsAnswerSettled (bounds_of proof) (client.lanes_of query proof) proof.met proof.answer r
   honest_settled =
       let same : brackets_of (bounds_of proof) cut_lanes proof.met ≡ honest.brackets =
-      ap (brackets_of (bounds_of proof) cut_lanes) honest.met ∙ brackets_again bounds (bounds_of proof) cut_lanes honest.brackets honest.bounds.each formed in
+      ap (brackets_of (bounds_of proof) cut_lanes) honest.shows.met ∙ brackets_again bounds (bounds_of proof) cut_lanes honest.brackets honest.bounds.each formed in
       subst (λ (ls : List ShownLane). IsAnswerSettled (bounds_of proof) ls proof.met proof.answer r)
-      (sym (shown_lanes H archive query algorithm honest.cut documents proof is_cut are_met shows))
+      (sym (shown_lanes H archive query algorithm honest.cut documents proof is_cut are_met honest.shows))
       (subst (λ (bs : List Bracket). IsSettled bs proof.answer (threshold cut_lanes) r) (sym same) settled)
 
   -- all rules hold of it
   pub honest_accepted : Accepts H (root_of H archive) query r proof
   honest_accepted =
-      let kept = sections_kept H archive query algorithm honest.cut documents proof is_cut are_met shows some in
+      let kept = sections_kept H archive query algorithm honest.cut documents proof is_cut are_met honest.shows some in
       accepts_each H (root_of H archive) query r proof kept.0 kept.1.0 kept.1.1.0 kept.1.1.1.0 kept.1.1.1.1.0 kept.1.1.1.1.1.0 kept.1.1.1.1.1.1.0 honest_rows honest_settled

@@ -1,5 +1,5 @@
 -- The check accepts what an honest proof shows of the terms of a document.
-use Rattle.std.proofs.Common.{◌≡◌, ◌+◌, ◌<◌, ℕ, suc, List, [], ◌∷◌, length, map, get_or, Some, refl, sym, ap, ap₂, subst, ◌∙◌, arith}
+use Rattle.std.proofs.Common.{◌≡◌, ◌+◌, ◌<◌, ℕ, List, [], ◌∷◌, length, map, get_or, Some, refl, sym, ap, ap₂, subst, ◌∙◌, arith}
 use Rattle.std.specs.List.{All}
 use Rattle.std.proofs.lemmas.List.{length-map, get_or-map}
 use Rattle.std.proofs.lemmas.Simd.{map-map}
@@ -23,28 +23,23 @@ use Rattle.ats_honest.specs.Terms.{slot_of}
 use Rattle.ats_honest.specs.Present.{standing}
 use Rattle.ats_honest.specs.Documents.{IsHonestSection, IsTermSpot, shown_term}
 use Rattle.ats_honest.proofs.Public.{lower_item, all_below}
+use Rattle.ats_accepts.proofs.Asking.{Asks, asks_first, asks_later}
 use Rattle.ats_accepts.proofs.ShownTrees.{leaves_shown, positions_rebuild}
 use Rattle.ats_accepts.proofs.AcceptedSlots.{LiesBy, leaf_at, slots_show}
 
 -- ---- the numbers of the terms that have a leaf
 
 -- the numbers that slots give, from a number on, are those of the terms that have a leaf
-pub numbers_ask : (ask : ℕ → List ℕ) (positions : List ℕ) (n : ℕ) (query : List (List ℕ × ℕ)) (spots : List Spot) → length spots ≡ length query
-    → ((i : ℕ) (d : List ℕ × ℕ) → i < length query → ask (n + i) ≡ (get_or query i d).0)
+pub numbers_ask : (ask : ℕ → List ℕ) (positions : List ℕ) (n : ℕ) (query : List (List ℕ × ℕ)) (spots : List Spot) → length spots ≡ length query → Asks ask n query
     → map ask (present_from n (map (slot_of positions) spots)) ≡ map (λ (pair : List ℕ × ℕ). pair.0) (standing query spots)
 numbers_ask ask positions n [] [] same asks = refl
 numbers_ask ask positions n [] (spot ∷ spots) same asks = absurd (omega (arith, same))
 numbers_ask ask positions n (pair ∷ query) [] same asks = absurd (omega (arith, same))
 numbers_ask ask positions n (pair ∷ query) (At p ∷ spots) same asks =
-    let from : n ≡ n + 0 = omega arith in
-    ap₂ (λ (x : List ℕ) (xs : List (List ℕ)). x ∷ xs) (ap ask from ∙ asks 0 pair (omega arith))
-    (numbers_ask ask positions (n + 1) query spots (omega (arith, same)) (λ i d inside.
-    let next : (n + 1) + i ≡ n + suc i = omega arith in
-    ap ask next ∙ asks (suc i) d (omega (arith, inside))))
+    ap₂ (λ (x : List ℕ) (xs : List (List ℕ)). x ∷ xs) (asks_first ask n pair query asks)
+    (numbers_ask ask positions (n + 1) query spots (omega (arith, same)) (asks_later ask n pair query asks))
 numbers_ask ask positions n (pair ∷ query) (Between p ∷ spots) same asks =
-    numbers_ask ask positions (n + 1) query spots (omega (arith, same)) (λ i d inside.
-    let next : (n + 1) + i ≡ n + suc i = omega arith in
-    ap ask next ∙ asks (suc i) d (omega (arith, inside)))
+    numbers_ask ask positions (n + 1) query spots (omega (arith, same)) (asks_later ask n pair query asks)
 
 -- ---- a section
 

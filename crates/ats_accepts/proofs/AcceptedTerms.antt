@@ -1,8 +1,7 @@
 -- The check accepts what a proof of a cut shows of the header, the dictionary and the terms.
-use Rattle.std.proofs.Common.{◌≡◌, ℕ, zero, suc, Bool, true, false, cond, nat_lt, List, [], ◌∷◌, length, map, get_or, Some, refl, sym, ap, ap₂, subst, ◌∙◌, arith}
+use Rattle.std.proofs.Common.{◌≡◌, ℕ, zero, suc, true, nat_lt, List, [], ◌∷◌, length, map, get_or, Some, refl, sym, ap, ap₂, subst, ◌∙◌, arith}
 use Rattle.std.specs.List.Sorted.{IsStrictlyIncreasing}
 use Rattle.std.proofs.lemmas.List.{length-map, get_or-map}
-use Rattle.std.proofs.lemmas.List.Sums.{sum_by-cons}
 use Rattle.std.proofs.lemmas.Simd.{map-map}
 use Rattle.ats_tree.specs.Shown.{Shown}
 use Rattle.ats_tree.specs.Rebuild.{rebuilt}
@@ -24,7 +23,7 @@ use Rattle.ats_commit.specs.Trees.{dict_entry, dictionary_of}
 use Rattle.ats_commit.specs.Ours.{asked_term}
 use Rattle.ats_commit.specs.Root.{header_root, root_of}
 use Rattle.ats_proof.specs.declared.record.Slot.{Slot}
-use Rattle.ats_proof.specs.Value.{ShownEntry, Proof, kind_of_slot}
+use Rattle.ats_proof.specs.Value.{ShownEntry, Proof}
 use Rattle.ats_proof.specs.Runs as runs
 use Rattle.ats_client.specs.Groups.{IsOpened, IsDictionary, AreSlotsRight, dict_terms, slot_at}
 use Rattle.ats_client.specs.Presented as presented
@@ -32,9 +31,8 @@ use Rattle.ats_client.specs.Slots as slots
 use Rattle.ats_client.specs.Slots.{ShowsTerm}
 use Rattle.ats_proof.specs.declared.record.Algorithm.{Algorithm}
 use Rattle.ats_honest.specs.Terms.{has, place, shown_entry, slot_of}
-use Rattle.ats_honest.specs.Lanes.{lane_of}
 use Rattle.ats_honest.specs.Honest.{IsShownAt}
-use Rattle.ats_honest.proofs.Public.{spot_each, positions_below, list_at, standing_term, lanes_each}
+use Rattle.ats_honest.proofs.Public.{absent_term, spot_each, positions_below, present_term, list_at, standing_term}
 use Rattle.ats_bound.proofs.Public.{has_contained}
 use Rattle.ats_accepts.proofs.ShownPlaces.{made_at_place}
 use Rattle.ats_accepts.proofs.ShownTrees.{leaves_shown, positions_rebuild}
@@ -138,13 +136,6 @@ honest_entry H archive positions term (Between p) rise shown is present = absurd
 -- and a slot says so for the terms that some text has
 pub honest_present : (H : List ℕ → List ℕ) (archive : Archive) (positions : List ℕ) (pair : List ℕ × ℕ) (spot : Spot) → IsSpot (dictionary_of H archive) pair.0 spot
     → nat_lt 0 (frequency pair.0 archive.texts) ≡ (slot_of positions spot).present
-honest_present H archive positions pair spot is =
-    let slot = slot_of positions spot in
-    let one = lanes_each H archive (pair ∷ []) positions (spot ∷ []) (is, tt) in
-    same_test (nat_lt 0 (frequency pair.0 archive.texts)) slot.present (omega (arith, one, sum_by-cons kind_of_slot slot []))
-  where
-    same_test : (a b : Bool) → length (map (lane_of archive.texts) (cond a (pair ∷ []) [])) ≡ cond b 1 0 → a ≡ b
-    same_test true true same = refl
-    same_test false false same = refl
-    same_test true false same = absurd (omega (arith, same))
-    same_test false true same = absurd (omega (arith, same))
+honest_present H archive positions pair (At zero) is = absurd (omega (arith, is.some))
+honest_present H archive positions pair (At (suc p)) is = present_term H archive pair.0 p is
+honest_present H archive positions pair (Between p) is = ap (nat_lt 0) (absent_term H archive pair.0 p is)

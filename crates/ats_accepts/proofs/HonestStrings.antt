@@ -1,8 +1,7 @@
 -- The strings that are hashed from a proof of a cut are the archive's own, and so are those of an honest proof.
-use Rattle.std.proofs.Common.{◌≡◌, ◌+◌, ◌<◌, ◌≤◌, ℕ, suc, Bool, cond, List, [], ◌∷◌, ◌++◌, length, map, take, drop, get_or, Option, None, Some, IfSome, refl, sym, ap, ap₂, subst, ◌∙◌, arith}
+use Rattle.std.proofs.Common.{◌≡◌, ◌+◌, ◌<◌, ◌≤◌, ℕ, Bool, cond, List, [], ◌∷◌, ◌++◌, length, map, take, get_or, Option, None, Some, IfSome, refl, sym, ap, ap₂, subst, ◌∙◌}
 use Rattle.std.specs.List.{All, flat_map}
 use Rattle.std.proofs.lemmas.Bool.{lt-ltb}
-use Rattle.std.proofs.lemmas.List.{get_or_default}
 use Rattle.std.proofs.lemmas.List.Elements.{All-nil, All-cons, All-append, All-head, All-map, All-tail}
 use Rattle.ats_tree.specs.Differences.{Hashed, moved, IsOurs}
 use Rattle.ats_tree.specs.Elided.{elided_digests, shown_with}
@@ -14,12 +13,9 @@ use Rattle.ats_tree.specs.declared.hashed.Place.{Place}
 use Rattle.ats_tree.specs.declared.hashed.Tree.{Tree}
 use Rattle.ats_tree.specs.declared.hashed.Tree.TheVariants.{Dictionary, List as ListOf, Documents as DocumentsTree, Terms}
 use Rattle.ats_tree.proofs.Public.{numbers-lead, own-none, own-strings}
-use Rattle.ats_lists.specs.Lists.{list}
 use Rattle.ats_lists.specs.declared.entry.Entry.{Entry}
 use Rattle.ats_dict.specs.Dictionary.{dict_leaves}
 use Rattle.ats_dict.specs.declared.header.Header.{Header}
-use Rattle.ats_dict.specs.declared.spot.Spot.{Spot}
-use Rattle.ats_dict.specs.declared.spot.Spot.TheVariants.{At, Between}
 use Rattle.ats_doctree.specs.Impacts.{doc_terms}
 use Rattle.ats_doctree.specs.Sentinels.{terms_leaves}
 use Rattle.ats_doctree.specs.declared.doc_leaf.DocLeaf.{DocLeaf}
@@ -27,70 +23,31 @@ use Rattle.ats_lists.specs.Formats.{first_leaves, list_string, prefix_digests, p
 use Rattle.ats_lists.specs.declared.format.Format.{Format}
 use Rattle.ats_lists.proofs.Public.{front-own}
 use Rattle.ats_commit.specs.Archive.{Archive}
-use Rattle.ats_commit.specs.Ours.{asked_term, ours}
+use Rattle.ats_commit.specs.Ours.{ours}
 use Rattle.ats_commit.specs.Places.{in_tree}
 use Rattle.ats_commit.specs.Root.{header_string}
 use Rattle.ats_commit.specs.Trees.{dictionary_of, documents_of}
 use Rattle.ats_proof.specs.declared.record.Algorithm.{Algorithm}
-use Rattle.ats_proof.specs.declared.record.Slot.{Slot}
 use Rattle.ats_proof.specs.declared.record.Algorithm.TheVariants.{Tra, Tnra}
-use Rattle.ats_bound.specs.Cut.{ShownLane, lane_of as shown_lane}
+use Rattle.ats_bound.specs.Ranked.{docs_of}
 use Rattle.ats_bound.specs.Schedule.{WholeLane, IsCut, shown}
-use Rattle.ats_proof.specs.Value.{Prefix, Proof, IsProof, Documents, ShownEntry, TermsSection}
+use Rattle.ats_proof.specs.Value.{Prefix, Proof, IsProof, Documents, TermsSection}
 use Rattle.ats_proof.specs.Runs.{shown_docs, shown_list, shown_term}
 use Rattle.ats_proof.specs.Runs as runs
 use Rattle.ats_proof.proofs.Public.{one_value}
 use Rattle.ats_client.specs.Documents.{documents_from}
-use Rattle.ats_client.specs.Presented.{Presented, presented, presented_from}
+use Rattle.ats_client.specs.Presented.{Presented, presented}
 use Rattle.ats_client.specs.Strings.{hashed_header, strings_in, list_strings, terms_strings, documents_strings, strings_of, extract}
 use Rattle.ats_honest.specs.Documents.{AreHonestSections, HasDocuments, IsHonestSection, document_leaf}
 use Rattle.ats_honest.specs.Honest.{AreMet, IsHonest, IsProved, IsShownAt}
 use Rattle.ats_honest.specs.Lanes.{lanes_of, present}
-use Rattle.ats_honest.specs.Terms.{AreSpots, slot_of}
-use Rattle.ats_honest.proofs.Public.{docs_of, documents_each, honest_cut, honest_met, honest_shown, with_lane, with_none}
+use Rattle.ats_honest.proofs.Public.{documents_each, honest_cut, honest_met, lanes_have_lists}
 use Rattle.ats_accepts.proofs.Accepted.{has_documents}
 use Rattle.ats_accepts.proofs.AcceptedDocuments.{documents_shown}
-use Rattle.ats_accepts.proofs.AcceptedLists.{AreFronts, AreIn, IsEntryIn, IsFront, first_in, front_shown, later_in, tail_cut}
+use Rattle.ats_accepts.proofs.AcceptedLists.{IsEntryIn, IsFront, front_shown, fronts_each}
 use Rattle.ats_accepts.proofs.AcceptedCut.{are_in, met_within, shown_presented}
 use Rattle.ats_accepts.proofs.AcceptedSections.{section_shown}
-use Rattle.ats_accepts.proofs.AcceptedTerms.{dictionary_shown, honest_present}
-
--- ---- the terms of the lists
-
--- the terms that a query asks for after its first
-asks_later : (asked : List (List ℕ × ℕ)) (number : ℕ) (pair : List ℕ × ℕ) (query : List (List ℕ × ℕ))
-    → ((i : ℕ) (d : List ℕ × ℕ) → i < length (pair ∷ query) → asked_term asked (number + i) ≡ (get_or (pair ∷ query) i d).0)
-    → (i : ℕ) (d : List ℕ × ℕ) → i < length query → asked_term asked ((number + 1) + i) ≡ (get_or query i d).0
-asks_later asked number pair query asks i d inside =
-    let next : (number + 1) + i ≡ number + suc i = omega arith in
-    ap (asked_term asked) next ∙ asks (suc i) d (omega (arith, inside))
-
--- each present term has the number of a term whose list is the lane's
-abbrev pub AreNumbered : List (List ℕ) → List (List ℕ × ℕ) → List WholeLane → List Presented → Type 0
-AreNumbered texts query [] [] = Unit {0}
-AreNumbered texts query [] (term ∷ terms) = ⊥
-AreNumbered texts query (lane ∷ lanes) [] = ⊥
-AreNumbered texts query (lane ∷ lanes) (term ∷ terms) =
-    (lane.entries ≡ list texts (asked_term query term.number)) × AreNumbered texts query lanes terms
-
-module _ (H : List ℕ → List ℕ) (archive : Archive) (asked : List (List ℕ × ℕ)) (positions : List ℕ) (dict : List ShownEntry) where
-  -- the present terms from a number on
-  abbrev Numbers : ℕ → List (List ℕ × ℕ) → List Spot → List Prefix → List WholeLane → Type 0
-  Numbers number query spots lists lanes = AreNumbered archive.texts asked lanes (presented_from dict number query (map (slot_of positions) spots) lists)
-
-  pub numbered : (number : ℕ) (query : List (List ℕ × ℕ)) (spots : List Spot) (lists : List Prefix)
-      → ((i : ℕ) (d : List ℕ × ℕ) → i < length query → asked_term asked (number + i) ≡ (get_or query i d).0)
-      → AreSpots (dictionary_of H archive) query spots → Numbers number query spots lists (lanes_of archive.texts query)
-  numbered number [] [] lists asks found = tt
-  numbered number [] (spot ∷ spots) lists asks found = absurd found
-  numbered number (pair ∷ query) [] lists asks found = absurd found
-  numbered number (pair ∷ query) (At p ∷ spots) lists asks found =
-      let none : number ≡ number + 0 = omega arith in
-      subst (Numbers number (pair ∷ query) (At p ∷ spots) lists) (sym (with_lane archive.texts pair query (honest_present H archive positions pair (At p) found.0)))
-      (ap (list archive.texts) (sym (ap (asked_term asked) none ∙ asks 0 pair (omega arith))), numbered (number + 1) query spots (drop 1 lists) (asks_later asked number pair query asks) found.1)
-  numbered number (pair ∷ query) (Between p ∷ spots) lists asks found =
-      subst (Numbers number (pair ∷ query) (Between p ∷ spots) lists) (sym (with_none archive.texts pair query (honest_present H archive positions pair (Between p) found.0)))
-      (numbered (number + 1) query spots lists (asks_later asked number pair query asks) found.1)
+use Rattle.ats_accepts.proofs.AcceptedTerms.{dictionary_shown}
 
 -- ---- the strings of one tree
 
@@ -121,43 +78,34 @@ module _ (H : List ℕ → List ℕ) (archive : Archive) (query : List (List ℕ
   Own = IsOurs (ours H archive query)
 
   -- the strings of a shown front are those that the list's first entries give
-  front_strings : (format : Format) (documents : ℕ) (met : List ℕ) (lane : WholeLane) (count : ℕ) (term : Presented) → IsFront H format documents met lane count term
+  front_strings : (met : List ℕ) (lane : WholeLane) (count : ℕ) (term : Presented) → IsFront H archive query met lane count term
       → count ≤ length lane.entries → All (IsEntryIn met) (take count lane.entries)
-      → list_strings H format met term
-      ≡ map (moved (in_tree (ListOf term.number))) (prefix_strings H format (length lane.entries) (first_leaves lane.entries count) (prefix_digests H format lane.entries count))
-  front_strings format documents met lane count term is within are =
-      let digests : List (List ℕ) = prefix_digests H format lane.entries count in
+      → list_strings H archive.format met term
+      ≡ map (moved (in_tree (ListOf term.number))) (prefix_strings H archive.format (length lane.entries) (first_leaves lane.entries count) (prefix_digests H archive.format lane.entries count))
+  front_strings met lane count term is within are =
+      let digests : List (List ℕ) = prefix_digests H archive.format lane.entries count in
       let put : List (Hashed NodeNumbers) → List (Hashed Place) = map (moved (in_tree (ListOf term.number))) in
-      ap (λ (p : Prefix). put (prefix_strings H format term.entry.f (shown_list 0 met term.prefix.entries) p.digests)) is.front
-      ∙ ap₂ (λ (n : ℕ) (s : List Shown). put (prefix_strings H format n s digests)) is.size (front_shown H format documents met lane count term is within are)
+      ap (λ (p : Prefix). put (prefix_strings H archive.format term.entry.f (shown_list 0 met term.prefix.entries) p.digests)) is.front
+      ∙ ap₂ (λ (n : ℕ) (s : List Shown). put (prefix_strings H archive.format n s digests)) is.size (front_shown H archive query met lane count term is within are)
 
-  front_own : (documents : ℕ) (met : List ℕ) (lane : WholeLane) (count : ℕ) (term : Presented) → IsFront H archive.format documents met lane count term
-      → lane.entries ≡ list archive.texts (asked_term query term.number) → 1 ≤ count → count ≤ length lane.entries → All (IsEntryIn met) (take count lane.entries)
-      → All Own (list_strings H archive.format met term)
-  front_own documents met lane count term is named some within are =
+  front_own : (met : List ℕ) (lane : WholeLane) (count : ℕ) (term : Presented) → IsFront H archive query met lane count term
+      → 1 ≤ count → count ≤ length lane.entries → All (IsEntryIn met) (take count lane.entries) → All Own (list_strings H archive.format met term)
+  front_own met lane count term is some within are =
       let format : Format = archive.format in
-      let at_number : Hashed NodeNumbers → Hashed Place = moved (in_tree (ListOf term.number)) in
       let strings : List (Hashed NodeNumbers) =
       prefix_strings H format (length lane.entries) (first_leaves lane.entries count) (prefix_digests H format lane.entries count) in
-      subst (All Own) (sym (front_strings format documents met lane count term is within are))
-      (All-map Own at_number strings (λ k d inside.
+      subst (All Own) (sym (front_strings met lane count term is within are))
+      (All-map Own (moved (in_tree (ListOf term.number))) strings (λ k d inside.
       let s : Hashed NodeNumbers = get_or strings k d in
       let there : ours H archive query (in_tree (ListOf term.number) s.place) ≡ Some s.text =
-      ap (λ (es : List Entry). list_string H format es s.place) (sym named) ∙ front-own H format lane.entries count some within k d inside in
+      ap (λ (es : List Entry). list_string H format es s.place) (sym is.own) ∙ front-own H format lane.entries count some within k d inside in
       subst (λ (o : Option (List ℕ)). IfSome o (λ (mine : List ℕ). mine ≡ s.text)) (sym there) refl))
 
-  fronts_own : (documents : ℕ) (met : List ℕ) (lanes : List WholeLane) (cut : List ℕ) (terms : List Presented) → AreFronts H archive.format documents met lanes cut terms
-      → AreNumbered archive.texts query lanes terms → IsCut lanes cut → AreIn met (shown lanes cut) → All Own (flat_map (list_strings H archive.format met) terms)
-  fronts_own documents met [] cut [] fronts named is are = All-nil Own
-  fronts_own documents met [] cut (term ∷ terms) fronts named is are = absurd fronts
-  fronts_own documents met (lane ∷ lanes) [] terms fronts named is are = absurd fronts
-  fronts_own documents met (lane ∷ lanes) (count ∷ cut) [] fronts named is are = absurd fronts
-  fronts_own documents met (lane ∷ lanes) (count ∷ cut) (term ∷ terms) fronts named is are =
-      let here : ShownLane = shown_lane lane.coefficient lane.entries count in
-      let shows : (1 ≤ count) × (count ≤ length lane.entries) = is.each 0 lane (omega arith) in
-      All-append Own (list_strings H archive.format met term) (flat_map (list_strings H archive.format met) terms)
-      (front_own documents met lane count term fronts.0 named.0 shows.0 shows.1 (first_in met here (shown lanes cut) are))
-      (fronts_own documents met lanes cut terms fronts.1 named.1 (tail_cut lane lanes count cut is) (later_in met here (shown lanes cut) are))
+  all_own : (met : List ℕ) (terms : List Presented) → All (λ (term : Presented). All Own (list_strings H archive.format met term)) terms → All Own (flat_map (list_strings H archive.format met) terms)
+  all_own met [] each = All-nil Own
+  all_own met (term ∷ terms) each =
+      let IsOwn : Presented → Type 0 = λ (term : Presented). All Own (list_strings H archive.format met term) in
+      All-append Own (list_strings H archive.format met term) (flat_map (list_strings H archive.format met) terms) (All-head IsOwn term terms each) (all_own met terms (All-tail IsOwn term terms each))
 
   -- ---- the met documents
 
@@ -200,17 +148,11 @@ module _ (H : List ℕ → List ℕ) (archive : Archive) (query : List (List ℕ
     lists_own : All Own (flat_map (list_strings H proof.format proof.met) (presented query proof))
     lists_own =
         subst (λ (format : Format). All Own (flat_map (list_strings H format proof.met) (presented query proof))) (sym is.format)
-        (fronts_own (length archive.texts) proof.met (lanes_of archive.texts query) cut (presented query proof) (shown_presented H archive query algorithm cut documents proof is_cut are_met is)
-        names is_cut (are_in H archive query algorithm cut documents proof is_cut are_met is))
-      where
-        names : AreNumbered archive.texts query (lanes_of archive.texts query) (presented query proof)
-        names =
-            subst (λ (slots : List Slot). AreNumbered archive.texts query (lanes_of archive.texts query) (presented_from proof.dict 0 query slots proof.lists)) (sym is.slots)
-            (numbered H archive query is.positions proof.dict 0 query is.spots proof.lists
-            (λ i d inside.
-            let from : 0 + i ≡ i = omega arith in
-            ap (asked_term query) from ∙ ap (λ (pair : List ℕ × ℕ). pair.0) (get_or_default query i ([], 0) d inside))
-            is.found)
+        (all_own proof.met (presented query proof)
+        (fronts_each H archive query proof.met (length archive.texts) (λ (term : Presented). All Own (list_strings H archive.format proof.met term))
+        (λ lane count term front list. front_own proof.met lane count term front)
+        (lanes_of archive.texts query) cut (presented query proof) (shown_presented H archive query algorithm cut documents proof is_cut are_met is)
+        (lanes_have_lists archive.texts query) is_cut (are_in H archive query algorithm cut documents proof is_cut are_met is)))
 
     dictionary_own : All Own (strings_in H Dictionary proof.header.dict_leaves (map runs.shown_entry proof.dict) proof.dict_digests)
     dictionary_own =
@@ -240,13 +182,12 @@ pub honest_own : (H : List ℕ → List ℕ) (archive : Archive) (query : List (
     → (algorithm ≡ Tra → 1 ≤ length archive.texts) → IsHonest H archive query r algorithm proof → All (IsOurs (ours H archive query)) (strings_of H query proof)
 honest_own H archive query r algorithm proof some honest =
     shown_own H archive query algorithm honest.cut (docs_of honest.brackets) proof (honest_cut H archive query r algorithm proof honest)
-    (honest_met H archive query r algorithm proof honest) (honest_shown H archive query r algorithm proof honest)
+    (honest_met H archive query r algorithm proof honest) honest.shows
 
 pub honest_unclashing : (H : List ℕ → List ℕ) (archive : Archive) (query : List (List ℕ × ℕ)) (r : ℕ) (algorithm : Algorithm) (proof : Proof)
     → (algorithm ≡ Tra → 1 ≤ length archive.texts) → IsHonest H archive query r algorithm proof → extract H archive query proof ≡ None
 honest_unclashing H archive query r algorithm proof some honest =
-    shown_unclashing H archive query algorithm honest.cut (docs_of honest.brackets) proof (honest_cut H archive query r algorithm proof honest)
-    (honest_met H archive query r algorithm proof honest) (honest_shown H archive query r algorithm proof honest)
+    own-none H (ours H archive query) (strings_of H query proof) (honest_own H archive query r algorithm proof some honest)
 
 pub proved_unclashing : (H : List ℕ → List ℕ) (archive : Archive) (query : List (List ℕ × ℕ)) (r : ℕ) (algorithm : Algorithm) (bytes : List ℕ)
     → IsProved H archive query r algorithm bytes → (proof : Proof) → IsProof bytes proof → extract H archive query proof ≡ None

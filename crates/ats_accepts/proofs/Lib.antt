@@ -1,4 +1,5 @@
 pub mod Public
+mod Asking
 mod ShownPlaces
 mod ShownTrees
 mod AcceptedSlots

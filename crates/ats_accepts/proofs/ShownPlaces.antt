@@ -32,11 +32,6 @@ shown_at_place f positions p rise stands =
     slice_get-get_or (map f positions) (place positions p) (f p) (omega (arith, is.within, length-map positions f))
     ∙ ap Some (get_or-map f positions (place positions p) 0 (f p) is.within ∙ ap f is.there)
 
-pub got_at_place : (positions : List ℕ) (p : ℕ) → IsStrictlyIncreasing positions → has p positions ≡ true → slice_get positions (place positions p) ≡ Some p
-got_at_place positions p rise stands =
-    let is = at_place positions p rise stands in
-    slice_get-get_or positions (place positions p) 0 is.within ∙ ap Some is.there
-
 -- neighbours are at consecutive places
 pub next_place : (positions : List ℕ) (p : ℕ) → IsStrictlyIncreasing positions → has p positions ≡ true → has (p + 1) positions ≡ true
     → place positions (p + 1) ≡ place positions p + 1

@@ -1,7 +1,7 @@
 -- How many digests some shown leaves need at most.
 use Rattle.std.proofs.Common.{◌≡◌, ◌⊎◌, ◌+◌, ◌*◌, ◌^◌, ◌<◌, ◌≤◌, ℕ, zero, suc, true, false, ◌&&◌, List, [], ◌∷◌, length, take, drop, get_or, Option, Some, None, nat_eq, refl, sym, ap, subst, ◌∙◌, arith, inl, inr, length-append}
 use Rattle.std.proofs.Math.Nat.{two-pow-succ}
-use Rattle.std.proofs.lemmas.Bool.{cond-true, cond-false, cases_Bool, cases_lt, and_parts, eqb-true}
+use Rattle.std.proofs.lemmas.Bool.{cond-true, cond-false, cases_Bool, cases_lt, eqb-true}
 use Rattle.std.proofs.lemmas.List.{length-take, length-drop, length-map}
 use Rattle.ats_tree.specs.Tree.{Tree, empty, leaf, node, tree_within, tree_of}
 use Rattle.ats_tree.specs.Shown.{Shown, shown_at, places}
@@ -28,78 +28,20 @@ filled [] = 0
 filled (None ∷ os) = filled os
 filled (Some x ∷ os) = 1 + filled os
 
-abbrev holes : List (Option (List ℕ)) → ℕ
-holes [] = 0
-holes (None ∷ os) = 1 + holes os
-holes (Some x ∷ os) = holes os
-
 filled-cut : (k : ℕ) (os : List (Option (List ℕ))) → filled os ≡ filled (take k os) + filled (drop k os)
 filled-cut zero os = omega arith
 filled-cut (suc k) [] = omega arith
 filled-cut (suc k) (None ∷ os) = filled-cut k os
 filled-cut (suc k) (Some x ∷ os) = omega (arith, filled-cut k os)
 
-holes-cut : (k : ℕ) (os : List (Option (List ℕ))) → holes os ≡ holes (take k os) + holes (drop k os)
-holes-cut zero os = omega arith
-holes-cut (suc k) [] = omega arith
-holes-cut (suc k) (None ∷ os) = omega (arith, holes-cut k os)
-holes-cut (suc k) (Some x ∷ os) = holes-cut k os
-
-holes-few : (os : List (Option (List ℕ))) → holes os ≤ length os
-holes-few [] = omega arith
-holes-few (None ∷ os) = omega (arith, holes-few os)
-holes-few (Some x ∷ os) = omega (arith, holes-few os)
-
 filled-cons : (o : Option (List ℕ)) (os : List (Option (List ℕ))) → filled (o ∷ os) ≡ filled (o ∷ []) + filled os
 filled-cons None os = omega arith
 filled-cons (Some x) os = omega arith
 
--- ---- no more digests than places without a leaf
-
-bare_has_hole : (h : ℕ) (os : List (Option (List ℕ))) → length os ≤ 2 ^ h → 1 ≤ length os → is_bare (tree_within h os) ≡ true → 1 ≤ holes os
-unfolding tree_within
-bare_has_hole zero [] short some bare = absurd (omega (arith, some))
-bare_has_hole zero (None ∷ os) short some bare = omega arith
-bare_has_hole zero (Some x ∷ os) short some bare = absurd (cc)
-bare_has_hole (suc h) os short some bare = elim (cases_lt (2 ^ h) (length os)) [
-  | inl long ↦
-      let parts = and_parts _ _ (subst (λ t. is_bare t ≡ true) (within-cut h os long) bare) in
-      let first = bare_has_hole h (take (2 ^ h) os) (omega (arith, length-take (2 ^ h) os)) (omega (arith, long, some, length-take (2 ^ h) os, pow_some h)) parts.0 in
-      omega (arith, first, holes-cut (2 ^ h) os)
-  | inr few ↦ bare_has_hole h os few some (subst (λ t. is_bare t ≡ true) (within-suc h os few) bare)
-]
-  where
-    pow_some : (k : ℕ) → 1 ≤ 2 ^ k
-    pow_some zero = omega arith
-    pow_some (suc k) = omega (arith, pow_some k, two-pow-succ k)
-
-need_holes : (h : ℕ) (os : List (Option (List ℕ))) → length os ≤ 2 ^ h → need (tree_within h os) ≤ holes os
-unfolding tree_within
-need_holes zero [] short = omega arith
-need_holes zero (None ∷ os) short = omega arith
-need_holes zero (Some x ∷ os) short = omega arith
-need_holes (suc h) os short = elim (cases_lt (2 ^ h) (length os)) [
-  | inl long ↦
-      let l = tree_within h (take (2 ^ h) os) in
-      let r = tree_within h (drop (2 ^ h) os) in
-      let first = need_holes h (take (2 ^ h) os) (omega (arith, length-take (2 ^ h) os)) in
-      let second = need_holes h (drop (2 ^ h) os) (omega (arith, short, two-pow-succ h, length-drop (2 ^ h) os)) in
-      subst (λ t. need t ≤ holes os) (sym (within-cut h os long)) (elim (cases_Bool (is_bare l && is_bare r)) [
-        | inl bare ↦
-            let one : need (node l r) ≡ 1 = cond-true _ _ _ bare in
-            let some = bare_has_hole (suc h) os short (omega (arith, long)) (subst (λ t. is_bare t ≡ true) (sym (within-cut h os long)) bare) in
-            omega (arith, one, some)
-        | inr shows ↦
-            let both : need (node l r) ≡ need l + need r = cond-false _ _ _ shows in
-            omega (arith, both, first, second, holes-cut (2 ^ h) os)
-      ])
-  | inr few ↦ subst (λ t. need t ≤ holes os) (sym (within-suc h os few)) (need_holes h os few)
-]
-
 -- ---- at most one digest for each level and each shown leaf, plus one
 
 abbrev pub IsFew : ℕ → List (Option (List ℕ)) → Tree (Option (List ℕ)) → Type 0
-IsFew h os t = ((is_bare t ≡ true) × (need t ≤ 1)) ⊎ ((is_bare t ≡ false) × (1 ≤ filled os) × (need t ≤ h * filled os))
+IsFew h os t = ((is_bare t ≡ true) × (need t ≤ 1) × (filled os ≡ 0)) ⊎ ((is_bare t ≡ false) × (1 ≤ filled os) × (need t ≤ h * filled os))
 
 one_more : (h a b x y : ℕ) → x ≤ 1 → 1 ≤ b → y ≤ h * b → x + y ≤ suc h * (a + b)
 one_more h a b x y one some few = omega (arith, one, some, few)
@@ -122,7 +64,7 @@ both : (h : ℕ) (os left right : List (Option (List ℕ))) (l r : Tree (Option 
 both h os left right l r cut (inl a) (inl b) =
     let bare : is_bare l && is_bare r ≡ true = rw (a.0, b.0) refl in
     let one : need (node l r) ≡ 1 = cond-true _ _ _ bare in
-    inl (bare, omega (arith, one))
+    inl (bare, omega (arith, one), omega (arith, cut, a.2, b.2))
 both h os left right l r cut (inl a) (inr b) =
     both_show h os left right l r cut (rw (a.0, b.0) refl) (omega (arith, cut, b.1)) (one_more h (filled left) (filled right) (need l) (need r) a.1 b.1 b.2)
 both h os left right l r cut (inr a) (inl b) =
@@ -132,8 +74,9 @@ both h os left right l r cut (inr a) (inr b) =
 
 need_filled : (h : ℕ) (os : List (Option (List ℕ))) → length os ≤ 2 ^ h → IsFew h os (tree_within h os)
 unfolding tree_within
-need_filled zero [] short = inl (refl, omega arith)
-need_filled zero (None ∷ os) short = inl (refl, omega arith)
+need_filled zero [] short = inl (refl, omega arith, refl)
+need_filled zero (None ∷ []) short = inl (refl, omega arith, refl)
+need_filled zero (None ∷ o ∷ os) short = absurd (omega (arith, short))
 need_filled zero (Some x ∷ os) short = inr (refl, omega arith, omega arith)
 need_filled (suc h) os short = elim (cases_lt (2 ^ h) (length os)) [
   | inl long ↦
@@ -143,6 +86,31 @@ need_filled (suc h) os short = elim (cases_lt (2 ^ h) (length os)) [
       let second = need_filled h right (omega (arith, short, two-pow-succ h, length-drop (2 ^ h) os)) in
       subst (IsFew (suc h) os) (sym (within-cut h os long)) (both h os left right (tree_within h left) (tree_within h right) (filled-cut (2 ^ h) os) first second)
   | inr few ↦ subst (IsFew (suc h) os) (sym (within-suc h os few)) (higher h os (tree_within h os) (need_filled h os few))
+]
+
+-- ---- no more digests than places without a leaf
+
+need_unfilled : (h : ℕ) (os : List (Option (List ℕ))) → length os ≤ 2 ^ h → need (tree_within h os) + filled os ≤ length os
+unfolding tree_within
+need_unfilled zero [] short = omega arith
+need_unfilled zero (None ∷ []) short = omega arith
+need_unfilled zero (Some x ∷ []) short = omega arith
+need_unfilled zero (o ∷ p ∷ os) short = absurd (omega (arith, short))
+need_unfilled (suc h) os short = elim (cases_lt (2 ^ h) (length os)) [
+  | inl long ↦ elim (need_filled (suc h) os short) [
+    | inl bare ↦ omega (arith, bare.1, bare.2, long)
+    | inr shows ↦
+        let left = take (2 ^ h) os in
+        let right = drop (2 ^ h) os in
+        let size = length-take (2 ^ h) os in
+        let rest = length-drop (2 ^ h) os in
+        let first = need_unfilled h left (omega (arith, size)) in
+        let second = need_unfilled h right (omega (arith, short, two-pow-succ h, rest)) in
+        let both : need (tree_within (suc h) os) ≡ need (tree_within h left) + need (tree_within h right) =
+        ap need (within-cut h os long) ∙ cond-false _ _ _ (subst (λ t. is_bare t ≡ false) (within-cut h os long) shows.0) in
+        omega (arith, both, first, second, filled-cut (2 ^ h) os, size, rest, long)
+  ]
+  | inr few ↦ subst (λ t. need t + filled os ≤ length os) (sym (within-suc h os few)) (need_unfilled h os few)
 ]
 
 -- ---- shown leaves fill no more places than they are
@@ -202,4 +170,4 @@ documents_few H leaves positions few =
     let size = length-places 0 (length leaves) (shown_with leaves positions) in
     let low : length os ≤ 2 ^ 16 = omega (arith, few, size) in
     let all = elided_need H (tree_of os) (tree_of leaves) ∙ ap need (of-within 16 os low) in
-    omega (arith, all, need_holes 16 os low, holes-few os, size, few)
+    omega (arith, all, need_unfilled 16 os low, size, few)

@@ -16,28 +16,28 @@ use Rattle.ats_lists.proofs.Public.{list_frequency}
 use Rattle.ats_tree.specs.Elided.{elided_digests}
 use Rattle.ats_dict.specs.declared.spot.Spot.{Spot}
 use Rattle.ats_doctree.specs.Impacts.{doc_terms}
-use Rattle.ats_doctree.specs.Sentinels.{terms_leaves}
 use Rattle.ats_commit.specs.Archive.{Archive}
 use Rattle.ats_commit.specs.Own.{AreTexts}
 use Rattle.ats_commit.specs.Trees.{documents_of}
 use Rattle.ats_bound.specs.Chosen.{IsChosen}
 use Rattle.ats_bound.specs.Cut.{ShownLane, bracket}
+use Rattle.ats_bound.specs.Ranked.{docs_of}
 use Rattle.ats_bound.specs.Narrow.{AreNarrow}
 use Rattle.ats_bound.specs.Schedule.{AreWholeLanes, IsWholeLane, WholeLane, shown}
 use Rattle.ats_bound.proofs.Public.{brackets_are_narrow, first_settled_exists, looked_up_are_narrow, brackets_exist, chosen_exists, sorts}
 use Rattle.ats_proof.specs.declared.record.Algorithm.{Algorithm}
 use Rattle.ats_proof.specs.declared.record.Algorithm.TheVariants.{Tra, Tnra}
 use Rattle.ats_proof.specs.Value.{Documents, Proof, TermsSection}
-use Rattle.ats_honest.specs.Terms.{AreNeeded, needs, slot_of}
+use Rattle.ats_honest.specs.Terms.{AreNeeded, needs}
 use Rattle.ats_honest.specs.Lanes.{bounding, impacts_of, lane_of, lanes_of, present}
-use Rattle.ats_honest.specs.Documents.{AreHonestSections, HasDocuments, IsHonestSection, document_leaf, shown_term}
+use Rattle.ats_honest.specs.Documents.{AreHonestSections, HasDocuments, IsHonestSection, document_leaf}
 use Rattle.ats_honest.specs.Honest.{IsCutShown, IsHonest, IsShownAt}
+use Rattle.ats_honest.proofs.Items.{is_section, section_of}
 use Rattle.ats_honest.proofs.MetDocuments.{brackets_met}
 use Rattle.ats_honest.proofs.Needed.{are_needed}
 use Rattle.ats_honest.proofs.Present.{few_idf, lanes_few, lanes_have_lists, some_idf}
-use Rattle.ats_honest.proofs.ShownCut.{is_honest}
 use Rattle.ats_honest.proofs.Standing.{HasTerm, entry_spots, item_spots}
-use Rattle.ats_honest.proofs.Whole.{docs_of, proof_of}
+use Rattle.ats_honest.proofs.Whole.{proof_of, shown_of}
 
 -- the positions that spots need can be put in order
 needed_exist : (spots : List Spot) → (positions : List ℕ) × AreNeeded spots positions
@@ -68,7 +68,7 @@ lane_is_whole texts pair few weighed list =
     }
 
 -- the lanes of a query are whole
-lanes_are_whole : (texts : List (List ℕ)) (query : List (List ℕ × ℕ)) → length texts ≤ 65536 → IsQuery query → AreWholeLanes (lanes_of texts query)
+pub lanes_are_whole : (texts : List (List ℕ)) (query : List (List ℕ × ℕ)) → length texts ≤ 65536 → IsQuery query → AreWholeLanes (lanes_of texts query)
 lanes_are_whole texts query few is =
     let terms : List (List ℕ × ℕ) = present texts query in
     let has : List ℕ × ℕ → Bool = λ (pair : List ℕ × ℕ). nat_lt 0 (frequency pair.0 texts) in
@@ -96,22 +96,7 @@ section_exists H texts terms doc all =
     let items : List (List ℕ × ℕ) = doc_terms texts doc in
     let spots = item_spots texts doc terms all in
     let positions = needed_exist spots.0 in
-    let section : TermsSection = record {
-      leaves = map (shown_term items) positions.0;
-      digests = elided_digests H (terms_leaves items) positions.0;
-      slots = map (slot_of positions.0) spots.0;
-    } in (
-      section,
-      record {
-        spots = spots.0;
-        found = spots.1;
-        positions = positions.0;
-        needed = positions.1;
-        leaves = refl;
-        digests = refl;
-        slots = refl;
-      },
-    )
+    (section_of H items spots.0 positions.0, is_section H items terms spots.0 positions.0 spots.1 positions.1)
 
 sections_exist : (H : List ℕ → List ℕ) (texts : List (List ℕ)) (terms : List (List ℕ × ℕ)) (met : List ℕ) → All HasTerm terms
     → (sections : List TermsSection) × AreHonestSections H texts terms met sections
@@ -144,20 +129,7 @@ shown_exists H archive query algorithm cut documents picks is =
     let positions = needed_exist spots.0 in
     let docs = documents_exist algorithm H archive.texts (present archive.texts query) documents (All-filter has HasTerm query is.terms) in (
       proof_of H archive query spots.0 positions.0 cut documents docs.0 picks,
-      record {
-        spots = spots.0;
-        found = spots.1;
-        positions = positions.0;
-        needed = positions.1;
-        format = refl;
-        header = refl;
-        dict = refl;
-        dict_digests = refl;
-        slots = refl;
-        met = refl;
-        lists = refl;
-        docs = docs.1;
-      },
+      shown_of H archive query algorithm spots.0 positions.0 cut documents docs.0 picks spots.1 positions.1 docs.1,
       refl,
     )
 
@@ -178,4 +150,4 @@ honest_exists H archive query r algorithm are is =
     let made = brackets_exist (bounding algorithm lanes) (shown lanes ending.0) (λ doc. (narrow algorithm lanes (shown lanes ending.0) doc).of) in
     let answer = chosen_exists made.0 r in
     let shows = shown_exists H archive query algorithm ending.0 (docs_of made.0) answer.0 is in
-    (shows.0, is_honest H archive query r algorithm ending.0 made.0 shows.0 shows.1 ending.1 made.1 (subst (IsChosen made.0 r) (sym shows.2) answer.1))
+    (shows.0, record { cut = ending.0; first = ending.1; brackets = made.0; bounds = made.1; shows = shows.1; answer = subst (IsChosen made.0 r) (sym shows.2) answer.1 })

@@ -1,12 +1,11 @@
 -- The fronts of lists, one by one.
-use Rattle.std.proofs.Common.{◌≡◌, ◌<◌, ◌≤◌, ◌^◌, ℕ, zero, suc, List, [], ◌∷◌, length, take, get_or, refl, ap, arith}
-use Rattle.std.specs.List.{All, range_with_len}
-use Rattle.std.proofs.lemmas.List.FromFn.{length-range_with_len, get_or-range_with_len}
+use Rattle.std.proofs.Common.{◌≡◌, ◌<◌, ◌≤◌, ◌^◌, ℕ, zero, suc, List, [], ◌∷◌, length, take, get_or, refl, sym, ap, subst, arith}
+use Rattle.std.specs.List.{All}
 use Rattle.std.proofs.lemmas.List.Elements.{All-take}
 use Rattle.ats_lists.specs.declared.entry.Entry.{Entry}
 use Rattle.ats_lists.specs.Lists.{IsList}
 use Rattle.ats_lists.specs.declared.format.Format.{Format}
-use Rattle.ats_bound.specs.Schedule.{WholeLane}
+use Rattle.ats_bound.specs.Schedule.{IsCut, WholeLane}
 use Rattle.ats_proof.specs.Value.{Prefix}
 use Rattle.ats_honest.specs.Honest.{prefix_of, prefixes}
 
@@ -22,9 +21,16 @@ prefix_at H format met (lane ∷ lanes) [] i d e same inside = absurd (omega (ar
 prefix_at H format met (lane ∷ lanes) (count ∷ cut) zero d e same inside = refl
 prefix_at H format met (lane ∷ lanes) (count ∷ cut) (suc i) d e same inside = prefix_at H format met lanes cut i d e (omega (arith, same)) (omega (arith, inside))
 
--- the first numbers are below each end that is not before theirs
-pub range_below : (n m : ℕ) → n ≤ m → All (λ p. p < m) (range_with_len 0 n)
-range_below n m up k d inside = omega (arith, get_or-range_with_len 0 n k d (omega (arith, inside, length-range_with_len 0 n)), inside, length-range_with_len 0 n, up)
+-- what holds of each first entries of a list holds of all fronts
+pub fronts_all : (H : List ℕ → List ℕ) (format : Format) (met : List ℕ) (n : ℕ) (P : Prefix → Type 0) (lanes : List WholeLane) (cut : List ℕ)
+    → All (λ (lane : WholeLane). IsList n lane.entries) lanes → IsCut lanes cut
+    → ((entries : List Entry) (count : ℕ) → IsList n entries → 1 ≤ count → count ≤ length entries → P (prefix_of H format met entries count))
+    → All P (prefixes H format met lanes cut)
+fronts_all H format met n P lanes cut lists is each k d inside =
+    let none : WholeLane = record { coefficient = 0; entries = [] } in
+    let here : k < length lanes = omega (arith, inside, prefix_each H format met lanes cut is.size) in
+    let shown = is.each k none here in
+    subst P (sym (prefix_at H format met lanes cut k d none is.size here)) (each (get_or lanes k none).entries (get_or cut k 0) (lists k none here) shown.0 shown.1)
 
 -- a list's impacts have 16 bits
 pub small_impacts : (entries : List Entry) (k : ℕ) → IsList 65536 entries → All (λ (e : Entry). e.impact < 2 ^ 16) (take k entries)

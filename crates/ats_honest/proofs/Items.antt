@@ -1,5 +1,5 @@
 -- The leaves of a document's terms.
-use Rattle.std.proofs.Common.{◌≡◌, ◌⊎◌, ◌+◌, ◌<◌, ◌≤◌, ℕ, zero, suc, List, [], ◌∷◌, length, map, sym, subst, ◌∙◌, arith, inl, inr}
+use Rattle.std.proofs.Common.{◌≡◌, ◌⊎◌, ◌+◌, ◌<◌, ◌≤◌, ℕ, zero, suc, List, [], ◌∷◌, length, map, refl, sym, subst, ◌∙◌, arith, inl, inr}
 use Rattle.std.specs.List.{All}
 use Rattle.std.specs.List.Sorted.{IsStrictlyIncreasing}
 use Rattle.std.proofs.lemmas.Bool.{cases_lt}
@@ -16,12 +16,13 @@ use Rattle.ats_doctree.specs.Impacts.{AreImpacts}
 use Rattle.ats_doctree.specs.Sentinels.{IsBelow, item_at, low, term_at, terms_leaves}
 use Rattle.ats_doctree.proofs.Public.{item_at-last, item_at-suc, length-terms_leaves, terms_rise}
 use Rattle.ats_proof.specs.Value.{TermsSection}
-use Rattle.ats_honest.specs.Documents.{IsTermSpot, shown_term}
+use Rattle.ats_proof.proofs.Public.{increasing-tail}
+use Rattle.ats_honest.specs.Documents.{IsHonestSection, IsTermSpot, shown_term}
 use Rattle.ats_honest.specs.Terms.{AreNeeded, HaveSpots, lower, slot_of}
 use Rattle.ats_honest.specs.Order.{ComesIn}
 use Rattle.ats_honest.proofs.ComingDocuments.{AreGoodTerms, IsGoodSection, come_section}
 use Rattle.ats_honest.proofs.Elided.{dictionary_few}
-use Rattle.ats_honest.proofs.Ranges.{above_first, all_below, rising_slots, some_needed, tail_rises}
+use Rattle.ats_honest.proofs.Ranges.{above_first, all_below, rising_slots, some_needed}
 use Rattle.ats_honest.proofs.Spots.{spots_each}
 
 -- what holds for a leaf, sentinels included
@@ -47,7 +48,7 @@ good_terms items (p ∷ ps) least are rises above below =
       omega (arith, first, are.few),
       leaf.short,
       omega (arith, leaf.small),
-      good_terms items ps (p + 1) are (tail_rises p ps rises) (above_first p ps rises) (All-tail (λ q. q < length items + 2) p ps below),
+      good_terms items ps (p + 1) are (increasing-tail p ps rises) (above_first p ps rises) (All-tail (λ q. q < length items + 2) p ps below),
     )
 
 -- ---- the places of terms
@@ -72,6 +73,18 @@ section_of H items spots positions = record {
   leaves = map (shown_term items) positions;
   digests = elided_digests H (terms_leaves items) positions;
   slots = map (slot_of positions) spots;
+}
+
+pub is_section : (H : List ℕ → List ℕ) (items terms : List (List ℕ × ℕ)) (spots : List Spot) (positions : List ℕ) → HaveSpots (IsTermSpot items) terms spots → AreNeeded spots positions
+    → IsHonestSection H items terms (section_of H items spots positions)
+is_section H items terms spots positions found needed = record {
+  spots = spots;
+  found = found;
+  positions = positions;
+  needed = needed;
+  leaves = refl;
+  digests = refl;
+  slots = refl;
 }
 
 module _ (H : List ℕ → List ℕ) (sized : (bytes : List ℕ) → length (H bytes) ≡ 32) (items terms : List (List ℕ × ℕ)) (spots : List Spot) (positions : List ℕ) where

@@ -1,12 +1,14 @@
 -- The documents that a cut meets.
-use Rattle.std.proofs.Common.{◌≡◌, ◌+◌, ◌<◌, ◌≤◌, ◌||◌, ℕ, zero, suc, Bool, true, false, nat_eq, inl, inr, ◌⊎◌, List, [], ◌∷◌, length, map, take, get_or, refl, sym, ap, ap₂, subst, ◌∙◌, arith}
+use Rattle.std.proofs.Common.{◌≡◌, ◌+◌, ◌<◌, ◌≤◌, ◌||◌, ℕ, Bool, true, false, nat_eq, inl, inr, List, [], ◌∷◌, length, map, take, get_or, refl, sym, ap, ap₂, subst, ◌∙◌, arith}
 use Rattle.std.specs.List.{All, dedup, flat_map, list_any}
 use Rattle.std.specs.List.Sorted.{IsPermutation, IsSorted, IsStrictlyIncreasing}
 use Rattle.std.specs.Ordering.{nat_cmp}
-use Rattle.std.proofs.lemmas.Bool.{eqb-true}
+use Rattle.std.proofs.lemmas.Bool.{eqb-true, or_cases}
 use Rattle.std.proofs.lemmas.List.{length-map, get_or-map, get_or_default}
 use Rattle.std.proofs.lemmas.List.Elements.{All-take, All-head, All-tail}
 use Rattle.std.proofs.lemmas.List.Folds.{Any-from_list_any, list_any-append}
+use Rattle.std.proofs.lemmas.Map.Keys.{sorted_from_strictly_increasing}
+use Rattle.std.proofs.lemmas.Map.Views.{length-le_from_below}
 use Rattle.ats_lists.specs.Lists.{IsList}
 use Rattle.ats_lists.specs.declared.entry.Entry.{Entry}
 use Rattle.ats_bound.specs.declared.bracket.Bracket.{Bracket}
@@ -52,14 +54,10 @@ shown_below doc n (lane ∷ lanes) [] all is = absurd (cc)
 shown_below doc n (lane ∷ lanes) (count ∷ cut) all is =
     let Low : WholeLane → Type 0 = λ lane. All (λ (e : Entry). e.doc < n) lane.entries in
     let first = All-take (λ (e : Entry). e.doc < n) count lane.entries (All-head Low lane lanes all) in
-    elim (cases_or (list_any (λ (e : Entry). nat_eq e.doc doc) (take count lane.entries)) (list_any (names doc) (shown lanes cut)) is) [
+    elim (or_cases (list_any (λ (e : Entry). nat_eq e.doc doc) (take count lane.entries)) (list_any (names doc) (shown lanes cut)) is) [
       | inl here ↦ named_below doc n (take count lane.entries) first here
       | inr later ↦ shown_below doc n lanes cut (All-tail Low lane lanes all) later
     ]
-  where
-    cases_or : (a b : Bool) → (a || b) ≡ true → (a ≡ true) ⊎ (b ≡ true)
-    cases_or true b is = inl refl
-    cases_or false b is = inr is
 
 -- each of the documents that a cut meets is named
 pub met_named : (lanes : List ShownLane) (documents : List ℕ) → AreMet lanes documents → (k d : ℕ) → k < length documents → list_any (names (get_or documents k d)) lanes ≡ true
@@ -72,17 +70,8 @@ pub met_low : (n : ℕ) (lanes : List WholeLane) (cut documents : List ℕ) → 
     → AreMet (shown lanes cut) documents → All (λ d. d < n) documents
 met_low n lanes cut documents all are k d inside = shown_below (get_or documents k d) n lanes cut all (met_named (shown lanes cut) documents are k d inside)
 
--- in rising numbers the one at place k is at least k
-rising_at : (xs : List ℕ) → IsStrictlyIncreasing xs → (k : ℕ) → k < length xs → k ≤ get_or xs k 0
-rising_at xs rise zero inside = omega arith
-rising_at xs rise (suc k) inside =
-    let next : k + 1 ≡ suc k = omega arith in
-    omega (arith, rising_at xs rise k (omega (arith, inside)), rise k (omega (arith, inside)), ap (λ i. get_or xs i 0) next)
-
 pub rising_few : (n : ℕ) (xs : List ℕ) → IsStrictlyIncreasing xs → All (λ d. d < n) xs → length xs ≤ n
-rising_few n [] rise below = omega arith
-rising_few n (x ∷ xs) rise below =
-    omega (arith, rising_at (x ∷ xs) rise (length xs) (omega arith), below (length xs) 0 (omega arith))
+rising_few n xs rise below = length-le_from_below n xs (sorted_from_strictly_increasing xs rise) below
 
 pub lists_below : (lanes : List WholeLane) → All (λ (lane : WholeLane). IsList 65536 lane.entries) lanes → All (λ (lane : WholeLane). All (λ (e : Entry). e.doc < 65536) lane.entries) lanes
 lists_below lanes all k d inside = (all k d inside).documents

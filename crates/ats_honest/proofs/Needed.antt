@@ -1,5 +1,5 @@
 -- The positions that some terms need, each once.
-use Rattle.std.proofs.Common.{◌≡◌, ◌==◌, Bool, ◌+◌, ◌*◌, ◌≤◌, ◌++◌, ℕ, zero, suc, nat_eq, List, [], ◌∷◌, length, sym, ap, ◌∙◌, arith}
+use Rattle.std.proofs.Common.{◌≡◌, ◌==◌, Bool, ◌*◌, ◌≤◌, ℕ, nat_eq, List, [], ◌∷◌, length, sym, ap, ◌∙◌, arith}
 use Rattle.std.specs.List.{dedup, flat_map, list_any}
 use Rattle.std.specs.List.Sorted.{IsPermutation, IsSorted, IsStrictlyIncreasing}
 use Rattle.std.specs.Ordering.{eq_by_cmp, nat_cmp}
@@ -8,7 +8,6 @@ use Rattle.std.proofs.lemmas.Cmp.{eq_by_cmp_equiv, nat_cmp_total}
 use Rattle.std.proofs.lemmas.Map.Made.{length-le_from_is_member}
 use Rattle.std.proofs.lemmas.List.Sorted.{list_any-IsPermutation}
 use Rattle.std.proofs.lemmas.Map.Keys.{IsDistinct-from_sorted, IsStrictlyIncreasing-dedup, sorted_from_strictly_increasing}
-use Rattle.std.specs.List.{range_with_len}
 use Rattle.ats_dict.specs.declared.spot.Spot.{Spot}
 use Rattle.ats_dict.specs.declared.spot.Spot.TheVariants.{At, Between}
 use Rattle.ats_bound.proofs.Public.{has_deduped}
@@ -45,10 +44,3 @@ positions_few spots positions is =
     (IsDistinct-from_sorted nat_cmp positions (sorted_from_strictly_increasing positions is.rise))
     (λ q member. ap (λ (f : ℕ → Bool). list_any f all) (tests q) ∙ sym (is.needed q) ∙ sym (ap (λ (f : ℕ → Bool). list_any f positions) (tests q)) ∙ member) in
     omega (arith, few, needs_few spots)
-
--- one number more
-pub range_more : (a n : ℕ) → range_with_len a (suc n) ≡ range_with_len a n ++ (a + n) ∷ []
-range_more a zero = let e : a ≡ a + 0 = omega arith in ap (λ (m : ℕ). m ∷ []) e
-range_more a (suc n) =
-    let e : a + 1 + n ≡ a + suc n = omega arith in
-    ap (λ (xs : List ℕ). a ∷ xs) (range_more (a + 1) n ∙ ap (λ (m : ℕ). range_with_len (a + 1) n ++ m ∷ []) e)

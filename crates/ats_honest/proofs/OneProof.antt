@@ -13,7 +13,7 @@ use Rattle.ats_dict.specs.declared.spot.Spot.{Spot}
 use Rattle.ats_dict.specs.declared.spot.Spot.TheVariants.{At, Between}
 use Rattle.ats_dict.specs.Entry.{DictEntry}
 use Rattle.ats_dict.specs.Dictionary.{IsBelow, byte_cmp, dict_leaves, low, term_at}
-use Rattle.ats_dict.specs.Found.{IsSpot, LiesBetween, StandsAt}
+use Rattle.ats_dict.specs.Found.{IsSpot}
 use Rattle.ats_dict.proofs.Public.{entry_at-suc}
 use Rattle.ats_commit.specs.Archive.{Archive}
 use Rattle.ats_commit.specs.Trees.{dictionary_of}
@@ -21,13 +21,13 @@ use Rattle.ats_commit.proofs.Public.{dictionary_terms}
 use Rattle.ats_bound.specs.declared.bracket.Bracket.{Bracket}
 use Rattle.ats_bound.specs.Chosen.{IsChosen}
 use Rattle.ats_bound.specs.Cut.{ShownLane}
+use Rattle.ats_bound.specs.Ranked.{docs_of}
 use Rattle.ats_bound.specs.Schedule.{AreBracketsBy, Bounding, WholeLane, shown}
 use Rattle.ats_bound.proofs.Public.{one_bracketing, risen_are_distinct, one_first_settled, one_chosen}
 use Rattle.ats_proof.specs.declared.record.Algorithm.{Algorithm}
 use Rattle.ats_proof.specs.declared.record.Algorithm.TheVariants.{Tra, Tnra}
 use Rattle.ats_proof.specs.Value.{Documents, Proof, TermsSection}
 use Rattle.ats_terms.proofs.Public.{rises_less}
-use Rattle.ats_doctree.specs.Found as found
 use Rattle.ats_doctree.specs.Sentinels as tree
 use Rattle.ats_doctree.specs.Sentinels.{terms_leaves}
 use Rattle.ats_doctree.specs.Impacts.{doc_terms}
@@ -37,9 +37,7 @@ use Rattle.ats_honest.specs.Documents.{AreHonestSections, HasDocuments, IsHonest
 use Rattle.ats_honest.specs.Lanes.{bounding, lanes_of, present}
 use Rattle.ats_honest.specs.Honest.{AreMet, IsCutShown, IsHonest, IsShownAt, prefixes}
 use Rattle.ats_honest.proofs.Needed.{same_test}
-use Rattle.ats_honest.proofs.Positions.{Lies, Stands, one_lie, one_stand}
-use Rattle.ats_honest.proofs.ShownCut.{honest_shown}
-use Rattle.ats_honest.proofs.Whole.{docs_of}
+use Rattle.ats_honest.proofs.Positions.{one_lie, one_stand}
 use Rattle.ats_tree.specs.Elided.{elided_digests}
 
 -- ---- spots
@@ -75,23 +73,14 @@ module _ (H : List ℕ → List ℕ) (archive : Archive) where
   entry_terms_rise (suc i) (suc j) some less within =
       rw (← entry_at-suc entries i low (omega (arith, less, within)), ← entry_at-suc entries j low (omega (arith, within))) at (entries_rise i j (omega (arith, less)) (omega (arith, within)))
 
-  entry_stands : (term : List ℕ) (p : ℕ) → StandsAt entries term p → Stands (term_at entries) (length entries) term p
-  entry_stands term p is = record { some = is.some; within = is.within; same = is.same }
-
-  entry_lies : (term : List ℕ) (p : ℕ) → LiesBetween entries term p → Lies (term_at entries) (length entries) term p
-  entry_lies term p is = record { within = is.within; above = is.above; below = is.below }
-
-  stands_and_lies : (term : List ℕ) (p q : ℕ) → StandsAt entries term p → LiesBetween entries term q → ⊥
-  stands_and_lies term p q stands lies = lies.absent p stands
-
   -- a term is at one position, or lies between one pair of neighbours, never both
   one_spot : (term : List ℕ) (s t : Spot) → IsSpot entries term s → IsSpot entries term t → s ≡ t
   one_spot term (At p) (At q) first second =
-      ap At (one_stand (term_at entries) (length entries) entry_terms_rise term p q (entry_stands term p first) (entry_stands term q second))
-  one_spot term (At p) (Between q) first second = absurd (stands_and_lies term p q first second)
-  one_spot term (Between p) (At q) first second = absurd (stands_and_lies term q p second first)
+      ap At (one_stand (term_at entries) (length entries) entry_terms_rise term p q first second)
+  one_spot term (At p) (Between q) first second = absurd (second.absent p first)
+  one_spot term (Between p) (At q) first second = absurd (first.absent q second)
   one_spot term (Between p) (Between q) first second =
-      ap Between (one_lie (term_at entries) (length entries) entry_terms_rise term p q (entry_lies term p first) (entry_lies term q second))
+      ap Between (one_lie (term_at entries) (length entries) entry_terms_rise term p q first second)
 
 -- so do the terms of a document
 module _ (texts : List (List ℕ)) (doc : ℕ) where
@@ -106,22 +95,13 @@ module _ (texts : List (List ℕ)) (doc : ℕ) where
       rises_less items i j tree.low (doc_terms_rise texts doc) (omega (arith, less)) (omega (arith, within)) in
       rw (← item_at-suc items i tree.low (omega (arith, less, within)), ← item_at-suc items j tree.low (omega (arith, within))) at below
 
-  item_stands : (term : List ℕ) (p : ℕ) → found.StandsAt items term p → Stands (tree.term_at items) (length items) term p
-  item_stands term p is = record { some = is.some; within = is.within; same = is.same }
-
-  item_lies : (term : List ℕ) (p : ℕ) → found.LiesBetween items term p → Lies (tree.term_at items) (length items) term p
-  item_lies term p is = record { within = is.within; above = is.above; below = is.below }
-
-  item_stands_and_lies : (term : List ℕ) (p q : ℕ) → found.StandsAt items term p → found.LiesBetween items term q → ⊥
-  item_stands_and_lies term p q stands lies = lies.absent p stands
-
   one_term_spot : (term : List ℕ) (s t : Spot) → IsTermSpot items term s → IsTermSpot items term t → s ≡ t
   one_term_spot term (At p) (At q) first second =
-      ap At (one_stand (tree.term_at items) (length items) item_terms_rise term p q (item_stands term p first) (item_stands term q second))
-  one_term_spot term (At p) (Between q) first second = absurd (item_stands_and_lies term p q first second)
-  one_term_spot term (Between p) (At q) first second = absurd (item_stands_and_lies term q p second first)
+      ap At (one_stand (tree.term_at items) (length items) item_terms_rise term p q first second)
+  one_term_spot term (At p) (Between q) first second = absurd (second.absent p first)
+  one_term_spot term (Between p) (At q) first second = absurd (first.absent q second)
   one_term_spot term (Between p) (Between q) first second =
-      ap Between (one_lie (tree.term_at items) (length items) item_terms_rise term p q (item_lies term p first) (item_lies term q second))
+      ap Between (one_lie (tree.term_at items) (length items) item_terms_rise term p q first second)
 
 -- ---- positions
 
@@ -218,8 +198,7 @@ one_proof H archive query r algorithm a b x y =
     one_chosen y.brackets r a.answer b.answer (risen_are_distinct y.brackets y.bounds.rise) (subst (λ (bs : List Bracket). IsChosen bs r a.answer) brackets x.answer) y.answer in
     one_shown H archive query algorithm y.cut (docs_of y.brackets) a b
     (subst (λ (bs : List Bracket). IsShownAt H archive query algorithm y.cut (docs_of bs) a) brackets
-    (subst (λ (c : List ℕ). IsShownAt H archive query algorithm c (docs_of x.brackets) a) cut (honest_shown H archive query r algorithm a x)))
-    (honest_shown H archive query r algorithm b y) answer
+    (subst (λ (c : List ℕ). IsShownAt H archive query algorithm c (docs_of x.brackets) a) cut x.shows)) y.shows answer
 
 -- two proofs of the same cut that have no answer
 pub one_cut_shown : (H : List ℕ → List ℕ) (archive : Archive) (query : List (List ℕ × ℕ)) (algorithm : Algorithm) (cut : List ℕ) (a b : Proof)

@@ -26,10 +26,10 @@ use Rattle.ats_dict.proofs.Public.{entry_at-suc}
 use Rattle.ats_commit.specs.Archive.{Archive}
 use Rattle.ats_commit.specs.Trees.{dict_entry, dictionary_of}
 use Rattle.ats_commit.proofs.Public.{dictionary_terms}
-use Rattle.ats_bound.specs.Schedule.{WholeLane, IsWholeLane}
+use Rattle.ats_bound.specs.Schedule.{WholeLane}
 use Rattle.ats_honest.specs.Lanes.{lane_of, lanes_of, present}
 
-abbrev has_list : List (List ℕ) → List ℕ × ℕ → Bool
+abbrev pub has_list : List (List ℕ) → List ℕ × ℕ → Bool
 has_list texts pair = nat_lt 0 (frequency pair.0 texts)
 
 -- a term with a list has a lane
@@ -141,16 +141,6 @@ lane_is texts pair lane documents weight entries number times coefficient_is =
     let c : lane.coefficient ≡ coefficient texts pair =
     coefficient_is ∙ ap₂ (λ w n. w * idf n (length lane.entries)) times number ∙ ap (λ m. pair.1 * idf (length texts) m) f in
     ap₂ (λ (n : ℕ) (es : List Entry). let l : WholeLane = record { coefficient = n; entries = es } in l) c entries
-
-pub is_whole : (lane : WholeLane) → IsList 65536 lane.entries → 1 ≤ lane.coefficient → lane.coefficient ≤ 34935 → IsWholeLane lane
-is_whole lane is some few = record {
-  weighted = (some, few);
-  some = is.some;
-  few = is.few;
-  impacts = λ k d inside. (is.impacts k d inside).0;
-  falling = is.falling;
-  once = is.once;
-}
 
 -- the lane of a term that is in the dictionary
 pub record IsLaneAt (H : List ℕ → List ℕ) (texts : List (List ℕ)) (query : List (List ℕ × ℕ)) (i : ℕ) (lane : WholeLane) : Type 0 where

@@ -30,34 +30,30 @@ pub use Rattle.ats_honest.proofs.Elided.{documents_few}
 pub use Rattle.ats_honest.proofs.Needed.{are_needed}
 -- spots need at most twice as many positions as there are spots, duplicates included
 pub use Rattle.ats_honest.proofs.Needed.{needs_few}
--- the n + 1 numbers from a on are the n numbers from a on, followed by a + n
-pub use Rattle.ats_honest.proofs.Needed.{range_more}
 -- for a cut with one count per lane, list front i is made from lane i's list and count i
 pub use Rattle.ats_honest.proofs.Fronts.{prefix_at}
 -- a cut with one count per lane shows as many list fronts as there are lanes
 pub use Rattle.ats_honest.proofs.Fronts.{prefix_each}
--- if n is at most m, the first n numbers from 0 on are all below m
-pub use Rattle.ats_honest.proofs.Fronts.{range_below}
 -- the first k entries of an inverted list have impacts below 2^16
 pub use Rattle.ats_honest.proofs.Fronts.{small_impacts}
 -- the entries of the lane are an inverted list over n documents
 pub use Rattle.ats_honest.proofs.Present.{HasList}
 -- a term that lies between two leaves of the dictionary occurs in no text of the archive
 pub use Rattle.ats_honest.proofs.Present.{absent_term}
--- the idf for at most 65536 documents and a frequency of at least 1 is at most 128
-pub use Rattle.ats_honest.proofs.Present.{few_idf}
--- an inverted list over 65536 documents with a coefficient from 1 to 34935 is a whole lane
-pub use Rattle.ats_honest.proofs.Present.{is_whole}
 -- a query term at dictionary leaf p + 1 adds list p, with the term's coefficient, as the next lane
 pub use Rattle.ats_honest.proofs.Present.{lane_at}
 -- a query term that no text has adds no lane to those of the terms before it
 pub use Rattle.ats_honest.proofs.Present.{lane_none}
 -- the entries of each lane of a query are an inverted list over the texts
 pub use Rattle.ats_honest.proofs.Present.{lanes_have_lists}
+-- over at most 65536 texts they are one over 65536 documents
+pub use Rattle.ats_honest.proofs.Present.{lists_within}
 -- each list of a collection is the list of its term
 pub use Rattle.ats_honest.proofs.Present.{list_at}
 -- a term at leaf p + 1 of the dictionary is the term of the collection's list p
 pub use Rattle.ats_honest.proofs.Present.{standing_term}
+-- some text of the archive has a term that is at leaf p + 1 of the dictionary
+pub use Rattle.ats_honest.proofs.Present.{present_term}
 -- a first query term that some text has puts its lane in front of the other terms' lanes
 pub use Rattle.ats_honest.proofs.Present.{with_lane}
 -- a first query term that no text has adds no lane to the other terms' lanes
@@ -94,6 +90,8 @@ pub use Rattle.ats_honest.proofs.Ranges.{positions_below}
 pub use Rattle.ats_honest.proofs.Items.{lower_item}
 -- an honest section for one or more rising terms, with at most 64 leaves, has its fields in grammar order
 pub use Rattle.ats_honest.proofs.Items.{section_comes}
+-- the section built from the spots of terms, with the positions that they need, is honest
+pub use Rattle.ats_honest.proofs.Items.{is_section}
 -- the section that shows given leaves of a document's terms, with elided digests and a slot for each spot
 pub use Rattle.ats_honest.proofs.Items.{section_of}
 -- the number of term leaves that a documents leaf states is below 2^32
@@ -104,14 +102,12 @@ pub use Rattle.ats_honest.proofs.MetLeaves.{documents_come}
 pub use Rattle.ats_honest.proofs.MetLeaves.{documents_each}
 -- the spots, positions, cut, documents and rows are those of a proof of the cut, within the limits
 pub use Rattle.ats_honest.proofs.Whole.{HasParts}
--- the documents of a list of brackets, in the order of the brackets
-pub use Rattle.ats_honest.proofs.Whole.{docs_of}
 -- a TRA proof of a cut has a leaf and a section per met document, with a slot per present term
 pub use Rattle.ats_honest.proofs.Whole.{documents_are}
--- the proof built from the right spots, positions, cut and documents is a proof of the cut
-pub use Rattle.ats_honest.proofs.Whole.{is_shown}
--- a query has as many lanes as slots that say that their term is present
-pub use Rattle.ats_honest.proofs.Whole.{lanes_each}
+-- the proof built from the right spots, positions and documents is a proof of the cut
+pub use Rattle.ats_honest.proofs.Whole.{shown_of}
+-- the lanes of a query over at most 65536 texts are whole lanes
+pub use Rattle.ats_honest.proofs.Exists.{lanes_are_whole}
 -- a proof built from the right parts has one list front for each slot whose term is present
 pub use Rattle.ats_honest.proofs.Whole.{lists_each}
 -- the fields of a proof built from the right parts are in the grammar's order
@@ -134,10 +130,6 @@ pub use Rattle.ats_honest.proofs.Lookups.{looked_up_past}
 pub use Rattle.ats_honest.proofs.ShownCut.{honest_cut}
 -- the documents of an honest proof's brackets are those that its cut meets
 pub use Rattle.ats_honest.proofs.ShownCut.{honest_met}
--- an honest proof shows its cut, with the documents of its brackets
-pub use Rattle.ats_honest.proofs.ShownCut.{honest_shown}
--- a proof of the first settled cut, with the rows that are chosen there, is honest
-pub use Rattle.ats_honest.proofs.ShownCut.{is_honest}
 -- two proofs of one cut without an answer are equal
 pub use Rattle.ats_honest.proofs.OneProof.{one_cut_shown}
 -- two honest proofs for one archive, query, row limit and algorithm are equal

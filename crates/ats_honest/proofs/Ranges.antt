@@ -1,8 +1,8 @@
 -- The numbers of an honest proof are in their ranges.
-use Rattle.std.proofs.Common.{◌≡◌, ◌⊎◌, ◌+◌, ◌<◌, ◌≤◌, ◌||◌, ℕ, zero, suc, Bool, true, false, nat_lt, nat_eq, List, [], ◌∷◌, length, map, get_or, refl, sym, ap, subst, ◌∙◌, arith, inl, inr}
+use Rattle.std.proofs.Common.{◌≡◌, ◌⊎◌, ◌+◌, ◌<◌, ◌≤◌, ◌||◌, ℕ, zero, suc, true, nat_lt, nat_eq, List, [], ◌∷◌, length, map, get_or, refl, sym, ap, subst, ◌∙◌, arith, inl, inr}
 use Rattle.std.specs.List.{All, flat_map}
 use Rattle.std.specs.List.Sorted.{IsStrictlyIncreasing}
-use Rattle.std.proofs.lemmas.Bool.{cases_lt}
+use Rattle.std.proofs.lemmas.Bool.{cases_lt, or_cases}
 use Rattle.std.proofs.lemmas.Cmp.{nat_list_cmp_total, tied_itself}
 use Rattle.std.proofs.lemmas.List.{get_or_default}
 use Rattle.std.proofs.lemmas.List.Elements.{All-tail}
@@ -16,6 +16,7 @@ use Rattle.ats_dict.specs.Entry.{DictEntry}
 use Rattle.ats_dict.specs.Dictionary.{IsBelow, IsDictionary, term_at}
 use Rattle.ats_dict.specs.Found.{IsSpot}
 use Rattle.ats_dict.proofs.Public.{terms_rise}
+use Rattle.ats_proof.proofs.Public.{increasing-tail}
 use Rattle.ats_honest.specs.Terms.{AreSpots, AreNeeded, HaveSpots, has, lower, needs, place, shown_entry, slot_of}
 use Rattle.ats_honest.proofs.Spots.{leaf_at, lower_within}
 use Rattle.ats_honest.proofs.Places.{place_grows}
@@ -40,10 +41,6 @@ one_needed p n (Between q) low is =
     within_two zero inside same = omega (arith, same, low)
     within_two (suc zero) inside same = omega (arith, same, low)
     within_two (suc (suc k)) inside same = absurd (omega (arith, inside))
-
-or_cases : (a b : Bool) → (a || b) ≡ true → (a ≡ true) ⊎ (b ≡ true)
-or_cases true b is = inl refl
-or_cases false b is = inr is
 
 module _ (is : List ℕ → Spot → Type 0) (n : ℕ) (within : (term : List ℕ) (spot : Spot) → is term spot → lower spot ≤ n) where
   needed_below : (p : ℕ) (terms : List (List ℕ × ℕ)) (spots : List Spot) → HaveSpots is terms spots → has p (flat_map needs spots) ≡ true → p ≤ n + 1
@@ -81,10 +78,6 @@ some_needed is (pair ∷ terms) (spot ∷ spots) positions some are needed =
     own (At p) = has_contained p (p ∷ []) (0, omega arith, refl)
     own (Between p) = has_contained p (p ∷ (p + 1) ∷ []) (0, omega arith, refl)
 
-pub tail_rises : (x : ℕ) (xs : List ℕ) → IsStrictlyIncreasing (x ∷ xs) → IsStrictlyIncreasing xs
-tail_rises x xs rises k inside =
-    let next : suc k + 1 ≡ suc (k + 1) = omega arith in rw next at (rises (suc k) (omega (arith, inside)))
-
 pub above_first : (x : ℕ) (xs : List ℕ) → IsStrictlyIncreasing (x ∷ xs) → All (λ y. x + 1 ≤ y) xs
 above_first x xs rises k d inside = omega (arith, AllPairs-from_increasing (x ∷ xs) rises 0 (suc k) d (omega arith) (omega (arith, inside)))
 
@@ -96,13 +89,13 @@ good_entries entries (p ∷ ps) low is rises above below =
       above 0 0 (omega arith),
       omega (arith, first, is.few),
       leaf_at entries p is first,
-      good_entries entries ps (p + 1) is (tail_rises p ps rises) (above_first p ps rises) (All-tail (λ q. q < length entries + 2) p ps below),
+      good_entries entries ps (p + 1) is (increasing-tail p ps rises) (above_first p ps rises) (All-tail (λ q. q < length entries + 2) p ps below),
     )
 
 pub good_ids : (ids : List ℕ) (low : ℕ) → IsStrictlyIncreasing ids → All (λ n. low ≤ n) ids → All (λ n. n < 65536) ids → AreGoodIds low ids
 good_ids [] low rises above below = tt
 good_ids (n ∷ ids) low rises above below =
-    (above 0 0 (omega arith), omega (arith, below 0 0 (omega arith)), good_ids ids (n + 1) (tail_rises n ids rises) (above_first n ids rises) (All-tail (λ m. m < 65536) n ids below))
+    (above 0 0 (omega arith), omega (arith, below 0 0 (omega arith)), good_ids ids (n + 1) (increasing-tail n ids rises) (above_first n ids rises) (All-tail (λ m. m < 65536) n ids below))
 
 -- ---- slots never fall
 

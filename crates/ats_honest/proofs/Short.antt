@@ -1,5 +1,5 @@
 -- No honest TNRA proof has more than 2^26 bytes.
-use Rattle.std.proofs.Common.{◌≡◌, ◌+◌, ◌*◌, ◌^◌, ◌<◌, ◌≤◌, ◌++◌, ℕ, zero, suc, List, [], ◌∷◌, length, take, get_or, Option, None, refl, sym, ap, subst, ◌∙◌, arith, length-append, length-take}
+use Rattle.std.proofs.Common.{◌≡◌, ◌+◌, ◌*◌, ◌^◌, ◌≤◌, ◌++◌, ℕ, List, [], ◌∷◌, length, take, get_or, Option, None, refl, sym, ap, subst, ◌∙◌, arith, length-append, length-take}
 use Rattle.std.specs.List.{All, concat, flat_map}
 use Rattle.std.proofs.lemmas.List.{length-map, length-take-le}
 use Rattle.std.proofs.lemmas.List.Elements.{All-head, All-map, All-tail}
@@ -21,6 +21,7 @@ use Rattle.ats_commit.specs.Archive.{Archive}
 use Rattle.ats_commit.specs.Own.{AreTexts}
 use Rattle.ats_commit.specs.Trees.{dictionary_of}
 use Rattle.ats_commit.proofs.Public.{header_in_range, few_within}
+use Rattle.ats_bound.specs.Ranked.{docs_of}
 use Rattle.ats_bound.specs.Schedule.{IsCut, WholeLane}
 use Rattle.ats_proof.specs.declared.record.Algorithm.TheVariants.{Tnra}
 use Rattle.ats_proof.specs.declared.record.Slot.{Slot}
@@ -28,10 +29,10 @@ use Rattle.ats_proof.specs.Parts.{counted, spelled}
 use Rattle.ats_proof.specs.Value.{Documents, Prefix, Proof, ShownEntry, documents_fields, front_fields, header_fields, entry_fields, digest_fields, slot_fields, id_fields, posting_fields, prefix_fields}
 use Rattle.ats_honest.specs.Terms.{shown_entry, slot_of}
 use Rattle.ats_honest.specs.Lanes.{lanes_of}
-use Rattle.ats_honest.specs.Honest.{IsHonest, length_of, placed, prefix_of, prefixes}
+use Rattle.ats_honest.specs.Honest.{IsHonest, length_of, placed, prefix_of}
 use Rattle.ats_honest.proofs.Coming.{AreDigests}
 use Rattle.ats_honest.proofs.Elided.{dictionary_few}
-use Rattle.ats_honest.proofs.Fronts.{prefix_each}
+use Rattle.ats_honest.proofs.Fronts.{fronts_all, prefix_each}
 use Rattle.ats_honest.proofs.MetDocuments.{lists_below, met_low, rising_few}
 use Rattle.ats_honest.proofs.Needed.{positions_few}
 use Rattle.ats_honest.proofs.OwnEntries.{own_few, own_leaves}
@@ -39,7 +40,6 @@ use Rattle.ats_honest.proofs.Present.{HasList, lanes_few, lists_within}
 use Rattle.ats_honest.proofs.Ranges.{positions_below}
 use Rattle.ats_honest.proofs.ShownCut.{honest_cut, honest_met}
 use Rattle.ats_honest.proofs.Spots.{IsLeaf, leaf_among, spot_each}
-use Rattle.ats_honest.proofs.Whole.{docs_of}
 
 -- ---- how many bytes fields have
 
@@ -135,17 +135,6 @@ short_prefix H sized format met entries count is some within =
       short = omega (arith, shown, took, within, is.few, front-few H format entries count some within is.few);
     }
 
-short_prefixes : (H : List ℕ → List ℕ) → ((bytes : List ℕ) → length (H bytes) ≡ 32) → (format : Format) (met : List ℕ) (lanes : List WholeLane) (cut : List ℕ)
-    → All (λ (lane : WholeLane). IsList 65536 lane.entries) lanes → ((i : ℕ) (d : WholeLane) → i < length lanes → (1 ≤ get_or cut i 0) × (get_or cut i 0 ≤ length (get_or lanes i d).entries))
-    → All IsShort (prefixes H format met lanes cut)
-short_prefixes H sized format met [] cut lists is k d inside = absurd (omega (arith, inside))
-short_prefixes H sized format met (lane ∷ lanes) [] lists is k d inside = absurd (omega (arith, inside))
-short_prefixes H sized format met (lane ∷ lanes) (count ∷ cut) lists is zero d inside =
-    let first = is 0 lane (omega arith) in
-    short_prefix H sized format met lane.entries count (All-head (λ (l : WholeLane). IsList 65536 l.entries) lane lanes lists) first.0 first.1
-short_prefixes H sized format met (lane ∷ lanes) (count ∷ cut) lists is (suc k) d inside =
-    short_prefixes H sized format met lanes cut (All-tail (λ (l : WholeLane). IsList 65536 l.entries) lane lanes lists) (λ i e less. is (suc i) e (omega (arith, less))) k d (omega (arith, inside))
-
 -- ---- the whole
 
 ten_sizes : (a b c d e f g h i j : List (List ℕ)) → size (a ++ b ++ c ++ d ++ e ++ f ++ g ++ h ++ i ++ j)
@@ -214,23 +203,23 @@ module _ (H : List ℕ → List ℕ) (sized : (bytes : List ℕ) → length (H b
   abbrev lanes : List WholeLane
   lanes = lanes_of archive.texts query
 
-  terms : length honest.spots ≡ length query
-  terms = spot_each entries query honest.spots honest.found
+  terms : length honest.shows.spots ≡ length query
+  terms = spot_each entries query honest.shows.spots honest.shows.found
 
-  positions : length honest.positions ≤ 64
-  positions = omega (arith, positions_few honest.spots honest.positions honest.needed, terms, few)
+  positions : length honest.shows.positions ≤ 64
+  positions = omega (arith, positions_few honest.shows.spots honest.shows.positions honest.shows.needed, terms, few)
 
   small : All IsSmall proof.dict
-  small = subst (All IsSmall) (sym honest.dict) (All-map IsSmall (shown_entry entries) honest.positions (λ k d inside.
-      leaf_among entries (get_or honest.positions k d) (own_leaves H sized archive are.within.few)
-      (positions_below entries query honest.spots honest.positions honest.found honest.needed k d inside)))
+  small = subst (All IsSmall) (sym honest.shows.dict) (All-map IsSmall (shown_entry entries) honest.shows.positions (λ k d inside.
+      leaf_among entries (get_or honest.shows.positions k d) (own_leaves H sized archive are.within.few)
+      (positions_below entries query honest.shows.spots honest.shows.positions honest.shows.found honest.shows.needed k d inside)))
 
   others : AreDigests proof.dict_digests
-  others = subst AreDigests (sym honest.dict_digests) (
+  others = subst AreDigests (sym honest.shows.dict_digests) (
       let leaves : List (List ℕ) = dict_leaves entries in
       record {
-        few = omega (arith, dictionary_few H leaves honest.positions (omega (arith, length-dict_leaves entries, own_few H archive are)) positions);
-        each = elided-sized H sized (tree_of_places (length leaves) (shown_with leaves honest.positions)) (tree_of leaves);
+        few = omega (arith, dictionary_few H leaves honest.shows.positions (omega (arith, length-dict_leaves entries, own_few H archive are)) positions);
+        each = elided-sized H sized (tree_of_places (length leaves) (shown_with leaves honest.shows.positions)) (tree_of leaves);
       })
 
   lists : All (HasList 65536) lanes
@@ -244,20 +233,20 @@ module _ (H : List ℕ → List ℕ) (sized : (bytes : List ℕ) → length (H b
       let docs : List ℕ = docs_of honest.brackets in
       let are_met = honest_met H archive query r Tnra proof honest in
       let few = rising_few 65536 docs are_met.rise (met_low 65536 lanes honest.cut docs (lists_below lanes lists) are_met) in
-      omega (arith, few, ap (λ (ids : List ℕ). length ids) honest.met)
+      omega (arith, few, ap (λ (ids : List ℕ). length ids) honest.shows.met)
 
   has_few : HasFew proof
   has_few = record {
-    front = subst (λ (h : Header). IsHeader h.documents h.dict_leaves h.dict_root h.docs_root h.texts_root) (sym honest.header)
+    front = subst (λ (h : Header). IsHeader h.documents h.dict_leaves h.dict_root h.docs_root h.texts_root) (sym honest.shows.header)
         (header_in_range H sized archive are.within (few_within archive.texts are.utf8 are.within));
     entries = small;
-    leaves = omega (arith, ap (λ (es : List ShownEntry). length es) honest.dict, length-map honest.positions (shown_entry entries), positions);
+    leaves = omega (arith, ap (λ (es : List ShownEntry). length es) honest.shows.dict, length-map honest.shows.positions (shown_entry entries), positions);
     others = others;
-    terms = omega (arith, ap (λ (slots : List Slot). length slots) honest.slots, length-map honest.spots (slot_of honest.positions), terms, few);
+    terms = omega (arith, ap (λ (slots : List Slot). length slots) honest.shows.slots, length-map honest.shows.spots (slot_of honest.shows.positions), terms, few);
     met = met;
-    lists = subst (All IsShort) (sym honest.lists) (short_prefixes H sized archive.format proof.met lanes honest.cut lists is_cut.each);
-    fronts = omega (arith, ap (λ (ps : List Prefix). length ps) honest.lists, prefix_each H archive.format proof.met lanes honest.cut is_cut.size, lanes_few archive.texts query, few);
-    alone = honest.docs;
+    lists = subst (All IsShort) (sym honest.shows.lists) (fronts_all H archive.format proof.met 65536 IsShort lanes honest.cut lists is_cut (short_prefix H sized archive.format proof.met));
+    fronts = omega (arith, ap (λ (ps : List Prefix). length ps) honest.shows.lists, prefix_each H archive.format proof.met lanes honest.cut is_cut.size, lanes_few archive.texts query, few);
+    alone = honest.shows.docs;
     rows = omega (arith, ap (λ (picks : List ℕ). length picks) honest.answer.first, length-take r honest.answer.all, rows);
   }
 

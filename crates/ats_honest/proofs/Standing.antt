@@ -29,15 +29,15 @@ entry_spot H archive term is =
     let past : term_at entries (n + 1) ≡ 255 ∷ [] = ap (λ (e : DictEntry). e.term) (entry_at-last entries (n + 1) refl) in
     let last : IsBelow term (term_at entries (n + 1)) = subst (IsBelow term) (sym past) (high_above term is.some is.front) in
     elim (found (term_at entries) n term (low_below term is.some) last) [
-      | inl stands ↦ (At stands.0, record { some = stands.1.some; within = stands.1.within; same = stands.1.same })
+      | inl stands ↦ (At stands.0, stands.1)
       | inr lies ↦ (
         Between lies.0,
         record {
-          within = lies.1.within;
-          above = lies.1.above;
-          below = lies.1.below;
+          within = lies.1;
+          above = lies.2;
+          below = lies.3;
           absent = nowhere low high entries (λ (e : DictEntry). e.term) term
-              (none_between low entries (entry_at entries) (λ i inside. entry_at-suc entries i low inside) (λ (e : DictEntry). e.term) (entries_rise H archive) lies.0 term lies.1.within lies.1.above lies.1.below);
+              (none_between low entries (entry_at entries) (λ i inside. entry_at-suc entries i low inside) (λ (e : DictEntry). e.term) (entries_rise H archive) lies.0 term lies.1 lies.2 lies.3);
         },
       )
     ]
@@ -50,16 +50,16 @@ item_spot texts doc term is =
     let past : tree.term_at items (n + 1) ≡ 255 ∷ [] = ap (λ (item : List ℕ × ℕ). item.0) (item_at-last items (n + 1) refl) in
     let last : IsBelow term (tree.term_at items (n + 1)) = subst (IsBelow term) (sym past) (high_above term is.some is.front) in
     elim (found (tree.term_at items) n term (low_below term is.some) last) [
-      | inl stands ↦ (At stands.0, record { some = stands.1.some; within = stands.1.within; same = stands.1.same })
+      | inl stands ↦ (At stands.0, stands.1)
       | inr lies ↦ (
         Between lies.0,
         record {
-          within = lies.1.within;
-          above = lies.1.above;
-          below = lies.1.below;
+          within = lies.1;
+          above = lies.2;
+          below = lies.3;
           absent = nowhere tree.low tree.high items (λ (item : List ℕ × ℕ). item.0) term
               (none_between tree.low items (tree.item_at items) (λ i inside. item_at-suc items i tree.low inside) (λ (item : List ℕ × ℕ). item.0)
-              (λ i j less inside. rises_less items i j tree.low (doc_terms_rise texts doc) less inside) lies.0 term lies.1.within lies.1.above lies.1.below);
+              (λ i j less inside. rises_less items i j tree.low (doc_terms_rise texts doc) less inside) lies.0 term lies.1 lies.2 lies.3);
         },
       )
     ]

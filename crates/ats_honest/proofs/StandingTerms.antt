@@ -1,14 +1,15 @@
 -- The terms of a query that are at a leaf of the dictionary are those that some text has.
-use Rattle.std.proofs.Common.{◌≡◌, ◌<◌, ◌++◌, ℕ, zero, suc, Bool, cond, nat_lt, List, [], ◌∷◌, length, take, get_or, refl, sym, ap, ◌∙◌, arith}
+use Rattle.std.proofs.Common.{◌≡◌, ◌<◌, ◌++◌, ℕ, zero, suc, cond, nat_lt, List, [], ◌∷◌, length, map, take, get_or, refl, sym, ap, ◌∙◌, arith}
+use Rattle.std.proofs.lemmas.List.Sums.{sum_by-cons}
 use Rattle.std.proofs.lemmas.Cmp.{nat_list_cmp_total}
 use Rattle.ats_terms.specs.Query.{Rises, RisesFrom, byte_cmp}
 use Rattle.std.specs.declared.cmp.Ordering.TheVariants.{Less}
-use Rattle.ats_impact.specs.Score.{frequency}
 use Rattle.ats_dict.specs.declared.spot.Spot.{Spot}
 use Rattle.ats_dict.specs.declared.spot.Spot.TheVariants.{At, Between}
 use Rattle.ats_commit.specs.Archive.{Archive}
 use Rattle.ats_commit.specs.Trees.{dictionary_of}
-use Rattle.ats_honest.specs.Terms.{AreSpots}
+use Rattle.ats_proof.specs.Value.{kind_of_slot, present_in}
+use Rattle.ats_honest.specs.Terms.{AreSpots, slot_of}
 use Rattle.ats_honest.specs.Present.{standing}
 use Rattle.ats_honest.specs.Lanes.{present}
 use Rattle.ats_honest.proofs.Present.{absent_term, present_term}
@@ -33,6 +34,17 @@ standing_same (pair ∷ query) (At q ∷ spots) (suc i) p e inside same is =
     ap (λ (xs : List (List ℕ × ℕ)). pair ∷ xs) (standing_same query spots i p e (omega (arith, inside)) (omega (arith, same)) is)
 standing_same (pair ∷ query) (Between q ∷ spots) (suc i) p e inside same is = standing_same query spots i p e (omega (arith, inside)) (omega (arith, same)) is
 
+-- ---- as many as present slots
+
+pub standing_each : (query : List (List ℕ × ℕ)) (spots : List Spot) (positions : List ℕ) → length spots ≡ length query → length (standing query spots) ≡ present_in (map (slot_of positions) spots)
+standing_each [] [] positions same = refl
+standing_each [] (s ∷ spots) positions same = absurd (omega (arith, same))
+standing_each (pair ∷ query) [] positions same = absurd (omega (arith, same))
+standing_each (pair ∷ query) (At p ∷ spots) positions same =
+    omega (arith, sum_by-cons kind_of_slot (slot_of positions (At p)) (map (slot_of positions) spots), standing_each query spots positions (omega (arith, same)))
+standing_each (pair ∷ query) (Between p ∷ spots) positions same =
+    omega (arith, sum_by-cons kind_of_slot (slot_of positions (Between p)) (map (slot_of positions) spots), standing_each query spots positions (omega (arith, same)))
+
 -- ---- they rise
 
 lower_rises : (term other : List ℕ) (query : List (List ℕ × ℕ)) → byte_cmp term other ≡ Less → RisesFrom other query → RisesFrom term query
@@ -56,9 +68,6 @@ standing_rises (pair ∷ query) (At p ∷ spots) rises = from_rises pair.0 query
 standing_rises (pair ∷ query) (Between p ∷ spots) rises = standing_rises query spots (any_rises pair query rises)
 
 -- ---- they are the present ones
-
-abbrev has_list : List (List ℕ) → List ℕ × ℕ → Bool
-has_list texts pair = nat_lt 0 (frequency pair.0 texts)
 
 pub standing_present : (H : List ℕ → List ℕ) (archive : Archive) (query : List (List ℕ × ℕ)) (spots : List Spot) → AreSpots (dictionary_of H archive) query spots → standing query spots ≡ present archive.texts query
 standing_present H archive [] [] are = refl

@@ -1,11 +1,10 @@
 -- The proof of a cut, put together.
-use Rattle.std.proofs.Common.{◌≡◌, ◌<◌, ◌≤◌, ℕ, zero, suc, Bool, cond, nat_lt, List, [], ◌∷◌, length, map, take, get_or, Option, refl, sym, ap, subst, ◌∙◌, arith}
-use Rattle.std.specs.List.{All, count_by}
+use Rattle.std.proofs.Common.{◌≡◌, ◌<◌, ◌≤◌, ℕ, nat_lt, List, length, map, take, get_or, Option, refl, sym, ap, subst, ◌∙◌, arith}
+use Rattle.std.specs.List.{All}
 use Rattle.std.proofs.lemmas.List.{length-map, get_or-map, length-take-le}
-use Rattle.std.proofs.lemmas.List.Elements.{All-head, All-tail, All-take}
-use Rattle.std.proofs.lemmas.List.Sums.{sum_by-cons, length-filter, count_by-le-length}
+use Rattle.std.proofs.lemmas.List.Elements.{All-take}
+use Rattle.std.proofs.lemmas.List.Sums.{count_by-le-length}
 use Rattle.ats_terms.specs.Query.{IsQuery}
-use Rattle.ats_impact.specs.Score.{frequency}
 use Rattle.ats_tree.specs.Tree.{tree_of}
 use Rattle.ats_tree.specs.Rebuild.{tree_of_places}
 use Rattle.ats_tree.specs.Elided.{elided_digests, shown_with}
@@ -17,29 +16,28 @@ use Rattle.ats_dict.specs.Entry.{DictEntry}
 use Rattle.ats_dict.specs.Found.{IsSpot}
 use Rattle.ats_dict.specs.Header.{IsHeader}
 use Rattle.ats_dict.specs.declared.spot.Spot.{Spot}
-use Rattle.ats_dict.specs.declared.spot.Spot.TheVariants.{At, Between}
 use Rattle.ats_dict.proofs.Public.{length-dict_leaves}
 use Rattle.ats_lists.specs.declared.format.Format.{Format}
 use Rattle.ats_lists.proofs.Public.{front-few, front-sized}
 use Rattle.ats_commit.specs.Archive.{Archive}
 use Rattle.ats_commit.specs.Root.{header_parts}
 use Rattle.ats_commit.specs.Trees.{dictionary_of}
-use Rattle.ats_bound.specs.declared.bracket.Bracket.{Bracket}
 use Rattle.ats_bound.specs.Schedule.{WholeLane, IsCut, shown}
 use Rattle.ats_grammar.specs.Table.{End}
 use Rattle.ats_grammar.specs.Front.{Come}
 use Rattle.ats_grammar.specs.Grammar as grammar
 use Rattle.ats_proof.specs.declared.record.Algorithm.{Algorithm}
-use Rattle.ats_proof.specs.Value.{Documents, Proof, AreDocumentsOf, fields_of, kind_of_slot, present_in}
+use Rattle.ats_proof.specs.Value.{Documents, Proof, AreDocumentsOf, fields_of, present_in}
 use Rattle.ats_honest.specs.Order.{AreInOrder}
 use Rattle.ats_honest.specs.Terms.{AreSpots, AreNeeded, shown_entry, slot_of}
 use Rattle.ats_honest.specs.Documents.{HasDocuments}
 use Rattle.ats_honest.specs.Lanes.{lane_of, lanes_of, present}
 use Rattle.ats_honest.specs.Honest.{AreMet, IsShownAt, placed, prefix_of, prefixes}
 use Rattle.ats_honest.proofs.Elided.{dictionary_few}
+use Rattle.ats_honest.proofs.Needed.{positions_few}
 use Rattle.ats_honest.proofs.Spots.{spot_each}
-use Rattle.ats_honest.proofs.Present.{absent_term, present_term}
-use Rattle.ats_honest.proofs.Fronts.{prefix_each}
+use Rattle.ats_honest.proofs.StandingTerms.{standing_each, standing_present}
+use Rattle.ats_honest.proofs.Fronts.{fronts_all, prefix_each}
 use Rattle.ats_honest.proofs.MetDocuments.{met_low, rising_few, lists_below}
 use Rattle.ats_honest.proofs.Coming.{IsGoodPrefix, IsInRange, come_proof}
 use Rattle.ats_honest.proofs.Sections.{are_documents}
@@ -47,33 +45,11 @@ use Rattle.ats_honest.proofs.Ranges.{good_entries, good_ids, good_slots, positio
 
 -- ---- as many lists as present slots
 
-abbrev has_list : List (List ℕ) → List ℕ × ℕ → Bool
-has_list texts pair = nat_lt 0 (frequency pair.0 texts)
-
-kind_tells : (H : List ℕ → List ℕ) (archive : Archive) (pair : List ℕ × ℕ) (positions : List ℕ) (spot : Spot) → AreSpots (dictionary_of H archive) (pair ∷ []) (spot ∷ [])
-    → cond (has_list archive.texts pair) 1 0 ≡ kind_of_slot (slot_of positions spot)
-kind_tells H archive pair positions (At zero) are = absurd (omega (arith, are.0.some))
-kind_tells H archive pair positions (At (suc p)) are = ap (λ b. cond b 1 0) (present_term H archive pair.0 p are.0)
-kind_tells H archive pair positions (Between p) are = ap (λ n. cond (nat_lt 0 n) 1 0) (absent_term H archive pair.0 p are.0)
-
-count_present : (H : List ℕ → List ℕ) (archive : Archive) (query : List (List ℕ × ℕ)) (positions : List ℕ) (spots : List Spot) → AreSpots (dictionary_of H archive) query spots
-    → count_by (has_list archive.texts) query ≡ present_in (map (slot_of positions) spots)
-count_present H archive [] positions [] are = refl
-count_present H archive [] positions (s ∷ spots) are = absurd are
-count_present H archive (pair ∷ query) positions [] are = absurd are
-count_present H archive (pair ∷ query) positions (s ∷ spots) are =
-    omega (
-      arith,
-      sum_by-cons (λ p. cond (has_list archive.texts p) 1 0) pair query,
-      sum_by-cons kind_of_slot (slot_of positions s) (map (slot_of positions) spots),
-      kind_tells H archive pair positions s (are.0, tt),
-      count_present H archive query positions spots are.1,
-    )
-
-pub lanes_each : (H : List ℕ → List ℕ) (archive : Archive) (query : List (List ℕ × ℕ)) (positions : List ℕ) (spots : List Spot) → AreSpots (dictionary_of H archive) query spots
+lanes_each : (H : List ℕ → List ℕ) (archive : Archive) (query : List (List ℕ × ℕ)) (positions : List ℕ) (spots : List Spot) → AreSpots (dictionary_of H archive) query spots
     → length (lanes_of archive.texts query) ≡ present_in (map (slot_of positions) spots)
 lanes_each H archive query positions spots are =
-    length-map (present archive.texts query) (lane_of archive.texts) ∙ length-filter (has_list archive.texts) query ∙ count_present H archive query positions spots are
+    length-map (present archive.texts query) (lane_of archive.texts) ∙ ap (λ (terms : List (List ℕ × ℕ)). length terms) (sym (standing_present H archive query spots are))
+    ∙ standing_each query spots positions (spot_each (dictionary_of H archive) query spots are)
 
 -- ---- prefixes
 
@@ -97,17 +73,6 @@ good_prefix H sized format met entries count few is some within =
       };
     }
 
-good_prefixes : (H : List ℕ → List ℕ) → ((bytes : List ℕ) → length (H bytes) ≡ 32) → (format : Format) (met : List ℕ) (lanes : List WholeLane) (cut : List ℕ) → length met ≤ 65536
-    → All (λ (lane : WholeLane). IsList 65536 lane.entries) lanes → ((i : ℕ) (d : WholeLane) → i < length lanes → (1 ≤ get_or cut i 0) × (get_or cut i 0 ≤ length (get_or lanes i d).entries))
-    → All IsGoodPrefix (prefixes H format met lanes cut)
-good_prefixes H sized format met [] cut few lists is k d inside = absurd (omega (arith, inside))
-good_prefixes H sized format met (lane ∷ lanes) [] few lists is k d inside = absurd (omega (arith, inside))
-good_prefixes H sized format met (lane ∷ lanes) (count ∷ cut) few lists is zero d inside =
-    let first = is 0 lane (omega arith) in
-    good_prefix H sized format met lane.entries count few (All-head (λ (l : WholeLane). IsList 65536 l.entries) lane lanes lists) first.0 first.1
-good_prefixes H sized format met (lane ∷ lanes) (count ∷ cut) few lists is (suc k) d inside =
-    good_prefixes H sized format met lanes cut few (All-tail (λ (l : WholeLane). IsList 65536 l.entries) lane lanes lists) (λ i e less. is (suc i) e (omega (arith, less))) k d (omega (arith, inside))
-
 -- ---- all together
 
 -- what a cut and the dictionary give to a proof
@@ -118,7 +83,6 @@ pub record HasParts (H : List ℕ → List ℕ) (archive : Archive) (query : Lis
   pub is_query : IsQuery query
   pub found : AreSpots (dictionary_of H archive) query spots
   pub needed : AreNeeded spots positions
-  pub positions_few : length positions ≤ 64
   pub lists : All (λ (lane : WholeLane). IsList 65536 lane.entries) (lanes_of archive.texts query)
   pub is_cut : IsCut (lanes_of archive.texts query) cut
   pub met : AreMet (shown (lanes_of archive.texts query) cut) documents
@@ -126,9 +90,6 @@ pub record HasParts (H : List ℕ → List ℕ) (archive : Archive) (query : Lis
   pub documents_come : AreInOrder (length documents) (length (present archive.texts query)) docs
   pub rows : length picks ≤ 1000
   pub small : All (λ n. n ≤ 0xffff_ffff) picks
-
-abbrev pub docs_of : List Bracket → List ℕ
-docs_of brackets = map (λ (b : Bracket). b.doc) brackets
 
 abbrev pub proof_of : (List ℕ → List ℕ) → Archive → List (List ℕ × ℕ) → List Spot → List ℕ → List ℕ → List ℕ → Option Documents → List ℕ → Proof
 proof_of H archive query spots positions cut documents docs picks = record {
@@ -143,6 +104,25 @@ proof_of H archive query spots positions cut documents docs picks = record {
   answer = picks;
 }
 
+-- it is a proof of the cut
+pub shown_of : (H : List ℕ → List ℕ) (archive : Archive) (query : List (List ℕ × ℕ)) (algorithm : Algorithm) (spots : List Spot) (positions cut documents : List ℕ) (docs : Option Documents) (picks : List ℕ)
+    → AreSpots (dictionary_of H archive) query spots → AreNeeded spots positions → HasDocuments algorithm H archive.texts (present archive.texts query) documents docs
+    → IsShownAt H archive query algorithm cut documents (proof_of H archive query spots positions cut documents docs picks)
+shown_of H archive query algorithm spots positions cut documents docs picks found needed has = record {
+  spots = spots;
+  found = found;
+  positions = positions;
+  needed = needed;
+  format = refl;
+  header = refl;
+  dict = refl;
+  dict_digests = refl;
+  slots = refl;
+  met = refl;
+  lists = refl;
+  docs = has;
+}
+
 module _ (H : List ℕ → List ℕ) (archive : Archive) (query : List (List ℕ × ℕ)) (algorithm : Algorithm) (spots : List Spot) (positions cut documents : List ℕ) (docs : Option Documents) (picks : List ℕ)
     (parts : HasParts H archive query algorithm spots positions cut documents docs picks) where
   abbrev entries : List DictEntry
@@ -154,46 +134,33 @@ module _ (H : List ℕ → List ℕ) (archive : Archive) (query : List (List ℕ
   abbrev made : Proof
   made = proof_of H archive query spots positions cut documents docs picks
 
-  pub is_shown : IsShownAt H archive query algorithm cut documents made
-  is_shown = record {
-    spots = spots;
-    found = parts.found;
-    positions = positions;
-    needed = parts.needed;
-    format = refl;
-    header = refl;
-    dict = refl;
-    dict_digests = refl;
-    slots = refl;
-    met = refl;
-    lists = refl;
-    docs = parts.has_documents;
-  }
-
   pub lists_each : length (prefixes H archive.format documents lanes cut) ≡ present_in (map (slot_of positions) spots)
   lists_each = prefix_each H archive.format documents lanes cut parts.is_cut.size ∙ lanes_each H archive query positions spots parts.found
 
   is_in_range : IsInRange made
   is_in_range =
       let leaves = dict_leaves entries in
+      let each = spot_each entries query spots parts.found in
+      let few_positions : length positions ≤ 64 = omega (arith, positions_few spots positions parts.needed, each, parts.is_query.few) in
       let rises = parts.met.rise in
       let below = met_low 65536 lanes cut documents (lists_below lanes parts.lists) parts.met in
       let few : length documents ≤ 65536 = rising_few 65536 documents rises below in
-      let terms : length (map (slot_of positions) spots) ≡ length query = length-map spots (slot_of positions) ∙ spot_each entries query spots parts.found in
+      let terms : length (map (slot_of positions) spots) ≡ length query = length-map spots (slot_of positions) ∙ each in
       let shown_size = length-map positions (shown_entry entries) in
       let inside = positions_below entries query spots positions parts.found parts.needed in record {
         front = parts.front;
         terms = (omega (arith, terms, parts.is_query.some), omega (arith, terms, parts.is_query.few));
-        leaves = (omega (arith, shown_size, some_needed (IsSpot entries) query spots positions parts.is_query.some parts.found parts.needed), omega (arith, shown_size, parts.positions_few));
+        leaves = (omega (arith, shown_size, some_needed (IsSpot entries) query spots positions parts.is_query.some parts.found parts.needed), omega (arith, shown_size, few_positions));
         entries = good_entries entries positions 0 parts.dictionary parts.needed.rise (λ k d less. omega arith) inside;
         others = record {
-          few = omega (arith, dictionary_few H leaves positions (omega (arith, length-dict_leaves entries, parts.dictionary.few)) parts.positions_few);
+          few = omega (arith, dictionary_few H leaves positions (omega (arith, length-dict_leaves entries, parts.dictionary.few)) few_positions);
           each = elided-sized H parts.sized (tree_of_places (length leaves) (shown_with leaves positions)) (tree_of leaves);
         };
-        places = good_slots entries positions query spots parts.dictionary parts.positions_few parts.is_query.rises parts.found;
+        places = good_slots entries positions query spots parts.dictionary few_positions parts.is_query.rises parts.found;
         ids = (few, good_ids documents 0 rises (λ k d less. omega arith) below);
         prefix_each = lists_each;
-        fronts = good_prefixes H parts.sized archive.format documents lanes cut few parts.lists parts.is_cut.each;
+        fronts = fronts_all H archive.format documents 65536 IsGoodPrefix lanes cut parts.lists parts.is_cut
+            (λ entries count. good_prefix H parts.sized archive.format documents entries count few);
         rows = (parts.rows, parts.small);
         documents = subst (λ (n : ℕ). AreInOrder (length documents) n docs) (sym (prefix_each H archive.format documents lanes cut parts.is_cut.size ∙ length-map (present archive.texts query) (lane_of archive.texts))) parts.documents_come;
       }

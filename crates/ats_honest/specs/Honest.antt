@@ -14,6 +14,7 @@ use Rattle.ats_commit.specs.Trees.{dictionary_of}
 use Rattle.ats_bound.specs.declared.bracket.Bracket.{Bracket}
 use Rattle.ats_bound.specs.Chosen.{IsChosen}
 use Rattle.ats_bound.specs.Cut.{ShownLane, names}
+use Rattle.ats_bound.specs.Ranked.{docs_of}
 use Rattle.ats_bound.specs.Schedule.{WholeLane, AreBracketsBy, IsFirstSettledBy, shown}
 use Rattle.ats_proof.specs.declared.record.Algorithm.{Algorithm}
 use Rattle.ats_proof.specs.Value.{Prefix, Proof, IsProof, fields_of}
@@ -59,27 +60,14 @@ pub record IsShownAt (H : List ℕ → List ℕ) (archive : Archive) (query : Li
   pub lists : proof.lists ≡ prefixes H archive.format proof.met (lanes_of archive.texts query) cut
   pub docs : HasDocuments algorithm H archive.texts (present archive.texts query) proof.met proof.docs
 
--- The honest proof shows the leaves that prove where the query's terms are; the first cut of the schedule at which an
--- answer is settled by the algorithm's brackets, with the documents that it meets and what is shown of them; and the
--- chosen answer of at most r of these documents.
+-- The honest proof shows the first cut of the schedule at which an answer is settled by the algorithm's brackets, with the
+-- documents of these brackets as the met ones; and it has the chosen answer of at most r of these documents.
 pub record IsHonest (H : List ℕ → List ℕ) (archive : Archive) (query : List (List ℕ × ℕ)) (r : ℕ) (algorithm : Algorithm) (proof : Proof) : Type 0 where
-  pub spots : List Spot
-  pub found : AreSpots (dictionary_of H archive) query spots
-  pub positions : List ℕ
-  pub needed : AreNeeded spots positions
   pub cut : List ℕ
   pub first : IsFirstSettledBy (bounding algorithm (lanes_of archive.texts query)) (lanes_of archive.texts query) r cut
   pub brackets : List Bracket
   pub bounds : AreBracketsBy (bounding algorithm (lanes_of archive.texts query)) (shown (lanes_of archive.texts query) cut) brackets
-  pub format : proof.format ≡ archive.format
-  pub header : proof.header ≡ header_parts H archive
-  pub dict : proof.dict ≡ map (shown_entry (dictionary_of H archive)) positions
-  pub dict_digests : proof.dict_digests ≡ elided_digests H (dict_leaves (dictionary_of H archive)) positions
-  pub slots : proof.slots ≡ map (slot_of positions) spots
-  -- the met ids are the documents of the brackets
-  pub met : proof.met ≡ map (λ (b : Bracket). b.doc) brackets
-  pub lists : proof.lists ≡ prefixes H archive.format proof.met (lanes_of archive.texts query) cut
-  pub docs : HasDocuments algorithm H archive.texts (present archive.texts query) proof.met proof.docs
+  pub shows : IsShownAt H archive query algorithm cut (docs_of brackets) proof
   pub answer : IsChosen brackets r proof.answer
 
 -- how many bytes the fields of a proof have

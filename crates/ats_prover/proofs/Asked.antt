@@ -1,6 +1,6 @@
 -- The fields of a proof, appended one after another.
-use Rattle.std.proofs.Common.{◌≡◌, ◌^◌, ◌<◌, ◌≤◌, ◌++◌, ℕ, List, [], ◌∷◌, length, map, Option, Some, None, refl, sym, ap, ap₂, subst, ◌∙◌, append-nil}
-use Rattle.std.specs.List.{concat, flat_map}
+use Rattle.std.proofs.Common.{◌≡◌, ◌^◌, ◌<◌, ◌++◌, ℕ, List, [], ◌∷◌, length, map, Option, Some, None, refl, sym, ap, ap₂, ◌∙◌}
+use Rattle.std.specs.List.{flat_map}
 use Rattle.ats_tree.specs.Elided.{elided_digests}
 use Rattle.ats_lists.specs.declared.format.Format.{Format}
 use Rattle.ats_dict.specs.Dictionary.{dict_leaves}
@@ -10,16 +10,16 @@ use Rattle.ats_commit.specs.Archive.{Archive}
 use Rattle.ats_commit.specs.Root.{header_parts}
 use Rattle.ats_commit.specs.Trees.{dictionary_of}
 use Rattle.ats_proof.specs.Records.{front_record}
-use Rattle.ats_proof.specs.Written.{Written, after, writing}
+use Rattle.ats_proof.specs.Written.{Written, after}
 use Rattle.ats_proof.specs.declared.record.Algorithm.{Algorithm}
 use Rattle.ats_proof.specs.declared.record.Algorithm.TheVariants.{Tra, Tnra}
 use Rattle.ats_proof.specs.Parts.{counted, spelled}
-use Rattle.ats_proof.specs.Value.{Documents, IsProof, Proof, documents_fields, fields_of, front_fields, header_fields, entry_fields, digest_fields, slot_fields, id_fields, prefix_fields, number_of_algorithm}
+use Rattle.ats_proof.specs.Value.{Documents, Proof, documents_fields, front_fields, header_fields, entry_fields, digest_fields, slot_fields, id_fields, prefix_fields, number_of_algorithm}
 use Rattle.ats_honest.specs.Terms.{shown_entry, slot_of}
 use Rattle.ats_honest.specs.Documents.{HasDocuments}
 use Rattle.ats_honest.specs.Lanes.{lanes_of}
 use Rattle.ats_honest.specs.Honest.{prefixes}
-use Rattle.ats_honest.proofs.Public.{HasParts, documents_are, is_shown, lists_each, proof_comes, proof_of}
+use Rattle.ats_honest.proofs.Public.{HasParts, documents_are, lists_each, proof_comes, proof_of, shown_of}
 use Rattle.ats_prover.specs.Writing.{IsShownWith, IsWritten, put}
 use Rattle.ats_prover.proofs.Putting.{put_all}
 use Rattle.ats_prover.proofs.Records.{IsKindOf, front_is}
@@ -34,7 +34,7 @@ pub written : (H : List ℕ → List ℕ) (archive : Archive) (query : List (Lis
     → IsWritten (IsShownWith H archive query algorithm cut documents picks) w z
 written H archive query algorithm spots positions cut documents docs picks w x y z parts front terms walk =
     let proof = proof_of H archive query spots positions cut documents docs picks in
-    let shows = is_shown H archive query algorithm spots positions cut documents docs picks parts in
+    let shows = shown_of H archive query algorithm spots positions cut documents docs picks parts.found parts.needed parts.has_documents in
     let a : List (List ℕ) = front_fields archive.format docs ++ header_fields (header_parts H archive) ++ spelled 2 (length (map (slot_of positions) spots)) ∷ [] in
     let b : List (List ℕ) = counted 2 entry_fields (map (shown_entry (dictionary_of H archive)) positions) in
     let c : List (List ℕ) = counted 2 digest_fields (elided_digests H (dict_leaves (dictionary_of H archive)) positions) in
@@ -62,10 +62,6 @@ written_as IsSuch IsOther before now as_other is = record {
   asked = is.asked;
 }
 
--- a writer that was new
-pub from_new : (IsSuch : Proof → Type 0) (limit : ℕ) (new now : Written) → new ≡ writing limit [] → IsWritten IsSuch new now → IsWritten IsSuch (writing limit []) now
-from_new IsSuch limit new now made is = subst (λ (v : Written). IsWritten IsSuch v now) made is
-
 -- which algorithm's proofs have documents
 pub kind_of_documents : (H : List ℕ → List ℕ) (texts : List (List ℕ)) (terms : List (List ℕ × ℕ)) (met : List ℕ) (algorithm : Algorithm) (docs : Option Documents)
     → HasDocuments algorithm H texts terms met docs → IsKindOf algorithm docs
@@ -81,26 +77,3 @@ front_put f format algorithm docs h own n m w kind same header number documents 
     (ap (λ (some : Format). front_record some algorithm h n) same
     ∙ ap₂ (λ (x : Header) (k : ℕ). front_record format algorithm x k) header number
     ∙ front_is format algorithm docs own m kind documents leaves few)
-
--- ---- what a finished writer gives
-
-abbrev pub AreJoined : Type 0
-AreJoined = (limit : ℕ) (bytes more : List ℕ) → after (writing limit bytes) more ≡ writing limit (bytes ++ more)
-
-module _ (IsSuch : Proof → Type 0) (limit : ℕ) (w : Written) (is : IsWritten IsSuch (writing limit []) w) where
-  pub all_asked : AreJoined → w ≡ writing limit (concat (fields_of is.proof))
-  all_asked joined = is.asked ∙ joined limit [] (concat (fields_of is.proof))
-
-  -- what a writer within its limit returns
-  pub whole_bytes : AreJoined → (bytes : List ℕ) → ((all : List ℕ) → w ≡ writing w.limit all → bytes ≡ all) → bytes ≡ concat (fields_of is.proof)
-  whole_bytes joined bytes returns =
-      let asked = all_asked joined in
-      let under : w.limit ≡ limit = ap (λ (v : Written). v.limit) asked in
-      returns (concat (fields_of is.proof)) (subst (λ (n : ℕ). w ≡ writing n (concat (fields_of is.proof))) (sym under) asked)
-
-  pub is_spelled : (bytes : List ℕ) → bytes ≡ concat (fields_of is.proof) → length bytes ≤ 2 ^ 26 → IsProof bytes is.proof
-  is_spelled bytes same few = record {
-    spells = record { whole = record { come = is.come; parts = same ∙ sym (append-nil (concat (fields_of is.proof))) }; few = few };
-    prefix_each = is.prefix_each;
-    documents = is.documents;
-  }

@@ -4,5 +4,5 @@ mod KeptDigests
 mod Fronts
 mod MetLeaves
 mod Asked
-mod Sizes
+mod Finished
 mod Named

@@ -16,7 +16,7 @@ use Rattle.ats_proof.specs.Value.{TermsSection, digest_fields, doc_fields, secti
 use Rattle.ats_honest.specs.Documents.{AreHonestSections, IsHonestSection, IsTermSpot, document_leaf}
 use Rattle.ats_honest.specs.Order.{ComesIn}
 use Rattle.ats_honest.specs.Terms.{AreNeeded, HaveSpots}
-use Rattle.ats_honest.proofs.Public.{section_comes, section_of, IsSmall, documents_come}
+use Rattle.ats_honest.proofs.Public.{is_section, section_comes, section_of, IsSmall, documents_come}
 use Rattle.ats_prover.specs.Writing.{AreDocumentsWritten, AreSectionsWritten, IsSectionWritten, IsStarted, put}
 use Rattle.ats_prover.proofs.Putting.{put_put}
 
@@ -28,15 +28,7 @@ pub written_section : (H : List ℕ → List ℕ) → ((bytes : List ℕ) → le
     → now ≡ put before (section_fields (section_of H items spots positions)) → IsSectionWritten H items terms before now
 written_section H sized items terms spots positions before now are some rises found needed few asked = record {
   section = section_of H items spots positions;
-  honest = record {
-    spots = spots;
-    found = found;
-    positions = positions;
-    needed = needed;
-    leaves = refl;
-    digests = refl;
-    slots = refl;
-  };
+  honest = is_section H items terms spots positions found needed;
   come = section_comes H sized items terms spots positions are some rises found needed few;
   asked = asked;
 }

@@ -1,11 +1,11 @@
 -- Fields that are appended to a writer, one after another.
-use Rattle.std.proofs.Common.{◌≡◌, ◌+◌, ◌<◌, ℕ, List, [], ◌++◌, length, take, get_or, Option, Some, None, nat_lt, refl, sym, ap, ap₂, ◌∙◌, arith, inl, inr, add-one, append_assoc, append-nil, length-append}
+use Rattle.std.proofs.Common.{◌≡◌, ◌+◌, ◌<◌, ℕ, List, [], ◌++◌, length, map, take, get_or, Option, Some, None, nat_lt, refl, sym, ap, ap₂, ◌∙◌, arith, inl, inr, add-one, append_assoc, append-nil, length-append}
 use Rattle.std.specs.Prelude.{if◌then◌else◌}
 use Rattle.std.specs.List.{concat, flat_map}
 use Rattle.std.proofs.Math.Seq.{take-suc}
 use Rattle.std.proofs.lemmas.Bool.Decides.{nat_tests}
 use Rattle.std.proofs.lemmas.Bool.{cases_lt}
-use Rattle.std.proofs.lemmas.List.{flat_map_more}
+use Rattle.std.proofs.lemmas.List.{flat_map_more, get_or-map, length-map}
 use Rattle.std.proofs.lemmas.List.Folds.{concat-append}
 use Rattle.ats_proof.specs.Written.{Written, after, joined}
 use Rattle.ats_prover.specs.Writing.{IsStarted, put}
@@ -40,6 +40,13 @@ put_more spell w front xs i x d bytes inside is same =
     let more : (front ++ flat_map spell (take i xs)) ++ spell x ≡ front ++ flat_map spell (take (i + 1) xs) =
     rw (add-one, take-suc xs i d inside, is) (flat_map_more spell front (take i xs) (get_or xs i d)) in
     ap (after (put w (front ++ flat_map spell (take i xs)))) same ∙ put_put w (front ++ flat_map spell (take i xs)) (spell x) ∙ ap (put w) more
+
+-- the bytes of one part more that is made of another
+pub put_made : {X Y : Type 0} (spell : Y → List (List ℕ)) (made : X → Y) (w : Written) (front : List (List ℕ)) (xs : List X) (i : ℕ) (d : X) (bytes : List ℕ)
+    → i < length xs → bytes ≡ concat (spell (made (get_or xs i d)))
+    → after (put w (front ++ flat_map spell (take i (map made xs)))) bytes ≡ put w (front ++ flat_map spell (take (i + 1) (map made xs)))
+put_made spell made w front xs i d bytes inside same =
+    put_more spell w front (map made xs) i (made (get_or xs i d)) (made d) bytes (omega (arith, inside, length-map xs made)) (sym (get_or-map made xs i d (made d) inside)) same
 
 three_more : (a b c d : List (List ℕ)) → a ++ (b ++ c ++ d) ≡ a ++ b ++ c ++ d
 three_more a b c d = sym (append_assoc a (b ++ c) d) ∙ ap (λ (xs : List (List ℕ)). xs ++ d) (sym (append_assoc a b c))

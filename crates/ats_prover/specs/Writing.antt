@@ -2,7 +2,6 @@
 use Rattle.std.specs.Prelude.{◌≡◌, ◌++◌, ℕ, List, [], length, Option}
 use Rattle.std.specs.List.{All, concat, flat_map}
 use Rattle.ats_commit.specs.Archive.{Archive}
-use Rattle.ats_bound.specs.Schedule.{WholeLane}
 use Rattle.ats_proof.specs.Written.{Written, after}
 use Rattle.ats_proof.specs.declared.record.Algorithm.{Algorithm}
 use Rattle.ats_grammar.specs.Table.{End}
@@ -12,6 +11,7 @@ use Rattle.ats_proof.specs.Parts.{counted}
 use Rattle.ats_proof.specs.Value.{AreDocumentsOf, Documents, Proof, TermsSection, documents_fields, fields_of, id_fields, prefix_fields, present_in, section_fields}
 use Rattle.ats_honest.specs.Documents.{AreHonestSections, HasDocuments, IsHonestSection}
 use Rattle.ats_honest.specs.Honest.{IsShownAt, prefixes}
+use Rattle.ats_honest.specs.Lanes.{lanes_of, present}
 use Rattle.ats_honest.specs.Order.{AreInOrder, ComesIn}
 
 -- the writer after these fields were appended, one after another
@@ -49,15 +49,14 @@ pub record IsCutWritten
     (algorithm : Algorithm)
     (H : List ℕ → List ℕ)
     (archive : Archive)
-    (terms : List (List ℕ × ℕ))
-    (lanes : List WholeLane)
+    (query : List (List ℕ × ℕ))
     (met cut picks : List ℕ)
     (before now : Written)
     : Type 0 where
   pub docs : Option Documents
-  pub honest : HasDocuments algorithm H archive.texts terms met docs
-  pub come : AreInOrder (length met) (length terms) docs
-  pub asked : now ≡ put before (counted 4 id_fields met ++ flat_map prefix_fields (prefixes H archive.format met lanes cut) ++ documents_fields docs ++ counted 2 id_fields picks)
+  pub honest : HasDocuments algorithm H archive.texts (present archive.texts query) met docs
+  pub come : AreInOrder (length met) (length (present archive.texts query)) docs
+  pub asked : now ≡ put before (counted 4 id_fields met ++ flat_map prefix_fields (prefixes H archive.format met (lanes_of archive.texts query) cut) ++ documents_fields docs ++ counted 2 id_fields picks)
 
 -- a proof of a cut with these rows
 pub record IsShownWith (H : List ℕ → List ℕ) (archive : Archive) (query : List (List ℕ × ℕ)) (algorithm : Algorithm) (cut documents picks : List ℕ) (proof : Proof) : Type 0 where

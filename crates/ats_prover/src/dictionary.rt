@@ -12,7 +12,7 @@ ghost use Rattle.ats_honest.specs.Terms.{AreNeeded, AreSpots, lower, needs, plac
 ghost use Rattle.ats_prover.specs.Writing.{put};
 
 use crate::fault::OutOfMemory;
-use crate::shown::{write_digests, write_slots};
+use crate::shown::write_rest;
 use ats_dict::{Dictionary, Spot};
 use ats_hash::HashKind;
 use ats_proof::ProofWriter;
@@ -60,32 +60,6 @@ fn write_leaves(
     Ok(())
 }
 
-// Writes the leaves at these positions, and the digests that the tree needs besides.
-fn write_section<H: HashKind>(
-    alloc: Global,
-    writer: &mut ProofWriter,
-    dictionary: &Dictionary,
-    nodes: &Nodes,
-    positions: &[u32],
-) -> Result<(), OutOfMemory>
-    requires nodes { nodes.now ≡ kept_digests H.hash (dict_leaves dictionary.now) }
-    requires rise { IsStrictlyIncreasing positions.now }
-    requires within { All (λ p. p < length dictionary.now + 2) positions.now }
-    requires few { length positions.now ≤ 64 }
-    requires room { writer.old.asked ≤ 2 ^ 59 }
-    ensures fields { OnOk result
-        (writer.new ≡ put writer.old (counted 2 entry_fields (map (shown_entry dictionary.now) positions.now)
-        ++ counted 2 digest_fields (elided_digests H.hash (dict_leaves dictionary.now) positions.now))) }
-    ensures size { OnOk result (writer.new.asked ≤ writer.old.asked + 2 ^ 23) }
-{
-    // A dictionary's leaves have terms of at most 64 bytes, and positions of 32 bits.
-    prove!(dictionary.len() >= 2);
-    let mut digests = Digests::new(alloc);
-    nodes.elided(positions, &mut digests)?;
-    write_leaves(writer, dictionary, positions)?;
-    write_digests(writer, &digests)
-}
-
 /// Writes the leaves at these positions, the digests that the tree needs besides, and a slot for each term.
 pub(crate) fn write_terms<H: HashKind>(
     alloc: Global,
@@ -107,6 +81,9 @@ pub(crate) fn write_terms<H: HashKind>(
         ++ flat_map slot_fields (map (slot_of positions.now) spots.now))) }
     ensures size { OnOk result (writer.new.asked ≤ writer.old.asked + 2 ^ 24) }
 {
-    write_section::<H>(alloc, writer, dictionary, nodes, positions)?;
-    write_slots(writer, positions, spots)
+    // A dictionary's leaves have terms of at most 64 bytes, and positions of 32 bits.
+    prove!(dictionary.len() >= 2);
+    write_leaves(writer, dictionary, positions)?;
+    let mut digests = Digests::new(alloc);
+    write_rest::<H>(writer, nodes, positions, spots, &mut digests)
 }

@@ -29,13 +29,9 @@ pub(crate) struct QueryLists<'a> {
 
 // The lane of a term that occurs `weight` times in the query.
 fn lane<'a>(entries: &'a [Entry], weight: u8, documents: u32) -> Lane<'a>
-    requires list { IsList 65536 entries.now }
-    requires weight { 1 ≤ weight }
-    requires documents { documents ≤ 65536 }
+    requires { IsList 65536 entries.now }
     ensures coefficient { result.coefficient ≡ weight * idf documents (length entries.now) }
     ensures entries { result.entries.now ≡ entries.now }
-    ensures some { 1 ≤ result.coefficient }
-    ensures few { result.coefficient ≤ 34935 }
 {
     Lane {
         coefficient: u32::from(weight) * idf(documents, entries.len() as u32),

@@ -1,18 +1,14 @@
 //! The proof of a query's best documents.
 
 ghost use Rattle.std.specs.Prelude.{◌≡◌, ◌≤◌, ◌<◌, ◌^◌, ℕ, List, length, map, IfOk, IfErr, OnOk};
-ghost use Rattle.std.specs.List.{All};
-ghost use Rattle.ats_lists.specs.Lists.{IsList};
-ghost use Rattle.ats_lists.specs.declared.entry.Entry.{Entry as Posting};
 ghost use Rattle.ats_commit.specs.Own.{AreTexts};
-ghost use Rattle.ats_bound.specs.Schedule.{AreWholeLanes, IsCut, shown, whole_lanes};
+ghost use Rattle.ats_bound.specs.Schedule.{IsCut, shown, whole_lanes};
 ghost use Rattle.ats_proof.specs.declared.record.Algorithm.TheVariants.{Tnra};
 ghost use Rattle.ats_proof.specs.Value.{Proof};
 ghost use Rattle.ats_prover.specs.declared.fault.ProveFault.TheVariants.{OutOfMemory as MemoryWanted};
 ghost use Rattle.ats_honest.specs.Lanes.{lanes_of};
 ghost use Rattle.ats_honest.specs.Honest.{AreMet, IsCutProved, IsCutShown, IsHonest, IsProved, length_of};
 ghost use Rattle.ats_prover.specs.Found.{AreFound};
-ghost use Rattle.ats_prover.specs.Nodes.{list_digests};
 ghost use Rattle.ats_prover.specs.Fault.{IsAnswerWithin, IsCutFault, IsFault};
 ghost use Rattle.ats_prover.specs.Writing.{IsCutWritten, IsShownWith, IsWritten};
 
@@ -23,16 +19,13 @@ use crate::fault::{OutOfMemory, ProveFault};
 use crate::found::{QueryTerms, query_terms};
 use crate::met::met_documents;
 use crate::prefixes::write_lists;
-use crate::present_terms::PresentTerms;
 use crate::shown::keep_positions;
 use crate::walking::walk;
 use ats_base::Bytes;
-use ats_bound::Lane;
 use ats_grammar::MAX_PROOF;
 use ats_hash::HashKind;
 use ats_impact::Top;
 use ats_index::Index;
-use ats_lists::ListDigests;
 use ats_proof::{Algorithm, ProofWriter, records_are_joined};
 use ats_terms::Query;
 use ats_tree::Leaves;
@@ -44,30 +37,31 @@ fn write_cut<H: HashKind>(
     alloc: Global,
     writer: &mut ProofWriter,
     index: &Index<H>,
-    present: &PresentTerms<'_>,
-    lanes: &[Lane<'_>],
-    kept: &[&ListDigests],
+    query: &Query,
+    terms: &QueryTerms<'_>,
     met: &[u32],
     cut: &[u32],
     picks: &[u32],
     algorithm: Algorithm,
 ) -> Result<(), OutOfMemory>
-    requires lanes { AreWholeLanes (whole_lanes lanes.now) }
-    requires terms { length present.now ≡ length lanes.now }
-    requires lists { All (λ lane. IsList 65536 lane.entries) (whole_lanes lanes.now) }
-    requires within { All (λ lane. All (λ (e : Posting). e.doc < length index.now.texts) lane.entries)
-        (whole_lanes lanes.now) }
-    requires kept { map (λ n. n.now) kept.now ≡ list_digests H.hash index.now.format (whole_lanes lanes.now) }
-    requires cut { IsCut (whole_lanes lanes.now) cut.now }
-    requires met { AreMet (shown (whole_lanes lanes.now) cut.now) met.now }
+    requires terms { AreFound H.hash index.now query.now terms.now.spots.items terms.now.present
+        (whole_lanes terms.now.lists.lanes.items) (map (λ n. n.now) terms.now.lists.digests.items) }
+    requires cut { IsCut (lanes_of index.now.texts query.now) cut.now }
+    requires met { AreMet (shown (lanes_of index.now.texts query.now) cut.now) met.now }
     requires rows { length picks.now ≤ 1000 }
     requires room { writer.old.asked ≤ 2 ^ 55 }
     ensures { OnOk result
-        (IsCutWritten algorithm H.hash index.now present.now (whole_lanes lanes.now)
-        met.now cut.now picks.now writer.old writer.new) }
+        (IsCutWritten algorithm H.hash index.now query.now met.now cut.now picks.now writer.old writer.new) }
 {
-    write_lists::<H>(alloc, writer, met, lanes, kept, cut)?;
-    write_documents(alloc, writer, index, present, met, algorithm)?;
+    write_lists::<H>(
+        alloc,
+        writer,
+        met,
+        &terms.lists.lanes,
+        &terms.lists.digests,
+        cut,
+    )?;
+    write_documents(alloc, writer, index, &terms.present, met, algorithm)?;
     write_answer(writer, picks)
 }
 
@@ -94,9 +88,7 @@ fn write_shown<H: HashKind>(
         writer.old writer.new) }
     ensures texts { OnOk result (AreTexts index.now.texts) }
 {
-    // A collection's header is in range, and its dictionary is sorted.
-    prove!(index.collection().documents() >= 1);
-    prove!(index.collection().total() <= 1 << 24);
+    // A dictionary is sorted.
     prove!(index.dictionary().len() >= 2);
     let mut positions = Vec::new(alloc);
     keep_positions(&terms.spots, &mut positions)?;
@@ -115,16 +107,7 @@ fn write_shown<H: HashKind>(
         &terms.spots,
     )?;
     write_cut(
-        alloc,
-        writer,
-        index,
-        &terms.present,
-        &terms.lists.lanes,
-        &terms.lists.digests,
-        met,
-        cut,
-        picks,
-        algorithm,
+        alloc, writer, index, query, terms, met, cut, picks, algorithm,
     )
 }
 

@@ -1,8 +1,10 @@
 //! Which leaves show where terms are, and what is written of a tree of terms besides its leaves.
 
-ghost use Rattle.std.specs.Prelude.{◌≡◌, ◌+◌, ◌≤◌, ◌*◌, ◌^◌, ◌∷◌, ℕ, length, map, OnOk};
+ghost use Rattle.std.specs.Prelude.{◌≡◌, ◌+◌, ◌≤◌, ◌<◌, ◌*◌, ◌^◌, ◌++◌, ◌∷◌, ℕ, List, length, map, OnOk};
 ghost use Rattle.std.specs.List.{All, flat_map};
 ghost use Rattle.std.specs.List.Sorted.{IsStrictlyIncreasing};
+ghost use Rattle.ats_tree.specs.Elided.{elided_digests};
+ghost use Rattle.ats_tree.specs.Kept.{kept_digests};
 ghost use Rattle.ats_proof.specs.Parts.{counted};
 ghost use Rattle.ats_proof.specs.Value.{digest_fields, slot_fields};
 ghost use Rattle.ats_honest.specs.Terms.{AreNeeded, lower, needs, place, slot_of};
@@ -10,8 +12,9 @@ ghost use Rattle.ats_prover.specs.Writing.{IsStarted, put};
 
 use crate::fault::OutOfMemory;
 use ats_dict::Spot;
+use ats_hash::HashKind;
 use ats_proof::{ProofWriter, Slot};
-use ats_tree::Digests;
+use ats_tree::{Digests, Nodes};
 
 // Collects the positions that the terms need, term by term. Earlier positions are dropped.
 fn keep_all_needed(spots: &[Spot], positions: &mut Vec<u32>) -> Result<(), OutOfMemory>
@@ -117,4 +120,30 @@ pub(crate) fn write_slots(
         writer.slot(slot(positions, spot))?;
     }
     Ok(())
+}
+
+/// Writes the digests that a tree needs besides the leaves at these positions, and a slot for each term. Earlier digests
+/// are dropped.
+pub(crate) fn write_rest<H: HashKind>(
+    writer: &mut ProofWriter,
+    nodes: &Nodes,
+    positions: &[u32],
+    spots: &[Spot],
+    digests: &mut Digests,
+) -> Result<(), OutOfMemory>
+    requires nodes { (leaves : List (List ℕ)) × (nodes.now ≡ kept_digests H.hash leaves) × (length leaves ≤ 2 ^ 25)
+        × All (λ p. p < length leaves) positions.now }
+    requires rise { IsStrictlyIncreasing positions.now }
+    requires few { length positions.now ≤ 64 }
+    requires terms { length spots.now ≤ 32 }
+    requires room { writer.old.asked ≤ 2 ^ 59 }
+    ensures fields { (leaves : List (List ℕ)) → nodes.now ≡ kept_digests H.hash leaves → OnOk result
+        (writer.new ≡ put writer.old (counted 2 digest_fields (elided_digests H.hash leaves positions.now)
+        ++ flat_map slot_fields (map (slot_of positions.now) spots.now))) }
+    ensures size { OnOk result (writer.new.asked ≤ writer.old.asked + 2 ^ 22 + 2 ^ 7) }
+{
+    digests.clear();
+    nodes.elided(positions, digests)?;
+    write_digests(writer, digests)?;
+    write_slots(writer, positions, spots)
 }

@@ -15,7 +15,7 @@ ghost use Rattle.ats_prover.specs.Writing.{IsSectionWritten, put};
 
 use crate::fault::OutOfMemory;
 use crate::present_terms::PresentTerms;
-use crate::shown::{keep_positions, write_digests, write_slots};
+use crate::shown::{keep_positions, write_rest};
 use ats_dict::Spot;
 use ats_doctree::DocTerms;
 use ats_hash::HashKind;
@@ -121,11 +121,8 @@ fn write_shown<H: HashKind>(
 {
     // A document has at most 2^20 terms.
     prove!(terms.len() >= 2);
-    digests.clear();
-    nodes.elided(positions, digests)?;
     write_leaves(writer, terms, positions)?;
-    write_digests(writer, digests)?;
-    write_slots(writer, positions, spots)
+    write_rest::<H>(writer, nodes, positions, spots, digests)
 }
 
 /// Writes the leaves that show where the present terms are among a document's, the digests that the tree of its terms

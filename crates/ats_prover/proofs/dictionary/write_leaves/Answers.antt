@@ -1,6 +1,5 @@
 use Rattle.std.proofs.Common.{◌≡◌, ◌<◌, ◌^◌, ◌∷◌, [], ℕ, List, length, map, get_or, sym, ap, ◌∙◌, arith}
 use Rattle.std.specs.List.{concat}
-use Rattle.std.proofs.lemmas.List.{length-map, get_or-map}
 use Rattle.ats_proof.specs.Written.{Written, after}
 use Rattle.ats_proof.specs.Records.{dict_leaf_record}
 use Rattle.ats_dict.specs.Entry.{DictEntry}
@@ -10,7 +9,7 @@ use Rattle.ats_proof.specs.Value.{entry_fields}
 use Rattle.ats_honest.specs.Terms.{shown_entry}
 use Rattle.ats_prover.proofs.Records.{entry_is}
 use Rattle.ats_honest.proofs.Public.{leaf_at}
-use Rattle.ats_prover.proofs.Putting.{put_more}
+use Rattle.ats_prover.proofs.Putting.{put_made}
 use Rattle.ats_prover.proofs.dictionary.write_leaves.Goals as goal
 
 pub loop-p-preserved : goal.loop-p-preserved
@@ -28,8 +27,6 @@ loop-p-preserved c =
     let same : bytes ≡ concat (entry_fields (shown_entry entries p)) =
     entry_is p e (omega (arith, c.type_inv.positions i)) few ∙ ap (λ (x : DictEntry). concat (entry_fields (record { position = p; entry = x }))) (sym is) in record {
       fields = c.in_ok-dict_leaf.ensures.ok ∙ ap (λ (w : Written). after w bytes) c.loop-p.invariant.fields
-          ∙ put_more entry_fields c.args.writer.now (spelled 2 (length (map (shown_entry entries) positions)) ∷ []) (map (shown_entry entries) positions) i
-          (shown_entry entries p) (shown_entry entries 0) bytes (omega (arith, inside, length-map positions (shown_entry entries)))
-          (sym (get_or-map (shown_entry entries) positions i 0 (shown_entry entries 0) inside)) same;
+          ∙ put_made entry_fields (shown_entry entries) c.args.writer.now (spelled 2 (length (map (shown_entry entries) positions)) ∷ []) positions i 0 bytes inside same;
       size = omega (arith, c.in_ok-dict_leaf.ensures.size, c.loop-p.invariant.size, leaf.short, ap (λ (x : DictEntry). length x.term) is);
     }

@@ -1,16 +1,18 @@
-use Rattle.std.proofs.Common.{◌≡◌, ◌-◌, ◌*◌, ◌<◌, ◌≤◌, ◌++◌, ℕ, suc, List, [], ◌∷◌, length, map, get_or, subst, sym, ap, ap₂, ◌∙◌, arith, take_all, length-append, Bor}
-use Rattle.std.specs.List.{All}
+use Rattle.std.proofs.Common.{◌≡◌, ◌-◌, ◌*◌, ◌<◌, ◌≤◌, ◌++◌, ℕ, suc, List, [], ◌∷◌, length, map, get_or, subst, sym, ap, ap₂, ◌∙◌, arith, take_all, Bor}
 use Rattle.ats_lists.specs.KeptList.{kept_list}
 use Rattle.ats_lists.specs.declared.list_keeping.ListDigests.{ListDigests}
-use Rattle.ats_lists.specs.Lists.{IsList, lists_of}
+use Rattle.ats_lists.specs.Lists.{lists_of}
 use Rattle.ats_impact.specs.Numbers.{idf}
 use Rattle.ats_lists.specs.declared.entry.Entry.{Entry}
+use Rattle.ats_dict.specs.declared.spot.Spot.{Spot}
+use Rattle.ats_dict.specs.declared.spot.Spot.TheVariants.{At}
 use Rattle.ats_dict.specs.Found.{IsSpot, StandsAt}
+use Rattle.ats_commit.specs.Archive.{Archive}
 use Rattle.ats_commit.specs.Trees.{dictionary_of}
-use Rattle.ats_bound.specs.Schedule.{WholeLane, IsWholeLane, AreWholeLanes, whole_lane, whole_lanes}
-use Rattle.ats_honest.proofs.Public.{spot_at, spot_each, absent_term, is_whole, lane_at, lane_none, standing_term}
-use Rattle.std.proofs.lemmas.List.{length-map, map-append}
-use Rattle.std.proofs.lemmas.List.Elements.{All-push}
+use Rattle.ats_bound.specs.Schedule.{WholeLane, whole_lane, whole_lanes}
+use Rattle.ats_honest.specs.Terms.{AreSpots}
+use Rattle.ats_honest.proofs.Public.{spot_at, spot_each, absent_term, lane_at, lane_none, lanes_are_whole, lists_within, standing_term}
+use Rattle.std.proofs.lemmas.List.{map-append}
 use Rattle.ats_prover.proofs.lanes.query_lists.Goals as goal
 use Rattle.ats_prover.proofs.lanes.query_lists.Goals.{in-At+in_ok-push-in-At+in_ok-push-in-At-2, in-Between}
 
@@ -20,39 +22,32 @@ bounds g c = omega (arith, spot_each (dictionary_of g.H.HashKind.hash c.args.ind
 pub bounds-spots-i : goal.bounds-spots-i
 bounds-spots-i g c = omega (arith, spot_each (dictionary_of g.H.HashKind.hash c.args.index.now) c.args.query.now c.args.spots.now c.requires, c.loop-i-test.true, c.len-i-end.ensures.value)
 
+-- the term at a leaf, and the list before the leaf's position
+listed_at : (H : List ℕ → List ℕ) (archive : Archive) (query : List (List ℕ × ℕ)) (spots : List Spot) (i p : ℕ) (d : Spot) → AreSpots (dictionary_of H archive) query spots
+    → i < length query → get_or spots i d ≡ At p → StandsAt (dictionary_of H archive) (get_or query i ([], 0)).0 p × (p - 1 < length (lists_of archive.texts))
+listed_at H archive query spots i p d are inside is =
+    let entries = dictionary_of H archive in
+    let term = (get_or query i ([], 0)).0 in
+    let stands : StandsAt entries term p = subst (IsSpot entries term) is (spot_at entries query spots i ([], 0) d are inside) in
+    let next : p ≡ suc (p - 1) = omega (arith, stands.some) in
+    (stands, (standing_term H archive term (p - 1) ([], []) (subst (StandsAt entries term) next stands)).0)
+
 pub overflow_sub-p : goal.overflow_sub-p
 overflow_sub-p g c =
-    let entries = dictionary_of g.H.HashKind.hash c.args.index.now in
-    let term = (get_or c.args.query.now c.loop-i.i ([], 0)).0 in
-    let is = subst (IsSpot entries term) c.in-At.is
-    (spot_at entries c.args.query.now c.args.spots.now c.loop-i.i ([], 0) _ c.requires (omega (arith, c.loop-i-test.true, c.len-i-end.ensures.value))) in
-    is.some
+    (listed_at g.H.HashKind.hash c.args.index.now c.args.query.now c.args.spots.now c.loop-i.i c.in-At.p _ c.requires (omega (arith, c.loop-i-test.true, c.len-i-end.ensures.value)) c.in-At.is).0.some
 
 pub overflow_sub-p-in-At : goal.overflow_sub-p-in-At
 overflow_sub-p-in-At g c =
-    let entries = dictionary_of g.H.HashKind.hash c.args.index.now in
-    let term = (get_or c.args.query.now c.loop-i.i ([], 0)).0 in
-    let is = subst (IsSpot entries term) c.in-At.is
-    (spot_at entries c.args.query.now c.args.spots.now c.loop-i.i ([], 0) _ c.requires (omega (arith, c.loop-i-test.true, c.len-i-end.ensures.value))) in
-    is.some
+    (listed_at g.H.HashKind.hash c.args.index.now c.args.query.now c.args.spots.now c.loop-i.i c.in-At.p _ c.requires (omega (arith, c.loop-i-test.true, c.len-i-end.ensures.value)) c.in-At.is).0.some
 
 pub list-requires : goal.list-requires
 list-requires g c =
-    let entries = dictionary_of g.H.HashKind.hash c.args.index.now in
-    let term = (get_or c.args.query.now c.loop-i.i ([], 0)).0 in
-    let is = subst (IsSpot entries term) c.in-At.is
-    (spot_at entries c.args.query.now c.args.spots.now c.loop-i.i ([], 0) _ c.requires (omega (arith, c.loop-i-test.true, c.len-i-end.ensures.value))) in
-    let p : c.in-At.p ≡ suc (c.in-At.p - 1) = omega (arith, is.some) in
-    omega (arith, (standing_term g.H.HashKind.hash c.args.index.now term (c.in-At.p - 1) ([], []) (subst (StandsAt entries term) p is)).0, ap (λ (ls : List (List ℕ × List Entry)). length ls) c.lists-lists.ensures)
+    let inside = listed_at g.H.HashKind.hash c.args.index.now c.args.query.now c.args.spots.now c.loop-i.i c.in-At.p _ c.requires (omega (arith, c.loop-i-test.true, c.len-i-end.ensures.value)) c.in-At.is in
+    omega (arith, inside.1, ap (λ (ls : List (List ℕ × List Entry)). length ls) c.lists-lists.ensures)
 
 pub list_digests-requires : goal.list_digests-requires
 list_digests-requires g c =
-    let entries = dictionary_of g.H.HashKind.hash c.args.index.now in
-    let term = (get_or c.args.query.now c.loop-i.i ([], 0)).0 in
-    let is = subst (IsSpot entries term) c.in-At.is
-    (spot_at entries c.args.query.now c.args.spots.now c.loop-i.i ([], 0) _ c.requires (omega (arith, c.loop-i-test.true, c.len-i-end.ensures.value))) in
-    let p : c.in-At.p ≡ suc (c.in-At.p - 1) = omega (arith, is.some) in
-    (standing_term g.H.HashKind.hash c.args.index.now term (c.in-At.p - 1) ([], []) (subst (StandsAt entries term) p is)).0
+    (listed_at g.H.HashKind.hash c.args.index.now c.args.query.now c.args.spots.now c.loop-i.i c.in-At.p _ c.requires (omega (arith, c.loop-i-test.true, c.len-i-end.ensures.value)) c.in-At.is).1
 
 pub loop-i-preserved : goal.loop-i-preserved
 loop-i-preserved g c =
@@ -80,22 +75,11 @@ loop-i-preserved g c =
           let more : whole_lanes c.match-spots-i.lanes.items ≡ whole_lanes c.loop-i.lanes.items ++ lane ∷ [] =
           ap (λ v. map whole_lane v.items) w.lanes-is ∙ ap (map whole_lane) w.in_ok-push-in-At.ensures.items ∙ map-append whole_lane c.loop-i.lanes.items (w.lane.result ∷ []) in
           let digests : w.list_digests.result.now ≡ made lane = w.list_digests.ensures ([], []) ∙ ap (λ (es : List Entry). kept_list H archive.format es) (sym entries_are) in
-          let list : IsList 65536 lane.entries = subst (IsList 65536) (sym w.lane.ensures.entries) w.list.ensures.list in
           record {
             lanes = more ∙ ap (λ (ls : List WholeLane). ls ++ lane ∷ []) c.loop-i.invariant.lanes ∙ sym at.more;
             digests = ap (λ v. map own v.items) w.digests-is ∙ ap (map own) w.in_ok-push-in-At-2.ensures.items ∙ map-append own c.loop-i.digests.items (w.list_digests.result ∷ [])
                 ∙ ap₂ (λ (front : List ListDigests) (d : ListDigests). front ++ d ∷ []) c.loop-i.invariant.digests digests
                 ∙ sym (map-append made (whole_lanes c.loop-i.lanes.items) (lane ∷ [])) ∙ sym (ap (map made) more);
-            few = omega (
-              arith,
-              ap (λ (ls : List WholeLane). length ls) more,
-              length-append (whole_lanes c.loop-i.lanes.items) (lane ∷ []),
-              length-map c.loop-i.lanes.items whole_lane,
-              length-map c.match-spots-i.lanes.items whole_lane,
-              c.loop-i.invariant.few,
-            );
-            each = subst (All IsWholeLane) (sym more) (All-push IsWholeLane (whole_lanes c.loop-i.lanes.items) lane c.loop-i.invariant.each (is_whole lane list w.lane.ensures.some w.lane.ensures.few));
-            lists = subst (All (λ (l : WholeLane). IsList 65536 l.entries)) (sym more) (All-push (λ (l : WholeLane). IsList 65536 l.entries) (whole_lanes c.loop-i.lanes.items) lane c.loop-i.invariant.lists list);
           }
       | in-Between w ↦
           let is = subst (IsSpot entries term) w.in-Between.is spot in
@@ -103,9 +87,6 @@ loop-i-preserved g c =
           let none = absent_term H archive term w.in-Between.field-0 is in record {
             lanes = same ∙ c.loop-i.invariant.lanes ∙ sym (lane_none archive.texts query i ([], 0) inside none);
             digests = ap (λ v. map own v.items) w.digests-is ∙ c.loop-i.invariant.digests ∙ sym (ap (map made) same);
-            few = omega (arith, ap (λ (ls : List WholeLane). length ls) same, length-map c.loop-i.lanes.items whole_lane, length-map c.match-spots-i.lanes.items whole_lane, c.loop-i.invariant.few);
-            each = subst (All IsWholeLane) (sym same) c.loop-i.invariant.each;
-            lists = subst (All (λ (l : WholeLane). IsList 65536 l.entries)) (sym same) c.loop-i.invariant.lists;
           }
     ]
 
@@ -113,10 +94,7 @@ pub returns-clause-lanes : goal.returns-clause-lanes
 returns-clause-lanes g c = rw (take_all c.loop-i.i c.args.query.now (omega (arith, c.loop-i-test.false, c.len-i-end.ensures.value))) at c.loop-i.invariant.lanes
 
 pub returns-clause-whole : goal.returns-clause-whole
-returns-clause-whole g c = subst AreWholeLanes (returns-clause-lanes g c) (record {
-  few = omega (arith, length-map c.loop-i.lanes.items whole_lane, c.loop-i.invariant.few, c.loop-i-test.false, c.len-i-end.ensures.value, c.len-i-end.ensures.query.few, c.loop-i.auto.i-end);
-  each = c.loop-i.invariant.each;
-})
+returns-clause-whole g c = lanes_are_whole c.args.index.now.texts c.args.query.now c.collection.ensures.texts.within.few c.len-i-end.ensures.query
 
 pub returns-clause-lists : goal.returns-clause-lists
-returns-clause-lists g c = subst (All (λ (lane : WholeLane). IsList 65536 lane.entries)) (returns-clause-lanes g c) c.loop-i.invariant.lists
+returns-clause-lists g c = lists_within c.args.index.now.texts c.args.query.now c.collection.ensures.texts.within.few

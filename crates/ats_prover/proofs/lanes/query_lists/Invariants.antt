@@ -1,7 +1,5 @@
-use Rattle.std.proofs.Common.{◌≡◌, ◌≤◌, length, map, take}
-use Rattle.std.specs.List.{All}
-use Rattle.ats_lists.specs.Lists.{IsList}
-use Rattle.ats_bound.specs.Schedule.{WholeLane, IsWholeLane, whole_lanes}
+use Rattle.std.proofs.Common.{◌≡◌, map, take}
+use Rattle.ats_bound.specs.Schedule.{whole_lanes}
 use Rattle.ats_honest.specs.Lanes.{lanes_of}
 use Rattle.ats_prover.specs.Nodes.{list_digests}
 use Rattle.ats_prover.proofs.lanes.query_lists.Given as goal
@@ -11,7 +9,4 @@ abbrev pub invariant-loop-i : goal.invariant-loop-i
 invariant-loop-i g l = record {
   lanes : whole_lanes l.lanes.items ≡ lanes_of l.index.texts (take l.i l.query);
   digests : map (λ n. n.now) l.digests.items ≡ list_digests g.H.HashKind.hash l.index.format (whole_lanes l.lanes.items);
-  few : length l.lanes.items ≤ l.i;
-  each : All IsWholeLane (whole_lanes l.lanes.items);
-  lists : All (λ (lane : WholeLane). IsList 65536 lane.entries) (whole_lanes l.lanes.items);
 }

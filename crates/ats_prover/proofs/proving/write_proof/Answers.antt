@@ -2,12 +2,13 @@ use Rattle.std.proofs.Common.{◌≡◌, ℕ, List, map, subst, sym, ap, ◌∙�
 use Rattle.std.proofs.lemmas.Result.{on_ok_weaker}
 use Rattle.ats_bound.specs.declared.lane.Lane.{Lane}
 use Rattle.ats_bound.specs.Chosen.{IsChosen}
+use Rattle.ats_bound.specs.Ranked.{docs_of}
 use Rattle.ats_bound.specs.Schedule.{AreBracketsBy, AreWholeLanes, IsCut, IsFirstSettledBy, WholeLane, shown, whole_lanes}
 use Rattle.ats_bound.proofs.Public.{have_entries, scheduled_is_cut}
 use Rattle.ats_proof.specs.declared.record.Algorithm.{Algorithm}
 use Rattle.ats_honest.specs.Lanes.{bounding, lane_of, lanes_of}
 use Rattle.ats_honest.specs.Honest.{AreMet, IsHonest, IsShownAt}
-use Rattle.ats_honest.proofs.Public.{brackets_met, docs_of, honest_short, is_honest}
+use Rattle.ats_honest.proofs.Public.{brackets_met, honest_short}
 use Rattle.ats_prover.specs.Writing.{IsShownWith}
 use Rattle.ats_prover.proofs.Asked.{written_as}
 use Rattle.ats_prover.proofs.proving.write_proof.Goals as goal
@@ -57,8 +58,12 @@ returns-clause-written g c =
     let bounds = subst (λ (ls : List WholeLane). AreBracketsBy (bounding algorithm ls) (shown ls cut) brackets) own c.in_ok-end.ensures.brackets in
     let met : c.deref-2.result.now ≡ docs_of brackets = c.deref-2.ensures.value ∙ c.in_ok-met.ensures ∙ ap docs_of c.as_slice.ensures in
     on_ok_weaker c.write_shown.result (written_as (IsShownWith H archive query algorithm c.as_slice-2.result.now c.deref-2.result.now c.as_slice-3.result.now) (IsHonest H archive query c.args.top algorithm)
-    c.args.writer.now c.write_shown.new.writer (λ proof is.
-    is_honest H archive query c.args.top algorithm cut brackets proof
-    (subst (λ (ids : List ℕ). IsShownAt H archive query algorithm cut ids proof) met
-    (subst (λ (counts : List ℕ). IsShownAt H archive query algorithm counts c.deref-2.result.now proof) c.as_slice-2.ensures is.shows))
-    first bounds (subst (IsChosen brackets c.args.top) (sym (is.rows ∙ c.as_slice-3.ensures)) c.in_ok-end.ensures.picks))) c.write_shown.ensures.written
+    c.args.writer.now c.write_shown.new.writer (λ proof is. record {
+      cut = cut;
+      first = first;
+      brackets = brackets;
+      bounds = bounds;
+      shows = subst (λ (ids : List ℕ). IsShownAt H archive query algorithm cut ids proof) met
+          (subst (λ (counts : List ℕ). IsShownAt H archive query algorithm counts c.deref-2.result.now proof) c.as_slice-2.ensures is.shows);
+      answer = subst (IsChosen brackets c.args.top) (sym (is.rows ∙ c.as_slice-3.ensures)) c.in_ok-end.ensures.picks;
+    })) c.write_shown.ensures.written

@@ -1,32 +1,25 @@
-use Rattle.std.proofs.Common.{◌≡◌, ◌+◌, ◌<◌, ◌≤◌, ◌^◌, ◌++◌, ℕ, List, length, map, subst, sym, ap, ap₂, ◌∙◌, arith, Bor}
+use Rattle.std.proofs.Common.{◌≡◌, ◌+◌, ◌<◌, ◌≤◌, ◌++◌, ℕ, List, length, map, subst, sym, ap, ap₂, ◌∙◌, arith}
 use Rattle.std.specs.List.{All, flat_map}
 use Rattle.std.proofs.lemmas.Result.{on_ok_weaker}
 use Rattle.std.proofs.lemmas.List.{length-map, get_or_default}
-use Rattle.ats_impact.specs.Limits.{AreWithin}
-use Rattle.ats_impact.specs.Score.{total_terms}
 use Rattle.ats_tree.specs.Elided.{elided_digests}
 use Rattle.ats_tree.specs.Kept.{kept_digests}
 use Rattle.ats_lists.specs.Lists.{IsList}
-use Rattle.ats_lists.specs.declared.entry.Entry.{Entry}
-use Rattle.ats_lists.specs.declared.list_keeping.ListDigests.{ListDigests}
 use Rattle.ats_dict.specs.Entry.{DictEntry}
 use Rattle.ats_dict.specs.Dictionary.{IsDictionary, dict_leaves}
 use Rattle.ats_dict.specs.declared.spot.Spot.{Spot}
 use Rattle.ats_commit.specs.Archive.{Archive}
 use Rattle.ats_commit.specs.Root.{header_parts}
 use Rattle.ats_commit.specs.Trees.{dictionary_of}
-use Rattle.ats_commit.proofs.Public.{header_in_range}
-use Rattle.ats_bound.specs.Schedule.{AreWholeLanes, IsCut, WholeLane, shown, whole_lane, whole_lanes}
-use Rattle.ats_bound.specs.declared.lane.Lane.{Lane}
+use Rattle.ats_commit.proofs.Public.{few_within, header_in_range}
+use Rattle.ats_bound.specs.Schedule.{WholeLane}
 use Rattle.ats_proof.specs.Written.{Written}
 use Rattle.ats_proof.specs.Parts.{counted}
 use Rattle.ats_proof.specs.Value.{digest_fields, entry_fields, slot_fields}
 use Rattle.ats_honest.specs.Terms.{AreNeeded, shown_entry, slot_of}
-use Rattle.ats_honest.specs.Lanes.{lane_of, lanes_of, present}
-use Rattle.ats_honest.specs.Honest.{AreMet}
-use Rattle.ats_honest.proofs.Public.{HasParts, spot_each, positions_below, lanes_have_lists}
-use Rattle.ats_prover.specs.Nodes.{list_digests}
-use Rattle.ats_prover.specs.Writing.{IsCutWritten, put}
+use Rattle.ats_honest.specs.Lanes.{present}
+use Rattle.ats_honest.proofs.Public.{HasParts, spot_each, positions_below}
+use Rattle.ats_prover.specs.Writing.{put}
 use Rattle.ats_prover.proofs.Asked.{front_put, kind_of_documents, written}
 use Rattle.ats_prover.proofs.proving.write_shown.Goals as goal
 
@@ -45,45 +38,6 @@ write_terms-requires-clause-within g c =
     let size : length c.dictionary-2.result.now ≡ length entries = ap (λ (es : List DictEntry). length es) c.dictionary-2.ensures in
     λ k d inside. omega (arith, subst (λ (ps : List ℕ). All (λ p. p < length entries + 2) ps) (sym c.deref-2.ensures.value) below k d inside, size)
 
-pub write_cut-requires-clause-lanes : goal.write_cut-requires-clause-lanes
-write_cut-requires-clause-lanes g c = subst (λ (ls : List Lane). AreWholeLanes (whole_lanes ls)) (sym c.deref-4.ensures.value) c.requires.terms.whole
-
-pub write_cut-requires-clause-lists : goal.write_cut-requires-clause-lists
-write_cut-requires-clause-lists g c =
-    subst (λ (ls : List Lane). All (λ (lane : WholeLane). IsList 65536 lane.entries) (whole_lanes ls)) (sym c.deref-4.ensures.value) c.requires.terms.lists
-
--- the digests that are lent, of the lists of the lanes that are lent
-pub write_cut-requires-clause-kept : goal.write_cut-requires-clause-kept
-write_cut-requires-clause-kept g c =
-    ap (map (λ (n : Bor ListDigests). n.now)) c.deref-5.ensures.value ∙ c.requires.terms.kept
-    ∙ sym (ap (λ (ls : List Lane). list_digests g.H.HashKind.hash c.args.index.now.format (whole_lanes ls)) c.deref-4.ensures.value)
-
-pub write_cut-requires-clause-cut : goal.write_cut-requires-clause-cut
-write_cut-requires-clause-cut g c =
-    subst (λ (ls : List WholeLane). IsCut ls c.args.cut.now) (sym (ap whole_lanes c.deref-4.ensures.value ∙ c.requires.terms.own)) c.requires.cut
-
-pub write_cut-requires-clause-met : goal.write_cut-requires-clause-met
-write_cut-requires-clause-met g c =
-    subst (λ (ls : List WholeLane). AreMet (shown ls c.args.cut.now) c.args.met.now) (sym (ap whole_lanes c.deref-4.ensures.value ∙ c.requires.terms.own)) c.requires.met
-
-pub write_cut-requires-clause-terms : goal.write_cut-requires-clause-terms
-write_cut-requires-clause-terms g c =
-    let texts = c.args.index.now.texts in
-    let own = ap whole_lanes c.deref-4.ensures.value ∙ c.requires.terms.own in
-    omega (
-      arith,
-      ap (λ (ls : List WholeLane). length ls) own,
-      length-map c.deref-4.result.now whole_lane,
-      length-map (present texts c.args.query.now) (lane_of texts),
-      ap (λ (ts : List (List ℕ × ℕ)). length ts) c.requires.terms.have_lists,
-    )
-
-pub write_cut-requires-clause-within : goal.write_cut-requires-clause-within
-write_cut-requires-clause-within g c =
-    let texts = c.args.index.now.texts in
-    subst (All (λ (lane : WholeLane). All (λ (e : Entry). e.doc < length texts) lane.entries)) (sym (ap whole_lanes c.deref-4.ensures.value ∙ c.requires.terms.own))
-    (λ k d inside. (lanes_have_lists texts c.args.query.now k d inside).documents)
-
 pub returns-clause-texts : goal.returns-clause-texts
 returns-clause-texts g c = on_ok_weaker c.write_cut.result (λ is. c.header.ensures.texts) c.write_cut.ensures
 
@@ -96,17 +50,14 @@ returns-clause-written g c =
     let algorithm = c.args.algorithm in
     let entries = dictionary_of H archive in
     let given = c.requires.terms in
-    let lanes = lanes_of texts query in
     let spots = c.args.terms.now.spots.items in
     let positions = c.keep_positions.new.positions.items in
     let cut = c.args.cut.now in
     let met = c.args.met.now in
     let picks = c.args.picks.now in
     let dictionary : IsDictionary entries = subst IsDictionary c.dictionary.ensures c.len.ensures.kept in
-    let own : whole_lanes c.deref-4.result.now ≡ lanes = ap whole_lanes c.deref-4.ensures.value ∙ given.own in
-    let total : total_terms texts ≤ 2 ^ 24 = omega (arith, c.total.ensures.value, c.total.ensures.few, ap total_terms c.collection-2.ensures.same) in
-    let range = header_in_range H g.H.HashKind.sized archive (subst AreWithin c.collection.ensures.same c.documents.ensures.within) total in
-    let positions_few : length positions ≤ 64 = omega (arith, c.in_ok-keep_positions.ensures.few, given.few, ap (λ (ss : List Spot). length ss) c.deref.ensures.value) in
+    let own = c.header.ensures.texts in
+    let range = header_in_range H g.H.HashKind.sized archive own.within (few_within texts own.utf8 own.within) in
     let number : c.len-2.result ≡ length (map (slot_of positions) spots) =
     c.len-2.ensures.value ∙ sym (length-map spots (slot_of positions) ∙ spot_each entries query spots given.found) in
     let Terms : List DictEntry → List ℕ → List Spot → Written = λ (es : List DictEntry) (ps : List ℕ) (ss : List Spot).
@@ -114,9 +65,7 @@ returns-clause-written g c =
     let terms : c.write_terms.new.writer ≡ Terms entries positions spots = c.in_ok-write_terms.ensures.fields
     ∙ ap (λ (es : List DictEntry). Terms es c.deref-2.result.now c.deref-3.result.now) c.dictionary-2.ensures
     ∙ ap₂ (λ (ps : List ℕ) (ss : List Spot). Terms entries ps ss) c.deref-2.ensures.value c.deref-3.ensures.value in
-    on_ok_weaker c.write_cut.result (λ is.
-    let shows = subst (λ (ls : List WholeLane). IsCutWritten algorithm H archive (present texts query) ls met cut picks c.write_terms.new.writer c.write_cut.new.writer) own
-    (subst (λ (ts : List (List ℕ × ℕ)). IsCutWritten algorithm H archive ts (whole_lanes c.deref-4.result.now) met cut picks c.write_terms.new.writer c.write_cut.new.writer) given.have_lists is) in
+    on_ok_weaker c.write_cut.result (λ shows.
     let parts : HasParts H archive query algorithm spots positions cut met shows.docs picks = record {
       sized = g.H.HashKind.sized;
       dictionary = dictionary;
@@ -124,7 +73,6 @@ returns-clause-written g c =
       is_query = c.len-2.ensures.query;
       found = given.found;
       needed = subst (λ (ss : List Spot). AreNeeded ss positions) c.deref.ensures.value c.in_ok-keep_positions.ensures.needed;
-      positions_few = positions_few;
       lists = subst (All (λ (lane : WholeLane). IsList 65536 lane.entries)) given.own given.lists;
       is_cut = c.requires.cut;
       met = c.requires.met;

@@ -1,13 +1,12 @@
-use Rattle.std.proofs.Common.{◌≡◌, ◌<◌, ◌∷◌, [], ℕ, List, length, map, get_or, sym, ap, ap₂, ◌∙◌, arith}
+use Rattle.std.proofs.Common.{◌≡◌, ◌<◌, ◌∷◌, [], ℕ, List, length, map, get_or, ap, ap₂, ◌∙◌, arith}
 use Rattle.std.specs.List.{concat}
-use Rattle.std.proofs.lemmas.List.{length-map, get_or-map}
 use Rattle.ats_proof.specs.Written.{Written, after}
 use Rattle.ats_proof.specs.Records.{term_leaf_record}
 use Rattle.ats_proof.specs.Parts.{spelled}
 use Rattle.ats_proof.specs.Value.{term_fields}
 use Rattle.ats_honest.specs.Documents.{shown_term}
 use Rattle.ats_prover.proofs.Records.{term_is}
-use Rattle.ats_prover.proofs.Putting.{put_more}
+use Rattle.ats_prover.proofs.Putting.{put_made}
 use Rattle.ats_prover.proofs.terms_section.write_leaves.Goals as goal
 
 pub term_leaf-requires-clause-few : goal.term_leaf-requires-clause-few
@@ -27,8 +26,6 @@ loop-p-preserved c =
     term_is p term impact (omega (arith, c.type_inv.positions i)) (omega (arith, c.impact.ensures.few))
     ∙ ap₂ (λ (t : List ℕ) (m : ℕ). concat (term_fields (record { position = p; term = (t, m) }))) c.term.ensures.value c.impact.ensures.value in record {
       fields = c.in_ok-term_leaf.ensures.ok ∙ ap (λ (w : Written). after w bytes) c.loop-p.invariant.fields
-          ∙ put_more term_fields c.args.writer.now (spelled 2 (length (map (shown_term items) positions)) ∷ []) (map (shown_term items) positions) i
-          (shown_term items p) (shown_term items 0) bytes (omega (arith, inside, length-map positions (shown_term items)))
-          (sym (get_or-map (shown_term items) positions i 0 (shown_term items 0) inside)) same;
+          ∙ put_made term_fields (shown_term items) c.args.writer.now (spelled 2 (length (map (shown_term items) positions)) ∷ []) positions i 0 bytes inside same;
       size = omega (arith, c.in_ok-term_leaf.ensures.size, c.loop-p.invariant.size, c.term.ensures.few);
     }
