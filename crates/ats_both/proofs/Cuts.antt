@@ -1,5 +1,5 @@
 -- What the cut of the proof shows of each list.
-use Rattle.std.proofs.Common.{◌≡◌, ◌<◌, ◌≤◌, ◌+◌, ◌∙◌, ◌++◌, ℕ, zero, suc, Bool, true, false, cond, List, [], ◌∷◌, length, map, drop, get_or, nat_eq, nat_lt, refl, sym, ap, inl, inr, arith, add-one, drop-cons, append_assoc}
+use Rattle.std.proofs.Common.{◌≡◌, ◌<◌, ◌≤◌, ◌∙◌, ℕ, zero, suc, Bool, true, cond, List, [], ◌∷◌, length, map, get_or, nat_eq, nat_lt, refl, ap, inl, inr, arith}
 use Rattle.std.specs.List.{All, list_any}
 use Rattle.std.proofs.lemmas.Bool.{cases_Bool, eq-eqb}
 use Rattle.std.proofs.lemmas.List.{get_or-map, length-map}
@@ -12,37 +12,6 @@ use Rattle.ats_both.specs.Made.{both_cut, entry_counts, first_least_whole}
 -- the counts of the rest of the lists, if one was shown whole before, or none was
 abbrev pub cut_after : Bool → List ℕ → List ℕ
 cut_after has_whole rest = cond has_whole (map (λ n. 1) rest) (first_least_whole rest)
-
--- a list that is not the first of the shortest
-pub one_entry : (has_whole : Bool) (n : ℕ) (rest : List ℕ) → (has_whole ≡ false → list_any (λ m. nat_lt m n) rest ≡ true)
-    → cut_after has_whole (n ∷ rest) ≡ 1 ∷ cut_after has_whole rest
-one_entry true n rest less = refl
-one_entry false n rest less = rw (less refl) refl
-
--- the first of the shortest
-pub whole_list : (n : ℕ) (rest : List ℕ) → list_any (λ m. nat_lt m n) rest ≡ false → cut_after false (n ∷ rest) ≡ n ∷ cut_after true rest
-whole_list n rest none = rw none refl
-
--- one list more of those that are shown with one entry
-pub push_one : (counts cut : List ℕ) (i : ℕ) (has_whole : Bool) → i < length counts
-    → (has_whole ≡ false → list_any (λ m. nat_lt m (get_or counts i 0)) (drop (i + 1) counts) ≡ true)
-    → cut ++ cut_after has_whole (drop i counts) ≡ (cut ++ 1 ∷ []) ++ cut_after has_whole (drop (i + 1) counts)
-push_one counts cut i has_whole inside less =
-    let n = get_or counts i 0 in
-    let rest : List ℕ = drop (i + 1) counts in
-    let here : drop i counts ≡ n ∷ rest = rw (add-one, drop-cons counts i 0) refl in
-    ap (λ (ns : List ℕ). cut ++ cut_after has_whole ns) here ∙ ap (λ (ns : List ℕ). cut ++ ns) (one_entry has_whole n rest less)
-    ∙ sym (append_assoc cut (1 ∷ []) (cut_after has_whole rest))
-
--- the one that is shown whole
-pub push_whole : (counts cut : List ℕ) (i : ℕ) → i < length counts → list_any (λ m. nat_lt m (get_or counts i 0)) (drop (i + 1) counts) ≡ false
-    → cut ++ cut_after false (drop i counts) ≡ (cut ++ get_or counts i 0 ∷ []) ++ cut_after true (drop (i + 1) counts)
-push_whole counts cut i inside none =
-    let n = get_or counts i 0 in
-    let rest : List ℕ = drop (i + 1) counts in
-    let here : drop i counts ≡ n ∷ rest = rw (add-one, drop-cons counts i 0) refl in
-    ap (λ (ns : List ℕ). cut ++ cut_after false ns) here ∙ ap (λ (ns : List ℕ). cut ++ ns) (whole_list n rest none)
-    ∙ sym (append_assoc cut (n ∷ []) (cut_after true rest))
 
 -- ---- each count
 
@@ -78,23 +47,20 @@ length-least (n ∷ rest) = elim (cases_Bool (list_any (λ m. nat_lt m n) rest))
 ]
 
 -- the place of a list that is shown whole
-pub record HasWhole (counts cut : List ℕ) : Type 0 where
-  pub place : ℕ
-  pub inside : place < length counts
-  pub whole : get_or cut place 0 ≡ get_or counts place 0
+record HasWhole (counts cut : List ℕ) : Type 0 where
+  place : ℕ
+  inside : place < length counts
+  whole : get_or cut place 0 ≡ get_or counts place 0
 
-pub least_whole : (n : ℕ) (rest : List ℕ) → HasWhole (n ∷ rest) (first_least_whole (n ∷ rest))
-least_whole n [] = record { place = 0; inside = omega arith; whole = refl }
-least_whole n (m ∷ rest) =
-    let later = least_whole m rest in
+least_whole : (counts : List ℕ) → 1 ≤ length counts → HasWhole counts (first_least_whole counts)
+least_whole [] some = absurd (omega arith)
+least_whole (n ∷ []) some = record { place = 0; inside = omega arith; whole = refl }
+least_whole (n ∷ m ∷ rest) some =
+    let later = least_whole (m ∷ rest) (omega arith) in
     elim (cases_Bool (list_any (λ k. nat_lt k n) (m ∷ rest))) [
       | inl less ↦ rw less (record { place = suc later.place; inside = omega (arith, later.inside); whole = later.whole })
       | inr none ↦ rw none (record { place = 0; inside = omega arith; whole = refl })
     ]
-
-some_whole : (counts : List ℕ) → 1 ≤ length counts → HasWhole counts (first_least_whole counts)
-some_whole [] some = absurd (omega arith)
-some_whole (n ∷ rest) some = least_whole n rest
 
 -- ---- the cut
 
@@ -155,7 +121,7 @@ both_shows_whole texts query all some =
     let counts = entry_counts texts query in
     let size : length counts ≡ length lanes = length-map lanes count in
     let test : nat_eq (length counts) (length query) ≡ true = eq-eqb (length counts) (length query) (size ∙ all) in
-    let shows = some_whole counts (omega (arith, size, all, some)) in
+    let shows = least_whole counts (omega (arith, size, all, some)) in
     let is : both_cut texts query ≡ first_least_whole counts = rw test refl in
     record {
       place = shows.place;
