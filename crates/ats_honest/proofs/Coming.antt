@@ -10,13 +10,13 @@ use Rattle.ats_dict.specs.Header.{IsHeader}
 use Rattle.ats_dict.specs.declared.header.Header.{Header}
 use Rattle.ats_proof.specs.declared.record.Slot.{Slot}
 use Rattle.ats_grammar.specs.declared.fault.ShapeKind.{ShapeKind}
-use Rattle.ats_grammar.specs.declared.fault.ShapeKind.TheVariants.{Count}
-use Rattle.ats_grammar.specs.Table.{Table, Number, End, number, follow}
+use Rattle.ats_grammar.specs.declared.fault.ShapeKind.TheVariants.{Count, Order}
+use Rattle.ats_grammar.specs.Table.{Table, Bytes, Number, End, number, follow}
 use Rattle.ats_grammar.specs.Front.{Come}
 use Rattle.ats_grammar.specs.Grammar as grammar
 use Rattle.ats_proof.specs.Parts.{spelled, counted}
 use Rattle.ats_proof.specs.Value.{ShownEntry, Prefix, Documents, documents_fields, Proof, fields_of, front_fields, header_fields, entry_fields, digest_fields, slot_fields, id_fields, number_of_algorithm, number_of_format, posting_fields, prefix_fields, kind_of_slot, present_in}
-use Rattle.ats_proof.proofs.Public.{length-spelled, number-spelled}
+use Rattle.ats_proof.proofs.Public.{header_comes, length-spelled, number-spelled}
 use Rattle.ats_honest.specs.Order.{AreInOrder}
 use Rattle.ats_honest.proofs.Spots.{IsLeaf}
 
@@ -25,12 +25,6 @@ pub come_join : (a b : List (List ℕ)) (t u v : Table) → Come a t u → Come 
 come_join [] b t u v first second = subst (λ x. Come b x v) (sym first) second
 come_join (f ∷ a) b t u v first second = (first.0, come_join a b (follow t (number f)) u v first.1 second)
 
-pub come_number : (k n low high : ℕ) (kind : ShapeKind) (rest : ℕ → Table) (fields : List (List ℕ)) (last : Table) → low ≤ n → n ≤ high
-    → Come fields (rest n) last → Come (spelled (suc k) n ∷ fields) (Number (suc k) low high kind rest) last
-come_number k n low high kind rest fields last least most more =
-    let is = number-spelled k n in
-    ((length-spelled (suc k) n, subst (λ m. low ≤ m) (sym is) least, subst (λ m. m ≤ high) (sym is) most), subst (λ m. Come fields (rest m) last) (sym is) more)
-
 abbrev pub IsNumber : (size low high : ℕ) → List ℕ → Type 0
 IsNumber size low high field = (length field ≡ size) × (low ≤ number field) × (number field ≤ high)
 
@@ -38,6 +32,11 @@ pub is_number : (k n low high : ℕ) → low ≤ n → n ≤ high → IsNumber (
 is_number k n low high least most =
     let is = number-spelled k n in
     (length-spelled (suc k) n, subst (λ m. low ≤ m) (sym is) least, subst (λ m. m ≤ high) (sym is) most)
+
+pub come_number : (k n low high : ℕ) (kind : ShapeKind) (rest : ℕ → Table) (fields : List (List ℕ)) (last : Table) → low ≤ n → n ≤ high
+    → Come fields (rest n) last → Come (spelled (suc k) n ∷ fields) (Number (suc k) low high kind rest) last
+come_number k n low high kind rest fields last least most more =
+    (is_number k n low high least most, subst (λ m. Come fields (rest m) last) (sym (number-spelled k n)) more)
 
 -- ---- runs
 
@@ -59,22 +58,17 @@ AreGoodEntries low (e ∷ es) = (low ≤ e.position) × (e.position ≤ 0xffff_f
 
 come_entries : (es : List ShownEntry) (low : ℕ) (rest : Table) → AreGoodEntries low es → Come (flat_map entry_fields es) (grammar.dict_leaves (length es) low rest) rest
 come_entries [] low rest good = refl
-come_entries (e ∷ es) low rest good = (
-  is_number 3 e.position low 0xffff_ffff good.0 good.1,
-  (
-    is_number 0 (length e.entry.term) 0 64 (omega arith) good.2.short,
-    (
-      sym (number-spelled 0 (length e.entry.term)),
-      (
-        is_number 3 e.entry.f 0 0xffff_ffff (omega arith) (omega (arith, good.2.number)),
-        (
-          good.2.root,
-          subst (λ (m : ℕ). Come (flat_map entry_fields es) (grammar.dict_leaves (length es) (m + 1) rest) rest) (sym (number-spelled 3 e.position)) (come_entries es (e.position + 1) rest good.3),
-        ),
-      ),
-    ),
-  ),
-)
+come_entries (e ∷ es) low rest good =
+    let behind : List (List ℕ) = flat_map entry_fields es in
+    let After : ℕ → Table = λ m. grammar.dict_leaves (length es) (m + 1) rest in
+    let Frequency : ℕ → Table = λ m. grammar.any_4 (λ _. Bytes 32 (After m)) in
+    come_number 3 e.position low 0xffff_ffff Order (λ m. grammar.term_length (λ size. Bytes size (Frequency m)))
+    (spelled 1 (length e.entry.term) ∷ e.entry.term ∷ spelled 4 e.entry.f ∷ e.entry.root ∷ behind) rest good.0 good.1
+    (come_number 0 (length e.entry.term) 0 64 Count (λ size. Bytes size (Frequency e.position)) (e.entry.term ∷ spelled 4 e.entry.f ∷ e.entry.root ∷ behind) rest (omega arith) good.2.short (
+      refl,
+      come_number 3 e.entry.f 0 0xffff_ffff Count (λ _. Bytes 32 (After e.position)) (e.entry.root ∷ behind) rest (omega arith) (omega (arith, good.2.number))
+          (good.2.root, come_entries es (e.position + 1) rest good.3),
+    ))
 
 abbrev pub AreGoodSlots : ℕ → List Slot → Type 0
 AreGoodSlots low [] = Unit {0}
@@ -88,15 +82,12 @@ come_slots : (tra : Bool) (ss : List Slot) (low present : ℕ) → AreGoodSlots 
 come_slots tra [] low present good = let e : present ≡ present + 0 = omega arith in ap (grammar.met tra) e
 come_slots tra (s ∷ ss) low present good =
     let sum : present + kind_of_slot s + present_in ss ≡ present + present_in (s ∷ ss) = omega (arith, sum_by-cons kind_of_slot s ss) in
-    let more = subst (λ n. Come (flat_map slot_fields ss) (grammar.slots tra (length ss) s.index (present + kind_of_slot s)) (grammar.met tra n)) sum
-    (come_slots tra ss s.index (present + kind_of_slot s) good.2) in (
-      is_number 0 (kind_of_slot s) 0 1 (omega arith) (small_kind s.present),
-      (
-        is_number 1 s.index low 0xffff good.0 good.1,
-        subst (λ (k : ℕ). Come (flat_map slot_fields ss) (grammar.slots tra (length ss) (number (spelled 2 s.index)) (present + k)) (grammar.met tra (present + present_in (s ∷ ss)))) (sym (number-spelled 0 (kind_of_slot s)))
-            (subst (λ (i : ℕ). Come (flat_map slot_fields ss) (grammar.slots tra (length ss) i (present + kind_of_slot s)) (grammar.met tra (present + present_in (s ∷ ss)))) (sym (number-spelled 1 s.index)) more),
-      ),
-    )
+    let last : Table = grammar.met tra (present + present_in (s ∷ ss)) in
+    come_number 0 (kind_of_slot s) 0 1 Count (λ k. grammar.index low (λ i. grammar.slots tra (length ss) i (present + k))) (spelled 2 s.index ∷ flat_map slot_fields ss) last
+    (omega arith) (small_kind s.present)
+    (come_number 1 s.index low 0xffff Order (λ i. grammar.slots tra (length ss) i (present + kind_of_slot s)) (flat_map slot_fields ss) last good.0 good.1
+    (subst (λ n. Come (flat_map slot_fields ss) (grammar.slots tra (length ss) s.index (present + kind_of_slot s)) (grammar.met tra n)) sum
+    (come_slots tra ss s.index (present + kind_of_slot s) good.2)))
 
 abbrev pub AreGoodIds : ℕ → List ℕ → Type 0
 AreGoodIds low [] = Unit {0}
@@ -104,10 +95,8 @@ AreGoodIds low (id ∷ ids) = (low ≤ id) × (id ≤ 0xffff_ffff) × AreGoodIds
 
 come_ids : (ids : List ℕ) (low : ℕ) (rest : Table) → AreGoodIds low ids → Come (flat_map id_fields ids) (grammar.met_ids (length ids) low rest) rest
 come_ids [] low rest good = refl
-come_ids (id ∷ ids) low rest good = (
-  is_number 3 id low 0xffff_ffff good.0 good.1,
-  subst (λ (m : ℕ). Come (flat_map id_fields ids) (grammar.met_ids (length ids) (m + 1) rest) rest) (sym (number-spelled 3 id)) (come_ids ids (id + 1) rest good.2),
-)
+come_ids (id ∷ ids) low rest good =
+    come_number 3 id low 0xffff_ffff Order (λ m. grammar.met_ids (length ids) (m + 1) rest) (flat_map id_fields ids) rest good.0 good.1 (come_ids ids (id + 1) rest good.2)
 
 come_rows : (rows : List ℕ) → All (λ n. n ≤ 0xffff_ffff) rows → Come (flat_map id_fields rows) (grammar.rows (length rows)) End
 come_rows [] all = refl
@@ -177,25 +166,8 @@ come_front format docs h is =
         is_version format,
         (
           is_algorithm docs,
-          subst (λ (a : ℕ). Come rest (grammar.header (grammar.query_terms (a == 1))) (grammar.query_terms (tra_of docs))) (sym (number-spelled 0 (number_of_algorithm docs))) (
-            is_number 0 1 1 1 (omega arith) (omega arith),
-            (
-              is_number 3 h.documents 1 65536 is.numbers.some is.numbers.few,
-              (
-                is_number 3 h.dict_leaves 2 16777218 is.numbers.sentinels is.numbers.terms,
-                (
-                  is.dict,
-                  (
-                    is.docs,
-                    (
-                      is.texts,
-                      refl,
-                    ),
-                  ),
-                ),
-              ),
-            ),
-          ),
+          subst (λ (a : ℕ). Come rest (grammar.header (grammar.query_terms (a == 1))) (grammar.query_terms (tra_of docs))) (sym (number-spelled 0 (number_of_algorithm docs)))
+              (header_comes h [] (grammar.query_terms (tra_of docs)) (grammar.query_terms (tra_of docs)) is refl),
         ),
       ),
     )

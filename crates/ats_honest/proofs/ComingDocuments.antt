@@ -1,16 +1,15 @@
 -- The fields of what is shown of documents are in the grammar's order.
-use Rattle.std.proofs.Common.{◌≡◌, ◌+◌, ◌<◌, ◌≤◌, ◌^◌, ◌++◌, ℕ, List, [], ◌∷◌, length, Some, refl, sym, subst, arith}
+use Rattle.std.proofs.Common.{◌≡◌, ◌+◌, ◌<◌, ◌≤◌, ◌^◌, ◌++◌, ℕ, List, [], ◌∷◌, length, Some, refl, subst, arith}
 use Rattle.std.specs.List.{All, flat_map}
 use Rattle.std.proofs.lemmas.List.Elements.{All-head, All-tail}
 use Rattle.ats_doctree.specs.declared.doc_leaf.DocLeaf.{DocLeaf}
 use Rattle.ats_proof.specs.declared.record.Slot.{Slot}
-use Rattle.ats_grammar.specs.declared.fault.ShapeKind.TheVariants.{Count}
-use Rattle.ats_grammar.specs.Table.{Table}
+use Rattle.ats_grammar.specs.declared.fault.ShapeKind.TheVariants.{Count, Order}
+use Rattle.ats_grammar.specs.Table.{Table, Bytes}
 use Rattle.ats_grammar.specs.Front.{Come}
 use Rattle.ats_grammar.specs.Grammar as grammar
-use Rattle.ats_proof.specs.Parts.{counted}
+use Rattle.ats_proof.specs.Parts.{counted, spelled}
 use Rattle.ats_proof.specs.Value.{Documents, ShownTerm, TermsSection, digest_fields, doc_fields, kind_of_slot, section_fields, slot_fields, term_fields}
-use Rattle.ats_proof.proofs.Public.{number-spelled}
 use Rattle.ats_honest.specs.Order.{AreInOrder, ComesIn}
 use Rattle.ats_honest.proofs.Coming.{AreDigests, AreGoodSlots, come_counted, come_digests, come_join, come_number, is_number, small_kind}
 
@@ -22,29 +21,20 @@ AreGoodTerms low (t ∷ ts) = (low ≤ t.position) × (t.position ≤ 0xffff_fff
 
 come_terms : (ts : List ShownTerm) (low : ℕ) (rest : Table) → AreGoodTerms low ts → Come (flat_map term_fields ts) (grammar.term_leaves (length ts) low rest) rest
 come_terms [] low rest good = refl
-come_terms (t ∷ ts) low rest good = (
-  is_number 3 t.position low 0xffff_ffff good.0 good.1,
-  (
-    is_number 0 (length t.term.0) 0 64 (omega arith) good.2,
-    (
-      sym (number-spelled 0 (length t.term.0)),
-      (
-        is_number 1 t.term.1 0 0xffff (omega arith) good.3,
-        subst (λ (m : ℕ). Come (flat_map term_fields ts) (grammar.term_leaves (length ts) (m + 1) rest) rest) (sym (number-spelled 3 t.position)) (come_terms ts (t.position + 1) rest good.4),
-      ),
-    ),
-  ),
-)
+come_terms (t ∷ ts) low rest good =
+    let behind : List (List ℕ) = flat_map term_fields ts in
+    let After : ℕ → Table = λ m. grammar.term_leaves (length ts) (m + 1) rest in
+    come_number 3 t.position low 0xffff_ffff Order (λ m. grammar.term_length (λ size. Bytes size (grammar.any_2 (λ _. After m))))
+    (spelled 1 (length t.term.0) ∷ t.term.0 ∷ spelled 2 t.term.1 ∷ behind) rest good.0 good.1
+    (come_number 0 (length t.term.0) 0 64 Count (λ size. Bytes size (grammar.any_2 (λ _. After t.position))) (t.term.0 ∷ spelled 2 t.term.1 ∷ behind) rest (omega arith) good.2
+    (refl, come_number 1 t.term.1 0 0xffff Count (λ _. After t.position) behind rest (omega arith) good.3 (come_terms ts (t.position + 1) rest good.4)))
 
 come_slots : (ss : List Slot) (low : ℕ) (rest : Table) → AreGoodSlots low ss → Come (flat_map slot_fields ss) (grammar.doc_slots (length ss) low rest) rest
 come_slots [] low rest good = refl
-come_slots (s ∷ ss) low rest good = (
-  is_number 0 (kind_of_slot s) 0 1 (omega arith) (small_kind s.present),
-  (
-    is_number 1 s.index low 0xffff good.0 good.1,
-    subst (λ (i : ℕ). Come (flat_map slot_fields ss) (grammar.doc_slots (length ss) i rest) rest) (sym (number-spelled 1 s.index)) (come_slots ss s.index rest good.2),
-  ),
-)
+come_slots (s ∷ ss) low rest good =
+    come_number 0 (kind_of_slot s) 0 1 Count (λ _. grammar.index low (λ i. grammar.doc_slots (length ss) i rest)) (spelled 2 s.index ∷ flat_map slot_fields ss) rest
+    (omega arith) (small_kind s.present)
+    (come_number 1 s.index low 0xffff Order (λ i. grammar.doc_slots (length ss) i rest) (flat_map slot_fields ss) rest good.0 good.1 (come_slots ss s.index rest good.2))
 
 pub record IsGoodSection (section : TermsSection) : Type 0 where
   pub some : 1 ≤ length section.leaves
