@@ -1,5 +1,6 @@
 -- The check accepts what a proof of a cut shows of the header, the dictionary and the terms.
-use Rattle.std.proofs.Common.{◌≡◌, ℕ, zero, suc, true, nat_lt, List, [], ◌∷◌, length, map, get_or, Some, refl, sym, ap, ap₂, subst, ◌∙◌, arith}
+use Rattle.std.proofs.Common.{◌≡◌, ◌<◌, ℕ, zero, suc, true, nat_lt, List, [], ◌∷◌, length, map, get_or, Some, refl, sym, ap, ap₂, subst, ◌∙◌, arith}
+use Rattle.std.specs.List.{All}
 use Rattle.std.specs.List.Sorted.{IsStrictlyIncreasing}
 use Rattle.std.proofs.lemmas.List.{length-map, get_or-map}
 use Rattle.std.proofs.lemmas.Simd.{map-map}
@@ -38,61 +39,51 @@ use Rattle.ats_accepts.proofs.ShownPlaces.{made_at_place}
 use Rattle.ats_accepts.proofs.ShownTrees.{leaves_shown, positions_rebuild}
 use Rattle.ats_accepts.proofs.AcceptedSlots.{IsShown, LiesBy, leaf_at, slots_show}
 
--- the header is the archive's, and each term has a slot
-pub shown_opened : (H : List ℕ → List ℕ) (archive : Archive) (query : List (List ℕ × ℕ)) (algorithm : Algorithm) (cut documents : List ℕ) (proof : Proof)
-    → IsShownAt H archive query algorithm cut documents proof → IsOpened H (root_of H archive) query proof
-shown_opened H archive query algorithm cut documents proof is = record {
-  commits = ap₂ (λ (format : Format) (h : Header). header_root H format h) is.format is.header;
-  slots = ap (λ (all : List Slot). length all) is.slots ∙ length-map is.spots (slot_of is.positions) ∙ spot_each (dictionary_of H archive) query is.spots is.found;
-}
-
--- ---- the dictionary
-
--- its leaves are those at the needed positions
-pub dictionary_shown : (H : List ℕ → List ℕ) (archive : Archive) (query : List (List ℕ × ℕ)) (algorithm : Algorithm) (cut documents : List ℕ) (proof : Proof)
-    → (is : IsShownAt H archive query algorithm cut documents proof)
-    → map runs.shown_entry proof.dict ≡ shown_with (dict_leaves (dictionary_of H archive)) is.positions
-dictionary_shown H archive query algorithm cut documents proof is =
-    let entries = dictionary_of H archive in
-    let positions = is.positions in
-    let size = length-dict_leaves entries in
-    let below = positions_below entries query is.spots positions is.found is.needed in
-    let made : ℕ → Shown = λ p. runs.shown_entry (shown_entry entries p) in
-    ap (λ (shown : List ShownEntry). map runs.shown_entry shown) is.dict ∙ map-map runs.shown_entry (shown_entry entries) positions
-    ∙ leaves_shown (dict_leaves entries) made positions
-    (λ p inside. ap (λ (bytes : List ℕ). let leaf : Shown = (p, bytes) in leaf) (sym (get_or-dict_leaves entries p (omega (arith, inside, size)))))
-    (λ k d inside. omega (arith, below k d inside, size))
-
-pub shown_dictionary : (H : List ℕ → List ℕ) (archive : Archive) (query : List (List ℕ × ℕ)) (algorithm : Algorithm) (cut documents : List ℕ) (proof : Proof)
-    → IsShownAt H archive query algorithm cut documents proof → IsDictionary H proof
-shown_dictionary H archive query algorithm cut documents proof is =
-    let entries = dictionary_of H archive in
-    let leaves = dict_leaves entries in
-    let positions = is.positions in
-    let size = length-dict_leaves entries in
-    let below = positions_below entries query is.spots positions is.found is.needed in
-    ap₂ (λ n (shown : List Shown). rebuilt H n shown proof.dict_digests) (ap (λ (h : Header). h.dict_leaves) is.header)
-    (dictionary_shown H archive query algorithm cut documents proof is)
-    ∙ ap (λ (digests : List (List ℕ)). rebuilt H (length leaves) (shown_with leaves positions) digests) is.dict_digests
-    ∙ positions_rebuild H leaves positions (omega (arith, size)) is.needed.rise (λ k d inside. omega (arith, below k d inside, size))
-    ∙ ap (λ (h : Header). Some h.dict_root) (sym is.header)
-
--- ---- the slots
-
 entry_lies : (entries : List DictEntry) (term : List ℕ) (spot : Spot) → IsSpot entries term spot → LiesBy (term_at entries) term spot
 entry_lies entries term (At p) is = is.same
 entry_lies entries term (Between p) is = (is.above, is.below)
 
-pub shown_slots : (H : List ℕ → List ℕ) (archive : Archive) (query : List (List ℕ × ℕ)) (algorithm : Algorithm) (cut documents : List ℕ) (proof : Proof)
-    → IsShownAt H archive query algorithm cut documents proof → AreSlotsRight query proof
-shown_slots H archive query algorithm cut documents proof is i inside =
-    let entries = dictionary_of H archive in
-    let term = asked_term query i in
-    let made : ℕ → slots.Shown = leaf_at (term_at entries) in
-    let leaves : dict_terms proof.dict ≡ map made is.positions = ap dict_terms is.dict ∙ map-map slots.entry_shown (shown_entry entries) is.positions in
-    subst (λ (all : List slots.Shown). ShowsTerm all term (slot_at proof.slots i)) (sym leaves)
-    (subst (λ (all : List Slot). ShowsTerm (map made is.positions) term (slot_at all i)) (sym is.slots)
-    (slots_show (term_at entries) (IsSpot entries) (entry_lies entries) query is.spots is.positions is.found is.needed i inside))
+module _ (H : List ℕ → List ℕ) (archive : Archive) (query : List (List ℕ × ℕ)) (algorithm : Algorithm) (cut documents : List ℕ) (proof : Proof)
+    (is : IsShownAt H archive query algorithm cut documents proof) where
+  abbrev entries : List DictEntry
+  entries = dictionary_of H archive
+
+  -- the header is the archive's, and each term has a slot
+  pub shown_opened : IsOpened H (root_of H archive) query proof
+  shown_opened = record {
+    commits = ap₂ (λ (format : Format) (h : Header). header_root H format h) is.format is.header;
+    slots = ap (λ (all : List Slot). length all) is.slots ∙ length-map is.spots (slot_of is.positions) ∙ spot_each entries query is.spots is.found;
+  }
+
+  leaves_below : All (λ p. p < length (dict_leaves entries)) is.positions
+  leaves_below k d inside = omega (arith, positions_below entries query is.spots is.positions is.found is.needed k d inside, length-dict_leaves entries)
+
+  -- the leaves of the dictionary are those at the needed positions
+  pub dictionary_shown : map runs.shown_entry proof.dict ≡ shown_with (dict_leaves entries) is.positions
+  dictionary_shown =
+      let size = length-dict_leaves entries in
+      let made : ℕ → Shown = λ p. runs.shown_entry (shown_entry entries p) in
+      ap (λ (shown : List ShownEntry). map runs.shown_entry shown) is.dict ∙ map-map runs.shown_entry (shown_entry entries) is.positions
+      ∙ leaves_shown (dict_leaves entries) made is.positions
+      (λ p inside. ap (λ (bytes : List ℕ). let leaf : Shown = (p, bytes) in leaf) (sym (get_or-dict_leaves entries p (omega (arith, inside, size)))))
+      leaves_below
+
+  pub shown_dictionary : IsDictionary H proof
+  shown_dictionary =
+      let leaves = dict_leaves entries in
+      ap₂ (λ n (shown : List Shown). rebuilt H n shown proof.dict_digests) (ap (λ (h : Header). h.dict_leaves) is.header) dictionary_shown
+      ∙ ap (λ (digests : List (List ℕ)). rebuilt H (length leaves) (shown_with leaves is.positions) digests) is.dict_digests
+      ∙ positions_rebuild H leaves is.positions (omega (arith, length-dict_leaves entries)) is.needed.rise leaves_below
+      ∙ ap (λ (h : Header). Some h.dict_root) (sym is.header)
+
+  pub shown_slots : AreSlotsRight query proof
+  shown_slots i inside =
+      let term = asked_term query i in
+      let made : ℕ → slots.Shown = leaf_at (term_at entries) in
+      let leaves : dict_terms proof.dict ≡ map made is.positions = ap dict_terms is.dict ∙ map-map slots.entry_shown (shown_entry entries) is.positions in
+      subst (λ (all : List slots.Shown). ShowsTerm all term (slot_at proof.slots i)) (sym leaves)
+      (subst (λ (all : List Slot). ShowsTerm (map made is.positions) term (slot_at all i)) (sym is.slots)
+      (slots_show (term_at entries) (IsSpot entries) (entry_lies entries) query is.spots is.positions is.found is.needed i inside))
 
 -- ---- the entries of present terms
 
