@@ -1,4 +1,4 @@
-use Rattle.std.proofs.Common.{◌≡◌, ◌<◌, ◌≤◌, ◌++◌, List, [], length, map, get_or, take, subst, sym, ap, ◌∙◌, arith, append-nil, take_all, ℕ, Bor}
+use Rattle.std.proofs.Common.{◌≡◌, ◌<◌, ◌++◌, List, [], length, map, get_or, take, subst, sym, ap, ◌∙◌, arith, append-nil, take_all, ℕ, Bor}
 use Rattle.std.specs.List.{flat_map}
 use Rattle.std.proofs.lemmas.List.{length-map, get_or-map}
 use Rattle.ats_lists.specs.Lists.{IsList}
@@ -7,6 +7,7 @@ use Rattle.ats_lists.specs.declared.format.Format.{Format}
 use Rattle.ats_lists.specs.declared.list_keeping.ListDigests.{ListDigests}
 use Rattle.ats_bound.specs.Schedule.{WholeLane, whole_lane, whole_lanes}
 use Rattle.ats_bound.specs.declared.lane.Lane.{Lane}
+use Rattle.ats_bound.proofs.Public.{count_at}
 use Rattle.ats_proof.specs.Parts.{counted}
 use Rattle.ats_proof.specs.Value.{Prefix, id_fields, prefix_fields}
 use Rattle.ats_honest.specs.Honest.{prefixes}
@@ -37,11 +38,7 @@ write_prefix-requires-clause-some g c =
     (c.requires.cut.each c.loop-i.i none (omega (arith, c.loop-i-test.true, length-map c.args.lanes.now whole_lane))).0
 
 pub write_prefix-requires-clause-within : goal.write_prefix-requires-clause-within
-write_prefix-requires-clause-within g c =
-    let i = c.loop-i.i in
-    let inside : i < length c.args.lanes.now = omega (arith, c.loop-i-test.true) in
-    let is = (c.requires.cut.each i none (omega (arith, inside, length-map c.args.lanes.now whole_lane))).1 in
-    subst (λ (l : WholeLane). get_or c.args.cut.now i 0 ≤ length l.entries) (get_or-map whole_lane c.args.lanes.now i _ none inside) is
+write_prefix-requires-clause-within g c = (count_at c.args.lanes.now c.args.cut.now c.loop-i.i _ c.requires.cut (omega (arith, c.loop-i-test.true))).1
 
 -- the digests that are lent for this list
 lent_here : (H : List ℕ → List ℕ) (format : Format) (lanes : List Lane) (kept : List (Bor ListDigests)) (i : ℕ) (d : Lane) (e lent : Bor ListDigests)
