@@ -174,148 +174,79 @@ pub data Command : Type 0 where
   Growth : GrowthWords → Command
   AuditGrowth : AuditGrowthWords → Command
 
--- the command from the words after its own word, if they have its shape
-abbrev pub as_rank : List (List ℕ) → Option Command
-as_rank (collection ∷ (r ∷ (query ∷ []))) =
-    option_map (λ n. Rank (record { collection = collection; r = n; query = query })) (number_of r)
-as_rank _ = None
+-- ---- the commands, by the number of their arguments
 
-abbrev pub as_build : List (List ℕ) → Option Command
-as_build (collection ∷ (index ∷ [])) = Some (Build (record { collection = collection; index = index }))
-as_build _ = None
-
-abbrev pub as_root : List (List ℕ) → Option Command
-as_root (index ∷ []) = Some (Root (record { index = index }))
-as_root _ = None
-
-abbrev pub as_prove : List (List ℕ) → Option Command
-as_prove (index ∷ (algorithm ∷ (r ∷ (query ∷ (proof ∷ []))))) =
-    option_and_then (λ a. option_map
-    (λ n. Prove (record { index = index; algorithm = a; r = n; query = query; proof = proof }))
-    (number_of r)) (algorithm_of algorithm)
-as_prove _ = None
-
-abbrev pub as_verify : List (List ℕ) → Option Command
-as_verify (root ∷ (r ∷ (query ∷ (proof ∷ [])))) =
-    option_and_then (λ digest. option_map (λ n. Verify (record { root = digest; r = n; query = query; proof = proof }))
-    (number_of r)) (root_word root)
-as_verify _ = None
-
-abbrev pub as_ask : List (List ℕ) → Option Command
-as_ask (root ∷ (algorithm ∷ (r ∷ (query ∷ (address ∷ []))))) =
-    option_and_then (λ digest. option_and_then (λ a. option_map
-    (λ n. Ask (record { root = digest; algorithm = a; r = n; query = query; address = address }))
-    (number_of r)) (algorithm_of algorithm)) (root_word root)
-as_ask _ = None
-
-abbrev pub as_serve : List (List ℕ) → Option Command
-as_serve (index ∷ (connections ∷ (address ∷ []))) =
-    option_map (λ n. Serve (record { index = index; connections = n; address = address })) (connections_of connections)
-as_serve _ = None
-
-abbrev pub as_audit : List (List ℕ) → Option Command
-as_audit (index ∷ (r ∷ (query ∷ (proof ∷ [])))) =
-    option_map (λ n. Audit (record { index = index; r = n; query = query; proof = proof })) (number_of r)
-as_audit _ = None
-
-abbrev pub as_sweep : List (List ℕ) → Option Command
-as_sweep (index ∷ (list ∷ [])) = Some (Sweep (record { index = index; list = list }))
-as_sweep _ = None
-
-abbrev pub as_trial : List (List ℕ) → Option Command
-as_trial (number ∷ []) = option_map (λ n. Trial (record { number = n })) (number_of number)
-as_trial _ = None
-
-abbrev pub as_migrate : List (List ℕ) → Option Command
-as_migrate (index ∷ (migrated ∷ [])) = Some (Migrate (record { index = index; migrated = migrated }))
-as_migrate _ = None
-
-abbrev pub as_give : List (List ℕ) → Option Command
-as_give (index ∷ (doc ∷ (file ∷ []))) =
-    option_map (λ n. Give (record { index = index; doc = n; file = file })) (number_of doc)
-as_give _ = None
-
-abbrev pub as_fetch : List (List ℕ) → Option Command
-as_fetch (root ∷ (doc ∷ (file ∷ []))) =
-    option_and_then (λ digest. option_map (λ n. Fetch (record { root = digest; doc = n; file = file }))
-    (number_of doc)) (root_word root)
-as_fetch _ = None
-
-abbrev pub as_audit_fetch : List (List ℕ) → Option Command
-as_audit_fetch (index ∷ (doc ∷ (file ∷ []))) =
-    option_map (λ n. AuditFetch (record { index = index; doc = n; file = file })) (number_of doc)
-as_audit_fetch _ = None
-
-abbrev pub as_prove_both : List (List ℕ) → Option Command
-as_prove_both (index ∷ (query ∷ (proof ∷ []))) =
-    Some (ProveBoth (record { index = index; query = query; proof = proof }))
-as_prove_both _ = None
-
-abbrev pub as_both : List (List ℕ) → Option Command
-as_both (root ∷ (query ∷ (proof ∷ []))) =
-    option_map (λ digest. Both (record { root = digest; query = query; proof = proof })) (root_word root)
-as_both _ = None
-
-abbrev pub as_audit_both : List (List ℕ) → Option Command
-as_audit_both (index ∷ (query ∷ (proof ∷ []))) =
-    Some (AuditBoth (record { index = index; query = query; proof = proof }))
-as_audit_both _ = None
-
-abbrev pub as_grow : List (List ℕ) → Option Command
-as_grow (old ∷ (new ∷ (file ∷ []))) = Some (Grow (record { old = old; new = new; file = file }))
-as_grow _ = None
-
-abbrev pub as_growth : List (List ℕ) → Option Command
-as_growth (old ∷ (new ∷ (file ∷ []))) =
-    option_and_then (λ before. option_map (λ now. Growth (record { old = before; new = now; file = file }))
-    (root_word new)) (root_word old)
-as_growth _ = None
-
-abbrev pub as_audit_growth : List (List ℕ) → Option Command
-as_audit_growth (old ∷ (new ∷ (file ∷ []))) = Some (AuditGrowth (record { old = old; new = new; file = file }))
-as_audit_growth _ = None
-
--- the command is one of a text, of all documents with every term, or of a growth
-abbrev pub is_file_word : List ℕ → Bool
-is_file_word word = bytes_eq word (codes "give") || (bytes_eq word (codes "fetch")
-    || (bytes_eq word (codes "audit-fetch") || (bytes_eq word (codes "prove-both") || (bytes_eq word (codes "both")
-    || (bytes_eq word (codes "audit-both") || (bytes_eq word (codes "grow") || (bytes_eq word (codes "growth")
-    || bytes_eq word (codes "audit-growth"))))))))
-
-abbrev pub command_of_file : (word : List ℕ) → (arguments : List (List ℕ)) → Option Command
-command_of_file word arguments =
-    if bytes_eq word (codes "give") then as_give arguments
-    else if bytes_eq word (codes "fetch") then as_fetch arguments
-    else if bytes_eq word (codes "audit-fetch") then as_audit_fetch arguments
-    else if bytes_eq word (codes "prove-both") then as_prove_both arguments
-    else if bytes_eq word (codes "both") then as_both arguments
-    else if bytes_eq word (codes "audit-both") then as_audit_both arguments
-    else if bytes_eq word (codes "grow") then as_grow arguments
-    else if bytes_eq word (codes "growth") then as_growth arguments
-    else if bytes_eq word (codes "audit-growth") then as_audit_growth arguments
+-- the command of this word and one argument, if there is one
+abbrev pub command_of_one : (word first : List ℕ) → Option Command
+command_of_one word first =
+    if bytes_eq word (codes "root") then Some (Root (record { index = first }))
+    else if bytes_eq word (codes "trial") then option_map (λ n. Trial (record { number = n })) (number_of first)
     else None
 
--- the command of a collection, an index or a proof
-abbrev pub command_of_archive : (word : List ℕ) → (arguments : List (List ℕ)) → Option Command
-command_of_archive word arguments =
-    if bytes_eq word (codes "rank") then as_rank arguments
-    else if bytes_eq word (codes "build") then as_build arguments
-    else if bytes_eq word (codes "root") then as_root arguments
-    else if bytes_eq word (codes "prove") then as_prove arguments
-    else if bytes_eq word (codes "verify") then as_verify arguments
-    else if bytes_eq word (codes "ask") then as_ask arguments
-    else if bytes_eq word (codes "serve") then as_serve arguments
-    else if bytes_eq word (codes "audit") then as_audit arguments
-    else if bytes_eq word (codes "sweep") then as_sweep arguments
-    else if bytes_eq word (codes "trial") then as_trial arguments
-    else if bytes_eq word (codes "migrate") then as_migrate arguments
+abbrev pub command_of_two : (word first second : List ℕ) → Option Command
+command_of_two word first second =
+    if bytes_eq word (codes "build") then Some (Build (record { collection = first; index = second }))
+    else if bytes_eq word (codes "sweep") then Some (Sweep (record { index = first; list = second }))
+    else if bytes_eq word (codes "migrate") then Some (Migrate (record { index = first; migrated = second }))
+    else None
+
+abbrev pub command_of_three : (word first second third : List ℕ) → Option Command
+command_of_three word first second third =
+    if bytes_eq word (codes "rank")
+    then option_map (λ n. Rank (record { collection = first; r = n; query = third })) (number_of second)
+    else if bytes_eq word (codes "serve")
+    then option_map (λ n. Serve (record { index = first; connections = n; address = third })) (connections_of second)
+    else if bytes_eq word (codes "give")
+    then option_map (λ n. Give (record { index = first; doc = n; file = third })) (number_of second)
+    else if bytes_eq word (codes "fetch")
+    then option_and_then (λ digest. option_map (λ n. Fetch (record { root = digest; doc = n; file = third }))
+    (number_of second)) (root_word first)
+    else if bytes_eq word (codes "audit-fetch")
+    then option_map (λ n. AuditFetch (record { index = first; doc = n; file = third })) (number_of second)
+    else if bytes_eq word (codes "prove-both")
+    then Some (ProveBoth (record { index = first; query = second; proof = third }))
+    else if bytes_eq word (codes "both")
+    then option_map (λ digest. Both (record { root = digest; query = second; proof = third })) (root_word first)
+    else if bytes_eq word (codes "audit-both")
+    then Some (AuditBoth (record { index = first; query = second; proof = third }))
+    else if bytes_eq word (codes "grow") then Some (Grow (record { old = first; new = second; file = third }))
+    else if bytes_eq word (codes "growth")
+    then option_and_then (λ before. option_map (λ now. Growth (record { old = before; new = now; file = third }))
+    (root_word second)) (root_word first)
+    else if bytes_eq word (codes "audit-growth")
+    then Some (AuditGrowth (record { old = first; new = second; file = third }))
+    else None
+
+abbrev pub command_of_four : (word first second third fourth : List ℕ) → Option Command
+command_of_four word first second third fourth =
+    if bytes_eq word (codes "verify")
+    then option_and_then (λ digest. option_map (λ n. Verify (record { root = digest; r = n; query = third; proof = fourth }))
+    (number_of second)) (root_word first)
+    else if bytes_eq word (codes "audit")
+    then option_map (λ n. Audit (record { index = first; r = n; query = third; proof = fourth })) (number_of second)
+    else None
+
+abbrev pub command_of_five : (word first second third fourth fifth : List ℕ) → Option Command
+command_of_five word first second third fourth fifth =
+    if bytes_eq word (codes "prove")
+    then option_and_then (λ a. option_map
+    (λ n. Prove (record { index = first; algorithm = a; r = n; query = fourth; proof = fifth }))
+    (number_of third)) (algorithm_of second)
+    else if bytes_eq word (codes "ask")
+    then option_and_then (λ digest. option_and_then (λ a. option_map
+    (λ n. Ask (record { root = digest; algorithm = a; r = n; query = fourth; address = fifth }))
+    (number_of third)) (algorithm_of second)) (root_word first)
     else None
 
 -- the command of these words, if they have the shape of one
 abbrev pub command_of : List (List ℕ) → Option Command
-command_of [] = None
-command_of (word ∷ arguments) =
-    if is_file_word word then command_of_file word arguments else command_of_archive word arguments
+command_of (word ∷ (first ∷ [])) = command_of_one word first
+command_of (word ∷ (first ∷ (second ∷ []))) = command_of_two word first second
+command_of (word ∷ (first ∷ (second ∷ (third ∷ [])))) = command_of_three word first second third
+command_of (word ∷ (first ∷ (second ∷ (third ∷ (fourth ∷ []))))) = command_of_four word first second third fourth
+command_of (word ∷ (first ∷ (second ∷ (third ∷ (fourth ∷ (fifth ∷ [])))))) =
+    command_of_five word first second third fourth fifth
+command_of _ = None
 
 -- the words of a proof's check
 abbrev pub verify_words : List ℕ → List ℕ → List ℕ → List ℕ → List (List ℕ)
@@ -332,10 +263,6 @@ prove_words index algorithm r query name = codes "prove" ∷ index ∷ algorithm
 -- the words of an index's migration
 abbrev pub migrate_words : List ℕ → List ℕ → List (List ℕ)
 migrate_words name migrated = codes "migrate" ∷ name ∷ migrated ∷ []
-
--- the words that store the text of a document
-abbrev pub give_words : List ℕ → List ℕ → List ℕ → List (List ℕ)
-give_words index doc file = codes "give" ∷ index ∷ doc ∷ file ∷ []
 
 -- the words that check the text of a document
 abbrev pub fetch_words : List ℕ → List ℕ → List ℕ → List (List ℕ)

@@ -3,7 +3,7 @@
 ghost use Rattle.std.specs.Prelude.{◌≡◌, map, string_bytes, option_map};
 ghost use Rattle.std.specs.List.{list_all, list_any};
 ghost use Rattle.std.specs.Char.{is_ascii_digit, is_ascii_uppercase};
-ghost use Rattle.ats_console.specs.Words.{is_number_word, number_of, connections_of, algorithm_of, root_word, as_rank, as_build, as_root, as_prove, as_verify, as_ask, as_serve, as_audit, as_sweep, as_trial, as_migrate, as_give, as_fetch, as_audit_fetch, as_prove_both, as_both, as_audit_both, as_grow, as_growth, as_audit_growth, is_file_word, command_of_file, command_of_archive, command_of};
+ghost use Rattle.ats_console.specs.Words.{is_number_word, number_of, connections_of, algorithm_of, root_word, command_of_one, command_of_two, command_of_three, command_of_four, command_of_five, command_of};
 ghost use Rattle.ats_console.specs.Inner.Meaning.{meaning};
 
 use ats_proof::Algorithm;
@@ -196,314 +196,162 @@ pub enum Command<'a> {
     },
 }
 
-fn rank<'a>(arguments: &'a [String]) -> Option<Command<'a>>
-    ensures { option_map meaning result ≡ as_rank (map string_bytes arguments.now) }
-{
-    let [collection, r, query] = arguments else {
-        return None;
-    };
-    Some(Command::Rank {
-        collection: collection.as_str(),
-        r: number(r.as_str())?,
-        query: query.as_str(),
-    })
-}
-
-fn build<'a>(arguments: &'a [String]) -> Option<Command<'a>>
-    ensures { option_map meaning result ≡ as_build (map string_bytes arguments.now) }
-{
-    let [collection, index] = arguments else {
-        return None;
-    };
-    Some(Command::Build {
-        collection: collection.as_str(),
-        index: index.as_str(),
-    })
-}
-
-fn root<'a>(arguments: &'a [String]) -> Option<Command<'a>>
-    ensures { option_map meaning result ≡ as_root (map string_bytes arguments.now) }
-{
-    let [index] = arguments else {
-        return None;
-    };
-    Some(Command::Root {
-        index: index.as_str(),
-    })
-}
-
-fn prove<'a>(arguments: &'a [String]) -> Option<Command<'a>>
-    ensures { option_map meaning result ≡ as_prove (map string_bytes arguments.now) }
-{
-    let [index, name, r, query, proof] = arguments else {
-        return None;
-    };
-    Some(Command::Prove {
-        index: index.as_str(),
-        algorithm: algorithm(name.as_str())?,
-        r: number(r.as_str())?,
-        query: query.as_str(),
-        proof: proof.as_str(),
-    })
-}
-
-fn verify<'a>(arguments: &'a [String]) -> Option<Command<'a>>
-    ensures { option_map meaning result ≡ as_verify (map string_bytes arguments.now) }
-{
-    let [root, r, query, proof] = arguments else {
-        return None;
-    };
-    Some(Command::Verify {
-        root: root_word(root.as_str())?,
-        r: number(r.as_str())?,
-        query: query.as_str(),
-        proof: proof.as_str(),
-    })
-}
-
-fn ask<'a>(arguments: &'a [String]) -> Option<Command<'a>>
-    ensures { option_map meaning result ≡ as_ask (map string_bytes arguments.now) }
-{
-    let [root, name, r, query, address] = arguments else {
-        return None;
-    };
-    Some(Command::Ask {
-        root: root_word(root.as_str())?,
-        algorithm: algorithm(name.as_str())?,
-        r: number(r.as_str())?,
-        query: query.as_str(),
-        address: address.as_str(),
-    })
-}
-
-fn serve<'a>(arguments: &'a [String]) -> Option<Command<'a>>
-    ensures { option_map meaning result ≡ as_serve (map string_bytes arguments.now) }
-{
-    let [index, count, address] = arguments else {
-        return None;
-    };
-    Some(Command::Serve {
-        index: index.as_str(),
-        connections: connections(count.as_str())?,
-        address: address.as_str(),
-    })
-}
-
-fn audit<'a>(arguments: &'a [String]) -> Option<Command<'a>>
-    ensures { option_map meaning result ≡ as_audit (map string_bytes arguments.now) }
-{
-    let [index, r, query, proof] = arguments else {
-        return None;
-    };
-    Some(Command::Audit {
-        index: index.as_str(),
-        r: number(r.as_str())?,
-        query: query.as_str(),
-        proof: proof.as_str(),
-    })
-}
-
-fn sweep<'a>(arguments: &'a [String]) -> Option<Command<'a>>
-    ensures { option_map meaning result ≡ as_sweep (map string_bytes arguments.now) }
-{
-    let [index, list] = arguments else {
-        return None;
-    };
-    Some(Command::Sweep {
-        index: index.as_str(),
-        list: list.as_str(),
-    })
-}
-
-fn trial<'a>(arguments: &'a [String]) -> Option<Command<'a>>
-    ensures { option_map meaning result ≡ as_trial (map string_bytes arguments.now) }
-{
-    let [word] = arguments else {
-        return None;
-    };
-    Some(Command::Trial {
-        number: number(word.as_str())?,
-    })
-}
-
-fn migrate<'a>(arguments: &'a [String]) -> Option<Command<'a>>
-    ensures { option_map meaning result ≡ as_migrate (map string_bytes arguments.now) }
-{
-    let [index, migrated] = arguments else {
-        return None;
-    };
-    Some(Command::Migrate {
-        index: index.as_str(),
-        migrated: migrated.as_str(),
-    })
-}
-
-fn give<'a>(arguments: &'a [String]) -> Option<Command<'a>>
-    ensures { option_map meaning result ≡ as_give (map string_bytes arguments.now) }
-{
-    let [index, doc, file] = arguments else {
-        return None;
-    };
-    Some(Command::Give {
-        index: index.as_str(),
-        doc: number(doc.as_str())?,
-        file: file.as_str(),
-    })
-}
-
-fn fetch<'a>(arguments: &'a [String]) -> Option<Command<'a>>
-    ensures { option_map meaning result ≡ as_fetch (map string_bytes arguments.now) }
-{
-    let [root, doc, file] = arguments else {
-        return None;
-    };
-    Some(Command::Fetch {
-        root: root_word(root.as_str())?,
-        doc: number(doc.as_str())?,
-        file: file.as_str(),
-    })
-}
-
-fn audit_fetch<'a>(arguments: &'a [String]) -> Option<Command<'a>>
-    ensures { option_map meaning result ≡ as_audit_fetch (map string_bytes arguments.now) }
-{
-    let [index, doc, file] = arguments else {
-        return None;
-    };
-    Some(Command::AuditFetch {
-        index: index.as_str(),
-        doc: number(doc.as_str())?,
-        file: file.as_str(),
-    })
-}
-
-fn prove_both<'a>(arguments: &'a [String]) -> Option<Command<'a>>
-    ensures { option_map meaning result ≡ as_prove_both (map string_bytes arguments.now) }
-{
-    let [index, query, proof] = arguments else {
-        return None;
-    };
-    Some(Command::ProveBoth {
-        index: index.as_str(),
-        query: query.as_str(),
-        proof: proof.as_str(),
-    })
-}
-
-fn both<'a>(arguments: &'a [String]) -> Option<Command<'a>>
-    ensures { option_map meaning result ≡ as_both (map string_bytes arguments.now) }
-{
-    let [root, query, proof] = arguments else {
-        return None;
-    };
-    Some(Command::Both {
-        root: root_word(root.as_str())?,
-        query: query.as_str(),
-        proof: proof.as_str(),
-    })
-}
-
-fn audit_both<'a>(arguments: &'a [String]) -> Option<Command<'a>>
-    ensures { option_map meaning result ≡ as_audit_both (map string_bytes arguments.now) }
-{
-    let [index, query, proof] = arguments else {
-        return None;
-    };
-    Some(Command::AuditBoth {
-        index: index.as_str(),
-        query: query.as_str(),
-        proof: proof.as_str(),
-    })
-}
-
-fn grow<'a>(arguments: &'a [String]) -> Option<Command<'a>>
-    ensures { option_map meaning result ≡ as_grow (map string_bytes arguments.now) }
-{
-    let [old, new, file] = arguments else {
-        return None;
-    };
-    Some(Command::Grow {
-        old: old.as_str(),
-        new: new.as_str(),
-        file: file.as_str(),
-    })
-}
-
-fn growth<'a>(arguments: &'a [String]) -> Option<Command<'a>>
-    ensures { option_map meaning result ≡ as_growth (map string_bytes arguments.now) }
-{
-    let [old, new, file] = arguments else {
-        return None;
-    };
-    Some(Command::Growth {
-        old: root_word(old.as_str())?,
-        new: root_word(new.as_str())?,
-        file: file.as_str(),
-    })
-}
-
-fn audit_growth<'a>(arguments: &'a [String]) -> Option<Command<'a>>
-    ensures { option_map meaning result ≡ as_audit_growth (map string_bytes arguments.now) }
-{
-    let [old, new, file] = arguments else {
-        return None;
-    };
-    Some(Command::AuditGrowth {
-        old: old.as_str(),
-        new: new.as_str(),
-        file: file.as_str(),
-    })
-}
-
-// Whether the command is one of a text, of all documents with every term, or of a growth.
-fn is_file_word(word: &str) -> bool
-    ensures { result ≡ is_file_word word.now }
-{
-    word == "give"
-        || word == "fetch"
-        || word == "audit-fetch"
-        || word == "prove-both"
-        || word == "both"
-        || word == "audit-both"
-        || word == "grow"
-        || word == "growth"
-        || word == "audit-growth"
-}
-
-// The command of a text, of all documents with every term, or of a growth.
-fn read_file_words<'a>(word: &str, arguments: &'a [String]) -> Option<Command<'a>>
-    ensures { option_map meaning result ≡ command_of_file word.now (map string_bytes arguments.now) }
+// The command of this word and one argument, if there is one.
+fn read_one<'a>(word: &str, first: &'a str) -> Option<Command<'a>>
+    ensures { option_map meaning result ≡ command_of_one word.now first.now }
 {
     match word {
-        "give" => give(arguments),
-        "fetch" => fetch(arguments),
-        "audit-fetch" => audit_fetch(arguments),
-        "prove-both" => prove_both(arguments),
-        "both" => both(arguments),
-        "audit-both" => audit_both(arguments),
-        "grow" => grow(arguments),
-        "growth" => growth(arguments),
-        "audit-growth" => audit_growth(arguments),
+        "root" => Some(Command::Root { index: first }),
+        "trial" => Some(Command::Trial {
+            number: number(first)?,
+        }),
         _ => None,
     }
 }
 
-// The command of a collection, an index or a proof.
-fn read_archive_words<'a>(word: &str, arguments: &'a [String]) -> Option<Command<'a>>
-    ensures { option_map meaning result ≡ command_of_archive word.now (map string_bytes arguments.now) }
+// The same with two arguments.
+fn read_two<'a>(word: &str, first: &'a str, second: &'a str) -> Option<Command<'a>>
+    ensures { option_map meaning result ≡ command_of_two word.now first.now second.now }
 {
     match word {
-        "rank" => rank(arguments),
-        "build" => build(arguments),
-        "root" => root(arguments),
-        "prove" => prove(arguments),
-        "verify" => verify(arguments),
-        "ask" => ask(arguments),
-        "serve" => serve(arguments),
-        "audit" => audit(arguments),
-        "sweep" => sweep(arguments),
-        "trial" => trial(arguments),
-        "migrate" => migrate(arguments),
+        "build" => Some(Command::Build {
+            collection: first,
+            index: second,
+        }),
+        "sweep" => Some(Command::Sweep {
+            index: first,
+            list: second,
+        }),
+        "migrate" => Some(Command::Migrate {
+            index: first,
+            migrated: second,
+        }),
+        _ => None,
+    }
+}
+
+// The same with three arguments.
+fn read_three<'a>(
+    word: &str,
+    first: &'a str,
+    second: &'a str,
+    third: &'a str,
+) -> Option<Command<'a>>
+    ensures { option_map meaning result ≡ command_of_three word.now first.now second.now third.now }
+{
+    match word {
+        "rank" => Some(Command::Rank {
+            collection: first,
+            r: number(second)?,
+            query: third,
+        }),
+        "serve" => Some(Command::Serve {
+            index: first,
+            connections: connections(second)?,
+            address: third,
+        }),
+        "give" => Some(Command::Give {
+            index: first,
+            doc: number(second)?,
+            file: third,
+        }),
+        "fetch" => Some(Command::Fetch {
+            root: root_word(first)?,
+            doc: number(second)?,
+            file: third,
+        }),
+        "audit-fetch" => Some(Command::AuditFetch {
+            index: first,
+            doc: number(second)?,
+            file: third,
+        }),
+        "prove-both" => Some(Command::ProveBoth {
+            index: first,
+            query: second,
+            proof: third,
+        }),
+        "both" => Some(Command::Both {
+            root: root_word(first)?,
+            query: second,
+            proof: third,
+        }),
+        "audit-both" => Some(Command::AuditBoth {
+            index: first,
+            query: second,
+            proof: third,
+        }),
+        "grow" => Some(Command::Grow {
+            old: first,
+            new: second,
+            file: third,
+        }),
+        "growth" => Some(Command::Growth {
+            old: root_word(first)?,
+            new: root_word(second)?,
+            file: third,
+        }),
+        "audit-growth" => Some(Command::AuditGrowth {
+            old: first,
+            new: second,
+            file: third,
+        }),
+        _ => None,
+    }
+}
+
+// The same with four arguments.
+fn read_four<'a>(
+    word: &str,
+    first: &'a str,
+    second: &'a str,
+    third: &'a str,
+    fourth: &'a str,
+) -> Option<Command<'a>>
+    ensures { option_map meaning result ≡ command_of_four word.now first.now second.now third.now fourth.now }
+{
+    match word {
+        "verify" => Some(Command::Verify {
+            root: root_word(first)?,
+            r: number(second)?,
+            query: third,
+            proof: fourth,
+        }),
+        "audit" => Some(Command::Audit {
+            index: first,
+            r: number(second)?,
+            query: third,
+            proof: fourth,
+        }),
+        _ => None,
+    }
+}
+
+// The same with five arguments.
+fn read_five<'a>(
+    word: &str,
+    first: &'a str,
+    second: &'a str,
+    third: &'a str,
+    fourth: &'a str,
+    fifth: &'a str,
+) -> Option<Command<'a>>
+    ensures { option_map meaning result ≡ command_of_five word.now first.now second.now third.now fourth.now fifth.now }
+{
+    match word {
+        "prove" => Some(Command::Prove {
+            index: first,
+            algorithm: algorithm(second)?,
+            r: number(third)?,
+            query: fourth,
+            proof: fifth,
+        }),
+        "ask" => Some(Command::Ask {
+            root: root_word(first)?,
+            algorithm: algorithm(second)?,
+            r: number(third)?,
+            query: fourth,
+            address: fifth,
+        }),
         _ => None,
     }
 }
@@ -512,12 +360,32 @@ fn read_archive_words<'a>(word: &str, arguments: &'a [String]) -> Option<Command
 pub fn read_words<'a>(words: &'a [String]) -> Option<Command<'a>>
     ensures { option_map meaning result ≡ command_of (map string_bytes words.now) }
 {
-    let [word, arguments @ ..] = words else {
-        return None;
-    };
-    if is_file_word(word.as_str()) {
-        read_file_words(word.as_str(), arguments)
-    } else {
-        read_archive_words(word.as_str(), arguments)
+    match words {
+        [word, first] => read_one(word.as_str(), first.as_str()),
+        [word, first, second] => read_two(word.as_str(), first.as_str(), second.as_str()),
+        [word, first, second, third] => {
+            read_three(
+                word.as_str(),
+                first.as_str(),
+                second.as_str(),
+                third.as_str(),
+            )
+        }
+        [word, first, second, third, fourth] => read_four(
+            word.as_str(),
+            first.as_str(),
+            second.as_str(),
+            third.as_str(),
+            fourth.as_str(),
+        ),
+        [word, first, second, third, fourth, fifth] => read_five(
+            word.as_str(),
+            first.as_str(),
+            second.as_str(),
+            third.as_str(),
+            fourth.as_str(),
+            fifth.as_str(),
+        ),
+        _ => None,
     }
 }
