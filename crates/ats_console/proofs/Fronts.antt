@@ -1,11 +1,12 @@
 -- The first steps of a command: how it stops at them, and that it goes on after them.
-use Rattle.std.proofs.Common.{◌≡◌, ◌⊎◌, ◌≢◌, ◌<◌, ◌≤◌, ◌∙◌, ℕ, List, [], Result, Ok, Err, IfErr, inl, inr, refl, sym, ap, subst, arith}
+use Rattle.std.proofs.Common.{◌≡◌, ◌⊎◌, ◌≢◌, ◌<◌, ◌≤◌, ◌∙◌, ℕ, List, [], Result, Ok, Err, IfErr, IsErrAnd, inl, inr, refl, sym, ap, subst, arith}
+use Rattle.std.proofs.lemmas.Result.{err_from_is_err_and}
 use Rattle.ats_base.specs.Outside.{ShelfTold}
 use Rattle.ats_terms.specs.Query.{IsQueryOf}
 use Rattle.ats_terms.specs.Faults.{IsFirstFault}
 use Rattle.ats_terms.specs.declared.query.QueryFault.{QueryFault}
 use Rattle.ats_commit.specs.Archive.{Archive}
-use Rattle.ats_plan.specs.Files.{IsFile}
+use Rattle.ats_plan.specs.Files.{Files, IsFile}
 use Rattle.ats_plan.specs.Plan.{Plan, Fails, Tries, Gets, Reads}
 use Rattle.ats_plan.specs.Runs.{Does, Stops, IsDone, IsStopped}
 use Rattle.ats_plan.proofs.Public.{Leads, leads_try, leads_get, leads_read, at_memory, at_get, at_try}
@@ -150,6 +151,19 @@ module _ {before now : ShelfTold} where
       → now.files ≡ before.files
   same_index {H} {name} {archive} done = (index_got before now H name archive done.so).1
 
+  -- what such a step found is still there if the files are the same
+  pub bytes_at : {files : Files} {name : List ℕ} {limit : ℕ} {fault : Stop} {bytes : List ℕ} → files ≡ before.files
+      → IsDone (Reads name limit (Fails fault) (comes_to bytes)) before now [] → IsFile files name limit bytes
+  bytes_at {name = name} {limit = limit} {bytes = bytes} same done = subst (λ (f : Files). IsFile f name limit bytes) (sym same) (has_bytes done)
+
+  pub collection_at : {files : Files} {name : List ℕ} {texts : List (List ℕ)} → files ≡ before.files
+      → IsDone (reads_collection name (comes_to texts)) before now [] → HasCollection files name texts
+  collection_at {name = name} {texts = texts} same done = subst (λ (f : Files). HasCollection f name texts) (sym same) (has_collection done)
+
+  pub index_at : {files : Files} {H : List ℕ → List ℕ} {name : List ℕ} {archive : Archive} → files ≡ before.files
+      → IsDone (reads_index H name (comes_to archive)) before now [] → HasIndex H files name archive
+  index_at {H = H} {name = name} {archive = archive} same done = subst (λ (f : Files). HasIndex H f name archive) (sym same) (has_index done)
+
 -- ---- such a step stopped
 
 -- memory ran out after some steps, and what came after them
@@ -207,6 +221,10 @@ module _ {before now : ShelfTold} {stop : Stop} where
 -- a stop that is passed on keeps its cause
 pub passed_on : {X : Type 0} (P : Stop → Type 0) (result : Result X Stop) (told stop : Stop) → result ≡ Err told → told ≡ stop → P stop → IfErr result P
 passed_on {X} P result told stop is same cause = subst (λ (r : Result X Stop). IfErr r P) (sym is) (subst P (sym same) cause)
+
+-- the exit of a `?` keeps its cause
+pub passed : {X : Type 0} (P : Stop → Type 0) (result : Result X Stop) (stop : Stop) → IsErrAnd result (λ told. told ≡ stop) → P stop → IfErr result P
+passed P result stop is cause = let told = err_from_is_err_and result is in passed_on P result told.0 stop told.1 told.2 cause
 
 module _ {plan : Plan Stop} {before mid : ShelfTold} {stop : Stop} where
   -- memory ran out, whatever comes next

@@ -12,14 +12,16 @@ pub use Rattle.ats_console.proofs.Fronts.{leads_ranking}
 pub use Rattle.ats_console.proofs.Fronts.{leads_bytes, leads_collection, leads_index}
 -- what such a step found
 pub use Rattle.ats_console.proofs.Fronts.{has_bytes, has_collection, has_index}
+-- it is still there if the files are the same
+pub use Rattle.ats_console.proofs.Fronts.{bytes_at, collection_at, index_at}
 -- such a step left the files
 pub use Rattle.ats_console.proofs.Fronts.{same_bytes, same_collection, same_index}
 -- memory may run out after some steps, whatever comes after them
 pub use Rattle.ats_console.proofs.Fronts.{ran_out, memory_stops}
 -- if such a step stopped, what it is the first step of stopped there
 pub use Rattle.ats_console.proofs.Fronts.{at_bytes, at_collection, at_index}
--- a stop that is passed on keeps its cause
-pub use Rattle.ats_console.proofs.Fronts.{passed_on}
+-- a stop that is passed on keeps its cause, also at the exit of a `?`
+pub use Rattle.ats_console.proofs.Fronts.{passed_on, passed}
 -- a step that finds no value, or does not hold, stops what comes to it
 pub use Rattle.ats_console.proofs.Fronts.{get_stops, try_stops}
 -- so does a text that is no query

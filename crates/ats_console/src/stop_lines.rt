@@ -13,7 +13,8 @@ enum Text {
     Made(Vec<u8>),
 }
 
-/// One line or more, as bytes.
+/// One line or more, as bytes. Words and numbers take no memory, and are formatted when they are printed; lines of a
+/// collision or a sweep are made before.
 #[derive(Drop)]
 pub struct Line {
     text: Text,
