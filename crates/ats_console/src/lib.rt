@@ -28,7 +28,7 @@ mod words;
 
 pub use collision::{collision_lines, pair_lines, strings_lines};
 pub use input::{JsonFault, read_collection};
-pub use print::{document_lines, lines, proof_line, root_line};
+pub use print::{document_lines, lines, root_line};
 pub use rejection::{refused_line, rejection_line};
 pub use said::Said;
 pub use stop_lines::Line;

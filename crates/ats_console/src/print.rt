@@ -1,9 +1,9 @@
-//! The lines of rows, of documents, of a root and of a size.
+//! The lines of rows, of documents and of a root.
 
 ghost use Rattle.std.specs.Prelude.{◌≡◌, string_bytes, IfOk, Some};
 ghost use Rattle.hex.specs.Hex.{encode_lower};
 ghost use Rattle.ats_console.specs.Words.{root_word};
-ghost use Rattle.ats_console.specs.Print.{line_of, lines, line_of_document, lines_of_documents, line_of_root, line_of_proof};
+ghost use Rattle.ats_console.specs.Print.{line_of, lines, line_of_document, lines_of_documents, line_of_root};
 
 use ats_bound::Picks;
 use ats_impact::{Row, Rows};
@@ -56,11 +56,4 @@ pub fn root_line(alloc: Global, root: &[u8; 32]) -> Result<String, AllocError>
 {
     let digits = hex::encode(alloc, root)?;
     format!(in alloc; "{digits}\n")
-}
-
-/// The number of a proof's bytes, in a line.
-pub fn proof_line(alloc: Global, bytes: usize) -> Result<String, AllocError>
-    ensures { IfOk result (λ text. string_bytes text ≡ line_of_proof bytes) }
-{
-    format!(in alloc; "proof {bytes}\n")
 }

@@ -2,9 +2,13 @@
 use Rattle.std.specs.Prelude.{◌++◌, ℕ, List, codes, decimal}
 use Rattle.ats_console.specs.Stops.{input_line}
 
+-- KIND LENGTH
+abbrev pub line_of_size : (kind : List ℕ) → ℕ → List ℕ
+line_of_size kind bytes = kind ++ (codes " " ++ (decimal bytes ++ codes "\n"))
+
 -- text LENGTH
 abbrev pub line_of_text_size : ℕ → List ℕ
-line_of_text_size bytes = codes "text " ++ (decimal bytes ++ codes "\n")
+line_of_text_size = line_of_size (codes "text")
 
 -- a document that the archive does not have
 abbrev pub line_of_document : ℕ → List ℕ
@@ -12,11 +16,11 @@ line_of_document doc = input_line (codes "document " ++ decimal doc)
 
 -- both LENGTH
 abbrev pub line_of_both : ℕ → List ℕ
-line_of_both bytes = codes "both " ++ (decimal bytes ++ codes "\n")
+line_of_both = line_of_size (codes "both")
 
 -- growth LENGTH
 abbrev pub line_of_growth_size : ℕ → List ℕ
-line_of_growth_size bytes = codes "growth " ++ (decimal bytes ++ codes "\n")
+line_of_growth_size = line_of_size (codes "growth")
 
 -- the first old document that the new archive does not have with the same text
 abbrev pub line_of_differing : ℕ → List ℕ

@@ -1,46 +1,31 @@
 //! `prove-both`: the proof of all documents that have every term of a query.
 
-ghost use Rattle.std.specs.Prelude.{◌≡◌, length, string_bytes, IfOk, IfErr};
+ghost use Rattle.std.specs.Prelude.{◌≡◌, IfOk, IfErr};
 ghost use Rattle.ats_plan.specs.Plan.{ComesToShelf};
 ghost use Rattle.ats_plan.specs.Runs.{IsDone, IsStopped};
 ghost use Rattle.ats_console.specs.declared.stops.Stop.TheVariants.{Shelf as AtShelf, Memory};
-ghost use Rattle.ats_makers.specs.Lines.{line_of_both};
-ghost use Rattle.ats_makers.specs.Commands.ProveBoth.{AreBothBytes, prove_both_plan};
-ghost use Rattle.ats_makers.specs.Inner.Stops.{BothMakingStop};
+ghost use Rattle.ats_makers.specs.Commands.ProveBoth.{AreBothBytes, IsBothUnmade, prove_both_plan};
+ghost use Rattle.ats_makers.specs.Inner.Stops.{OrMemory};
 
-use ats_base::{Bytes, Shelf, store};
+use crate::storing::store_sized;
+use ats_base::{Bytes, Shelf};
 use ats_both::BothFault;
 use ats_console::{Stop, proof_too_long, read};
 use ats_hash::Hash32;
 use ats_index::Index;
 use ats_terms::Query;
-use std::alloc::{AllocError, Global};
+use std::alloc::Global;
 use std::thread::Threads;
 
-// The number of a proof's bytes, in a line.
-fn size_line(alloc: Global, bytes: usize) -> Result<String, AllocError>
-    ensures { IfOk result (λ text. string_bytes text ≡ line_of_both bytes) }
-{
-    format!(in alloc; "both {bytes}\n")
-}
-
-// The proof over an index, which is dropped, and the line of its length.
-fn both_to_bytes<H: Hash32>(
-    alloc: Global,
-    index: Index<H>,
-    query: &Query,
-) -> Result<(Bytes, Vec<u8>), Stop>
-    ensures proof { IfOk result (λ made. AreBothBytes H.hash index query.now made.0) }
-    ensures line { IfOk result (λ made. made.1.items ≡ line_of_both (length made.0)) }
-    ensures stop { IfErr result (BothMakingStop H.hash index query.now) }
+// The proof over an index, which is dropped.
+fn both_to_bytes<H: Hash32>(alloc: Global, index: Index<H>, query: &Query) -> Result<Bytes, Stop>
+    ensures proof { IfOk result (AreBothBytes H.hash index query.now) }
+    ensures stop { IfErr result (OrMemory (IsBothUnmade H.hash index query.now)) }
 {
     let made = ats_both::prove_both::<H>(alloc, &index, query);
     drop(index);
     match made {
-        Ok(bytes) => {
-            let line = size_line(alloc, bytes.len())?;
-            Ok((bytes, line.into_bytes()))
-        }
+        Ok(bytes) => Ok(bytes),
         Err(BothFault::TooLong { length }) => Err(proof_too_long(length)),
         Err(BothFault::OutOfMemory) => Err(Stop::Memory),
     }
@@ -68,9 +53,6 @@ pub fn prove_both<H: Hash32 + Sync, R: Threads + Sync, S: Shelf>(
 {
     let asked = Query::read(alloc, query)?;
     let loaded = read::index::<H, R, S>(rt, alloc, index, shelf)?;
-    let (bytes, line) = both_to_bytes::<H>(alloc, loaded, &asked)?;
-    match store(shelf, proof, bytes.as_slice()) {
-        Ok(()) => Ok(line),
-        Err(_) => Err(Stop::Shelf),
-    }
+    let bytes = both_to_bytes::<H>(alloc, loaded, &asked)?;
+    store_sized(alloc, "both", proof, bytes, shelf)
 }

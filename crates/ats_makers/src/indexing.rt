@@ -10,7 +10,8 @@ ghost use Rattle.ats_makers.specs.Commands.Migrate.{migrate_plan, in_blocks};
 ghost use Rattle.ats_makers.specs.Commands.Root.{root_plan};
 ghost use Rattle.ats_console.specs.declared.stops.Stop.TheVariants.{Shelf as AtShelf, Memory};
 
-use ats_base::{Bytes, Shelf, store};
+use crate::storing::store_made;
+use ats_base::{Bytes, Shelf};
 use ats_console::{Stop, read, root_line};
 use ats_hash::Hash32;
 use ats_index::Index;
@@ -64,13 +65,11 @@ pub fn build<H: Hash32 + Sync, R: Threads + Sync, S: Shelf>(
     let texts = read::collection(alloc, collection, shelf)?;
     let built = Index::<H>::build(rt, alloc, texts)?;
     let (bytes, line) = index_to_bytes::<H>(alloc, built)?;
-    match store(shelf, index, bytes.as_slice()) {
-        Ok(()) => Ok(line),
-        Err(_) => Err(Stop::Shelf),
-    }
+    store_made(index, bytes, line, shelf)
 }
 
 /// Stores the index of the same texts in which lists stand in blocks, and returns the line of its root, which is made first.
+/// Only the texts of the index are kept: lists and trees of both would need twice the memory.
 pub fn migrate<H: Hash32 + Sync, R: Threads + Sync, S: Shelf>(
     rt: &R,
     alloc: Global,
@@ -88,10 +87,7 @@ pub fn migrate<H: Hash32 + Sync, R: Threads + Sync, S: Shelf>(
     let loaded = read::index::<H, R, S>(rt, alloc, index, shelf)?;
     let made = index_in_blocks::<H, R>(rt, alloc, loaded)?;
     let (bytes, line) = index_to_bytes::<H>(alloc, made)?;
-    match store(shelf, migrated, bytes.as_slice()) {
-        Ok(()) => Ok(line),
-        Err(_) => Err(Stop::Shelf),
-    }
+    store_made(migrated, bytes, line, shelf)
 }
 
 /// The line of the root of an index.

@@ -20,6 +20,7 @@ mod growths;
 mod indexing;
 mod proving;
 mod ranking;
+mod storing;
 mod texts;
 
 pub use documents::prove_both;

@@ -1,15 +1,15 @@
 //! `prove`: the honest proof of a query's best documents.
 
-ghost use Rattle.std.specs.Prelude.{◌≡◌, length, IfOk, IfErr};
+ghost use Rattle.std.specs.Prelude.{◌≡◌, IfOk, IfErr};
 ghost use Rattle.ats_plan.specs.Plan.{ComesToShelf};
 ghost use Rattle.ats_plan.specs.Runs.{IsDone, IsStopped};
 ghost use Rattle.ats_console.specs.Making.{IsMade, MakingStop};
-ghost use Rattle.ats_console.specs.Print.{line_of_proof};
 ghost use Rattle.ats_makers.specs.Commands.Prove.{prove_plan};
 ghost use Rattle.ats_console.specs.declared.stops.Stop.TheVariants.{Shelf as AtShelf, Memory};
 
-use ats_base::{Bytes, Shelf, store};
-use ats_console::{Stop, proof_line, proof_too_long, read};
+use crate::storing::store_sized;
+use ats_base::{Bytes, Shelf};
+use ats_console::{Stop, proof_too_long, read};
 use ats_grammar::MAX_PROOF;
 use ats_hash::Hash32;
 use ats_impact::Top;
@@ -19,25 +19,21 @@ use ats_terms::Query;
 use std::alloc::Global;
 use std::thread::Threads;
 
-// The honest proof of a query over an index, which is dropped, and the line of its length.
+// The honest proof of a query over an index, which is dropped.
 fn prove_to_bytes<H: Hash32>(
     alloc: Global,
     index: Index<H>,
     query: &Query,
     top: Top,
     algorithm: Algorithm,
-) -> Result<(Bytes, Vec<u8>), Stop>
-    ensures proof { IfOk result (λ made. IsMade H.hash index query.now top algorithm made.0) }
-    ensures line { IfOk result (λ made. made.1.items ≡ line_of_proof (length made.0)) }
+) -> Result<Bytes, Stop>
+    ensures proof { IfOk result (IsMade H.hash index query.now top algorithm) }
     ensures stop { IfErr result (MakingStop H.hash index query.now top algorithm) }
 {
     let made = prove_within(alloc, &index, query, top, algorithm, MAX_PROOF);
     drop(index);
     match made {
-        Ok(bytes) => {
-            let line = proof_line(alloc, bytes.len())?;
-            Ok((bytes, line.into_bytes()))
-        }
+        Ok(bytes) => Ok(bytes),
         Err(ProveFault::ProofTooLong { length }) => Err(proof_too_long(length)),
         Err(ProveFault::OutOfMemory) => Err(Stop::Memory),
     }
@@ -68,9 +64,6 @@ pub fn prove<H: Hash32 + Sync, R: Threads + Sync, S: Shelf>(
     let rows = Top::new(r)?;
     let asked = Query::read(alloc, query)?;
     let loaded = read::index::<H, R, S>(rt, alloc, index, shelf)?;
-    let (bytes, line) = prove_to_bytes::<H>(alloc, loaded, &asked, rows, algorithm)?;
-    match store(shelf, proof, bytes.as_slice()) {
-        Ok(()) => Ok(line),
-        Err(_) => Err(Stop::Shelf),
-    }
+    let bytes = prove_to_bytes::<H>(alloc, loaded, &asked, rows, algorithm)?;
+    store_sized(alloc, "proof", proof, bytes, shelf)
 }

@@ -1,34 +1,27 @@
-use Rattle.std.proofs.Common.{sym, subst}
-use Rattle.std.proofs.lemmas.Result.{err_from_is_err_and}
-use Rattle.ats_plan.specs.Files.{Files}
+use Rattle.std.proofs.lemmas.Result.{IfOk-weaker, IfErr-weaker}
 use Rattle.ats_plan.proofs.Public.{leads_none, leads_make}
-use Rattle.ats_console.specs.Read.{HasCollection}
-use Rattle.ats_console.proofs.Public.{passed_on, at_collection, leads_collection, has_collection, same_collection}
-use Rattle.ats_makers.proofs.Stored.{stored, not_stored}
+use Rattle.ats_console.proofs.Public.{passed, at_collection, leads_collection, collection_at, same_collection}
+use Rattle.ats_makers.proofs.Stored.{stored, not_stored, published_as}
 use Rattle.ats_makers.proofs.indexing.build.Goals as goal
 
 pub returns-in_err-texts-clause-stop : goal.returns-in_err-texts-clause-stop
-returns-in_err-texts-clause-stop g c =
-    let told = err_from_is_err_and c.from_residual.result c.from_residual.ensures.1 in
-    passed_on _ _ told.0 _ told.1 told.2
-    (at_collection c.in_err-texts.ensures.stop)
+returns-in_err-texts-clause-stop g c = passed _ _ _ c.from_residual.ensures.1 (at_collection c.in_err-texts.ensures.stop)
 
-pub returns-in-Ok-clause-ok : goal.returns-in-Ok-clause-ok
-returns-in-Ok-clause-ok g c =
+pub returns-clause-ok : goal.returns-clause-ok
+returns-clause-ok g c =
     let spelling = rw c.in_ok-built.ensures at c.in_ok-bytes.ensures.bytes in
     let leads = leads_make c.in_ok-bytes.bytes (leads_collection leads_none c.in_ok-texts.ensures.ok) spelling in
-    let collection = subst (λ (files : Files). HasCollection files c.args.collection.now c.in_ok-texts.texts) (sym (same_collection c.in_ok-texts.ensures.ok)) (has_collection c.in_ok-texts.ensures.ok) in
-    let puts = rw c.as_slice.ensures at c.in-Ok.ensures.ok in
-    stored leads c.in-Ok.ensures.asked c.in-Ok.ensures.cause.kept puts (record {
+    let line = rw c.in_ok-built.ensures at c.in_ok-bytes.ensures.line in
+    IfOk-weaker c.store_made.result _ _ (λ text done. stored leads done (λ puts printed. record {
       texts = c.in_ok-texts.texts;
       bytes = c.in_ok-bytes.bytes;
-      collection = collection;
+      collection = collection_at (same_collection c.in_ok-texts.ensures.ok) c.in_ok-texts.ensures.ok;
       spelling = spelling;
       stored = puts;
-      published = rw c.in_ok-built.ensures at c.in_ok-bytes.ensures.line;
-    })
+      published = published_as line printed;
+    })) c.store_made.ensures.ok
 
 pub returns-clause-stop : goal.returns-clause-stop
 returns-clause-stop g c =
     let leads = leads_make c.in_ok-bytes.bytes (leads_collection leads_none c.in_ok-texts.ensures.ok) (rw c.in_ok-built.ensures at c.in_ok-bytes.ensures.bytes) in
-    not_stored leads c.in-Err.ensures.asked c.in-Err.ensures.cause.later c.in-Err.ensures.cause.failed (rw c.as_slice.ensures at c.in-Err.ensures.err)
+    IfErr-weaker c.store_made.result _ _ (λ stop. not_stored leads) c.store_made.ensures.stop
