@@ -172,49 +172,46 @@ ran_out {before = before} {now = now} plan {stop = stop} same is =
     subst (λ (told : ShelfTold). Stops Shelf Memory plan before told stop) (sym same)
     (subst (λ (s : Stop). Stops Shelf Memory plan before before s) (sym is) ((at_memory {shelf = Shelf} {memory = Memory} {plan = plan}).so))
 
-module _ (before now : ShelfTold) (stop : Stop) where
-  bytes_stop : (name : List ℕ) (limit : ℕ) (fault : Stop) (rest : List ℕ → Plan Stop)
-      → Stops Shelf Memory (Reads name limit (Fails fault) (λ bytes. no_more)) before now stop
-      → Stops Shelf Memory (Reads name limit (Fails fault) rest) before now stop
-  bytes_stop name limit fault rest (inl here) = inl here
-  bytes_stop name limit fault rest (inr (inl unread)) = inr (inl unread)
-  bytes_stop name limit fault rest (inr (inr (told, read, calm, inl long))) = inr (inr (told, read, calm, inl long))
-  bytes_stop name limit fault rest (inr (inr (told, read, calm, inr (bytes, file, (same, is))))) =
-      inr (inr (told, read, calm, inr (bytes, file, ran_out (rest bytes) same is)))
-
-  collection_stop : (name : List ℕ) (rest : List (List ℕ) → Plan Stop) → Stops Shelf Memory (reads_collection name (λ texts. no_more)) before now stop
-      → Stops Shelf Memory (reads_collection name rest) before now stop
-  collection_stop name rest (inl here) = inl here
-  collection_stop name rest (inr (inl unread)) = inr (inl unread)
-  collection_stop name rest (inr (inr (told, read, calm, inl long))) = inr (inr (told, read, calm, inl long))
-  collection_stop name rest (inr (inr (told, read, calm, inr (bytes, file, inl json)))) = inr (inr (told, read, calm, inr (bytes, file, inl json)))
-  collection_stop name rest (inr (inr (told, read, calm, inr (bytes, file, inr (texts, json, inl limits))))) =
-      inr (inr (told, read, calm, inr (bytes, file, inr (texts, json, inl limits))))
-  collection_stop name rest (inr (inr (told, read, calm, inr (bytes, file, inr (texts, json, inr (within, (same, is))))))) =
-      inr (inr (told, read, calm, inr (bytes, file, inr (texts, json, inr (within, ran_out (rest texts) same is)))))
-
-  index_stop : (H : List ℕ → List ℕ) (name : List ℕ) (rest : Archive → Plan Stop) → Stops Shelf Memory (reads_index H name (λ archive. no_more)) before now stop
-      → Stops Shelf Memory (reads_index H name rest) before now stop
-  index_stop H name rest (inl here) = inl here
-  index_stop H name rest (inr (inl unread)) = inr (inl unread)
-  index_stop H name rest (inr (inr (told, read, calm, inl long))) = inr (inr (told, read, calm, inl long))
-  index_stop H name rest (inr (inr (told, read, calm, inr (bytes, file, inl bad)))) = inr (inr (told, read, calm, inr (bytes, file, inl bad)))
-  index_stop H name rest (inr (inr (told, read, calm, inr (bytes, file, inr (archive, spelling, (same, is)))))) =
-      inr (inr (told, read, calm, inr (bytes, file, inr (archive, spelling, ran_out (rest archive) same is))))
-
 module _ {before now : ShelfTold} {stop : Stop} where
   pub at_bytes : {name : List ℕ} {limit : ℕ} {fault : Stop} {rest : List ℕ → Plan Stop}
       → IsStopped Shelf Memory (Reads name limit (Fails fault) (λ bytes. no_more)) before now stop
       → IsStopped Shelf Memory (Reads name limit (Fails fault) rest) before now stop
-  at_bytes {name} {limit} {fault} {rest} is = record { so = bytes_stop before now stop name limit fault rest is.so }
+  at_bytes {rest = rest} is = record {
+    so = elim is.so [
+      | inl here ↦ inl here
+      | inr (inl unread) ↦ inr (inl unread)
+      | inr (inr (told, read, calm, inl long)) ↦ inr (inr (told, read, calm, inl long))
+      | inr (inr (told, read, calm, inr (bytes, file, (same, is)))) ↦ inr (inr (told, read, calm, inr (bytes, file, ran_out (rest bytes) same is)))
+    ];
+  }
 
   pub at_collection : {name : List ℕ} {rest : List (List ℕ) → Plan Stop} → IsStopped Shelf Memory (reads_collection name (λ texts. no_more)) before now stop
       → IsStopped Shelf Memory (reads_collection name rest) before now stop
-  at_collection {name} {rest} is = record { so = collection_stop before now stop name rest is.so }
+  at_collection {rest = rest} is = record {
+    so = elim is.so [
+      | inl here ↦ inl here
+      | inr (inl unread) ↦ inr (inl unread)
+      | inr (inr (told, read, calm, inl long)) ↦ inr (inr (told, read, calm, inl long))
+      | inr (inr (told, read, calm, inr (bytes, file, inl json))) ↦ inr (inr (told, read, calm, inr (bytes, file, inl json)))
+      | inr (inr (told, read, calm, inr (bytes, file, inr (texts, json, inl limits)))) ↦
+          inr (inr (told, read, calm, inr (bytes, file, inr (texts, json, inl limits))))
+      | inr (inr (told, read, calm, inr (bytes, file, inr (texts, json, inr (within, (same, is)))))) ↦
+          inr (inr (told, read, calm, inr (bytes, file, inr (texts, json, inr (within, ran_out (rest texts) same is)))))
+    ];
+  }
 
   pub at_index : {H : List ℕ → List ℕ} {name : List ℕ} {rest : Archive → Plan Stop} → IsStopped Shelf Memory (reads_index H name (λ archive. no_more)) before now stop
       → IsStopped Shelf Memory (reads_index H name rest) before now stop
-  at_index {H} {name} {rest} is = record { so = index_stop before now stop H name rest is.so }
+  at_index {rest = rest} is = record {
+    so = elim is.so [
+      | inl here ↦ inl here
+      | inr (inl unread) ↦ inr (inl unread)
+      | inr (inr (told, read, calm, inl long)) ↦ inr (inr (told, read, calm, inl long))
+      | inr (inr (told, read, calm, inr (bytes, file, inl bad))) ↦ inr (inr (told, read, calm, inr (bytes, file, inl bad)))
+      | inr (inr (told, read, calm, inr (bytes, file, inr (archive, spelling, (same, is))))) ↦
+          inr (inr (told, read, calm, inr (bytes, file, inr (archive, spelling, ran_out (rest archive) same is))))
+    ];
+  }
 
 -- ---- a step after some others stopped
 

@@ -361,31 +361,13 @@ pub fn read_words<'a>(words: &'a [String]) -> Option<Command<'a>>
     ensures { option_map meaning result ≡ command_of (map string_bytes words.now) }
 {
     match words {
-        [word, first] => read_one(word.as_str(), first.as_str()),
-        [word, first, second] => read_two(word.as_str(), first.as_str(), second.as_str()),
-        [word, first, second, third] => {
-            read_three(
-                word.as_str(),
-                first.as_str(),
-                second.as_str(),
-                third.as_str(),
-            )
+        [word, first] => read_one(word, first),
+        [word, first, second] => read_two(word, first, second),
+        [word, first, second, third] => read_three(word, first, second, third),
+        [word, first, second, third, fourth] => read_four(word, first, second, third, fourth),
+        [word, first, second, third, fourth, fifth] => {
+            read_five(word, first, second, third, fourth, fifth)
         }
-        [word, first, second, third, fourth] => read_four(
-            word.as_str(),
-            first.as_str(),
-            second.as_str(),
-            third.as_str(),
-            fourth.as_str(),
-        ),
-        [word, first, second, third, fourth, fifth] => read_five(
-            word.as_str(),
-            first.as_str(),
-            second.as_str(),
-            third.as_str(),
-            fourth.as_str(),
-            fifth.as_str(),
-        ),
         _ => None,
     }
 }
