@@ -6,9 +6,15 @@ use Rattle.ats_lists.specs.declared.entry.Entry.{Entry}
 use Rattle.ats_doctree.specs.declared.doc_leaf.DocLeaf.{DocLeaf}
 use Rattle.ats_tree.specs.Shown.{Shown, positions_of}
 use Rattle.ats_proof.specs.Runs.{shown_docs, shown_list}
-use Rattle.ats_proof.specs.Value.{Documents, Proof, items_of_section, items_of_documents}
+use Rattle.ats_proof.specs.Value.{Documents, Proof, items_of, items_of_prefix, items_of_section, items_of_documents}
 use Rattle.ats_proof.proofs.Public.{length-shown_list}
 use Rattle.ats_client.proofs.Presents.{at_front}
+
+-- how many items a proof has
+pub items_are : (proof : Proof) → items_of proof
+    ≡ length proof.dict + length proof.dict_digests + length proof.slots + length proof.met + sum_by items_of_prefix proof.lists
+    + items_of_documents proof.docs + length proof.answer
+items_are proof = refl
 
 -- the items without the first
 pub taken : {X : Type 0} (before after : List X) (x : X) → Some x ≡ slice_get before 0 → after ≡ drop 1 before → before ≡ x ∷ after

@@ -96,15 +96,15 @@ module _ (H : List ℕ → List ℕ) (archive : Archive) (are : AreTexts archive
       in All-cons (λ (one : MetDocument). IsDocumentOf H archive.texts one.doc one.leaf) (record { doc = id; leaf = leaf; section = section }) (documents_from met leaves sections) here
       (each-known met leaves sections (All-tail IsDocLeafInRange leaf leaves ranges) (All-tail Own first (shown_docs met leaves) own))
 
--- the sections of met documents are in range
-pub each-ranged : (met : List ℕ) (leaves : List DocLeaf) (sections : List TermsSection) → All IsSectionInRange sections
-    → All (λ (one : MetDocument). IsSectionInRange one.section) (documents_from met leaves sections)
-each-ranged [] leaves sections ranges = All-nil _
-each-ranged (id ∷ met) [] sections ranges = All-nil _
-each-ranged (id ∷ met) (leaf ∷ leaves) [] ranges = All-nil _
-each-ranged (id ∷ met) (leaf ∷ leaves) (section ∷ sections) ranges =
-    All-cons (λ (one : MetDocument). IsSectionInRange one.section) (record { doc = id; leaf = leaf; section = section }) (documents_from met leaves sections)
-    (All-head IsSectionInRange section sections ranges) (each-ranged met leaves sections (All-tail IsSectionInRange section sections ranges))
+-- what holds of all sections holds of those of the met documents
+pub sections-hold : (P : TermsSection → Type 0) (met : List ℕ) (leaves : List DocLeaf) (sections : List TermsSection) → All P sections
+    → All (λ (one : MetDocument). P one.section) (documents_from met leaves sections)
+sections-hold P [] leaves sections each = All-nil _
+sections-hold P (id ∷ met) [] sections each = All-nil _
+sections-hold P (id ∷ met) (leaf ∷ leaves) [] each = All-nil _
+sections-hold P (id ∷ met) (leaf ∷ leaves) (section ∷ sections) each =
+    All-cons (λ (one : MetDocument). P one.section) (record { doc = id; leaf = leaf; section = section }) (documents_from met leaves sections)
+    (All-head P section sections each) (sections-hold P met leaves sections (All-tail P section sections each))
 
 -- what is shown of the met documents, if the documents tree and each document's terms rebuild to the roots that the
 -- proof has
@@ -128,4 +128,4 @@ all-documents-bind H sized archive query header met (Some docs) are rises range 
     (documents-bind H sized archive query header met docs rises ranges.sized rooted is)
     (λ leaves. binds-all H own (terms_strings H) (IsOwnDocument archive.texts) ones
     (λ k d low. terms-bind H sized archive query _ (each-known H archive are met docs.leaves docs.sections ranges.each leaves k d low)
-    (each-ranged met docs.leaves docs.sections ranges.sections k d low) (trees k d low))))
+    (sections-hold IsSectionInRange met docs.leaves docs.sections ranges.sections k d low) (trees k d low))))

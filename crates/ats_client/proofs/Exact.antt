@@ -1,6 +1,5 @@
 -- A group of rules that fails does not hold.
-use Rattle.std.proofs.Common.{◌≡◌, ◌<◌, ◌+◌, ◌∙◌, ℕ, List, ◌∷◌, length, true, nat_eq, cond, Option, Some, ap, subst, arith}
-use Rattle.std.specs.List.{All}
+use Rattle.std.proofs.Common.{◌≡◌, ◌⊎◌, ◌<◌, ◌≤◌, ◌∙◌, ℕ, List, ◌∷◌, ◌++◌, length, true, nat_eq, cond, Option, Some, None, inl, inr, sym, ap, subst, arith}
 use Rattle.std.proofs.lemmas.Bool.Decides.{nat_tests}
 use Rattle.std.proofs.lemmas.List.Sums.{sum_by-append}
 use Rattle.ats_impact.specs.Rank.{times}
@@ -8,43 +7,66 @@ use Rattle.ats_bound.proofs.Public.{times-cons}
 use Rattle.ats_bound.specs.Cut.{ShownLane}
 use Rattle.ats_bound.specs.Schedule.{Bounding}
 use Rattle.ats_proof.specs.Value.{Proof}
-use Rattle.ats_lists.specs.declared.format.Format.{Format}
 use Rattle.ats_refusal.specs.declared.proof.Refusal.{Refusal}
-use Rattle.ats_refusal.specs.declared.proof.Refusal.TheVariants.{OtherRoot, SlotCount, DictMisfit, DictRoot, SlotWrong, IndexOut, Repeated, ListMisfit, ListRoot, Unmet, AnswerOut, AnswerRepeated, NotSettled}
+use Rattle.ats_refusal.specs.declared.proof.Refusal.TheVariants.{OtherRoot, SlotCount, SlotWrong, IndexOut, Repeated, Unmet, AnswerOut, AnswerRepeated, NotSettled}
 use Rattle.ats_client.specs.Presented.{Presented}
 use Rattle.ats_client.specs.Indexes.{AreNames, IsOut, IsAgain}
-use Rattle.ats_client.specs.Groups.{IsOther, IsOpened, IsOpeningFault, IsDictionary, IsDictFault, AreSlotsRight, IsSlotsFault, IsListRooted, IsEntryFault, IsListRootFault, AreAllMet, IsMetFault, AreRowsRight, IsRowsFault, IsAnswerSettled, IsSettledFault, indexes_of}
-use Rattle.ats_base.proofs.Public.{all_middle}
+use Rattle.ats_client.specs.Groups.{IsOther, IsOpened, IsOpeningFault, AreSlotsRight, IsSlotsFault, IsEntryFault, AreAllMet, IsMetFault, AreRowsRight, IsRowsFault, IsAnswerSettled, IsSettledFault, indexes_of}
+use Rattle.ats_base.specs.Rules.{Group}
+use Rattle.ats_base.proofs.Public.{IsExact, all_middle}
 
-pub not_other : (digest : Option (List ℕ)) (root : List ℕ) → IsOther digest root → digest ≡ Some root → ⊥
-not_other digest root other is = let rebuilt = other.rebuilt in other.differs (cc)
+-- ---- one digest, which is missing or another one if the group fails
 
-pub not_out : (met : ℕ) (indexes : List ℕ) (place : ℕ) → IsOut met indexes place → AreNames met indexes → ⊥
-not_out met indexes place fault names =
-    let inside : fault.index < met = all_middle (λ index. index < met) fault.before fault.index fault.after (subst (λ l. All (λ index. index < met) l) fault.stands names.inside) in
-    let out = fault.out in
-    omega arith
+abbrev pub IsDigestFault : Refusal → Refusal → Option (List ℕ) → List ℕ → Refusal → Type 0
+IsDigestFault misfit differs digest root refusal = ((refusal ≡ misfit) × (digest ≡ None)) ⊎ ((refusal ≡ differs) × IsOther digest root)
 
-pub not_again : (met : ℕ) (indexes : List ℕ) (place : ℕ) → IsAgain met indexes place → AreNames met indexes → ⊥
-not_again met indexes place fault names =
-    let x : ℕ = fault.index in
-    let once = names.once x in
-    let again = fault.again in
-    let all : times x indexes ≡ times x fault.before + times x (x ∷ fault.after) = ap (times x) fault.stands ∙ sum_by-append (λ y. cond (nat_eq y x) 1 0) fault.before (x ∷ fault.after) in
-    let step = times-cons x x fault.after in
-    let same : nat_eq x x ≡ true = grind (arith, nat_tests) in
-    let one : ◌≡◌ {A = ℕ} (cond (nat_eq x x) 1 0) 1 = ap (λ b. cond b 1 0) same in
-    omega (arith, all, step, one, once, again)
+module _ (misfit differs : Refusal) (digest : Option (List ℕ)) (root : List ℕ) where
+  missing_or_other : digest ≡ None → IsOther digest root → ⊥
+  missing_or_other none other = let some = other.rebuilt in cc
+
+  not_digest : (refusal : Refusal) → IsDigestFault misfit differs digest root refusal → digest ≡ Some root → ⊥
+  not_digest refusal (inl fault) is = let none = fault.1 in cc
+  not_digest refusal (inr fault) is = let rebuilt = fault.1.rebuilt in fault.1.differs (cc)
+
+  one_digest : (a b : Refusal) → IsDigestFault misfit differs digest root a → IsDigestFault misfit differs digest root b → a ≡ b
+  one_digest a b (inl is) (inl also) = is.0 ∙ sym also.0
+  one_digest a b (inl is) (inr also) = absurd (missing_or_other is.1 also.1)
+  one_digest a b (inr is) (inl also) = absurd (missing_or_other also.1 is.1)
+  one_digest a b (inr is) (inr also) = is.0 ∙ sym also.0
+
+  pub digest_exact : (fault : Refusal → Type 0) → ((refusal : Refusal) → fault refusal → IsDigestFault misfit differs digest root refusal)
+      → IsExact (let group : Group Refusal = record { kept = digest ≡ Some root; fault = fault } in group)
+  digest_exact fault reads = record {
+    breaks = λ refusal fails. not_digest refusal (reads refusal fails);
+    one = λ a b is also. one_digest a b (reads a is) (reads b also);
+  }
+
+-- ---- the other groups
+
+-- no list of names has an index that is not below the number of met documents, or one that occurs before it
+pub out_in : (met : ℕ) (before : List ℕ) (index : ℕ) (after : List ℕ) → met ≤ index → AreNames met (before ++ index ∷ after) → ⊥
+out_in met before index after out names =
+    let inside : index < met = all_middle (λ index. index < met) before index after names.inside in
+    omega (arith, out, inside)
+
+pub again_in : (met : ℕ) (before : List ℕ) (index : ℕ) (after : List ℕ) → 1 ≤ times index before → AreNames met (before ++ index ∷ after) → ⊥
+again_in met before index after again names =
+    let all = sum_by-append (λ y. cond (nat_eq y index) 1 0) before (index ∷ after) in
+    let step = times-cons index index after in
+    let same : nat_eq index index ≡ true = grind (arith, nat_tests) in
+    let one : ◌≡◌ {A = ℕ} (cond (nat_eq index index) 1 0) 1 = ap (λ b. cond b 1 0) same in
+    omega (arith, all, step, one, names.once index, again)
+
+not_out : (met : ℕ) (indexes : List ℕ) (place : ℕ) → IsOut met indexes place → AreNames met indexes → ⊥
+not_out met indexes place fault names = out_in met fault.before fault.index fault.after fault.out (subst (AreNames met) fault.stands names)
+
+not_again : (met : ℕ) (indexes : List ℕ) (place : ℕ) → IsAgain met indexes place → AreNames met indexes → ⊥
+not_again met indexes place fault names = again_in met fault.before fault.index fault.after fault.again (subst (AreNames met) fault.stands names)
 
 pub not_opened : (H : List ℕ → List ℕ) (root : List ℕ) (query : List (List ℕ × ℕ)) (proof : Proof) (refusal : Refusal) → IsOpeningFault H root query proof refusal → IsOpened H root query proof → ⊥
 not_opened H root query proof OtherRoot fault opened = fault opened.commits
 not_opened H root query proof (SlotCount shown) fault opened = fault.2 (fault.1 ∙ opened.slots)
 not_opened H root query proof _ fault opened = fault
-
-pub not_dictionary : (H : List ℕ → List ℕ) (proof : Proof) (refusal : Refusal) → IsDictFault H proof refusal → IsDictionary H proof → ⊥
-not_dictionary H proof DictMisfit fault is = cc
-not_dictionary H proof DictRoot fault is = not_other _ _ fault is
-not_dictionary H proof _ fault is = fault
 
 pub not_slots : (query : List (List ℕ × ℕ)) (proof : Proof) (refusal : Refusal) → IsSlotsFault query proof refusal → AreSlotsRight query proof → ⊥
 not_slots query proof (SlotWrong term) fault right = fault.wrong (right term fault.inside)
@@ -54,11 +76,6 @@ pub not_entries : (met : ℕ) (one : Presented) (refusal : Refusal) → IsEntryF
 not_entries met one (IndexOut term entry) fault names = not_out met (indexes_of one.prefix.entries) entry fault.1 names
 not_entries met one (Repeated term entry) fault names = not_again met (indexes_of one.prefix.entries) entry fault.1 names
 not_entries met one _ fault names = fault
-
-pub not_rooted : (H : List ℕ → List ℕ) (format : Format) (met : List ℕ) (one : Presented) (refusal : Refusal) → IsListRootFault H format met one refusal → IsListRooted H format met one → ⊥
-not_rooted H format met one (ListMisfit term) fault rooted = let none = fault.1 in cc
-not_rooted H format met one (ListRoot term) fault rooted = not_other _ _ fault.1 rooted
-not_rooted H format met one _ fault rooted = fault
 
 pub not_met : (lanes : List ShownLane) (met : List ℕ) (refusal : Refusal) → IsMetFault lanes met refusal → AreAllMet lanes met → ⊥
 not_met lanes met (Unmet index) fault all = fault.unmet (all index fault.inside)

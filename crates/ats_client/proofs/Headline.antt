@@ -25,7 +25,6 @@ use Rattle.ats_client.specs.Rows.{rows_of}
 use Rattle.ats_client.specs.Strings.{strings_of, extract, IsOwn, IsBound}
 use Rattle.ats_client.specs.Headline.{AreRight, IsTopOrCollides}
 use Rattle.ats_client.proofs.Bracketing.{own_doc}
-use Rattle.ats_client.proofs.Kept as kept
 use Rattle.ats_client.proofs.Kept.{sections_rooted}
 use Rattle.ats_client.proofs.Sectioned.{accepted_sections}
 use Rattle.ats_client.proofs.Descent.{whole-binds, whole-extracts}
@@ -39,9 +38,12 @@ pub own_rows_right : (H : List ℕ → List ℕ) (archive : Archive) (query : Li
 own_rows_right H archive query r root proof are asked range size parts accepts own =
     let texts : List (List ℕ) = archive.texts in
     let format : Format = proof.format in
-    let slots = kept.slots H root query r proof accepts in
-    let lists = kept.lists H root query r proof accepts in
-    let opened = kept.opened H root query r proof accepts in
+    let groups = accepts.kept in
+    let opened = groups.0 in
+    let slots = groups.1.1.0 in
+    let lists = groups.1.1.1.0 in
+    let all_met = groups.1.1.1.1.0 in
+    let rows = groups.1.1.1.1.1.1.1 in
     let documents : ℕ = proof.header.documents in
     let met : List ℕ = proof.met in
     let terms : List Presented = presented query proof in
@@ -56,11 +58,11 @@ own_rows_right H archive query r root proof are asked range size parts accepts o
     let cut : lanes_of query proof ≡ cut_of (own_lanes texts query proof) = same in
     settled_rows_right texts query r (bounds_of proof) documents met proof.answer terms (own_lanes texts query proof)
     (own_doc met proof.docs (lanes_of query proof))
-    (λ i low. brackets_hold H archive query proof are asked range (sym size) slots opened.slots own (kept.documents H root query r proof accepts) parts proof.docs refl
-    (length texts) (λ doc. score texts query (get_or texts doc [])) scores cut i low (kept.met H root query r proof accepts i low))
+    (λ i low. brackets_hold H archive query proof are asked range (sym size) slots opened.slots own groups.1.1.1.1.1.1.0 parts proof.docs refl
+    (length texts) (λ doc. score texts query (get_or texts doc [])) scores cut i low (all_met i low))
     same scores range.ids.rise
     (All-weaker (IsListRight H format met) (NamesMet met) (λ one right. right.names) terms lists)
-    (kept.met H root query r proof accepts) (kept.rows H root query r proof accepts) (kept.settled H root query r proof accepts)
+    all_met rows.0 rows.1.0
 
 holds_or_some : (P : Type 0) (Q : Difference Place → Type 0) (difference : Option (Difference Place)) → MatchOption difference P Q → P ⊎ IsSome difference
 holds_or_some P Q None holds = inl holds

@@ -18,6 +18,7 @@ use Rattle.ats_bound.specs.Schedule.{Bounding}
 use Rattle.ats_bound.specs.Settled.{AreDistinct, IsSettled, ArePicks}
 use Rattle.ats_bound.specs.Ranked.{CutLane, AreScores, HoldsScore, AreOfMet, answer_of, cut_of, docs_of}
 use Rattle.ats_bound.proofs.Public.{times_same, times_other, stands, position_of, settled_is_top}
+use Rattle.ats_proof.proofs.Public.{increasing-tail}
 use Rattle.ats_proof.specs.Runs.{named}
 use Rattle.ats_client.specs.Presented.{Presented, lane_of}
 use Rattle.ats_client.specs.Indexes.{AreNames}
@@ -27,10 +28,6 @@ use Rattle.ats_client.specs.Headline.{HoldsRow, AreRight}
 use Rattle.ats_client.proofs.Listed.{names_inside}
 
 -- ---- met ids
-
-tail_rises : (x : ℕ) (xs : List ℕ) → IsStrictlyIncreasing (x ∷ xs) → IsStrictlyIncreasing xs
-tail_rises x xs rises k inside =
-    let next : suc k + 1 ≡ suc (k + 1) = omega arith in rw next at (rises (suc k) (omega (arith, inside)))
 
 once_behind : (x n : ℕ) (xs : List ℕ) → IsStrictlyIncreasing (x ∷ xs) → x ≡ n → times n xs ≡ 0
 once_behind x n xs rises is = elim (cases_lt 0 (times n xs)) [
@@ -47,7 +44,7 @@ rising_distinct [] rises n = omega arith
 rising_distinct (x ∷ xs) rises n =
     elim (cases_order x n) [
       | inl is ↦ omega (arith, times_same n x xs is, once_behind x n xs rises is)
-      | inr other ↦ omega (arith, times_other n x xs other, rising_distinct xs (tail_rises x xs rises) n)
+      | inr other ↦ omega (arith, times_other n x xs other, rising_distinct xs (increasing-tail x xs rises) n)
     ]
 
 -- a document that named entries name is a met id

@@ -25,9 +25,9 @@ use Rattle.ats_client.proofs.Listed.{names_inside}
 
 -- ---- one lane, by met indexes
 
-has_entries : (c most i : ℕ) (entries : List Entry) → has_note i (map (note c most) entries) ≡ list_any (λ (e : Entry). nat_eq e.doc i) entries
-has_entries c most i [] = refl
-has_entries c most i (e ∷ entries) = ap (λ b. nat_eq e.doc i || b) (has_entries c most i entries)
+any_map : {X Y : Type 0} (p : Y → Bool) (f : X → Y) (xs : List X) → list_any p (map f xs) ≡ list_any (λ x. p (f x)) xs
+any_map p f [] = refl
+any_map p f (x ∷ xs) = ap (λ b. p (f x) || b) (any_map p f xs)
 
 gain_entry : (c amount : ℕ) (same : Bool) → cond same (c * amount) 0 ≡ c * cond same amount 0
 gain_entry c amount true = refl
@@ -50,10 +50,6 @@ held_step true true most others n m is once some all = let more = some refl in a
 held_step true false most others n m is once some all = omega (arith, all)
 held_step false later most others n m is once some all = omega (arith, all)
 
-any_index : (i : ℕ) (entries : List Entry) → list_any (λ (e : Entry). nat_eq e.doc i) entries ≡ list_any (λ x. nat_eq x i) (indexes_of entries)
-any_index i [] = refl
-any_index i (e ∷ entries) = ap (λ b. nat_eq e.doc i || b) (any_index i entries)
-
 fewer_times : (i x : ℕ) (xs : List ℕ) → times i (x ∷ xs) ≤ 1 → times i xs ≤ 1
 fewer_times i x xs once = let step = times-cons i x xs in omega (arith, step, once)
 
@@ -64,7 +60,7 @@ held_entries c most i (e ∷ entries) once =
     sum_by-cons (λ (n : Note). cond (nat_eq n.index i) n.rest 0) (note c most e) (map (note c most) entries)
     ∙ held_step (nat_eq e.doc i) (list_any (λ (e : Entry). nat_eq e.doc i) entries) most (held_of i (map (note c most) entries))
     (times i (indexes_of (e ∷ entries))) (times i (indexes_of entries)) (times-cons i e.doc (indexes_of entries)) once
-    (λ there. any_some i (indexes_of entries) (sym (any_index i entries) ∙ there))
+    (λ there. any_some i (indexes_of entries) (any_map (λ x. nat_eq x i) (λ (e : Entry). e.doc) entries ∙ there))
     (held_entries c most i entries (fewer_times i e.doc (indexes_of entries) once))
 
 -- ---- met indexes and the documents that they name
@@ -122,35 +118,34 @@ has_all documents met rises i low (one ∷ terms) all =
     let lane : ShownLane = index_lane documents one in
     list_any-append (λ (n : Note). nat_eq n.index i) (lane_notes lane) (notes_of documents terms)
     ∙ ap₂ (λ a b. a || b)
-    (has_entries lane.coefficient (rest lane) i lane.shown ∙ sym (names_id met rises i low lane.shown (names_inside (length met) lane.shown here)))
+    (any_map (λ (n : Note). nat_eq n.index i) (note lane.coefficient (rest lane)) lane.shown ∙ sym (names_id met rises i low lane.shown (names_inside (length met) lane.shown here)))
     (has_all documents met rises i low terms later)
+
+-- what a sum over the notes of one term is by its lane, it is for all
+sum_all : (documents : ℕ) (met : List ℕ) (by_note : Note → ℕ) (by_lane : ShownLane → ℕ)
+    → ((one : Presented) → AreNames (length met) (indexes_of one.prefix.entries) → sum_by by_note (lane_notes (index_lane documents one)) ≡ by_lane (lane_of documents met one))
+    → (terms : List Presented) → AreAllNamed met terms → sum_by by_note (notes_of documents terms) ≡ sum_by by_lane (map (lane_of documents met) terms)
+sum_all documents met by_note by_lane each [] all = refl
+sum_all documents met by_note by_lane each (one ∷ terms) all =
+    sum_by-append by_note (lane_notes (index_lane documents one)) (notes_of documents terms)
+    ∙ ap₂ (λ a b. a + b) (each one (All-head (λ (one : Presented). AreNames (length met) (indexes_of one.prefix.entries)) one terms all))
+    (sum_all documents met by_note by_lane each terms (All-tail (λ (one : Presented). AreNames (length met) (indexes_of one.prefix.entries)) one terms all))
+    ∙ sym (sum_by-cons by_lane (lane_of documents met one) (map (lane_of documents met) terms))
 
 pub gain_all : (documents : ℕ) (met : List ℕ) → IsStrictlyIncreasing met → (i : ℕ) → i < length met → (terms : List Presented) → AreAllNamed met terms
     → gain_of i (notes_of documents terms) ≡ lo_of (map (lane_of documents met) terms) (met_at met i)
-gain_all documents met rises i low [] all = refl
-gain_all documents met rises i low (one ∷ terms) all =
-    let here = All-head (λ (one : Presented). AreNames (length met) (indexes_of one.prefix.entries)) one terms all in
-    let later = All-tail (λ (one : Presented). AreNames (length met) (indexes_of one.prefix.entries)) one terms all in
+gain_all documents met rises i low =
+    sum_all documents met (λ (n : Note). cond (nat_eq n.index i) n.gain 0) (λ (lane : ShownLane). lane.coefficient * shown_impact (met_at met i) lane) (λ one names.
     let lane : ShownLane = index_lane documents one in
-    sum_by-append (λ (n : Note). cond (nat_eq n.index i) n.gain 0) (lane_notes lane) (notes_of documents terms)
-    ∙ ap₂ (λ a b. a + b)
-    (gain_entries lane.coefficient (rest lane) i lane.shown ∙ ap (λ n. lane.coefficient * n) (sym (impact_id met rises i low lane.shown (names_inside (length met) lane.shown here))))
-    (gain_all documents met rises i low terms later)
-    ∙ sym (sum_by-cons (λ (lane : ShownLane). lane.coefficient * shown_impact (met_at met i) lane) (lane_of documents met one) (map (lane_of documents met) terms))
+    gain_entries lane.coefficient (rest lane) i lane.shown ∙ ap (λ n. lane.coefficient * n) (sym (impact_id met rises i low lane.shown (names_inside (length met) lane.shown names))))
 
 pub held_all : (documents : ℕ) (met : List ℕ) → IsStrictlyIncreasing met → (i : ℕ) → i < length met → (terms : List Presented) → AreAllNamed met terms
     → held_of i (notes_of documents terms) ≡ held (map (lane_of documents met) terms) (met_at met i)
-held_all documents met rises i low [] all = refl
-held_all documents met rises i low (one ∷ terms) all =
-    let here = All-head (λ (one : Presented). AreNames (length met) (indexes_of one.prefix.entries)) one terms all in
-    let later = All-tail (λ (one : Presented). AreNames (length met) (indexes_of one.prefix.entries)) one terms all in
+held_all documents met rises i low =
+    sum_all documents met (λ (n : Note). cond (nat_eq n.index i) n.rest 0) (λ (lane : ShownLane). cond (names (met_at met i) lane) (rest lane) 0) (λ one named_all.
     let lane : ShownLane = index_lane documents one in
-    sum_by-append (λ (n : Note). cond (nat_eq n.index i) n.rest 0) (lane_notes lane) (notes_of documents terms)
-    ∙ ap₂ (λ a b. a + b)
-    (held_entries lane.coefficient (rest lane) i lane.shown (here.once i)
-    ∙ ap₂ (λ b n. cond b n 0) (sym (names_id met rises i low lane.shown (names_inside (length met) lane.shown here))) (sym (rest_id documents met one)))
-    (held_all documents met rises i low terms later)
-    ∙ sym (sum_by-cons (λ (lane : ShownLane). cond (names (met_at met i) lane) (rest lane) 0) (lane_of documents met one) (map (lane_of documents met) terms))
+    held_entries lane.coefficient (rest lane) i lane.shown (named_all.once i)
+    ∙ ap₂ (λ b n. cond b n 0) (sym (names_id met rises i low lane.shown (names_inside (length met) lane.shown named_all))) (sym (rest_id documents met one)))
 
 pub rests_all : (documents : ℕ) (met : List ℕ) (terms : List Presented) → threshold (map (index_lane documents) terms) ≡ threshold (map (lane_of documents met) terms)
 rests_all documents met [] = refl

@@ -1,7 +1,6 @@
 -- The notes of one prefix.
-use Rattle.std.proofs.Common.{◌≡◌, ◌<◌, ◌+◌, ◌*◌, ◌++◌, ℕ, List, [], map, get_or, ap₂, subst, arith}
+use Rattle.std.proofs.Common.{◌≡◌, ◌<◌, ◌+◌, ◌*◌, ◌++◌, ℕ, List, [], map, ap₂, subst, arith}
 use Rattle.std.specs.List.{All}
-use Rattle.std.proofs.lemmas.List.{length-map, get_or-map}
 use Rattle.ats_impact.specs.Numbers.{idf}
 use Rattle.ats_lists.specs.declared.entry.Entry.{Entry}
 use Rattle.ats_bound.specs.declared.work.Mark.{Mark}
@@ -11,12 +10,10 @@ use Rattle.ats_client.specs.Indexes.{AreNames}
 use Rattle.ats_client.specs.Groups.{indexes_of}
 use Rattle.ats_client.specs.Noting.{Note, note, AreNotes, index_lane, lane_notes}
 use Rattle.ats_client.proofs.Marks.{notes_turn}
+use Rattle.ats_client.proofs.Presents.{each_by}
 
 pub names_inside : (met : ℕ) (entries : List Entry) → AreNames met (indexes_of entries) → All (λ (e : Entry). e.doc < met) entries
-names_inside met entries names k d low =
-    let here : get_or (indexes_of entries) k d.doc ≡ (get_or entries k d).doc = get_or-map (λ (e : Entry). e.doc) entries k d d.doc low in
-    let size = length-map entries (λ (e : Entry). e.doc) in
-    subst (λ x. x < met) here (names.inside k d.doc (omega (arith, size, low)))
+names_inside met entries names = each_by (λ index. index < met) (λ (e : Entry). e.doc) entries names.inside
 
 pub list_noted : (met : ℕ) (notes : List Note) (number documents coefficient most : ℕ) (one : Presented) (marks : List Mark)
     → coefficient ≡ one.weight * idf documents one.entry.f → most ≡ rest (index_lane documents one)

@@ -7,11 +7,11 @@ use Rattle.ats_refusal.specs.declared.proof.Refusal.{Refusal}
 use Rattle.ats_refusal.specs.declared.proof.Refusal.TheVariants.{DocsMisfit, DocsRoot, TermsMisfit, TermsRoot, TermSlot}
 use Rattle.ats_client.specs.Groups.{IsOther, slot_at}
 use Rattle.ats_client.specs.Documents.{MetDocument, met_documents, docs_digest, AreDocsRooted, IsDocsRootFault, terms_digest, IsTermsTree, IsTermsFault, term_shown, present_numbers, IsTermSlotRight, AreTermSlotsRight, IsTermSlotsFault, document_rules, IsDocumentRight, AreDocumentsRight, IsDocumentsFault}
-use Rattle.ats_base.specs.Rules.{IsFirstFault}
-use Rattle.ats_client.proofs.Exact.{not_other}
+use Rattle.ats_base.specs.Rules.{Group, IsFirstFault}
+use Rattle.ats_client.proofs.Exact.{IsDigestFault, digest_exact}
 use Rattle.ats_base.proofs.Public.{not_first_of, one_first_of, kept_or_first_of}
 use Rattle.ats_client.proofs.Least.{one_least, all_or_first}
-use Rattle.ats_base.proofs.Public.{AreExact, not_kept, one_first, kept_or_first}
+use Rattle.ats_base.proofs.Public.{IsExact, AreExact, not_kept, one_first, kept_or_first}
 use Rattle.ats_client.proofs.Shows.{same_or_other, shows_term_or_not}
 
 -- ---- one digest
@@ -24,26 +24,19 @@ is_or_other (Some other) root = elim (same_or_other other root) [
   | inr differs ↦ inr (inr (record { other = other; rebuilt = refl; differs = differs }))
 ]
 
-none_or_other : (digest : Option (List ℕ)) (root : List ℕ) → digest ≡ None → IsOther digest root → ⊥
-none_or_other digest root none other = let some = other.rebuilt in cc
-
 -- ---- the documents tree
 
-pub not_docs : (H : List ℕ → List ℕ) (header : Header) (met : List ℕ) (docs : Option Documents) (refusal : Refusal) → IsDocsRootFault H header met docs refusal → AreDocsRooted H header met docs → ⊥
-not_docs H header met None refusal fault rooted = fault
-not_docs H header met (Some docs) DocsMisfit fault rooted = cc
-not_docs H header met (Some docs) DocsRoot fault rooted = not_other _ _ fault rooted
-not_docs H header met (Some docs) _ fault rooted = fault
+docs_fault : (H : List ℕ → List ℕ) (header : Header) (met : List ℕ) (docs : Documents) (refusal : Refusal) → IsDocsRootFault H header met (Some docs) refusal
+    → IsDigestFault DocsMisfit DocsRoot (docs_digest H header met docs) header.docs_root refusal
+docs_fault H header met docs DocsMisfit fault = inl (refl, fault)
+docs_fault H header met docs DocsRoot fault = inr (refl, fault)
+docs_fault H header met docs _ fault = absurd fault
 
-pub one_docs : (H : List ℕ → List ℕ) (header : Header) (met : List ℕ) (docs : Option Documents) (a b : Refusal) → IsDocsRootFault H header met docs a → IsDocsRootFault H header met docs b → a ≡ b
-one_docs H header met None a b is also = absurd is
-one_docs H header met (Some docs) DocsMisfit DocsMisfit is also = refl
-one_docs H header met (Some docs) DocsMisfit DocsRoot is also = absurd (none_or_other _ _ is also)
-one_docs H header met (Some docs) DocsMisfit _ is also = absurd also
-one_docs H header met (Some docs) DocsRoot DocsMisfit is also = absurd (none_or_other _ _ also is)
-one_docs H header met (Some docs) DocsRoot DocsRoot is also = refl
-one_docs H header met (Some docs) DocsRoot _ is also = absurd also
-one_docs H header met (Some docs) _ b is also = absurd is
+pub docs_exact : (H : List ℕ → List ℕ) (header : Header) (met : List ℕ) (docs : Option Documents)
+    → IsExact (let group : Group Refusal = record { kept = AreDocsRooted H header met docs; fault = IsDocsRootFault H header met docs } in group)
+docs_exact H header met None = record { breaks = λ refusal fault rooted. fault; one = λ a b is also. absurd is }
+docs_exact H header met (Some docs) =
+    digest_exact DocsMisfit DocsRoot (docs_digest H header met docs) header.docs_root (IsDocsRootFault H header met (Some docs)) (docs_fault H header met docs)
 
 pub docs_tried : (H : List ℕ → List ℕ) (header : Header) (met : List ℕ) (docs : Option Documents)
     → AreDocsRooted H header met docs ⊎ ((refusal : Refusal) × IsDocsRootFault H header met docs refusal)
@@ -56,19 +49,11 @@ docs_tried H header met (Some docs) = elim (is_or_other (docs_digest H header me
 
 -- ---- the tree of one document's terms
 
-not_terms : (H : List ℕ → List ℕ) (one : MetDocument) (refusal : Refusal) → IsTermsFault H one refusal → IsTermsTree H one → ⊥
-not_terms H one (TermsMisfit doc) fault rooted = let none = fault.1 in cc
-not_terms H one (TermsRoot doc) fault rooted = not_other _ _ fault.1 rooted
-not_terms H one _ fault rooted = fault
-
-one_terms : (H : List ℕ → List ℕ) (one : MetDocument) (a b : Refusal) → IsTermsFault H one a → IsTermsFault H one b → a ≡ b
-one_terms H one (TermsMisfit doc) (TermsMisfit other) is also = ap TermsMisfit (is.0 ∙ sym also.0)
-one_terms H one (TermsMisfit doc) (TermsRoot other) is also = absurd (none_or_other _ _ is.1 also.1)
-one_terms H one (TermsMisfit doc) _ is also = absurd also
-one_terms H one (TermsRoot doc) (TermsMisfit other) is also = absurd (none_or_other _ _ also.1 is.1)
-one_terms H one (TermsRoot doc) (TermsRoot other) is also = ap TermsRoot (is.0 ∙ sym also.0)
-one_terms H one (TermsRoot doc) _ is also = absurd also
-one_terms H one _ b is also = absurd is
+terms_fault : (H : List ℕ → List ℕ) (one : MetDocument) (refusal : Refusal) → IsTermsFault H one refusal
+    → IsDigestFault (TermsMisfit one.doc) (TermsRoot one.doc) (terms_digest H one) one.leaf.root refusal
+terms_fault H one (TermsMisfit doc) fault = inl (ap TermsMisfit fault.0, fault.1)
+terms_fault H one (TermsRoot doc) fault = inr (ap TermsRoot fault.0, fault.1)
+terms_fault H one _ fault = absurd fault
 
 terms_tried : (H : List ℕ → List ℕ) (one : MetDocument) → IsTermsTree H one ⊎ ((refusal : Refusal) × IsTermsFault H one refusal)
 terms_tried H one = elim (is_or_other (terms_digest H one) one.leaf.root) [
@@ -118,7 +103,7 @@ slots_tried query numbers one =
 module _ (H : List ℕ → List ℕ) (query : List (List ℕ × ℕ)) (numbers : List ℕ) (one : MetDocument) where
   document_exact : AreExact (document_rules H query numbers one)
   document_exact = (
-    record { breaks = not_terms H one; one = one_terms H one },
+    digest_exact (TermsMisfit one.doc) (TermsRoot one.doc) (terms_digest H one) one.leaf.root (IsTermsFault H one) (terms_fault H one),
     (record { breaks = not_slots query numbers one; one = one_slot query numbers one }, tt),
   )
 

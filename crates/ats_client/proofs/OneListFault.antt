@@ -1,60 +1,35 @@
 -- Indexes first break their rule at one place at most, and the present terms have at most one first failure.
-use Rattle.std.proofs.Common.{◌≡◌, ◌∙◌, ℕ, List, ◌∷◌, ◌++◌, length, refl, sym, ap, ap₂, arith}
+use Rattle.std.proofs.Common.{◌≡◌, ◌∙◌, ℕ, List, length, inl, inr, sym, ap, ap₂, arith}
 use Rattle.ats_proof.specs.Value.{Proof}
 use Rattle.ats_lists.specs.declared.format.Format.{Format}
 use Rattle.ats_refusal.specs.declared.proof.Refusal.{Refusal}
 use Rattle.ats_refusal.specs.declared.proof.Refusal.TheVariants.{IndexOut, Repeated, ListMisfit, ListRoot}
 use Rattle.ats_client.specs.Presented.{Presented, presented}
 use Rattle.ats_client.specs.Indexes.{AreNames, IsOut, IsAgain}
-use Rattle.ats_client.specs.Groups.{IsListRight, IsListFault, IsEntryFault, IsListRootFault, AreListsRight, IsListsFault, indexes_of, list_rules}
-use Rattle.ats_client.proofs.Exact.{not_out, not_again, not_entries, not_rooted}
+use Rattle.ats_client.specs.Groups.{IsListRight, IsListFault, IsEntryFault, IsListRootFault, AreListsRight, IsListsFault, indexes_of, list_digest, list_rules}
+use Rattle.ats_client.proofs.Exact.{IsDigestFault, digest_exact, out_in, again_in, not_entries}
 use Rattle.ats_base.proofs.Public.{one_front, not_first_of, one_first_of}
 use Rattle.ats_base.proofs.Public.{AreExact, not_kept, one_first}
 
 -- ---- indexes
 
-out_breaks : (met : ℕ) (indexes : List ℕ) (place : ℕ) (fault : IsOut met indexes place) (more : List ℕ) → AreNames met (fault.before ++ fault.index ∷ more) → ⊥
-out_breaks met indexes place fault more =
-    not_out met (fault.before ++ fault.index ∷ more) place (record {
-      before = fault.before;
-      index = fault.index;
-      after = more;
-      stands = refl;
-      place_of = fault.place_of;
-      names = fault.names;
-      out = fault.out;
-    })
-
-again_breaks : (met : ℕ) (indexes : List ℕ) (place : ℕ) (fault : IsAgain met indexes place) (more : List ℕ) → AreNames met (fault.before ++ fault.index ∷ more) → ⊥
-again_breaks met indexes place fault more =
-    not_again met (fault.before ++ fault.index ∷ more) place (record {
-      before = fault.before;
-      index = fault.index;
-      after = more;
-      stands = refl;
-      place_of = fault.place_of;
-      names = fault.names;
-      inside = fault.inside;
-      again = fault.again;
-    })
-
 pub one_out : (met : ℕ) (indexes : List ℕ) (m n : ℕ) → IsOut met indexes m → IsOut met indexes n → m ≡ n
 one_out met indexes m n a b =
     let one = one_front (AreNames met) a.before b.before a.index b.index a.after b.after (sym a.stands ∙ b.stands) a.names b.names
-    (out_breaks met indexes m a) (out_breaks met indexes n b) in
+    (λ more. out_in met a.before a.index more a.out) (λ more. out_in met b.before b.index more b.out) in
     sym a.place_of ∙ ap length one.0 ∙ b.place_of
 
 pub one_again : (met : ℕ) (indexes : List ℕ) (m n : ℕ) → IsAgain met indexes m → IsAgain met indexes n → m ≡ n
 one_again met indexes m n a b =
     let one = one_front (AreNames met) a.before b.before a.index b.index a.after b.after (sym a.stands ∙ b.stands) a.names b.names
-    (again_breaks met indexes m a) (again_breaks met indexes n b) in
+    (λ more. again_in met a.before a.index more a.again) (λ more. again_in met b.before b.index more b.again) in
     sym a.place_of ∙ ap length one.0 ∙ b.place_of
 
 -- the first that fails is either not below the number of met documents or occurs before, never both
 pub out_or_again : (met : ℕ) (indexes : List ℕ) (m n : ℕ) → IsOut met indexes m → IsAgain met indexes n → ⊥
 out_or_again met indexes m n a b =
     let one = one_front (AreNames met) a.before b.before a.index b.index a.after b.after (sym a.stands ∙ b.stands) a.names b.names
-    (out_breaks met indexes m a) (again_breaks met indexes n b) in
+    (λ more. out_in met a.before a.index more a.out) (λ more. again_in met b.before b.index more b.again) in
     omega (arith, a.out, b.inside, one.1)
 
 -- ---- the present terms
@@ -70,19 +45,16 @@ one_entry met one (Repeated term entry) (Repeated other place) is also =
 one_entry met one (Repeated term entry) _ is also = absurd also
 one_entry met one _ b is also = absurd is
 
-one_root : (H : List ℕ → List ℕ) (format : Format) (met : List ℕ) (one : Presented) (a b : Refusal) → IsListRootFault H format met one a → IsListRootFault H format met one b → a ≡ b
-one_root H format met one (ListMisfit term) (ListMisfit other) is also = ap ListMisfit (is.0 ∙ sym also.0)
-one_root H format met one (ListMisfit term) (ListRoot other) is also = let none = is.1 in let some = also.1.rebuilt in absurd (cc)
-one_root H format met one (ListMisfit term) _ is also = absurd also
-one_root H format met one (ListRoot term) (ListMisfit other) is also = let none = also.1 in let some = is.1.rebuilt in absurd (cc)
-one_root H format met one (ListRoot term) (ListRoot other) is also = ap ListRoot (is.0 ∙ sym also.0)
-one_root H format met one (ListRoot term) _ is also = absurd also
-one_root H format met one _ b is also = absurd is
+root_fault : (H : List ℕ → List ℕ) (format : Format) (met : List ℕ) (one : Presented) (refusal : Refusal) → IsListRootFault H format met one refusal
+    → IsDigestFault (ListMisfit one.number) (ListRoot one.number) (list_digest H format met one) one.entry.root refusal
+root_fault H format met one (ListMisfit term) fault = inl (ap ListMisfit fault.0, fault.1)
+root_fault H format met one (ListRoot term) fault = inr (ap ListRoot fault.0, fault.1)
+root_fault H format met one _ fault = absurd fault
 
 list_exact : (H : List ℕ → List ℕ) (format : Format) (met : List ℕ) (one : Presented) → AreExact (list_rules H format met one)
 list_exact H format met one = (
   record { breaks = not_entries (length met) one; one = one_entry (length met) one },
-  (record { breaks = not_rooted H format met one; one = one_root H format met one }, tt),
+  (digest_exact (ListMisfit one.number) (ListRoot one.number) (list_digest H format met one) one.entry.root (IsListRootFault H format met one) (root_fault H format met one), tt),
 )
 
 not_list : (H : List ℕ → List ℕ) (format : Format) (met : List ℕ) (one : Presented) (refusal : Refusal) → IsListFault H format met one refusal → IsListRight H format met one → ⊥

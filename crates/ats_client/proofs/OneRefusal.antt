@@ -1,5 +1,5 @@
 -- A proof has at most one first refusal, and none if it is accepted.
-use Rattle.std.proofs.Common.{◌≡◌, ◌∙◌, ℕ, List, true, Result, Ok, Err, refl, sym, ap}
+use Rattle.std.proofs.Common.{◌≡◌, ◌∙◌, ℕ, List, true, Result, Ok, Err, refl, sym, ap, inl, inr}
 use Rattle.std.specs.Result.{is_ok, IfErr}
 use Rattle.ats_bound.specs.Cut.{ShownLane, IsMet}
 use Rattle.ats_bound.specs.Schedule.{Bounding}
@@ -8,12 +8,12 @@ use Rattle.ats_refusal.specs.declared.proof.Refusal.{Refusal}
 use Rattle.ats_refusal.specs.declared.proof.Refusal.TheVariants.{OtherRoot, SlotCount, DictMisfit, DictRoot, SlotWrong, Unmet, AnswerOut, AnswerRepeated, NotSettled}
 use Rattle.ats_client.specs.Bracketing.{bounds_of}
 use Rattle.ats_client.specs.Presented.{lanes_of}
-use Rattle.ats_client.specs.Groups.{IsOpeningFault, IsDictFault, IsSlotsFault, IsSlotRight, IsMetFault, IsRowsFault, IsSettledFault, met_at}
+use Rattle.ats_client.specs.Groups.{IsOpeningFault, dict_digest, IsDictFault, IsSlotsFault, IsSlotRight, IsMetFault, IsRowsFault, IsSettledFault, met_at}
 use Rattle.ats_client.specs.Accepts.{section_rules, row_rules, rules, Accepts, IsFirstRefusal}
-use Rattle.ats_client.proofs.Exact.{not_opened, not_dictionary, not_slots, not_met, not_rows, not_settled}
+use Rattle.ats_client.proofs.Exact.{IsDigestFault, digest_exact, not_opened, not_slots, not_met, not_rows, not_settled}
 use Rattle.ats_client.proofs.Least.{one_least}
 use Rattle.ats_client.proofs.OneListFault.{not_lists, one_out, one_again, out_or_again, one_lists}
-use Rattle.ats_client.proofs.OneDocumentFault.{not_docs, one_docs, not_documents, one_documents}
+use Rattle.ats_client.proofs.OneDocumentFault.{docs_exact, not_documents, one_documents}
 use Rattle.ats_client.proofs.TwoRuns.{exact_both}
 use Rattle.ats_base.specs.Rules.{AreKept, IsFirstFault}
 use Rattle.ats_base.proofs.Public.{AreExact, not_kept, one_first}
@@ -28,14 +28,11 @@ one_opening H root query proof (SlotCount shown) (SlotCount other) is also = ap 
 one_opening H root query proof (SlotCount shown) _ is also = absurd also
 one_opening H root query proof _ b is also = absurd is
 
-one_dictionary : (H : List ℕ → List ℕ) (proof : Proof) (a b : Refusal) → IsDictFault H proof a → IsDictFault H proof b → a ≡ b
-one_dictionary H proof DictMisfit DictMisfit is also = refl
-one_dictionary H proof DictMisfit DictRoot is also = let some = also.rebuilt in absurd (cc)
-one_dictionary H proof DictMisfit _ is also = absurd also
-one_dictionary H proof DictRoot DictMisfit is also = let some = is.rebuilt in absurd (cc)
-one_dictionary H proof DictRoot DictRoot is also = refl
-one_dictionary H proof DictRoot _ is also = absurd also
-one_dictionary H proof _ b is also = absurd is
+dictionary_fault : (H : List ℕ → List ℕ) (proof : Proof) (refusal : Refusal) → IsDictFault H proof refusal
+    → IsDigestFault DictMisfit DictRoot (dict_digest H proof) proof.header.dict_root refusal
+dictionary_fault H proof DictMisfit fault = inl (refl, fault)
+dictionary_fault H proof DictRoot fault = inr (refl, fault)
+dictionary_fault H proof _ fault = absurd fault
 
 one_slot : (query : List (List ℕ × ℕ)) (proof : Proof) (a b : Refusal) → IsSlotsFault query proof a → IsSlotsFault query proof b → a ≡ b
 one_slot query proof (SlotWrong term) (SlotWrong other) is also = ap SlotWrong (one_least (IsSlotRight query proof) term other is.wrong also.wrong is.before also.before)
@@ -67,7 +64,7 @@ exact_sections H root query proof =
     let lanes : List ShownLane = lanes_of query proof in (
       record { breaks = not_opened H root query proof; one = one_opening H root query proof },
       (
-        record { breaks = not_dictionary H proof; one = one_dictionary H proof },
+        digest_exact DictMisfit DictRoot (dict_digest H proof) proof.header.dict_root (IsDictFault H proof) (dictionary_fault H proof),
         (
           record { breaks = not_slots query proof; one = one_slot query proof },
           (
@@ -75,7 +72,7 @@ exact_sections H root query proof =
             (
               record { breaks = not_met lanes proof.met; one = one_unmet lanes proof.met },
               (
-                record { breaks = not_docs H proof.header proof.met proof.docs; one = one_docs H proof.header proof.met proof.docs },
+                docs_exact H proof.header proof.met proof.docs,
                 (record { breaks = not_documents H query proof; one = one_documents H query proof }, tt),
               ),
             ),

@@ -15,7 +15,7 @@ use Rattle.ats_client.specs.Presented.{Presented, presented}
 use Rattle.ats_client.specs.Slots.{ShowsTerm}
 use Rattle.ats_client.specs.Strings.{IsOwnDocument, IsOwn}
 use Rattle.ats_client.proofs.Descent.{IsAsked, asked-terms}
-use Rattle.ats_client.proofs.DescentDocuments.{each-known, each-ranged}
+use Rattle.ats_client.proofs.DescentDocuments.{each-known, sections-hold}
 use Rattle.ats_client.proofs.PresentNumbers.{presented_numbers}
 use Rattle.ats_client.proofs.Presents.{at_place}
 
@@ -54,7 +54,7 @@ module _ (H : List ℕ → List ℕ) (archive : Archive) (query : List (List ℕ
       subst (λ (o : Option Documents). All (IsDocumentRight H query (present_numbers proof)) (documents_in proof.met o)) shown right in
       let is_right = at_place (IsDocumentRight H query (present_numbers proof)) all i one rights there in
       let is_ranged : IsSectionInRange one.section = at_place (λ (o : MetDocument). IsSectionInRange o.section) all i one
-      (each-ranged proof.met docs.leaves docs.sections (range.shown docs shown).sections) there in
+      (sections-hold IsSectionInRange proof.met docs.leaves docs.sections (range.shown docs shown).sections) there in
       record {
         inside = own_document.inside;
         ranges = is_ranged.each;

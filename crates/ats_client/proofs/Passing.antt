@@ -114,70 +114,54 @@ passes_present H query proof i left after terms terms' threshold most one marks 
       few = omega (arith, few, ap (λ (ts : List PresentTerm). length ts) more, length-append terms (kept_term n one ∷ []));
     }
 
--- all terms are checked
-pub record IsDone (H : List ℕ → List ℕ) (query : List (List ℕ × ℕ)) (proof : Proof) (terms : List PresentTerm) (threshold : ℕ) (marks : List Mark) : Type 0 where
-  pub right : All (IsListRight H proof.format proof.met) (presented query proof)
-  pub list : ℕ
-  pub notes : AreNotes (length proof.met) (notes_of proof.header.documents (presented query proof)) list [] marks
-  pub few : list ≤ 33
-  pub rests : threshold ≡ threshold_of (map (index_lane proof.header.documents) (presented query proof))
-  pub small : threshold ≤ 33 * 2 ^ 33
-  pub kept : terms ≡ kept_terms query proof
-
-pub done : (H : List ℕ → List ℕ) (query : List (List ℕ × ℕ)) (proof : Proof) (i : ℕ) (left : List Prefix) (terms : List PresentTerm) (threshold : ℕ) (marks : List Mark)
-    → IsPassed H query proof i left terms threshold marks → length query ≤ i → i ≤ 32 → IsDone H query proof terms threshold marks
-done H query proof i left terms threshold marks p all few =
-    let n : ℕ = proof.header.documents in
-    let nothing : drop i query ≡ [] = drop_of_length-le query all in
-    let same : presented query proof ≡ p.before =
-    p.stands ∙ ap (λ (q : List (List ℕ × ℕ)). p.before ++ presented_from proof.dict i q (drop i proof.slots) left) nothing ∙ append-nil p.before in
-    let small = p.small in
-    record {
-      right = subst (λ l. All (IsListRight H proof.format proof.met) l) (sym same) p.right;
-      list = i + 1;
-      notes = subst (λ l. AreNotes (length proof.met) (notes_of n l) (i + 1) [] marks) (sym same) p.notes;
-      few = omega arith;
-      rests = p.rests ∙ ap (λ l. threshold_of (map (index_lane n) l)) (sym same);
-      small = omega arith;
-      kept = p.kept ∙ ap (map (kept_term n)) (sym same);
-    }
-
--- ---- what the marks then say
+-- ---- all terms are checked
 
 named_of : (H : List ℕ → List ℕ) (format : Format) (met : List ℕ) (terms : List Presented) → All (IsListRight H format met) terms → All (λ (one : Presented). AreNames (length met) (indexes_of one.prefix.entries)) terms
 named_of H format met terms all k d low = (all k d low).names
 
-pub marks_done : (H : List ℕ → List ℕ) (query : List (List ℕ × ℕ)) (proof : Proof) (terms : List PresentTerm) (threshold : ℕ) (marks : List Mark) → IsStrictlyIncreasing proof.met
-    → IsDone H query proof terms threshold marks → AreMarks bracket (lanes_of query proof) proof.met marks
-marks_done H query proof terms threshold marks rises d =
-    let n : ℕ = proof.header.documents in
-    let ones : List Presented = presented query proof in
-    let all = named_of H proof.format proof.met ones d.right in
-    let notes = d.notes in
-    let few = d.few in
-    record {
-      size = notes.size;
-      each = λ (i : ℕ) (low : i < length proof.met).
-          let is = notes.each i low in
-          let lo = is.small_lower in
-          let early = is.early in
-          let doc : ℕ = met_at proof.met i in
-          let least : (mark_at marks i).lo ≡ lo_of (lanes_of query proof) doc = is.least ∙ gain_all n proof.met rises i low ones all in
-          let held_is : (mark_at marks i).held ≡ held (lanes_of query proof) doc = is.held ∙ held_all n proof.met rises i low ones all in
-          record {
-            least = least;
-            within = omega (arith, held_is, held_or_missing (lanes_of query proof) doc);
-            most = omega (arith, least, held_is, held_or_missing (lanes_of query proof) doc);
-            named = is.met ∙ has_all n proof.met rises i low ones all;
-            small = omega arith;
-          };
-    }
+module _ (H : List ℕ → List ℕ) (query : List (List ℕ × ℕ)) (proof : Proof) (i : ℕ) (left : List Prefix) (terms : List PresentTerm) (threshold : ℕ) (marks : List Mark)
+    (p : IsPassed H query proof i left terms threshold marks) (all : length query ≤ i) (few : i ≤ 32) where
+  abbrev n : ℕ
+  n = proof.header.documents
 
-pub free_done : (H : List ℕ → List ℕ) (query : List (List ℕ × ℕ)) (proof : Proof) (terms : List PresentTerm) (threshold : ℕ) (marks : List Mark) → IsDone H query proof terms threshold marks → AreNoted [] marks
-free_done H query proof terms threshold marks d i low =
-    let notes = d.notes in
-    let size = notes.size in
-    (notes.each i (omega (arith, low, size))).free
+  ones_are : presented query proof ≡ p.before
+  ones_are =
+      p.stands ∙ ap (λ (q : List (List ℕ × ℕ)). p.before ++ presented_from proof.dict i q (drop i proof.slots) left) (drop_of_length-le query all) ∙ append-nil p.before
 
-pub rests_done : (H : List ℕ → List ℕ) (query : List (List ℕ × ℕ)) (proof : Proof) (terms : List PresentTerm) (threshold : ℕ) (marks : List Mark) → IsDone H query proof terms threshold marks → threshold ≡ threshold_of (lanes_of query proof)
-rests_done H query proof terms threshold marks d = d.rests ∙ rests_all proof.header.documents proof.met (presented query proof)
+  pub right_done : All (IsListRight H proof.format proof.met) (presented query proof)
+  right_done = subst (λ l. All (IsListRight H proof.format proof.met) l) (sym ones_are) p.right
+
+  pub kept_done : terms ≡ kept_terms query proof
+  kept_done = p.kept ∙ ap (map (kept_term n)) (sym ones_are)
+
+  pub rests_done : threshold ≡ threshold_of (lanes_of query proof)
+  rests_done = p.rests ∙ ap (λ l. threshold_of (map (index_lane n) l)) (sym ones_are) ∙ rests_all n proof.met (presented query proof)
+
+  -- what the marks then say
+  notes : AreNotes (length proof.met) (notes_of n (presented query proof)) (i + 1) [] marks
+  notes = subst (λ l. AreNotes (length proof.met) (notes_of n l) (i + 1) [] marks) (sym ones_are) p.notes
+
+  pub free_done : AreNoted [] marks
+  free_done k low = let size = notes.size in (notes.each k (omega (arith, low, size))).free
+
+  pub marks_done : IsStrictlyIncreasing proof.met → AreMarks bracket (lanes_of query proof) proof.met marks
+  marks_done rises =
+      let ones : List Presented = presented query proof in
+      let names = named_of H proof.format proof.met ones right_done in
+      record {
+        size = notes.size;
+        each = λ (k : ℕ) (low : k < length proof.met).
+            let is = notes.each k low in
+            let lo = is.small_lower in
+            let early = is.early in
+            let doc : ℕ = met_at proof.met k in
+            let least : (mark_at marks k).lo ≡ lo_of (lanes_of query proof) doc = is.least ∙ gain_all n proof.met rises k low ones names in
+            let held_is : (mark_at marks k).held ≡ held (lanes_of query proof) doc = is.held ∙ held_all n proof.met rises k low ones names in
+            record {
+              least = least;
+              within = omega (arith, held_is, held_or_missing (lanes_of query proof) doc);
+              most = omega (arith, least, held_is, held_or_missing (lanes_of query proof) doc);
+              named = is.met ∙ has_all n proof.met rises k low ones names;
+              small = omega (arith, lo, early, few);
+            };
+      }

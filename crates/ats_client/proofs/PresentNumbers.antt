@@ -1,8 +1,8 @@
 -- The numbers of the present terms, from slots and from the present terms themselves.
-use Rattle.std.proofs.Common.{◌≡◌, ◌∙◌, ◌<◌, ◌≤◌, ◌+◌, ℕ, cond, List, [], ◌∷◌, length, map, drop, get_or, refl, sym, ap, subst, inl, inr, arith}
+use Rattle.std.proofs.Common.{◌≡◌, ◌∙◌, ◌<◌, ◌≤◌, ◌+◌, ℕ, cond, List, [], ◌∷◌, length, map, drop, refl, sym, ap, subst, inl, inr, arith}
 use Rattle.std.specs.List.{All}
 use Rattle.std.proofs.lemmas.Bool.{cases_Bool}
-use Rattle.std.proofs.lemmas.List.{length-map, get_or-map}
+use Rattle.std.proofs.lemmas.List.{length-map}
 use Rattle.std.proofs.lemmas.List.Elements.{All-nil, All-cons}
 use Rattle.std.proofs.lemmas.Simd.{map-map}
 use Rattle.ats_proof.specs.declared.record.Slot.{Slot}
@@ -12,6 +12,7 @@ use Rattle.ats_client.specs.Documents.{present_from, present_numbers}
 use Rattle.ats_client.specs.Presented.{Presented, presented_from, presented}
 use Rattle.ats_client.specs.PresentTerms.{kept_term, kept_terms, numbers_of}
 use Rattle.ats_client.proofs.HeadlineTerms.{kind_absent, kind_present}
+use Rattle.ats_client.proofs.Presents.{each_by}
 
 present_numbered : (dict : List ShownEntry) (n : ℕ) (query : List (List ℕ × ℕ)) (slots : List Slot) (lists : List Prefix) → length slots ≡ length query
     → map (λ (one : Presented). one.number) (presented_from dict n query slots lists) ≡ present_from n slots
@@ -48,12 +49,6 @@ numbers_within n most (slot ∷ slots) fits =
       | inr absent ↦ rw absent later
     ]
 
-of_numbers : (most : ℕ) (terms : List PresentTerm) → All (λ number. number < most) (numbers_of terms) → All (λ (term : PresentTerm). term.number < most) terms
-of_numbers most terms all k d low =
-    let size = length-map terms (λ (term : PresentTerm). term.number) in
-    let here : get_or (numbers_of terms) k d.number ≡ (get_or terms k d).number = get_or-map (λ (term : PresentTerm). term.number) terms k d d.number low in
-    subst (λ number. number < most) here (all k d.number (omega (arith, size, low)))
-
 module _ (query : List (List ℕ × ℕ)) (proof : Proof) (size : length proof.slots ≡ length query) where
   -- the present terms have the numbers of the slots that say that a term is present
   pub presented_numbers : map (λ (one : Presented). one.number) (presented query proof) ≡ present_numbers proof
@@ -73,5 +68,5 @@ module _ (query : List (List ℕ × ℕ)) (proof : Proof) (size : length proof.s
   -- each is the number of a term of the query
   pub kept_within : All (λ (term : PresentTerm). term.number < length query) (kept_terms query proof)
   kept_within =
-      of_numbers (length query) (kept_terms query proof)
+      each_by (λ number. number < length query) (λ (term : PresentTerm). term.number) (kept_terms query proof)
       (subst (All (λ number. number < length query)) (sym kept_numbers) (numbers_within 0 (length query) proof.slots (omega (arith, size))))

@@ -1,22 +1,26 @@
 -- The present terms from a number on.
 use Rattle.std.proofs.Common.{◌≡◌, ◌<◌, ◌+◌, ◌∙◌, ℕ, suc, true, false, List, [], ◌∷◌, length, map, drop, slice_get, Some, None, option_map, sym, ap, ap₂, subst, arith, drop-cons, add-one, cond}
 use Rattle.std.specs.List.{All}
-use Rattle.std.proofs.lemmas.List.{length-drop}
-use Rattle.std.proofs.lemmas.List.Sums.{sum_by-cons}
+use Rattle.std.proofs.lemmas.List.{length-drop, length-map, get_or-map}
 use Rattle.std.proofs.lemmas.Option.{get_or_from_slice_get, slice_get_within, slice_get-map}
 use Rattle.ats_dict.specs.Entry.{DictEntry}
 use Rattle.ats_dict.specs.Dictionary.{low}
 use Rattle.ats_proof.specs.declared.record.Slot.{Slot}
-use Rattle.ats_proof.specs.Value.{ShownEntry, Prefix, Proof, present_in, kind_of_slot}
+use Rattle.ats_proof.specs.Value.{ShownEntry, Prefix, Proof, present_in}
 use Rattle.ats_client.specs.Presented.{Presented, presented_from, entry_at, first_prefix}
 use Rattle.ats_client.specs.Slots.{IsAt}
 use Rattle.ats_commit.specs.Ours.{asked_term}
 use Rattle.ats_client.specs.Groups.{dict_terms, IsSlotRight}
+use Rattle.ats_client.proofs.HeadlineTerms.{kind_absent, kind_present}
 use Rattle.ats_client.proofs.Slotted.{slot_shows}
 
 -- what holds of all elements holds of the one at a place
 pub at_place : {X : Type 0} (P : X → Type 0) (xs : List X) (i : ℕ) (x : X) → All P xs → slice_get xs i ≡ Some x → P x
 at_place P xs i x all is = subst P (get_or_from_slice_get xs i x x is) (all i x (slice_get_within xs i x is))
+
+-- what holds of all numbers that elements have holds of the elements by theirs
+pub each_by : {X : Type 0} (P : ℕ → Type 0) (number : X → ℕ) (xs : List X) → All P (map number xs) → All (λ x. P (number x)) xs
+each_by P number xs all k d low = subst P (get_or-map number xs k d (number d) low) (all k (number d) (omega (arith, low, length-map xs number)))
 
 -- the items from a place on, if there is one at that place
 pub at_front : {X : Type 0} (xs : List X) (i : ℕ) (x : X) → slice_get xs i ≡ Some x → drop i xs ≡ x ∷ drop (i + 1) xs
@@ -53,16 +57,10 @@ prefix_there left p is = sym (get_or_from_slice_get left 0 p (record { entries =
 
 -- how many present terms are left after a slot
 pub fewer_absent : (slots : List Slot) (i n : ℕ) (slot : Slot) → slice_get slots i ≡ Some slot → slot.present ≡ false → present_in (drop i slots) ≡ n → present_in (drop (i + 1) slots) ≡ n
-fewer_absent slots i n slot is absent all =
-    let front : present_in (drop i slots) ≡ kind_of_slot slot + present_in (drop (i + 1) slots) = ap present_in (at_front slots i slot is) ∙ sum_by-cons kind_of_slot slot (drop (i + 1) slots) in
-    let kind : kind_of_slot slot ≡ 0 = ap (λ b. cond b 1 0) absent in
-    omega (arith, front, kind, all)
+fewer_absent slots i n slot is absent all = kind_absent slot (drop (i + 1) slots) n absent (sym (ap present_in (at_front slots i slot is)) ∙ all)
 
 pub some_left : (slots : List Slot) (i n : ℕ) (slot : Slot) → slice_get slots i ≡ Some slot → slot.present ≡ true → present_in (drop i slots) ≡ n → n ≡ 1 + present_in (drop (i + 1) slots)
-some_left slots i n slot is present all =
-    let front : present_in (drop i slots) ≡ kind_of_slot slot + present_in (drop (i + 1) slots) = ap present_in (at_front slots i slot is) ∙ sum_by-cons kind_of_slot slot (drop (i + 1) slots) in
-    let kind : kind_of_slot slot ≡ 1 = ap (λ b. cond b 1 0) present in
-    omega (arith, front, kind, all)
+some_left slots i n slot is present all = sym (kind_present slot (drop (i + 1) slots) n present (sym (ap present_in (at_front slots i slot is)) ∙ all))
 
 pub prefixes_fewer : (slots : List Slot) (i : ℕ) (left : List Prefix) (slot : Slot) → slice_get slots i ≡ Some slot → slot.present ≡ true → present_in (drop i slots) ≡ length left
     → present_in (drop (i + 1) slots) ≡ length (drop 1 left)
@@ -70,19 +68,7 @@ prefixes_fewer slots i left slot is present all =
     let some = some_left slots i (length left) slot is present all in
     omega (arith, some, length-drop 1 left)
 
--- a right slot of a present term has its leaf
-leaf_gone : (dict : List ShownEntry) (place : ℕ) → None ≡ slice_get dict place → slice_get (dict_terms dict) place ≡ None
-leaf_gone dict place is = slice_get-map _ dict place ∙ ap (option_map _) (sym is)
-
-pub has_leaf : (query : List (List ℕ × ℕ)) (proof : Proof) (i : ℕ) (slot : Slot) → IsSlotRight query proof i → slice_get proof.slots i ≡ Some slot → slot.present ≡ true
-    → None ≡ slice_get proof.dict slot.index → ⊥
-has_leaf query proof i slot right is present none =
-    let shows = slot_shows query proof i slot is right in
-    let at : IsAt (dict_terms proof.dict) (asked_term query i) slot.index = rw present at shows in
-    let there = at.there in
-    let gone = leaf_gone proof.dict slot.index none in
-    cc
-
+-- a present term has its prefix
 pub has_prefix : (slots : List Slot) (i : ℕ) (left : List Prefix) (slot : Slot) → slice_get slots i ≡ Some slot → slot.present ≡ true → present_in (drop i slots) ≡ length left
     → None ≡ slice_get left 0 → ⊥
 has_prefix slots i [] slot is present all none =

@@ -12,16 +12,12 @@ pub use Rattle.ats_client.proofs.HeadlineBrackets.{looked_same}
 pub use Rattle.ats_client.proofs.Headline.{top_or_collides}
 -- if the rules of what a proof shows are kept, all of it is the archive's own or there is a collision
 pub use Rattle.ats_client.proofs.Headline.{own_or_collides}
--- if the rules of what a proof shows are kept, each section rebuilds to the root that the proof has for it
-pub use Rattle.ats_client.proofs.Kept.{sections_rebuilt}
 -- if a rule of what a proof shows fails first, not all are kept
 pub use Rattle.ats_client.proofs.OneRefusal.{section_not_kept}
 -- one rule of what a proof shows fails first
 pub use Rattle.ats_client.proofs.OneRefusal.{one_section}
 -- no rule of what a proof shows fails as not settled
 pub use Rattle.ats_client.proofs.Sectioned.{never_unsettled}
--- an accepted proof keeps the rules of what it shows
-pub use Rattle.ats_client.proofs.Sectioned.{accepted_sections}
 -- a refused proof without rows breaks a rule of what it shows, or keeps them and is not settled
 pub use Rattle.ats_client.proofs.Sectioned.{refused_sections}
 -- the rules of what a proof shows are kept, and all of that is the archive's own
@@ -40,6 +36,10 @@ pub use Rattle.ats_client.proofs.OwnCounts.{slots_tell}
 pub use Rattle.ats_client.proofs.FewItems.{few_items}
 -- a collision extracted from a proof is two different strings with equal digests
 pub use Rattle.ats_client.proofs.Collisions.{extract-collides}
+-- what holds of all sections of met documents holds of each one's
+pub use Rattle.ats_client.proofs.DescentDocuments.{sections-hold}
+-- what holds of all elements holds of the one at a place
+pub use Rattle.ats_client.proofs.Presents.{at_place}
 -- a list whose first item was taken is that item before the rest
 pub use Rattle.ats_client.proofs.Counts.{taken}
 -- a collision that is there is not none

@@ -21,7 +21,8 @@ use Rattle.ats_tree.specs.declared.hashed.Tree.{Tree}
 use Rattle.ats_tree.specs.declared.hashed.Tree.TheVariants.{Header, Dictionary, List as ListOf, Documents as DocumentsTree, Terms}
 use Rattle.ats_tree.proofs.Public.{collision-append, collision-moved, moved_collision, collides-is, collides-not, numbers-back, own-none}
 use Rattle.ats_lists.specs.declared.entry.Entry.{Entry}
-use Rattle.ats_lists.specs.Formats.{list_string}
+use Rattle.ats_lists.specs.ChainClash.{list_difference_of}
+use Rattle.ats_lists.specs.Formats.{list_string, prefix_root, prefix_strings}
 use Rattle.ats_lists.specs.Leaf.{leaf_bytes}
 use Rattle.ats_lists.specs.Lists.{list}
 use Rattle.ats_lists.proofs.Public.{list-tagged}
@@ -30,7 +31,8 @@ use Rattle.ats_dict.specs.declared.header.Header.{Header as Numbers}
 use Rattle.ats_doctree.specs.declared.doc_leaf.DocLeaf.{DocLeaf}
 use Rattle.ats_doctree.specs.DocumentLeaf.{doc_leaf_bytes}
 use Rattle.ats_doctree.specs.Sentinels as terms
-use Rattle.ats_lists.specs.declared.format.Format.TheVariants.{One}
+use Rattle.ats_lists.specs.declared.format.Format.{Format}
+use Rattle.ats_lists.specs.declared.format.Format.TheVariants.{One, Two}
 use Rattle.ats_commit.specs.Archive.{Archive}
 use Rattle.ats_commit.specs.Ours.{asked_term, own_leaves, own_header, own_string, ours}
 use Rattle.ats_commit.specs.OwnShown.{tree_strings}
@@ -82,20 +84,15 @@ ours-tagged H archive query place = own-tagged H archive query place.tree (numbe
 
 -- ---- one tree
 
-pub some_is : (o : Option (List ℕ)) (x : List ℕ) → o ≡ Some x → IsSome o
-some_is None x is = absurd (cc)
-some_is (Some y) x is = refl
-
-pub rebuilds_by : (H : List ℕ → List ℕ) (n n' : ℕ) (shown shown' : List tree.Shown) (ds ds' : List (List ℕ)) (root : List ℕ) → n ≡ n' → shown ≡ shown' → ds ≡ ds'
-    → rebuilt H n' shown' ds' ≡ Some root → IsSome (rebuilt H n shown ds)
-rebuilds_by H n n' shown shown' ds ds' root is_n is_shown is_ds is =
-    some_is (rebuilt H n shown ds) root (ap (λ k. rebuilt H k shown ds) is_n ∙ ap₂ (λ a b. rebuilt H n' a b) is_shown is_ds ∙ is)
+pub rebuilds_by : (H : List ℕ → List ℕ) (format format' : Format) (n n' : ℕ) (shown shown' : List tree.Shown) (ds ds' : List (List ℕ)) (root : List ℕ)
+    → format ≡ format' → n ≡ n' → shown ≡ shown' → ds ≡ ds' → prefix_root H format' n' shown' ds' ≡ Some root → IsSome (prefix_root H format n shown ds)
+rebuilds_by H format format' n n' shown shown' ds ds' root is_format is_n is_shown is_ds is = rw (is_format, is_n, is_shown, is_ds, is) refl
 
 -- the collision that is found in one tree, as one of the whole proof
 abbrev pub placed_in : Tree → Difference Node → Difference Place
 placed_in tree c = record { place = in_tree tree (numbers_of c.place); ours = c.ours; theirs = c.theirs }
 
-pub in_one_tree : (H : List ℕ → List ℕ) (own : Place → Option (List ℕ)) (tree : Tree) (ss : List (Hashed Node)) (found : Option (Difference Node))
+in_one_tree : (H : List ℕ → List ℕ) (own : Place → Option (List ℕ)) (tree : Tree) (ss : List (Hashed Node)) (found : Option (Difference Node))
     → found ≡ first_collision H (λ node. own (in_tree tree (numbers_of node))) ss
     → option_map (placed_in tree) found ≡ first_collision H own (map (moved (in_tree tree)) (map (moved numbers_of) ss))
 in_one_tree H own tree ss found is =
@@ -104,26 +101,37 @@ in_one_tree H own tree ss found is =
     ∙ sym (ap (first_collision H own) (map-map (moved (in_tree tree)) (moved numbers_of) ss))
 
 -- the collision that is found by numbers, as one of the whole proof
-pub in_one_list : (H : List ℕ → List ℕ) (own : Place → Option (List ℕ)) (tree : Tree) (ss : List (Hashed NodeNumbers)) (found : Option (Difference NodeNumbers))
+in_one_list : (H : List ℕ → List ℕ) (own : Place → Option (List ℕ)) (tree : Tree) (ss : List (Hashed NodeNumbers)) (found : Option (Difference NodeNumbers))
     → found ≡ first_collision H (λ at. own (in_tree tree at)) ss
     → option_map (moved_collision (in_tree tree)) found ≡ first_collision H own (map (moved (in_tree tree)) ss)
 in_one_list H own tree ss found is = ap (option_map (moved_collision (in_tree tree))) is ∙ sym (collision-moved H (in_tree tree) own ss)
 
--- the place of a clash, by the numbers that it has
-pub clash_placed : (tree : Tree) (clash : found.Clash (List ℕ)) → clash.turns < 2 ^ clash.depth
-    → Some (difference_in tree clash) ≡ Some (placed_in tree (nodes.difference_of (λ s. s) clash))
-clash_placed tree clash inside =
+-- the clash of a tree, and that of a list in blocks, as one of the whole proof
+pub clash_in_tree : (H : List ℕ → List ℕ) (own : Place → Option (List ℕ)) (tree : Tree) (ss : List (Hashed Node)) (clash : Option (found.Clash (List ℕ)))
+    → IfSome clash (λ c. c.turns < 2 ^ c.depth)
+    → option_map (nodes.difference_of (λ s. s)) clash ≡ first_collision H (λ node. own (in_tree tree (numbers_of node))) ss
+    → option_map (difference_in tree) clash ≡ first_collision H own (map (moved (in_tree tree)) (map (moved numbers_of) ss))
+clash_in_tree H own tree ss None inside is = in_one_tree H own tree ss None is
+clash_in_tree H own tree ss (Some clash) inside is =
     ap (λ (at : NodeNumbers). Some (let c : Difference Place = record { place = in_tree tree at; ours = clash.ours; theirs = clash.theirs } in c))
     (sym (numbers-back clash.depth clash.turns inside))
+    ∙ in_one_tree H own tree ss (Some (nodes.difference_of (λ s. s) clash)) is
+
+pub clash_in_blocks : (H : List ℕ → List ℕ) (own : Place → Option (List ℕ)) (tree : Tree) (ss : List (Hashed NodeNumbers)) (clash : Option (found.Clash (List ℕ)))
+    → option_map list_difference_of clash ≡ first_collision H (λ at. own (in_tree tree at)) ss
+    → option_map (difference_in tree) clash ≡ first_collision H own (map (moved (in_tree tree)) ss)
+clash_in_blocks H own tree ss None is = in_one_list H own tree ss None is
+clash_in_blocks H own tree ss (Some clash) is = in_one_list H own tree ss (Some (list_difference_of clash)) is
 
 -- in the first format each list is one tree, as all other trees are
-pub one_tree_strings : (H : List ℕ → List ℕ) (place : Tree) (n : ℕ) (shown : List tree.Shown) (digests : List (List ℕ))
-    → tree_strings H One place n shown digests ≡ map (moved numbers_of) (node_strings H n shown digests)
-one_tree_strings H Header n shown digests = refl
-one_tree_strings H Dictionary n shown digests = refl
-one_tree_strings H (ListOf term) n shown digests = refl
-one_tree_strings H DocumentsTree n shown digests = refl
-one_tree_strings H (Terms doc) n shown digests = refl
+pub strings_by_format : (H : List ℕ → List ℕ) (format : Format) (place : Tree) (n : ℕ) (shown : List tree.Shown) (digests : List (List ℕ))
+    → (format ≡ Two → (term : ℕ) × (place ≡ ListOf term)) → tree_strings H format place n shown digests ≡ prefix_strings H format n shown digests
+strings_by_format H One Header n shown digests listed = refl
+strings_by_format H One Dictionary n shown digests listed = refl
+strings_by_format H One (ListOf term) n shown digests listed = refl
+strings_by_format H One DocumentsTree n shown digests listed = refl
+strings_by_format H One (Terms doc) n shown digests listed = refl
+strings_by_format H Two place n shown digests listed = rw (listed refl).1 refl
 
 -- a tree whose strings are all the archive's own has no collision
 pub none_in_own : (H : List ℕ → List ℕ) (archive : Archive) (query : List (List ℕ × ℕ)) (tree : Tree) (ss : List (Hashed NodeNumbers))
@@ -276,4 +284,4 @@ module _ (H : List ℕ → List ℕ) (own : Place → Option (List ℕ)) (header
   pub documents_rebuild : AreDocsRooted H header met shown → IsSome (rebuilt H n leaves ds)
   documents_rebuild rooted =
       let root : rebuilt H header.documents (shown_docs met docs.leaves) docs.digests ≡ Some header.docs_root = subst (AreDocsRooted H header met) is rooted
-      in rebuilds_by H n header.documents leaves (shown_docs met docs.leaves) ds docs.digests header.docs_root is_n is_leaves is_ds root
+      in rebuilds_by H One One n header.documents leaves (shown_docs met docs.leaves) ds docs.digests header.docs_root refl is_n is_leaves is_ds root

@@ -1,5 +1,5 @@
 -- Groups of rules in two runs, one after the other.
-use Rattle.std.proofs.Common.{◌⊎◌, List, [], ◌∷◌, ◌++◌, inl, inr}
+use Rattle.std.proofs.Common.{◌⊎◌, ℕ, zero, suc, List, [], ◌∷◌, ◌++◌, inl, inr}
 use Rattle.ats_base.specs.Rules.{Group, AreKept, IsFirstFault}
 use Rattle.ats_base.proofs.Public.{AreExact}
 
@@ -31,3 +31,15 @@ pub none_first : {F : Type 0} (groups : List (Group F)) (fault : F) → NoneFail
 none_first [] fault none is = is
 none_first (group ∷ groups) fault none (inl here) = none.0 here
 none_first (group ∷ groups) fault none (inr later) = none_first groups fault none.1 later.1
+
+-- what follows if this many groups are kept and the next one fails in this way
+abbrev pub AfterKept : {F : Type 0} → ℕ → List (Group F) → F → Type 0 → Type 0
+AfterKept n [] fault Follows = Unit {0}
+AfterKept zero (group ∷ groups) fault Follows = group.fault fault → Follows
+AfterKept (suc n) (group ∷ groups) fault Follows = group.kept → AfterKept n groups fault Follows
+
+-- the failure is then the first
+pub first_after : {F : Type 0} (n : ℕ) (groups : List (Group F)) (fault : F) (Follows : Type 0) → (IsFirstFault groups fault → Follows) → AfterKept n groups fault Follows
+first_after n [] fault Follows gives = tt
+first_after zero (group ∷ groups) fault Follows gives = λ is. gives (inl is)
+first_after (suc n) (group ∷ groups) fault Follows gives = λ kept. first_after n groups fault Follows (λ later. gives (inr (kept, later)))

@@ -3,10 +3,10 @@
 ghost use Rattle.std.specs.Prelude.{◌≡◌, ℕ, ◌+◌, ◌*◌, ◌^◌, ◌<◌, ◌≤◌, List, [], ◌∷◌, length, map, All, IsSome, IfOk, option_map};
 ghost use Rattle.std.specs.List.{flat_map, range_with_len};
 ghost use Rattle.ats_tree.specs.Differences.{first_collision, moved};
-ghost use Rattle.ats_tree.specs.Rebuild.{rebuilt};
 ghost use Rattle.ats_tree.specs.Shown.{positions_of};
 ghost use Rattle.ats_tree.specs.declared.hashed.Tree.TheVariants.{List as ListOf};
-ghost use Rattle.ats_lists.specs.ChainPrefix.{chain_rebuilt, chain_strings};
+ghost use Rattle.ats_lists.specs.Formats.{prefix_root, prefix_strings};
+ghost use Rattle.ats_lists.specs.declared.format.Format.TheVariants.{Two};
 ghost use Rattle.ats_commit.specs.Ours.{ours};
 ghost use Rattle.ats_commit.specs.Places.{in_tree, IsOfQuery};
 ghost use Rattle.ats_proof.specs.Ranges.{IsPrefixInRange, IsSectionInRange, AreDocumentsInRange};
@@ -60,30 +60,16 @@ pub fn first_clash<'a, H: Hash32, O: OwnStrings<H>>(
         (λ clash. option_map difference_of clash ≡ extract H.hash (O.archive own.now) query.now proof.now) }
 {
     let mut steps = Steps::new(alloc);
-    Ok(in_proof::<H, O>(own, query, proof, &mut steps))
-}
-
-// The first clash, section by section.
-fn in_proof<'a, H: Hash32, O: OwnStrings<H>>(
-    own: &O,
-    query: &Query,
-    proof: &ProofView<'a>,
-    steps: &mut Steps,
-) -> Option<Clash>
-    requires rebuilt { AreRebuilt H.hash query.now proof.now }
-    requires room { steps.old ≤ 2 ^ 32 }
-    ensures { option_map difference_of result ≡ extract H.hash (O.archive own.now) query.now proof.now }
-{
-    if let Some(clash) = header::<H, O>(own, query, proof, steps) {
-        return Some(clash);
+    if let Some(clash) = header::<H, O>(own, query, proof, &mut steps) {
+        return Ok(Some(clash));
     }
-    if let Some(clash) = dictionary::<H, O>(own, query, proof, steps) {
-        return Some(clash);
+    if let Some(clash) = dictionary::<H, O>(own, query, proof, &mut steps) {
+        return Ok(Some(clash));
     }
-    if let Some(clash) = lists::<H, O>(own, query, proof, steps) {
-        return Some(clash);
+    if let Some(clash) = lists::<H, O>(own, query, proof, &mut steps) {
+        return Ok(Some(clash));
     }
-    documents::<H, O>(own, query, proof, steps)
+    Ok(documents::<H, O>(own, query, proof, &mut steps))
 }
 
 // The header's string.
@@ -118,23 +104,28 @@ fn header<'a, H: Hash32, O: OwnStrings<H>>(
     }
 }
 
-// The strings of one tree, which rebuilds. A list is one tree only in the first format; the other trees are the same in
-// both.
+// The strings of what is shown of one tree, which rebuilds. A list in blocks is shown by its first `front` leaves; of any
+// other tree, hashed as in the first format, any leaves may be shown.
 fn in_tree<'a, H: Hash32, O: OwnStrings<H>, R: Revealed<'a> + Copy>(
     own: &O,
     query: &Query,
+    format: Format,
     tree: Tree,
     leaves: u32,
+    front: u32,
     revealed: &mut R,
     steps: &mut Steps,
 ) -> Option<Clash>
     requires asked { IsOfQuery query.now tree }
-    requires rebuilds { IsSome (rebuilt H.hash leaves (R.shown revealed.old) (R.digests revealed.old)) }
+    requires hashed { format ≡ Two → (term : ℕ) × (tree ≡ ListOf term) }
+    requires rebuilds { IsSome (prefix_root H.hash format leaves (R.shown revealed.old) (R.digests revealed.old)) }
+    requires few { front ≤ 65536 }
+    requires front { format ≡ Two → positions_of (R.shown revealed.old) ≡ range_with_len 0 front }
     requires short { All (λ s. length s.1 ≤ 127) (R.shown revealed.old) }
     requires room { steps.old ≤ 2 ^ 63 }
     ensures clash { option_map difference_of result
         ≡ first_collision H.hash (ours H.hash (O.archive own.now) query.now)
-        (strings_in H.hash tree leaves (R.shown revealed.old) (R.digests revealed.old)) }
+        (map (moved (in_tree tree)) (prefix_strings H.hash format leaves (R.shown revealed.old) (R.digests revealed.old))) }
     ensures cost { steps.new ≤ steps.old + 2 ^ 35 }
 {
     let mut taken = Taken {
@@ -142,26 +133,33 @@ fn in_tree<'a, H: Hash32, O: OwnStrings<H>, R: Revealed<'a> + Copy>(
         lends: PhantomData,
     };
     // If it is all the archive's own, it need not be hashed.
-    if own.has_shown(Format::One, tree, leaves, query, &mut taken) {
+    if own.has_shown(format, tree, leaves, query, &mut taken) {
         return None;
     }
-    let nodes: OneTree<'_, H, O> = OneTree {
+    let strings: OneTree<'_, H, O> = OneTree {
         own,
         query,
         tree,
         kind: PhantomData,
     };
-    match ats_tree::first_clash::<H, R, HashedString, _>(leaves, revealed, &nodes, steps) {
-        Some(clash) => Some(placed(tree, &clash)),
-        None => None,
+    match format {
+        Format::One => placed(
+            tree,
+            ats_tree::first_clash::<H, R, HashedString, _>(leaves, revealed, &strings, steps),
+        ),
+        Format::Two => placed(
+            tree,
+            chain_first_clash::<H, R, _>(leaves, front, revealed, &strings, steps),
+        ),
     }
 }
 
 // A clash of a tree, with its place.
-fn placed(tree: Tree, clash: &ats_tree::Clash<HashedString>) -> Clash
-    ensures { difference_of result ≡ difference_in tree clash.now }
+fn placed(tree: Tree, found: Option<ats_tree::Clash<HashedString>>) -> Option<Clash>
+    ensures { option_map difference_of result ≡ option_map (difference_in tree) found }
 {
-    Clash {
+    let clash = found?;
+    Some(Clash {
         place: Place {
             tree,
             depth: clash.depth,
@@ -169,49 +167,7 @@ fn placed(tree: Tree, clash: &ats_tree::Clash<HashedString>) -> Clash
         },
         ours: clash.ours,
         theirs: clash.theirs,
-    }
-}
-
-// The strings of a list of `f` entries in blocks, which rebuilds from its first `k` entries.
-fn in_blocks<'a, H: Hash32, O: OwnStrings<H>, R: Revealed<'a> + Copy>(
-    own: &O,
-    query: &Query,
-    term: u8,
-    f: u32,
-    k: u32,
-    revealed: &mut R,
-    steps: &mut Steps,
-) -> Option<Clash>
-    requires asked { term < length query.now }
-    requires rebuilds { IsSome (chain_rebuilt H.hash f (R.shown revealed.old) (R.digests revealed.old)) }
-    requires few { k ≤ 65536 }
-    requires front { positions_of (R.shown revealed.old) ≡ range_with_len 0 k }
-    requires short { All (λ s. length s.1 ≤ 127) (R.shown revealed.old) }
-    requires room { steps.old ≤ 2 ^ 63 }
-    ensures clash { option_map difference_of result
-        ≡ first_collision H.hash (ours H.hash (O.archive own.now) query.now)
-        (map (moved (in_tree (ListOf term))) (chain_strings H.hash f (R.shown revealed.old) (R.digests revealed.old))) }
-    ensures cost { steps.new ≤ steps.old + 2 ^ 35 }
-{
-    let tree = Tree::List { term };
-    let mut taken = Taken {
-        section: *revealed,
-        lends: PhantomData,
-    };
-    // If it is all the archive's own, it need not be hashed.
-    if own.has_shown(Format::Two, tree, f, query, &mut taken) {
-        return None;
-    }
-    let list: OneTree<'_, H, O> = OneTree {
-        own,
-        query,
-        tree,
-        kind: PhantomData,
-    };
-    match chain_first_clash::<H, R, _>(f, k, revealed, &list, steps) {
-        Some(clash) => Some(placed(tree, &clash)),
-        None => None,
-    }
+    })
 }
 
 // The strings of the dictionary section.
@@ -231,7 +187,16 @@ fn dictionary<'a, H: Hash32, O: OwnStrings<H>>(
     proof.is_spelled();
     let leaves = proof.header().dict_leaves;
     let mut section = proof.dict();
-    in_tree::<H, O, _>(own, query, Tree::Dictionary, leaves, &mut section, steps)
+    in_tree::<H, O, _>(
+        own,
+        query,
+        Format::One,
+        Tree::Dictionary,
+        leaves,
+        0,
+        &mut section,
+        steps,
+    )
 }
 
 // The strings of the prefix of a present term.
@@ -253,17 +218,17 @@ fn list<'a, H: Hash32, O: OwnStrings<H>>(
     ensures cost { steps.new ≤ steps.old + 2 ^ 35 }
 {
     let term = one.number as u8;
-    let f = one.entry.f;
     let mut section = one.list.revealed(proof);
-    match proof.format() {
-        Format::One => {
-            let tree = Tree::List { term };
-            in_tree::<H, O, _>(own, query, tree, f, &mut section, steps)
-        }
-        Format::Two => {
-            in_blocks::<H, O, _>(own, query, term, f, one.list.len(), &mut section, steps)
-        }
-    }
+    in_tree::<H, O, _>(
+        own,
+        query,
+        proof.format(),
+        Tree::List { term },
+        one.entry.f,
+        one.list.len(),
+        &mut section,
+        steps,
+    )
 }
 
 // The strings of the prefixes of all present terms.
@@ -314,8 +279,10 @@ fn documents<'a, H: Hash32, O: OwnStrings<H>>(
     if let Some(clash) = in_tree::<H, O, _>(
         own,
         query,
+        Format::One,
         Tree::Documents,
         leaves,
+        0,
         &mut section,
         steps,
     ) {
@@ -372,5 +339,14 @@ fn terms<'a, H: Hash32, O: OwnStrings<H>>(
     let tree = Tree::Terms { doc: doc.doc() };
     let leaves = doc.leaf().leaves;
     let mut section = doc.terms();
-    in_tree::<H, O, _>(own, query, tree, leaves, &mut section, steps)
+    in_tree::<H, O, _>(
+        own,
+        query,
+        Format::One,
+        tree,
+        leaves,
+        0,
+        &mut section,
+        steps,
+    )
 }

@@ -11,7 +11,7 @@ ghost use Rattle.ats_proof.specs.Value.{items_of_section};
 ghost use Rattle.ats_client.specs.declared.present_terms.PresentTerm.{PresentTerm};
 ghost use Rattle.ats_refusal.specs.declared.proof.Refusal.TheVariants.{TermSlot};
 ghost use Rattle.ats_client.specs.Bracketing.{impact_shown};
-ghost use Rattle.ats_client.specs.Documents.{term_shown, IsTermsTree, IsTermsFault, AreTermSlotsRight, IsTermSlotsFault, IsDocumentRight, document_rules};
+ghost use Rattle.ats_client.specs.Documents.{term_shown, IsTermsTree, IsTermsFault, IsDocumentRight, document_rules};
 ghost use Rattle.ats_client.specs.Groups.{slot_at};
 ghost use Rattle.ats_client.specs.PresentTerms.{numbers_of, bare_lanes};
 ghost use Rattle.ats_base.specs.Rules.{IsFirstFault};
@@ -84,43 +84,10 @@ fn impact<'a>(
     if !slot.present {
         return Ok(0);
     }
-    match walk.leaf(slot.index, steps) {
-        Some(term) => Ok(term.leaf.impact),
-        None => Ok(0),
-    }
-}
-
-// Checks the slots of the present terms, and returns the document's score that they show.
-fn score<'a>(
-    doc: &DocView<'a>,
-    query: &Query,
-    terms: &PresentTerms,
-    steps: &mut Steps,
-) -> Result<u64, Refusal>
-    requires each { length (section_of doc.now).slots ≡ length terms.now }
-    requires spots { IsNonDecreasing (map (λ (slot : Slot). slot.index) (section_of doc.now).slots) }
-    requires numbers { All (λ (term : PresentTerm). term.number < length query.now) terms.now }
-    requires room { steps.old ≤ 2 ^ 62 + 2 ^ 57 }
-    ensures right { OnOk result (AreTermSlotsRight query.now (numbers_of terms.now) (section_of doc.now)) }
-    ensures score { IfOk result (λ score. score
-        ≡ looked_score (λ i other. impact_shown (section_of doc.now) i) (bare_lanes terms.now)
-        (document_of doc.now).doc) }
-    ensures small { IfOk result (λ score. score ≤ 2 ^ 38) }
-    ensures fault { IfErr result (IsTermSlotsFault query.now (numbers_of terms.now) (document_of doc.now)) }
-    ensures cost { steps.new ≤ steps.old + 2 ^ 23 }
-    ensures most { steps.new ≤ steps.old + length (section_of doc.now).leaves + 2 * length terms.now }
-{
-    let mut walk = Walk::over(doc.terms());
-    let mut score = 0;
-    for i in 0..terms.len() {
-        let PresentTerm {
-            number,
-            coefficient,
-        } = terms.get(i);
-        let impact = impact(doc, i, number, query, &mut walk, steps)?;
-        score += weighed(coefficient, impact);
-    }
-    Ok(score)
+    let Some(term) = walk.leaf(slot.index, steps) else {
+        unreachable!()
+    };
+    Ok(term.leaf.impact)
 }
 
 /// Checks what is shown of a met document's terms: its tree, then the slots of the present terms. Returns the
@@ -146,5 +113,15 @@ pub(crate) fn document<'a, H: Hash32>(
     ensures most { steps.new ≤ steps.old + 4 * items_of_section (section_of doc.now) + 1 }
 {
     rooted::<H>(doc, steps)?;
-    score(doc, query, terms, steps)
+    let mut walk = Walk::over(doc.terms());
+    let mut score = 0;
+    for i in 0..terms.len() {
+        let PresentTerm {
+            number,
+            coefficient,
+        } = terms.get(i);
+        let impact = impact(doc, i, number, query, &mut walk, steps)?;
+        score += weighed(coefficient, impact);
+    }
+    Ok(score)
 }

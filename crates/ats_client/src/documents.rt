@@ -1,10 +1,9 @@
 //! Checks what is shown of the met documents: their leaves in the documents tree, and the terms of each.
 
-ghost use Rattle.std.specs.Prelude.{◌≡◌, ◌<◌, ◌≤◌, ◌+◌, ◌*◌, ◌^◌, sum_by, List, [], Some, length, slice_set, OnOk, IfErr};
+ghost use Rattle.std.specs.Prelude.{◌≡◌, ◌<◌, ◌≤◌, ◌+◌, ◌*◌, ◌^◌, List, [], length, slice_set, OnOk, IfErr};
 ghost use Rattle.ats_bound.specs.Cut.{bracket, threshold as threshold_of};
 ghost use Rattle.ats_bound.specs.Work.{mark_at};
-ghost use Rattle.ats_proof.specs.SeenDocs.{documents_of, ids_of};
-ghost use Rattle.ats_proof.specs.Value.{AreDocuments, present_in, items_of_section, items_of_documents};
+ghost use Rattle.ats_proof.specs.Value.{items_of_documents};
 ghost use Rattle.ats_client.specs.Bracketing.{bounds_of};
 ghost use Rattle.ats_client.specs.Documents.{IsDocsTree, IsDocsFault, AreDocumentsRight, IsDocumentsFault};
 ghost use Rattle.ats_client.specs.Marked.{AreMarks, AreNoted};
@@ -16,7 +15,7 @@ use crate::opening::rebuilt;
 use crate::present_terms::PresentTerms;
 use ats_bound::{Mark, Work};
 use ats_hash::{Hash32, Steps};
-use ats_proof::{DocsView, ProofView};
+use ats_proof::ProofView;
 use ats_refusal::Refusal;
 use ats_terms::Query;
 
@@ -63,59 +62,17 @@ fn noted(work: &mut Work, index: u32, score: u64, threshold: u64, steps: &mut St
     let mark = Mark {
         lo: score,
         held: threshold,
-        list: mark.list,
-        row: mark.row,
+        ..mark
     };
     work.put(index, mark, steps);
-}
-
-// Checks the met documents of a proof that shows them, one after another.
-fn each<'a, H: Hash32>(
-    docs: DocsView<'a>,
-    query: &Query,
-    proof: &ProofView<'a>,
-    terms: &PresentTerms,
-    threshold: u64,
-    work: &mut Work,
-    steps: &mut Steps,
-) -> Result<(), Refusal>
-    requires docs { proof.now.docs ≡ Some (documents_of docs) }
-    requires met { ids_of docs ≡ proof.now.met }
-    requires parts { AreDocuments (length proof.now.met) (present_in proof.now.slots) (documents_of docs) }
-    requires slots { length proof.now.slots ≡ length query.now }
-    requires terms { terms.now ≡ kept_terms query.now proof.now }
-    requires marks { AreMarks bracket (lanes_of query.now proof.now) proof.now.met work.old.marks }
-    requires free { AreNoted [] work.old.marks }
-    requires threshold { threshold ≡ threshold_of (lanes_of query.now proof.now) }
-    requires room { steps.old ≤ 2 ^ 62 + 2 ^ 50 }
-    ensures right { OnOk result (AreDocumentsRight H.hash query.now proof.now) }
-    ensures marks { OnOk result
-        (AreMarks (bounds_of proof.now) (lanes_of query.now proof.now) proof.now.met work.new.marks) }
-    ensures free { OnOk result (AreNoted [] work.new.marks) }
-    ensures fault { IfErr result (IsDocumentsFault H.hash query.now proof.now) }
-    ensures room { work.new.room ≡ work.old.room }
-    ensures cost { steps.new ≤ steps.old + 2 ^ 52 }
-    ensures most { steps.new
-        ≤ steps.old + 4 * length proof.now.met + 4 * sum_by items_of_section (documents_of docs.entry).sections }
-{
-    proof.is_spelled();
-    let mut left = docs;
-    for index in 0..proof.met() {
-        let Some(doc) = left.next(steps) else {
-            unreachable!()
-        };
-        let score = document::<H>(&doc, query, terms, steps)?;
-        noted(work, index, score, threshold, steps);
-    }
-    Ok(())
 }
 
 /// Checks what is shown of the met documents, one after another, and notes their scores in their marks. If the proof
 /// shows none, the marks stay as they are.
 #[tactic(auto, using(crate::proofs::Counts::section_items))]
-pub(crate) fn documents<H: Hash32>(
+pub(crate) fn documents<'a, H: Hash32>(
     query: &Query,
-    proof: &ProofView<'_>,
+    proof: &ProofView<'a>,
     terms: &PresentTerms,
     threshold: u64,
     work: &mut Work,
@@ -136,8 +93,17 @@ pub(crate) fn documents<H: Hash32>(
     ensures cost { steps.new ≤ steps.old + 2 ^ 52 }
     ensures most { steps.new ≤ steps.old + 4 * items_of_documents proof.now.docs }
 {
-    match proof.docs() {
-        Some(docs) => each::<H>(docs, query, proof, terms, threshold, work, steps),
-        None => Ok(()),
+    let Some(docs) = proof.docs() else {
+        return Ok(());
+    };
+    proof.is_spelled();
+    let mut left = docs;
+    for index in 0..proof.met() {
+        let Some(doc) = left.next(steps) else {
+            unreachable!()
+        };
+        let score = document::<H>(&doc, query, terms, steps)?;
+        noted(work, index, score, threshold, steps);
     }
+    Ok(())
 }

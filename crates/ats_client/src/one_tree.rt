@@ -28,12 +28,7 @@ impl<H: Hash32, O: OwnStrings<H>> OwnNodes<HashedString> for OneTree<'_, H, O> {
     ghost ours = { λ s node. ours H.hash (O.archive s.own.now) s.query.now (in_tree s.tree (numbers_of node)) };
 
     fn at(&self, depth: u8, turns: u32) -> Option<HashedString> {
-        let place = Place {
-            tree: self.tree,
-            depth,
-            turns,
-        };
-        self.own.hashed_string(&place, self.query)
+        OwnList::at(self, depth, turns)
     }
 }
 

@@ -13,7 +13,9 @@ pub(crate) struct PresentTerm {
 
 /// The present terms of a query in order, at most 32.
 ///
-/// Each met document is checked against all of them, without reading the slots and the dictionary again.
+/// Each met document is checked against all of them, without reading the slots and the dictionary again: a document that a
+/// forged root meets may show only five items, too few to count such reads against. A mask of terms would not give the
+/// coefficients.
 #[derive(Drop)]
 pub(crate) struct PresentTerms {
     terms: [PresentTerm; 32],

@@ -17,21 +17,13 @@ pub in_tree-requires : goal.in_tree-requires
 in_tree-requires g c κs =
     let proof : Proof = c.args.proof.now in
     let docs : Documents = documents_of c.in_ok-docs.docs in
-    let range : AreDocumentsInRange docs = c.is_spelled.ensures.range.shown docs c.in_ok-docs.ensures.documents in (
-      (refl, tt),
-      (
-        tt,
-        (
-          documents_rebuild g.H.HashKind.hash (ours g.H.HashKind.hash (g.O.OwnStrings.archive c.args.own.now) c.args.query.now) proof.header proof.met proof.docs docs
-              c.header-leaves.result.documents (docs_leaves_of c.revealed-section.result) (digests_of c.revealed-section.result.digests) c.in_ok-docs.ensures.documents
-              (ap (λ (h : Header). h.documents) c.header-leaves.ensures) (c.revealed-section.ensures.shown ∙ c.in_ok-docs.ensures.whole) c.revealed-section.ensures.digests c.requires.tree,
-          (
-            subst (All (λ (s : Shown). length s.1 ≤ 127)) (sym (c.revealed-section.ensures.shown ∙ c.in_ok-docs.ensures.whole)) (documents-short proof.met docs.leaves range.each),
-            omega (arith, c.requires.room),
-          ),
-        ),
-      ),
-    )
+    let range : AreDocumentsInRange docs = c.is_spelled.ensures.range.shown docs c.in_ok-docs.ensures.documents in
+    let shown = c.revealed-section.ensures.shown ∙ c.in_ok-docs.ensures.whole in
+    let rebuilds = documents_rebuild g.H.HashKind.hash (ours g.H.HashKind.hash (g.O.OwnStrings.archive c.args.own.now) c.args.query.now) proof.header proof.met proof.docs docs
+    c.header-leaves.result.documents (docs_leaves_of c.revealed-section.result) (digests_of c.revealed-section.result.digests) c.in_ok-docs.ensures.documents
+    (ap (λ (h : Header). h.documents) c.header-leaves.ensures) shown c.revealed-section.ensures.digests c.requires.tree in
+    let short = subst (All (λ (s : Shown). length s.1 ≤ 127)) (sym shown) (documents-short proof.met docs.leaves range.each) in
+    ((refl, tt), (tt, ((λ two. absurd (cc two)), (rebuilds, (omega arith, ((λ two. absurd (cc two)), (short, omega (arith, c.requires.room))))))))
 
 pub returns-in-Some : goal.returns-in-Some
 returns-in-Some g c =

@@ -1,5 +1,6 @@
-use Rattle.std.proofs.Common.{◌≡◌, ◌∙◌, ℕ, List, [], Bool, true, false, not, if◌then◌else◌, Option, Some, None, map, get_or, slice_get, option_map, unwrap_or, refl, sym, ap, arith}
-use Rattle.std.proofs.lemmas.Option.{get_or_from_slice_get, slice_get-map, unwrap_or-slice_get}
+use Rattle.std.proofs.Common.{◌≡◌, ◌∙◌, ℕ, List, [], Bool, true, false, not, if◌then◌else◌, Some, map, slice_get, option_map, refl, sym, ap, arith}
+use Rattle.std.proofs.lemmas.Bool.{not-false}
+use Rattle.std.proofs.lemmas.Option.{get_or_from_slice_get, slice_get-map}
 use Rattle.ats_commit.specs.Ours.{asked_term}
 use Rattle.ats_proof.specs.declared.record.Slot.{Slot}
 use Rattle.ats_proof.specs.SeenDocs.{section_of}
@@ -10,6 +11,7 @@ use Rattle.ats_client.specs.Bracketing.{impact_shown}
 use Rattle.ats_client.specs.Documents.{term_shown}
 use Rattle.ats_client.specs.Groups.{slot_at}
 use Rattle.ats_client.specs.SeenTerms.{terms_left, term_of}
+use Rattle.ats_client.proofs.Leaves.{present_leaf}
 use Rattle.ats_client.proofs.Rising.{index_is}
 use Rattle.ats_client.proofs.Slotted.{test_right}
 use Rattle.ats_client.proofs.document.impact.Goals as goal
@@ -35,17 +37,13 @@ module _ (section : TermsSection) (i : ℕ) (slot : Slot) (same_slot : slice_get
   none_shown : not slot.present ≡ true → 0 ≡ impact_shown section i
   none_shown absent = rw slot_is (when_absent slot.present _ absent)
 
-  -- that of the leaf that was found where the slot says; a slot past the end shows 0
-  leaf_shown : (leaves : List ShownTerm) (found leaf : Option Term) → not slot.present ≡ false → leaves ≡ section.leaves
-      → option_map term_of found ≡ slice_get leaves slot.index → found ≡ leaf
-      → unwrap_or (option_map impact_of (option_map term_of leaf)) 0 ≡ impact_shown section i
-  leaf_shown leaves found leaf there same_leaves at is =
-      let impact : Option ShownTerm → ℕ = λ one. unwrap_or (option_map impact_of one) 0 in
-      let element : slice_get section.leaves slot.index ≡ option_map term_of leaf = rw (← same_leaves) (sym at ∙ ap (option_map term_of) is) in
-      let same : impact (option_map term_of leaf) ≡ get_or (map impact_of section.leaves) slot.index 0 =
-      ap impact (sym element) ∙ ap (λ (one : Option ℕ). unwrap_or one 0) (sym (slice_get-map impact_of section.leaves slot.index))
-      ∙ unwrap_or-slice_get (map impact_of section.leaves) slot.index 0 in
-      rw slot_is (when_present slot.present _ _ there same)
+  -- that of the leaf that was found where the slot says
+  leaf_shown : (leaves : List ShownTerm) (leaf : Term) → not slot.present ≡ false → leaves ≡ section.leaves → Some (term_of leaf) ≡ slice_get leaves slot.index
+      → impact_of (term_of leaf) ≡ impact_shown section i
+  leaf_shown leaves leaf there same_leaves at =
+      let element : slice_get (map impact_of section.leaves) slot.index ≡ Some (impact_of (term_of leaf)) =
+      slice_get-map impact_of section.leaves slot.index ∙ ap (option_map impact_of) (ap (λ (ls : List ShownTerm). slice_get ls slot.index) (sym same_leaves) ∙ sym at) in
+      rw slot_is (when_present slot.present _ _ there (sym (get_or_from_slice_get (map impact_of section.leaves) slot.index _ 0 element)))
 
 -- ---- the returns
 
@@ -85,27 +83,15 @@ returns-then-not-slot c =
       most = λ low. omega (arith, c.shows.ensures.most (omega (arith, at, low)), c.slot-slot.ensures.cost);
     }
 
-pub returns-in-Some : goal.returns-in-Some
-returns-in-Some c =
-    let section : TermsSection = section_of c.args.doc.now in
-    let slot : Slot = c.slot-slot.result in
-    let at : (slot_at section.slots c.args.i).index ≡ slot.index = index_is section.slots c.args.i slot c.slot-slot.ensures.slot in
-    let test = test_right section.slots c.args.i (map term_shown (terms_left c.args.walk.now.all)) (map term_shown section.leaves) c.term.result.now (asked_term c.args.query.now c.args.number)
-    slot c.shows.result (ap (map term_shown) c.requires.leaves) (c.term.ensures.value ([], 0)) c.slot-slot.ensures.slot c.shows.ensures.shows in
-    record {
-      right = test.0 c.if-not-shows.false;
-      impact = leaf_shown section c.args.i slot c.slot-slot.ensures.slot (terms_left c.shows.new.self.all) c.leaf.result (Some c.in-Some.term) c.if-not-slot.false
-          (ap terms_left c.shows.ensures.same ∙ c.requires.leaves) c.leaf.ensures.leaf c.in-Some.is;
-      told = tt;
-      wrong = tt;
-      leaves = c.leaf.ensures.same ∙ c.shows.ensures.same;
-      place = c.leaf.ensures.place ∙ sym at;
-      cost = omega (arith, c.leaf.ensures.cost, c.shows.ensures.cost, c.slot-slot.ensures.cost);
-      most = λ low. omega (arith, c.leaf.ensures.most (omega (arith, c.shows.ensures.place)), c.shows.ensures.most (omega (arith, at, low)), c.slot-slot.ensures.cost);
-    }
+-- there is a leaf where the slot of a present term says
+pub unreachable-requires : goal.unreachable-requires
+unreachable-requires c =
+    let there = present_leaf term_shown (terms_left c.args.walk.now.all) c.term.result.now c.slot-slot.result (c.shows.ensures.shows.0 c.if-not-shows.false)
+    (not-false c.slot-slot.result.present c.if-not-slot.false) in
+    cc (there.1, c.in_default.ensures.leaf, c.shows.ensures.same)
 
-pub returns-in-None : goal.returns-in-None
-returns-in-None c =
+pub returns : goal.returns
+returns c =
     let section : TermsSection = section_of c.args.doc.now in
     let slot : Slot = c.slot-slot.result in
     let at : (slot_at section.slots c.args.i).index ≡ slot.index = index_is section.slots c.args.i slot c.slot-slot.ensures.slot in
@@ -113,8 +99,8 @@ returns-in-None c =
     slot c.shows.result (ap (map term_shown) c.requires.leaves) (c.term.ensures.value ([], 0)) c.slot-slot.ensures.slot c.shows.ensures.shows in
     record {
       right = test.0 c.if-not-shows.false;
-      impact = leaf_shown section c.args.i slot c.slot-slot.ensures.slot (terms_left c.shows.new.self.all) c.leaf.result None c.if-not-slot.false
-          (ap terms_left c.shows.ensures.same ∙ c.requires.leaves) c.leaf.ensures.leaf c.in-None.is;
+      impact = leaf_shown section c.args.i slot c.slot-slot.ensures.slot (terms_left c.shows.new.self.all) c.in-Some.term c.if-not-slot.false
+          (ap terms_left c.shows.ensures.same ∙ c.requires.leaves) c.in-Some.ensures.leaf;
       told = tt;
       wrong = tt;
       leaves = c.leaf.ensures.same ∙ c.shows.ensures.same;

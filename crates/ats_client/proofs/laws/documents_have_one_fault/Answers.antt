@@ -1,11 +1,11 @@
-use Rattle.ats_client.proofs.OneDocumentFault.{not_docs, one_docs, docs_tried, not_documents, one_documents, documents_tried}
+use Rattle.ats_client.proofs.OneDocumentFault.{docs_exact, docs_tried, not_documents, one_documents, documents_tried}
 use Rattle.ats_client.proofs.laws.documents_have_one_fault.Goals as goal
 
 pub returns-clause-tree_one : goal.returns-clause-tree_one
-returns-clause-tree_one g c proof = one_docs g.H.HashKind.hash proof.header proof.met proof.docs
+returns-clause-tree_one g c proof = (docs_exact g.H.HashKind.hash proof.header proof.met proof.docs).one
 
 pub returns-clause-tree_none : goal.returns-clause-tree_none
-returns-clause-tree_none g c proof refusal rooted fault = not_docs g.H.HashKind.hash proof.header proof.met proof.docs refusal fault rooted
+returns-clause-tree_none g c proof refusal rooted fault = (docs_exact g.H.HashKind.hash proof.header proof.met proof.docs).breaks refusal fault rooted
 
 pub returns-clause-tree_some : goal.returns-clause-tree_some
 returns-clause-tree_some g c proof = docs_tried g.H.HashKind.hash proof.header proof.met proof.docs

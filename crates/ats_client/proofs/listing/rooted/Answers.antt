@@ -10,19 +10,7 @@ pub rebuilt_list-requires : goal.rebuilt_list-requires
 unfolding prefix_of
 rebuilt_list-requires g c κs =
     let met = c.args.proof.now.met in
-    let entries : List Entry = (prefix_of c.args.one.now.list).entries in (
-      (refl, tt),
-      (
-        omega (arith, c.len.ensures, c.requires.range.some),
-        (
-          omega (arith, c.len.ensures, c.requires.range.few),
-          (
-            ap positions_of c.revealed-section.ensures.shown ∙ list-from 0 met entries ∙ ap (range_with_len 0) (sym c.len.ensures),
-            (
-              ap (λ (s : List Shown). length s) c.revealed-section.ensures.shown ∙ shown_list_size 0 met entries ∙ sym c.len.ensures,
-              omega (arith, c.requires.room),
-            ),
-          ),
-        ),
-      ),
-    )
+    let entries : List Entry = (prefix_of c.args.one.now.list).entries in
+    let front = ap positions_of c.revealed-section.ensures.shown ∙ list-from 0 met entries ∙ ap (range_with_len 0) (sym c.len.ensures) in
+    let size = ap (λ (s : List Shown). length s) c.revealed-section.ensures.shown ∙ shown_list_size 0 met entries ∙ sym c.len.ensures in
+    ((refl, tt), (omega (arith, c.len.ensures, c.requires.range.some), (omega (arith, c.len.ensures, c.requires.range.few), (front, (size, omega (arith, c.requires.room))))))

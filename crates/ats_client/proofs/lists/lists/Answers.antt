@@ -15,7 +15,7 @@ use Rattle.ats_client.specs.Noting.{Note, AreNotes, index_lane, lane_notes, note
 use Rattle.ats_client.specs.Groups.{slot_at}
 use Rattle.ats_client.proofs.Counts.{sum_taken}
 use Rattle.ats_client.proofs.Rising.{before_first, before_next}
-use Rattle.ats_client.proofs.Passing.{begins, passes_absent, passes_present, done, marks_done, free_done, rests_done, IsPassed}
+use Rattle.ats_client.proofs.Passing.{begins, passes_absent, passes_present, right_done, kept_done, marks_done, free_done, rests_done, IsPassed}
 use Rattle.ats_client.proofs.lists.lists.Goals as goal
 use Rattle.ats_client.proofs.lists.lists.Goals.{in-Some+in_ok-threshold, in_default}
 
@@ -125,23 +125,20 @@ loop-i-preserved g c =
 
 pub returns-clause-right : goal.returns-clause-right
 returns-clause-right g c =
-    (done g.H.HashKind.hash c.args.query.now c.args.proof.now c.loop-i.i (prefixes_left c.loop-i.left) c.loop-i.terms c.loop-i.threshold c.loop-i.work.marks c.loop-i.invariant.passed
-    (omega (arith, c.len-i-end.ensures.value)) (omega (arith, c.len-i-end.ensures.value, c.len-i-end.ensures.query.few))).right
+    right_done g.H.HashKind.hash _ _ _ _ _ _ _ c.loop-i.invariant.passed (omega (arith, c.len-i-end.ensures.value)) (omega (arith, c.len-i-end.ensures.value, c.len-i-end.ensures.query.few))
+
+pub returns-clause-terms : goal.returns-clause-terms
+returns-clause-terms g c =
+    kept_done g.H.HashKind.hash _ _ _ _ _ _ _ c.loop-i.invariant.passed (omega (arith, c.len-i-end.ensures.value)) (omega (arith, c.len-i-end.ensures.value, c.len-i-end.ensures.query.few))
 
 pub returns-clause-marks : goal.returns-clause-marks
 returns-clause-marks g c =
-    marks_done g.H.HashKind.hash c.args.query.now c.args.proof.now c.loop-i.terms c.loop-i.threshold c.loop-i.work.marks c.is_spelled.ensures.range.ids.rise
-    (done g.H.HashKind.hash c.args.query.now c.args.proof.now c.loop-i.i (prefixes_left c.loop-i.left) c.loop-i.terms c.loop-i.threshold c.loop-i.work.marks c.loop-i.invariant.passed
-    (omega (arith, c.len-i-end.ensures.value)) (omega (arith, c.len-i-end.ensures.value, c.len-i-end.ensures.query.few)))
+    marks_done g.H.HashKind.hash _ _ _ _ _ _ _ c.loop-i.invariant.passed (omega (arith, c.len-i-end.ensures.value)) (omega (arith, c.len-i-end.ensures.value, c.len-i-end.ensures.query.few)) c.is_spelled.ensures.range.ids.rise
 
 pub returns-clause-free : goal.returns-clause-free
 returns-clause-free g c =
-    free_done g.H.HashKind.hash c.args.query.now c.args.proof.now c.loop-i.terms c.loop-i.threshold c.loop-i.work.marks
-    (done g.H.HashKind.hash c.args.query.now c.args.proof.now c.loop-i.i (prefixes_left c.loop-i.left) c.loop-i.terms c.loop-i.threshold c.loop-i.work.marks c.loop-i.invariant.passed
-    (omega (arith, c.len-i-end.ensures.value)) (omega (arith, c.len-i-end.ensures.value, c.len-i-end.ensures.query.few)))
+    free_done g.H.HashKind.hash _ _ _ _ _ _ _ c.loop-i.invariant.passed (omega (arith, c.len-i-end.ensures.value)) (omega (arith, c.len-i-end.ensures.value, c.len-i-end.ensures.query.few))
 
 pub returns-clause-threshold : goal.returns-clause-threshold
 returns-clause-threshold g c =
-    rests_done g.H.HashKind.hash c.args.query.now c.args.proof.now c.loop-i.terms c.loop-i.threshold c.loop-i.work.marks
-    (done g.H.HashKind.hash c.args.query.now c.args.proof.now c.loop-i.i (prefixes_left c.loop-i.left) c.loop-i.terms c.loop-i.threshold c.loop-i.work.marks c.loop-i.invariant.passed
-    (omega (arith, c.len-i-end.ensures.value)) (omega (arith, c.len-i-end.ensures.value, c.len-i-end.ensures.query.few)))
+    rests_done g.H.HashKind.hash _ _ _ _ _ _ _ c.loop-i.invariant.passed (omega (arith, c.len-i-end.ensures.value)) (omega (arith, c.len-i-end.ensures.value, c.len-i-end.ensures.query.few))

@@ -1,12 +1,16 @@
 use Rattle.std.proofs.Common.{◌≡◌, ◌∙◌, List, [], length, get_or, slice_get, Some, None, sym, ap, arith}
 use Rattle.std.proofs.lemmas.Bool.{not-true, not-false}
 use Rattle.std.proofs.lemmas.Option.{slice_get-get_or}
+use Rattle.ats_commit.specs.Ours.{asked_term}
 use Rattle.ats_proof.specs.Value.{ShownEntry, Prefix}
 use Rattle.ats_client.specs.Seen.{shown_of}
 use Rattle.ats_client.specs.Lists.{prefix_of, prefixes_left}
+use Rattle.ats_client.specs.Slots.{entry_shown}
 use Rattle.ats_client.proofs.Counts.{taken}
+use Rattle.ats_client.proofs.Leaves.{present_leaf}
+use Rattle.ats_client.proofs.Slotted.{slot_shows}
 use Rattle.ats_client.proofs.Rising.{index_is}
-use Rattle.ats_client.proofs.Presents.{none_present, one_present, entry_there, prefix_there, fewer_absent, prefixes_fewer, has_leaf, has_prefix, same_one}
+use Rattle.ats_client.proofs.Presents.{none_present, one_present, entry_there, prefix_there, fewer_absent, prefixes_fewer, has_prefix, same_one}
 use Rattle.ats_client.proofs.presenting.present.Goals as goal
 
 pub returns-then-not-slot-clause-none : goal.returns-then-not-slot-clause-none
@@ -24,8 +28,10 @@ returns-then-not-slot-clause-enough c =
 pub unreachable-requires : goal.unreachable-requires
 unreachable-requires c =
     let proof = c.args.proof.now in
-    let none : None ≡ slice_get proof.dict c.slot-slot.result.index = c.in_default.ensures.leaf ∙ ap (λ (dict : List ShownEntry). slice_get dict c.slot-slot.result.index) c.requires.dict in
-    has_leaf c.args.query.now proof c.args.i c.slot-slot.result c.requires.right c.slot-slot.ensures.slot (not-false c.slot-slot.result.present c.if-not-slot.false) none
+    let slot = c.slot-slot.result in
+    let shows = slot_shows c.args.query.now proof c.args.i slot c.slot-slot.ensures.slot c.requires.right in
+    let there = present_leaf entry_shown proof.dict (asked_term c.args.query.now c.args.i) slot shows (not-false slot.present c.if-not-slot.false) in
+    cc (there.1, c.in_default.ensures.leaf, c.requires.dict)
 
 pub unreachable-requires-in_default-next_list : goal.unreachable-requires-in_default-next_list
 unreachable-requires-in_default-next_list c =

@@ -1,20 +1,13 @@
-use Rattle.std.proofs.Common.{◌∙◌, sym, ap, subst}
+use Rattle.std.proofs.Common.{◌∙◌, sym, ap}
 use Rattle.std.proofs.lemmas.Iterator.Adapters.{option_map_id}
 use Rattle.ats_tree.specs.Nodes.{NodeNumbers}
 use Rattle.ats_tree.proofs.Public.{numbers-back}
 use Rattle.ats_commit.specs.Ours.{ours}
 use Rattle.ats_commit.specs.Places.{in_tree}
-use Rattle.ats_client.proofs.Sections.{IsTagged, ours-tagged}
 use Rattle.ats_client.proofs.one_tree.OneTreeOwnNodesHashedString.at.Goals as goal
 
 pub returns-clause-string : goal.returns-clause-string
 returns-clause-string g c =
-    option_map_id _ ∙ c.hashed_string.ensures
+    option_map_id _ ∙ c.at.ensures.string
     ∙ ap (λ (at : NodeNumbers). ours g.H.HashKind.hash (g.O.OwnStrings.archive c.args.self.now.own.now) c.args.self.now.query.now (in_tree c.args.self.now.tree at))
     (sym (numbers-back c.args.depth c.args.turns c.requires.inside))
-
-pub returns-clause-tagged : goal.returns-clause-tagged
-returns-clause-tagged g c =
-    subst IsTagged (sym c.hashed_string.ensures)
-    (ours-tagged g.H.HashKind.hash (g.O.OwnStrings.archive c.args.self.now.own.now) c.args.self.now.query.now
-    (record { tree = c.args.self.now.tree; depth = c.args.depth; turns = c.args.turns }))

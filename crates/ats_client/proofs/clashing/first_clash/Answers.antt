@@ -2,7 +2,7 @@ use Rattle.std.proofs.Common.{Some, None, refl}
 use Rattle.std.specs.Option.{option_map}
 use Rattle.ats_client.specs.Sections.{difference_of}
 use Rattle.ats_client.proofs.Sections.{extract-parts}
-use Rattle.ats_client.proofs.clashing.in_proof.Goals as goal
+use Rattle.ats_client.proofs.clashing.first_clash.Goals as goal
 
 pub returns-in-Some-dictionary : goal.returns-in-Some-dictionary
 returns-in-Some-dictionary g c =

@@ -1,23 +1,23 @@
-use Rattle.std.proofs.Common.{◌∙◌, ◌<◌, ℕ, List, length, ap, below_more, arith}
-use Rattle.std.proofs.lemmas.Result.{err_from_is_err_and}
+use Rattle.std.proofs.Common.{◌∙◌, ◌<◌, ℕ, List, length, ap, below_more, inl, inr, arith}
 use Rattle.ats_bound.specs.Lookup.{looked_score}
 use Rattle.ats_proof.specs.SeenDocs.{section_of}
 use Rattle.ats_proof.specs.Value.{ShownTerm, TermsSection}
 use Rattle.ats_proof.specs.declared.terms.TermsView.{TermsView}
 use Rattle.ats_client.specs.declared.present_terms.PresentTerm.{PresentTerm}
 use Rattle.ats_client.specs.Bracketing.{impact_shown}
-use Rattle.ats_client.specs.Documents.{MetDocument, IsTermSlotRight, IsTermSlotsFault}
+use Rattle.ats_client.specs.Documents.{MetDocument, IsTermSlotRight, document_rules}
+use Rattle.ats_base.specs.Rules.{IsFirstFault}
 use Rattle.ats_client.specs.PresentTerms.{numbers_of, bare_lanes}
 use Rattle.ats_client.specs.SeenTerms.{terms_left, document_of}
 use Rattle.ats_client.proofs.Faults.{passed_on}
 use Rattle.ats_client.proofs.Looked.{looked_more, number_right, slot_fails}
 use Rattle.ats_client.proofs.Presents.{at_place}
 use Rattle.ats_client.proofs.Rising.{before_first, before_next}
-use Rattle.ats_client.proofs.document.score.Goals as goal
+use Rattle.ats_client.proofs.document.document.Goals as goal
 
 pub loop-i-init : goal.loop-i-init
 unfolding terms_left
-loop-i-init c = record {
+loop-i-init g c = record {
   leaves = ap terms_left c.over-walk.ensures.all ∙ c.terms.ensures.leaves;
   right = λ j low. absurd (omega (arith, low));
   score = omega arith;
@@ -28,25 +28,26 @@ loop-i-init c = record {
 }
 
 pub impact-requires-clause-number : goal.impact-requires-clause-number
-impact-requires-clause-number c =
+impact-requires-clause-number g c =
     at_place (λ (term : PresentTerm). term.number < length c.args.query.now) c.args.terms.now c.loop-i.i c.get-number.result c.requires.numbers c.get-number.ensures.term
 
 pub returns-in_err-impact-clause-fault : goal.returns-in_err-impact-clause-fault
-returns-in_err-impact-clause-fault c =
+returns-in_err-impact-clause-fault g c =
     let one : MetDocument = document_of c.args.doc.now in
     let fault = slot_fails c.args.query.now c.args.terms.now one c.loop-i.i c.get-number.result c.in_err-impact.field-0.0 c.get-number.ensures.term c.loop-i.invariant.right
     c.in_err-impact.ensures.told c.in_err-impact.ensures.wrong in
-    let told = err_from_is_err_and c.from_residual.result c.from_residual.ensures.1 in
-    passed_on (IsTermSlotsFault c.args.query.now (numbers_of c.args.terms.now) one) _ told.0 _ told.1 told.2 fault
+    passed_on (IsFirstFault (document_rules g.H.HashKind.hash c.args.query.now (numbers_of c.args.terms.now) one)) c.from_residual-in_err-impact.result c.in_err-impact.field-0.0
+    c.from_residual-in_err-impact.ensures.1
+    (inr (c.in_ok-rooted.ensures.kept, inl fault))
 
 pub returns-in_err-impact-clause-most : goal.returns-in_err-impact-clause-most
-returns-in_err-impact-clause-most c =
+returns-in_err-impact-clause-most g c =
     let section : TermsSection = section_of c.args.doc.now in
     let low : c.loop-i.i < length section.slots = omega (arith, c.loop-i-test.true, c.len-i-end.ensures.value, c.requires.each) in
-    omega (arith, c.impact.ensures.most (c.loop-i.invariant.before c.loop-i.i (omega arith) low), c.loop-i.invariant.most, low, c.requires.each)
+    omega (arith, c.impact.ensures.most (c.loop-i.invariant.before c.loop-i.i (omega arith) low), c.loop-i.invariant.most, c.rooted.ensures.most, low, c.requires.each)
 
 pub loop-i-preserved : goal.loop-i-preserved
-loop-i-preserved c =
+loop-i-preserved g c =
     let one : MetDocument = document_of c.args.doc.now in
     let i : ℕ = c.loop-i.i in
     let term : PresentTerm = c.get-number.result in
