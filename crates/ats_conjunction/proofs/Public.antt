@@ -6,5 +6,3 @@ pub use Rattle.ats_conjunction.proofs.Refusals.{one_of_bytes}
 pub use Rattle.ats_conjunction.proofs.Refusals.{not_refused}
 -- for each archive with the root of an accepted proof, the documents are all that have every term, or there is a collision
 pub use Rattle.ats_conjunction.proofs.Soundness.{both_or_collide}
--- if there is no collision with an archive of the root, they are all
-pub use Rattle.ats_conjunction.proofs.Soundness.{all_if_none}

@@ -1,8 +1,8 @@
 -- The documents that a proof shows are all that have every term of the query, if all that is shown is an archive's own.
-use Rattle.std.proofs.Common.{◌≡◌, ◌<◌, ◌∙◌, ◌&&◌, ℕ, zero, suc, Bool, true, false, cond, nat_eq, nat_lt, List, [], ◌∷◌, length, map, get_or, slice_get, Option, Some, None, refl, sym, ap, ap₂, subst, inl, inr, arith}
+use Rattle.std.proofs.Common.{◌≡◌, ◌<◌, ◌∙◌, ◌&&◌, ℕ, suc, Bool, true, false, cond, nat_eq, nat_lt, List, [], ◌∷◌, length, map, get_or, slice_get, Option, Some, None, refl, sym, ap, ap₂, subst, inl, inr, arith}
 use Rattle.std.specs.List.{All, filter, range_with_len}
 use Rattle.std.proofs.lemmas.Bool.{cases_Bool, eqb-true}
-use Rattle.std.proofs.lemmas.List.Elements.{All-head, All-tail, All-map}
+use Rattle.std.proofs.lemmas.List.Elements.{All-map}
 use Rattle.std.proofs.lemmas.List.Folds.{Any-from_list_any, list_all_at}
 use Rattle.std.proofs.lemmas.List.FromFn.{length-range_with_len, get_or-range_with_len}
 use Rattle.std.proofs.lemmas.Option.{slice_get-get_or, slice_get_within}
@@ -18,7 +18,7 @@ use Rattle.ats_proof.specs.Value.{TermsSection, Documents, Proof, AreDocumentsOf
 use Rattle.ats_client.specs.Documents.{MetDocument, documents_from, documents_in, met_documents, present_numbers}
 use Rattle.ats_client.specs.Groups.{slot_at}
 use Rattle.ats_client.specs.WholeLists.{shows_whole}
-use Rattle.ats_client.proofs.Public.{ShowsOwn, below_in, absent_lacks, whole_meets, met_inside, slots_tell}
+use Rattle.ats_client.proofs.Public.{ShowsOwn, below_in, absent_lacks, whole_meets, met_inside, slots_tell, sections-hold, at_place}
 use Rattle.ats_conjunction.specs.Documents.{has_all, both, are_present, shows_all, with_all, documents_shown}
 use Rattle.ats_conjunction.specs.Rules.{IsWhole}
 use Rattle.ats_conjunction.proofs.Present.{HasAbsent, absent_at, all_numbers, all_counted}
@@ -61,18 +61,6 @@ docs_of_ones (id ∷ met) (leaf ∷ leaves) [] leaf_each section_each = absurd (
 docs_of_ones (id ∷ met) (leaf ∷ leaves) (section ∷ sections) leaf_each section_each =
     ap (λ (ns : List ℕ). id ∷ ns) (docs_of_ones met leaves sections (omega (arith, leaf_each)) (omega (arith, section_each)))
 
-section_of_ones : (P : TermsSection → Type 0) (met : List ℕ) (leaves : List DocLeaf) (sections : List TermsSection) (i : ℕ) (one : MetDocument) → All P sections
-    → slice_get (documents_from met leaves sections) i ≡ Some one → P one.section
-section_of_ones P [] leaves sections i one each there = absurd (omega (arith, slice_get_within [] i one there))
-section_of_ones P (id ∷ met) [] sections i one each there = absurd (omega (arith, slice_get_within [] i one there))
-section_of_ones P (id ∷ met) (leaf ∷ leaves) [] i one each there = absurd (omega (arith, slice_get_within [] i one there))
-section_of_ones P (id ∷ met) (leaf ∷ leaves) (section ∷ sections) zero one each there =
-    let first : MetDocument = record { doc = id; leaf = leaf; section = section } in
-    let same : first ≡ one = cc in
-    subst (λ (o : MetDocument). P o.section) same (All-head P section sections each)
-section_of_ones P (id ∷ met) (leaf ∷ leaves) (section ∷ sections) (suc i) one each there =
-    section_of_ones P met leaves sections i one (All-tail P section sections each) there
-
 -- the algorithm of a proof, by its documents
 abbrev algorithm_by : Option Documents → Algorithm
 algorithm_by None = Tnra
@@ -88,7 +76,8 @@ slots_of_met : (proof : Proof) (docs : Option Documents) → AreDocumentsOf proo
     → length one.section.slots ≡ present_in proof.slots
 slots_of_met proof None parts i one there = absurd (omega (arith, slice_get_within [] i one there))
 slots_of_met proof (Some docs) parts i one there =
-    section_of_ones (λ (section : TermsSection). length section.slots ≡ present_in proof.slots) proof.met docs.leaves docs.sections i one parts.slot_each there
+    at_place (λ (one : MetDocument). length one.section.slots ≡ present_in proof.slots) (documents_from proof.met docs.leaves docs.sections) i one
+    (sections-hold (λ (section : TermsSection). length section.slots ≡ present_in proof.slots) proof.met docs.leaves docs.sections parts.slot_each) there
 
 -- ---- a proof that shows an archive's own
 

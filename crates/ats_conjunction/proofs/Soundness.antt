@@ -1,16 +1,11 @@
 -- For each archive with the root of an accepted proof, the documents that it shows are all that have every term of the
 -- query, or there is a collision.
-use Rattle.std.proofs.Common.{◌≡◌, ℕ, List, length, None, refl, sym, inl, inr}
+use Rattle.std.proofs.Common.{◌≡◌, ℕ, List, length, sym, inl, inr}
 use Rattle.ats_terms.specs.Query.{IsQuery}
-use Rattle.ats_commit.specs.Archive.{Archive}
-use Rattle.ats_commit.specs.Own.{AreTexts}
-use Rattle.ats_commit.specs.Root.{root_of}
 use Rattle.ats_proof.specs.Ranges.{IsInRange}
 use Rattle.ats_proof.specs.Value.{Proof, IsProof}
 use Rattle.ats_proof.proofs.Public.{in_range}
-use Rattle.ats_client.specs.Strings.{extract}
-use Rattle.ats_client.proofs.Public.{none_some, own_or_collides}
-use Rattle.ats_conjunction.specs.Documents.{both, documents_shown}
+use Rattle.ats_client.proofs.Public.{own_or_collides}
 use Rattle.ats_conjunction.specs.Headline.{AreBothOrCollide}
 use Rattle.ats_conjunction.specs.Rules.{AcceptsBoth}
 use Rattle.ats_conjunction.proofs.Showing.{shown_are_both}
@@ -25,11 +20,3 @@ both_or_collide H sized root query bytes proof asked says accepts archive are sa
           accepts.kept.0 accepts.kept.1.1.1.0)
       | inr some ↦ inr some
     ]
-
--- if there is no collision with an archive of the root, they are all
-pub all_if_none : (H : List ℕ → List ℕ) (archive : Archive) (query : List (List ℕ × ℕ)) (proof : Proof) → AreTexts archive.texts
-    → AreBothOrCollide H (root_of H archive) query proof → extract H archive query proof ≡ None → documents_shown proof ≡ both archive.texts query
-all_if_none H archive query proof are headline none = elim (headline archive are refl) [
-  | inl right ↦ right
-  | inr some ↦ absurd (none_some (extract H archive query proof) none some)
-]
