@@ -27,6 +27,7 @@ use ats_refusal::Refusal;
 use ats_terms::Query;
 
 // The check, group by group.
+#[tactic(auto, using(crate::proofs::Counts::items_are))]
 fn checked<'a, H: Hash32>(
     root: &[u8; 32],
     query: &Query,
