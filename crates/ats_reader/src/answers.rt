@@ -53,7 +53,9 @@ pub(crate) fn rows_for(
     let Ok(text) = str::from_utf8(text) else {
         return Err(Fault::NoText);
     };
-    let top = Top::new(r)?;
+    let Ok(top) = Top::new(r) else {
+        return Err(Fault::RowsOut { r });
+    };
     if room < r as usize {
         return Err(Fault::FewRows { room });
     }
@@ -127,7 +129,9 @@ pub(crate) fn text_for(
     ensures fault { IfErr result (IsTextFault root.now doc bytes.now) }
 {
     let proof = TextView::read(bytes)?;
-    check_text::<Sha>(root, doc, &proof, &mut Steps::new(alloc))?;
+    if let Err(refusal) = check_text::<Sha>(root, doc, &proof, &mut Steps::new(alloc)) {
+        return Err(Fault::TextRefused(refusal));
+    }
     Ok(TextAt {
         first: TEXT_AT,
         size: proof.text().len() as u64,
@@ -145,5 +149,8 @@ pub(crate) fn growth_for(
     ensures fault { IfErr result (IsGrowthFault old.now new.now bytes.now) }
 {
     let growth = GrowthView::read(bytes)?;
-    Ok(check_growth::<Sha>(old, new, &growth, &mut Steps::new(alloc))?)
+    match check_growth::<Sha>(old, new, &growth, &mut Steps::new(alloc)) {
+        Ok(grown) => Ok(grown),
+        Err(refusal) => Err(Fault::GrowthRefused(refusal)),
+    }
 }

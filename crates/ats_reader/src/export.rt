@@ -43,7 +43,8 @@ fn show_terms(query: &Query, room: &mut [ShownTerm])
     }
 }
 
-/// Checks the bytes of a proof under a root, for a query and the `r` best documents. `rows` needs room for `r` rows.
+/// Checks the bytes of a proof under a root, for a query and the `r` best documents. `rows` needs room for `r` rows: the
+/// room is compared with `r`, not with the rows of the answer, so too little is found before the check.
 #[unsafe(no_mangle)]
 pub extern "C" fn ats_check(
     alloc: Global,

@@ -1,10 +1,9 @@
 //! Why nothing is shown.
 
 ghost use Rattle.std.specs.Prelude.{◌≡◌};
-ghost use Rattle.ats_reader.specs.declared.fault.Fault.TheVariants.{RowsOut, NoQuery, BadShape, BothRefused, TextRefused, GrowthRefused, OutOfMemory};
+ghost use Rattle.ats_reader.specs.declared.fault.Fault.TheVariants.{NoQuery, BadShape, BothRefused, OutOfMemory};
 
 use ats_grammar::ShapeFault;
-use ats_impact::ROut;
 use ats_refusal::{BothRefusal, GrowthRefusal, Refusal, TextRefusal};
 use ats_terms::QueryFault;
 
@@ -36,14 +35,6 @@ pub(crate) enum Fault {
     OutOfMemory,
 }
 
-impl From<ROut> for Fault {
-    ghost from_gives = { λ out fault. fault ≡ RowsOut out.r };
-
-    fn from(out: ROut) -> Self {
-        Fault::RowsOut { r: out.r }
-    }
-}
-
 impl From<QueryFault> for Fault {
     ghost from_gives = { λ query fault. fault ≡ NoQuery query };
 
@@ -65,22 +56,6 @@ impl From<BothRefusal> for Fault {
 
     fn from(refusal: BothRefusal) -> Self {
         Fault::BothRefused(refusal)
-    }
-}
-
-impl From<TextRefusal> for Fault {
-    ghost from_gives = { λ refusal fault. fault ≡ TextRefused refusal };
-
-    fn from(refusal: TextRefusal) -> Self {
-        Fault::TextRefused(refusal)
-    }
-}
-
-impl From<GrowthRefusal> for Fault {
-    ghost from_gives = { λ refusal fault. fault ≡ GrowthRefused refusal };
-
-    fn from(refusal: GrowthRefusal) -> Self {
-        Fault::GrowthRefused(refusal)
     }
 }
 

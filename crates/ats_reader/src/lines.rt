@@ -32,22 +32,17 @@ fn shape_of(reason: u32) -> Option<ShapeKind>
 fn rule_words(reason: u32, first: u32, second: u32) -> Option<Phrase>
     ensures { result ≡ rule_words reason first second }
 {
+    let (term, entry, old, new) = (first, second, first, second);
     let words = match reason {
         16 => refusal_words(Refusal::OtherRoot),
         17 => refusal_words(Refusal::SlotCount { shown: first }),
         18 => refusal_words(Refusal::DictMisfit),
         19 => refusal_words(Refusal::DictRoot),
-        20 => refusal_words(Refusal::SlotWrong { term: first }),
-        21 => refusal_words(Refusal::IndexOut {
-            term: first,
-            entry: second,
-        }),
-        22 => refusal_words(Refusal::Repeated {
-            term: first,
-            entry: second,
-        }),
-        23 => refusal_words(Refusal::ListMisfit { term: first }),
-        24 => refusal_words(Refusal::ListRoot { term: first }),
+        20 => refusal_words(Refusal::SlotWrong { term }),
+        21 => refusal_words(Refusal::IndexOut { term, entry }),
+        22 => refusal_words(Refusal::Repeated { term, entry }),
+        23 => refusal_words(Refusal::ListMisfit { term }),
+        24 => refusal_words(Refusal::ListRoot { term }),
         25 => refusal_words(Refusal::Unmet { index: first }),
         26 => refusal_words(Refusal::DocsMisfit),
         27 => refusal_words(Refusal::DocsRoot),
@@ -68,10 +63,7 @@ fn rule_words(reason: u32, first: u32, second: u32) -> Option<Phrase>
         41 => text_refusal_words(TextRefusal::TextRoot),
         42 => growth_refusal_words(GrowthRefusal::OtherOld),
         43 => growth_refusal_words(GrowthRefusal::OtherNew),
-        44 => growth_refusal_words(GrowthRefusal::Shrunk {
-            old: first,
-            new: second,
-        }),
+        44 => growth_refusal_words(GrowthRefusal::Shrunk { old, new }),
         45 => growth_refusal_words(GrowthRefusal::GrowthMisfit { digests: first }),
         46 => growth_refusal_words(GrowthRefusal::OldTexts),
         47 => growth_refusal_words(GrowthRefusal::NewTexts),
