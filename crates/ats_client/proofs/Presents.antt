@@ -6,13 +6,9 @@ use Rattle.std.proofs.lemmas.Option.{get_or_from_slice_get, slice_get_within, sl
 use Rattle.ats_dict.specs.Entry.{DictEntry}
 use Rattle.ats_dict.specs.Dictionary.{low}
 use Rattle.ats_proof.specs.declared.record.Slot.{Slot}
-use Rattle.ats_proof.specs.Value.{ShownEntry, Prefix, Proof, present_in}
+use Rattle.ats_proof.specs.Value.{ShownEntry, Prefix, present_in}
 use Rattle.ats_client.specs.Presented.{Presented, presented_from, entry_at, first_prefix}
-use Rattle.ats_client.specs.Slots.{IsAt}
-use Rattle.ats_commit.specs.Ours.{asked_term}
-use Rattle.ats_client.specs.Groups.{dict_terms, IsSlotRight}
 use Rattle.ats_client.proofs.HeadlineTerms.{kind_absent, kind_present}
-use Rattle.ats_client.proofs.Slotted.{slot_shows}
 
 -- what holds of all elements holds of the one at a place
 pub at_place : {X : Type 0} (P : X → Type 0) (xs : List X) (i : ℕ) (x : X) → All P xs → slice_get xs i ≡ Some x → P x

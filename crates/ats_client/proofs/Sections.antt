@@ -12,7 +12,7 @@ use Rattle.ats_tree.specs.Nodes.{Node, NodeNumbers, by_path, numbers_of}
 use Rattle.ats_tree.specs.Paths.{Path, path_of}
 use Rattle.ats_tree.specs.Rebuild.{rebuilt}
 use Rattle.ats_tree.specs.Shown as tree
-use Rattle.ats_tree.specs.Strings.{string_at, node_string, node_strings}
+use Rattle.ats_tree.specs.Strings.{string_at, node_string}
 use Rattle.ats_tree.specs.Tree as trees
 use Rattle.ats_tree.specs.Clashes as nodes
 use Rattle.ats_tree.specs.declared.clashing.Clash as found

@@ -69,7 +69,6 @@ fn noted(work: &mut Work, index: u32, score: u64, threshold: u64, steps: &mut St
 
 /// Checks what is shown of the met documents, one after another, and notes their scores in their marks. If the proof
 /// shows none, the marks stay as they are.
-#[tactic(auto, using(crate::proofs::Counts::section_items))]
 pub(crate) fn documents<'a, H: Hash32>(
     query: &Query,
     proof: &ProofView<'a>,

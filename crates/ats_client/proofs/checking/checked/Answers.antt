@@ -1,4 +1,4 @@
-use Rattle.std.proofs.Common.{◌≡◌, ℕ, List, Result, arith}
+use Rattle.std.proofs.Common.{◌≡◌, ℕ, List, Result}
 use Rattle.std.specs.Result.{IfErr, IsErrAnd}
 use Rattle.ats_bound.specs.Cut.{ShownLane, bracket}
 use Rattle.ats_proof.specs.Value.{Proof}
@@ -44,40 +44,11 @@ returns-in_err-rows-clause-refused g c =
     c.from_residual-in_err-rows.ensures.1 c.in_ok-opened.ensures.kept c.in_ok-dictionary.ensures.kept c.in_ok-slots.ensures.kept
     c.in_ok-threshold.ensures.right (c.in_ok-met.ensures.all bracket _ c.in_ok-threshold.ensures.marks) c.in_ok-documents_tree.ensures.kept c.in_ok-documents.ensures.right c.in_err-rows.ensures.fault
 
-pub rows-requires-clause-count : goal.rows-requires-clause-count
-rows-requires-clause-count g c =
-    omega (
-      arith,
-      c.requires.count,
-      c.opened.ensures.cost,
-      c.dictionary.ensures.cost,
-      c.slots.ensures.cost,
-      c.lists.ensures.cost,
-      c.met.ensures.bound,
-      c.documents_tree.ensures.cost,
-      c.documents.ensures.cost,
-    )
-
 pub settled-requires-clause-marks : goal.settled-requires-clause-marks
 settled-requires-clause-marks g c =
     let proof : Proof = c.args.proof.now in
     let lanes : List ShownLane = lanes_of c.args.query.now proof in
     (bounds_of proof, lanes, c.rows.ensures.marks (bounds_of proof) lanes c.in_ok-documents.ensures.marks, c.in_ok-threshold.ensures.threshold)
-
-pub settled-requires-clause-count : goal.settled-requires-clause-count
-settled-requires-clause-count g c =
-    omega (
-      arith,
-      c.requires.count,
-      c.opened.ensures.cost,
-      c.dictionary.ensures.cost,
-      c.slots.ensures.cost,
-      c.lists.ensures.cost,
-      c.met.ensures.bound,
-      c.documents_tree.ensures.cost,
-      c.documents.ensures.cost,
-      c.rows.ensures.bound,
-    )
 
 pub returns-then-not-settled-clause-refused : goal.returns-then-not-settled-clause-refused
 returns-then-not-settled-clause-refused g c =

@@ -74,10 +74,6 @@ pub document-requires-clause-numbers : goal.document-requires-clause-numbers
 document-requires-clause-numbers g c =
     subst (All (λ (term : PresentTerm). term.number < length c.args.query.now)) (sym c.requires.terms) (kept_within c.args.query.now c.args.proof.now c.requires.slots)
 
-pub document-requires-clause-room : goal.document-requires-clause-room
-document-requires-clause-room g c =
-    omega (arith, c.requires.room, c.loop-index.invariant.cost, c.next.ensures.cost, c.loop-index-test.true, c.met-index-end.ensures, c.is_spelled.ensures.range.ids.few)
-
 pub noted-requires-clause-inside : goal.noted-requires-clause-inside
 noted-requires-clause-inside g c =
     let t = c.loop-index.invariant.tried (documents_of c.in-Some.docs) c.in-Some.ensures.documents in

@@ -1,4 +1,4 @@
-use Rattle.std.proofs.Common.{◌≡◌, ◌∙◌, List, [], length, get_or, slice_get, Some, None, sym, ap, arith}
+use Rattle.std.proofs.Common.{◌≡◌, ◌∙◌, List, [], length, get_or, slice_get, Some, sym, ap, arith}
 use Rattle.std.proofs.lemmas.Bool.{not-true, not-false}
 use Rattle.std.proofs.lemmas.Option.{slice_get-get_or}
 use Rattle.ats_commit.specs.Ours.{asked_term}
