@@ -8,7 +8,7 @@ use Rattle.ats_tree.specs.Shown.{Shown, positions_of}
 use Rattle.ats_proof.specs.Runs.{shown_docs, shown_list}
 use Rattle.ats_proof.specs.Value.{Documents, Proof, items_of, items_of_prefix, items_of_section, items_of_documents}
 use Rattle.ats_proof.proofs.Public.{length-shown_list}
-use Rattle.ats_client.proofs.Presents.{at_front}
+use Rattle.ats_client.proofs.TermsLeft.{at_front}
 
 -- how many items a proof has
 pub items_are : (proof : Proof) → items_of proof

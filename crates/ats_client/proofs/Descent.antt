@@ -45,7 +45,7 @@ use Rattle.ats_client.proofs.DescentDocuments.{all-documents-bind}
 use Rattle.ats_client.proofs.DescentTrees.{tree-binds}
 use Rattle.ats_client.proofs.HeadlineTerms.{HoldsPresent, each_presented}
 use Rattle.ats_client.proofs.Leaves.{leaf_own, present_leaf}
-use Rattle.ats_client.proofs.Presents.{at_place, entry_there}
+use Rattle.ats_client.proofs.TermsLeft.{at_place, entry_there}
 use Rattle.ats_client.proofs.Slotted.{slot_shows}
 
 -- ---- elements of lists

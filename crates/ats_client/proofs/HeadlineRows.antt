@@ -25,7 +25,7 @@ use Rattle.ats_client.specs.Indexes.{AreNames}
 use Rattle.ats_client.specs.Groups.{indexes_of, met_at, AreAllMet, AreRowsRight, IsAnswerSettled, brackets_of}
 use Rattle.ats_client.specs.Rows.{row_of}
 use Rattle.ats_client.specs.Headline.{HoldsRow, AreRight}
-use Rattle.ats_client.proofs.Listed.{names_inside}
+use Rattle.ats_client.proofs.ListNotes.{names_inside}
 
 -- ---- met ids
 

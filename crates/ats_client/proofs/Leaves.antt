@@ -6,7 +6,7 @@ use Rattle.ats_proof.specs.declared.record.Slot.{Slot}
 use Rattle.ats_tree.specs.Shown as tree
 use Rattle.ats_client.specs.Slots.{Shown, IsAt, IsBetween, ShowsTerm}
 use Rattle.ats_client.specs.Strings.{AreLeavesOf}
-use Rattle.ats_client.proofs.Presents.{at_place}
+use Rattle.ats_client.proofs.TermsLeft.{at_place}
 
 -- what is read of a changed list is the change of what is read
 was_mapped : {X Y : Type 0} (f : X → Y) (o : Option X) (y : Y) → option_map f o ≡ Some y → (x : X) × (o ≡ Some x) × (f x ≡ y)

@@ -5,8 +5,8 @@ mod Rising
 mod Counts
 mod Named
 mod Marks
-mod Listed
-mod Presents
+mod ListNotes
+mod TermsLeft
 mod Lanes
 mod Passing
 mod Noting

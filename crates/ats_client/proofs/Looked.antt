@@ -5,14 +5,14 @@ use Rattle.std.proofs.lemmas.Option.{get_or_from_slice_get, slice_get_within, sl
 use Rattle.ats_bound.specs.Cut.{ShownLane}
 use Rattle.ats_bound.specs.Lookup.{Table, looked_score_from}
 use Rattle.ats_commit.specs.Ours.{asked_term}
-use Rattle.ats_client.specs.declared.present_terms.PresentTerm.{PresentTerm}
+use Rattle.ats_client.specs.declared.kept_terms.PresentTerm.{PresentTerm}
 use Rattle.ats_refusal.specs.declared.proof.Refusal.{Refusal}
 use Rattle.ats_refusal.specs.declared.proof.Refusal.TheVariants.{TermSlot}
 use Rattle.ats_client.specs.Documents.{MetDocument, term_shown, IsTermSlotRight, IsTermSlotsFault}
 use Rattle.ats_client.specs.Groups.{slot_at}
-use Rattle.ats_client.specs.PresentTerms.{numbers_of, bare_lanes}
+use Rattle.ats_client.specs.KeptTerms.{numbers_of, bare_lanes}
 use Rattle.ats_client.specs.Slots.{ShowsTerm}
-use Rattle.ats_client.proofs.Presents.{at_front}
+use Rattle.ats_client.proofs.TermsLeft.{at_front}
 
 -- ---- the sum
 

@@ -26,11 +26,11 @@ use Rattle.ats_client.specs.Accepts.{section_rules}
 use Rattle.ats_client.specs.Documents.{MetDocument, documents_in, met_documents, present_numbers}
 use Rattle.ats_client.specs.Groups.{IsListRight, met_at, slot_at}
 use Rattle.ats_client.specs.Presented.{Presented, presented}
-use Rattle.ats_client.specs.PresentTerms.{kept_term}
+use Rattle.ats_client.specs.KeptTerms.{kept_term}
 use Rattle.ats_client.specs.Strings.{IsOwnList, IsOwn}
 use Rattle.ats_client.specs.WholeLists.{is_whole, shows_whole}
-use Rattle.ats_client.specs.declared.present_terms.PresentTerm.{PresentTerm}
-use Rattle.ats_client.proofs.Listed.{names_inside}
+use Rattle.ats_client.specs.declared.kept_terms.PresentTerm.{PresentTerm}
+use Rattle.ats_client.proofs.ListNotes.{names_inside}
 use Rattle.ats_client.proofs.OwnImpacts.{slot_own}
 use Rattle.ats_client.proofs.OwnLanes.{HasOwnList, absent_none, each_own, front_is}
 use Rattle.ats_client.proofs.OwnSlots.{HasOwnSlot, own_document, own_slot}

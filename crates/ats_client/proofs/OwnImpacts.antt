@@ -24,7 +24,7 @@ use Rattle.ats_client.specs.Groups.{slot_at}
 use Rattle.ats_client.specs.Slots.{ShowsTerm}
 use Rattle.ats_client.specs.Strings.{AreLeavesOf}
 use Rattle.ats_client.proofs.Leaves.{leaf_own, present_leaf, absent_leaves}
-use Rattle.ats_client.proofs.Presents.{at_place}
+use Rattle.ats_client.proofs.TermsLeft.{at_place}
 
 module _ (texts : List (List ℕ)) (doc : ℕ) (low : doc < length texts) where
   -- a term that the document has has its impact there in its list

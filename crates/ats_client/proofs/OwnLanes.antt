@@ -36,11 +36,11 @@ use Rattle.ats_client.specs.Presented.{Presented, presented, lane_of}
 use Rattle.ats_client.specs.Slots.{entry_shown, ShowsTerm}
 use Rattle.ats_client.specs.Groups.{IsListRight, AreSlotsRight, dict_terms, met_at}
 use Rattle.ats_client.specs.Strings.{AreLeavesOf, IsOwnList}
-use Rattle.ats_client.proofs.Presents.{at_front, at_place}
+use Rattle.ats_client.proofs.TermsLeft.{at_front, at_place}
 use Rattle.ats_client.proofs.Slotted.{slot_shows}
 use Rattle.ats_client.proofs.Descent.{IsAsked, asked-terms, entry-own, pair_is}
 use Rattle.ats_client.proofs.Leaves.{leaf_own, absent_leaves}
-use Rattle.ats_client.proofs.Listed.{names_inside}
+use Rattle.ats_client.proofs.ListNotes.{names_inside}
 use Rattle.ats_client.proofs.HeadlineTerms.{each_presented, sum_presented}
 
 -- ---- the front of a list

@@ -17,7 +17,7 @@ use Rattle.ats_client.specs.Strings.{IsOwnDocument, IsOwn}
 use Rattle.ats_client.proofs.Descent.{IsAsked, asked-terms}
 use Rattle.ats_client.proofs.DescentDocuments.{each-known, sections-hold}
 use Rattle.ats_client.proofs.PresentNumbers.{presented_numbers}
-use Rattle.ats_client.proofs.Presents.{at_place}
+use Rattle.ats_client.proofs.TermsLeft.{at_place}
 
 -- the document is one of the texts, what is shown of its terms is its own, and its slot shows the term
 pub record HasOwnSlot (texts : List (List ℕ)) (one : MetDocument) (k : ℕ) (term : List ℕ) : Type 0 where

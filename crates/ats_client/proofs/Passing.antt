@@ -12,8 +12,8 @@ use Rattle.ats_bound.specs.Cut.{rest, threshold as threshold_of, lo_of, held, br
 use Rattle.ats_bound.proofs.Public.{held_or_missing}
 use Rattle.ats_proof.specs.Value.{Proof, Prefix, present_in}
 use Rattle.ats_lists.specs.declared.format.Format.{Format}
-use Rattle.ats_client.specs.declared.present_terms.PresentTerm.{PresentTerm}
-use Rattle.ats_client.specs.PresentTerms.{kept_term, kept_terms}
+use Rattle.ats_client.specs.declared.kept_terms.PresentTerm.{PresentTerm}
+use Rattle.ats_client.specs.KeptTerms.{kept_term, kept_terms}
 use Rattle.ats_client.specs.Presented.{Presented, presented, presented_from, lanes_of}
 use Rattle.ats_client.specs.Indexes.{AreNames}
 use Rattle.ats_client.specs.Groups.{IsListRight, indexes_of, met_at}

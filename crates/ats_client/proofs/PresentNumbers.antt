@@ -7,12 +7,12 @@ use Rattle.std.proofs.lemmas.List.Elements.{All-nil, All-cons}
 use Rattle.std.proofs.lemmas.Simd.{map-map}
 use Rattle.ats_proof.specs.declared.record.Slot.{Slot}
 use Rattle.ats_proof.specs.Value.{ShownEntry, Prefix, Proof, present_in}
-use Rattle.ats_client.specs.declared.present_terms.PresentTerm.{PresentTerm}
+use Rattle.ats_client.specs.declared.kept_terms.PresentTerm.{PresentTerm}
 use Rattle.ats_client.specs.Documents.{present_from, present_numbers}
 use Rattle.ats_client.specs.Presented.{Presented, presented_from, presented}
-use Rattle.ats_client.specs.PresentTerms.{kept_term, kept_terms, numbers_of}
+use Rattle.ats_client.specs.KeptTerms.{kept_term, kept_terms, numbers_of}
 use Rattle.ats_client.proofs.HeadlineTerms.{kind_absent, kind_present}
-use Rattle.ats_client.proofs.Presents.{each_by}
+use Rattle.ats_client.proofs.TermsLeft.{each_by}
 
 present_numbered : (dict : List ShownEntry) (n : ℕ) (query : List (List ℕ × ℕ)) (slots : List Slot) (lists : List Prefix) → length slots ≡ length query
     → map (λ (one : Presented). one.number) (presented_from dict n query slots lists) ≡ present_from n slots

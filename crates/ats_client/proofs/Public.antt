@@ -39,7 +39,7 @@ pub use Rattle.ats_client.proofs.Collisions.{extract-collides}
 -- what holds of all sections of met documents holds of each one's
 pub use Rattle.ats_client.proofs.DescentDocuments.{sections-hold}
 -- what holds of all elements holds of the one at a place
-pub use Rattle.ats_client.proofs.Presents.{at_place}
+pub use Rattle.ats_client.proofs.TermsLeft.{at_place}
 -- a list whose first item was taken is that item before the rest
 pub use Rattle.ats_client.proofs.Counts.{taken}
 -- a collision that is there is not none

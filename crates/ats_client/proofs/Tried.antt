@@ -20,7 +20,7 @@ use Rattle.ats_client.specs.Documents.{MetDocument, documents_from, documents_in
 use Rattle.ats_client.specs.Groups.{met_at}
 use Rattle.ats_client.specs.Marked.{IsMark, AreMarks, AreNoted}
 use Rattle.ats_client.specs.Presented.{presented, lanes_of}
-use Rattle.ats_client.specs.PresentTerms.{kept_terms, bare_lanes}
+use Rattle.ats_client.specs.KeptTerms.{kept_terms, bare_lanes}
 use Rattle.ats_base.specs.Rules.{IsFirstFault, IsFirstOf}
 use Rattle.ats_client.proofs.Scored.{section_scores, mark_scored}
 use Rattle.ats_client.proofs.Walks.{first_left}

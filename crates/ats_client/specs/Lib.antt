@@ -10,9 +10,9 @@ pub mod Marked
 pub mod Rows
 pub mod Seen
 pub mod SeenTerms
-pub mod PresentTerms
+pub mod KeptTerms
 pub mod Noting
-pub mod Lists
+pub mod SeenLists
 pub mod Bounds
 pub mod Rooted
 pub mod Strings

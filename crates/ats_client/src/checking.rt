@@ -11,11 +11,11 @@ ghost use Rattle.ats_client.specs.Marked.{AreMarks};
 ghost use Rattle.ats_client.specs.Rows.{IsLeft};
 ghost use Rattle.ats_client.specs.Headline.{IsTopOrCollides};
 
+use crate::all_lists::lists;
 use crate::documents::{documents, documents_tree};
-use crate::lists::lists;
+use crate::kept_terms::PresentTerms;
 use crate::met::met;
 use crate::opening::{dictionary, opened};
-use crate::present_terms::PresentTerms;
 use crate::rows::rows;
 use crate::settled::settled;
 use crate::slots::slots;

@@ -8,11 +8,11 @@ ghost use Rattle.ats_client.specs.Bracketing.{bounds_of};
 ghost use Rattle.ats_client.specs.Documents.{IsDocsTree, IsDocsFault, AreDocumentsRight, IsDocumentsFault};
 ghost use Rattle.ats_client.specs.Marked.{AreMarks, AreNoted};
 ghost use Rattle.ats_client.specs.Presented.{lanes_of};
-ghost use Rattle.ats_client.specs.PresentTerms.{kept_terms};
+ghost use Rattle.ats_client.specs.KeptTerms.{kept_terms};
 
 use crate::document::document;
+use crate::kept_terms::PresentTerms;
 use crate::opening::rebuilt;
-use crate::present_terms::PresentTerms;
 use ats_bound::{Mark, Work};
 use ats_hash::{Hash32, Steps};
 use ats_proof::ProofView;

@@ -26,33 +26,33 @@
 //! ```
 #![tactic(auto)]
 
+mod all_lists;
 mod answer;
 mod checking;
 mod clashing;
 mod document;
 mod documents;
 mod fault;
+mod kept_terms;
 mod laws;
 mod leaf;
-mod listing;
-mod lists;
 mod marking;
 mod memory;
 mod met;
+mod next_term;
+mod one_list;
 mod one_tree;
 mod opening;
-mod present;
-mod present_terms;
-mod presenting;
+mod present_term;
 mod rows;
 mod section;
 mod settled;
+mod shown_section;
 mod slots;
-mod taken;
 mod term;
 mod verifying;
 mod walk;
-mod whole;
+mod whole_list;
 
 pub use answer::row;
 pub use ats_refusal::{Refusal, Rejection};
@@ -66,4 +66,4 @@ pub use laws::{
 };
 pub use memory::OutOfMemory;
 pub use verifying::{check_rows, verify};
-pub use whole::shows_whole_list;
+pub use whole_list::shows_whole_list;

@@ -15,7 +15,7 @@ use Rattle.ats_client.specs.Groups.{met_at}
 use Rattle.ats_client.specs.Presented.{lanes_of}
 use Rattle.ats_client.specs.Rows.{IsLeft, row_of}
 use Rattle.ats_client.proofs.Bounding.{held_within, upper_is}
-use Rattle.ats_client.proofs.Presents.{at_place}
+use Rattle.ats_client.proofs.TermsLeft.{at_place}
 use Rattle.ats_client.proofs.answer.row.Goals as goal
 
 row_is : (doc lower upper : ℕ) (b : Bracket) → doc ≡ b.doc → lower ≡ b.lo → upper ≡ b.hi

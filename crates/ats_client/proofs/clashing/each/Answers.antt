@@ -12,7 +12,7 @@ use Rattle.ats_client.specs.Documents.{MetDocument, documents_from, IsTermsTree}
 use Rattle.ats_client.specs.Sections.{difference_of}
 use Rattle.ats_client.specs.SeenTerms.{document_of}
 use Rattle.ats_client.specs.Strings.{terms_strings}
-use Rattle.ats_client.proofs.Presents.{at_place}
+use Rattle.ats_client.proofs.TermsLeft.{at_place}
 use Rattle.ats_client.proofs.Sections.{found_here, not_here, later_all}
 use Rattle.ats_client.proofs.Tried.{front_document}
 use Rattle.ats_client.proofs.clashing.each.Goals as goal

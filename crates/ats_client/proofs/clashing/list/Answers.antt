@@ -2,10 +2,10 @@ use Rattle.std.proofs.Common.{◌≤◌, ◌∙◌, List, length, refl, sym, ap,
 use Rattle.std.specs.List.{All, range_with_len}
 use Rattle.ats_tree.specs.Shown.{Shown, positions_of}
 use Rattle.ats_lists.specs.declared.entry.Entry.{Entry}
-use Rattle.ats_client.specs.Lists.{prefix_of, presented_of}
+use Rattle.ats_client.specs.SeenLists.{prefix_of, presented_of}
 use Rattle.ats_client.specs.Presented.{Presented}
 use Rattle.ats_client.proofs.Counts.{list-from}
-use Rattle.ats_client.proofs.Listed.{names_inside}
+use Rattle.ats_client.proofs.ListNotes.{names_inside}
 use Rattle.ats_client.proofs.Sections.{rebuilds_by, list-short}
 use Rattle.ats_client.proofs.clashing.list.Goals as goal
 

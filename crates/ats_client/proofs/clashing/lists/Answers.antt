@@ -6,7 +6,7 @@ use Rattle.ats_commit.specs.Ours.{ours}
 use Rattle.ats_proof.specs.Ranges.{IsPrefixInRange}
 use Rattle.ats_proof.specs.Value.{Prefix, Proof, present_in}
 use Rattle.ats_client.specs.Groups.{IsListRight}
-use Rattle.ats_client.specs.Lists.{prefix_of, prefixes_left, presented_of}
+use Rattle.ats_client.specs.SeenLists.{prefix_of, prefixes_left, presented_of}
 use Rattle.ats_client.specs.Presented.{Presented, presented, presented_from}
 use Rattle.ats_client.specs.Sections.{difference_of}
 use Rattle.ats_client.specs.Seen.{entries_left}

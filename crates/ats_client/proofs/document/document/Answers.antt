@@ -3,15 +3,15 @@ use Rattle.ats_bound.specs.Lookup.{looked_score}
 use Rattle.ats_proof.specs.SeenDocs.{section_of}
 use Rattle.ats_proof.specs.Value.{ShownTerm, TermsSection}
 use Rattle.ats_proof.specs.declared.terms.TermsView.{TermsView}
-use Rattle.ats_client.specs.declared.present_terms.PresentTerm.{PresentTerm}
+use Rattle.ats_client.specs.declared.kept_terms.PresentTerm.{PresentTerm}
 use Rattle.ats_client.specs.Bracketing.{impact_shown}
 use Rattle.ats_client.specs.Documents.{MetDocument, IsTermSlotRight, document_rules}
 use Rattle.ats_base.specs.Rules.{IsFirstFault}
-use Rattle.ats_client.specs.PresentTerms.{numbers_of, bare_lanes}
+use Rattle.ats_client.specs.KeptTerms.{numbers_of, bare_lanes}
 use Rattle.ats_client.specs.SeenTerms.{terms_left, document_of}
 use Rattle.ats_client.proofs.Faults.{passed_on}
 use Rattle.ats_client.proofs.Looked.{looked_more, number_right, slot_fails}
-use Rattle.ats_client.proofs.Presents.{at_place}
+use Rattle.ats_client.proofs.TermsLeft.{at_place}
 use Rattle.ats_client.proofs.Rising.{before_first, before_next}
 use Rattle.ats_client.proofs.document.document.Goals as goal
 

@@ -5,17 +5,17 @@ use Rattle.ats_bound.specs.Lookup.{looked_score}
 use Rattle.ats_proof.specs.SeenDocs.{documents_of, ids_of, doc_leaves_of, sections_of, section_of}
 use Rattle.ats_proof.specs.Value.{TermsSection, Documents, Proof, present_in, items_of_section}
 use Rattle.ats_proof.specs.Ranges.{IsSectionInRange}
-use Rattle.ats_client.specs.declared.present_terms.PresentTerm.{PresentTerm}
+use Rattle.ats_client.specs.declared.kept_terms.PresentTerm.{PresentTerm}
 use Rattle.ats_refusal.specs.declared.proof.Refusal.{Refusal}
 use Rattle.ats_client.specs.Bracketing.{impact_shown}
 use Rattle.ats_client.specs.Documents.{present_numbers, IsDocumentRight, document_rules, IsDocumentsFault}
-use Rattle.ats_client.specs.PresentTerms.{numbers_of, bare_lanes}
+use Rattle.ats_client.specs.KeptTerms.{numbers_of, bare_lanes}
 use Rattle.ats_base.specs.Rules.{IsFirstFault}
 use Rattle.ats_client.specs.SeenTerms.{document_of}
 use Rattle.ats_client.proofs.Counts.{taken, sum_taken, section_items}
 use Rattle.ats_client.proofs.Faults.{passed_on}
 use Rattle.ats_client.proofs.PresentNumbers.{kept_numbers, kept_count, kept_within}
-use Rattle.ats_client.proofs.Presents.{at_front, at_place}
+use Rattle.ats_client.proofs.TermsLeft.{at_front, at_place}
 use Rattle.ats_client.proofs.Tried.{begins, fails, tries, first_at, all_right, all_marks}
 use Rattle.ats_client.proofs.documents.documents.Goals as goal
 

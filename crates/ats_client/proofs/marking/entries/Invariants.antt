@@ -1,7 +1,7 @@
 use Rattle.std.proofs.Common.{◌≡◌, ◌+◌, ◌*◌, ◌≤◌, ◌++◌, List, [], map, take}
 use Rattle.ats_client.specs.Indexes.{AreNames}
 use Rattle.ats_client.specs.Groups.{indexes_of}
-use Rattle.ats_client.specs.Lists.{prefix_of}
+use Rattle.ats_client.specs.SeenLists.{prefix_of}
 use Rattle.ats_client.specs.Noting.{Note, note, AreNotes}
 use Rattle.ats_client.proofs.marking.entries.Given as goal
 

@@ -4,14 +4,14 @@ use Rattle.std.proofs.lemmas.Option.{slice_get-get_or}
 use Rattle.ats_commit.specs.Ours.{asked_term}
 use Rattle.ats_proof.specs.Value.{ShownEntry, Prefix}
 use Rattle.ats_client.specs.Seen.{shown_of}
-use Rattle.ats_client.specs.Lists.{prefix_of, prefixes_left}
+use Rattle.ats_client.specs.SeenLists.{prefix_of, prefixes_left}
 use Rattle.ats_client.specs.Slots.{entry_shown}
 use Rattle.ats_client.proofs.Counts.{taken}
 use Rattle.ats_client.proofs.Leaves.{present_leaf}
 use Rattle.ats_client.proofs.Slotted.{slot_shows}
 use Rattle.ats_client.proofs.Rising.{index_is}
-use Rattle.ats_client.proofs.Presents.{none_present, one_present, entry_there, prefix_there, fewer_absent, prefixes_fewer, has_prefix, same_one}
-use Rattle.ats_client.proofs.presenting.present.Goals as goal
+use Rattle.ats_client.proofs.TermsLeft.{none_present, one_present, entry_there, prefix_there, fewer_absent, prefixes_fewer, has_prefix, same_one}
+use Rattle.ats_client.proofs.next_term.present.Goals as goal
 
 pub returns-then-not-slot-clause-none : goal.returns-then-not-slot-clause-none
 returns-then-not-slot-clause-none c =

@@ -4,13 +4,13 @@ ghost use Rattle.std.specs.Prelude.{◌≡◌, ◌<◌, ◌≤◌, ◌+◌, ◌*
 ghost use Rattle.ats_bound.specs.Cut.{bracket, threshold as threshold_of};
 ghost use Rattle.ats_proof.specs.Value.{items_of_prefix};
 ghost use Rattle.ats_client.specs.Presented.{lanes_of};
-ghost use Rattle.ats_client.specs.PresentTerms.{kept_terms};
+ghost use Rattle.ats_client.specs.KeptTerms.{kept_terms};
 ghost use Rattle.ats_client.specs.Groups.{AreSlotsRight, AreListsRight, IsListsFault};
 ghost use Rattle.ats_client.specs.Marked.{AreMarks, AreNoted};
 
-use crate::listing::list;
-use crate::present_terms::PresentTerms;
-use crate::presenting::present;
+use crate::kept_terms::PresentTerms;
+use crate::next_term::present;
+use crate::one_list::list;
 use crate::walk::Walk;
 use ats_bound::Work;
 use ats_hash::{Hash32, Steps};

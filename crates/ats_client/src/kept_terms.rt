@@ -25,7 +25,7 @@ pub(crate) struct PresentTerms {
 impl Model for PresentTerms {
     ghost use Rattle.std.specs.Prelude.{◌≡◌, ◌≤◌, ◌^◌, List, length, take};
     ghost use Rattle.std.specs.List.{All};
-    ghost use Rattle.ats_client.specs.declared.present_terms.PresentTerm.{PresentTerm};
+    ghost use Rattle.ats_client.specs.declared.kept_terms.PresentTerm.{PresentTerm};
 
     ghost Value = { List PresentTerm };
 

@@ -1,10 +1,10 @@
 //! The present terms, one by one.
 
 ghost use Rattle.std.specs.Prelude.{◌≡◌, ◌≤◌, ◌^◌};
-ghost use Rattle.ats_client.specs.Lists.{presented_of};
-ghost use Rattle.ats_client.specs.PresentTerms.{kept_term};
+ghost use Rattle.ats_client.specs.SeenLists.{presented_of};
+ghost use Rattle.ats_client.specs.KeptTerms.{kept_term};
 
-use crate::present_terms::PresentTerm;
+use crate::kept_terms::PresentTerm;
 use ats_dict::DictLeaf;
 use ats_impact::idf;
 use ats_proof::ListView;

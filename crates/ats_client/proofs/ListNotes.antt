@@ -10,7 +10,7 @@ use Rattle.ats_client.specs.Indexes.{AreNames}
 use Rattle.ats_client.specs.Groups.{indexes_of}
 use Rattle.ats_client.specs.Noting.{Note, note, AreNotes, index_lane, lane_notes}
 use Rattle.ats_client.proofs.Marks.{notes_turn}
-use Rattle.ats_client.proofs.Presents.{each_by}
+use Rattle.ats_client.proofs.TermsLeft.{each_by}
 
 pub names_inside : (met : ℕ) (entries : List Entry) → AreNames met (indexes_of entries) → All (λ (e : Entry). e.doc < met) entries
 names_inside met entries names = each_by (λ index. index < met) (λ (e : Entry). e.doc) entries names.inside

@@ -3,7 +3,7 @@ use Rattle.std.specs.Prelude.{◌*◌, ℕ, List, [], map}
 use Rattle.ats_impact.specs.Numbers.{idf}
 use Rattle.ats_bound.specs.Cut.{ShownLane}
 use Rattle.ats_proof.specs.Value.{Proof}
-use Rattle.ats_client.specs.declared.present_terms.PresentTerm.{PresentTerm}
+use Rattle.ats_client.specs.declared.kept_terms.PresentTerm.{PresentTerm}
 use Rattle.ats_client.specs.Presented.{Presented, presented}
 
 -- the number of a term, and its weight times its idf among this many documents

@@ -4,7 +4,7 @@ ghost use Rattle.std.specs.Prelude.{◌≡◌, ◌≤◌, ◌+◌, ◌*◌, ◌^
 ghost use Rattle.ats_client.specs.Groups.{AreSlotsRight};
 ghost use Rattle.ats_client.specs.WholeLists.{shows_whole};
 
-use crate::presenting::present;
+use crate::next_term::present;
 use crate::walk::Walk;
 use ats_hash::Steps;
 use ats_proof::ProofView;

@@ -6,7 +6,7 @@ use Rattle.ats_proof.specs.SeenLists.{list_of, lists_of}
 use Rattle.ats_proof.specs.declared.lists.ListView.{ListView}
 use Rattle.ats_proof.specs.declared.lists.ListsView.{ListsView}
 use Rattle.ats_client.specs.Presented.{Presented}
-use Rattle.ats_client.specs.declared.present.Present.{Present}
+use Rattle.ats_client.specs.declared.present_term.Present.{Present}
 
 -- a prefix, and those that are left
 unfoldable pub prefix_of : ListView → Prefix
