@@ -145,10 +145,3 @@ need-turns [] true = omega arith
 need-turns [] false = omega arith
 need-turns (false ∷ path) known = omega (arith, need-turns path known)
 need-turns (true ∷ path) known = omega (arith, need-turns path false)
-
--- at most one digest for each leaf
-pub need-few : {m n : ℕ} {path : Path} → Leads m n path → (known : Bool) → need path known ≤ n
-need-few (ends some one) true = omega arith
-need-few (ends some one) false = omega arith
-need-few {m} {n} (left g some inside long few rest) known = omega (arith, need-few rest known)
-need-few {m} {n} (right g past more few rest) known = omega (arith, need-few rest false)

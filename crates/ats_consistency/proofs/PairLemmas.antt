@@ -7,7 +7,7 @@ use Rattle.ats_consistency.specs.Pair.{Roots, roots}
 use Rattle.ats_consistency.specs.Paired.{ArePaired}
 use Rattle.ats_consistency.specs.Shape.{turns, need}
 use Rattle.ats_consistency.proofs.Digests.{one-more, drop-more}
-use Rattle.ats_consistency.proofs.Leads.{leads, turns-left, turns-right, need-few}
+use Rattle.ats_consistency.proofs.Leads.{turns-left, turns-right}
 
 -- the parts of a tree that is cut after its first k leaves, all of which but the first m are fresh
 pub cut-left : (m n k : ℕ) → IsPowerOfTwo k → k < n → n ≤ 2 * k → m ≤ k → turns m n ≡ false ∷ turns m k
@@ -19,9 +19,6 @@ pub cut-right : (m n k : ℕ) → IsPowerOfTwo k → n ≤ 2 * k → k < m → m
 cut-right m n k (h, power) largest past more =
     subst (λ (k : ℕ). n ≤ 2 * k → k < m → turns m n ≡ true ∷ turns (m - k) (n - k)) (sym power)
     (λ largest past. turns-right h m n past more largest) largest past
-
-pub need-fits : (m n : ℕ) (known : Bool) → 1 ≤ m → m ≤ n → need (turns m n) known ≤ n
-need-fits m n known some within = need-few (leads m n some within) known
 
 -- ---- the roots
 

@@ -10,8 +10,8 @@ pub use Rattle.ats_consistency.proofs.Exactness.{accepted_kept}
 pub use Rattle.ats_consistency.proofs.Exactness.{one_refusal}
 -- the numbers, roots and digests of a growth that bytes spell are in their ranges
 pub use Rattle.ats_consistency.proofs.InRange.{growth_range}
--- a growth in its ranges is spelled by the join of its fields, which has these parts
-pub use Rattle.ats_consistency.proofs.Spelled.{spells, join_of, archive_join}
+-- a growth in its ranges is spelled by the join of its fields
+pub use Rattle.ats_consistency.proofs.Spelled.{spells}
 -- what an accepted growth says of all archives with its two roots
 pub use Rattle.ats_consistency.proofs.Soundness.{grown_or_collides}
 -- each pair of strings of an accepted growth is equal, so that the new archive has grown, or the first that is not collides
@@ -21,7 +21,7 @@ pub use Rattle.ats_consistency.proofs.Leads.{leads, turns-end, turns-left, turns
 -- how many turns and digests there are at most
 pub use Rattle.ats_consistency.proofs.Leads.{depth, need-turns}
 -- the turns, the digests and the roots at a cut
-pub use Rattle.ats_consistency.proofs.PairLemmas.{cut-left, cut-right, need-left, need-right, need-fits, one-left, paired-left, paired-right}
+pub use Rattle.ats_consistency.proofs.PairLemmas.{cut-left, cut-right, need-left, need-right, one-left, paired-left, paired-right}
 -- the parts of the old tree and of the new one along the turns
 pub use Rattle.ats_consistency.proofs.Fits.{Shares, shares}
 -- the root is known to be that of the old tree

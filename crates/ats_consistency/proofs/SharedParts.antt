@@ -6,7 +6,7 @@ use Rattle.std.proofs.lemmas.Grind.{flat_map-append}
 use Rattle.std.proofs.lemmas.List.{append-nil}
 use Rattle.ats_tree.specs.Differences.{Hashed}
 use Rattle.ats_tree.specs.Paths.{Path}
-use Rattle.ats_tree.specs.Tree.{Tree, empty, leaf, node, digest_of}
+use Rattle.ats_tree.specs.Tree.{Tree, node, digest_of}
 use Rattle.ats_tree.proofs.Public.{Binds, binds-both, binds-moved, binds-weaker}
 use Rattle.ats_consistency.specs.Strings.{Beside, Range, ranges, range_pairs, all_strings, beside, second_of}
 use Rattle.ats_consistency.proofs.Fits.{Fits, Extends, extends-same, extends-left, extends-right}
@@ -39,15 +39,9 @@ module _ (H : List ℕ → List ℕ) (sized : (m : List ℕ) → length (H m) �
   ranges-bind root [] false ds t u fit is new old =
       binds-weaker H second_of (flat_map (range_pairs H) (ranges [] t u)) (t ≡ u) (Extends t u) (extends-same t u)
       (alone-binds t u fit (sym old ∙ new))
-  ranges-bind root (false ∷ path) known ds t empty fit is new old = absurd fit
-  ranges-bind root (false ∷ path) known ds t (leaf text) fit is new old = absurd fit
   ranges-bind root (false ∷ path) known ds t (node l r) fit is new old =
       binds-weaker H second_of (flat_map (range_pairs H) (ranges path t l)) (Extends t l) (Extends t (node l r)) (extends-left t l r)
       (ranges-bind root path known (drop 1 ds) t l fit is new.1 old)
-  ranges-bind root (true ∷ path) known ds empty u fit is new old = absurd fit
-  ranges-bind root (true ∷ path) known ds (leaf text) u fit is new old = absurd fit
-  ranges-bind root (true ∷ path) known ds (node a b) empty fit is new old = absurd fit
-  ranges-bind root (true ∷ path) known ds (node a b) (leaf text) fit is new old = absurd fit
   ranges-bind root (true ∷ path) known ds (node a b) (node l r) fit is new old =
       let inner : List Range = ranges path b r
       in let one : Range = record { old = a; new = l }
@@ -58,3 +52,4 @@ module _ (H : List ℕ → List ℕ) (sized : (m : List ℕ) → length (H m) �
       (binds-both H second_of (flat_map (range_pairs H) inner) (flat_map (range_pairs H) (one ∷ [])) (Extends b r) (a ≡ l)
       (ranges-bind root path false (drop 1 ds) b r fit.1 tt new.1 old.1)
       (λ _. alone-binds a l fit.0 (sym old.0 ∙ new.0))))
+  ranges-bind root (turn ∷ path) known ds t u fit is new old = absurd fit

@@ -5,7 +5,7 @@ use Rattle.std.proofs.lemmas.List.Elements.{All-head, All-tail}
 use Rattle.ats_tree.specs.Paths.{Path}
 use Rattle.ats_tree.specs.Rebuild.{first_digest}
 use Rattle.ats_tree.specs.Strings.{string_at}
-use Rattle.ats_tree.specs.Tree.{Tree, empty, leaf, node, digest_of}
+use Rattle.ats_tree.specs.Tree.{Tree, node, digest_of}
 use Rattle.ats_tree.proofs.Public.{Binds}
 use Rattle.ats_consistency.specs.Shape.{need}
 use Rattle.ats_consistency.specs.Pair.{roots}
@@ -66,40 +66,30 @@ module _ (H : List ℕ → List ℕ) (sized : (m : List ℕ) → length (H m) �
       → (roots H root path known ds).new ≡ digest_of H u → Binds H (string_at H u) (new_strings H root path known ds) (AreOwnNew H root path known ds u)
   new-binds [] true ds t u fit all enough is = is
   new-binds [] false ds t u fit all enough is = is
-  new-binds (false ∷ path) known ds t empty fit all enough is = absurd fit
-  new-binds (false ∷ path) known ds t (leaf text) fit all enough is = absurd fit
   new-binds (false ∷ path) known ds t (node l r) fit all enough is =
       let rest : List (List ℕ) = drop 1 ds
       in let fewer' = fewer (need path known) ds enough
       in left-binds H sized l r (roots H root path known rest).new (first_digest ds) (sized-new H sized root long path known rest (sized-rest ds all) fewer'.1) is
       (new_strings H root path known rest) (AreOwnNew H root path known rest l)
       (λ inner. new-binds path known rest t l fit (sized-rest ds all) fewer'.1 inner)
-  new-binds (true ∷ path) known ds empty u fit all enough is = absurd fit
-  new-binds (true ∷ path) known ds (leaf text) u fit all enough is = absurd fit
-  new-binds (true ∷ path) known ds (node a b) empty fit all enough is = absurd fit
-  new-binds (true ∷ path) known ds (node a b) (leaf text) fit all enough is = absurd fit
   new-binds (true ∷ path) known ds (node a b) (node l r) fit all enough is =
       let rest : List (List ℕ) = drop 1 ds
       in let fewer' = fewer (need path false) ds enough
       in right-binds H sized l r (roots H root path false rest).new (first_digest ds) (sized-first ds all fewer'.0) is
       (new_strings H root path false rest) (AreOwnNew H root path false rest r)
       (λ inner. new-binds path false rest b r fit.1 (sized-rest ds all) fewer'.1 inner)
+  new-binds (turn ∷ path) known ds t u fit all enough is = absurd fit
 
   pub old-binds : (path : Path) (known : Bool) (ds : List (List ℕ)) (t u : Tree (List ℕ)) → Fits path t u → AreSized ds → need path known ≤ length ds
       → (roots H root path known ds).old ≡ digest_of H t → Binds H (string_at H t) (old_strings H root path known ds) (AreOwnOld H path known ds t)
   old-binds [] true ds t u fit all enough is = tt
   old-binds [] false ds t u fit all enough is = is
-  old-binds (false ∷ path) known ds t empty fit all enough is = absurd fit
-  old-binds (false ∷ path) known ds t (leaf text) fit all enough is = absurd fit
   old-binds (false ∷ path) known ds t (node l r) fit all enough is =
       old-binds path known (drop 1 ds) t l fit (sized-rest ds all) (fewer (need path known) ds enough).1 is
-  old-binds (true ∷ path) known ds empty u fit all enough is = absurd fit
-  old-binds (true ∷ path) known ds (leaf text) u fit all enough is = absurd fit
-  old-binds (true ∷ path) known ds (node a b) empty fit all enough is = absurd fit
-  old-binds (true ∷ path) known ds (node a b) (leaf text) fit all enough is = absurd fit
   old-binds (true ∷ path) known ds (node a b) (node l r) fit all enough is =
       let rest : List (List ℕ) = drop 1 ds
       in let fewer' = fewer (need path false) ds enough
       in right-binds H sized a b (roots H root path false rest).old (first_digest ds) (sized-first ds all fewer'.0) is
       (old_strings H root path false rest) (AreOwnOld H path false rest b)
       (λ inner. old-binds path false rest b r fit.1 (sized-rest ds all) fewer'.1 inner)
+  old-binds (turn ∷ path) known ds t u fit all enough is = absurd fit

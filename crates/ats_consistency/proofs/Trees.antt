@@ -49,11 +49,8 @@ AreAlike t u = ⊥
 alike-within : (h : ℕ) (xs ys : List (List ℕ)) → length xs ≡ length ys → length xs ≤ 2 ^ h → AreAlike (tree_within h xs) (tree_within h ys)
 unfolding tree_within
 alike-within zero [] [] same few = tt
-alike-within zero [] (y ∷ ys) same few = absurd (omega arith)
-alike-within zero (x ∷ xs) [] same few = absurd (omega arith)
 alike-within zero (x ∷ []) (y ∷ []) same few = tt
-alike-within zero (x ∷ []) (y ∷ z ∷ ys) same few = absurd (omega arith)
-alike-within zero (x ∷ w ∷ xs) (y ∷ ys) same few = absurd (omega arith)
+alike-within zero xs ys same few = absurd (omega arith)
 alike-within (suc h) xs ys same few =
     elim (cases_lt (2 ^ h) (length xs)) [
       | inr short ↦
@@ -121,15 +118,9 @@ right-binds H sized l r w y long root ss A inner =
 pub alike-binds : (H : List ℕ → List ℕ) → ((m : List ℕ) → length (H m) ≡ 32) → (t u : Tree (List ℕ)) → AreAlike t u
     → digest_of H t ≡ digest_of H u → Binds H (string_at H u) (all_strings H t) (t ≡ u)
 alike-binds H sized empty empty alike same = refl
-alike-binds H sized empty (leaf b) alike same = absurd alike
-alike-binds H sized empty (node c d) alike same = absurd alike
-alike-binds H sized (leaf a) empty alike same = absurd alike
 alike-binds H sized (leaf a) (leaf b) alike same =
     binds-one H (string_at H (leaf b)) (record { place = []; text = 0 ∷ a }) (0 ∷ b) (leaf a ≡ leaf b) refl same
     (λ equal. let e : a ≡ b = cc in ap (λ (text : List ℕ). leaf text) e)
-alike-binds H sized (leaf a) (node c d) alike same = absurd alike
-alike-binds H sized (node a b) empty alike same = absurd alike
-alike-binds H sized (node a b) (leaf c) alike same = absurd alike
 alike-binds H sized (node a b) (node c d) alike same =
     let own : Path → Option (List ℕ) = string_at H (node c d)
     in let one : Hashed Path = record { place = []; text = 1 ∷ digest_of H a ++ digest_of H b }
@@ -143,3 +134,4 @@ alike-binds H sized (node a b) (node c d) alike same =
     (λ parts. binds-both H own left right (a ≡ c) (b ≡ d)
     (binds-moved H (λ (path : Path). false ∷ path) own (all_strings H a) (a ≡ c) (alike-binds H sized a c alike.0 (sym parts.0)))
     (λ _. binds-moved H (λ (path : Path). true ∷ path) own (all_strings H b) (b ≡ d) (alike-binds H sized b d alike.1 (sym parts.1)))))
+alike-binds H sized t u alike same = absurd alike

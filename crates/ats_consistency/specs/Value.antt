@@ -6,7 +6,7 @@ use Rattle.ats_dict.specs.declared.header.Header.{Header}
 use Rattle.ats_lists.specs.declared.format.Format.{Format}
 use Rattle.ats_grammar.specs.Front.{Spells}
 use Rattle.ats_grammar.specs.Table.{spelled}
-use Rattle.ats_proof.specs.Value.{number_of_format, header_fields}
+use Rattle.ats_proof.specs.Value.{archive_fields}
 use Rattle.ats_consistency.specs.Grammar.{growth_schema}
 
 -- the format and the header of the old archive, those of the new one, and digests
@@ -21,10 +21,6 @@ pub record Growth : Type 0 where
 abbrev pub growth_of : Format → Header → Format → Header → List (List ℕ) → Growth
 growth_of old_format old new_format new digests =
     record { old_format = old_format; old = old; new_format = new_format; new = new; digests = digests }
-
--- the format and the header of an archive
-abbrev pub archive_fields : Format → Header → List (List ℕ)
-archive_fields format header = spelled 1 (number_of_format format) ∷ header_fields header
 
 -- all fields, in the table's order
 abbrev pub fields_of : Growth → List (List ℕ)

@@ -8,9 +8,9 @@ ghost use Rattle.ats_consistency.specs.Grammar.{growth_schema};
 ghost use Rattle.ats_consistency.specs.Value.{Growth, IsGrowth, AreInRange};
 
 use ats_dict::Header;
-use ats_grammar::{Reader, ShapeFault, ShapeKind};
+use ats_grammar::ShapeFault;
 use ats_lists::Format;
-use ats_proof::{DigestRun, read_format, read_header};
+use ats_proof::{DigestRun, begin_file, read_archive, read_digests};
 use std::marker::Model;
 
 /// The most bytes that a growth may have.
@@ -30,12 +30,10 @@ pub struct GrowthView<'a> {
     pub(crate) old: Header,
     pub(crate) new_format: Format,
     pub(crate) new: Header,
-    pub(crate) count: u32,
     pub(crate) digests: DigestRun<'a>,
 }
 
 impl<'a> Model for GrowthView<'a> {
-    ghost use Rattle.std.specs.Prelude.{◌≡◌, length};
     ghost use Rattle.ats_proof.specs.Seen.{digests_of};
     ghost use Rattle.ats_consistency.specs.Value.{Growth, AreInRange, growth_of};
 
@@ -43,8 +41,7 @@ impl<'a> Model for GrowthView<'a> {
 
     ghost view = { λ v. growth_of v.old_format v.old v.new_format v.new (digests_of v.digests) };
 
-    ghost invariant = { λ v. AreInRange (growth_of v.old_format v.old v.new_format v.new (digests_of v.digests))
-        × (v.count ≡ length (digests_of v.digests)) };
+    ghost invariant = { λ v. AreInRange (growth_of v.old_format v.old v.new_format v.new (digests_of v.digests)) };
 }
 
 impl<'a> GrowthView<'a> {
@@ -53,22 +50,15 @@ impl<'a> GrowthView<'a> {
         ensures spelled { IfOk result (IsGrowth bytes.now) }
         ensures refused { IfErr result (IsBad growth_schema bytes.now) }
     {
-        let mut reader = Reader::new(bytes, MOST_BYTES)?;
-        reader.number(4, MAGIC as u64, MAGIC, ShapeKind::Magic)?;
-        let old_format = read_format(&mut reader)?;
-        let old = read_header(&mut reader)?;
-        let new_format = read_format(&mut reader)?;
-        let new = read_header(&mut reader)?;
-        let count = reader.number(1, 0, MOST_DIGESTS, ShapeKind::Count)?;
-        let lent = reader.digests(count)?;
-        reader.end()?;
-        let digests = DigestRun::of(lent);
+        let mut reader = begin_file(bytes, MOST_BYTES, MAGIC)?;
+        let (old_format, old) = read_archive(&mut reader)?;
+        let (new_format, new) = read_archive(&mut reader)?;
+        let digests = read_digests(&mut reader, MOST_DIGESTS)?;
         Ok(GrowthView {
             old_format,
             old,
             new_format,
             new,
-            count,
             digests,
         })
     }
@@ -95,7 +85,7 @@ impl<'a> GrowthView<'a> {
         ensures count { result.0 ≡ length self.now.digests }
         ensures digests { digests_of result.1 ≡ self.now.digests }
     {
-        (self.count, self.digests)
+        (self.digests.len(), self.digests)
     }
 
     /// The format and the header of the old archive.

@@ -23,15 +23,6 @@ use Rattle.ats_fetch.specs.Verdicts.{difference_of}
 use Rattle.ats_fetch.specs.declared.own_texts.TextString.{TextString}
 use Rattle.ats_fetch.specs.declared.verdict.TextClash.{TextClash}
 
--- what is known in either case of an option
-pub none_means : {X : Type 0} (o : Option X) (A : Type 0) (B : X → Type 0) → o ≡ None → MatchOption o A B → A
-none_means None A B is known = known
-none_means (Some x) A B is known = absurd (cc)
-
-pub some_means : {X : Type 0} (o : Option X) (P : X → Type 0) (x : X) → o ≡ Some x → IfSome o P → P x
-some_means None P x is known = absurd (cc)
-some_means (Some y) P x is known = let same : y ≡ x = cc in subst P same known
-
 -- ---- the header
 
 -- below a header of one's own

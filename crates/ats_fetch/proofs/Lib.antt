@@ -4,6 +4,5 @@ mod Parts
 mod Needs
 mod Given
 mod Verdicts
-mod Spelled
 mod Clashing
 mod Joined

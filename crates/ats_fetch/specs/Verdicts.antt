@@ -48,9 +48,7 @@ IsPlaced clash = clash.turns < 2 ^ clash.depth
 -- the verdict contains two different strings with equal digests
 abbrev pub TellsTextCollision : (List ℕ → List ℕ) → TextVerdict → Type 0
 TellsTextCollision H (Collision clash) = (clash.ours ≢ clash.theirs) × (H clash.ours ≡ H clash.theirs)
-TellsTextCollision H (BadShape fault) = ⊥
-TellsTextCollision H (Refused refusal) = ⊥
-TellsTextCollision H Right = ⊥
+TellsTextCollision H _ = ⊥
 
 -- a collision, if there is one, has two different strings with equal digests, and its turns are within its depth
 abbrev pub IsWellTold : (List ℕ → List ℕ) → TextVerdict → Type 0

@@ -2,7 +2,6 @@
 
 ghost use Rattle.std.specs.Prelude.{◌≡◌, ◌∷◌, ◌++◌, ◌<◌, [], length, IfOk, OnOk};
 ghost use Rattle.std.specs.List.{concat};
-ghost use Rattle.ats_proof.specs.Value.{number_of_format};
 ghost use Rattle.ats_tree.specs.Elided.{elided_digests};
 ghost use Rattle.ats_inclusion.specs.Value.{IsTextProof, IsTextInRange};
 ghost use Rattle.ats_fetch.specs.Given.{given_text};
@@ -15,6 +14,7 @@ use ats_hash::{Hash32, Steps};
 use ats_impact::Collection;
 use ats_index::Index;
 use ats_lists::Format;
+use ats_proof::put_archive;
 use ats_tree::{Digests, elided};
 use std::alloc::Global;
 
@@ -24,16 +24,6 @@ const MAGIC: [u8; 4] = *b"ATSF";
 const OTHER_BYTES: usize = 115;
 
 const DIGEST_BYTES: usize = 32;
-
-// The number of a format.
-fn format_byte(format: Format) -> u8
-    ensures { result ≡ number_of_format format }
-{
-    match format {
-        Format::One => 1,
-        Format::Two => 2,
-    }
-}
 
 /// The digests that the text of a document needs of the texts tree. All other texts are hashed.
 pub(crate) fn needed_digests<H: Hash32>(
@@ -76,8 +66,7 @@ fn spelled(
     let room = OTHER_BYTES + text.len() + DIGEST_BYTES * digests.len();
     let mut bytes = Bytes::with_room(alloc, room)?;
     bytes.extend(&MAGIC)?;
-    bytes.push(format_byte(format))?;
-    bytes.extend(&header.bytes())?;
+    put_archive(&mut bytes, format, header)?;
     bytes.extend(&(text.len() as u32).to_be_bytes())?;
     bytes.extend(text)?;
     bytes.push(digests.len() as u8)?;

@@ -20,40 +20,27 @@ pub shown-roots : (H : List ℕ → List ℕ) (root : List ℕ) (path : Path) (k
     → roots H root path known (shown H path known u) ≡ both_of H t u
 shown-roots H root [] true t u same is = ap₂ (λ (a b : List ℕ). let both : Roots = record { old = a; new = b } in both) is (is ∙ ap (digest_of H) same)
 shown-roots H root [] false t u same is = ap (λ (a : List ℕ). let both : Roots = record { old = a; new = digest_of H u } in both) (ap (digest_of H) (sym same))
-shown-roots H root (false ∷ path) known t empty same is = absurd same
-shown-roots H root (false ∷ path) known t (leaf text) same is = absurd same
 shown-roots H root (false ∷ path) known t (node l r) same is = ap (grown_by H (digest_of H r)) (shown-roots H root path known t l same is)
-shown-roots H root (true ∷ path) known empty u same is = absurd same
-shown-roots H root (true ∷ path) known (leaf text) u same is = absurd same
-shown-roots H root (true ∷ path) known (node a b) empty same is = absurd same
-shown-roots H root (true ∷ path) known (node a b) (leaf text) same is = absurd same
 shown-roots H root (true ∷ path) known (node a b) (node l r) same is =
     ap (joined_to H (digest_of H l)) (shown-roots H root path false b r same.1 tt)
     ∙ ap (λ (d : List ℕ). let both : Roots = record { old = H (1 ∷ d ++ digest_of H b); new = H (1 ∷ digest_of H l ++ digest_of H r) } in both) (ap (digest_of H) (sym same.0))
+shown-roots H root (turn ∷ path) known t u same is = absurd same
 
 pub length-shown : (H : List ℕ → List ℕ) (path : Path) (known : Bool) (t u : Tree (List ℕ)) → Shares path t u → length (shown H path known u) ≡ need path known
 length-shown H [] true t u same = refl
 length-shown H [] false t u same = refl
-length-shown H (false ∷ path) known t empty same = absurd same
-length-shown H (false ∷ path) known t (leaf text) same = absurd same
 length-shown H (false ∷ path) known t (node l r) same = omega (arith, length-shown H path known t l same)
-length-shown H (true ∷ path) known empty u same = absurd same
-length-shown H (true ∷ path) known (leaf text) u same = absurd same
-length-shown H (true ∷ path) known (node a b) empty same = absurd same
-length-shown H (true ∷ path) known (node a b) (leaf text) same = absurd same
 length-shown H (true ∷ path) known (node a b) (node l r) same = omega (arith, length-shown H path false b r same.1)
+length-shown H (turn ∷ path) known t u same = absurd same
 
 pub sized-shown : (H : List ℕ → List ℕ) → ((m : List ℕ) → length (H m) ≡ 32) → (path : Path) (known : Bool) (u : Tree (List ℕ)) → AreSized (shown H path known u)
 sized-shown H sized [] true u = All-nil (λ (d : List ℕ). length d ≡ 32)
 sized-shown H sized [] false u = All-cons (λ (d : List ℕ). length d ≡ 32) (digest_of H u) [] (length-digest H sized u) (All-nil (λ (d : List ℕ). length d ≡ 32))
-sized-shown H sized (false ∷ path) known empty = All-nil (λ (d : List ℕ). length d ≡ 32)
-sized-shown H sized (true ∷ path) known empty = All-nil (λ (d : List ℕ). length d ≡ 32)
-sized-shown H sized (false ∷ path) known (leaf text) = All-nil (λ (d : List ℕ). length d ≡ 32)
-sized-shown H sized (true ∷ path) known (leaf text) = All-nil (λ (d : List ℕ). length d ≡ 32)
 sized-shown H sized (false ∷ path) known (node l r) =
     All-cons (λ (d : List ℕ). length d ≡ 32) (digest_of H r) (shown H path known l) (length-digest H sized r) (sized-shown H sized path known l)
 sized-shown H sized (true ∷ path) known (node l r) =
     All-cons (λ (d : List ℕ). length d ≡ 32) (digest_of H l) (shown H path false r) (length-digest H sized l) (sized-shown H sized path false r)
+sized-shown H sized (turn ∷ path) known u = All-nil (λ (d : List ℕ). length d ≡ 32)
 
 -- a prefix is no longer
 pub prefix-shorter : (xs ys : List (List ℕ)) → IsPrefix xs ys → length xs ≤ length ys

@@ -5,6 +5,7 @@ use Rattle.std.specs.Option.{option_map}
 use Rattle.std.specs.Str.{bytes_eq}
 use Rattle.std.proofs.Math.Seq.{take-length}
 use Rattle.std.proofs.lemmas.Bool.{cond-false}
+use Rattle.std.proofs.lemmas.Option.{MatchOption-at_none}
 use Rattle.std.proofs.lemmas.Slice.Eq.{bytes_eq-Decides}
 use Rattle.ats_commit.specs.Archive.{Archive}
 use Rattle.ats_commit.specs.Own.{AreTexts}
@@ -96,16 +97,12 @@ module _ (H : List ℕ → List ℕ) (older newer : Archive) (g : Growth) where
         in subst (λ (o : Option (Difference Beside)). MatchOption o Grown (λ c. H c.theirs ≡ H c.ours)) (extracts ∙ none)
         (growth-binds H sized older newer g old_are new_are range accepts)
 
-pub none_means : {X : Type 0} (o : Option X) (A : Type 0) (B : X → Type 0) → o ≡ None → MatchOption o A B → A
-none_means None A B is known = known
-none_means (Some x) A B is known = absurd (cc)
-
 -- a header that does not differ is the archive's own
 pub own-header : (H : List ℕ → List ℕ) (part : ℕ) (archive : Archive) (f format : Format) (h header : Header) (o : Option Collided) → f ≡ format → h ≡ header → o ≡ None
     → MatchOption o (HasOwnHeader H archive f h) (IsHeaderCollision H part archive f h) → HasOwnHeader H archive format header
 own-header H part archive f format h header o same also none found =
     (λ i. bytes_eq (own_header_string H archive) (header_string ((sym same) i) ((sym also) i)))
-    ∙ none_means o (HasOwnHeader H archive f h) (IsHeaderCollision H part archive f h) none found
+    ∙ MatchOption-at_none (HasOwnHeader H archive f h) (IsHeaderCollision H part archive f h) none found
 
 -- without a collision the growth is found right
 pub found-grown : (H : List ℕ → List ℕ) → ((m : List ℕ) → length (H m) ≡ 32) → (older newer : Archive) (bytes : List ℕ) (g : Growth) (grown : Grown)

@@ -28,8 +28,6 @@ module _ (H : List ℕ → List ℕ) (root : List ℕ) where
   pub new-same : (path : Path) (known : Bool) (t u : Tree (List ℕ)) → Shares path t u → IsKnown H root known t
       → first_unlike (string_at H u) (new_strings H root path known (shown H path known u)) ≡ None
   new-same [] known t u same is = refl
-  new-same (false ∷ path) known t empty same is = absurd same
-  new-same (false ∷ path) known t (leaf text) same is = absurd same
   new-same (false ∷ path) known t (node l r) same is =
       let digests : List (List ℕ) = shown H path known l
       in let own : List ℕ = 1 ∷ digest_of H l ++ digest_of H r
@@ -37,10 +35,6 @@ module _ (H : List ℕ → List ℕ) (root : List ℕ) where
       in unlike-left H l r (1 ∷ (roots H root path known digests).new ++ digest_of H r) (new_strings H root path known digests)
       ∙ unlike-same (1 ∷ (roots H root path known digests).new ++ digest_of H r) own _ (sym text)
       ∙ new-same path known t l same is
-  new-same (true ∷ path) known empty u same is = absurd same
-  new-same (true ∷ path) known (leaf text) u same is = absurd same
-  new-same (true ∷ path) known (node a b) empty same is = absurd same
-  new-same (true ∷ path) known (node a b) (leaf text) same is = absurd same
   new-same (true ∷ path) known (node a b) (node l r) same is =
       let digests : List (List ℕ) = shown H path false r
       in let own : List ℕ = 1 ∷ digest_of H l ++ digest_of H r
@@ -48,17 +42,12 @@ module _ (H : List ℕ → List ℕ) (root : List ℕ) where
       in unlike-right H l r (1 ∷ digest_of H l ++ (roots H root path false digests).new) (new_strings H root path false digests)
       ∙ unlike-same (1 ∷ digest_of H l ++ (roots H root path false digests).new) own _ (sym text)
       ∙ new-same path false b r same.1 tt
+  new-same (turn ∷ path) known t u same is = absurd same
 
   pub old-same : (path : Path) (known : Bool) (t u : Tree (List ℕ)) → Shares path t u → IsKnown H root known t
       → first_unlike (string_at H t) (old_strings H root path known (shown H path known u)) ≡ None
   old-same [] known t u same is = refl
-  old-same (false ∷ path) known t empty same is = absurd same
-  old-same (false ∷ path) known t (leaf text) same is = absurd same
   old-same (false ∷ path) known t (node l r) same is = old-same path known t l same is
-  old-same (true ∷ path) known empty u same is = absurd same
-  old-same (true ∷ path) known (leaf text) u same is = absurd same
-  old-same (true ∷ path) known (node a b) empty same is = absurd same
-  old-same (true ∷ path) known (node a b) (leaf text) same is = absurd same
   old-same (true ∷ path) known (node a b) (node l r) same is =
       let digests : List (List ℕ) = shown H path false r
       in let own : List ℕ = 1 ∷ digest_of H a ++ digest_of H b
@@ -67,6 +56,7 @@ module _ (H : List ℕ → List ℕ) (root : List ℕ) where
       in unlike-right H a b (1 ∷ digest_of H l ++ (roots H root path false digests).old) (old_strings H root path false digests)
       ∙ unlike-same (1 ∷ digest_of H l ++ (roots H root path false digests).old) own _ (sym text)
       ∙ old-same path false b r same.1 tt
+  old-same (turn ∷ path) known t u same is = absurd same
 
 -- a header beside itself
 pub past-header : (own : List ℕ) (s : Hashed Beside) (later : Option (Difference Beside)) → s.place.second ≡ Some own → own ≡ s.text

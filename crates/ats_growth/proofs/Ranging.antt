@@ -43,17 +43,12 @@ module _ (H : List ℕ → List ℕ) where
   pub none-shared : (path : Path) (t u : Tree (List ℕ)) → Shares path t u → in_ranges (ranges path t u) ≡ None
   none-shared [] t u same =
       unlike-alone t u ∙ ap (λ (v : Tree (List ℕ)). first_unlike (string_at H u) (all_strings H v)) same ∙ unlike-none H u
-  none-shared (false ∷ path) t empty same = absurd same
-  none-shared (false ∷ path) t (leaf text) same = absurd same
   none-shared (false ∷ path) t (node l r) same = none-shared path t l same
-  none-shared (true ∷ path) empty u same = absurd same
-  none-shared (true ∷ path) (leaf text) u same = absurd same
-  none-shared (true ∷ path) (node a b) empty same = absurd same
-  none-shared (true ∷ path) (node a b) (leaf text) same = absurd same
   none-shared (true ∷ path) (node a b) (node l r) same =
       unlike-more (ranges path b r) a l
       ∙ ap (λ (first : Option Two). or_two first (first_unlike (string_at H l) (all_strings H a))) (none-shared path b r same.1)
       ∙ ap (λ (v : Tree (List ℕ)). first_unlike (string_at H l) (all_strings H v)) same.0 ∙ unlike-none H l
+  none-shared (turn ∷ path) t u same = absurd same
 
   -- ---- one range from its parts
 

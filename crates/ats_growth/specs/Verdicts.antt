@@ -44,9 +44,7 @@ IsGrowthVerdict H older newer bytes (Collision part first second) = IsFoundColli
 -- the verdict contains two different strings with equal digests
 abbrev pub TellsGrowthCollision : (List ℕ → List ℕ) → GrowthVerdict → Type 0
 TellsGrowthCollision H (Collision part first second) = (first ≢ second) × (H first ≡ H second)
-TellsGrowthCollision H (BadShape fault) = ⊥
-TellsGrowthCollision H (Refused refusal) = ⊥
-TellsGrowthCollision H (Right grown) = ⊥
+TellsGrowthCollision H _ = ⊥
 
 -- a collision, if there is one, has two different strings with equal digests
 abbrev pub IsWellTold : (List ℕ → List ℕ) → GrowthVerdict → Type 0

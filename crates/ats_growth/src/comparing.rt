@@ -25,8 +25,13 @@ pub(crate) struct Texts<'a> {
     pub(crate) from: u32,
 }
 
-// The digest of the `n` texts from document `from` on.
-fn digest_of_range<H: Hash32>(texts: &Collection, from: u32, n: u32, steps: &mut Steps) -> [u8; 32]
+/// The digest of the `n` texts from document `from` on.
+pub(crate) fn digest_of_range<H: Hash32>(
+    texts: &Collection,
+    from: u32,
+    n: u32,
+    steps: &mut Steps,
+) -> [u8; 32]
     requires some { 1 ≤ n }
     requires inside { from + n ≤ length texts.now }
     requires room { steps.old ≤ 2 ^ 63 }
@@ -76,29 +81,6 @@ fn last_digest<H: Hash32>(
     } else {
         next_digest(digests, steps)
     }
-}
-
-// A node of one side whose left part is this one, from the digests of its right part.
-fn before<'a, H: Hash32>(
-    left: Side<'a>,
-    their_right: [u8; 32],
-    own_right: [u8; 32],
-    steps: &mut Steps,
-) -> Side<'a>
-    requires { steps.old + 2 < 2 ^ 64 }
-    ensures joined { IsJoined H.hash (1 ∷ left.entry.theirs ++ their_right) (1 ∷ left.entry.own ++ own_right)
-        (option_map strings_of left.entry.unlike) result }
-    ensures cost { steps.new ≡ steps.old + 2 }
-{
-    let theirs = Children {
-        left: left.theirs,
-        right: their_right,
-    };
-    let own = Children {
-        left: left.own,
-        right: own_right,
-    };
-    joined::<H>(theirs, own, left.unlike, steps)
 }
 
 // A node of one side whose right part is this one, from the digests of its left part.
@@ -161,9 +143,17 @@ pub(crate) fn compare<'a, H: Hash32>(
         let below = compare::<H>(texts, m, k, known, known_root, digests, steps);
         let beside = next_digest(digests, steps);
         let own = digest_of_range::<H>(new, from + k, n - k, steps);
+        let theirs = Children {
+            left: below.new.theirs,
+            right: beside,
+        };
+        let ours = Children {
+            left: below.new.own,
+            right: own,
+        };
         return Compared {
             old: below.old,
-            new: before::<H>(below.new, beside, own, steps),
+            new: joined::<H>(theirs, ours, below.new.unlike, steps),
         };
     }
     let right = Texts {

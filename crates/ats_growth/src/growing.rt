@@ -1,24 +1,21 @@
 //! Making the bytes that show a growth.
 
 ghost use Rattle.std.specs.Prelude.{◌≡◌, ◌+◌, ◌-◌, ◌*◌, ◌^◌, ◌<◌, ◌≤◌, ◌↔◌, ◌++◌, length, take, drop, slice_get, OnOk, IfOk, IfErr, IfSome, IfNone, IsTrue};
-ghost use Rattle.std.specs.List.{concat};
 ghost use Rattle.ats_tree.specs.Tree.{mth, tree_of};
-ghost use Rattle.ats_proof.specs.Value.{number_of_format};
 ghost use Rattle.ats_consistency.specs.Headline.{IsPrefix};
 ghost use Rattle.ats_consistency.specs.Shape.{turns};
-ghost use Rattle.ats_consistency.specs.Value.{IsGrowth, IsInRange, archive_fields};
+ghost use Rattle.ats_consistency.specs.Value.{IsGrowth};
 ghost use Rattle.ats_growth.specs.Honest.{honest, digest_bytes, IsFirstApart, IsGrowFault};
 
+use crate::comparing::digest_of_range;
 use crate::memory::OutOfMemory;
 use ats_base::Bytes;
-use ats_commit::TextLeaves;
 use ats_consistency::{MAGIC, digests_needed};
-use ats_dict::Header;
 use ats_hash::{Hash32, Steps};
 use ats_impact::Collection;
 use ats_index::Index;
-use ats_lists::Format;
-use ats_tree::{cut_of, root};
+use ats_proof::put_archive;
+use ats_tree::cut_of;
 use std::alloc::Global;
 
 /// Why there is nothing to show.
@@ -65,26 +62,6 @@ pub(crate) fn first_apart(old: &Collection, new: &Collection) -> Option<u32>
     None
 }
 
-// The byte of a format.
-fn format_byte(format: Format) -> u8
-    ensures { result ≡ number_of_format format }
-{
-    match format {
-        Format::One => 1,
-        Format::Two => 2,
-    }
-}
-
-// Appends the format and the header of an archive.
-fn put_archive(format: Format, header: &Header, bytes: &mut Bytes) -> Result<(), OutOfMemory>
-    requires { IsInRange header.now }
-    ensures { OnOk result (bytes.new ≡ bytes.old ++ concat (archive_fields format header.now)) }
-{
-    bytes.push(format_byte(format))?;
-    bytes.extend(&header.bytes())?;
-    Ok(())
-}
-
 // Appends the digest of the `n` texts from document `from` on.
 fn put_range<H: Hash32>(
     texts: &Collection,
@@ -99,10 +76,7 @@ fn put_range<H: Hash32>(
     ensures put { OnOk result (bytes.new ≡ bytes.old ++ mth H.hash (take n (drop from texts.now))) }
     ensures cost { steps.new ≤ steps.old + 2 * n }
 {
-    let _few = texts.documents();
-    let range = TextLeaves::new(texts, from, from + n);
-    let digest = root::<H, _>(&range, steps);
-    bytes.extend(&digest)?;
+    bytes.extend(&digest_of_range::<H>(texts, from, n, steps))?;
     Ok(())
 }
 
@@ -151,8 +125,8 @@ fn bytes_of<H: Hash32>(alloc: Global, old: &Index<H>, new: &Index<H>) -> Result<
     let n = new.collection().documents();
     let mut bytes = Bytes::new(alloc);
     bytes.extend(&MAGIC.to_be_bytes())?;
-    put_archive(old.format(), old.header(), &mut bytes)?;
-    put_archive(new.format(), new.header(), &mut bytes)?;
+    put_archive(&mut bytes, old.format(), old.header())?;
+    put_archive(&mut bytes, new.format(), new.header())?;
     bytes.push(digests_needed(m, n, true) as u8)?;
     let mut steps = Steps::new(alloc);
     put_digests::<H>(new.collection(), 0, m, n, true, &mut bytes, &mut steps)?;

@@ -4,7 +4,7 @@ ghost use Rattle.std.specs.Prelude.{◌≡◌, ◌+◌, ◌*◌, ◌^◌, ◌<�
 ghost use Rattle.std.specs.List.{flat_map};
 ghost use Rattle.ats_consistency.specs.Shape.{turns};
 ghost use Rattle.ats_consistency.specs.Strings.{ranges, range_pairs, second_of, part_of};
-ghost use Rattle.ats_growth.specs.Compared.{IsJoined, IsRange};
+ghost use Rattle.ats_growth.specs.Compared.{IsRange};
 ghost use Rattle.ats_growth.specs.Unlike.{strings_of, first_unlike, unlike_or, or_two};
 
 use crate::joining::{Children, Side, Unlike, joined};
@@ -45,24 +45,6 @@ fn at_document<'a, H: Hash32>(
     }
 }
 
-// A node of both archives, from its two parts.
-fn both<'a, H: Hash32>(left: Side<'a>, right: Side<'a>, steps: &mut Steps) -> Side<'a>
-    requires { steps.old + 2 < 2 ^ 64 }
-    ensures joined { IsJoined H.hash (1 ∷ left.entry.theirs ++ right.entry.theirs) (1 ∷ left.entry.own ++ right.entry.own)
-        (or_two (option_map strings_of left.entry.unlike) (option_map strings_of right.entry.unlike)) result }
-    ensures cost { steps.new ≡ steps.old + 2 }
-{
-    let theirs = Children {
-        left: left.theirs,
-        right: right.theirs,
-    };
-    let own = Children {
-        left: left.own,
-        right: right.own,
-    };
-    joined::<H>(theirs, own, earlier(left.unlike, right.unlike), steps)
-}
-
 // The first of two places that come one after the other.
 fn earlier<'a>(first: Option<Unlike<'a>>, later: Option<Unlike<'a>>) -> Option<Unlike<'a>>
     ensures { option_map strings_of result ≡ or_two (option_map strings_of first.entry) (option_map strings_of later.entry) }
@@ -95,7 +77,15 @@ fn compare_range<'a, H: Hash32>(
     let k = cut_of(n);
     let left = compare_range::<H>(old, new, from, k, steps);
     let right = compare_range::<H>(old, new, from + k, n - k, steps);
-    both::<H>(left, right, steps)
+    let theirs = Children {
+        left: left.theirs,
+        right: right.theirs,
+    };
+    let own = Children {
+        left: left.own,
+        right: right.own,
+    };
+    joined::<H>(theirs, own, earlier(left.unlike, right.unlike), steps)
 }
 
 /// Where the texts of two archives first differ in the ranges that the first `m` of `n` leaves from document `from` on share

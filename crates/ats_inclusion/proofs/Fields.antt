@@ -1,18 +1,15 @@
 -- The fields of the bytes that give a text: their ranges, what they tell, and their join.
-use Rattle.std.proofs.Common.{◌≡◌, ◌∙◌, ℕ, suc, ◌^◌, ◌≤◌, List, [], ◌∷◌, ◌++◌, length, take, drop, get_or, Result, Ok, Err, refl, sym, ap, subst, append-nil, length-append, arith}
+use Rattle.std.proofs.Common.{◌≡◌, ◌∙◌, ℕ, ◌^◌, ◌≤◌, List, [], ◌∷◌, ◌++◌, length, take, drop, get_or, Result, Ok, Err, refl, sym, ap, subst, append-nil, length-append, arith}
 use Rattle.std.specs.Prelude.{IfOk, IfErr}
 use Rattle.std.specs.List.{concat}
 use Rattle.std.proofs.lemmas.List.{take_at, drop_at}
 use Rattle.std.proofs.lemmas.List.Folds.{concat-append}
 use Rattle.ats_grammar.specs.declared.fault.ShapeFault.{ShapeFault}
 use Rattle.ats_grammar.specs.Front.{Come, Spells, IsBad}
-use Rattle.ats_grammar.specs.Grammar.{digests}
-use Rattle.ats_grammar.specs.Table.{End, number, spelled}
-use Rattle.ats_grammar.proofs.Public.{length-spelled, number-spelled, no_fault, one_fault, one_spelling}
-use Rattle.ats_lists.specs.declared.format.Format.{Format}
-use Rattle.ats_lists.specs.declared.format.Format.TheVariants.{One, Two}
-use Rattle.ats_proof.specs.Value.{number_of_format, header_fields}
-use Rattle.ats_proof.proofs.Public.{header_first, header_comes, digests_last, digests_come, length_digests}
+use Rattle.ats_grammar.specs.Table.{End, spelled}
+use Rattle.ats_grammar.proofs.Public.{number-spelled, no_fault, one_fault, one_spelling}
+use Rattle.ats_proof.specs.Value.{archive_fields}
+use Rattle.ats_proof.proofs.Public.{header_first, archive_comes, length-archive, archive_tells, last_first, last_comes, length_digests}
 use Rattle.ats_inclusion.specs.Grammar.{text, text_schema}
 use Rattle.ats_inclusion.specs.Value.{TextProof, text_fields, fields_of, IsTextProof, IsTextInRange}
 
@@ -20,46 +17,22 @@ use Rattle.ats_inclusion.specs.Value.{TextProof, text_fields, fields_of, IsTextP
 pub in_range : (bytes : List ℕ) (proof : TextProof) → IsTextProof bytes proof → IsTextInRange proof
 in_range bytes proof is =
     let first = header_first proof.header (text_fields proof) text is.spells.whole.come.1.1 in
-    let tail = first.after in
-    let shown = digests_last (number (spelled 1 (length proof.digests))) proof.digests tail.1.1.1 in
-    record {
-      header = first.range;
-      short = omega (arith, tail.0.2, number-spelled 3 (length proof.text));
-      few = omega (arith, tail.1.1.0.2, number-spelled 0 (length proof.digests));
-      sized = shown.1;
-    }
-
--- ---- fields of parts in their ranges
-
--- the spelling of a number from low to high
-abbrev IsNumber : (size low high : ℕ) → ℕ → Type 0
-IsNumber size low high n = (length (spelled size n) ≡ size) × (low ≤ number (spelled size n)) × (number (spelled size n) ≤ high)
-
-is_number : (k low high n : ℕ) → low ≤ n → n ≤ high → IsNumber (suc k) low high n
-is_number k low high n some few =
-    (length-spelled (suc k) n, subst (λ (m : ℕ). low ≤ m) (sym (number-spelled k n)) some, subst (λ (m : ℕ). m ≤ high) (sym (number-spelled k n)) few)
-
-is_format : (format : Format) → IsNumber 1 1 2 (number_of_format format)
-is_format One = is_number 0 1 2 1 (omega arith) (omega arith)
-is_format Two = is_number 0 1 2 2 (omega arith) (omega arith)
+    let shown = last_first 32 proof.digests first.after.1.1 in
+    record { header = first.range; short = omega (arith, first.after.0.2, number-spelled 3 (length proof.text)); few = shown.0; sized = shown.1 }
 
 come-all : (proof : TextProof) → IsTextInRange proof → Come (fields_of proof) text_schema.table End
 come-all proof range =
-    let digests_there : Come proof.digests (digests (number (spelled 1 (length proof.digests))) End) End =
-    digests_come (number (spelled 1 (length proof.digests))) proof.digests (sym (number-spelled 0 (length proof.digests))) range.sized in
     let text_there : Come (text_fields proof) text End = (
-      is_number 3 0 1048576 (length proof.text) (omega arith) range.short,
-      (sym (number-spelled 3 (length proof.text)), (is_number 0 0 32 (length proof.digests) (omega arith) range.few, digests_there)),
+      (refl, omega arith, omega (arith, range.short, number-spelled 3 (length proof.text))),
+      (sym (number-spelled 3 (length proof.text)), last_comes 32 proof.digests range.few range.sized),
     ) in
-    let header_there = header_comes proof.header (text_fields proof) text End range.header text_there in
-    (is_number 3 0x41545346 0x41545346 0x41545346 (omega arith) (omega arith), (is_format proof.format, header_there))
+    ((refl, omega arith, omega arith), archive_comes proof.format proof.header (text_fields proof) text End range.header text_there)
 
 -- ---- how many bytes there are
 
 -- the fields before the text
 abbrev pub before_text : TextProof → List (List ℕ)
-before_text proof =
-    spelled 4 0x41545346 ∷ spelled 1 (number_of_format proof.format) ∷ (header_fields proof.header ++ (spelled 4 (length proof.text) ∷ []))
+before_text proof = spelled 4 0x41545346 ∷ (archive_fields proof.format proof.header ++ (spelled 4 (length proof.text) ∷ []))
 
 -- the fields after the text
 abbrev pub after_text : TextProof → List (List ℕ)
@@ -67,10 +40,9 @@ after_text proof = spelled 1 (length proof.digests) ∷ proof.digests
 
 pub length-before : (proof : TextProof) → IsTextInRange proof → length (concat (before_text proof)) ≡ 114
 length-before proof range =
-    let dict = range.header.dict in
-    let docs = range.header.docs in
-    let texts = range.header.texts in
-    simp length-append (omega (arith, dict, docs, texts))
+    let fields = archive_fields proof.format proof.header in
+    let size = spelled 4 (length proof.text) ∷ [] in
+    omega (arith, ap length (concat-append fields size), length-append (concat fields) (concat size), length-archive proof.format proof.header range.header)
 
 -- the join of all fields, with the text in its middle
 pub around_text : (proof : TextProof) → concat (fields_of proof) ≡ concat (before_text proof) ++ (proof.text ++ concat (after_text proof))
@@ -113,48 +85,20 @@ lent_from bytes proof is =
 
 -- ---- bytes say one text
 
-same_number : (k a b : ℕ) → spelled (suc k) a ≡ spelled (suc k) b → a ≡ b
-same_number k a b same = sym (number-spelled k a) ∙ ap number same ∙ number-spelled k b
-
-same_format : (a b : Format) → number_of_format a ≡ number_of_format b → a ≡ b
-same_format One One same = refl
-same_format One Two same = absurd (omega (arith, same))
-same_format Two One same = absurd (omega (arith, same))
-same_format Two Two same = refl
-
 pub one_text : (bytes : List ℕ) (p q : TextProof) → IsTextProof bytes p → IsTextProof bytes q → p ≡ q
 one_text bytes p q is other =
     let same : fields_of p ≡ fields_of q = one_spelling text_schema bytes (fields_of p) (fields_of q) is.spells other.spells in
-    let at = λ (i : ℕ). ap (λ (fields : List (List ℕ)). get_or fields i []) same in
-    let format : p.format ≡ q.format = same_format p.format q.format (same_number 0 (number_of_format p.format) (number_of_format q.format) (at 1)) in
-    let documents : p.header.documents ≡ q.header.documents = same_number 3 p.header.documents q.header.documents (at 3) in
-    let leaves : p.header.dict_leaves ≡ q.header.dict_leaves = same_number 3 p.header.dict_leaves q.header.dict_leaves (at 4) in
-    let dict : p.header.dict_root ≡ q.header.dict_root = at 5 in
-    let docs : p.header.docs_root ≡ q.header.docs_root = at 6 in
-    let texts : p.header.texts_root ≡ q.header.texts_root = at 7 in
-    let text : p.text ≡ q.text = at 9 in
-    let digests_same : p.digests ≡ q.digests = ap (drop 11) same in
-    λ i. record {
-      format = format i;
-      header = record { documents = documents i; dict_leaves = leaves i; dict_root = dict i; docs_root = docs i; texts_root = texts i };
-      text = text i;
-      digests = digests_same i;
-    }
+    let archives = archive_tells p.format q.format p.header q.header (text_fields p) (text_fields q) (ap (drop 1) same) in
+    let text : p.text ≡ q.text = ap (λ (fields : List (List ℕ)). get_or fields 1 []) archives.header.rest in
+    let digests : p.digests ≡ q.digests = ap (drop 3) archives.header.rest in
+    λ i. record { format = archives.format i; header = archives.header.value i; text = text i; digests = digests i }
 
--- ---- the fields that are read one after another
-
-pub read_spells : (bytes : List ℕ) (proof : TextProof) (magic size count : ℕ) (all : List (List ℕ)) → (0x41545346 ≤ magic) × (magic ≤ 0x41545346) → length proof.text ≡ size
-    → length all ≡ count → proof.digests ≡ all
-    → Spells text_schema bytes
-    (spelled 4 magic ∷ spelled 1 (number_of_format proof.format) ∷ (header_fields proof.header ++ (spelled 4 size ∷ proof.text ∷ spelled 1 count ∷ all)))
-    → IsTextProof bytes proof
-read_spells bytes proof magic size count all range sized many same spelled_so =
-    let first : magic ≡ 0x41545346 = omega (arith, range) in
-    let more : count ≡ length proof.digests = sym many ∙ ap length (sym same) in
-    let After : ℕ → ℕ → ℕ → List (List ℕ) → List (List ℕ) = λ m n k ds.
-    spelled 4 m ∷ spelled 1 (number_of_format proof.format) ∷ (header_fields proof.header ++ (spelled 4 n ∷ proof.text ∷ spelled 1 k ∷ ds)) in
-    let fields_same : After magic size count all ≡ fields_of proof = λ i. After (first i) (sym sized i) (more i) (sym same i) in
-    record { spells = subst (Spells text_schema bytes) fields_same spelled_so }
+-- the text has as many bytes as were read for its length
+pub sized_text : (bytes : List ℕ) (proof : TextProof) (size : ℕ) → length proof.text ≡ size
+    → Spells text_schema bytes (spelled 4 0x41545346 ∷ (archive_fields proof.format proof.header ++ spelled 4 size ∷ proof.text ∷ after_text proof)) → IsTextProof bytes proof
+sized_text bytes proof size is spells_so =
+    let Fields : ℕ → List (List ℕ) = λ n. spelled 4 0x41545346 ∷ (archive_fields proof.format proof.header ++ spelled 4 n ∷ proof.text ∷ after_text proof) in
+    record { spells = subst (λ (n : ℕ). Spells text_schema bytes (Fields n)) (sym is) spells_so }
 
 -- ---- the two outcomes of reading
 

@@ -13,7 +13,7 @@ use Rattle.ats_tree.specs.Differences.{Hashed, moved, Difference, first_differen
 use Rattle.ats_tree.specs.Nodes.{Node, NodeNumbers, numbers_of}
 use Rattle.ats_tree.specs.Shown.{Shown}
 use Rattle.ats_tree.specs.Strings.{node_string, node_strings, IsBoundTo}
-use Rattle.ats_tree.proofs.Public.{bound_to, binds-weaker, Collides, difference-collides, known-moved, none_some, numbers-lead}
+use Rattle.ats_tree.proofs.Public.{bound_to, binds-weaker, Collides, difference-collides, known-moved, numbers-lead}
 use Rattle.ats_inclusion.specs.Accepts.{shown_text, AcceptsText}
 use Rattle.ats_inclusion.specs.Strings.{TextPlace, in_texts, own_text_string, text_strings, text_extract, IsOwnText, IsOwnOrCollides}
 use Rattle.ats_inclusion.specs.Value.{TextProof, IsTextInRange}
@@ -83,12 +83,3 @@ pub own_if_ok : (H : List ℕ → List ℕ) → ((m : List ℕ) → length (H m)
     → (result : Result (Unit {0}) TextRefusal) → OnOk result (AcceptsText H root doc proof) → OnOk result (IsOwnOrCollides H root doc proof)
 own_if_ok H sized root doc proof range (Ok done) accepts = own_or_collides H sized root doc proof range accepts
 own_if_ok H sized root doc proof range (Err refusal) accepts = tt
-
--- without a collision the text is the archive's own
-pub own_text : (H : List ℕ → List ℕ) → ((m : List ℕ) → length (H m) ≡ 32) → (archive : Archive) (doc : ℕ) (proof : TextProof) → AreTexts archive.texts → IsTextInRange proof
-    → AcceptsText H (root_of H archive) doc proof → text_extract H archive doc proof ≡ None → IsOwnText archive doc proof
-own_text H sized archive doc proof are range accepts none =
-    elim (own_or_collides H sized (root_of H archive) doc proof range accepts archive are refl) [
-      | inl own ↦ own
-      | inr some ↦ absurd (none_some (text_extract H archive doc proof) none some)
-    ]

@@ -12,8 +12,6 @@ pub use Rattle.ats_inclusion.proofs.Fields.{one_join}
 pub use Rattle.ats_inclusion.proofs.Refusals.{one_refusal, not_refused}
 -- for each archive with the root, an accepted text is the archive's own, or there is a collision
 pub use Rattle.ats_inclusion.proofs.Own.{own_or_collides}
--- an accepted text that has no collision with an archive of the root is the archive's own
-pub use Rattle.ats_inclusion.proofs.Own.{own_text}
 -- the strings of the texts tree that the check hashes
 pub use Rattle.ats_inclusion.proofs.Own.{tree_strings_of}
 -- the first string of an accepted text that differs from an archive's own is the first collision

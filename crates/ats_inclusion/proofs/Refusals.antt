@@ -1,63 +1,39 @@
 -- A text has at most one first refusal, and none if it is accepted.
-use Rattle.std.proofs.Common.{◌≡◌, ◌∙◌, ℕ, List, true, Result, Ok, Err, refl, sym, ap, arith}
+use Rattle.std.proofs.Common.{◌≡◌, ◌∙◌, ℕ, List, length, true, Result, Ok, Err, refl, sym, ap, arith}
 use Rattle.std.specs.Result.{is_ok, IfErr}
-use Rattle.ats_base.proofs.Public.{AreExact, not_kept, one_first}
+use Rattle.ats_base.specs.Rules.{Group}
+use Rattle.ats_base.proofs.Public.{IsExact, AreExact, not_kept, one_first}
 use Rattle.ats_inclusion.specs.Accepts.{IsRooted, IsRootFault, IsInside, IsDocFault, IsFit, IsMisfit, IsTextRooted, IsTextRootFault, text_rules, AcceptsText, IsFirstTextRefusal}
 use Rattle.ats_inclusion.specs.Value.{TextProof}
 use Rattle.ats_refusal.specs.declared.text.TextRefusal.{TextRefusal}
 use Rattle.ats_refusal.specs.declared.text.TextRefusal.TheVariants.{OtherRoot, DocOut, TextMisfit, TextRoot}
 
--- ---- a rule that fails does not hold
+-- a group of rules that fails only by x
+fails_by : (x : TextRefusal) (group : Group TextRefusal) → ((a : TextRefusal) → group.fault a → (a ≡ x) × (group.kept → ⊥)) → IsExact group
+fails_by x group is = record { breaks = λ a fault kept. (is a fault).1 kept; one = λ a b fault also. (is a fault).0 ∙ sym (is b also).0 }
 
-not_rooted : (H : List ℕ → List ℕ) (root : List ℕ) (proof : TextProof) (refusal : TextRefusal) → IsRootFault H root proof refusal → IsRooted H root proof → ⊥
-not_rooted H root proof OtherRoot fault kept = fault kept
-not_rooted H root proof _ fault kept = fault
+root-is : (H : List ℕ → List ℕ) (root : List ℕ) (proof : TextProof) (a : TextRefusal) → IsRootFault H root proof a → (a ≡ OtherRoot) × (IsRooted H root proof → ⊥)
+root-is H root proof OtherRoot is = (refl, is)
+root-is H root proof _ is = absurd is
 
-not_inside : (doc : ℕ) (proof : TextProof) (refusal : TextRefusal) → IsDocFault doc proof refusal → IsInside doc proof → ⊥
-not_inside doc proof (DocOut documents) fault kept = omega (arith, fault.0, fault.1, kept)
-not_inside doc proof _ fault kept = fault
+doc-is : (doc : ℕ) (proof : TextProof) (a : TextRefusal) → IsDocFault doc proof a → (a ≡ DocOut proof.header.documents) × (IsInside doc proof → ⊥)
+doc-is doc proof (DocOut documents) is = (ap DocOut is.0, λ kept. omega (arith, is.0, is.1, kept))
+doc-is doc proof _ is = absurd is
 
-not_fit : (doc : ℕ) (proof : TextProof) (refusal : TextRefusal) → IsMisfit doc proof refusal → IsFit doc proof → ⊥
-not_fit doc proof (TextMisfit digests) fault kept = fault.1 (fault.0 ∙ kept)
-not_fit doc proof _ fault kept = fault
+misfit-is : (doc : ℕ) (proof : TextProof) (a : TextRefusal) → IsMisfit doc proof a → (a ≡ TextMisfit (length proof.digests)) × (IsFit doc proof → ⊥)
+misfit-is doc proof (TextMisfit digests) is = (ap TextMisfit is.0, λ kept. is.1 (is.0 ∙ kept))
+misfit-is doc proof _ is = absurd is
 
-not_text : (H : List ℕ → List ℕ) (doc : ℕ) (proof : TextProof) (refusal : TextRefusal) → IsTextRootFault H doc proof refusal → IsTextRooted H doc proof → ⊥
-not_text H doc proof TextRoot fault kept = let rebuilt = fault.rebuilt in fault.differs (cc)
-not_text H doc proof _ fault kept = fault
-
--- ---- a rule fails in one way
-
-one_root : (H : List ℕ → List ℕ) (root : List ℕ) (proof : TextProof) (a b : TextRefusal) → IsRootFault H root proof a → IsRootFault H root proof b → a ≡ b
-one_root H root proof OtherRoot OtherRoot is also = refl
-one_root H root proof OtherRoot _ is also = absurd also
-one_root H root proof _ b is also = absurd is
-
-one_doc : (doc : ℕ) (proof : TextProof) (a b : TextRefusal) → IsDocFault doc proof a → IsDocFault doc proof b → a ≡ b
-one_doc doc proof (DocOut documents) (DocOut others) is also = ap DocOut (is.0 ∙ sym also.0)
-one_doc doc proof (DocOut documents) _ is also = absurd also
-one_doc doc proof _ b is also = absurd is
-
-one_misfit : (doc : ℕ) (proof : TextProof) (a b : TextRefusal) → IsMisfit doc proof a → IsMisfit doc proof b → a ≡ b
-one_misfit doc proof (TextMisfit digests) (TextMisfit others) is also = ap TextMisfit (is.0 ∙ sym also.0)
-one_misfit doc proof (TextMisfit digests) _ is also = absurd also
-one_misfit doc proof _ b is also = absurd is
-
-one_text_root : (H : List ℕ → List ℕ) (doc : ℕ) (proof : TextProof) (a b : TextRefusal) → IsTextRootFault H doc proof a → IsTextRootFault H doc proof b → a ≡ b
-one_text_root H doc proof TextRoot TextRoot is also = refl
-one_text_root H doc proof TextRoot _ is also = absurd also
-one_text_root H doc proof _ b is also = absurd is
-
--- ---- all rules
+text-is : (H : List ℕ → List ℕ) (doc : ℕ) (proof : TextProof) (a : TextRefusal) → IsTextRootFault H doc proof a → (a ≡ TextRoot) × (IsTextRooted H doc proof → ⊥)
+text-is H doc proof TextRoot is = (refl, λ kept. let rebuilt = is.rebuilt in is.differs (cc))
+text-is H doc proof _ is = absurd is
 
 exact : (H : List ℕ → List ℕ) (root : List ℕ) (doc : ℕ) (proof : TextProof) → AreExact (text_rules H root doc proof)
 exact H root doc proof = (
-  record { breaks = not_rooted H root proof; one = one_root H root proof },
+  fails_by OtherRoot _ (root-is H root proof),
   (
-    record { breaks = not_inside doc proof; one = one_doc doc proof },
-    (
-      record { breaks = not_fit doc proof; one = one_misfit doc proof },
-      (record { breaks = not_text H doc proof; one = one_text_root H doc proof }, tt),
-    ),
+    fails_by (DocOut proof.header.documents) _ (doc-is doc proof),
+    (fails_by (TextMisfit (length proof.digests)) _ (misfit-is doc proof), (fails_by TextRoot _ (text-is H doc proof), tt)),
   ),
 )
 

@@ -1,24 +1,13 @@
 -- The fields of the bytes that give a text, in their order.
 use Rattle.std.specs.Prelude.{◌^◌}
-use Rattle.ats_grammar.specs.declared.fault.ShapeKind.TheVariants.{Magic, Version, Count}
-use Rattle.ats_grammar.specs.Table.{Table, Schema, End, Number, Bytes}
-use Rattle.ats_grammar.specs.Grammar.{header, digests}
+use Rattle.ats_grammar.specs.declared.fault.ShapeKind.TheVariants.{Count}
+use Rattle.ats_grammar.specs.Table.{Table, Schema, Number, Bytes}
+use Rattle.ats_proof.specs.SharedTables.{file, archive, last_digests}
 
--- ---- the digests, after their number
-
-abbrev pub text_digests : Table
-text_digests = Number 1 0 32 Count (λ n. digests n End)
-
--- ---- the text, after its length
-
+-- the text after its length, and the digests
 abbrev pub text : Table
-text = Number 4 0 1048576 Count (λ size. Bytes size text_digests)
+text = Number 4 0 1048576 Count (λ size. Bytes size (last_digests 32))
 
--- ---- magic ATSF, the format of the archive's lists, and the archive's header
-
-abbrev pub text_front : Table
-text_front = Number 4 0x41545346 0x41545346 Magic (λ _. Number 1 1 2 Version (λ _. header text))
-
--- what the bytes must be: at most 2^21
+-- what the bytes must be: at most 2^21, which begin with ATSF
 abbrev pub text_schema : Schema
-text_schema = record { table = text_front; limit = 2 ^ 21 }
+text_schema = file (2 ^ 21) 0x41545346 (archive text)

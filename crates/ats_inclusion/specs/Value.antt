@@ -6,7 +6,7 @@ use Rattle.ats_dict.specs.declared.header.Header.{Header}
 use Rattle.ats_grammar.specs.Front.{Spells}
 use Rattle.ats_grammar.specs.Table.{spelled}
 use Rattle.ats_lists.specs.declared.format.Format.{Format}
-use Rattle.ats_proof.specs.Value.{number_of_format, header_fields}
+use Rattle.ats_proof.specs.Value.{archive_fields}
 use Rattle.ats_inclusion.specs.Grammar.{text_schema}
 
 -- a text, with the header and the format of its archive, and the digests that bind it to the root of the texts
@@ -23,7 +23,7 @@ text_fields proof = spelled 4 (length proof.text) ∷ proof.text ∷ spelled 1 (
 -- all fields, in the table's order
 abbrev pub fields_of : TextProof → List (List ℕ)
 fields_of proof =
-    spelled 4 0x41545346 ∷ spelled 1 (number_of_format proof.format) ∷ (header_fields proof.header ++ text_fields proof)
+    spelled 4 0x41545346 ∷ (archive_fields proof.format proof.header ++ text_fields proof)
 
 -- the bytes spell this
 pub record IsTextProof (bytes : List ℕ) (proof : TextProof) : Type 0 where

@@ -34,7 +34,7 @@ fn checked<'a, H: Hash32>(
     let mut shown = TextCursor::of(proof, doc);
     let Ok(digest) = rebuild::<H, _>(documents, &mut shown, steps) else {
         return Err(TextRefusal::TextMisfit {
-            digests: proof.count,
+            digests: proof.digests.len(),
         });
     };
     if digest != proof.header.texts_root {

@@ -6,9 +6,9 @@ ghost use Rattle.ats_grammar.specs.declared.fault.ShapeFault.{ShapeFault};
 ghost use Rattle.ats_inclusion.specs.Grammar.{text_schema};
 
 use ats_dict::Header;
-use ats_grammar::{Reader, ShapeFault, ShapeKind};
+use ats_grammar::{ShapeFault, ShapeKind};
 use ats_lists::Format;
-use ats_proof::{DigestRun, read_format, read_header};
+use ats_proof::{DigestRun, begin_file, read_archive, read_digests};
 use std::marker::Model;
 
 /// `ATSF` as a number.
@@ -30,12 +30,10 @@ pub struct TextView<'a> {
     pub(crate) format: Format,
     pub(crate) header: Header,
     pub(crate) text: &'a [u8],
-    pub(crate) count: u32,
     pub(crate) digests: DigestRun<'a>,
 }
 
 impl<'a> Model for TextView<'a> {
-    ghost use Rattle.std.specs.Prelude.{◌≡◌, length};
     ghost use Rattle.ats_proof.specs.Seen.{digests_of};
     ghost use Rattle.ats_inclusion.specs.Value.{TextProof, IsTextInRange};
 
@@ -43,8 +41,7 @@ impl<'a> Model for TextView<'a> {
 
     ghost view = { λ v. record { format = v.format; header = v.header; text = v.text.now; digests = digests_of v.digests } };
 
-    ghost invariant = { λ v. IsTextInRange (record { format = v.format; header = v.header; text = v.text.now; digests = digests_of v.digests })
-        × (length (digests_of v.digests) ≡ v.count) };
+    ghost invariant = { λ v. IsTextInRange (record { format = v.format; header = v.header; text = v.text.now; digests = digests_of v.digests }) };
 }
 
 impl<'a> TextView<'a> {
@@ -56,21 +53,16 @@ impl<'a> TextView<'a> {
         ensures spelled { IfOk result (IsTextProof bytes.now) }
         ensures refused { IfErr result (IsBad text_schema bytes.now) }
     {
-        let mut reader = Reader::new(bytes, MAX_BYTES)?;
-        reader.number(4, MAGIC as u64, MAGIC, ShapeKind::Magic)?;
-        let format = read_format(&mut reader)?;
-        let header = read_header(&mut reader)?;
+        let mut reader = begin_file(bytes, MAX_BYTES, MAGIC)?;
+        let (format, header) = read_archive(&mut reader)?;
         let length = reader.number(4, 0, MAX_TEXT, ShapeKind::Count)?;
         let text = reader.bytes(length)?;
-        let count = reader.number(1, 0, MAX_DIGESTS, ShapeKind::Count)?;
-        let digests = reader.digests(count)?;
-        reader.end()?;
+        let digests = read_digests(&mut reader, MAX_DIGESTS)?;
         Ok(TextView {
             format,
             header,
             text,
-            count,
-            digests: DigestRun::of(digests),
+            digests,
         })
     }
 

@@ -1,8 +1,8 @@
 -- A comparer, from its start to its result.
-use Rattle.std.proofs.Common.{◌≡◌, ◌+◌, ◌<◌, ◌≤◌, ◌∙◌, ℕ, Bool, List, [], ◌++◌, true, false, nat_lt, length, drop, refl, sym, ap, subst, arith, append_assoc, length-append, length-drop}
+use Rattle.std.proofs.Common.{◌≡◌, ◌+◌, ◌<◌, ◌≤◌, ◌∙◌, ℕ, Bool, List, [], ◌++◌, true, false, nat_lt, length, drop, refl, sym, ap, subst, arith, append_assoc, length-append}
 use Rattle.std.specs.Prelude.{nat_eq}
 use Rattle.std.specs.List.{common_prefix_len}
-use Rattle.std.proofs.lemmas.List.{append-nil, append_cancel_left, drop-drop, nil_from_length}
+use Rattle.std.proofs.lemmas.List.{append-nil, append_cancel_left, drop-drop}
 use Rattle.std.proofs.lemmas.List.Sums.{common_prefix_len-le}
 use borrow.Author.Tests.{ltb-true, ltb-false}
 use Rattle.ats_index.specs.Comparing.{IsCompared}
@@ -70,8 +70,3 @@ tells_left bytes same differs others compared none left =
       other = λ equal. omega (arith, so_far.0, ap (λ (xs : List ℕ). length xs) equal);
       prefix = so_far.0 ∙ sym (whole others (drop same bytes)) ∙ ap (λ xs. common_prefix_len nat_eq xs others) (sym so_far.1);
     }
-
--- if no bytes are left, there is no difference
-pub tells_same : (bytes : List ℕ) (same : ℕ) (others : List ℕ) → IsCompared bytes same false others → length bytes ≤ same → bytes ≡ others
-tells_same bytes same others so_far none =
-    so_far.1 ∙ ap (λ xs. others ++ xs) (nil_from_length (drop same bytes) (omega (arith, length-drop same bytes))) ∙ append-nil others

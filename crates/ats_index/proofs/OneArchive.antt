@@ -9,7 +9,8 @@ use Rattle.ats_lists.specs.declared.format.Format.TheVariants.{One, Two}
 use Rattle.ats_commit.specs.Archive.{Archive}
 use Rattle.ats_commit.specs.Root.{root_of}
 use Rattle.ats_index.specs.Parts.{archive_in}
-use Rattle.ats_index.specs.Spelling.{IsSpelling, version_of, front_bytes, text_bytes, lists_bytes}
+use Rattle.ats_lists.specs.FormatNumber.{number_of_format}
+use Rattle.ats_index.specs.Spelling.{IsSpelling, front_bytes, text_bytes, lists_bytes}
 use Rattle.ats_index.specs.LoadFaults.{BeginWith}
 use Rattle.ats_index.proofs.Reading.{front_number, front_rest, front_version, text_number, text_first, text_rest}
 use Rattle.ats_index.proofs.Loading.{texts_first}
@@ -61,7 +62,7 @@ pub front_first : (bytes : List ℕ) (format : Format) (texts : List (List ℕ))
 front_first bytes format texts begins = begins.same ∙ append_assoc (front_bytes format (length texts)) (flat_map text_bytes texts) begins.rest
 
 -- formats with the same version are the same
-pub one_format : (format other : Format) → version_of format ≡ version_of other → format ≡ other
+pub one_format : (format other : Format) → number_of_format format ≡ number_of_format other → format ≡ other
 one_format One One same = refl
 one_format One Two same = absurd (omega (arith, same))
 one_format Two One same = absurd (omega (arith, same))
@@ -80,7 +81,7 @@ one_beginning bytes format format' texts others first second =
     let count : length texts ≡ length others =
     sym (front_number bytes format (length texts) rest few is) ∙ front_number bytes format' (length others) rest' few' is' in
     let same : rest ≡ rest' = sym (front_rest bytes format (length texts) rest few is) ∙ front_rest bytes format' (length others) rest' few' is' in
-    let version : version_of format ≡ version_of format' =
+    let version : number_of_format format ≡ number_of_format format' =
     sym (front_version bytes format (length texts) rest few is) ∙ front_version bytes format' (length others) rest' few' is' in
     ap₂ archive_in (one_format format format' version)
     (texts_tell texts others first.rest second.rest count first.within.short second.within.short same)

@@ -12,7 +12,8 @@ use Rattle.ats_impact.specs.Limits.{AllShort}
 use Rattle.ats_commit.specs.Archive.{Archive}
 use Rattle.ats_lists.specs.declared.format.Format.{Format}
 use Rattle.ats_index.specs.Parts.{archive_in}
-use Rattle.ats_index.specs.Spelling.{IsSpelling, version_of, front_bytes, text_bytes, index_bytes}
+use Rattle.ats_lists.specs.FormatNumber.{number_of_format}
+use Rattle.ats_index.specs.Spelling.{IsSpelling, front_bytes, text_bytes, index_bytes}
 use Rattle.ats_index.specs.FirstPart.{Field, Magic, Version, Documents, TextLength, TextBytes, IsRoom, AreFirst, IsReached, IsGood, front_of}
 use Rattle.ats_index.specs.LoadFaults.{BeginWith, IsLoadFault}
 use Rattle.ats_index.specs.declared.load.LoadFault.TheVariants.{BadIndex}
@@ -138,17 +139,10 @@ IsEarly _ = ⊥
 early_good : (field : Field) (b : List ℕ) (format : Format) (n : ℕ) (rest : List ℕ) → IsEarly field → 1 ≤ n → n ≤ 65536 → NoneGood field b
     → front_of field ++ b ≡ front_bytes format n ++ rest → ⊥
 unfolding front_bytes
-early_good Magic b format n rest early some few bad same = bad (codes "ATSI") (version_of format ∷ to_be_bytes w32 n ++ rest) refl same
-early_good Version b format n rest early some few bad same = bad (version_of format ∷ []) (to_be_bytes w32 n ++ rest) (format, refl) (ap (drop 4) same)
+early_good Magic b format n rest early some few bad same = bad (codes "ATSI") (number_of_format format ∷ to_be_bytes w32 n ++ rest) refl same
+early_good Version b format n rest early some few bad same = bad (number_of_format format ∷ []) (to_be_bytes w32 n ++ rest) (format, refl) (ap (drop 4) same)
 early_good (Documents f) b format n rest early some few bad same = bad (to_be_bytes w32 n) rest (n, some, few, refl) (ap (drop 5) same)
-early_good (TextLength f m texts) b format n rest early some few bad same = early
-early_good (TextBytes f m texts size) b format n rest early some few bad same = early
-
--- the bytes after the front
-abbrev behind_front : Field → List ℕ → List ℕ
-behind_front (TextLength f n texts) b = flat_map text_bytes texts ++ b
-behind_front (TextBytes f n texts size) b = flat_map text_bytes texts ++ (to_be_bytes w32 size ++ b)
-behind_front _ b = b
+early_good _ b format n rest early some few bad same = early
 
 late_length : (f : Format) (n : ℕ) (texts : List (List ℕ)) (b : List ℕ) → front_of (TextLength f n texts) ++ b ≡ front_bytes f n ++ (flat_map text_bytes texts ++ b)
 late_length f n texts b = append_assoc (front_bytes f n) (flat_map text_bytes texts) b
@@ -216,34 +210,33 @@ module _ (f g : Format) (n m : ℕ) (texts others : List (List ℕ)) (first : Ar
   of_bytes size size' a b room room' bad bad' (same, inr (inr longer)) = absurd (bytes_stand others texts f n size a good' room longer bad)
 
 -- a field of the front that is bad, and one after the front
-early_late : (field : Field) (f : Format) (n : ℕ) (texts : List (List ℕ)) (a b : List ℕ) → IsEarly field → AreFirst n texts → NoneGood field a
-    → front_of field ++ a ≡ front_bytes f n ++ b → ⊥
-early_late field f n texts a b early first bad same = early_good field a f n b early first.some first.few bad same
+abbrev IsLate : Field → Type 0
+IsLate (TextLength f n texts) = Unit {0}
+IsLate (TextBytes f n texts size) = Unit {0}
+IsLate _ = ⊥
+
+early_late : (field late : Field) (a b : List ℕ) → IsEarly field → IsLate late → IsReached late → NoneGood field a → front_of field ++ a ≡ front_of late ++ b → ⊥
+early_late field (TextLength f n texts) a b early late reached bad same =
+    early_good field a f n (flat_map text_bytes texts ++ b) early reached.some reached.few bad (same ∙ late_length f n texts b)
+early_late field (TextBytes f n texts size) a b early late reached bad same =
+    early_good field a f n (flat_map text_bytes texts ++ (to_be_bytes w32 size ++ b)) early reached.0.some reached.0.few bad (same ∙ late_bytes f n texts size b)
+early_late field _ a b early late reached bad same = late
 
 -- two first bad fields of the same bytes start at one place
 one_field : (f g : Field) (a b : List ℕ) → IsReached f → IsReached g → NoneGood f a → NoneGood g b → front_of f ++ a ≡ front_of g ++ b
     → length (front_of f) ≡ length (front_of g)
 one_field Magic Magic a b reached reached' bad bad' same = refl
 one_field Magic Version a b reached reached' bad bad' same = absurd (bad (codes "ATSI") b refl same)
-one_field Magic (Documents g) a b reached reached' bad bad' same = absurd (bad (codes "ATSI") (version_of g ∷ b) refl same)
-one_field Magic (TextLength g m others) a b reached reached' bad bad' same =
-    absurd (early_late Magic g m others a (flat_map text_bytes others ++ b) tt reached' bad (same ∙ late_length g m others b))
-one_field Magic (TextBytes g m others size) a b reached reached' bad bad' same =
-    absurd (early_late Magic g m others a (flat_map text_bytes others ++ (to_be_bytes w32 size ++ b)) tt reached'.0 bad (same ∙ late_bytes g m others size b))
+one_field Magic (Documents g) a b reached reached' bad bad' same = absurd (bad (codes "ATSI") (number_of_format g ∷ b) refl same)
+one_field Magic late a b reached reached' bad bad' same = absurd (early_late Magic late a b tt tt reached' bad same)
 one_field Version Magic a b reached reached' bad bad' same = absurd (bad' (codes "ATSI") a refl (sym same))
 one_field Version Version a b reached reached' bad bad' same = refl
-one_field Version (Documents g) a b reached reached' bad bad' same = absurd (bad (version_of g ∷ []) b (g, refl) (ap (drop 4) same))
-one_field Version (TextLength g m others) a b reached reached' bad bad' same =
-    absurd (early_late Version g m others a (flat_map text_bytes others ++ b) tt reached' bad (same ∙ late_length g m others b))
-one_field Version (TextBytes g m others size) a b reached reached' bad bad' same =
-    absurd (early_late Version g m others a (flat_map text_bytes others ++ (to_be_bytes w32 size ++ b)) tt reached'.0 bad (same ∙ late_bytes g m others size b))
-one_field (Documents f) Magic a b reached reached' bad bad' same = absurd (bad' (codes "ATSI") (version_of f ∷ a) refl (sym same))
-one_field (Documents f) Version a b reached reached' bad bad' same = absurd (bad' (version_of f ∷ []) a (f, refl) (ap (drop 4) (sym same)))
+one_field Version (Documents g) a b reached reached' bad bad' same = absurd (bad (number_of_format g ∷ []) b (g, refl) (ap (drop 4) same))
+one_field Version late a b reached reached' bad bad' same = absurd (early_late Version late a b tt tt reached' bad same)
+one_field (Documents f) Magic a b reached reached' bad bad' same = absurd (bad' (codes "ATSI") (number_of_format f ∷ a) refl (sym same))
+one_field (Documents f) Version a b reached reached' bad bad' same = absurd (bad' (number_of_format f ∷ []) a (f, refl) (ap (drop 4) (sym same)))
 one_field (Documents f) (Documents g) a b reached reached' bad bad' same = refl
-one_field (Documents f) (TextLength g m others) a b reached reached' bad bad' same =
-    absurd (early_late (Documents f) g m others a (flat_map text_bytes others ++ b) tt reached' bad (same ∙ late_length g m others b))
-one_field (Documents f) (TextBytes g m others size) a b reached reached' bad bad' same =
-    absurd (early_late (Documents f) g m others a (flat_map text_bytes others ++ (to_be_bytes w32 size ++ b)) tt reached'.0 bad (same ∙ late_bytes g m others size b))
+one_field (Documents f) late a b reached reached' bad bad' same = absurd (early_late (Documents f) late a b tt tt reached' bad same)
 one_field (TextLength f n texts) (TextLength g m others) a b reached reached' bad bad' same =
     of_lengths f g n m texts others reached reached' a b bad bad'
     (told f g n m texts others reached reached' a b (sym (late_length f n texts a) ∙ same ∙ late_length g m others b))
@@ -257,18 +250,9 @@ one_field (TextBytes f n texts size) (TextBytes g m others size') a b reached re
     of_bytes f g n m texts others reached.0 reached'.0 size size' a b reached.1 reached'.1 bad bad'
     (told f g n m texts others reached.0 reached'.0 (to_be_bytes w32 size ++ a) (to_be_bytes w32 size' ++ b)
     (sym (late_bytes f n texts size a) ∙ same ∙ late_bytes g m others size' b))
-one_field (TextLength f n texts) Magic a b reached reached' bad bad' same =
-    absurd (early_late Magic f n texts b (flat_map text_bytes texts ++ a) tt reached bad' (sym same ∙ late_length f n texts a))
-one_field (TextBytes f n texts size) Magic a b reached reached' bad bad' same =
-    absurd (early_late Magic f n texts b (flat_map text_bytes texts ++ (to_be_bytes w32 size ++ a)) tt reached.0 bad' (sym same ∙ late_bytes f n texts size a))
-one_field (TextLength f n texts) Version a b reached reached' bad bad' same =
-    absurd (early_late Version f n texts b (flat_map text_bytes texts ++ a) tt reached bad' (sym same ∙ late_length f n texts a))
-one_field (TextBytes f n texts size) Version a b reached reached' bad bad' same =
-    absurd (early_late Version f n texts b (flat_map text_bytes texts ++ (to_be_bytes w32 size ++ a)) tt reached.0 bad' (sym same ∙ late_bytes f n texts size a))
-one_field (TextLength f n texts) (Documents g) a b reached reached' bad bad' same =
-    absurd (early_late (Documents g) f n texts b (flat_map text_bytes texts ++ a) tt reached bad' (sym same ∙ late_length f n texts a))
-one_field (TextBytes f n texts size) (Documents g) a b reached reached' bad bad' same =
-    absurd (early_late (Documents g) f n texts b (flat_map text_bytes texts ++ (to_be_bytes w32 size ++ a)) tt reached.0 bad' (sym same ∙ late_bytes f n texts size a))
+one_field late Magic a b reached reached' bad bad' same = absurd (early_late Magic late b a tt tt reached bad' (sym same))
+one_field late Version a b reached reached' bad bad' same = absurd (early_late Version late b a tt tt reached bad' (sym same))
+one_field late (Documents g) a b reached reached' bad bad' same = absurd (early_late (Documents g) late b a tt tt reached bad' (sym same))
 
 -- ---- a field that is bad, and a collection
 
@@ -294,12 +278,10 @@ module _ (bytes : List ℕ) (g : Format) (others : List (List ℕ)) (begins : Be
       early_good field a g (length others) (flat_map text_bytes others ++ begins.rest) early begins.within.some begins.within.few bad (sym is ∙ front_first bytes g others begins)
 
   none_bad : (field : Field) (a : List ℕ) → IsReached field → NoneGood field a → bytes ≡ front_of field ++ a → ⊥
-  none_bad Magic a reached bad is = none_early Magic a tt bad is
-  none_bad Version a reached bad is = none_early Version a tt bad is
-  none_bad (Documents f) a reached bad is = none_early (Documents f) a tt bad is
   none_bad (TextLength f n texts) a reached bad is = length_stands others texts f n a all_good (met f n texts a reached (is ∙ late_length f n texts a)) bad
   none_bad (TextBytes f n texts size) a reached bad is =
       bytes_stand others texts f n size a all_good reached.1 (met f n texts (to_be_bytes w32 size ++ a) reached.0 (is ∙ late_bytes f n texts size a)) bad
+  none_bad early a reached bad is = none_early early a tt bad is
 
 -- ---- the laws
 

@@ -5,7 +5,8 @@ use Rattle.std.proofs.Math.Seq.{take-append_seam, drop-append_seam}
 use Rattle.byteorder.specs.Endian.{big_number}
 use Rattle.byteorder.specs.Numbers.{big_number-reads_back}
 use Rattle.ats_lists.specs.declared.format.Format.{Format}
-use Rattle.ats_index.specs.Spelling.{version_of, front_bytes, text_bytes}
+use Rattle.ats_lists.specs.FormatNumber.{number_of_format}
+use Rattle.ats_index.specs.Spelling.{front_bytes, text_bytes}
 
 -- the range from a place to the end
 pub to_end : (k : ℕ) (bytes : List ℕ) → take (length bytes - k) (drop k bytes) ≡ drop k bytes
@@ -16,7 +17,7 @@ module _ (bytes : List ℕ) (format : Format) (documents : ℕ) (rest : List ℕ
   unfolding front_bytes
   front_behind = ap (drop 5) is
 
-  pub front_version : get_or bytes 4 0 ≡ version_of format
+  pub front_version : get_or bytes 4 0 ≡ number_of_format format
   unfolding front_bytes
   front_version = ap (λ (all : List ℕ). get_or all 4 0) is
 

@@ -6,15 +6,16 @@ use Rattle.std.specs.List.{flat_map}
 use Rattle.std.specs.Str.{IsUtf8}
 use Rattle.std.proofs.lemmas.List.{flat_map_more}
 use Rattle.ats_lists.specs.declared.format.Format.{Format}
-use Rattle.ats_index.specs.Spelling.{version_of, front_bytes, text_bytes}
+use Rattle.ats_lists.specs.FormatNumber.{number_of_format}
+use Rattle.ats_index.specs.Spelling.{front_bytes, text_bytes}
 use Rattle.ats_index.specs.FirstPart.{TextLength, TextBytes, IsRoom, AreFirst, IsFirstBad}
 
 -- the magic, the version and the number of texts
-pub front_stands : (bytes versioned counted rest : List ℕ) (format : Format) (documents : ℕ) → bytes ≡ codes "ATSI" ++ versioned → versioned ≡ version_of format ∷ counted
+pub front_stands : (bytes versioned counted rest : List ℕ) (format : Format) (documents : ℕ) → bytes ≡ codes "ATSI" ++ versioned → versioned ≡ number_of_format format ∷ counted
     → counted ≡ to_be_bytes w32 documents ++ rest → bytes ≡ front_bytes format documents ++ rest
 unfolding front_bytes
 front_stands bytes versioned counted rest format documents magic version number =
-    magic ∙ ap (λ xs. codes "ATSI" ++ xs) (version ∙ ap (λ xs. version_of format ∷ xs) number)
+    magic ∙ ap (λ xs. codes "ATSI" ++ xs) (version ∙ ap (λ xs. number_of_format format ∷ xs) number)
 
 module _ (bytes : List ℕ) (format : Format) (documents : ℕ) (texts : List (List ℕ)) (rest : List ℕ)
     (is : bytes ≡ (front_bytes format documents ++ flat_map text_bytes texts) ++ rest) where

@@ -19,7 +19,8 @@ use Rattle.ats_commit.specs.Archive.{Archive}
 use Rattle.ats_lists.specs.declared.format.Format.{Format}
 use Rattle.ats_lists.specs.declared.format.Format.TheVariants.{One, Two}
 use Rattle.ats_index.specs.Parts.{archive_in}
-use Rattle.ats_index.specs.Spelling.{IsSpelling, version_of, front_bytes, text_bytes, index_bytes}
+use Rattle.ats_lists.specs.FormatNumber.{number_of_format}
+use Rattle.ats_index.specs.Spelling.{IsSpelling, front_bytes, text_bytes, index_bytes}
 use Rattle.ats_index.specs.FirstPart.{Magic, Version, Documents, IsGood, IsRoom, AreFirst, IsFirstBad}
 use Rattle.ats_index.specs.LoadFaults.{BeginWith, IsLoadFault}
 use Rattle.ats_index.specs.declared.load.LoadFault.TheVariants.{BadIndex}
@@ -46,12 +47,9 @@ number_4 : (bytes : List ℕ) → length bytes ≡ 4 → ((i : ℕ) → get_or b
 number_4 bytes long small = be_bytes_4 bytes (big_number 4 bytes) long small (omega arith)
 
 number_stands : (bytes : List ℕ) → 4 ≤ length bytes → ((i : ℕ) → get_or bytes i 0 < 256) → bytes ≡ to_be_bytes w32 (big_number 4 bytes) ++ drop 4 bytes
-number_stands [] room small = absurd (omega arith)
-number_stands (a ∷ []) room small = absurd (omega arith)
-number_stands (a ∷ b ∷ []) room small = absurd (omega arith)
-number_stands (a ∷ b ∷ c ∷ []) room small = absurd (omega arith)
 number_stands (a ∷ b ∷ c ∷ d ∷ rest) room small =
     ap (λ xs. xs ++ rest) (sym (number_4 (a ∷ b ∷ c ∷ d ∷ []) refl (small_four a b c d (small 0) (small 1) (small 2) (small 3))))
+number_stands bytes room small = absurd (omega arith)
 
 -- the bytes begin with a number of this range
 record Stands (bytes : List ℕ) (low high : ℕ) : Type 0 where
@@ -250,7 +248,7 @@ module _ (H : List ℕ → List ℕ) (bytes : List ℕ) (all : AreBytes bytes) w
   no_version none none' good rest (One, is) same = none rest (same ∙ ap (λ xs. xs ++ rest) is)
   no_version none none' good rest (Two, is) same = none' rest (same ∙ ap (λ xs. xs ++ rest) is)
 
-  counted_next : (format : Format) → bytes ≡ codes "ATSI" ++ drop 4 bytes → drop 4 bytes ≡ (version_of format ∷ []) ++ drop 1 (drop 4 bytes)
+  counted_next : (format : Format) → bytes ≡ codes "ATSI" ++ drop 4 bytes → drop 4 bytes ≡ (number_of_format format ∷ []) ++ drop 1 (drop 4 bytes)
       → Stands (drop 1 (drop 4 bytes)) 1 65536 ⊎ NoneStands (drop 1 (drop 4 bytes)) 1 65536 → IsIndexOrFault H bytes
   counted_next format magic version (inl found) =
       let Byte : ℕ → Type 0 = λ n. n < 256 in

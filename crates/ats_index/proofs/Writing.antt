@@ -6,12 +6,13 @@ use Rattle.std.specs.List.{flat_map}
 use Rattle.std.proofs.Math.Seq.{take-suc}
 use Rattle.std.proofs.lemmas.List.{flat_map_more}
 use Rattle.ats_lists.specs.declared.format.Format.{Format}
-use Rattle.ats_index.specs.Spelling.{version_of, front_bytes}
+use Rattle.ats_lists.specs.FormatNumber.{number_of_format}
+use Rattle.ats_index.specs.Spelling.{front_bytes}
 
 -- the front, before any text
-pub front_put : (start : List ℕ) (format : Format) (n : ℕ) → ((start ++ codes "ATSI") ++ version_of format ∷ []) ++ to_be_bytes w32 n ≡ start ++ (front_bytes format n ++ [])
+pub front_put : (start : List ℕ) (format : Format) (n : ℕ) → ((start ++ codes "ATSI") ++ number_of_format format ∷ []) ++ to_be_bytes w32 n ≡ start ++ (front_bytes format n ++ [])
 unfolding front_bytes
-front_put start format n = append_assoc (start ++ codes "ATSI") (version_of format ∷ []) (to_be_bytes w32 n) ∙ append_assoc start (codes "ATSI") (version_of format ∷ to_be_bytes w32 n)
+front_put start format n = append_assoc (start ++ codes "ATSI") (number_of_format format ∷ []) (to_be_bytes w32 n) ∙ append_assoc start (codes "ATSI") (number_of_format format ∷ to_be_bytes w32 n)
 
 -- one item more after a front
 pub one_more : {X : Type 0} (f : X → List ℕ) (start front : List ℕ) (items : List X) (i : ℕ) (item d : X) → i < length items → item ≡ get_or items i d

@@ -5,7 +5,8 @@ use Rattle.std.specs.List.{All, flat_map}
 use Rattle.std.specs.Str.{IsUtf8}
 use Rattle.ats_impact.specs.Limits.{AllShort}
 use Rattle.ats_lists.specs.declared.format.Format.{Format}
-use Rattle.ats_index.specs.Spelling.{version_of, front_bytes, text_bytes}
+use Rattle.ats_lists.specs.FormatNumber.{number_of_format}
+use Rattle.ats_index.specs.Spelling.{front_bytes, text_bytes}
 
 -- the magic, the version; and, after the version of a format, the number of texts, and, after some whole texts, the
 -- length of the next one, or its bytes, `size` of them
@@ -20,7 +21,7 @@ pub data Field : Type 0 where
 abbrev pub front_of : Field → List ℕ
 front_of Magic = []
 front_of Version = codes "ATSI"
-front_of (Documents format) = codes "ATSI" ++ version_of format ∷ []
+front_of (Documents format) = codes "ATSI" ++ number_of_format format ∷ []
 front_of (TextLength format documents texts) = front_bytes format documents ++ flat_map text_bytes texts
 front_of (TextBytes format documents texts size) = front_bytes format documents ++ flat_map text_bytes texts ++ to_be_bytes w32 size
 
@@ -49,7 +50,7 @@ IsReached (TextBytes format documents texts size) = AreFirst documents texts × 
 -- these bytes are the field, and good
 abbrev pub IsGood : Field → List ℕ → Type 0
 IsGood Magic bytes = bytes ≡ codes "ATSI"
-IsGood Version bytes = (format : Format) × (bytes ≡ version_of format ∷ [])
+IsGood Version bytes = (format : Format) × (bytes ≡ number_of_format format ∷ [])
 IsGood (Documents format) bytes = (documents : ℕ) × (1 ≤ documents) × (documents ≤ 65536) × (bytes ≡ to_be_bytes w32 documents)
 IsGood (TextLength format documents texts) bytes = (size : ℕ) × IsRoom texts size × (bytes ≡ to_be_bytes w32 size)
 IsGood (TextBytes format documents texts size) bytes = (length bytes ≡ size) × IsUtf8 bytes

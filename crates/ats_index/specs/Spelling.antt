@@ -8,18 +8,13 @@ use Rattle.ats_lists.specs.Leaf.{leaf_bytes}
 use Rattle.ats_lists.specs.Lists.{lists_of}
 use Rattle.ats_lists.specs.declared.entry.Entry.{Entry}
 use Rattle.ats_lists.specs.declared.format.Format.{Format}
-use Rattle.ats_lists.specs.declared.format.Format.TheVariants.{One, Two}
+use Rattle.ats_lists.specs.FormatNumber.{number_of_format}
 use Rattle.ats_commit.specs.Archive.{Archive}
 use Rattle.ats_commit.specs.Root.{root_of}
 
--- the version of an index, by the format of its archive
-abbrev pub version_of : Format → ℕ
-version_of One = 1
-version_of Two = 2
-
--- ATSI, the version, and the number of texts in 4 bytes
+-- ATSI, the number of the format, and the number of texts in 4 bytes
 unfoldable pub front_bytes : Format → ℕ → List ℕ
-front_bytes format documents = codes "ATSI" ++ version_of format ∷ to_be_bytes w32 documents
+front_bytes format documents = codes "ATSI" ++ number_of_format format ∷ to_be_bytes w32 documents
 
 -- the length of a text in 4 bytes, then the text
 unfoldable pub text_bytes : List ℕ → List ℕ

@@ -21,11 +21,11 @@ ghost use Rattle.ats_index.specs.Kept.{all_list_digests, all_term_digests};
 ghost use Rattle.ats_index.specs.Spelling.{IsSpelling, index_bytes};
 ghost use Rattle.ats_index.specs.LoadFaults.{IsDifference};
 
-use crate::build::{header_of, root_of_texts};
 use crate::compare::{Comparer, Takes};
 use crate::dictionary::{DictionaryTree, dictionary_tree};
 use crate::doc_leaves::{DocumentsTree, documents_tree};
 use crate::documents::{DocumentParts, counted};
+use crate::header::{header_of, root_of_texts};
 use crate::memory::OutOfMemory;
 use crate::parallel::{parts_and_texts, upper_trees};
 use crate::write::{put_lists, put_texts, room_of};

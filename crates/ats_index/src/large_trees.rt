@@ -1,4 +1,5 @@
-//! Trees that may be large, hashed by several threads: a large one is cut into parts.
+//! Trees that may be large, hashed by several threads: a large one is cut into parts. One text may have most of an
+//! archive's terms, and one list most of its documents, so that one tree alone would keep a thread busy.
 
 ghost use Rattle.std.specs.Prelude.{◌≡◌, ◌<◌, [], length, map, slice_index_or, IfOk};
 ghost use Rattle.ats_tree.specs.Kept.{kept_digests};

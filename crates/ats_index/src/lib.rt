@@ -23,12 +23,12 @@
 //! ```
 #![tactic(auto)]
 
-mod build;
 mod compare;
 mod dictionary;
 mod doc_leaves;
 mod documents;
 mod fronts;
+mod header;
 mod index;
 mod large_trees;
 mod laws;

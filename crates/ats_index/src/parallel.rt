@@ -17,10 +17,10 @@ ghost use Rattle.ats_doctree.specs.Sentinels.{terms_leaves};
 ghost use Rattle.ats_index.specs.Kept.{all_list_digests, all_term_digests};
 ghost use Rattle.ats_index.specs.Parts.{all_counts, all_leaves, all_terms};
 
-use crate::build::root_of_texts;
 use crate::dictionary::DictionaryTree;
 use crate::doc_leaves::DocumentsTree;
 use crate::documents::DocumentParts;
+use crate::header::root_of_texts;
 use crate::large_trees::{dictionary_tree, digests_of_list, documents_tree, nodes_of_terms};
 use crate::memory::OutOfMemory;
 use ats_doctree::DocTerms;

@@ -4,7 +4,8 @@ ghost use Rattle.std.specs.Prelude.{◌≡◌, ◌≢◌, ◌∷◌, ◌++◌, �
 ghost use Rattle.std.specs.Int.{to_be_bytes, w32};
 ghost use Rattle.std.specs.Str.{IsUtf8};
 ghost use Rattle.ats_lists.specs.declared.format.Format.{Format};
-ghost use Rattle.ats_index.specs.Spelling.{front_bytes, version_of};
+ghost use Rattle.ats_lists.specs.FormatNumber.{number_of_format};
+ghost use Rattle.ats_index.specs.Spelling.{front_bytes};
 ghost use Rattle.ats_index.specs.FirstPart.{IsFirstBad};
 ghost use Rattle.ats_index.specs.LoadFaults.{BeginWith};
 
@@ -57,8 +58,8 @@ fn text_of(bytes: &[u8], size: usize) -> Option<(&str, &[u8])>
 
 // The format whose version is at the front and the bytes after it, if it is there.
 fn format_of(bytes: &[u8]) -> Option<(Format, &[u8])>
-    ensures same { IfSome result (λ found. bytes.now ≡ version_of found.0 ∷ found.1.now) }
-    ensures none { IfNone result ((format : Format) (rest : List ℕ) → bytes.now ≢ version_of format ∷ rest) }
+    ensures same { IfSome result (λ found. bytes.now ≡ number_of_format found.0 ∷ found.1.now) }
+    ensures none { IfNone result ((format : Format) (rest : List ℕ) → bytes.now ≢ number_of_format format ∷ rest) }
 {
     if let Some(rest) = bytes.strip_prefix(&[1]) {
         return Some((Format::One, rest));

@@ -4,7 +4,7 @@ ghost use Rattle.std.specs.Prelude.{◌≡◌, ◌++◌, ◌<◌, ◌≤◌, ◌
 ghost use Rattle.std.specs.Int.{to_be_bytes, w16, w32};
 ghost use Rattle.std.specs.List.{flat_map};
 ghost use Rattle.ats_lists.specs.Leaf.{leaf_bytes};
-ghost use Rattle.ats_index.specs.Spelling.{list_bytes, lists_bytes, text_bytes, texts_bytes, version_of};
+ghost use Rattle.ats_index.specs.Spelling.{list_bytes, lists_bytes, text_bytes, texts_bytes};
 
 use crate::compare::Takes;
 use crate::memory::OutOfMemory;
@@ -13,16 +13,6 @@ use ats_lists::{Entry, Format, Lists};
 use byteorder::{BigEndian, ByteOrder};
 
 pub(crate) const MAGIC: [u8; 4] = *b"ATSI";
-
-// The version of an index, by the format of its archive.
-fn version_byte(format: Format) -> u8
-    ensures { result ≡ version_of format }
-{
-    match format {
-        Format::One => 1,
-        Format::Two => 2,
-    }
-}
 
 // Puts a number in 4 bytes.
 fn put_u32<W: Takes>(to: &mut W, number: u32) -> Result<(), OutOfMemory>
@@ -67,7 +57,7 @@ pub(crate) fn put_texts<W: Takes>(
 {
     let documents = collection.documents();
     to.put(&MAGIC)?;
-    to.put(&[version_byte(format)])?;
+    to.put(&[format.number()])?;
     put_u32(to, documents)?;
     for doc in 0..documents {
         put_text(to, collection.text(doc).as_bytes())?;

@@ -9,5 +9,6 @@ pub mod BlockRoots
 pub mod ChainBound
 pub mod ChainClash
 pub mod Formats
+pub mod FormatNumber
 pub mod KeptChain
 pub mod KeptList

@@ -35,6 +35,7 @@ mod chain_rebuilding;
 mod entry;
 mod format;
 mod format_laws;
+mod format_number;
 mod gathering;
 mod key;
 mod laws;

@@ -1,15 +1,19 @@
--- Numbers, headers and digests of a file: the fields of a table that they are, and the bytes that these join to.
-use Rattle.std.proofs.Common.{◌≡◌, ◌∙◌, ℕ, zero, suc, ◌*◌, ◌/◌, ◌%◌, ◌^◌, ◌<◌, List, [], ◌∷◌, ◌++◌, length, refl, sym, ap, ap₂, subst, append_assoc, append-nil, length-append, arith}
+-- Numbers, archives and digests of a file: the fields of a table that they are, and the bytes that these join to.
+use Rattle.std.proofs.Common.{◌≡◌, ◌∙◌, ℕ, zero, suc, ◌≤◌, ◌*◌, ◌/◌, ◌%◌, ◌^◌, ◌<◌, List, [], ◌∷◌, ◌++◌, length, refl, sym, ap, ap₂, subst, append_assoc, append-nil, length-append, arith}
 use Rattle.std.specs.Int.{to_be_bytes, w16, w32}
 use Rattle.std.specs.List.{All, concat}
+use Rattle.std.proofs.lemmas.List.Folds.{concat-append}
 use Rattle.std.proofs.Math.Nat.{mod-lt, div-lt_iff_lt-mul, pow-succ'}
 use Rattle.std.proofs.lemmas.List.Elements.{All-nil, All-cons, All-head, All-tail}
 use Rattle.ats_dict.specs.Header.{IsHeader, header_bytes}
 use Rattle.ats_dict.specs.declared.header.Header.{Header}
 use Rattle.ats_grammar.specs.Front.{Come}
 use Rattle.ats_grammar.specs.Grammar.{digests, header}
-use Rattle.ats_grammar.specs.Table.{Table, End, spelled}
-use Rattle.ats_proof.specs.Value.{header_fields}
+use Rattle.ats_grammar.specs.Table.{Table, End, number, spelled}
+use Rattle.ats_lists.specs.declared.format.Format.{Format}
+use Rattle.ats_lists.specs.declared.format.Format.TheVariants.{One, Two}
+use Rattle.ats_proof.specs.SharedTables.{archive, last_digests}
+use Rattle.ats_proof.specs.Value.{number_of_format, header_fields, archive_fields}
 use Rattle.ats_proof.proofs.Encoding.{be_2, be_4}
 use Rattle.ats_proof.proofs.Numbers.{AreBytes, number-spelled}
 
@@ -83,6 +87,23 @@ header_comes h more rest last is come = (
   ),
 )
 
+-- ---- an archive: the format of its lists, and its header
+
+module _ (f : Format) (h : Header) (is : IsHeader h.documents h.dict_leaves h.dict_root h.docs_root h.texts_root) where
+  pub archive_join : number_of_format f ∷ header_bytes h.documents h.dict_leaves h.dict_root h.docs_root h.texts_root ≡ concat (archive_fields f h)
+  archive_join =
+      ap₂ (λ (version xs : List ℕ). version ++ xs) (sym (spelled_1 (number_of_format f)))
+      (header_join h (omega (arith, is.numbers.few)) (omega (arith, is.numbers.terms)))
+
+  pub length-archive : length (concat (archive_fields f h)) ≡ 106
+  length-archive =
+      omega (arith, is.dict, is.docs, is.texts, length-append h.dict_root (h.docs_root ++ (h.texts_root ++ [])), length-append h.docs_root (h.texts_root ++ []), length-append h.texts_root [])
+
+pub archive_comes : (f : Format) (h : Header) (more : List (List ℕ)) (rest last : Table) → IsHeader h.documents h.dict_leaves h.dict_root h.docs_root h.texts_root
+    → Come more rest last → Come (archive_fields f h ++ more) (archive rest) last
+archive_comes One h more rest last is come = ((refl, omega arith, omega arith), header_comes h more rest last is come)
+archive_comes Two h more rest last is come = ((refl, omega arith, omega arith), header_comes h more rest last is come)
+
 -- ---- digests
 
 pub digests_last : (n : ℕ) (ds : List (List ℕ)) → Come ds (digests n End) End → (length ds ≡ n) × All (λ d. length d ≡ 32) ds
@@ -106,3 +127,24 @@ length_digests (d ∷ ds) sized =
     let head : length d ≡ 32 = All-head (λ e. length e ≡ 32) d ds sized in
     let tail = length_digests ds (All-tail (λ e. length e ≡ 32) d ds sized) in
     omega (arith, head, tail, length-append d (concat ds))
+
+-- at most so many digests, after their number
+module _ (most : ℕ) (ds : List (List ℕ)) where
+  pub last_first : Come (spelled 1 (length ds) ∷ ds) (last_digests most) End → (length ds ≤ most) × All (λ d. length d ≡ 32) ds
+  last_first come = (omega (arith, come.0.2, number-spelled 0 (length ds)), (digests_last (number (spelled 1 (length ds))) ds come.1).1)
+
+  pub last_comes : length ds ≤ most → All (λ d. length d ≡ 32) ds → Come (spelled 1 (length ds) ∷ ds) (last_digests most) End
+  last_comes few sized = (
+    (refl, omega arith, omega (arith, few, number-spelled 0 (length ds))),
+    digests_come (number (spelled 1 (length ds))) ds (sym (number-spelled 0 (length ds))) sized,
+  )
+
+-- ---- bytes that are appended
+
+-- after the join of some fields, that of more
+pub joined_more : (fs gs : List (List ℕ)) (b c xs : List ℕ) → b ≡ concat fs → c ≡ b ++ xs → xs ≡ concat gs → c ≡ concat (fs ++ gs)
+joined_more fs gs b c xs before step is = step ∙ ap₂ (λ (front back : List ℕ). front ++ back) before is ∙ sym (concat-append fs gs)
+
+-- after the join of some fields, one more
+pub joined_field : (fs : List (List ℕ)) (b c x field : List ℕ) → b ≡ concat fs → c ≡ b ++ x → x ≡ field → c ≡ concat (fs ++ field ∷ [])
+joined_field fs b c x field before step is = joined_more fs (field ∷ []) b c x before step (is ∙ sym (append-nil field))

@@ -25,18 +25,12 @@ use Rattle.ats_proof.proofs.Cutting.{behind_term}
 use Rattle.ats_proof.proofs.Runs.{length-parts}
 
 number_2 : (bs : List ℕ) → length bs ≡ 2 → number bs ≡ from_be_bytes w16 bs
-number_2 [] same = absurd (omega (arith, same))
-number_2 (a ∷ []) same = absurd (omega (arith, same))
 number_2 (a ∷ b ∷ []) same = omega arith
-number_2 (a ∷ b ∷ c ∷ bs) same = absurd (omega (arith, same))
+number_2 bs same = absurd (omega (arith, same))
 
 number_4 : (bs : List ℕ) → length bs ≡ 4 → number bs ≡ from_be_bytes w32 bs
-number_4 [] same = absurd (omega (arith, same))
-number_4 (a ∷ []) same = absurd (omega (arith, same))
-number_4 (a ∷ b ∷ []) same = absurd (omega (arith, same))
-number_4 (a ∷ b ∷ c ∷ []) same = absurd (omega (arith, same))
 number_4 (a ∷ b ∷ c ∷ d ∷ []) same = omega arith
-number_4 (a ∷ b ∷ c ∷ d ∷ e ∷ bs) same = absurd (omega (arith, same))
+number_4 bs same = absurd (omega (arith, same))
 
 small-take : (k : ℕ) (bytes : List ℕ) → AreBytes bytes → AreBytes (take k bytes)
 small-take k bytes small i = elim (cases_lt i k) [

@@ -20,8 +20,13 @@ pub use Rattle.ats_proof.proofs.Encoded.{spelled_1, spelled_2, spelled_4}
 pub use Rattle.ats_proof.proofs.Encoded.{header_join}
 -- the fields of a header in range come first in a table, and only those
 pub use Rattle.ats_proof.proofs.Encoded.{IsHeaderFirst, header_first, header_comes}
--- fields come last in a table of n digests if and only if they are n digests of 32 bytes
-pub use Rattle.ats_proof.proofs.Encoded.{digests_last, digests_come}
+-- the same for the format and the header of an archive, whose fields have 106 bytes and determine both
+pub use Rattle.ats_proof.proofs.Encoded.{archive_comes, length-archive}
+pub use Rattle.ats_proof.proofs.Unique.{IsSameArchive, archive_tells}
+-- fields come last in a table of at most n digests if and only if they are at most n digests of 32 bytes
+pub use Rattle.ats_proof.proofs.Encoded.{last_first, last_comes}
+-- what is appended to the join of some fields joins more fields to them
+pub use Rattle.ats_proof.proofs.Encoded.{joined_more, joined_field}
 -- n digests joined have 32 n bytes
 pub use Rattle.ats_proof.proofs.Encoded.{length_digests}
 -- the shown front of a list gives as many leaves as it has entries

@@ -3,6 +3,7 @@ use Rattle.std.proofs.Common.{◌≡◌, ◌∙◌, ℕ, suc, Bool, true, false,
 use Rattle.std.specs.List.{All, concat, flat_map}
 use Rattle.std.proofs.lemmas.List.Elements.{All-tail}
 use Rattle.ats_dict.specs.Entry.{DictEntry}
+use Rattle.ats_dict.specs.declared.header.Header.{Header}
 use Rattle.ats_lists.specs.declared.entry.Entry.{Entry}
 use Rattle.ats_lists.specs.declared.format.Format.{Format}
 use Rattle.ats_lists.specs.declared.format.Format.TheVariants.{One, Two}
@@ -12,7 +13,7 @@ use Rattle.ats_grammar.specs.Table.{number}
 use Rattle.ats_grammar.specs.Grammar.{proof_schema}
 use Rattle.ats_grammar.proofs.Public.{one_spelling}
 use Rattle.ats_proof.specs.Parts.{spelled, counted}
-use Rattle.ats_proof.specs.Value.{ShownEntry, ShownTerm, Prefix, TermsSection, Documents, Proof, IsProof, AreDocuments, AreDocumentsOf, digest_fields, slot_fields, kind_of_slot, id_fields, posting_fields, entry_fields, doc_fields, term_fields, prefix_fields, section_fields, documents_fields, front_fields, header_fields, fields_of, number_of_format, number_of_algorithm, present_in}
+use Rattle.ats_proof.specs.Value.{ShownEntry, ShownTerm, Prefix, TermsSection, Documents, Proof, IsProof, AreDocuments, AreDocumentsOf, digest_fields, slot_fields, kind_of_slot, id_fields, posting_fields, entry_fields, doc_fields, term_fields, prefix_fields, section_fields, documents_fields, front_fields, header_fields, archive_fields, fields_of, number_of_format, number_of_algorithm, present_in}
 use Rattle.ats_proof.specs.Reading.{proof_in}
 use Rattle.ats_proof.proofs.Numbers.{AreBytes, number-spelled}
 use Rattle.ats_proof.proofs.Whole.{whole}
@@ -198,6 +199,15 @@ header_tells x y a b e =
       value = λ i. record { documents = documents.value i; dict_leaves = leaves.value i; dict_root = dict.value i; docs_root = docs.value i; texts_root = texts.value i };
       rest = texts.rest;
     }
+
+pub record IsSameArchive (f g : Format) (x y : Header) (a b : List (List ℕ)) : Type 0 where
+  pub format : f ≡ g
+  pub header : AreSame x y a b
+
+pub archive_tells : (f g : Format) (x y : Header) (a b : List (List ℕ)) → archive_fields f x ++ a ≡ archive_fields g y ++ b → IsSameArchive f g x y a b
+archive_tells f g x y a b e =
+    let version = number_first 0 (number_of_format f) (number_of_format g) (header_fields x ++ a) (header_fields y ++ b) e in
+    record { format = format_told f g version.value; header = header_tells x y a b version.rest }
 
 -- the fields of a proof from some part on
 abbrev pub after_lists : Proof → List (List ℕ)

@@ -1,5 +1,6 @@
 pub mod Parts
 pub mod Value
+pub mod SharedTables
 pub mod Reading
 pub mod Runs
 pub mod Seen

@@ -6,7 +6,7 @@ use Rattle.ats_dict.specs.Entry.{DictEntry}
 use Rattle.ats_dict.specs.declared.header.Header.{Header}
 use Rattle.ats_doctree.specs.declared.doc_leaf.DocLeaf.{DocLeaf}
 use Rattle.ats_lists.specs.declared.format.Format.{Format}
-use Rattle.ats_lists.specs.declared.format.Format.TheVariants.{One, Two}
+pub use Rattle.ats_lists.specs.FormatNumber.{number_of_format}
 use Rattle.ats_proof.specs.declared.record.Algorithm.{Algorithm}
 use Rattle.ats_proof.specs.declared.record.Algorithm.TheVariants.{Tra, Tnra}
 use Rattle.ats_proof.specs.declared.record.Slot.{Slot}
@@ -58,21 +58,21 @@ algorithm_of proof = elim proof.docs [ None ↦ Tnra | Some docs ↦ Tra ]
 
 -- ---- the fields
 
--- the version of a proof
-abbrev pub number_of_format : Format → ℕ
-number_of_format One = 1
-number_of_format Two = 2
-
 abbrev pub number_of_algorithm : Option Documents → ℕ
 number_of_algorithm (Some docs) = 1
 number_of_algorithm None = 2
 
+-- the version of a proof is the number of its format
 abbrev pub front_fields : Format → Option Documents → List (List ℕ)
 front_fields format docs = spelled 4 0x41545350 ∷ spelled 1 (number_of_format format) ∷ spelled 1 (number_of_algorithm docs) ∷ []
 
 -- version, documents, dictionary leaves, three roots
 abbrev pub header_fields : Header → List (List ℕ)
 header_fields h = spelled 1 1 ∷ spelled 4 h.documents ∷ spelled 4 h.dict_leaves ∷ h.dict_root ∷ h.docs_root ∷ h.texts_root ∷ []
+
+-- the format of an archive's lists, and the archive's header
+abbrev pub archive_fields : Format → Header → List (List ℕ)
+archive_fields format header = spelled 1 (number_of_format format) ∷ header_fields header
 
 -- position, length, term, number of documents, list root
 abbrev pub entry_fields : ShownEntry → List (List ℕ)

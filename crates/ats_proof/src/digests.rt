@@ -40,16 +40,15 @@ pub(crate) fn counted_digests_2(bytes: &[u8]) -> (DigestRun<'_>, &[u8])
     cut_digests(left, digests)
 }
 
-/// The digests after their number, which has four bytes, and the bytes after them.
-pub(crate) fn counted_digests_4(bytes: &[u8]) -> (DigestRun<'_>, &[u8])
+/// The digests after their number, which has four bytes.
+pub(crate) fn counted_digests_4(bytes: &[u8]) -> DigestRun<'_>
     requires { counted_size 4 digest_size bytes.now ≤ length bytes.now }
-    ensures digests { parts_in digest_size digest_in result.0.left result.0.bytes.now
+    ensures { parts_in digest_size digest_in result.left result.bytes.now
         ≡ counted_in 4 digest_size digest_in bytes.now }
-    ensures rest { result.1.now ≡ drop (counted_size 4 digest_size bytes.now) bytes.now }
 {
     let left = number_4(bytes);
     let (_, digests) = bytes.split_at(4);
-    cut_digests(left, digests)
+    cut_digests(left, digests).0
 }
 
 impl<'a> DigestRun<'a> {
@@ -81,6 +80,13 @@ impl<'a> DigestRun<'a> {
         self.left -= 1;
         self.bytes = rest;
         Some(first)
+    }
+
+    /// How many digests are left.
+    pub fn len(&self) -> u32
+        ensures { result ≡ length (digests_of self.now) }
+    {
+        self.left
     }
 
     /// Each digest has 32 bytes.

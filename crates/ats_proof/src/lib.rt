@@ -38,7 +38,7 @@ pub use laws::{
 pub use lists::{ListView, ListsView};
 pub use memory::OutOfMemory;
 pub use record::{Algorithm, Slot, TermLeaf};
-pub use shared_fields::{read_format, read_header};
+pub use shared_fields::{begin_file, put_archive, read_archive, read_digests};
 pub use terms::TermsView;
 pub use view::ProofView;
 pub use writer::ProofWriter;

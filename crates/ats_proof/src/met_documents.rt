@@ -22,7 +22,7 @@ impl<'a> ProofView<'a> {
     {
         let ids = self.bytes.split_at(self.begun.met_at + 4).1;
         let leaves = self.bytes.split_at(self.docs).1;
-        let digests = counted_digests_4(self.bytes.split_at(self.ended.doc_digests).1).0;
+        let digests = counted_digests_4(self.bytes.split_at(self.ended.doc_digests).1);
         let left = self.begun.met;
         let whole = DocsCursor {
             left,

@@ -3,7 +3,6 @@
 ghost use Rattle.std.specs.Prelude.{◌≡◌, ◌+◌, ◌≤◌, ◌<◌, ◌^◌, ℕ, List, [], length, Some, IsOk, OnOk, OnErr, IfOk, IfErr};
 ghost use Rattle.ats_lists.specs.declared.format.Format.TheVariants.{One};
 ghost use Rattle.ats_proof.specs.Records.{algorithm_byte, front_record, count16_record, count32_record, dict_leaf_record, digest_record, slot_record, met_record, entry_record, doc_leaf_record, term_leaf_record, answer_record};
-ghost use Rattle.ats_proof.specs.Value.{number_of_format};
 ghost use Rattle.ats_proof.specs.Written.{writing, after};
 
 use crate::memory::OutOfMemory;
@@ -38,16 +37,6 @@ impl Model for ProofWriter {
     ghost view = { λ w. record { limit = w.limit; asked = w.asked; kept = w.kept } };
 
     ghost invariant = { λ w. Holds w.limit w.asked w.kept };
-}
-
-// The version of a proof over lists of a format.
-fn version_of(format: Format) -> u8
-    ensures { result ≡ number_of_format format }
-{
-    match format {
-        Format::One => 1,
-        Format::Two => 2,
-    }
 }
 
 // The byte of an algorithm.
@@ -124,7 +113,7 @@ impl ProofWriter {
     {
         let mut record = Packed::new();
         record.put(&MAGIC);
-        record.put(&[version_of(format), algorithm_byte(algorithm)]);
+        record.put(&[format.number(), algorithm_byte(algorithm)]);
         record.put(&header.bytes());
         record.put(&terms.to_be_bytes());
         self.append(record.as_slice())

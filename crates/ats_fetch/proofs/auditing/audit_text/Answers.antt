@@ -1,8 +1,8 @@
 use Rattle.std.proofs.Common.{◌≡◌, ◌∙◌, Some, sym, ap}
 use Rattle.std.specs.Option.{option_map}
+use Rattle.std.proofs.lemmas.Option.{MatchOption-at_some}
 use Rattle.ats_inclusion.specs.Strings.{text_extract}
 use Rattle.ats_fetch.specs.Verdicts.{difference_of, IsPlaced}
-use Rattle.ats_fetch.proofs.Clashing.{some_means}
 use Rattle.ats_fetch.proofs.Verdicts.{extract-collides}
 use Rattle.ats_fetch.proofs.auditing.audit_text.Goals as goal
 
@@ -12,5 +12,5 @@ returns-in-Some-clause-collision g c =
     let found : text_extract H c.args.index.now c.args.doc c.in-Ok.proof ≡ Some (difference_of c.in-Some.clash) =
     sym c.in_ok-clash.ensures.clash ∙ ap (option_map difference_of) c.in-Some.is in (
       extract-collides H c.args.index.now c.args.doc c.in-Ok.proof (difference_of c.in-Some.clash) found,
-      some_means c.in_ok-clash.field-0 IsPlaced c.in-Some.clash c.in-Some.is c.in_ok-clash.ensures.place,
+      MatchOption-at_some (Unit {0}) IsPlaced c.in-Some.clash c.in-Some.is c.in_ok-clash.ensures.place,
     )

@@ -1,10 +1,11 @@
+use Rattle.std.proofs.lemmas.Option.{MatchOption-at_none}
 use Rattle.ats_commit.specs.Root.{HasOwnHeader}
 use Rattle.ats_fetch.specs.Inner.Clashes.{IsHeaderClash}
-use Rattle.ats_fetch.proofs.Clashing.{below_found, none_means}
+use Rattle.ats_fetch.proofs.Clashing.{below_found}
 use Rattle.ats_fetch.proofs.auditing.text_clash.Goals as goal
 
 pub returns-in-None-clause-clash : goal.returns-in-None-clause-clash
 returns-in-None-clause-clash g c =
     below_found g.H.HashKind.hash c.args.index.now c.args.doc c.args.proof.now
-    (none_means c.in_ok-clash.field-0 (HasOwnHeader g.H.HashKind.hash c.args.index.now c.args.proof.now.format c.args.proof.now.header) (IsHeaderClash g.H.HashKind.hash c.args.index.now c.args.proof.now) c.in-None.is c.in_ok-clash.ensures.clash)
+    (MatchOption-at_none (HasOwnHeader g.H.HashKind.hash c.args.index.now c.args.proof.now.format c.args.proof.now.header) (IsHeaderClash g.H.HashKind.hash c.args.index.now c.args.proof.now) c.in-None.is c.in_ok-clash.ensures.clash)
     c.tree_clash.result c.tree_clash.ensures.clash

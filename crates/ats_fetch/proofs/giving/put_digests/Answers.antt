@@ -1,7 +1,8 @@
-use Rattle.std.proofs.Common.{◌≡◌, ◌∙◌, ◌++◌, ℕ, List, take, length, sym, ap, append-nil, arith}
+use Rattle.std.proofs.Common.{◌≡◌, ◌∙◌, ◌+◌, ◌++◌, ◌∷◌, [], ℕ, List, take, length, get_or, sym, ap, append_assoc, append-nil, arith}
 use Rattle.std.specs.List.{concat}
 use Rattle.std.proofs.Math.Seq.{take-length}
-use Rattle.ats_fetch.proofs.Spelled.{concat-step}
+use Rattle.std.proofs.lemmas.List.{take_more}
+use Rattle.std.proofs.lemmas.List.Folds.{concat-append}
 use Rattle.ats_fetch.proofs.giving.put_digests.Goals as goal
 
 pub loop-digest-init : goal.loop-digest-init
@@ -9,8 +10,13 @@ loop-digest-init c = sym (append-nil c.args.bytes.now)
 
 pub loop-digest-preserved : goal.loop-digest-preserved
 loop-digest-preserved c =
-    concat-step c.args.bytes.now c.as_slice-digest-items.result.now c.loop-digest.digest-index c.loop-digest.bytes c.extend.new.self
-    c.loop-digest-test.true c.loop-digest.invariant c.in_ok-extend.ensures
+    let start = c.args.bytes.now in
+    let xs = c.as_slice-digest-items.result.now in
+    let i : ℕ = c.loop-digest.digest-index in
+    let more : concat (take (i + 1) xs) ≡ concat (take i xs) ++ get_or xs i [] =
+    ap concat (take_more xs i [] c.loop-digest-test.true) ∙ concat-append (take i xs) (get_or xs i [] ∷ []) ∙ ap (λ (last : List ℕ). concat (take i xs) ++ last) (append-nil (get_or xs i [])) in
+    c.in_ok-extend.ensures ∙ ap (λ (front : List ℕ). front ++ get_or xs i []) c.loop-digest.invariant
+    ∙ append_assoc start (concat (take i xs)) (get_or xs i []) ∙ ap (λ (back : List ℕ). start ++ back) (sym more)
 
 pub returns : goal.returns
 returns c =

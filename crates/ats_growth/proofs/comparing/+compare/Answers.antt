@@ -58,9 +58,9 @@ returns-then-m-k-clause-compared g t c =
     let k = c.cut_of-k in
     let new = part-tree-cut a.texts.from k.result a.n a.texts.new.now k.ensures.power k.ensures.below k.ensures.largest c.requires.inside_new in
     compared-left g.H.HashKind.hash a.known_root.now (turns a.m a.n) (turns a.m k.result) a.known (digests_of a.digests.now) (digests_of c.compare-below.new.digests) (digests_of c.next_digest-beside.new.digests)
-    c.next_digest-beside.result c.digest_of_range-own.result _ _ _ _ c.compare-below.result c.before-then-m-k.result
+    c.next_digest-beside.result c.digest_of_range-own.result _ _ _ _ c.compare-below.result c.joined.result
     (cut-left a.m a.n k.result k.ensures.power k.ensures.below k.ensures.largest c.if-m-k.true) new c.digest_of_range-own.ensures.digest c.compare-below.ensures.compared
-    c.next_digest-beside.ensures.first c.next_digest-beside.ensures.passed c.before-then-m-k.ensures.joined
+    c.next_digest-beside.ensures.first c.next_digest-beside.ensures.passed c.joined.ensures.joined
 
 -- ---- a right turn
 

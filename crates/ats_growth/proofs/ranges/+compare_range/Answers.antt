@@ -1,4 +1,3 @@
-use Rattle.std.proofs.Common.{refl}
 use Rattle.ats_tree.proofs.Public.{part-tree-cut}
 use Rattle.ats_growth.proofs.Ranging.{range-node}
 use Rattle.ats_growth.proofs.ranges.+compare_range.Goals as goal
@@ -9,4 +8,4 @@ returns-clause-range g t c =
     let k = c.cut_of-k in
     let old = part-tree-cut a.from k.result a.n a.old.now k.ensures.power k.ensures.below k.ensures.largest c.requires.inside_old in
     let new = part-tree-cut a.from k.result a.n a.new.now k.ensures.power k.ensures.below k.ensures.largest c.requires.inside_new in
-    range-node g.H.HashKind.hash _ _ _ _ _ _ c.compare_range-left.result c.compare_range-right.result _ _ old new c.compare_range-left.ensures.range c.compare_range-right.ensures.range refl c.both.ensures.joined
+    range-node g.H.HashKind.hash _ _ _ _ _ _ c.compare_range-left.result c.compare_range-right.result _ _ old new c.compare_range-left.ensures.range c.compare_range-right.ensures.range c.earlier.ensures c.joined.ensures.joined

@@ -23,8 +23,8 @@ split_at-requires-3 c =
     let at = c.self.invariant.rest.doc_digests tra in
     omega (arith, at, answer_room view c.self.invariant tra)
 
-pub counted_digests_4-requires : goal.counted_digests_4-requires
-counted_digests_4-requires c =
+pub counted_digests_4-digests-requires : goal.counted_digests_4-digests-requires
+counted_digests_4-digests-requires c =
     let view = c.self.inside in
     let tra = knows_documents view c.self.invariant c.args.self.now c.self.view_is c.requires in
     let bytes = view.bytes.now in
@@ -65,7 +65,7 @@ returns-clause-documents c =
     let present = view.begun.present in
     ap (λ (p : Proof). p.docs) (sym c.self.view_is)
     ∙ documents_shown view c.self.invariant tra _ _ _ (ap (parts_in doc_size doc_in view.begun.met) c.split_at-2.ensures.back)
-    (c.counted_digests_4.ensures.digests ∙ ap (counted_in 4 digest_size digest_in) c.split_at-3.ensures.back)
+    (c.counted_digests_4-digests.ensures ∙ ap (counted_in 4 digest_size digest_in) c.split_at-3.ensures.back)
     (ap (parts_in (section_size present) (section_in present) view.begun.met) c.split_at-4.ensures.back)
 
 pub returns-clause-met : goal.returns-clause-met

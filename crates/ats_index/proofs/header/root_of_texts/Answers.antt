@@ -1,6 +1,6 @@
 use Rattle.std.proofs.Common.{ℕ, List, refl, ap, ◌∙◌}
 use Rattle.ats_tree.specs.Tree.{mth}
-use Rattle.ats_index.proofs.build.root_of_texts.Goals as goal
+use Rattle.ats_index.proofs.header.root_of_texts.Goals as goal
 
 pub returns : goal.returns
 returns g c =

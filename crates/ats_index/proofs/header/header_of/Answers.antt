@@ -1,7 +1,7 @@
 use Rattle.std.proofs.Common.{ℕ, List, refl}
 use Rattle.ats_dict.specs.Dictionary.{dict_leaves}
 use Rattle.ats_commit.specs.Trees.{documents_of}
-use Rattle.ats_index.proofs.build.header_of.Goals as goal
+use Rattle.ats_index.proofs.header.header_of.Goals as goal
 
 pub returns-clause-parts : goal.returns-clause-parts
 returns-clause-parts g c format own =
