@@ -5,7 +5,7 @@ usage: tools/rests_on.py COMMAND        such as verify
        tools/rests_on.py DEFINITION     such as IsTopOrCollides, or ats_client.Headline.IsTopOrCollides
        tools/rests_on.py CRATE::CALL    such as ats_top::run_with, or ats_terms::Query::read
        tools/rests_on.py --short ONE    one of these, as a row for each crate, with its files
-       tools/rests_on.py --inner        the definitions that no public contract rests on
+       tools/rests_on.py --inner        the definitions that no public contract rests on, and which are in the wrong folder
 
 A definition rests on each name in it that is in scope there, and on all that these rest on. What follows a point is a
 field and does not count. A name counts even if a variable shadows it. A call rests on the names in its signature and
@@ -21,17 +21,20 @@ The lines of a definition go from its comment to its end. Imports, headings and 
 count. The modules of the library come last, without lines. What needs no import, such as ⊥ and Unit, and what code
 imports from std or from the kit's crates are not listed.
 
-Public contracts are those of the calls, types and traits that a crate's src/lib.rt exports, with the methods of these
-types. Views and invariants of types are no part of them, nor are proofs.
+Public contracts are those of the calls, types and traits that a crate's src/lib.rt exports, of the calls that it has
+for C, and of what a program's src/main.rt takes from its own modules; with the methods of all types that these name.
+Views and invariants of types are no part of them, nor are proofs. What only these or private calls name belongs in
+specs/Inner/.
 """
 
 import collections
 import pathlib
 import re
+import signal
 import sys
 
 HOUSE = pathlib.Path(__file__).resolve().parent.parent
-CRATES = sorted(folder.name for folder in (HOUSE / "crates").iterdir())
+CRATES = sorted(folder.name for folder in (HOUSE / "crates").iterdir() if (folder / "src").is_dir())
 LAW = "printed_answers_are_right"
 BY_LAW = ("verify", "ask", "fetch", "both", "growth")
 COMMANDS = {
@@ -56,14 +59,16 @@ WORD = r"[^\W\d](?:[\w']|-(?=\w))*"
 KEYWORDS = ("abbrev", "unfoldable", "private", "pub", "record", "data")
 GHOST_USE = re.compile(rf"^ *(pub |ghost )?use (Rattle[\w.'-]*?)(?:\.\{{([^}}]*)\}}| as ({WORD}))?;?$", re.M)
 CODE_USE = re.compile(r"^(?:pub )?use ([\w:]+?)(?:::\{([^}]*)\})?;", re.M)
-ITEM = re.compile(r"(?:pub(?:\(\w+\))? )?(struct|enum|trait|fn) (\w+)")
+ITEM = re.compile(r"(?:pub(?:\(\w+\))? )?(?:extern \"C\" )?(struct|enum|trait|fn) (\w+)")
 METHOD = re.compile(r"    (pub )?fn (\w+)")
+PUBLIC_ITEM = re.compile(r"^pub (?:struct|enum|trait|fn) (\w+)", re.M)
+ITEM_FOR_C = re.compile(r"^#\[unsafe\(no_mangle\)\]\n(?:pub )?extern \"C\" fn (\w+)", re.M)
 
 # A file of a crate and a name in it. Of the library and of proofs the module is kept, without a name.
 Key = collections.namedtuple("Key", "crate file name")
 PREMISE = Key("ats_top", "specs/Run.antt", "Ran")
-# The lines of a definition, and the names in it that may be in scope, each with what follows its first point.
-Piece = collections.namedtuple("Piece", "lines words")
+# The numbers of a definition's lines, and the names in it that may be in scope, each with what follows its first point.
+Piece = collections.namedtuple("Piece", "numbers words")
 
 
 def words_of(text):
@@ -111,7 +116,7 @@ class File:
     def add(self, name, numbers, text):
         """Keeps a piece that has the lines of these numbers."""
         words = words_of(text) | {(sign, "") for sign in operators_in(text, self.imports)}
-        self.pieces[name] = Piece(len(numbers), words)
+        self.pieces[name] = Piece(numbers, words)
 
     def comment_above(self, first, marks):
         """The number of the first of the lines above this one that begin with one of the marks."""
@@ -355,22 +360,35 @@ class House:
         return reached
 
     def lines(self, key):
-        return self.files[key.crate, key.file].pieces[key.name].lines
+        return len(self.files[key.crate, key.file].pieces[key.name].numbers)
 
     def all_definitions(self):
         for (crate, path), file in self.files.items():
             if path.startswith("specs/"):
                 yield from (Key(crate, path, name) for name in file.pieces)
 
-    def public_contracts(self):
-        """What the crates export, and the contracts of the exported types."""
+    def all_exported(self):
+        """What others can name: by src/lib.rt, by a public module of it, from C, or by running a program."""
         for crate in CRATES:
             lib = self.files.get((crate, "src/lib.rt"))
-            for name in lib.imports if lib else ():
-                key = self.exported(crate, name)
-                if key:
-                    yield key
-                    yield from self.contracts_of(key.crate, key.name)
+            program = self.files.get((crate, "src/main.rt"))
+            yield from filter(None, (self.exported(crate, name) for name in (lib.imports if lib else ())))
+            for module, there in program.imports.values() if program else ():
+                yield from filter(None, [self.in_code(crate, module, there)])
+            modules = re.findall(r"^pub mod (\w+);", lib.text, re.M) if lib else []
+            for (owner, path), file in self.files.items():
+                if owner == crate and path.startswith("src/"):
+                    marks = ITEM_FOR_C if path.removeprefix("src/").removesuffix(".rt") not in modules else PUBLIC_ITEM
+                    yield from (Key(crate, path, name) for name in marks.findall(file.text) if name in file.pieces)
+
+    def public_contracts(self):
+        """What the crates export, and the contracts of the types that are exported or named there."""
+        public, left = set(), set(self.all_exported())
+        while left:
+            public |= left
+            types = {key for key in self.rests_on(public) if key.file.startswith("src/")}
+            left = {contract for key in types for contract in self.contracts_of(key.crate, key.name)} - public
+        return public
 
     def contracts_of(self, crate, of_type):
         for (owner, path), file in self.files.items():
@@ -454,12 +472,24 @@ def print_crates(house, keys):
         print(f"{crate}: {count} lines")
 
 
+def inner(house):
+    """The definitions that no public contract rests on."""
+    return set(house.all_definitions()) - house.rests_on(house.public_contracts())
+
+
+def is_in_inner(key):
+    return key.file.startswith("specs/Inner/")
+
+
 def print_inner(house):
-    every = set(house.all_definitions())
-    inner = every - house.rests_on(house.public_contracts())
-    print_long(house, inner)
-    print_crates(house, inner)
-    print(f"\n{len(inner)} of {len(every)} definitions, {total(house, inner)} of {total(house, every)} lines")
+    every, found = set(house.all_definitions()), inner(house)
+    print_long(house, found)
+    print_crates(house, found)
+    print(f"\n{len(found)} of {len(every)} definitions, {total(house, found)} of {total(house, every)} lines")
+    outside = {key for key in found if not is_in_inner(key)}
+    print(f"{len(outside)} of these definitions, {total(house, outside)} lines, are not in specs/Inner/")
+    for key in sorted(filter(is_in_inner, every - found)):
+        print(f"{key.crate}/{key.file}: a public contract rests on {key.name}")
 
 
 def main():
@@ -481,4 +511,6 @@ def main():
     print_sum(house, keys)
 
 
-main()
+if __name__ == "__main__":
+    signal.signal(signal.SIGPIPE, signal.SIG_DFL)
+    main()
