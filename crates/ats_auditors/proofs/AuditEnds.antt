@@ -1,71 +1,42 @@
--- How `audit` ends, from the results of its steps.
-use Rattle.std.proofs.Common.{◌≡◌, ◌∙◌, ◌^◌, ℕ, List, Result, Ok, Err, ap, subst, inr}
+-- How an audit stops at the check of its file, or at its collision, and how it is done.
+use Rattle.std.proofs.Common.{◌≡◌, ℕ, List, Option, None, Some, Result, Ok, Err, inl, inr}
 use Rattle.std.specs.Prelude.{IfOk, IfErr}
 use Rattle.ats_base.specs.Outside.{ShelfTold}
-use Rattle.ats_terms.specs.Query.{IsQueryOf}
-use Rattle.ats_impact.specs.declared.rank.Row.{Row}
 use Rattle.ats_tree.specs.Differences.{Difference}
-use Rattle.ats_tree.specs.declared.hashed.Place.{Place}
-use Rattle.ats_commit.specs.Archive.{Archive}
-use Rattle.ats_commit.specs.Root.{root_of}
-use Rattle.ats_client.specs.Headline.{AreRight}
-use Rattle.ats_client.specs.Strings.{extract}
-use Rattle.ats_audit.specs.Verdicts.{IsFoundRight, IsFoundCollision}
-use Rattle.ats_client.proofs.Public.{extract-collides}
-use Rattle.ats_plan.specs.Files.{IsFile}
-use Rattle.ats_plan.specs.Plan.{Finishes}
+use Rattle.ats_tree.proofs.Public.{AreColliding}
+use Rattle.ats_plan.specs.Files.{Files}
+use Rattle.ats_plan.specs.Plan.{Plan, Finishes, Gets}
 use Rattle.ats_plan.specs.Runs.{IsDone, IsStopped}
-use Rattle.ats_plan.proofs.Public.{Leads, done_get, done_try, done_end}
-use Rattle.ats_console.specs.Words.{AuditWords}
-use Rattle.ats_console.specs.Print.{lines}
-use Rattle.ats_console.specs.CollisionLines.{lines_of_collision}
-use Rattle.ats_console.specs.Read.{HasIndex}
-use Rattle.ats_console.specs.Steps.{AsksRanking, checks}
-use Rattle.ats_auditors.specs.Collided.{finds_none, lines_of_proof_collision}
-use Rattle.ats_auditors.specs.Commands.Audit.{IsAuditedRight, audit_plan}
-use Rattle.ats_auditors.specs.Inner.Stops.{VerdictStop}
+use Rattle.ats_plan.proofs.Public.{Leads, leads_get, done_get, done_try, done_end}
 use Rattle.ats_console.specs.declared.stops.Stop.{Stop}
 use Rattle.ats_console.specs.declared.stops.Stop.TheVariants.{Shelf, Memory, Collision}
-use Rattle.ats_auditors.proofs.CheckEnds.{audit_stops}
+use Rattle.ats_console.proofs.Public.{memory_stops, get_stops, try_stops}
+use Rattle.ats_auditors.specs.Collided.{finds_none}
+use Rattle.ats_auditors.specs.Audited.{Audit, AuditStop}
 
-module _ (H : List ℕ → List ℕ) (words : AuditWords) (before mid : ShelfTold) (query : List (List ℕ × ℕ)) (archive : Archive) (bytes : List ℕ)
-    (leads : Leads Shelf Memory (audit_plan H words) before
-    (checks H (root_of H archive) query words.r bytes (λ proof.
-    finds_none H (extract H archive query proof) lines_of_proof_collision
-    (Finishes (λ files text. IsAuditedRight H files words text)))) mid) where
-  -- bytes that were refused, or have a collision
-  pub verdict_stops : {T : Type 0} (result : Result T Stop) → IfErr result (VerdictStop H archive query words.r bytes)
-      → IfErr result (IsStopped Shelf Memory (audit_plan H words) before mid)
-  verdict_stops result stops = audit_stops leads result stops
+module _ {V P : Type 0} (H : List ℕ → List ℕ) (audit : Audit V P) (bytes : List ℕ) where
+  -- the first collision of what was accepted stops it by its lines
+  pub collision_stops : (v : V) (collision : Difference P) (stop : Stop) → audit.kind.accepted bytes v → audit.first v ≡ Some collision → AreColliding H collision
+      → stop ≡ Collision (audit.lines_of collision) → AuditStop H audit bytes stop
+  collision_stops v collision stop accepted found two is = inr (inr (v, accepted, (collision, record { found = found; differ = two.0; equal = two.1 }, is)))
 
-  -- bytes that were accepted and have none
-  pub verdict_end : AsksRanking words.r words.query → IsQueryOf words.query query → HasIndex H mid.files words.index archive
-      → IsFile mid.files words.proof (2 ^ 26) bytes → {T : Type 0} (bytes_of : T → List ℕ) (result : Result T Stop)
-      → IfOk result (λ text. (rows : List Row) × IsFoundRight H archive query words.r bytes rows × (bytes_of text ≡ lines rows))
-      → IfOk result (λ text. IsDone (audit_plan H words) before mid (bytes_of text))
-  verdict_end asks asked index file bytes_of (Ok text) (rows, right, printed) =
-      leads.does mid (bytes_of text) (done_get right.proof right.accepted (done_try right.none (done_end (record {
-        asks = asks;
-        audited = record {
-          archive = archive;
-          index = index;
-          query = query;
-          asked = asked;
-          bytes = bytes;
-          file = file;
-          proof = right.proof;
-          accepted = right.accepted;
-          is = right.none;
-        };
-        right = subst (AreRight archive.texts query words.r) right.answer right.right;
-        printed = printed ∙ ap lines right.answer;
-      }))))
-  verdict_end asks asked index file bytes_of (Err stop) is = tt
+  module _ {plan : Plan Stop} {before mid : ShelfTold} where
+    -- bytes that were refused, or have a collision
+    pub audit_stops : {rest : V → Plan Stop}
+        → Leads Shelf Memory plan before (Gets V (audit.kind.accepted bytes) (audit.kind.rejects bytes) (λ v. finds_none H (audit.first v) audit.lines_of (rest v))) mid
+        → {T : Type 0} (result : Result T Stop) → IfErr result (AuditStop H audit bytes) → IfErr result (IsStopped Shelf Memory plan before mid)
+    audit_stops leads (Ok text) stops = tt
+    audit_stops leads (Err stop) (inl memory) = memory_stops leads memory
+    audit_stops leads (Err stop) (inr (inl rejects)) = get_stops leads (inr rejects)
+    audit_stops leads (Err stop) (inr (inr (v, accepted, collides))) = try_stops (leads_get v leads accepted) (inr collides)
 
--- the first collision stops it by its lines
-pub collision_stops : (H : List ℕ → List ℕ) (archive : Archive) (query : List (List ℕ × ℕ)) (r : ℕ) (bytes : List ℕ) (collision : Difference Place) (stop : Stop)
-    → IsFoundCollision H archive query r bytes collision → stop ≡ Collision (lines_of_collision collision.place collision.ours collision.theirs)
-    → VerdictStop H archive query r bytes stop
-collision_stops H archive query r bytes collision stop found is =
-    let two = extract-collides H archive query found.proof collision found.found in
-    inr (inr (found.proof, found.accepted, (collision, record { found = found.found; differ = two.0; equal = two.1 }, is)))
+    -- bytes that were accepted and have none, from which follows what the command says of its end
+    pub audit_end : (says : Files → List ℕ → Type 0)
+        → Leads Shelf Memory plan before (Gets V (audit.kind.accepted bytes) (audit.kind.rejects bytes) (λ v. finds_none H (audit.first v) audit.lines_of (Finishes says))) mid
+        → {T : Type 0} {told : T → Type 0} (bytes_of : T → List ℕ) (result : Result T Stop) → IfOk result told
+        → ((text : T) → told text → (v : V) × audit.kind.accepted bytes v × (audit.first v ≡ None) × says mid.files (bytes_of text))
+        → IfOk result (λ text. IsDone plan before mid (bytes_of text))
+    audit_end says leads bytes_of (Ok text) is end =
+        let found = end text is in
+        leads.does mid (bytes_of text) (done_get found.0 found.1 (done_try found.2 (done_end found.3)))
+    audit_end says leads bytes_of (Err stop) is end = tt

@@ -3,8 +3,8 @@ mod OneList
 mod OneCollision
 mod OneFinding
 mod OneTrial
-mod CheckEnds
 mod AuditEnds
+mod FoundGrows
 mod ListLines
 mod ListCuts
 mod ListEntries

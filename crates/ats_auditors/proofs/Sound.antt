@@ -3,19 +3,23 @@ use Rattle.std.proofs.Common.{◌≡◌, ◌≤◌, ◌^◌, ◌++◌, ◌∷◌
 use Rattle.std.specs.List.{list_any}
 use Rattle.ats_tree.specs.Differences.{Difference}
 use Rattle.ats_commit.specs.Archive.{Archive}
+use Rattle.ats_commit.specs.Root.{root_of}
 use Rattle.ats_plan.specs.Plan.{Plan, Tries}
 use Rattle.ats_plan.specs.Sound.{IsExact, IsOne}
-use Rattle.ats_console.specs.Words.{AuditWords, SweepWords, TrialWords}
+use Rattle.ats_console.specs.Words.{AuditWords, AuditFetchWords, AuditBothWords, AuditGrowthWords, SweepWords, TrialWords}
 use Rattle.ats_console.specs.Stops.{line_of_bad_line}
 use Rattle.ats_console.specs.declared.stops.Stop.{Stop}
 use Rattle.ats_console.specs.declared.stops.Stop.TheVariants.{Input, Rejected, Collision}
-use Rattle.ats_console.proofs.Public.{Sound, ends, fails, tries, gets, makes, reads, not_input, not_rejected, not_collision, ranking_sound, index_sound, checks_sound}
+use Rattle.ats_console.proofs.Public.{Sound, ends, fails, tries, gets, makes, reads, not_input, not_rejected, not_collision, query_sound, ranking_sound, index_sound, checks_sound, named_sound, text_one, both_one, growth_one}
 use Rattle.ats_auditors.specs.Listed.{Listed, lines_of, IsListOf, names_of}
 use Rattle.ats_auditors.specs.Gathered.{total}
 use Rattle.ats_auditors.specs.Findings.{Finding, is_refused, is_collision, lines_of_findings}
 use Rattle.ats_auditors.specs.Trial.{IsTrialServed, RefusesTrial}
 use Rattle.ats_auditors.specs.Collided.{finds_none}
 use Rattle.ats_auditors.specs.Commands.Audit.{audit_plan}
+use Rattle.ats_auditors.specs.Commands.AuditFetch.{audit_fetch_plan}
+use Rattle.ats_auditors.specs.Commands.AuditBoth.{audit_both_plan}
+use Rattle.ats_auditors.specs.Commands.AuditGrowth.{audit_growth_plan}
 use Rattle.ats_auditors.specs.Commands.Sweep.{IsListStop, PassesRoom, gathers, concludes, audits, sweeps, sweep_plan}
 use Rattle.ats_auditors.specs.Commands.Trial.{trial_plan}
 use Rattle.ats_auditors.specs.declared.gathering.Gathered.{Gathered}
@@ -25,7 +29,7 @@ use Rattle.ats_auditors.proofs.OneFinding.{one_findings}
 use Rattle.ats_auditors.proofs.OneCollision.{collision_exact}
 use Rattle.ats_auditors.proofs.OneTrial.{trial_kept, one_trial}
 
-pub none_sound : {P : Type 0} {H : List ℕ → List ℕ} {first : Option (Difference P)} {lines_of : Difference P → List ℕ} {rest : Plan Stop} → Sound rest
+none_sound : {P : Type 0} {H : List ℕ → List ℕ} {first : Option (Difference P)} {lines_of : Difference P → List ℕ} {rest : Plan Stop} → Sound rest
     → Sound (finds_none H first lines_of rest)
 none_sound {H = H} {first = first} {lines_of = lines_of} later = tries (collision_exact H first lines_of) (λ stops. not_collision stops.2) later
 
@@ -76,6 +80,15 @@ trial_exact H number = record { breaks = trial_kept H number; one = one_trial H 
 module _ (H : List ℕ → List ℕ) where
   pub audit_sound : (words : AuditWords) → Sound (audit_plan H words)
   audit_sound words = ranking_sound (λ query. index_sound (λ archive. reads (fails not_rejected) (λ bytes. checks_sound (λ proof. none_sound ends))))
+
+  pub audit_fetch_sound : (words : AuditFetchWords) → Sound (audit_fetch_plan H words)
+  audit_fetch_sound words = index_sound (λ archive. named_sound (text_one H (root_of H archive) words.doc) (λ proof. none_sound ends))
+
+  pub audit_both_sound : (words : AuditBothWords) → Sound (audit_both_plan H words)
+  audit_both_sound words = query_sound (λ query. index_sound (λ archive. named_sound (both_one H (root_of H archive) query) (λ proof. none_sound ends)))
+
+  pub audit_growth_sound : (words : AuditGrowthWords) → Sound (audit_growth_plan H words)
+  audit_growth_sound words = index_sound (λ older. index_sound (λ newer. named_sound (growth_one H (root_of H older) (root_of H newer)) (λ growth. none_sound ends)))
 
   pub sweep_sound : (words : SweepWords) → Sound (sweep_plan H words)
   sweep_sound words = index_sound (λ archive. reads (fails not_input) (λ bytes. sweeps_sound H words archive bytes))

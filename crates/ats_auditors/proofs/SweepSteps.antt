@@ -10,21 +10,21 @@ use Rattle.ats_audit.specs.declared.sweeping.Job.{Job}
 use Rattle.ats_plan.specs.Files.{Files, IsFile}
 use Rattle.ats_plan.specs.Plan.{Plan, Finishes}
 use Rattle.ats_plan.specs.Runs.{IsDone, IsStopped}
-use Rattle.ats_plan.proofs.Public.{Leads, leads_none, leads_try, leads_get, leads_make, at_memory, at_try, done_end}
+use Rattle.ats_plan.proofs.Public.{Leads, leads_none, leads_try, leads_get, leads_make, at_try, done_end}
 use Rattle.ats_console.specs.Words.{SweepWords}
 use Rattle.ats_console.specs.Read.{HasIndex}
 use Rattle.ats_auditors.specs.Listed.{Listed, lines_of, IsListOf, names_of}
 use Rattle.ats_auditors.specs.Inner.Sweeping.{IsEntry, AreJobs, entry_names, findings_of, IsReport, ConclusionStop}
 use Rattle.ats_auditors.specs.Gathered.{AreGathered}
 use Rattle.ats_auditors.specs.Findings.{Finding, AreFound, AreFindings, IsSwept}
-use Rattle.ats_console.specs.Steps.{reads_file, reads_index, no_more, comes_to}
-use Rattle.ats_auditors.specs.Commands.Sweep.{IsListStop, gathers, concludes, audits, sweeps, sweep_plan}
+use Rattle.ats_console.specs.Steps.{no_more, comes_to}
+use Rattle.ats_auditors.specs.Commands.Sweep.{IsListStop, gathers, concludes, audits, sweeps}
 use Rattle.ats_auditors.specs.declared.gathering.Gathered.{Gathered}
 use Rattle.ats_auditors.specs.declared.listing.Entry.{Entry}
 use Rattle.ats_auditors.specs.declared.sweeping.Report.{Report}
 use Rattle.ats_console.specs.declared.stops.Stop.{Stop}
 use Rattle.ats_console.specs.declared.stops.Stop.TheVariants.{Usage, Shelf, Input, Rejected, Memory, Link, Peer, Faults, Collision}
-use Rattle.ats_console.proofs.Public.{leads_index, leads_bytes, has_index, has_bytes, same_index, same_bytes, at_bytes, at_index, get_stops}
+use Rattle.ats_console.proofs.Public.{memory_stops, get_stops}
 use Rattle.ats_auditors.proofs.ListEntries.{listed_of, listed_names, list_is}
 use Rattle.ats_auditors.proofs.Gathers.{leads_gathers, at_gathers, has_gathers, same_gathers}
 use Rattle.ats_auditors.proofs.JobSteps.{found_each}
@@ -77,8 +77,8 @@ module _ (H : List ℕ → List ℕ) (words : SweepWords) (archive : Archive) (b
       leads_audits = leads_gathers (audits H words archive listed) (sweeps H words archive bytes) before before now (entry_names entries) proofs (leads_list before) done
 
       -- memory ran out after the proofs were gathered
-      pub runs_out : IsStopped Shelf Memory (sweeps H words archive bytes) before now Memory
-      runs_out = leads_audits.stops now Memory at_memory
+      pub runs_out : {stop : Stop} → stop ≡ Memory → IsStopped Shelf Memory (sweeps H words archive bytes) before now stop
+      runs_out is = memory_stops leads_audits is
 
       module _ (jobs : List Job) (verdicts : List Verdict) (its : AreJobs entries proofs jobs) (found : AllZip (IsVerdictOf H archive) jobs verdicts) where
         each : AreFindings H archive listed proofs (findings_of proofs verdicts)
@@ -97,13 +97,7 @@ module _ (H : List ℕ → List ℕ) (words : SweepWords) (archive : Archive) (b
               leads_findings.stops now (Collision lines) (at_try (sym is.collides ∙ collides, ap Collision (printed ∙ is.lines)))
           swept_stop (Rejected lines) (none, refused, printed) =
               (leads_try leads_findings (sym is.collides ∙ none)).stops now (Rejected lines) (at_try (sym is.refused ∙ refused, ap Rejected (printed ∙ is.lines)))
-          swept_stop Usage stops = absurd stops
-          swept_stop Shelf stops = absurd stops
-          swept_stop (Input line) stops = absurd stops
-          swept_stop Memory stops = absurd stops
-          swept_stop Link stops = absurd stops
-          swept_stop (Peer line) stops = absurd stops
-          swept_stop (Faults count) stops = absurd stops
+          swept_stop other stops = absurd stops
 
           pub swept_stops : (result : Result (Vec ℕ Global) Stop) → IfErr result (ConclusionStop report)
               → IfErr result (IsStopped Shelf Memory (sweeps H words archive bytes) before now)
@@ -144,43 +138,3 @@ module _ (H : List ℕ → List ℕ) (words : SweepWords) (archive : Archive) (b
                 → IfOk result (λ text. IsDone (sweeps H words archive bytes) before now text.items)
             swept_right (Ok text) right = swept_all text.items right
             swept_right (Err stop) none = tt
-
--- ---- the index, then the list
-
-module _ (H : List ℕ → List ℕ) (words : SweepWords) where
-  abbrev sweeps_list : Archive → Plan Stop
-  sweeps_list archive = reads_file words.list (2 ^ 20) (λ bytes. sweeps H words archive bytes)
-
-  -- an index that was not loaded
-  pub index_stops : (before now : ShelfTold) (stop : Stop) → IsStopped Shelf Memory (reads_index H words.index (λ archive. no_more)) before now stop
-      → IsStopped Shelf Memory (sweep_plan H words) before now stop
-  index_stops before now stop stops = at_index {rest = sweeps_list} stops
-
-  module _ (archive : Archive) (before first : ShelfTold) (index : IsDone (reads_index H words.index (comes_to archive)) before first []) where
-    leads_archive : Leads Shelf Memory (sweep_plan H words) before (sweeps_list archive) first
-    leads_archive = leads_index {rest = sweeps_list} leads_none index
-
-    -- a list that was not read
-    pub file_stops : (mid : ShelfTold) (stop : Stop) → IsStopped Shelf Memory (reads_file words.list (2 ^ 20) (λ bytes. no_more)) first mid stop
-        → IsStopped Shelf Memory (sweep_plan H words) before mid stop
-    file_stops mid stop stops = leads_archive.stops mid stop (at_bytes {rest = λ (bytes : List ℕ). sweeps H words archive bytes} stops)
-
-    module _ (bytes : List ℕ) (mid now : ShelfTold) (list : IsDone (reads_file words.list (2 ^ 20) (comes_to bytes)) first mid []) where
-      leads_both : Leads Shelf Memory (sweep_plan H words) before (sweeps H words archive bytes) mid
-      leads_both = leads_bytes {rest = λ (all : List ℕ). sweeps H words archive all} leads_archive list
-
-      pub index_there : HasIndex H mid.files words.index archive
-      index_there = subst (λ (files : Files). HasIndex H files words.index archive) (sym (same_bytes list ∙ same_index index)) (has_index index)
-
-      pub list_there : IsFile mid.files words.list (2 ^ 20) bytes
-      list_there = subst (λ (files : Files). IsFile files words.list (2 ^ 20) bytes) (sym (same_bytes list)) (has_bytes list)
-
-      pub sweep_done : (result : Result (Vec ℕ Global) Stop) → IfOk result (λ text. IsDone (sweeps H words archive bytes) mid now text.items)
-          → IfOk result (λ text. IsDone (sweep_plan H words) before now text.items)
-      sweep_done (Ok text) done = leads_both.does now text.items done
-      sweep_done (Err stop) none = tt
-
-      pub sweep_stops : (result : Result (Vec ℕ Global) Stop) → IfErr result (IsStopped Shelf Memory (sweeps H words archive bytes) mid now)
-          → IfErr result (IsStopped Shelf Memory (sweep_plan H words) before now)
-      sweep_stops (Ok text) none = tt
-      sweep_stops (Err stop) stops = leads_both.stops now stop stops

@@ -151,10 +151,6 @@ are_queries number queries count many are i low = (are i [] (omega (arith, low, 
 
 -- ---- why there is no text
 
--- a stop that is passed on
-pub passed_on : {T : Type 0} (P : Stop → Type 0) (result : Result T Stop) (stop told : Stop) → result ≡ Err told → told ≡ stop → P stop → IfErr result P
-passed_on P result stop told is same holds = subst (λ r. IfErr r P) (sym is) (subst P (sym same) holds)
-
 -- the first text that is no query
 query_refused : (H : List ℕ → List ℕ) (number i : ℕ) (fault : QueryFault) (line : List ℕ) → i < 20 → AreQueries number i → IsFirstFault (trial_query number i) fault
     → stop_of_query fault ≡ Input line → IsTrialStop H number (stop_of_query fault)

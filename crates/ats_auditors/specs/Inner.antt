@@ -1,5 +1,4 @@
 -- What the functions of the room promise one another. No public contract rests on it.
 
-pub mod Stops
 pub mod Sweeping
 pub mod Trial

@@ -1,4 +1,5 @@
 pub mod Collided
+pub mod Audited
 pub mod Listed
 pub mod Gathered
 pub mod Findings

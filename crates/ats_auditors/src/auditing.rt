@@ -1,14 +1,13 @@
 //! `audit`: the audit of a proof against an index, and the lines of its answer.
 
-ghost use Rattle.std.specs.Prelude.{◌≡◌, ℕ, List, IfOk, IfErr};
+ghost use Rattle.std.specs.Prelude.{◌≡◌, List, IfOk, IfErr};
 ghost use Rattle.ats_impact.specs.declared.rank.Row.{Row};
-ghost use Rattle.ats_commit.specs.Archive.{Archive};
-ghost use Rattle.ats_audit.specs.Verdicts.{IsFoundRight, IsVerdict};
+ghost use Rattle.ats_audit.specs.Verdicts.{IsFoundRight};
 ghost use Rattle.ats_plan.specs.Plan.{ComesToShelf};
 ghost use Rattle.ats_plan.specs.Runs.{IsDone, IsStopped};
 ghost use Rattle.ats_console.specs.Print.{lines};
+ghost use Rattle.ats_auditors.specs.Audited.{AuditStop, proof_audit};
 ghost use Rattle.ats_auditors.specs.Commands.Audit.{audit_plan};
-ghost use Rattle.ats_auditors.specs.Inner.Stops.{VerdictStop};
 ghost use Rattle.ats_console.specs.declared.stops.Stop.TheVariants.{Shelf as AtShelf, Memory};
 
 use ats_audit::Verdict;
@@ -22,34 +21,6 @@ use ats_terms::Query;
 use std::alloc::Global;
 use std::thread::Threads;
 
-// The lines of the rows of a verdict, or why it has none.
-fn verdict_to_lines(alloc: Global, verdict: &Verdict) -> Result<Vec<u8>, Stop>
-    ensures ok { (H : List ℕ → List ℕ) (archive : Archive) (query : List (List ℕ × ℕ)) (r : ℕ) (bytes : List ℕ)
-        → IsVerdict H archive query r bytes verdict.now
-        → IfOk result (λ text. (rows : List Row)
-        × IsFoundRight H archive query r bytes rows × (text.items ≡ lines rows)) }
-    ensures stop { (H : List ℕ → List ℕ) (archive : Archive) (query : List (List ℕ × ℕ)) (r : ℕ) (bytes : List ℕ)
-        → IsVerdict H archive query r bytes verdict.now
-        → IfErr result (VerdictStop H archive query r bytes) }
-{
-    match verdict {
-        Verdict::Right(rows) => match lines(alloc, rows) {
-            Ok(text) => Ok(text),
-            Err(_) => Err(Stop::Memory),
-        },
-        Verdict::BadShape(fault) => Err(rejected(Rejection::Shape(*fault))),
-        Verdict::Refused(refusal) => Err(rejected(Rejection::Check(*refusal))),
-        Verdict::Collision {
-            place,
-            ours,
-            theirs,
-        } => {
-            let lines = collision_lines(alloc, *place, ours.bytes(), theirs.bytes())?;
-            Err(Stop::Collision(Line::made(lines)))
-        }
-    }
-}
-
 // The lines of the rows of bytes that are accepted as a proof and have no collision with the archive.
 fn audit_to_lines<H: Hash32>(
     alloc: Global,
@@ -60,12 +31,24 @@ fn audit_to_lines<H: Hash32>(
 ) -> Result<Vec<u8>, Stop>
     ensures ok { IfOk result (λ text. (rows : List Row)
         × IsFoundRight H.hash index.now query.now top bytes.now rows × (text.items ≡ lines rows)) }
-    ensures stop { IfErr result (VerdictStop H.hash index.now query.now top bytes.now) }
+    ensures stop { IfErr result (AuditStop H.hash (proof_audit H.hash index.now query.now top) bytes.now) }
 {
     let Ok(verdict) = ats_audit::audit::<H>(alloc, index, query, top, bytes) else {
         return Err(Stop::Memory);
     };
-    verdict_to_lines(alloc, &verdict)
+    match verdict {
+        Verdict::Right(rows) => Ok(lines(alloc, &rows)?),
+        Verdict::BadShape(fault) => Err(rejected(Rejection::Shape(fault))),
+        Verdict::Refused(refusal) => Err(rejected(Rejection::Check(refusal))),
+        Verdict::Collision {
+            place,
+            ours,
+            theirs,
+        } => {
+            let lines = collision_lines(alloc, place, ours.bytes(), theirs.bytes())?;
+            Err(Stop::Collision(Line::made(lines)))
+        }
+    }
 }
 
 /// The lines of `audit`. The words are checked before anything is read, and the index before the proof.

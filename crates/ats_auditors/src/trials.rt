@@ -248,7 +248,7 @@ fn try_to_lines<H: Hash32>(
 const ROWS: u32 = 10;
 
 /// The lines of `trial`: its queries are read, then its texts are indexed, and then each query is proved, checked and
-/// audited by each algorithm.
+/// audited by each algorithm. It counts what the check and the audit returned, though a proof says 20 and 40.
 pub fn trial<H: Hash32 + Sync, R: Threads + Sync>(
     rt: &R,
     alloc: Global,

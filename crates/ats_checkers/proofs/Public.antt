@@ -2,7 +2,3 @@
 
 -- the plan of each command goes one way at most, and stops none for its words
 pub use Rattle.ats_checkers.proofs.Sound.{verify_sound, fetch_sound, both_sound, growth_sound}
--- a file of each kind is accepted or refused in one way
-pub use Rattle.ats_checkers.proofs.OneText.{text_file_one}
-pub use Rattle.ats_checkers.proofs.OneBoth.{both_file_one}
-pub use Rattle.ats_checkers.proofs.OneGrowth.{growth_file_one}

@@ -1,35 +1,28 @@
 //! `both`: the check of a proof of all documents that have every term of a query.
 
-ghost use Rattle.std.specs.Prelude.{◌≡◌, ◌⊎◌, ℕ, List, IfOk, IfErr};
+ghost use Rattle.std.specs.Prelude.{◌≡◌, ℕ, List, IfOk, IfErr};
 ghost use Rattle.ats_terms.specs.Query.{IsQuery};
+ghost use Rattle.ats_proof.specs.Value.{Proof};
+ghost use Rattle.ats_conjunction.specs.Bytes.{AreAcceptedBytes};
 ghost use Rattle.ats_conjunction.specs.Documents.{documents_shown};
+ghost use Rattle.ats_conjunction.specs.Headline.{AreBothOrCollide};
 ghost use Rattle.ats_conjunction.specs.Rules.{AcceptsBoth};
 ghost use Rattle.ats_plan.specs.Plan.{ComesToShelf};
 ghost use Rattle.ats_plan.specs.Runs.{IsDone, IsStopped};
 ghost use Rattle.ats_console.specs.Print.{lines_of_documents};
-ghost use Rattle.ats_console.specs.RejectionLines.{refused_line};
-ghost use Rattle.ats_console.specs.declared.stops.Stop.TheVariants.{Shelf as AtShelf, Memory, Rejected};
-ghost use Rattle.ats_refusal.specs.Words.{both_refusal_words};
-ghost use Rattle.ats_checkers.specs.BothSteps.{RejectsBoth};
+ghost use Rattle.ats_console.specs.Kinds.{CheckStop, both_kind};
+ghost use Rattle.ats_console.specs.declared.stops.Stop.TheVariants.{Shelf as AtShelf, Memory};
 ghost use Rattle.ats_checkers.specs.Commands.Both.{both_plan};
-ghost use Rattle.ats_checkers.specs.Inner.Documents.{TellsBoth};
 
 use ats_base::Shelf;
 use ats_bound::Work;
 use ats_conjunction::{both_documents, check_both};
-use ats_console::{Stop, document_lines, read, refused_line, rejected};
+use ats_console::{Stop, document_lines, read, refused, rejected};
 use ats_hash::{Hash32, Steps};
 use ats_proof::ProofView;
-use ats_refusal::{BothRefusal, Rejection, both_refusal_words};
+use ats_refusal::{Rejection, both_refusal_words};
 use ats_terms::Query;
 use std::alloc::Global;
-
-/// The stop of a proof that is refused.
-pub fn both_refused(refusal: BothRefusal) -> Stop
-    ensures { result ≡ Rejected (refused_line (both_refusal_words refusal)) }
-{
-    Stop::Rejected(refused_line(both_refusal_words(refusal)))
-}
 
 // The lines of the documents that an accepted proof shows.
 fn shown_to_lines(alloc: Global, proof: &ProofView<'_>) -> Result<Vec<u8>, Stop>
@@ -50,8 +43,9 @@ fn both_to_lines<H: Hash32>(
     root: &[u8; 32],
     query: &Query,
 ) -> Result<Vec<u8>, Stop>
-    ensures ok { IfOk result (λ text. TellsBoth H.hash root.now query.now bytes.now text.items) }
-    ensures stop { IfErr result (λ stop. (stop ≡ Memory) ⊎ RejectsBoth H.hash root.now query.now bytes.now stop) }
+    ensures ok { IfOk result (λ text. (proof : Proof) × AreAcceptedBytes H.hash root.now query.now bytes.now proof
+        × AreBothOrCollide H.hash root.now query.now proof × (text.items ≡ lines_of_documents (documents_shown proof))) }
+    ensures stop { IfErr result (CheckStop (both_kind H.hash root.now query.now) bytes.now) }
     ensures asked { IsQuery query.now }
 {
     // A query has terms within the limits.
@@ -66,7 +60,7 @@ fn both_to_lines<H: Hash32>(
     let mut steps = Steps::new(alloc);
     match check_both::<H>(root, query, &proof, &mut work, &mut steps) {
         Ok(()) => shown_to_lines(alloc, &proof),
-        Err(refusal) => Err(both_refused(refusal)),
+        Err(refusal) => Err(refused(both_refusal_words(refusal))),
     }
 }
 

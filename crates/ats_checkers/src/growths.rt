@@ -1,42 +1,20 @@
 //! `growth`: the check that nothing was withdrawn.
 
-ghost use Rattle.std.specs.Prelude.{◌≡◌, ◌⊎◌, IfOk, IfErr};
+ghost use Rattle.std.specs.Prelude.{◌≡◌, IfOk, IfErr};
 ghost use Rattle.ats_consistency.specs.Headline.{IsGrownOrCollides};
 ghost use Rattle.ats_consistency.specs.Value.{Growth};
 ghost use Rattle.ats_consistency.specs.Bytes.{IsAcceptedGrowth};
 ghost use Rattle.ats_plan.specs.Runs.{IsDone, IsStopped};
-ghost use Rattle.ats_console.specs.RejectionLines.{refused_line};
-ghost use Rattle.ats_console.specs.declared.stops.Stop.TheVariants.{Shelf as AtShelf, Memory, Rejected};
-ghost use Rattle.ats_refusal.specs.Words.{growth_refusal_words};
-ghost use Rattle.ats_checkers.specs.GrowthLines.{line_of_grown};
-ghost use Rattle.ats_checkers.specs.GrowthSteps.{RejectsGrowth};
+ghost use Rattle.ats_console.specs.Kinds.{CheckStop, growth_kind, line_of_grown};
+ghost use Rattle.ats_console.specs.declared.stops.Stop.TheVariants.{Shelf as AtShelf, Memory};
 ghost use Rattle.ats_checkers.specs.Commands.Growth.{growth_plan};
 
 use ats_base::Shelf;
-use ats_consistency::{Grown, GrowthView, check_growth};
-use ats_console::{Stop, read, refused_line, rejected};
+use ats_consistency::{GrowthView, check_growth};
+use ats_console::{GROWTH_FILE_LIMIT, Stop, grown_line, read, refused, rejected};
 use ats_hash::{Hash32, Steps};
-use ats_refusal::{GrowthRefusal, Rejection, growth_refusal_words};
-use std::alloc::{AllocError, Global};
-
-/// The most bytes of a file that shows a growth.
-pub const GROWTH_FILE_LIMIT: u64 = 4_096;
-
-/// The stop of a growth that is refused.
-pub fn growth_refused(refusal: GrowthRefusal) -> Stop
-    ensures { result ≡ Rejected (refused_line (growth_refusal_words refusal)) }
-{
-    Stop::Rejected(refused_line(growth_refusal_words(refusal)))
-}
-
-/// The numbers of documents of an archive that has grown, in a line.
-pub fn grown_line(alloc: Global, grown: Grown) -> Result<Vec<u8>, AllocError>
-    ensures { IfOk result (λ text. text.items ≡ line_of_grown grown.old grown.new) }
-{
-    let (old, new) = (grown.old, grown.new);
-    let line = format!(in alloc; "grown {old} {new}\n")?;
-    Ok(line.into_bytes())
-}
+use ats_refusal::{Rejection, growth_refusal_words};
+use std::alloc::Global;
 
 // The line of the numbers of bytes that are accepted as the growth from one root to the other.
 fn growth_to_line<H: Hash32>(
@@ -47,7 +25,7 @@ fn growth_to_line<H: Hash32>(
 ) -> Result<Vec<u8>, Stop>
     ensures ok { IfOk result (λ text. (growth : Growth) × IsAcceptedGrowth H.hash old.now new.now bytes.now growth
         × IsGrownOrCollides H.hash old.now new.now growth × (text.items ≡ line_of_grown growth.old.documents growth.new.documents)) }
-    ensures stop { IfErr result (λ stop. (stop ≡ Memory) ⊎ RejectsGrowth H.hash old.now new.now bytes.now stop) }
+    ensures stop { IfErr result (CheckStop (growth_kind H.hash old.now new.now) bytes.now) }
 {
     let growth = match GrowthView::read(bytes) {
         Ok(growth) => growth,
@@ -56,7 +34,7 @@ fn growth_to_line<H: Hash32>(
     let mut steps = Steps::new(alloc);
     match check_growth::<H>(old, new, &growth, &mut steps) {
         Ok(grown) => Ok(grown_line(alloc, grown)?),
-        Err(refusal) => Err(growth_refused(refusal)),
+        Err(refusal) => Err(refused(growth_refusal_words(refusal))),
     }
 }
 

@@ -3,11 +3,12 @@
 //! `verify` checks the proof of a query's best documents, `fetch` the text of a document, `both` the proof of all documents
 //! with every term of a query, and `growth` that nothing was withdrawn between two roots.
 //!
-//! The room stands on `ats_plan` and `ats_console` for what a command is and reads, and on `ats_client`, `ats_fetch`,
-//! `ats_both` and `ats_growth` for the checks. Each command comes to the text that its plan allows (`specs/Commands`), or
-//! stops as its plan stops. An accepted file comes with what follows for every archive with the root, and with what each
-//! audit of it returns. The other calls are for who prints the same lines after an audit, or checks bytes that came over a
-//! link. How a command makes its answer may change freely; the order in which its inputs are tried may not.
+//! The room stands on `ats_plan` and `ats_console` for what a command is and reads, on `ats_client`, `ats_inclusion`,
+//! `ats_conjunction` and `ats_consistency` for the checks, and on `ats_audit`, `ats_fetch`, `ats_both` and `ats_growth` only
+//! for what audits return. Each command comes to the text that its plan allows (`specs/Commands`), or stops as its plan
+//! stops. An accepted file comes with what follows for every archive with the root, and with what each audit of it returns.
+//! `verify_to_lines` is for who checks bytes that came over a link. How a command makes its answer may change freely; the
+//! order in which its inputs are tried may not.
 //!
 //! ```
 //! // the lines of the rows of the file "answer.proof", or why it is refused
@@ -20,7 +21,7 @@ mod growths;
 mod texts;
 mod verifying;
 
-pub use documents::{both, both_refused};
-pub use growths::{GROWTH_FILE_LIMIT, grown_line, growth, growth_refused};
-pub use texts::{TEXT_FILE_LIMIT, fetch, print_text, text_refused};
+pub use documents::both;
+pub use growths::growth;
+pub use texts::fetch;
 pub use verifying::{verify, verify_to_lines};

@@ -1,42 +1,19 @@
 //! `fetch`: the check of the text of a document.
 
-ghost use Rattle.std.specs.Prelude.{◌≡◌, ◌⊎◌, IfOk, IfErr};
+ghost use Rattle.std.specs.Prelude.{◌≡◌, IfOk, IfErr};
 ghost use Rattle.ats_inclusion.specs.Value.{TextProof};
 ghost use Rattle.ats_inclusion.specs.Bytes.{IsAcceptedText};
 ghost use Rattle.ats_plan.specs.Runs.{IsDone, IsStopped};
-ghost use Rattle.ats_console.specs.RejectionLines.{refused_line};
-ghost use Rattle.ats_console.specs.declared.stops.Stop.TheVariants.{Shelf as AtShelf, Memory, Rejected};
-ghost use Rattle.ats_refusal.specs.Words.{text_refusal_words};
-ghost use Rattle.ats_checkers.specs.TextLines.{printed_text};
-ghost use Rattle.ats_checkers.specs.TextSteps.{RejectsText};
+ghost use Rattle.ats_console.specs.Kinds.{CheckStop, text_kind, printed_text};
+ghost use Rattle.ats_console.specs.declared.stops.Stop.TheVariants.{Shelf as AtShelf, Memory};
 ghost use Rattle.ats_checkers.specs.Commands.Fetch.{fetch_plan};
 
 use ats_base::Shelf;
-use ats_console::{Stop, read, refused_line, rejected};
+use ats_console::{Stop, TEXT_FILE_LIMIT, print_text, read, refused, rejected};
 use ats_hash::{Hash32, Steps};
 use ats_inclusion::{TextView, check_text};
-use ats_refusal::{Rejection, TextRefusal, text_refusal_words};
-use std::alloc::{AllocError, Global};
-
-/// The most bytes of a file that gives a text.
-pub const TEXT_FILE_LIMIT: u64 = 1 << 21;
-
-/// The stop of a text that is refused.
-pub fn text_refused(refusal: TextRefusal) -> Stop
-    ensures { result ≡ Rejected (refused_line (text_refusal_words refusal)) }
-{
-    Stop::Rejected(refused_line(text_refusal_words(refusal)))
-}
-
-/// A text as it is, and a line feed.
-pub fn print_text(alloc: Global, text: &[u8]) -> Result<Vec<u8>, AllocError>
-    ensures { IfOk result (λ printed. printed.items ≡ printed_text text.now) }
-{
-    let mut printed = Vec::new(alloc);
-    printed.extend_from_slice(text)?;
-    printed.extend_from_slice(b"\n")?;
-    Ok(printed)
-}
+use ats_refusal::{Rejection, text_refusal_words};
+use std::alloc::Global;
 
 // The text of bytes that are accepted as that of a document, and a line feed.
 fn fetch_to_text<H: Hash32>(
@@ -47,7 +24,7 @@ fn fetch_to_text<H: Hash32>(
 ) -> Result<Vec<u8>, Stop>
     ensures ok { IfOk result (λ text. (proof : TextProof) × IsAcceptedText H.hash root.now doc bytes.now proof
         × (text.items ≡ printed_text proof.text)) }
-    ensures stop { IfErr result (λ stop. (stop ≡ Memory) ⊎ RejectsText H.hash root.now doc bytes.now stop) }
+    ensures stop { IfErr result (CheckStop (text_kind H.hash root.now doc) bytes.now) }
 {
     let proof = match TextView::read(bytes) {
         Ok(proof) => proof,
@@ -55,7 +32,7 @@ fn fetch_to_text<H: Hash32>(
     };
     let mut steps = Steps::new(alloc);
     if let Err(refusal) = check_text::<H>(root, doc, &proof, &mut steps) {
-        return Err(text_refused(refusal));
+        return Err(refused(text_refusal_words(refusal)));
     }
     Ok(print_text(alloc, proof.text())?)
 }

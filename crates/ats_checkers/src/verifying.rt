@@ -1,13 +1,13 @@
 //! `verify`: the check of a proof, and the lines of its answer.
 
-ghost use Rattle.std.specs.Prelude.{◌≡◌, ◌⊎◌, List, IfOk, IfErr};
+ghost use Rattle.std.specs.Prelude.{◌≡◌, List, IfOk, IfErr};
 ghost use Rattle.ats_terms.specs.Query.{IsQuery};
 ghost use Rattle.ats_impact.specs.declared.rank.Row.{Row};
 ghost use Rattle.ats_client.specs.Bytes.{AreVerifiedRows};
 ghost use Rattle.ats_plan.specs.Plan.{ComesToShelf};
 ghost use Rattle.ats_plan.specs.Runs.{IsDone, IsStopped};
 ghost use Rattle.ats_console.specs.Print.{lines};
-ghost use Rattle.ats_console.specs.Steps.{RejectsBytes};
+ghost use Rattle.ats_console.specs.Kinds.{CheckStop, proof_kind};
 ghost use Rattle.ats_checkers.specs.Commands.Verify.{verify_plan};
 ghost use Rattle.ats_console.specs.declared.stops.Stop.TheVariants.{Shelf as AtShelf, Memory};
 
@@ -29,8 +29,7 @@ pub fn verify_to_lines<H: Hash32>(
 ) -> Result<Vec<u8>, Stop>
     ensures ok { IfOk result (λ text. (rows : List Row)
         × AreVerifiedRows H.hash root.now query.now top bytes.now rows × (text.items ≡ lines rows)) }
-    ensures stop { IfErr result (λ stop.
-        (stop ≡ Memory) ⊎ RejectsBytes H.hash root.now query.now top bytes.now stop) }
+    ensures stop { IfErr result (CheckStop (proof_kind H.hash root.now query.now top) bytes.now) }
     ensures asked { IsQuery query.now }
 {
     // A query has terms within the limits.

@@ -6,3 +6,5 @@ mod RootWords
 mod OneFile
 mod OneProof
 mod Sound
+mod OneKind
+mod KindEnds

@@ -59,3 +59,13 @@ pub use Rattle.ats_console.proofs.OneProof.{spelled_fields}
 pub use Rattle.ats_console.proofs.OneProof.{honest_short, one_length}
 -- the honest proof that is made is one, and it is made or too long in one way
 pub use Rattle.ats_console.proofs.OneProof.{one_made, made_short, length_exact}
+-- a file of each kind is accepted or rejected in one way, and its check keeps that a plan goes one way
+pub use Rattle.ats_console.proofs.OneKind.{IsKindOne, text_one, both_one, growth_one, named_sound}
+-- what a `?` passes on keeps its cause
+pub use Rattle.ats_console.proofs.KindEnds.{passed}
+-- a file or an index that was read is still there
+pub use Rattle.ats_console.proofs.KindEnds.{still_bytes, still_index}
+-- bytes that were accepted end a command
+pub use Rattle.ats_console.proofs.KindEnds.{check_end}
+-- the texts of an index are UTF-8 and within the limits
+pub use Rattle.ats_console.proofs.KindEnds.{texts_of}

@@ -7,4 +7,5 @@ pub mod Stops
 pub mod Read
 pub mod Steps
 pub mod Making
+pub mod Kinds
 pub mod Inner

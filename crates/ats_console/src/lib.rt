@@ -18,6 +18,7 @@
 
 mod collision;
 mod input;
+mod kinds;
 mod print;
 pub mod read;
 mod rejection;
@@ -28,6 +29,7 @@ mod words;
 
 pub use collision::{collision_lines, pair_lines, strings_lines};
 pub use input::{JsonFault, read_collection};
+pub use kinds::{GROWTH_FILE_LIMIT, TEXT_FILE_LIMIT, grown_line, print_text, refused};
 pub use print::{document_lines, lines, root_line};
 pub use rejection::{refused_line, rejection_line};
 pub use said::Said;

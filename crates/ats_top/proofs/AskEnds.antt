@@ -93,12 +93,7 @@ module _ (H : List ℕ → List ℕ) (before now : CallerTold) (words : AskWords
   unheard_stop asks Memory stops = tt
   unheard_stop asks Link stops = stops
   unheard_stop asks (Peer line) stops = record { asks = asks; heard = stops }
-  unheard_stop asks Usage stops = absurd stops
-  unheard_stop asks Shelf stops = absurd stops
-  unheard_stop asks (Input line) stops = absurd stops
-  unheard_stop asks (Rejected line) stops = absurd stops
-  unheard_stop asks (Faults count) stops = absurd stops
-  unheard_stop asks (Collision lines) stops = absurd stops
+  unheard_stop asks other stops = absurd stops
 
   pub unheard_stops : AsksRanking words.r words.query → (stop : Stop) → ConversationStop words.address (question_of words) before now stop → AskStop H before now words stop
   unheard_stops asks stop stops = inr (asks, unheard_stop asks stop stops)

@@ -25,26 +25,12 @@ no_command said command none some = let both = sym none ∙ some in cc
 -- no stop is done
 pub never_done : (stop : Stop) → status_of_stop stop ≢ 0
 never_done Usage = omega arith
-never_done Shelf = omega arith
-never_done (Input line) = omega arith
-never_done (Rejected lines) = omega arith
-never_done Memory = omega arith
-never_done Link = omega arith
-never_done (Peer line) = omega arith
-never_done (Faults count) = omega arith
-never_done (Collision lines) = omega arith
+never_done other = omega arith
 
 -- 2 is the status of one stop
 only_usage : (stop : Stop) → status_of_stop stop ≡ 2 → stop ≡ Usage
 only_usage Usage two = refl
-only_usage Shelf two = absurd (omega (arith, two))
-only_usage (Input line) two = absurd (omega (arith, two))
-only_usage (Rejected lines) two = absurd (omega (arith, two))
-only_usage Memory two = absurd (omega (arith, two))
-only_usage Link two = absurd (omega (arith, two))
-only_usage (Peer line) two = absurd (omega (arith, two))
-only_usage (Faults count) two = absurd (omega (arith, two))
-only_usage (Collision lines) two = absurd (omega (arith, two))
+only_usage other two = absurd (omega (arith, two))
 
 -- each end has a status
 has_status : (end : End) → IsStatus (status_of end)

@@ -27,12 +27,7 @@ module _ (H : List ℕ → List ℕ) (files : Files) (words : ServeWords) (befor
       inr (inl (refl, rw (← broken.served.listened.kept, ← broken.served.had.kept) broken.failed.cause))
   serving_status (Faults count) (some, all) = inr (inr (refl, broken_rose count some all))
   serving_status Memory unmade = inl refl
-  serving_status Usage stops = absurd stops
-  serving_status Shelf stops = absurd stops
-  serving_status (Input line) stops = absurd stops
-  serving_status (Rejected lines) stops = absurd stops
-  serving_status (Peer line) stops = absurd stops
-  serving_status (Collision lines) stops = absurd stops
+  serving_status other stops = absurd stops
 
   -- if memory for the line of a stop runs out, the stop is out of memory
   pub serving_line : (stop : Stop) → HasLine stop → ServingStop H files words before now text stop → ServingStop H files words before now text Memory
@@ -40,9 +35,4 @@ module _ (H : List ℕ → List ℕ) (files : Files) (words : ServeWords) (befor
       record { sessions = all.sessions; told = all.sessions; served = all.served; but_last = inl refl; printed = all.printed }
   serving_line Link has stops = absurd has
   serving_line Memory has stops = absurd has
-  serving_line Usage has stops = absurd has
-  serving_line Shelf has stops = absurd has
-  serving_line (Input line) has stops = absurd stops
-  serving_line (Rejected lines) has stops = absurd stops
-  serving_line (Peer line) has stops = absurd stops
-  serving_line (Collision lines) has stops = absurd stops
+  serving_line other has stops = absurd stops

@@ -1,10 +1,8 @@
 -- What a run with status 0 printed, for the commands that check what came from elsewhere.
-use Rattle.std.proofs.Common.{◌≡◌, ◌∙◌, ℕ, List, [], ◌∷◌, codes, Option, Some, refl, ap, ap₂}
-use Rattle.std.specs.Prelude.{option_map, option_and_then}
-use Rattle.ats_proof.specs.declared.record.Algorithm.{Algorithm}
+use Rattle.std.proofs.Common.{◌≡◌, ℕ, List, Some, refl}
 use Rattle.ats_plan.specs.Files.{Files}
 use Rattle.ats_plan.proofs.Public.{EndsIn, does_end}
-use Rattle.ats_console.specs.Words.{AskWords, Ask, Both, BothWords, Command, Fetch, FetchWords, Growth, GrowthWords, Verify, VerifyWords, algorithm_of, command_of, number_of, root_word}
+use Rattle.ats_console.specs.Words.{AskWords, Ask, Both, BothWords, Command, Fetch, FetchWords, Growth, GrowthWords, Verify, VerifyWords, command_of}
 use Rattle.ats_top.specs.Asked.{IsReplyVerified}
 use Rattle.ats_top.specs.Commands.{plan_of}
 use Rattle.ats_checkers.specs.Commands.Both.{IsBothChecked}
@@ -15,18 +13,6 @@ use Rattle.ats_top.specs.Outside.{Outside}
 use Rattle.ats_top.specs.Run.{IsCompleted, Ran}
 use Rattle.ats_top.specs.Serving.{Took}
 use Rattle.ats_top.proofs.OneCommand.{its}
-
--- the command of the words of `ask`, from what its root, its algorithm and its number of rows spell
-abbrev said_by : List ℕ → List ℕ → Option (List ℕ) → Option Algorithm → Option ℕ → Option Command
-said_by query address root algorithm rows =
-    option_and_then (λ digest. option_and_then (λ a. option_map
-    (λ n. Ask (record { root = digest; algorithm = a; r = n; query = query; address = address })) rows) algorithm) root
-
-pub ask_said : (root digest algorithm r query address : List ℕ) (by : Algorithm) (n : ℕ) → root_word root ≡ Some digest → algorithm_of algorithm ≡ Some by → number_of r ≡ Some n
-    → command_of (codes "ask" ∷ root ∷ algorithm ∷ r ∷ query ∷ address ∷ []) ≡ Some (Ask (record { root = digest; algorithm = by; r = n; query = query; address = address }))
-ask_said root digest algorithm r query address by n is_root is_algorithm is_rows =
-    ap (λ (of_root : Option (List ℕ)). said_by query address of_root (algorithm_of algorithm) (number_of r)) is_root
-    ∙ ap₂ (said_by query address (Some digest)) is_algorithm is_rows
 
 module _ (H : List ℕ → List ℕ) (said : List (List ℕ)) (before now : Outside) where
   -- the command of the words is done, and the sink took its text

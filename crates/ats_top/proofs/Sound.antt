@@ -1,17 +1,15 @@
 -- The plan of each command goes one way at most, and stops none for its words.
 use Rattle.std.proofs.Common.{ℕ, List}
 use Rattle.ats_base.specs.Outside.{ShelfTold}
-use Rattle.ats_commit.specs.Root.{root_of}
 use Rattle.ats_plan.specs.Runs.{IsStopped}
 use Rattle.ats_plan.specs.Sound.{IsSound}
 use Rattle.ats_plan.proofs.Public.{stops_otherwise}
 use Rattle.ats_console.specs.Words.{Command, Rank, Build, Root, Prove, Verify, Ask, Serve, Audit, Sweep, Trial, Migrate, Give, Fetch, AuditFetch, ProveBoth, Both, AuditBoth, Grow, Growth, AuditGrowth}
 use Rattle.ats_console.specs.declared.stops.Stop.TheVariants.{Usage, Shelf, Memory}
-use Rattle.ats_console.proofs.Public.{Sound, ends, fails, reads, not_shelf, not_memory, not_rejected, query_sound, ranking_sound, index_sound, file_sound}
+use Rattle.ats_console.proofs.Public.{Sound, ends, not_shelf, not_memory, ranking_sound, index_sound}
 use Rattle.ats_makers.proofs.Public.{rank_sound, build_sound, root_sound, prove_sound, migrate_sound, give_sound, prove_both_sound, grow_sound}
-use Rattle.ats_refusal.specs.Words.{text_refusal_words, both_refusal_words, growth_refusal_words}
-use Rattle.ats_checkers.proofs.Public.{verify_sound, fetch_sound, both_sound, growth_sound, text_file_one, both_file_one, growth_file_one}
-use Rattle.ats_auditors.proofs.Public.{audit_sound, sweep_sound, trial_sound, none_sound}
+use Rattle.ats_checkers.proofs.Public.{verify_sound, fetch_sound, both_sound, growth_sound}
+use Rattle.ats_auditors.proofs.Public.{audit_sound, audit_fetch_sound, audit_both_sound, audit_growth_sound, sweep_sound, trial_sound}
 use Rattle.ats_top.specs.Commands.{plan_of}
 
 command_sound : (H : List ℕ → List ℕ) (command : Command) → Sound (plan_of H command)
@@ -28,18 +26,13 @@ command_sound H (Trial words) = trial_sound H words
 command_sound H (Migrate words) = migrate_sound H words
 command_sound H (Give words) = give_sound H words
 command_sound H (Fetch words) = fetch_sound H words
-command_sound H (AuditFetch words) = index_sound (λ archive. reads (fails not_rejected) (λ bytes. file_sound text_refusal_words (text_file_one H (root_of H archive) words.doc bytes)
-    (λ proof. none_sound ends)))
+command_sound H (AuditFetch words) = audit_fetch_sound H words
 command_sound H (ProveBoth words) = prove_both_sound H words
 command_sound H (Both words) = both_sound H words
-command_sound H (AuditBoth words) = query_sound (λ query. index_sound (λ archive. reads (fails not_rejected) (λ bytes.
-    file_sound both_refusal_words (both_file_one H (root_of H archive) query bytes)
-    (λ proof. none_sound ends))))
+command_sound H (AuditBoth words) = audit_both_sound H words
 command_sound H (Grow words) = grow_sound H words
 command_sound H (Growth words) = growth_sound H words
-command_sound H (AuditGrowth words) = index_sound (λ older. index_sound (λ newer. reads (fails not_rejected) (λ bytes.
-    file_sound growth_refusal_words (growth_file_one H (root_of H older) (root_of H newer) bytes)
-    (λ growth. none_sound ends))))
+command_sound H (AuditGrowth words) = audit_growth_sound H words
 
 pub plan_sound : (H : List ℕ → List ℕ) (command : Command) → IsSound (plan_of H command)
 plan_sound H command = (command_sound H command).so

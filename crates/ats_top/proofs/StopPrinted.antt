@@ -20,37 +20,16 @@ use Rattle.ats_top.proofs.OneCommand.{its}
 
 -- one stop has status 6, one has 3, and none has 7
 only_memory : (stop : Stop) → status_of_stop stop ≡ 6 → stop ≡ Memory
-only_memory Usage is = absurd (omega (arith, is))
-only_memory Shelf is = absurd (omega (arith, is))
-only_memory (Input line) is = absurd (omega (arith, is))
-only_memory (Rejected line) is = absurd (omega (arith, is))
 only_memory Memory is = refl
-only_memory Link is = absurd (omega (arith, is))
-only_memory (Peer line) is = absurd (omega (arith, is))
-only_memory (Faults count) is = absurd (omega (arith, is))
-only_memory (Collision lines) is = absurd (omega (arith, is))
+only_memory other is = absurd (omega (arith, is))
 
 only_shelf : (stop : Stop) → status_of_stop stop ≡ 3 → stop ≡ Shelf
-only_shelf Usage is = absurd (omega (arith, is))
 only_shelf Shelf is = refl
-only_shelf (Input line) is = absurd (omega (arith, is))
-only_shelf (Rejected line) is = absurd (omega (arith, is))
-only_shelf Memory is = absurd (omega (arith, is))
-only_shelf Link is = absurd (omega (arith, is))
-only_shelf (Peer line) is = absurd (omega (arith, is))
-only_shelf (Faults count) is = absurd (omega (arith, is))
-only_shelf (Collision lines) is = absurd (omega (arith, is))
+only_shelf other is = absurd (omega (arith, is))
 
 never_unprinted : (stop : Stop) → status_of_stop stop ≢ 7
-never_unprinted Usage = omega arith
-never_unprinted Shelf = omega arith
-never_unprinted (Input line) = omega arith
-never_unprinted (Rejected line) = omega arith
 never_unprinted Memory = omega arith
-never_unprinted Link = omega arith
-never_unprinted (Peer line) = omega arith
-never_unprinted (Faults count) = omega arith
-never_unprinted (Collision lines) = omega arith
+never_unprinted other = omega arith
 
 module _ (H : List ℕ → List ℕ) (said : List (List ℕ)) (before now : Outside) (command : Command) (stop : Stop)
     (is : command_of said ≡ Some command) (sound : IsSound (plan_of H command)) (known : IsKnown before.shelf.files (plan_of H command))

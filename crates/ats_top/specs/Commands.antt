@@ -16,19 +16,16 @@ use Rattle.ats_auditors.specs.Commands.Trial.{trial_plan}
 use Rattle.ats_makers.specs.Commands.Migrate.{migrate_plan}
 use Rattle.ats_makers.specs.Commands.Give.{give_plan}
 use Rattle.ats_checkers.specs.Commands.Fetch.{fetch_plan}
-use Rattle.ats_top.specs.Commands.AuditFetch.{audit_fetch_plan}
+use Rattle.ats_auditors.specs.Commands.AuditFetch.{audit_fetch_plan}
 use Rattle.ats_makers.specs.Commands.ProveBoth.{prove_both_plan}
 use Rattle.ats_checkers.specs.Commands.Both.{both_plan}
-use Rattle.ats_top.specs.Commands.AuditBoth.{audit_both_plan}
+use Rattle.ats_auditors.specs.Commands.AuditBoth.{audit_both_plan}
 use Rattle.ats_makers.specs.Commands.Grow.{grow_plan}
 use Rattle.ats_checkers.specs.Commands.Growth.{growth_plan}
-use Rattle.ats_top.specs.Commands.AuditGrowth.{audit_growth_plan}
+use Rattle.ats_auditors.specs.Commands.AuditGrowth.{audit_growth_plan}
 use Rattle.ats_console.specs.declared.stops.Stop.{Stop}
 pub mod Ask
 pub mod Serve
-pub mod AuditFetch
-pub mod AuditBoth
-pub mod AuditGrowth
 
 abbrev pub plan_of : (List ℕ → List ℕ) → Command → Plan Stop
 plan_of H (command.Rank words) = rank_plan words

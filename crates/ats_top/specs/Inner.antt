@@ -2,9 +2,6 @@
 
 pub mod Conversation
 pub mod Links
-pub mod Documents
 pub mod Outcome
 pub mod Serving
 pub mod Stops
-pub mod Texts
-pub mod Growths

@@ -92,7 +92,8 @@ fn announce<K: Sink>(alloc: Global, number: u32, served: Served, out: &mut K) ->
 }
 
 /// Serves `connections` links from the open door, one after another, and passes a line for each to the sink. Returns
-/// how many ended by a fault.
+/// how many ended by a fault. Memory for a link's line is taken after the link is given back, so on every status as many
+/// links are out as before.
 pub(crate) fn serve_links<H: Hash32, K: Sink, D: Door>(
     alloc: Global,
     index: &Index<H>,

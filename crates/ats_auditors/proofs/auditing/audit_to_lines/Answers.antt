@@ -1,7 +1,21 @@
+use Rattle.std.proofs.Common.{inl, inr, ap, ◌∙◌}
+use Rattle.ats_client.proofs.Public.{extract-collides}
+use Rattle.ats_refusal.specs.declared.proof.Rejection.TheVariants.{Shape, Check}
+use Rattle.ats_console.specs.declared.stops.Stop.TheVariants.{Collision}
+use Rattle.ats_auditors.specs.Audited.{proof_audit}
+use Rattle.ats_auditors.proofs.AuditEnds.{collision_stops}
 use Rattle.ats_auditors.proofs.auditing.audit_to_lines.Goals as goal
 
-pub returns-clause-ok : goal.returns-clause-ok
-returns-clause-ok g c = c.verdict_to_lines.ensures.ok g.H.HashKind.hash c.args.index.now c.args.query.now c.args.top c.args.bytes.now c.in-Ok.ensures
+pub returns-in-BadShape-clause-stop : goal.returns-in-BadShape-clause-stop
+returns-in-BadShape-clause-stop g c = inr (inl (Shape c.in-BadShape.fault, (rw c.in-BadShape.is at c.in-Ok.ensures), c.rejected.ensures))
 
-pub returns-clause-stop : goal.returns-clause-stop
-returns-clause-stop g c = c.verdict_to_lines.ensures.stop g.H.HashKind.hash c.args.index.now c.args.query.now c.args.top c.args.bytes.now c.in-Ok.ensures
+pub returns-in-Refused-clause-stop : goal.returns-in-Refused-clause-stop
+returns-in-Refused-clause-stop g c = inr (inl (Check c.in-Refused.refusal, (rw c.in-Refused.is at c.in-Ok.ensures), c.rejected-in-Refused.ensures))
+
+pub returns-in_ok-lines-in-Collision-clause-stop : goal.returns-in_ok-lines-in-Collision-clause-stop
+returns-in_ok-lines-in-Collision-clause-stop g c =
+    let H = g.H.HashKind.hash in
+    let found = rw c.in-Collision.is at c.in-Ok.ensures in
+    let lines = rw (c.bytes.ensures.value, c.bytes-in-Collision.ensures.value) at c.in_ok-lines-in-Collision.ensures in
+    collision_stops H (proof_audit H c.args.index.now c.args.query.now c.args.top) c.args.bytes.now found.proof _ _ found.accepted found.found
+    (extract-collides H c.args.index.now c.args.query.now found.proof _ found.found) (ap Collision (c.made.ensures ∙ lines))

@@ -1,11 +1,5 @@
-use Rattle.std.proofs.Common.{ℕ, [], arith}
-use Rattle.std.proofs.lemmas.Result.{err_from_is_err_and}
-use Rattle.ats_plan.specs.Runs.{IsStopped}
-use Rattle.ats_console.specs.Steps.{no_more}
-use Rattle.ats_auditors.specs.Inner.Sweeping.{entry_names}
-use Rattle.ats_auditors.specs.Commands.Sweep.{gathers}
-use Rattle.ats_console.specs.declared.stops.Stop.TheVariants.{Shelf, Memory}
-use Rattle.ats_console.proofs.Public.{passed_on}
+use Rattle.std.proofs.Common.{ℕ, arith}
+use Rattle.ats_console.proofs.Public.{passed}
 use Rattle.ats_auditors.proofs.GatherSteps.{none_so_far, stops_at, passes_at, memory_at, so_far_more, gathered_all}
 use Rattle.ats_auditors.proofs.gathering.gather_all.Goals as goal
 
@@ -15,9 +9,7 @@ loop-entry-init g c = rw c.new-proofs.ensures.items (none_so_far (g.S.Shelf.told
 pub returns-in_err-proof-clause-stop : goal.returns-in_err-proof-clause-stop
 returns-in_err-proof-clause-stop g c =
     let i : ℕ = c.loop-entry.entry-index in
-    let told = err_from_is_err_and c.from_residual.result c.from_residual.ensures.1 in
-    passed_on (IsStopped Shelf Memory (gathers [] (entry_names c.args.entries.now) (λ all. no_more)) (g.S.Shelf.told c.args.shelf.now) (g.S.Shelf.told c.proof_or_long.new.shelf))
-    _ told.0 _ told.1 told.2
+    passed _ c.from_residual.result c.from_residual.ensures.1
     (stops_at (g.S.Shelf.told c.args.shelf.now) (g.S.Shelf.told c.loop-entry.shelf) c.args.entries.now i c.entry-item.result c.loop-entry-test.true c.entry-item.is
     c.loop-entry.proofs.items c.loop-entry.total c.loop-entry.invariant (g.S.Shelf.told c.proof_or_long.new.shelf) c.in_err-proof.field-0.0 c.in_err-proof.ensures.stop)
 
@@ -31,9 +23,7 @@ returns-then-total-gt-PROOFS_LIMIT-clause-stop g c =
 pub returns-in_err-push-clause-stop : goal.returns-in_err-push-clause-stop
 returns-in_err-push-clause-stop g c =
     let i : ℕ = c.loop-entry.entry-index in
-    let told = err_from_is_err_and c.from_residual-in_err-push.result c.from_residual-in_err-push.ensures.1 in
-    passed_on (IsStopped Shelf Memory (gathers [] (entry_names c.args.entries.now) (λ all. no_more)) (g.S.Shelf.told c.args.shelf.now) (g.S.Shelf.told c.proof_or_long.new.shelf))
-    _ told.0 Memory told.1 told.2
+    passed _ c.from_residual-in_err-push.result c.from_residual-in_err-push.ensures.1
     (memory_at (g.S.Shelf.told c.args.shelf.now) (g.S.Shelf.told c.loop-entry.shelf) c.args.entries.now i c.entry-item.result c.loop-entry-test.true c.entry-item.is
     c.loop-entry.proofs.items c.loop-entry.total c.loop-entry.invariant (g.S.Shelf.told c.proof_or_long.new.shelf) c.in_ok-proof.proof c.in_ok-proof.ensures.ok
     c.bytes.result.now c.bytes.ensures)

@@ -1,5 +1,4 @@
-use Rattle.std.proofs.Common.{◌≡◌, ◌∙◌, List, [], length, sym, subst}
-use Rattle.std.proofs.lemmas.Result.{err_from_is_err_and}
+use Rattle.std.proofs.Common.{◌≡◌, List, [], length, refl, sym, subst}
 use Rattle.std.specs.List.{AllZip}
 use Rattle.ats_audit.specs.Sweeps.{IsVerdictOf}
 use Rattle.ats_plan.specs.Runs.{IsDone, IsStopped}
@@ -9,7 +8,7 @@ use Rattle.ats_auditors.specs.Commands.Sweep.{gathers, sweeps}
 use Rattle.ats_auditors.specs.declared.gathering.Gathered.{Gathered}
 use Rattle.ats_auditors.specs.declared.listing.Entry.{Entry}
 use Rattle.ats_console.specs.declared.stops.Stop.TheVariants.{Shelf, Memory}
-use Rattle.ats_console.proofs.Public.{passed_on}
+use Rattle.ats_console.proofs.Public.{passed}
 use Rattle.ats_auditors.proofs.Gathers.{has_gathers}
 use Rattle.ats_auditors.proofs.JobSteps.{as_many, as_many_verdicts}
 use Rattle.ats_auditors.proofs.SweepSteps.{done_of, jobs_of, verdicts_of, list_stops, gather_stops, runs_out, swept_right, swept_stops}
@@ -17,41 +16,36 @@ use Rattle.ats_auditors.proofs.sweeping.sweep_to_lines.Goals as goal
 
 pub returns-in_err-entries-clause-stop : goal.returns-in_err-entries-clause-stop
 returns-in_err-entries-clause-stop g c words =
-    let told = err_from_is_err_and c.from_residual.result c.from_residual.ensures.1 in
-    passed_on (IsStopped Shelf Memory (sweeps g.H.HashKind.hash words c.args.index.now c.args.list.now) (g.S.Shelf.told c.args.shelf.now) (g.S.Shelf.told c.args.shelf.now)) _ told.0 _ told.1 told.2
+    passed _ c.from_residual.result c.from_residual.ensures.1
     (list_stops g.H.HashKind.hash words c.args.index.now c.args.list.now (g.S.Shelf.told c.args.shelf.now) c.in_err-entries.field-0.0 c.in_err-entries.ensures.stop)
 
 pub returns-in_err-proofs-clause-stop : goal.returns-in_err-proofs-clause-stop
 returns-in_err-proofs-clause-stop g c words =
     let stops = subst (λ (es : List Entry). IsStopped Shelf Memory (gathers [] (entry_names es) (λ proofs. no_more)) (g.S.Shelf.told c.args.shelf.now) (g.S.Shelf.told c.gather_all.new.shelf) c.in_err-proofs.field-0.0)
     c.as_slice.ensures.value c.in_err-proofs.ensures.stop in
-    let told = err_from_is_err_and c.from_residual-in_err-proofs.result c.from_residual-in_err-proofs.ensures.1 in
-    passed_on (IsStopped Shelf Memory (sweeps g.H.HashKind.hash words c.args.index.now c.args.list.now) (g.S.Shelf.told c.args.shelf.now) (g.S.Shelf.told c.gather_all.new.shelf)) _ told.0 _ told.1 told.2
+    passed _ c.from_residual-in_err-proofs.result c.from_residual-in_err-proofs.ensures.1
     (gather_stops g.H.HashKind.hash words c.args.index.now c.args.list.now c.in_ok-entries.entries.items c.in_ok-entries.ensures.ok c.in_ok-entries.ensures.some c.in_ok-entries.ensures.few (g.S.Shelf.told c.args.shelf.now) (g.S.Shelf.told c.gather_all.new.shelf) c.in_err-proofs.field-0.0 stops)
 
 pub returns-in_err-jobs-clause-stop : goal.returns-in_err-jobs-clause-stop
 returns-in_err-jobs-clause-stop g c words =
     let done : IsDone (gathers [] (entry_names c.in_ok-entries.entries.items) (comes_to c.in_ok-proofs.proofs.items)) (g.S.Shelf.told c.args.shelf.now) (g.S.Shelf.told c.gather_all.new.shelf) [] =
     done_of (g.S.Shelf.told c.args.shelf.now) (g.S.Shelf.told c.gather_all.new.shelf) c.in_ok-proofs.proofs.items _ _ c.as_slice.ensures.value c.in_ok-proofs.ensures.ok in
-    let told = err_from_is_err_and c.from_residual-in_err-jobs.result c.from_residual-in_err-jobs.ensures.1 in
-    passed_on (IsStopped Shelf Memory (sweeps g.H.HashKind.hash words c.args.index.now c.args.list.now) (g.S.Shelf.told c.args.shelf.now) (g.S.Shelf.told c.gather_all.new.shelf)) _ told.0 Memory told.1 told.2
-    (runs_out g.H.HashKind.hash words c.args.index.now c.args.list.now c.in_ok-entries.entries.items c.in_ok-entries.ensures.ok c.in_ok-entries.ensures.some c.in_ok-entries.ensures.few (g.S.Shelf.told c.args.shelf.now) (g.S.Shelf.told c.gather_all.new.shelf) c.in_ok-proofs.proofs.items done)
+    passed _ c.from_residual-in_err-jobs.result c.from_residual-in_err-jobs.ensures.1
+    (runs_out g.H.HashKind.hash words c.args.index.now c.args.list.now c.in_ok-entries.entries.items c.in_ok-entries.ensures.ok c.in_ok-entries.ensures.some c.in_ok-entries.ensures.few (g.S.Shelf.told c.args.shelf.now) (g.S.Shelf.told c.gather_all.new.shelf) c.in_ok-proofs.proofs.items done refl)
 
 pub returns-in_err-verdicts-clause-stop : goal.returns-in_err-verdicts-clause-stop
 returns-in_err-verdicts-clause-stop g c words =
     let done : IsDone (gathers [] (entry_names c.in_ok-entries.entries.items) (comes_to c.in_ok-proofs.proofs.items)) (g.S.Shelf.told c.args.shelf.now) (g.S.Shelf.told c.gather_all.new.shelf) [] =
     done_of (g.S.Shelf.told c.args.shelf.now) (g.S.Shelf.told c.gather_all.new.shelf) c.in_ok-proofs.proofs.items _ _ c.as_slice.ensures.value c.in_ok-proofs.ensures.ok in
-    let told = err_from_is_err_and c.from_residual-in_err-verdicts.result c.from_residual-in_err-verdicts.ensures.1 in
-    passed_on (IsStopped Shelf Memory (sweeps g.H.HashKind.hash words c.args.index.now c.args.list.now) (g.S.Shelf.told c.args.shelf.now) (g.S.Shelf.told c.gather_all.new.shelf)) _ told.0 Memory told.1 (told.2 ∙ c.in_err-verdicts.ensures.stop)
-    (runs_out g.H.HashKind.hash words c.args.index.now c.args.list.now c.in_ok-entries.entries.items c.in_ok-entries.ensures.ok c.in_ok-entries.ensures.some c.in_ok-entries.ensures.few (g.S.Shelf.told c.args.shelf.now) (g.S.Shelf.told c.gather_all.new.shelf) c.in_ok-proofs.proofs.items done)
+    passed _ c.from_residual-in_err-verdicts.result c.from_residual-in_err-verdicts.ensures.1
+    (runs_out g.H.HashKind.hash words c.args.index.now c.args.list.now c.in_ok-entries.entries.items c.in_ok-entries.ensures.ok c.in_ok-entries.ensures.some c.in_ok-entries.ensures.few (g.S.Shelf.told c.args.shelf.now) (g.S.Shelf.told c.gather_all.new.shelf) c.in_ok-proofs.proofs.items done c.in_err-verdicts.ensures.stop)
 
 pub returns-in_err-report_of-clause-stop : goal.returns-in_err-report_of-clause-stop
 returns-in_err-report_of-clause-stop g c words =
     let done : IsDone (gathers [] (entry_names c.in_ok-entries.entries.items) (comes_to c.in_ok-proofs.proofs.items)) (g.S.Shelf.told c.args.shelf.now) (g.S.Shelf.told c.gather_all.new.shelf) [] =
     done_of (g.S.Shelf.told c.args.shelf.now) (g.S.Shelf.told c.gather_all.new.shelf) c.in_ok-proofs.proofs.items _ _ c.as_slice.ensures.value c.in_ok-proofs.ensures.ok in
-    let told = err_from_is_err_and c.from_residual-in_err-report_of.result c.from_residual-in_err-report_of.ensures.1 in
-    passed_on (IsStopped Shelf Memory (sweeps g.H.HashKind.hash words c.args.index.now c.args.list.now) (g.S.Shelf.told c.args.shelf.now) (g.S.Shelf.told c.gather_all.new.shelf)) _ told.0 Memory told.1 told.2
-    (runs_out g.H.HashKind.hash words c.args.index.now c.args.list.now c.in_ok-entries.entries.items c.in_ok-entries.ensures.ok c.in_ok-entries.ensures.some c.in_ok-entries.ensures.few (g.S.Shelf.told c.args.shelf.now) (g.S.Shelf.told c.gather_all.new.shelf) c.in_ok-proofs.proofs.items done)
+    passed _ c.from_residual-in_err-report_of.result c.from_residual-in_err-report_of.ensures.1
+    (runs_out g.H.HashKind.hash words c.args.index.now c.args.list.now c.in_ok-entries.entries.items c.in_ok-entries.ensures.ok c.in_ok-entries.ensures.some c.in_ok-entries.ensures.few (g.S.Shelf.told c.args.shelf.now) (g.S.Shelf.told c.gather_all.new.shelf) c.in_ok-proofs.proofs.items done refl)
 
 pub jobs-requires : goal.jobs-requires
 jobs-requires g c =

@@ -1,11 +1,11 @@
 use Rattle.std.proofs.Common.{◌≡◌, ◌+◌, ◌++◌, ◌∷◌, [], ℕ, List, length, sym, ap, subst, ◌∙◌, arith}
 use Rattle.std.proofs.lemmas.List.{length-append}
-use Rattle.std.proofs.lemmas.Result.{err_from_is_err_and}
 use Rattle.ats_terms.specs.Query.{IsQueryOf}
 use Rattle.ats_impact.specs.Trial.{trial_query}
 use Rattle.ats_console.specs.Stops.{stop_of_query}
 use Rattle.ats_auditors.specs.Inner.Trial.{AreTrialQueries, IsTrialStop}
-use Rattle.ats_auditors.proofs.Tried.{are_queries, passed_on, queries_more, query_stops}
+use Rattle.ats_console.proofs.Public.{passed}
+use Rattle.ats_auditors.proofs.Tried.{are_queries, queries_more, query_stops}
 use Rattle.ats_auditors.proofs.trials.queries.Goals as goal
 
 pub returns-in_err-query-clause-stop : goal.returns-in_err-query-clause-stop
@@ -14,8 +14,7 @@ returns-in_err-query-clause-stop c H =
     let i : ℕ = c.loop-i.i in
     let fault = c.in_err-query.field-0.0 in
     let stops = query_stops H number i fault (omega arith) (are_queries number c.loop-i.queries.items i c.loop-i.invariant.0 c.loop-i.invariant.1) c.in_err-query.ensures.fault in
-    let told = err_from_is_err_and c.from_residual.result c.from_residual.ensures.1 in
-    passed_on (IsTrialStop H number) _ (stop_of_query fault) told.0 told.1 told.2 stops
+    passed _ c.from_residual.result c.from_residual.ensures.1 stops
 
 pub loop-i-preserved : goal.loop-i-preserved
 loop-i-preserved c =

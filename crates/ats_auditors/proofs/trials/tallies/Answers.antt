@@ -1,9 +1,9 @@
 use Rattle.std.proofs.Common.{ℕ, List}
-use Rattle.std.proofs.lemmas.Result.{err_from_is_err_and}
 use Rattle.ats_proof.specs.declared.record.Algorithm.TheVariants.{Tra, Tnra}
 use Rattle.ats_auditors.specs.Trial.{IsTried}
 use Rattle.ats_auditors.specs.Inner.Trial.{IsTryStop, IsTriesStop}
-use Rattle.ats_auditors.proofs.Tried.{at_query, first_more, passed_on, stops_at_tra, stops_at_tnra}
+use Rattle.ats_console.proofs.Public.{passed}
+use Rattle.ats_auditors.proofs.Tried.{at_query, first_more, stops_at_tra, stops_at_tnra}
 use Rattle.ats_auditors.proofs.trials.tallies.Goals as goal
 
 pub returns-in_err-count-clause-stop : goal.returns-in_err-count-clause-stop
@@ -15,8 +15,7 @@ returns-in_err-count-clause-stop g c =
     let stop = c.in_err-count.field-0.0 in
     let own = at_query queries i c.query-item.result (λ (q : List (List ℕ × ℕ)). IsTryStop H archive q Tra stop) c.loop-query-test.true c.query-item.is c.in_err-count.ensures.stop in
     let fault = stops_at_tra H archive queries i c.loop-query.tra c.loop-query.tnra stop c.loop-query-test.true c.loop-query.invariant.tra c.loop-query.invariant.tnra own in
-    let told = err_from_is_err_and c.from_residual.result c.from_residual.ensures.1 in
-    passed_on (IsTriesStop H archive queries) _ stop told.0 told.1 told.2 fault
+    passed _ c.from_residual.result c.from_residual.ensures.1 fault
 
 pub returns-in_err-count-2-clause-stop : goal.returns-in_err-count-2-clause-stop
 returns-in_err-count-2-clause-stop g c =
@@ -30,8 +29,7 @@ returns-in_err-count-2-clause-stop g c =
     let tra = first_more H archive queries Tra i c.loop-query.tra c.count.new.tally done.0 c.loop-query.invariant.tra tried done.2 in
     let own = at_query queries i c.query-item.result (λ (q : List (List ℕ × ℕ)). IsTryStop H archive q Tnra stop) c.loop-query-test.true c.query-item.is c.in_err-count-2.ensures.stop in
     let fault = stops_at_tnra H archive queries i c.count.new.tally c.loop-query.tnra stop c.loop-query-test.true tra c.loop-query.invariant.tnra own in
-    let told = err_from_is_err_and c.from_residual-in_err-count-2.result c.from_residual-in_err-count-2.ensures.1 in
-    passed_on (IsTriesStop H archive queries) _ stop told.0 told.1 told.2 fault
+    passed _ c.from_residual-in_err-count-2.result c.from_residual-in_err-count-2.ensures.1 fault
 
 pub loop-query-preserved : goal.loop-query-preserved
 loop-query-preserved g c =

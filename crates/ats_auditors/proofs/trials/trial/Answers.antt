@@ -1,24 +1,19 @@
-use Rattle.std.proofs.lemmas.Result.{err_from_is_err_and}
-use Rattle.ats_plan.specs.Runs.{IsStopped}
-use Rattle.ats_auditors.specs.Commands.Trial.{trial_plan}
-use Rattle.ats_console.specs.declared.stops.Stop.TheVariants.{Shelf, Memory}
-use Rattle.ats_auditors.proofs.Tried.{passed_on, trial_stopped, tried_ok, tried_stop}
+use Rattle.ats_console.proofs.Public.{passed}
+use Rattle.ats_auditors.proofs.Tried.{trial_stopped, tried_ok, tried_stop}
 use Rattle.ats_auditors.proofs.trials.trial.Goals as goal
 
 pub returns-in_err-queries-clause-stop : goal.returns-in_err-queries-clause-stop
 returns-in_err-queries-clause-stop g c shelf =
     let H = g.H.HashKind.hash in
     let number = c.args.number in
-    let told = err_from_is_err_and c.from_residual-in_err-queries.result c.from_residual-in_err-queries.ensures.1 in
-    passed_on (IsStopped Shelf Memory (trial_plan H (record { number = number })) shelf shelf) _ c.in_err-queries.field-0.0 told.0 told.1 told.2
+    passed _ c.from_residual-in_err-queries.result c.from_residual-in_err-queries.ensures.1
     (trial_stopped H number shelf c.in_err-queries.field-0.0 (c.in_err-queries.ensures.stop H))
 
 pub returns-in_err-index-clause-stop : goal.returns-in_err-index-clause-stop
 returns-in_err-index-clause-stop g c shelf =
     let H = g.H.HashKind.hash in
     let number = c.args.number in
-    let told = err_from_is_err_and c.from_residual-in_err-index.result c.from_residual-in_err-index.ensures.1 in
-    passed_on (IsStopped Shelf Memory (trial_plan H (record { number = number })) shelf shelf) _ c.in_err-index.field-0.0 told.0 told.1 told.2
+    passed _ c.from_residual-in_err-index.result c.from_residual-in_err-index.ensures.1
     (trial_stopped H number shelf c.in_err-index.field-0.0 c.in_err-index.ensures.stop)
 
 pub returns-clause-ok : goal.returns-clause-ok

@@ -1,16 +1,14 @@
 use Rattle.std.proofs.Common.{◌≡◌, ◌⊎◌, ℕ, List, Vec, Global, ap, inr, ◌∙◌}
-use Rattle.std.proofs.lemmas.Result.{err_from_is_err_and}
 use Rattle.ats_auditors.specs.Inner.Trial.{IsTriesStop}
 use Rattle.ats_auditors.specs.Trial.{lines_of_trial}
 use Rattle.ats_console.specs.declared.stops.Stop.{Stop}
 use Rattle.ats_console.specs.declared.stops.Stop.TheVariants.{Memory}
-use Rattle.ats_auditors.proofs.Tried.{passed_on}
+use Rattle.ats_console.proofs.Public.{passed}
 use Rattle.ats_auditors.proofs.trials.try_to_lines.Goals as goal
 
 pub returns-in_err-tra-clause-stop : goal.returns-in_err-tra-clause-stop
 returns-in_err-tra-clause-stop g c =
-    let told = err_from_is_err_and c.from_residual.result c.from_residual.ensures.1 in
-    passed_on (λ (stop : Stop). (stop ≡ Memory) ⊎ IsTriesStop g.H.HashKind.hash c.args.index.now c.args.queries.now stop) _ c.in_err-tra.field-0.0 told.0 told.1 told.2 (inr c.in_err-tra.ensures.stop)
+    passed _ c.from_residual.result c.from_residual.ensures.1 (inr c.in_err-tra.ensures.stop)
 
 pub returns-clause-ok : goal.returns-clause-ok
 returns-clause-ok g c =

@@ -1,26 +1,32 @@
-use Rattle.std.proofs.Common.{vec_items, sym, subst}
-use Rattle.std.proofs.lemmas.Result.{err_from_is_err_and}
-use Rattle.ats_plan.specs.Files.{Files, IsFile}
+use Rattle.std.proofs.Common.{vec_items}
+use Rattle.ats_growth.proofs.Public.{told}
 use Rattle.ats_plan.proofs.Public.{leads_none}
-use Rattle.ats_console.proofs.Public.{passed_on, leads_bytes, has_bytes, same_bytes, at_bytes}
-use Rattle.ats_checkers.proofs.GrowthEnds.{growth_stops, growth_end}
+use Rattle.ats_console.specs.Words.{GrowthWords}
+use Rattle.ats_console.specs.Kinds.{growth_kind}
+use Rattle.ats_console.proofs.Public.{passed, leads_bytes, at_bytes, still_bytes, check_stops, check_end}
+use Rattle.ats_checkers.specs.Commands.Growth.{IsGrowthChecked}
 use Rattle.ats_checkers.proofs.growths.growth.Goals as goal
 
 pub returns-in_err-bytes-clause-stop : goal.returns-in_err-bytes-clause-stop
-returns-in_err-bytes-clause-stop g c =
-    let told = err_from_is_err_and c.from_residual.result c.from_residual.ensures.1 in
-    passed_on _ _ told.0 _ told.1 told.2
-    (at_bytes c.in_err-bytes.ensures.stop)
+returns-in_err-bytes-clause-stop g c = passed _ c.from_residual.result c.from_residual.ensures.1 (at_bytes c.in_err-bytes.ensures.stop)
 
 pub returns-clause-stop : goal.returns-clause-stop
 returns-clause-stop g c =
-    let leads = leads_bytes leads_none c.in_ok-bytes.ensures.ok in
-    growth_stops g.H.HashKind.hash (record { old = c.args.old.now; new = c.args.new.now; file = c.args.file.now }) _ _ c.in_ok-bytes.bytes leads
-    c.growth_to_line.result (rw c.as_slice.ensures at c.growth_to_line.ensures.stop)
+    check_stops (leads_bytes leads_none c.in_ok-bytes.ensures.ok) c.growth_to_line.result (rw c.as_slice.ensures at c.growth_to_line.ensures.stop)
 
 pub returns-clause-ok : goal.returns-clause-ok
 returns-clause-ok g c =
-    let leads = leads_bytes leads_none c.in_ok-bytes.ensures.ok in
-    let file = subst (λ (files : Files). IsFile files c.args.file.now 4096 c.in_ok-bytes.bytes) (sym (same_bytes c.in_ok-bytes.ensures.ok)) (has_bytes c.in_ok-bytes.ensures.ok) in
-    growth_end g.H.HashKind.hash (record { old = c.args.old.now; new = c.args.new.now; file = c.args.file.now }) _ _ c.in_ok-bytes.bytes leads file
-    g.H.HashKind.sized vec_items c.growth_to_line.result (rw c.as_slice.ensures at c.growth_to_line.ensures.ok)
+    let H = g.H.HashKind.hash in
+    let words : GrowthWords = record { old = c.args.old.now; new = c.args.new.now; file = c.args.file.now } in
+    let bytes = c.in_ok-bytes.bytes in
+    check_end (growth_kind H words.old words.new) bytes (λ files text. IsGrowthChecked H files words text) (leads_bytes leads_none c.in_ok-bytes.ensures.ok)
+    vec_items c.growth_to_line.result (rw c.as_slice.ensures at c.growth_to_line.ensures.ok) (λ text is. (
+      is.0,
+      is.1,
+      record {
+        checked = record { bytes = bytes; file = still_bytes c.in_ok-bytes.ensures.ok; value = is.0; accepted = is.1 };
+        headline = is.2;
+        audited = told H g.H.HashKind.sized words.old words.new bytes is.0 is.1.says is.1.accepts;
+        printed = is.3;
+      },
+    ))

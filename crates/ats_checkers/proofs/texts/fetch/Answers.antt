@@ -1,26 +1,33 @@
-use Rattle.std.proofs.Common.{◌^◌, vec_items, sym, subst}
-use Rattle.std.proofs.lemmas.Result.{err_from_is_err_and}
-use Rattle.ats_plan.specs.Files.{Files, IsFile}
+use Rattle.std.proofs.Common.{vec_items}
+use Rattle.ats_inclusion.proofs.Public.{in_range, own_or_collides}
+use Rattle.ats_fetch.proofs.Public.{told}
 use Rattle.ats_plan.proofs.Public.{leads_none}
-use Rattle.ats_console.proofs.Public.{passed_on, leads_bytes, has_bytes, same_bytes, at_bytes}
-use Rattle.ats_checkers.proofs.TextEnds.{fetch_stops, fetch_end}
+use Rattle.ats_console.specs.Words.{FetchWords}
+use Rattle.ats_console.specs.Kinds.{text_kind}
+use Rattle.ats_console.proofs.Public.{passed, leads_bytes, at_bytes, still_bytes, check_stops, check_end}
+use Rattle.ats_checkers.specs.Commands.Fetch.{IsFetched}
 use Rattle.ats_checkers.proofs.texts.fetch.Goals as goal
 
 pub returns-in_err-bytes-clause-stop : goal.returns-in_err-bytes-clause-stop
-returns-in_err-bytes-clause-stop g c =
-    let told = err_from_is_err_and c.from_residual.result c.from_residual.ensures.1 in
-    passed_on _ _ told.0 _ told.1 told.2
-    (at_bytes c.in_err-bytes.ensures.stop)
+returns-in_err-bytes-clause-stop g c = passed _ c.from_residual.result c.from_residual.ensures.1 (at_bytes c.in_err-bytes.ensures.stop)
 
 pub returns-clause-stop : goal.returns-clause-stop
 returns-clause-stop g c =
-    let leads = leads_bytes leads_none c.in_ok-bytes.ensures.ok in
-    fetch_stops g.H.HashKind.hash (record { root = c.args.root.now; doc = c.args.doc; file = c.args.file.now }) _ _ c.in_ok-bytes.bytes leads
-    c.fetch_to_text.result (rw c.as_slice.ensures at c.fetch_to_text.ensures.stop)
+    check_stops (leads_bytes leads_none c.in_ok-bytes.ensures.ok) c.fetch_to_text.result (rw c.as_slice.ensures at c.fetch_to_text.ensures.stop)
 
 pub returns-clause-ok : goal.returns-clause-ok
 returns-clause-ok g c =
-    let leads = leads_bytes leads_none c.in_ok-bytes.ensures.ok in
-    let file = subst (λ (files : Files). IsFile files c.args.file.now (2 ^ 21) c.in_ok-bytes.bytes) (sym (same_bytes c.in_ok-bytes.ensures.ok)) (has_bytes c.in_ok-bytes.ensures.ok) in
-    fetch_end g.H.HashKind.hash (record { root = c.args.root.now; doc = c.args.doc; file = c.args.file.now }) _ _ c.in_ok-bytes.bytes leads file
-    g.H.HashKind.sized vec_items c.fetch_to_text.result (rw c.as_slice.ensures at c.fetch_to_text.ensures.ok)
+    let H = g.H.HashKind.hash in
+    let words : FetchWords = record { root = c.args.root.now; doc = c.args.doc; file = c.args.file.now } in
+    let bytes = c.in_ok-bytes.bytes in
+    check_end (text_kind H words.root words.doc) bytes (λ files text. IsFetched H files words text) (leads_bytes leads_none c.in_ok-bytes.ensures.ok)
+    vec_items c.fetch_to_text.result (rw c.as_slice.ensures at c.fetch_to_text.ensures.ok) (λ text is. (
+      is.0,
+      is.1,
+      record {
+        checked = record { bytes = bytes; file = still_bytes c.in_ok-bytes.ensures.ok; value = is.0; accepted = is.1 };
+        headline = own_or_collides H g.H.HashKind.sized words.root words.doc is.0 (in_range bytes is.0 is.1.says) is.1.accepts;
+        audited = told H g.H.HashKind.sized words.root words.doc bytes is.0 is.1.says is.1.accepts;
+        printed = is.2;
+      },
+    ))

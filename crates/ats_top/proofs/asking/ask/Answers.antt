@@ -2,8 +2,7 @@ use Rattle.std.proofs.Common.{Ok, inr, vec_items}
 use Rattle.ats_console.specs.Words.{AskWords}
 use Rattle.ats_top.specs.Conversation.{Converses}
 use Rattle.ats_top.specs.Asked.{question_of}
-use Rattle.std.proofs.lemmas.Result.{err_from_is_err_and}
-use Rattle.ats_console.proofs.Public.{passed_on, rows_of_range, asks_of}
+use Rattle.ats_console.proofs.Public.{passed, rows_of_range, asks_of}
 use Rattle.ats_top.proofs.AskEnds.{whole_reply, refused_stops, bytes_stops, bytes_end, rows_refused, query_refused, unheard_stops}
 use Rattle.ats_top.proofs.asking.ask.Goals as goal
 
@@ -53,19 +52,16 @@ returns-clause-calls g c =
 
 pub returns-in_err-rows-clause-stop : goal.returns-in_err-rows-clause-stop
 returns-in_err-rows-clause-stop g c =
-    let told = err_from_is_err_and c.from_residual.result c.from_residual.ensures.1 in
-    passed_on _ _ told.0 _ told.1 told.2
+    passed _ c.from_residual.result c.from_residual.ensures.1
     (rows_refused g.H.HashKind.hash (g.C.Caller.told c.args.caller.now) (g.C.Caller.told c.args.caller.now) (record { root = c.args.root.now; algorithm = c.args.algorithm; r = c.args.r; query = c.args.query.now; address = c.args.address.now }) c.in_err-rows.field-0.0.r c.in_err-rows.ensures.out)
 
 pub returns-in_err-asked-clause-stop : goal.returns-in_err-asked-clause-stop
 returns-in_err-asked-clause-stop g c =
-    let told = err_from_is_err_and c.from_residual-in_err-asked.result c.from_residual-in_err-asked.ensures.1 in
-    passed_on _ _ told.0 _ told.1 told.2
+    passed _ c.from_residual-in_err-asked.result c.from_residual-in_err-asked.ensures.1
     (query_refused g.H.HashKind.hash (g.C.Caller.told c.args.caller.now) (g.C.Caller.told c.args.caller.now) (record { root = c.args.root.now; algorithm = c.args.algorithm; r = c.args.r; query = c.args.query.now; address = c.args.address.now }) (rows_of_range c.args.r c.in_ok-rows.ensures.within) c.in_err-asked.field-0.0 c.in_err-asked.ensures.fault)
 
 pub returns-in_err-fed-clause-stop : goal.returns-in_err-fed-clause-stop
 returns-in_err-fed-clause-stop g c =
     let asks = asks_of c.args.r c.args.query.now c.in_ok-asked.asked c.in_ok-rows.ensures.within c.in_ok-asked.ensures.ok in
-    let told = err_from_is_err_and c.from_residual-in_err-fed.result c.from_residual-in_err-fed.ensures.1 in
-    passed_on _ _ told.0 _ told.1 told.2
+    passed _ c.from_residual-in_err-fed.result c.from_residual-in_err-fed.ensures.1
     (unheard_stops g.H.HashKind.hash _ _ (record { root = c.args.root.now; algorithm = c.args.algorithm; r = c.args.r; query = c.args.query.now; address = c.args.address.now }) asks c.in_err-fed.field-0.0 (rw c.in_ok-rows.ensures.ok at c.in_err-fed.ensures.stop))

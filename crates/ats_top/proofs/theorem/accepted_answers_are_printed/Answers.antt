@@ -1,10 +1,7 @@
 use Rattle.std.proofs.Common.{[], ◌∷◌, codes}
 use Rattle.ats_console.specs.Words.{verify_words, fetch_words, both_words, growth_words}
-use Rattle.ats_top.proofs.BothServed.{both_said}
-use Rattle.ats_top.proofs.GrowthServed.{growth_said}
-use Rattle.ats_top.proofs.HonestServed.{verify_said}
-use Rattle.ats_top.proofs.Printed.{ask_said, verified, replied, fetched, both_checked, growth_checked}
-use Rattle.ats_top.proofs.TextServed.{fetch_said}
+use Rattle.ats_top.proofs.Printed.{verified, replied, fetched, both_checked, growth_checked}
+use Rattle.ats_top.proofs.SaidWords.{verify_said, ask_said, fetch_said, both_said, growth_said}
 use Rattle.ats_top.proofs.theorem.accepted_answers_are_printed.Goals as goal
 
 pub returns-clause-verify : goal.returns-clause-verify

@@ -1,3 +1,0 @@
--- What the functions of the room promise one another. No public contract rests on it.
-
-pub mod Documents

@@ -1,0 +1,48 @@
+-- How a command stops at the check of a file, and how it is done after it.
+use Rattle.std.proofs.Common.{◌≡◌, ◌∙◌, ℕ, List, [], Result, Ok, Err, sym, subst}
+use Rattle.std.specs.Prelude.{IfOk, IfErr}
+use Rattle.std.specs.Result.{IsErrAnd}
+use Rattle.std.proofs.lemmas.Result.{err_from_is_err_and}
+use Rattle.ats_base.specs.Outside.{ShelfTold}
+use Rattle.ats_commit.specs.Archive.{Archive}
+use Rattle.ats_commit.specs.Own.{AreTexts}
+use Rattle.ats_plan.specs.Files.{Files, IsFile}
+use Rattle.ats_plan.specs.Plan.{Plan, Finishes, Fails, Gets, Reads}
+use Rattle.ats_plan.specs.Runs.{IsDone}
+use Rattle.ats_plan.proofs.Public.{Leads, done_get, done_end}
+use Rattle.ats_console.specs.Kinds.{Kind}
+use Rattle.ats_console.specs.Read.{HasIndex}
+use Rattle.ats_console.specs.Steps.{reads_index, comes_to}
+use Rattle.ats_console.specs.declared.stops.Stop.{Stop}
+use Rattle.ats_console.specs.declared.stops.Stop.TheVariants.{Shelf, Memory}
+use Rattle.ats_console.proofs.Fronts.{has_bytes, same_bytes, has_index, same_index, passed_on}
+
+-- what a `?` passes on keeps its cause
+pub passed : {X : Type 0} (P : Stop → Type 0) {stop : Stop} (result : Result X Stop) → IsErrAnd result (λ (told : Stop). told ≡ stop) → P stop → IfErr result P
+passed P {stop = stop} result is cause = let told = err_from_is_err_and result is in passed_on P result told.0 stop told.1 told.2 cause
+
+-- a file that was read is still there
+pub still_bytes : {before now : ShelfTold} {name : List ℕ} {limit : ℕ} {fault : Stop} {bytes : List ℕ}
+    → IsDone (Reads name limit (Fails fault) (comes_to bytes)) before now [] → IsFile now.files name limit bytes
+still_bytes {name = name} {limit = limit} {bytes = bytes} done =
+    subst (λ (files : Files). IsFile files name limit bytes) (sym (same_bytes done)) (has_bytes done)
+
+-- so is an index after later steps that leave the files
+pub still_index : {H : List ℕ → List ℕ} {before mid : ShelfTold} {files : Files} {name : List ℕ} {archive : Archive}
+    → IsDone (reads_index H name (comes_to archive)) before mid [] → files ≡ mid.files → HasIndex H files name archive
+still_index {H = H} {name = name} {archive = archive} done same =
+    subst (λ (all : Files). HasIndex H all name archive) (sym (same ∙ same_index done)) (has_index done)
+
+-- the texts of an index are UTF-8 and within the limits
+pub texts_of : {H : List ℕ → List ℕ} {files : Files} {name : List ℕ} {archive : Archive} → HasIndex H files name archive → AreTexts archive.texts
+texts_of index = record { utf8 = index.spelling.utf8; within = index.spelling.within }
+
+-- bytes that were accepted, from which follows what the command says of its end
+pub check_end : {V : Type 0} (kind : Kind V) (bytes : List ℕ) (says : Files → List ℕ → Type 0) {plan : Plan Stop} {before mid : ShelfTold}
+    → Leads Shelf Memory plan before (Gets V (kind.accepted bytes) (kind.rejects bytes) (λ v. Finishes says)) mid
+    → {T : Type 0} {told : T → Type 0} (bytes_of : T → List ℕ) (result : Result T Stop) → IfOk result told
+    → ((text : T) → told text → (v : V) × kind.accepted bytes v × says mid.files (bytes_of text)) → IfOk result (λ text. IsDone plan before mid (bytes_of text))
+check_end kind bytes says {mid = mid} leads bytes_of (Ok text) is end =
+    let found = end text is in
+    leads.does mid (bytes_of text) (done_get found.0 found.1 (done_end found.2))
+check_end kind bytes says leads bytes_of (Err stop) is end = tt

@@ -1,7 +1,0 @@
-use Rattle.ats_top.proofs.documents.audit_both_to_lines.Goals as goal
-
-pub returns-clause-ok : goal.returns-clause-ok
-returns-clause-ok g c = c.both_verdict_to_lines.ensures.ok g.H.HashKind.hash c.args.index.now c.args.query.now c.args.bytes.now c.in-Ok.ensures
-
-pub returns-clause-stop : goal.returns-clause-stop
-returns-clause-stop g c = c.both_verdict_to_lines.ensures.stop g.H.HashKind.hash c.args.index.now c.args.query.now c.args.bytes.now c.in-Ok.ensures
