@@ -1,4 +1,3 @@
-use Rattle.std.proofs.Common.{refl}
 use Rattle.ats_top.proofs.commands.answer.Goals as goal
 
 -- Each arm is a call whose contract is that of this function at the arm's command. A command that tries nothing before it
@@ -19,15 +18,6 @@ returns-in-Prove g c = rw c.in-Prove.is (record { ok = c.prove.ensures.ok; stop 
 pub returns-in-Verify : goal.returns-in-Verify
 returns-in-Verify g c = rw c.in-Verify.is (record { ok = c.verify.ensures.ok; stop = c.verify.ensures.stop; unread = c.verify.ensures.unread })
 
-pub returns-in-Audit : goal.returns-in-Audit
-returns-in-Audit g c = rw c.in-Audit.is (record { ok = c.audit.ensures.ok; stop = c.audit.ensures.stop; unread = c.audit.ensures.unread })
-
-pub returns-in-Sweep : goal.returns-in-Sweep
-returns-in-Sweep g c = rw c.in-Sweep.is (record { ok = c.sweep.ensures.ok; stop = c.sweep.ensures.stop; unread = λ none. absurd (none tt) })
-
-pub returns-in-Trial : goal.returns-in-Trial
-returns-in-Trial g c = rw c.in-Trial.is (record { ok = c.trial.ensures.ok (g.S.Shelf.told c.args.shelf.now); stop = c.trial.ensures.stop (g.S.Shelf.told c.args.shelf.now); unread = λ none. refl })
-
 pub returns-in-Migrate : goal.returns-in-Migrate
 returns-in-Migrate g c = rw c.in-Migrate.is (record { ok = c.migrate.ensures.ok; stop = c.migrate.ensures.stop; unread = λ none. absurd (none tt) })
 
@@ -37,23 +27,14 @@ returns-in-Give g c = rw c.in-Give.is (record { ok = c.give.ensures.ok; stop = c
 pub returns-in-Fetch : goal.returns-in-Fetch
 returns-in-Fetch g c = rw c.in-Fetch.is (record { ok = c.fetch.ensures.ok; stop = c.fetch.ensures.stop; unread = λ none. absurd (none tt) })
 
-pub returns-in-AuditFetch : goal.returns-in-AuditFetch
-returns-in-AuditFetch g c = rw c.in-AuditFetch.is (record { ok = c.audit_fetch.ensures.ok; stop = c.audit_fetch.ensures.stop; unread = λ none. absurd (none tt) })
-
 pub returns-in-ProveBoth : goal.returns-in-ProveBoth
 returns-in-ProveBoth g c = rw c.in-ProveBoth.is (record { ok = c.prove_both.ensures.ok; stop = c.prove_both.ensures.stop; unread = c.prove_both.ensures.unread })
 
 pub returns-in-Both : goal.returns-in-Both
 returns-in-Both g c = rw c.in-Both.is (record { ok = c.both.ensures.ok; stop = c.both.ensures.stop; unread = c.both.ensures.unread })
 
-pub returns-in-AuditBoth : goal.returns-in-AuditBoth
-returns-in-AuditBoth g c = rw c.in-AuditBoth.is (record { ok = c.audit_both.ensures.ok; stop = c.audit_both.ensures.stop; unread = c.audit_both.ensures.unread })
-
 pub returns-in-Grow : goal.returns-in-Grow
 returns-in-Grow g c = rw c.in-Grow.is (record { ok = c.grow.ensures.ok; stop = c.grow.ensures.stop; unread = λ none. absurd (none tt) })
 
 pub returns-in-Growth : goal.returns-in-Growth
 returns-in-Growth g c = rw c.in-Growth.is (record { ok = c.growth.ensures.ok; stop = c.growth.ensures.stop; unread = λ none. absurd (none tt) })
-
-pub returns-in-AuditGrowth : goal.returns-in-AuditGrowth
-returns-in-AuditGrowth g c = rw c.in-AuditGrowth.is (record { ok = c.audit_growth.ensures.ok; stop = c.audit_growth.ensures.stop; unread = λ none. absurd (none tt) })
