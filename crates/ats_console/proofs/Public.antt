@@ -43,8 +43,6 @@ pub use Rattle.ats_console.proofs.OneFault.{no_load_fault, one_load_fault}
 pub use Rattle.ats_console.proofs.Fronts.{rows_of_range, asks_of}
 -- bytes that are refused stop what comes to their check
 pub use Rattle.ats_console.proofs.Fronts.{check_stops}
--- a file that is checked is accepted or refused in one way if its kind is
-pub use Rattle.ats_console.proofs.OneFile.{IsFileOne}
 -- bytes are accepted as one proof
 pub use Rattle.ats_console.proofs.Sound.{one_accepted}
 -- a plan that goes one way at most and stops for no words, by its first step
@@ -52,7 +50,7 @@ pub use Rattle.ats_console.proofs.Sound.{Sound, ends, stores, fails, tries, gets
 -- these stops are not for words
 pub use Rattle.ats_console.proofs.Sound.{not_shelf, not_memory, not_input, not_rejected, not_collision}
 -- a step that commands share keeps that
-pub use Rattle.ats_console.proofs.Sound.{query_sound, ranking_sound, collection_sound, index_sound, checks_sound, file_sound}
+pub use Rattle.ats_console.proofs.Sound.{query_sound, ranking_sound, collection_sound, index_sound, checks_sound}
 -- bytes that spell a proof are its fields
 pub use Rattle.ats_console.proofs.OneProof.{spelled_fields}
 -- an honest proof within a limit is not too long, and one that is has one length

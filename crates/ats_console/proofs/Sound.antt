@@ -13,7 +13,6 @@ use Rattle.ats_terms.specs.Faults.{IsFirstFault}
 use Rattle.ats_impact.specs.Limits.{AreWithin}
 use Rattle.ats_impact.specs.CollectionFaults.{IsFirstCollectionFault}
 use Rattle.ats_commit.specs.Archive.{Archive}
-use Rattle.ats_grammar.specs.declared.fault.ShapeFault.{ShapeFault}
 use Rattle.ats_index.specs.Spelling.{IsSpelling}
 use Rattle.ats_index.specs.LoadFaults.{IsLoadFault}
 use Rattle.ats_index.proofs.Public.{one_archive}
@@ -29,12 +28,11 @@ use Rattle.ats_plan.specs.Sound.{IsExact, IsOne, IsSound}
 use Rattle.ats_console.specs.Input.{AreJsonTexts, IsFirstJsonFault}
 use Rattle.ats_console.specs.RejectionLines.{line_of_rejection}
 use Rattle.ats_console.specs.Stops.{line_of_rows, stop_of_query, stop_of_json, stop_of_collection, stop_of_load}
-use Rattle.ats_console.specs.Steps.{StopsBy, IsRowCount, asks_query, asks_ranking, reads_collection, reads_index, RejectsBytes, checks, checks_file}
+use Rattle.ats_console.specs.Steps.{StopsBy, IsRowCount, asks_query, asks_ranking, reads_collection, reads_index, RejectsBytes, checks}
 use Rattle.ats_console.specs.declared.stops.Stop.{Stop}
 use Rattle.ats_console.specs.declared.stops.Stop.TheVariants.{Usage, Shelf, Input, Rejected, Memory, Collision}
 use Rattle.ats_console.proofs.JsonLemmas.{same_texts, no_json_fault}
 use Rattle.ats_console.proofs.OneFault.{no_query_fault, one_query_fault, one_json_fault, no_collection_fault, one_collection_fault, no_load_fault, one_load_fault}
-use Rattle.ats_console.proofs.OneFile.{IsFileOne, file_one, not_usage}
 
 -- ---- steps
 
@@ -193,8 +191,3 @@ index_sound {H = H} later = reads (fails not_input) (λ bytes. gets (archive_one
 pub checks_sound : {H : List ℕ → List ℕ} {root : List ℕ} {query : List (List ℕ × ℕ)} {r : ℕ} {bytes : List ℕ} {rest : Proof → Plan Stop}
     → ((proof : Proof) → Sound (rest proof)) → Sound (checks H root query r bytes rest)
 checks_sound {H = H} {root = root} {query = query} {r = r} {bytes = bytes} later = gets (proof_one H root query r bytes) (λ stops. not_rejected stops.2) later
-
--- a file of another kind
-pub file_sound : {V F : Type 0} {accepted : V → Type 0} {bad : ShapeFault → Type 0} {refused : F → Type 0} {rest : V → Plan Stop} (words_of : F → List ℕ)
-    → IsFileOne accepted bad refused → ((v : V) → Sound (rest v)) → Sound (checks_file accepted bad refused words_of rest)
-file_sound words_of is later = gets (file_one words_of is) (not_usage words_of) later

@@ -94,11 +94,6 @@ RejectsFile {F} bad refused words_of stop =
     ((fault : ShapeFault) × bad fault × (stop ≡ Rejected (line_of_rejection (Shape fault))))
     ⊎ ((fault : F) × refused fault × (stop ≡ Rejected (refused_line (words_of fault))))
 
--- what the bytes say, which is accepted
-abbrev pub checks_file : {V F : Type 0} → (accepted : V → Type 0) → (bad : ShapeFault → Type 0) → (refused : F → Type 0)
-    → (words_of : F → List ℕ) → (V → Plan Stop) → Plan Stop
-checks_file {V} accepted bad refused words_of rest = Gets V accepted (RejectsFile bad refused words_of) rest
-
 -- ---- of a step that is a call of its own
 
 -- nothing comes after it

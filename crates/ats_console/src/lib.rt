@@ -31,7 +31,7 @@ pub use collision::{collision_lines, pair_lines, strings_lines};
 pub use input::{JsonFault, read_collection};
 pub use kinds::{GROWTH_FILE_LIMIT, TEXT_FILE_LIMIT, grown_line, print_text, refused};
 pub use print::{document_lines, lines, root_line};
-pub use rejection::{refused_line, rejection_line};
+pub use rejection::rejection_line;
 pub use said::Said;
 pub use stop_lines::Line;
 pub use stops::{

@@ -7,7 +7,7 @@ use crate::stop_lines::Line;
 use ats_refusal::{Phrase, Rejection, rejection_words};
 
 /// The line of what is refused, for the reason that a phrase gives.
-pub fn refused_line(reason: Phrase) -> Line
+pub(crate) fn refused_line(reason: Phrase) -> Line
     ensures { result ≡ refused_line reason }
 {
     Line::said("refused: ", reason, "\n")
