@@ -1,5 +1,6 @@
 pub mod Input
 pub mod Words
+pub mod Meaning
 pub mod Print
 pub mod RejectionLines
 pub mod CollisionLines

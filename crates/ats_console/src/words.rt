@@ -4,7 +4,7 @@ ghost use Rattle.std.specs.Prelude.{◌≡◌, map, string_bytes, option_map};
 ghost use Rattle.std.specs.List.{list_all, list_any};
 ghost use Rattle.std.specs.Char.{is_ascii_digit, is_ascii_uppercase};
 ghost use Rattle.ats_console.specs.Words.{is_number_word, number_of, connections_of, algorithm_of, root_word, command_of_one, command_of_two, command_of_three, command_of_four, command_of_five, command_of};
-ghost use Rattle.ats_console.specs.Inner.Meaning.{meaning};
+ghost use Rattle.ats_console.specs.Meaning.{meaning};
 
 use ats_proof::Algorithm;
 use hex::FromHex;
