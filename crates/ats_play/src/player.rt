@@ -89,13 +89,21 @@ impl Player {
         }
     }
 
-    // An empty line is for people.
+    // An empty line is for people, and `@NAME` stands for the text of that note.
     fn want_line(&mut self, line: &str) -> Result<(), Fault> {
         if line.is_empty() {
             return Ok(());
         }
-        self.stage.want(line)?;
+        match line.strip_prefix('@') {
+            Some(note) => self.want_note(note)?,
+            None => self.stage.want(line)?,
+        }
         self.stage.want("\n")
+    }
+
+    fn want_note(&mut self, note: &str) -> Result<(), Fault> {
+        let text = self.notes.bytes_of(note).ok_or(Fault::Unread)?;
+        self.stage.want_bytes(text)
     }
 
     // Expectations of the last command are tried before the verbs that prepare the next.
