@@ -4,15 +4,9 @@ use ats_base::Bytes;
 use ats_hash::{Hash32, HashKind, Sha};
 use ats_impact::{Collection, Texts, trial_texts};
 use ats_index::{Index, OutOfMemory};
-use ats_tests::foxes;
 use std::alloc::Global;
 use std::test::Fail;
 use std::thread::Threads;
-
-/// The index of the three texts. This function states nothing of it.
-pub(crate) fn index_of_foxes<H: Hash32>(alloc: Global) -> Result<Index<H>, Fail> {
-    Ok(Index::<H>::build_plain(alloc, foxes(alloc)?)?)
-}
 
 // Some consecutive texts of a collection, each cut to a number of bytes.
 fn part(
@@ -36,10 +30,7 @@ fn bytes_of<H: HashKind>(index: &Index<H>) -> Result<Bytes, OutOfMemory> {
     index.bytes()
 }
 
-pub(crate) fn by_one_thread<H: Hash32>(
-    alloc: Global,
-    collection: Collection,
-) -> Result<Bytes, OutOfMemory> {
+fn by_one_thread<H: Hash32>(alloc: Global, collection: Collection) -> Result<Bytes, OutOfMemory> {
     let index = Index::<H>::build_plain(alloc, collection)?;
     bytes_of(&index)
 }

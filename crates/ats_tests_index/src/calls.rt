@@ -2,7 +2,6 @@
 
 ghost use Rattle.std.specs.Prelude.{◌≤◌, ◌^◌};
 
-use crate::building::index_of_foxes;
 use ats_base::{Bytes, Link, MemLink};
 use ats_hash::{Hash32, HashKind, Sha};
 use ats_impact::Top;
@@ -10,6 +9,7 @@ use ats_index::Index;
 use ats_proof::Algorithm;
 use ats_prover::{ProveFault, prove, prove_within};
 use ats_terms::{Query, QueryFault};
+use ats_tests::foxes;
 use ats_wire::{AskFault, ask_once};
 use std::alloc::Global;
 use std::test::Fail;
@@ -35,8 +35,7 @@ fn asks_for_a_proof_once(rt: HostRuntime) -> Result<(), Fail> {
     Ok(())
 }
 
-// This function states nothing of the proof.
-pub(crate) fn proof_of<H: HashKind>(
+fn proof_of<H: HashKind>(
     alloc: Global,
     index: &Index<H>,
     query: &Query,
@@ -60,7 +59,7 @@ fn proof_within<H: HashKind>(
 }
 
 // The text is any one here: the prover looks into the words of a known text.
-pub(crate) fn query_of(alloc: Global, text: &str) -> Result<Query, QueryFault> {
+fn query_of(alloc: Global, text: &str) -> Result<Query, QueryFault> {
     Query::read(alloc, text)
 }
 
@@ -96,7 +95,7 @@ fn honest_proof_fits<H: Hash32>(
     requires some { 1 ≤ length }
     requires few { length ≤ 2 ^ 26 }
 {
-    let index = index_of_foxes::<H>(alloc)?;
+    let index = Index::<H>::build_plain(alloc, foxes(alloc)?)?;
     fits(alloc, &index, algorithm, length)
 }
 

@@ -1,18 +1,13 @@
 //! The tests of indexes, proofs and audits.
 //!
-//! They cover what no contract says and no case of the commands prints: an index and roots that another program computed,
-//! refusals at limits, a collision that an audit finds, and which types cross threads. They show that several threads
-//! build what one thread builds. They are apart from `ats_tests`, so that the proofs of those tests load no index. The
-//! room has no code of its own and promises nothing.
+//! They cover what no contract says and no case of the commands prints: refusals at limits, a reply that no command asks
+//! for, and which types cross threads. They show that several threads build what one thread builds. They are apart from
+//! `ats_tests`, so that the proofs of those tests load no index. The room has no code of its own and promises nothing.
 #![tactic(auto)]
 
-#[cfg(test)]
-mod auditing;
 #[cfg(test)]
 mod building;
 #[cfg(test)]
 mod calls;
-#[cfg(test)]
-mod foxes;
 #[cfg(test)]
 mod sharing;
