@@ -48,10 +48,7 @@ impl Stage {
 
     /// The last command should have printed this next.
     pub(crate) fn want(&mut self, text: &str) -> Result<(), Fault> {
-        match self.shown.as_mut() {
-            Some(shown) => Ok(shown.want(text)?),
-            None => Err(Fault::Unread),
-        }
+        self.want_bytes(text.as_bytes())
     }
 
     /// The last command should have printed these bytes next.

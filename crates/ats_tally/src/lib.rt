@@ -10,7 +10,7 @@
 //! ```
 //! let mut tally = Tally::new(alloc);
 //! let mut shown = Shown::new(alloc, "rank X 1 red", 0, b"1 0 6378 6378\n")?; // its status, and what it printed
-//! shown.want("1 0 6378 6378\n")?; // and the status 0, as no other is wanted
+//! shown.want_bytes(b"1 0 6378 6378\n")?; // and the status 0, as no other is wanted
 //! tally.count(alloc, &shown)?;
 //! let passed = tally.passed(); // 1, and the report is empty
 //! ```

@@ -54,14 +54,6 @@ impl Shown {
         self.wanted_status = status;
     }
 
-    /// This text should be printed after what is wanted so far.
-    pub fn want(&mut self, text: &str) -> Result<(), OutOfMemory>
-        ensures { self.new
-            ≡ (if is_ok result then record self.old { wanted = self.old.wanted ++ text.now } else self.old) }
-    {
-        self.want_bytes(text.as_bytes())
-    }
-
     /// These bytes should be printed after what is wanted so far. They may be no text.
     pub fn want_bytes(&mut self, bytes: &[u8]) -> Result<(), OutOfMemory>
         ensures { self.new
