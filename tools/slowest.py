@@ -1,13 +1,14 @@
 #!/usr/bin/env python3
 """Prints which functions of a crate the check spends the most processor time on.
 
-usage: tools/slowest.py CRATE [CRATE ..]
+usage: tools/slowest.py [--test] CRATE [CRATE ..]
 
 Each crate is checked alone, by one process, from nothing: the command of `rt check` is run again without the work that
 earlier checks kept. The libraries below it must be built, which `rt check` in its folder does. As each function is
 reported, the processor time of the check so far is read, so other work on the machine matters little. The first
 function's time includes reading the libraries, so it is on the crate's line and not in the list. A function's time
-includes the lemma files that are checked for it. Linux only: the times come from /proc.
+includes the lemma files that are checked for it. With --test the tests are checked too, which are all that some crates
+have. Linux only: the times come from /proc, of the check and of the processes that it starts.
 """
 
 import os
@@ -22,28 +23,51 @@ TICKS = os.sysconf("SC_CLK_TCK")
 MOST = 20
 
 
+def fields_of(process):
+    """The fields of the process's status from its state on."""
+    return pathlib.Path(f"/proc/{process}/stat").read_text().rsplit(")", 1)[1].split()
+
+
+def below(process):
+    """The processes that this one or one below it started, and that run."""
+    parents = {}
+    for folder in pathlib.Path("/proc").glob("[0-9]*"):
+        try:
+            parents.setdefault(int(fields_of(folder.name)[1]), []).append(int(folder.name))
+        except OSError:
+            continue
+    found = [process]
+    for one in found:
+        found += parents.get(one, [])
+    return found[1:]
+
+
 def spent(process):
-    """The seconds of processor time that the process has used."""
-    fields = pathlib.Path(f"/proc/{process}/stat").read_text().rsplit(")", 1)[1].split()
-    return (int(fields[11]) + int(fields[12])) / TICKS
+    """The seconds of processor time that the process and those below it have used, with those that ended."""
+    ticks = 0
+    for one in [process] + below(process):
+        try:
+            ticks += sum(int(field) for field in fields_of(one)[11:15])
+        except OSError:
+            continue
+    return ticks / TICKS
 
 
 def checks_below(process):
     """The commands of the checks that this process or one below it runs."""
-    for folder in pathlib.Path("/proc").glob("[0-9]*"):
+    for one in below(process):
         try:
-            words = (folder / "cmdline").read_bytes().decode().split("\0")[:-1]
-            parent = int((folder / "stat").read_text().rsplit(")", 1)[1].split()[1])
-        except (OSError, ValueError, IndexError):
+            words = pathlib.Path(f"/proc/{one}/cmdline").read_bytes().decode().split("\0")[:-1]
+        except (OSError, ValueError):
             continue
-        if parent == process and words[1:2] == ["check"] and "--crate-name" in words:
+        if words[1:2] == ["check"] and "--crate-name" in words:
             yield words
 
 
-def command_of(crate):
-    """The command by which rt checks the crate."""
+def command_of(crate, flags):
+    """The command by which rt checks the crate with these flags."""
     started = subprocess.Popen(
-        ["rt", "check", "--jobs", "1"],
+        ["rt", "check", "--jobs", "1"] + flags,
         cwd=HOUSE / "crates" / crate,
         stdout=subprocess.DEVNULL,
         stderr=subprocess.DEVNULL,
@@ -76,10 +100,10 @@ def from_nothing(words):
     return made if "--progress" in made else made + ["--progress"]
 
 
-def times_of(crate):
+def times_of(crate, flags):
     """Each function of the crate with the processor time of its check, and the time of the whole."""
     check = subprocess.Popen(
-        from_nothing(command_of(crate)),
+        from_nothing(command_of(crate, flags)),
         cwd=HOUSE / "crates" / crate,
         stdout=subprocess.PIPE,
         stderr=subprocess.STDOUT,
@@ -99,13 +123,14 @@ def times_of(crate):
 
 
 def main():
-    crates = sys.argv[1:]
+    flags = sys.argv[1:2] if sys.argv[1:2] == ["--test"] else []
+    crates = sys.argv[1 + len(flags) :]
     if not crates or crates[0].startswith("-"):
         print(__doc__.split("\n\n")[1], file=sys.stderr)
         return 2
     every = []
     for crate in crates:
-        times, whole = times_of(crate)
+        times, whole = times_of(crate, flags)
         every += times[1:]
         first = times[0][0] if times else 0
         rest = whole - sum(seconds for seconds, _ in times)
