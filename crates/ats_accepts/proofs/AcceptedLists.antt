@@ -12,9 +12,10 @@ use Rattle.ats_tree.specs.Shown.{Shown}
 use Rattle.ats_tree.specs.Elided.{shown_with}
 use Rattle.ats_lists.specs.Formats.{list_root, prefix_digests, prefix_root}
 use Rattle.ats_lists.specs.Leaf.{leaf_bytes}
-use Rattle.ats_lists.specs.Lists.{IsList, list}
-use Rattle.ats_lists.specs.declared.entry.Entry.{Entry}
-use Rattle.ats_lists.proofs.Public.{list_frequency, front-rebuilds}
+use Rattle.ats_postings.specs.Lists.{IsList, list}
+use Rattle.ats_postings.specs.declared.entry.Entry.{Entry}
+use Rattle.ats_postings.proofs.Public.{list_frequency}
+use Rattle.ats_lists.proofs.Public.{front-rebuilds}
 use Rattle.ats_dict.specs.declared.spot.Spot.{Spot}
 use Rattle.ats_dict.specs.declared.spot.Spot.TheVariants.{At, Between}
 use Rattle.ats_commit.specs.Archive.{Archive}

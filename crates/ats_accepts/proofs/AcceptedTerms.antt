@@ -9,8 +9,8 @@ use Rattle.ats_tree.specs.Rebuild.{rebuilt}
 use Rattle.ats_tree.specs.Elided.{shown_with}
 use Rattle.ats_impact.specs.Score.{frequency}
 use Rattle.ats_lists.specs.Formats.{list_root}
-use Rattle.ats_lists.specs.Lists.{list, lists_of}
-use Rattle.ats_lists.specs.declared.entry.Entry.{Entry}
+use Rattle.ats_postings.specs.Lists.{list, lists_of}
+use Rattle.ats_postings.specs.declared.entry.Entry.{Entry}
 use Rattle.ats_dict.specs.declared.header.Header.{Header}
 use Rattle.ats_dict.specs.declared.spot.Spot.{Spot}
 use Rattle.ats_dict.specs.declared.spot.Spot.TheVariants.{At, Between}

@@ -13,7 +13,7 @@ use Rattle.ats_tree.specs.declared.hashed.Place.{Place}
 use Rattle.ats_tree.specs.declared.hashed.Tree.{Tree}
 use Rattle.ats_tree.specs.declared.hashed.Tree.TheVariants.{Dictionary, List as ListOf, Documents as DocumentsTree, Terms}
 use Rattle.ats_tree.proofs.Public.{numbers-lead, own-none, own-strings}
-use Rattle.ats_lists.specs.declared.entry.Entry.{Entry}
+use Rattle.ats_postings.specs.declared.entry.Entry.{Entry}
 use Rattle.ats_dict.specs.Dictionary.{dict_leaves}
 use Rattle.ats_dict.specs.declared.header.Header.{Header}
 use Rattle.ats_doctree.specs.Impacts.{doc_terms}

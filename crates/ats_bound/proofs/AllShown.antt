@@ -4,7 +4,7 @@ use Rattle.std.proofs.Math.Nat.{le-mul_of_pos_right}
 use Rattle.std.proofs.lemmas.Bool.{cases_lt}
 use Rattle.std.proofs.lemmas.Bool.Decides.{nat_tests}
 use Rattle.std.proofs.lemmas.List.{get_or-map, get_or-take}
-use Rattle.ats_lists.specs.declared.entry.Entry.{Entry}
+use Rattle.ats_postings.specs.declared.entry.Entry.{Entry}
 use Rattle.ats_bound.specs.Cut.{ShownLane, lane_of, rest, rest_impact}
 use Rattle.ats_bound.specs.Front.{IsStage, Stage, shown_on}
 use Rattle.ats_bound.specs.Schedule.{AreAllShown, IsNextLane, IsWholeLane, WholeLane}

@@ -27,7 +27,7 @@ use Rattle.ats_bound.specs.Best.{AreBest}
 use Rattle.ats_bound.proofs.Shown.{cut_after, first_is_cut, get_or-shown, have_entries, length-shown, no_shown, no_lane, open_more, shown-set}
 use Rattle.ats_bound.specs.Chosen.{AreBrackets}
 use Rattle.ats_bound.proofs.One.{Rise, same_doc}
-use Rattle.ats_lists.specs.declared.entry.Entry.{Entry}
+use Rattle.ats_postings.specs.declared.entry.Entry.{Entry}
 use Rattle.ats_bound.specs.declared.lane.Lane.{Lane}
 
 -- ---- a new document

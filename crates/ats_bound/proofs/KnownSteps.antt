@@ -4,7 +4,7 @@ use Rattle.std.specs.List.{list_any}
 use Rattle.std.proofs.Math.Nat.{pow-le-pow_right, pow-succ'}
 use Rattle.std.proofs.lemmas.Bool.{cases_Bool}
 use Rattle.std.proofs.lemmas.List.{get_or-map, length-map}
-use Rattle.ats_lists.specs.declared.entry.Entry.{Entry}
+use Rattle.ats_postings.specs.declared.entry.Entry.{Entry}
 use Rattle.ats_bound.specs.declared.known.Met.{Met}
 use Rattle.ats_bound.specs.declared.lane.Lane.{Lane}
 use Rattle.ats_bound.specs.Cut.{ShownLane, names}

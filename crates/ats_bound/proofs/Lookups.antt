@@ -3,7 +3,7 @@ use Rattle.std.proofs.Common.{◌≡◌, ◌<◌, ◌+◌, ◌*◌, ℕ, suc, Li
 use Rattle.std.specs.Prelude.{slice_index_or}
 use Rattle.std.proofs.lemmas.List.{length-map}
 use Rattle.std.proofs.lemmas.List.Sums.{sum_by-cons}
-use Rattle.ats_lists.specs.declared.entry.Entry.{Entry}
+use Rattle.ats_postings.specs.declared.entry.Entry.{Entry}
 use Rattle.ats_bound.specs.Cut.{IsMet}
 use Rattle.ats_bound.specs.Ranked.{CutLane, AreScores, HoldsScore, cut_of, impact_in, whole_score}
 use Rattle.ats_bound.specs.Lookup.{Table, AreImpactsOf, looked_score, looked_score_from, looked_up}

@@ -13,7 +13,7 @@ use Rattle.std.proofs.lemmas.List.FromFn.{get_or-range_with_len, length-range_wi
 use Rattle.std.proofs.lemmas.List.Sorted.{All-permutation, IsPermutation-map, length_permutation}
 use Rattle.std.proofs.lemmas.Map.Keys.{IsDistinct-from_apart}
 use Rattle.std.proofs.lemmas.Map.Lookups.{CmpEqualImpliesEq, exact_unsigned}
-use Rattle.ats_lists.proofs.Public.{sorted_permutation_is_one}
+use Rattle.ats_postings.proofs.Public.{sorted_permutation_is_one}
 use Rattle.ats_bound.specs.declared.bracket.Bracket.{Bracket}
 use Rattle.ats_bound.specs.Settled.{HaveDistinctDocs, bracket_at}
 use Rattle.ats_bound.specs.Chosen.{IsChosen, bracket_cmp, place_cmp}

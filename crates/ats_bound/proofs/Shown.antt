@@ -4,7 +4,7 @@ use Rattle.std.specs.List.{All, sum_by}
 use Rattle.std.proofs.lemmas.Bool.{cases_order}
 use Rattle.std.proofs.lemmas.List.{get_or-map, length-map}
 use Rattle.std.proofs.lemmas.List.Sums.{sum_by-set}
-use Rattle.ats_lists.specs.declared.entry.Entry.{Entry}
+use Rattle.ats_postings.specs.declared.entry.Entry.{Entry}
 use Rattle.ats_bound.specs.declared.lane.Lane.{Lane}
 use Rattle.ats_bound.specs.Cut.{ShownLane, lane_of, rest}
 use Rattle.ats_bound.specs.Schedule.{AreWholeLanes, IsCut, IsOpen, IsScheduled, IsWholeLane, WholeLane, first_cut, shown, whole_lane, whole_lanes}

@@ -8,9 +8,9 @@ use Rattle.std.proofs.lemmas.List.Sums.{sum_by-cons}
 use Rattle.std.proofs.lemmas.List.Sorted.{sum_by-IsPermutation}
 use Rattle.ats_impact.specs.Rank.{times}
 use Rattle.ats_impact.specs.Score.{coefficient, part, score}
-use Rattle.ats_lists.specs.Postings.{count_in, posting, postings, postings_of_run, text_of}
-use Rattle.ats_lists.specs.Lists.{list}
-use Rattle.ats_lists.proofs.Public.{list_is_sorted}
+use Rattle.ats_postings.specs.Postings.{count_in, posting, postings, postings_of_run, text_of}
+use Rattle.ats_postings.specs.Lists.{list}
+use Rattle.ats_postings.proofs.Public.{list_is_sorted}
 use Rattle.ats_bound.specs.Ranked.{impact_in}
 use Rattle.ats_bound.proofs.Lanes.{share}
 use Rattle.ats_bound.proofs.Places.{times-cons, range_once, range_has}

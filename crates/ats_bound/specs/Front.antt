@@ -1,6 +1,6 @@
 -- The state of a walk in the schedule.
 use Rattle.std.specs.Prelude.{◌≡◌, ◌+◌, ◌*◌, ℕ, List, [], ◌∷◌, map, slice_index, slice_index_or, if◌then◌else◌}
-use Rattle.ats_lists.specs.declared.entry.Entry.{Entry}
+use Rattle.ats_postings.specs.declared.entry.Entry.{Entry}
 use Rattle.ats_bound.specs.Cut.{ShownLane, names, rest, threshold}
 use Rattle.ats_bound.specs.Schedule.{AreWholeLanes, IsCut, WholeLane, shown}
 

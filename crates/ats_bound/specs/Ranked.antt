@@ -2,8 +2,8 @@
 use Rattle.std.specs.Prelude.{◌≡◌, ◌<◌, ◌≤◌, ◌*◌, ◌==◌, ◌↔◌, ℕ, List, length, map, sum_by, if◌then◌else◌}
 use Rattle.std.specs.List.{All}
 use Rattle.ats_impact.specs.Rank.{times}
-use Rattle.ats_lists.specs.Lists.{IsList}
-use Rattle.ats_lists.specs.declared.entry.Entry.{Entry}
+use Rattle.ats_postings.specs.Lists.{IsList}
+use Rattle.ats_postings.specs.declared.entry.Entry.{Entry}
 use Rattle.ats_bound.specs.declared.bracket.Bracket.{Bracket}
 use Rattle.ats_bound.specs.Cut.{ShownLane, lane_of, IsMet}
 use Rattle.ats_bound.specs.Settled.{bracket_at, HaveDistinctDocs}

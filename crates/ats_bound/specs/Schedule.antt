@@ -2,7 +2,7 @@
 -- profile of the threshold algorithms of Pang and Mouratidis, VLDB 2008.
 use Rattle.std.specs.Prelude.{◌≡◌, ◌≢◌, ◌<◌, ◌≤◌, ◌+◌, ◌==◌, ℕ, zero, suc, List, [], ◌∷◌, length, map, set, slice_index, slice_index_or, Bool}
 use Rattle.std.specs.List.{All, list_any}
-use Rattle.ats_lists.specs.declared.entry.Entry.{Entry}
+use Rattle.ats_postings.specs.declared.entry.Entry.{Entry}
 use Rattle.ats_bound.specs.declared.bracket.Bracket.{Bracket}
 use Rattle.ats_bound.specs.declared.lane.Lane.{Lane}
 use Rattle.ats_bound.specs.Cut.{ShownLane, lane_of, rest, threshold, names, bracket}

@@ -2,7 +2,7 @@
 
 ghost use Rattle.std.specs.Prelude.{◌≡◌, ◌≤◌, length, slice_index_or};
 
-use ats_lists::Entry;
+use ats_postings::Entry;
 
 /// A present term of a query: its coefficient, from 1 to 34,935, and its whole list or the first entries
 /// of it, by impact descending.

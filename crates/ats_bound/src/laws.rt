@@ -5,7 +5,7 @@ ghost use Rattle.std.specs.Prelude.{◌≡◌, ◌↔◌, ◌+◌, ◌<◌, ◌�
 ghost use Rattle.std.specs.List.{All};
 ghost use Rattle.ats_impact.specs.Rank.{IsTopBy};
 ghost use Rattle.ats_impact.specs.Score.{coefficient, score};
-ghost use Rattle.ats_lists.specs.Lists.{list};
+ghost use Rattle.ats_postings.specs.Lists.{list};
 ghost use Rattle.ats_bound.specs.declared.bracket.Bracket.{Bracket};
 ghost use Rattle.ats_bound.specs.Cut.{ShownLane, IsMet, bracket, held, missing, threshold};
 ghost use Rattle.ats_bound.specs.Settled.{ArePicks, HaveDistinctDocs, IsSettled};

@@ -17,8 +17,8 @@ use Rattle.ats_tree.specs.declared.hashed.Place.{Place}
 use Rattle.ats_tree.specs.declared.hashed.Tree.TheVariants.{Dictionary, List as ListOf}
 use Rattle.ats_tree.proofs.Public.{bound_to, difference-collides, numbers-lead, rises-increasing, Binds, binds-both, binds-weaker, binds-one, binds-all, binds-moved}
 use Rattle.ats_lists.specs.Formats.{list_root, list_string, prefix_root, prefix_strings}
-use Rattle.ats_lists.specs.Lists.{list}
-use Rattle.ats_lists.specs.declared.entry.Entry.{Entry}
+use Rattle.ats_postings.specs.Lists.{list}
+use Rattle.ats_postings.specs.declared.entry.Entry.{Entry}
 use Rattle.ats_lists.proofs.Public.{list-bound}
 use Rattle.ats_dict.specs.Dictionary.{dict_leaves}
 use Rattle.ats_dict.specs.Entry.{DictEntry, dict_leaf_bytes}

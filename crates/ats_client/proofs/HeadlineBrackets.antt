@@ -4,8 +4,8 @@ use Rattle.std.proofs.lemmas.List.{length-map, get_or-map}
 use Rattle.std.proofs.lemmas.Option.{get_or_from_slice_get}
 use Rattle.std.proofs.lemmas.Simd.{map-map}
 use Rattle.ats_terms.specs.Query.{IsQuery}
-use Rattle.ats_lists.specs.Lists.{list}
-use Rattle.ats_lists.specs.declared.entry.Entry.{Entry}
+use Rattle.ats_postings.specs.Lists.{list}
+use Rattle.ats_postings.specs.declared.entry.Entry.{Entry}
 use Rattle.ats_doctree.specs.declared.doc_leaf.DocLeaf.{DocLeaf}
 use Rattle.ats_bound.specs.declared.bracket.Bracket.{Bracket}
 use Rattle.ats_bound.specs.Cut.{ShownLane, IsMet}

@@ -11,7 +11,7 @@ use Rattle.std.proofs.lemmas.List.Kept.{AllPairs-from_increasing}
 use Rattle.ats_impact.specs.Rank.{times, IsTopBy}
 use Rattle.ats_impact.specs.Score.{score}
 use Rattle.ats_impact.specs.declared.rank.Row.{Row}
-use Rattle.ats_lists.specs.declared.entry.Entry.{Entry}
+use Rattle.ats_postings.specs.declared.entry.Entry.{Entry}
 use Rattle.ats_bound.specs.declared.bracket.Bracket.{Bracket}
 use Rattle.ats_bound.specs.Cut.{ShownLane, IsMet, names, threshold}
 use Rattle.ats_bound.specs.Schedule.{Bounding}

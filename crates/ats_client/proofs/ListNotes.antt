@@ -2,7 +2,7 @@
 use Rattle.std.proofs.Common.{◌≡◌, ◌<◌, ◌+◌, ◌*◌, ◌++◌, ℕ, List, [], map, ap₂, subst, arith}
 use Rattle.std.specs.List.{All}
 use Rattle.ats_impact.specs.Numbers.{idf}
-use Rattle.ats_lists.specs.declared.entry.Entry.{Entry}
+use Rattle.ats_postings.specs.declared.entry.Entry.{Entry}
 use Rattle.ats_bound.specs.declared.work.Mark.{Mark}
 use Rattle.ats_bound.specs.Cut.{rest}
 use Rattle.ats_client.specs.Presented.{Presented}

@@ -10,7 +10,7 @@ use Rattle.std.proofs.lemmas.Option.{get_or_from_slice_get, slice_get_within, sl
 use Rattle.ats_impact.specs.Rank.{times}
 use Rattle.ats_bound.specs.declared.work.Mark.{Mark}
 use Rattle.ats_bound.specs.Work.{mark_at, zero_mark}
-use Rattle.ats_lists.specs.declared.entry.Entry.{Entry}
+use Rattle.ats_postings.specs.declared.entry.Entry.{Entry}
 use Rattle.ats_client.specs.Groups.{indexes_of}
 use Rattle.ats_client.specs.Noting.{Note, IsNoted, AreNotes, note, with_note, has_note}
 use Rattle.ats_client.proofs.Named.{any_none, any_some}

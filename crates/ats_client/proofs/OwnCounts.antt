@@ -11,10 +11,10 @@ use Rattle.std.proofs.lemmas.List.Sorted.{list_any-IsPermutation}
 use Rattle.std.proofs.lemmas.Option.{get_or_from_slice_get, slice_get_within}
 use Rattle.ats_base.specs.Rules.{AreKept}
 use Rattle.ats_terms.specs.Query.{IsQuery}
-use Rattle.ats_lists.specs.Lists.{list}
-use Rattle.ats_lists.specs.Postings.{count_in, posting, postings, postings_of_run}
-use Rattle.ats_lists.specs.declared.entry.Entry.{Entry}
-use Rattle.ats_lists.proofs.Public.{list_is_sorted}
+use Rattle.ats_postings.specs.Lists.{list}
+use Rattle.ats_postings.specs.Postings.{count_in, posting, postings, postings_of_run}
+use Rattle.ats_postings.specs.declared.entry.Entry.{Entry}
+use Rattle.ats_postings.proofs.Public.{list_is_sorted}
 use Rattle.ats_commit.specs.Archive.{Archive}
 use Rattle.ats_commit.specs.Own.{AreTexts}
 use Rattle.ats_commit.specs.Ours.{asked_term}

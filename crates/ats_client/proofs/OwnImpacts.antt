@@ -6,8 +6,8 @@ use Rattle.std.proofs.lemmas.Bool.{cases_Bool, cond-true, cond-false, lt-ltb}
 use Rattle.std.proofs.lemmas.Option.{get_or_from_slice_get, slice_get-map}
 use Rattle.ats_terms.specs.Terms.{IsTerm}
 use Rattle.ats_impact.specs.Score.{count}
-use Rattle.ats_lists.specs.Lists.{list}
-use Rattle.ats_lists.specs.Postings.{posting}
+use Rattle.ats_postings.specs.Lists.{list}
+use Rattle.ats_postings.specs.Postings.{posting}
 use Rattle.ats_doctree.specs.Impacts.{doc_terms}
 use Rattle.ats_doctree.specs.Sentinels.{terms_leaves, leaf_bytes}
 use Rattle.ats_commit.specs.Own.{IsImpactOf, AreTermNeighbours}

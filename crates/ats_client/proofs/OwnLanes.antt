@@ -12,10 +12,10 @@ use Rattle.ats_terms.specs.Query.{IsQuery}
 use Rattle.ats_impact.specs.Numbers.{idf, ratio}
 use Rattle.ats_impact.specs.Score.{coefficient, frequency, score}
 use Rattle.ats_lists.specs.Leaf.{leaf_bytes}
-use Rattle.ats_lists.specs.Lists.{list}
-use Rattle.ats_lists.specs.Postings.{postings}
-use Rattle.ats_lists.specs.declared.entry.Entry.{Entry}
-use Rattle.ats_lists.proofs.Public.{list_is_sorted, list_keeps, list_frequency}
+use Rattle.ats_postings.specs.Lists.{list}
+use Rattle.ats_postings.specs.Postings.{postings}
+use Rattle.ats_postings.specs.declared.entry.Entry.{Entry}
+use Rattle.ats_postings.proofs.Public.{list_is_sorted, list_keeps, list_frequency}
 use Rattle.ats_dict.specs.Entry.{dict_leaf_bytes}
 use Rattle.ats_dict.specs.Dictionary.{dict_leaves}
 use Rattle.ats_proof.specs.declared.record.Slot.{Slot}

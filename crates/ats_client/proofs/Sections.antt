@@ -20,11 +20,11 @@ use Rattle.ats_tree.specs.declared.hashed.Place.{Place}
 use Rattle.ats_tree.specs.declared.hashed.Tree.{Tree}
 use Rattle.ats_tree.specs.declared.hashed.Tree.TheVariants.{Header, Dictionary, List as ListOf, Documents as DocumentsTree, Terms}
 use Rattle.ats_tree.proofs.Public.{collision-append, collision-moved, moved_collision, collides-is, collides-not, numbers-back, own-none}
-use Rattle.ats_lists.specs.declared.entry.Entry.{Entry}
+use Rattle.ats_postings.specs.declared.entry.Entry.{Entry}
 use Rattle.ats_lists.specs.ChainClash.{list_difference_of}
 use Rattle.ats_lists.specs.Formats.{list_string, prefix_root, prefix_strings}
 use Rattle.ats_lists.specs.Leaf.{leaf_bytes}
-use Rattle.ats_lists.specs.Lists.{list}
+use Rattle.ats_postings.specs.Lists.{list}
 use Rattle.ats_lists.proofs.Public.{list-tagged}
 use Rattle.ats_dict.specs.Entry.{dict_leaf_bytes}
 use Rattle.ats_dict.specs.declared.header.Header.{Header as Numbers}

@@ -2,7 +2,7 @@
 use Rattle.std.specs.Prelude.{◌≡◌, ◌<◌, ◌≤◌, ◌*◌, ◌+◌, ◌^◌, ◌==◌, ℕ, Bool, false, List, length, map, nat_lt, if◌then◌else◌}
 use Rattle.std.specs.List.{list_any, sum_by, flat_map}
 use Rattle.ats_impact.specs.Numbers.{idf}
-use Rattle.ats_lists.specs.declared.entry.Entry.{Entry}
+use Rattle.ats_postings.specs.declared.entry.Entry.{Entry}
 use Rattle.ats_bound.specs.declared.work.Mark.{Mark}
 use Rattle.ats_bound.specs.Work.{mark_at}
 use Rattle.ats_bound.specs.Cut.{ShownLane, rest}

@@ -11,7 +11,7 @@ use Rattle.ats_tree.specs.declared.hashed.Tree.{Tree}
 use Rattle.ats_tree.specs.declared.hashed.Tree.TheVariants.{Header, Dictionary, List as ListOf, Documents as DocumentsTree, Terms}
 use Rattle.ats_lists.specs.Formats.{prefix_strings}
 use Rattle.ats_lists.specs.Leaf.{leaf_bytes}
-use Rattle.ats_lists.specs.Lists.{list}
+use Rattle.ats_postings.specs.Lists.{list}
 use Rattle.ats_dict.specs.Dictionary.{dict_leaves}
 use Rattle.ats_dict.specs.declared.header.Header.{Header as Numbers}
 use Rattle.ats_doctree.specs.Impacts.{doc_terms}

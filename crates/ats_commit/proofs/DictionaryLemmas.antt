@@ -5,9 +5,9 @@ use Rattle.std.proofs.lemmas.List.{length-map}
 use Rattle.std.proofs.lemmas.List.Elements.{All-map}
 use Rattle.ats_impact.specs.Score.{frequency}
 use Rattle.ats_lists.specs.Formats.{list_root}
-use Rattle.ats_lists.specs.Lists.{list, vocabulary, lists_of}
-use Rattle.ats_lists.specs.declared.entry.Entry.{Entry}
-use Rattle.ats_lists.proofs.Public.{list_frequency}
+use Rattle.ats_postings.specs.Lists.{list, vocabulary, lists_of}
+use Rattle.ats_postings.specs.declared.entry.Entry.{Entry}
+use Rattle.ats_postings.proofs.Public.{list_frequency}
 use Rattle.ats_dict.specs.Entry.{DictEntry}
 use Rattle.ats_dict.specs.Dictionary.{dict_leaves}
 use Rattle.ats_dict.proofs.Public.{length-dict_leaves}

@@ -4,8 +4,8 @@ use Rattle.std.specs.Int.{to_be_bytes, w32}
 use Rattle.ats_tree.specs.Tree.{Tree, empty, leaf, node, tree_of, digest_of, mth}
 use Rattle.ats_impact.specs.Limits.{AreWithin}
 use Rattle.ats_impact.specs.Score.{total_terms}
-use Rattle.ats_lists.specs.Lists.{vocabulary}
-use Rattle.ats_lists.proofs.Public.{vocabulary_few}
+use Rattle.ats_postings.specs.Lists.{vocabulary}
+use Rattle.ats_postings.proofs.Public.{vocabulary_few}
 use Rattle.ats_dict.specs.Dictionary.{dict_leaves}
 use Rattle.ats_dict.specs.Header.{header_bytes}
 use Rattle.ats_commit.specs.Archive.{Archive}

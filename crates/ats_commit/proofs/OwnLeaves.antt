@@ -17,9 +17,9 @@ use Rattle.ats_terms.specs.Terms.{IsTerm}
 use Rattle.ats_terms.specs.Query.{byte_cmp}
 use Rattle.ats_impact.specs.Score.{frequency, count}
 use Rattle.ats_lists.specs.Leaf.{leaf_bytes}
-use Rattle.ats_lists.specs.Lists.{list, vocabulary, IsList}
-use Rattle.ats_lists.specs.declared.entry.Entry.{Entry}
-use Rattle.ats_lists.proofs.Public.{vocabulary_has, vocabulary_rises, postings_frequency, list_frequency, list_keeps}
+use Rattle.ats_postings.specs.Lists.{list, vocabulary, IsList}
+use Rattle.ats_postings.specs.declared.entry.Entry.{Entry}
+use Rattle.ats_postings.proofs.Public.{vocabulary_has, vocabulary_rises, postings_frequency, list_frequency, list_keeps}
 use Rattle.ats_dict.specs.Entry.{DictEntry}
 use Rattle.ats_dict.specs.Dictionary.{IsBelow, low, high, entry_at, term_at, leaf_of, dict_leaves}
 use Rattle.ats_dict.proofs.Public.{leaf_parts, entry_at-suc, entry_at-last, get_or-dict_leaves, length-dict_leaves}

@@ -17,11 +17,12 @@ use Rattle.ats_tree.proofs.Public.{length-path_of, node-ours, numbers-lead, own-
 use Rattle.ats_impact.specs.Score.{frequency}
 use Rattle.ats_lists.specs.Formats.{deepest, first_leaves, list_string, prefix_digests, prefix_strings}
 use Rattle.ats_lists.specs.Leaf.{leaf_bytes}
-use Rattle.ats_lists.specs.Lists.{list}
-use Rattle.ats_lists.specs.declared.entry.Entry.{Entry}
+use Rattle.ats_postings.specs.Lists.{list}
+use Rattle.ats_postings.specs.declared.entry.Entry.{Entry}
 use Rattle.ats_lists.specs.declared.format.Format.{Format}
 use Rattle.ats_lists.specs.declared.format.Format.TheVariants.{One, Two}
-use Rattle.ats_lists.proofs.Public.{list_frequency, list-empty, list-within, list-turns, path-turns, front-own, numbers-own}
+use Rattle.ats_postings.proofs.Public.{list_frequency}
+use Rattle.ats_lists.proofs.Public.{list-empty, list-within, list-turns, path-turns, front-own, numbers-own}
 use Rattle.ats_commit.specs.Archive.{Archive}
 use Rattle.ats_commit.specs.Ours.{asked_term, own_leaves, own_header, own_string, ours}
 use Rattle.ats_commit.specs.OwnShown.{IsOwnFront, IsOwnListShown, IsOwnTreeShown, tree_strings}

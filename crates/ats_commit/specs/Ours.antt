@@ -8,7 +8,7 @@ use Rattle.ats_tree.specs.declared.hashed.Tree.{Tree}
 use Rattle.ats_tree.specs.declared.hashed.Tree.TheVariants.{Header, Dictionary, List as ListOf, Documents, Terms}
 use Rattle.ats_lists.specs.Formats.{list_string}
 use Rattle.ats_lists.specs.Leaf.{leaf_bytes}
-use Rattle.ats_lists.specs.Lists.{list}
+use Rattle.ats_postings.specs.Lists.{list}
 use Rattle.ats_dict.specs.Dictionary.{dict_leaves}
 use Rattle.ats_doctree.specs.Impacts.{doc_terms}
 use Rattle.ats_doctree.specs.Sentinels.{terms_leaves}

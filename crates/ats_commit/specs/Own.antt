@@ -8,7 +8,7 @@ use Rattle.ats_impact.specs.Limits.{AreWithin}
 use Rattle.ats_impact.specs.Numbers.{impact}
 use Rattle.ats_impact.specs.Score.{count, total_terms}
 use Rattle.ats_lists.specs.Formats.{list_root}
-use Rattle.ats_lists.specs.Lists.{list}
+use Rattle.ats_postings.specs.Lists.{list}
 use Rattle.ats_dict.specs.Dictionary.{leaf_of, dict_leaves}
 use Rattle.ats_dict.specs.Entry.{DictEntry}
 use Rattle.ats_dict.specs.declared.header.Header.{Header}

@@ -9,8 +9,8 @@ use Rattle.ats_tree.specs.declared.hashed.Tree.{Tree}
 use Rattle.ats_tree.specs.declared.hashed.Tree.TheVariants.{List as ListOf}
 use Rattle.ats_lists.specs.Formats.{first_leaves, prefix_digests, prefix_strings}
 use Rattle.ats_lists.specs.Leaf.{leaf_bytes}
-use Rattle.ats_lists.specs.Lists.{list}
-use Rattle.ats_lists.specs.declared.entry.Entry.{Entry}
+use Rattle.ats_postings.specs.Lists.{list}
+use Rattle.ats_postings.specs.declared.entry.Entry.{Entry}
 use Rattle.ats_lists.specs.declared.format.Format.{Format}
 use Rattle.ats_lists.specs.declared.format.Format.TheVariants.{One, Two}
 use Rattle.ats_commit.specs.Archive.{Archive}

@@ -13,7 +13,7 @@ use Rattle.std.proofs.lemmas.List.Kept.{IsStrictlyIncreasing-filter}
 use Rattle.std.proofs.lemmas.Map.Keys.{sorted_from_strictly_increasing}
 use Rattle.std.proofs.lemmas.Map.Lookups.{exact_unsigned}
 use Rattle.std.proofs.lemmas.Map.Views.{any-filter_same}
-use Rattle.ats_lists.proofs.Public.{same_members}
+use Rattle.ats_postings.proofs.Public.{same_members}
 
 -- whether a number is in a list
 abbrev pub is_in : ℕ → List ℕ → Bool

@@ -11,8 +11,8 @@ use Rattle.std.proofs.lemmas.List.Sums.{get_or-le-sum_by}
 use Rattle.ats_terms.specs.Query.{IsQuery}
 use Rattle.ats_impact.specs.Numbers.{idf}
 use Rattle.ats_impact.specs.Score.{frequency}
-use Rattle.ats_lists.specs.Lists.{IsList, list}
-use Rattle.ats_lists.proofs.Public.{list_frequency}
+use Rattle.ats_postings.specs.Lists.{IsList, list}
+use Rattle.ats_postings.proofs.Public.{list_frequency}
 use Rattle.ats_tree.specs.Elided.{elided_digests}
 use Rattle.ats_dict.specs.declared.spot.Spot.{Spot}
 use Rattle.ats_doctree.specs.Impacts.{doc_terms}

@@ -2,8 +2,8 @@
 use Rattle.std.proofs.Common.{◌≡◌, ◌<◌, ◌≤◌, ◌^◌, ℕ, zero, suc, List, [], ◌∷◌, length, take, get_or, refl, sym, ap, subst, arith}
 use Rattle.std.specs.List.{All}
 use Rattle.std.proofs.lemmas.List.Elements.{All-take}
-use Rattle.ats_lists.specs.declared.entry.Entry.{Entry}
-use Rattle.ats_lists.specs.Lists.{IsList}
+use Rattle.ats_postings.specs.declared.entry.Entry.{Entry}
+use Rattle.ats_postings.specs.Lists.{IsList}
 use Rattle.ats_lists.specs.declared.format.Format.{Format}
 use Rattle.ats_bound.specs.Schedule.{IsCut, WholeLane}
 use Rattle.ats_proof.specs.Value.{Prefix}

@@ -5,8 +5,8 @@ use Rattle.ats_impact.specs.Numbers.{impact}
 use Rattle.ats_impact.specs.Score.{count, total_terms}
 use Rattle.ats_terms.specs.Terms.{terms}
 use Rattle.ats_terms.proofs.Public.{none_of}
-use Rattle.ats_lists.specs.Lists.{list}
-use Rattle.ats_lists.specs.Postings.{posting}
+use Rattle.ats_postings.specs.Lists.{list}
+use Rattle.ats_postings.specs.Postings.{posting}
 use Rattle.ats_doctree.specs.Found.{LiesBetween, StandsAt}
 use Rattle.ats_doctree.specs.Impacts.{doc_terms}
 use Rattle.ats_doctree.specs.Sentinels.{impact_at, high, low}

@@ -6,10 +6,10 @@ use Rattle.std.proofs.lemmas.List.{get_or-map, get_or_past, length-map}
 use Rattle.std.proofs.lemmas.List.Elements.{All-head, All-tail}
 use Rattle.std.proofs.lemmas.List.Sorted.{sum_by-IsPermutation}
 use Rattle.std.proofs.lemmas.List.Sums.{sum_by-cons}
-use Rattle.ats_lists.specs.Lists.{list}
-use Rattle.ats_lists.specs.Postings.{postings}
-use Rattle.ats_lists.specs.declared.entry.Entry.{Entry}
-use Rattle.ats_lists.proofs.Public.{list_is_sorted, postings_below}
+use Rattle.ats_postings.specs.Lists.{list}
+use Rattle.ats_postings.specs.Postings.{postings}
+use Rattle.ats_postings.specs.declared.entry.Entry.{Entry}
+use Rattle.ats_postings.proofs.Public.{list_is_sorted, postings_below}
 use Rattle.ats_bound.specs.Ranked.{impact_in}
 use Rattle.ats_bound.specs.Schedule.{WholeLane}
 use Rattle.ats_bound.proofs.Public.{share}

@@ -9,8 +9,8 @@ use Rattle.std.proofs.lemmas.List.Elements.{All-take, All-head, All-tail}
 use Rattle.std.proofs.lemmas.List.Folds.{Any-from_list_any, list_any-append}
 use Rattle.std.proofs.lemmas.Map.Keys.{sorted_from_strictly_increasing}
 use Rattle.std.proofs.lemmas.Map.Views.{length-le_from_below}
-use Rattle.ats_lists.specs.Lists.{IsList}
-use Rattle.ats_lists.specs.declared.entry.Entry.{Entry}
+use Rattle.ats_postings.specs.Lists.{IsList}
+use Rattle.ats_postings.specs.declared.entry.Entry.{Entry}
 use Rattle.ats_bound.specs.declared.bracket.Bracket.{Bracket}
 use Rattle.ats_bound.specs.Cut.{ShownLane, names}
 use Rattle.ats_bound.specs.Schedule.{WholeLane, AreBracketsBy, Bounding, has_bracket, shown}

@@ -14,8 +14,8 @@ use Rattle.ats_terms.specs.Terms.{folded, is_term, occurrences, terms}
 use Rattle.ats_terms.proofs.Public.{counted_counts, weight_at}
 use Rattle.ats_impact.specs.Score.{count}
 use Rattle.ats_lists.proofs.Public.{root-sized}
-use Rattle.ats_lists.specs.Lists.{list, vocabulary}
-use Rattle.ats_lists.proofs.Public.{vocabulary_few}
+use Rattle.ats_postings.specs.Lists.{list, vocabulary}
+use Rattle.ats_postings.proofs.Public.{vocabulary_few}
 use Rattle.ats_dict.specs.Entry.{DictEntry}
 use Rattle.ats_dict.proofs.Public.{length-dict_leaves}
 use Rattle.ats_commit.specs.Archive.{Archive}

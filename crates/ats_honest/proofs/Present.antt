@@ -14,10 +14,10 @@ use Rattle.std.proofs.lemmas.List.Sums.{count_by-le-length, length-filter}
 use Rattle.std.proofs.lemmas.Slice.Eq.{bytes_eq-Decides}
 use Rattle.ats_impact.specs.Numbers.{idf, ratio, doublings, eighths}
 use Rattle.ats_impact.specs.Score.{coefficient, frequency}
-use Rattle.ats_lists.specs.Lists.{IsList, list, lists_of, vocabulary}
-use Rattle.ats_lists.specs.declared.entry.Entry.{Entry}
-use Rattle.ats_lists.proofs.Public.{vocabulary_has, postings_frequency, list_frequency, list_keeps}
-use Rattle.ats_lists.specs.Postings.{postings}
+use Rattle.ats_postings.specs.Lists.{IsList, list, lists_of, vocabulary}
+use Rattle.ats_postings.specs.declared.entry.Entry.{Entry}
+use Rattle.ats_postings.proofs.Public.{vocabulary_has, postings_frequency, list_frequency, list_keeps}
+use Rattle.ats_postings.specs.Postings.{postings}
 use Rattle.ats_dict.specs.Entry.{DictEntry}
 use Rattle.ats_terms.proofs.Public.{none_of}
 use Rattle.ats_dict.specs.Dictionary.{low, high, entry_at}

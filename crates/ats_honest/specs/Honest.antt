@@ -3,7 +3,7 @@ use Rattle.std.specs.Prelude.{◌≡◌, ◌<◌, ℕ, List, [], ◌∷◌, leng
 use Rattle.std.specs.List.{concat, list_any}
 use Rattle.std.specs.List.Sorted.{IsStrictlyIncreasing}
 use Rattle.ats_tree.specs.Elided.{elided_digests}
-use Rattle.ats_lists.specs.declared.entry.Entry.{Entry}
+use Rattle.ats_postings.specs.declared.entry.Entry.{Entry}
 use Rattle.ats_dict.specs.declared.spot.Spot.{Spot}
 use Rattle.ats_dict.specs.Dictionary.{dict_leaves}
 use Rattle.ats_lists.specs.Formats.{prefix_digests}

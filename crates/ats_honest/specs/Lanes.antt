@@ -1,7 +1,7 @@
 -- The lists of a query's terms, with their coefficients, and how each algorithm bounds scores by them.
 use Rattle.std.specs.Prelude.{ℕ, List, [], map, filter, nat_lt, slice_index_or}
 use Rattle.ats_impact.specs.Score.{coefficient, frequency}
-use Rattle.ats_lists.specs.Lists.{list}
+use Rattle.ats_postings.specs.Lists.{list}
 use Rattle.ats_bound.specs.Cut.{bracket}
 use Rattle.ats_bound.specs.Lookup.{Table, looked_up}
 use Rattle.ats_bound.specs.Ranked.{impact_in}

@@ -2,7 +2,7 @@
 
 ghost use Rattle.std.specs.Prelude.{◌≡◌, ◌<◌, ◌≤◌, ◌^◌, ℕ, List, All, length};
 ghost use Rattle.ats_terms.specs.Query.{IsQuery};
-ghost use Rattle.ats_lists.specs.Lists.{list};
+ghost use Rattle.ats_postings.specs.Lists.{list};
 ghost use Rattle.ats_lists.specs.declared.format.Format.TheVariants.{Two};
 ghost use Rattle.ats_dict.specs.declared.spot.Spot.TheVariants.{At, Between};
 ghost use Rattle.ats_doctree.specs.Impacts.{doc_terms};

@@ -9,7 +9,7 @@ use Rattle.std.proofs.lemmas.Option.{slice_get-get_or}
 use Rattle.ats_terms.specs.Query.{byte_cmp}
 use Rattle.ats_lists.specs.Formats.{list_root}
 use Rattle.ats_lists.specs.KeptList.{kept_list}
-use Rattle.ats_lists.specs.declared.entry.Entry.{Entry}
+use Rattle.ats_postings.specs.declared.entry.Entry.{Entry}
 use Rattle.ats_dict.specs.Dictionary.{IsBelow, IsAboveLast}
 use Rattle.ats_dict.specs.Entry.{DictEntry}
 use Rattle.ats_lists.specs.declared.format.Format.{Format}

@@ -7,7 +7,7 @@ use Rattle.std.proofs.lemmas.List.FromFn.{get_or-map-range_with_len, length-map-
 use Rattle.ats_tree.specs.Shown.{Shown, first_position, first_leaf}
 use Rattle.ats_lists.specs.Formats.{first_leaves}
 use Rattle.ats_lists.specs.Leaf.{leaf_bytes}
-use Rattle.ats_lists.specs.declared.entry.Entry.{Entry}
+use Rattle.ats_postings.specs.declared.entry.Entry.{Entry}
 
 -- no leaf is left
 pub shown_none : (shown : List Shown) → first_position shown ≡ None → shown ≡ []

@@ -1,6 +1,6 @@
 -- The texts at the front of an index's bytes.
 use Rattle.std.proofs.Common.{◌≡◌, ◌++◌, ℕ, List, append_assoc}
-use Rattle.ats_lists.specs.Lists.{lists_of}
+use Rattle.ats_postings.specs.Lists.{lists_of}
 use Rattle.ats_commit.specs.Archive.{Archive}
 use Rattle.ats_commit.specs.Root.{root_of}
 use Rattle.ats_index.specs.Spelling.{texts_bytes, lists_bytes, index_bytes}

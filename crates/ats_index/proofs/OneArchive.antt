@@ -3,7 +3,7 @@ use Rattle.std.proofs.Common.{◌≡◌, ◌<◌, ◌≤◌, ◌^◌, ◌∙◌,
 use Rattle.std.specs.List.{flat_map}
 use Rattle.std.proofs.lemmas.List.Elements.{All-tail}
 use Rattle.ats_impact.specs.Limits.{AllShort, AreWithin}
-use Rattle.ats_lists.specs.Lists.{lists_of}
+use Rattle.ats_postings.specs.Lists.{lists_of}
 use Rattle.ats_lists.specs.declared.format.Format.{Format}
 use Rattle.ats_lists.specs.declared.format.Format.TheVariants.{One, Two}
 use Rattle.ats_commit.specs.Archive.{Archive}

@@ -7,9 +7,9 @@ use Rattle.std.proofs.lemmas.List.Sums.{sum_by-cons}
 use Rattle.ats_terms.specs.Terms.{terms}
 use Rattle.ats_impact.specs.Score.{frequency, total_terms}
 use Rattle.ats_lists.specs.Leaf.{leaf_bytes}
-use Rattle.ats_lists.specs.Lists.{list, lists_of, vocabulary}
-use Rattle.ats_lists.specs.declared.entry.Entry.{Entry}
-use Rattle.ats_lists.proofs.Public.{vocabulary_few, list_frequency}
+use Rattle.ats_postings.specs.Lists.{list, lists_of, vocabulary}
+use Rattle.ats_postings.specs.declared.entry.Entry.{Entry}
+use Rattle.ats_postings.proofs.Public.{vocabulary_few, list_frequency}
 use Rattle.ats_commit.specs.Archive.{Archive, header_tag}
 use Rattle.ats_commit.specs.Root.{root_of, header_of}
 use Rattle.ats_commit.proofs.Public.{few_within}

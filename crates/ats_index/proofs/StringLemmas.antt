@@ -5,9 +5,10 @@ use Rattle.ats_tree.specs.Shown.{Shown}
 use Rattle.ats_tree.specs.Nodes.{NodeNumbers}
 use Rattle.ats_lists.specs.Formats.{list_string}
 use Rattle.ats_lists.specs.Leaf.{leaf_bytes}
-use Rattle.ats_lists.specs.Lists.{list, lists_of}
-use Rattle.ats_lists.specs.declared.entry.Entry.{Entry}
-use Rattle.ats_lists.proofs.Public.{list-empty, listed, unlisted}
+use Rattle.ats_postings.specs.Lists.{list, lists_of}
+use Rattle.ats_postings.specs.declared.entry.Entry.{Entry}
+use Rattle.ats_postings.proofs.Public.{listed, unlisted}
+use Rattle.ats_lists.proofs.Public.{list-empty}
 use Rattle.ats_lists.specs.KeptList.{kept_list, format_of}
 use Rattle.ats_lists.specs.declared.format.Format.{Format}
 use Rattle.ats_lists.specs.declared.format.Format.TheVariants.{One, Two}

@@ -13,8 +13,8 @@ use Rattle.ats_terms.specs.Terms.{terms}
 use Rattle.ats_terms.specs.Query.{byte_cmp, put_term, counted}
 use Rattle.ats_terms.proofs.Public.{counted_counts, all_weigh, weight_at}
 use Rattle.ats_impact.specs.Score.{count, frequency, total_terms}
-use Rattle.ats_lists.specs.Lists.{vocabulary}
-use Rattle.ats_lists.proofs.Public.{occurs_in}
+use Rattle.ats_postings.specs.Lists.{vocabulary}
+use Rattle.ats_postings.proofs.Public.{occurs_in}
 
 module _ (g : List ℕ → ℕ) where
   abbrev of_pair : List ℕ × ℕ → ℕ

@@ -4,8 +4,8 @@
 ghost use Rattle.std.specs.Prelude.{◌≡◌, ◌<◌, ◌+◌, ◌++◌, ◌∷◌, [], length, IfOk, OnOk};
 ghost use Rattle.ats_terms.specs.Terms.{terms};
 ghost use Rattle.ats_terms.specs.Query.{counted};
-ghost use Rattle.ats_lists.specs.Lists.{lists_of};
-ghost use Rattle.ats_lists.specs.Postings.{text_of};
+ghost use Rattle.ats_postings.specs.Lists.{lists_of};
+ghost use Rattle.ats_postings.specs.Postings.{text_of};
 ghost use Rattle.ats_tree.specs.Kept.{kept_digests};
 ghost use Rattle.ats_doctree.specs.Impacts.{doc_terms};
 ghost use Rattle.ats_doctree.specs.Sentinels.{terms_leaves};

@@ -9,7 +9,8 @@ ghost use Rattle.ats_lists.specs.declared.format.Format.TheVariants.{Two};
 ghost use Rattle.ats_commit.specs.OwnShown.{IsOwnFront, IsOwnListShown};
 
 use ats_hash::{HashKind, Steps};
-use ats_lists::{Chain, Entry, ListDigests, ListLeaves};
+use ats_lists::{Chain, ListDigests, ListLeaves};
+use ats_postings::Entry;
 use ats_tree::{Leaves, ShortLeaves, ShownTree};
 
 /// Whether what is shown of a list of `n` entries is of the list of these entries, whose digests these are.

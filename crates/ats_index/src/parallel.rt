@@ -11,7 +11,7 @@ ghost use Rattle.ats_tree.specs.Tree.{mth};
 ghost use Rattle.ats_dict.specs.Dictionary.{dict_leaves};
 ghost use Rattle.ats_commit.specs.Trees.{dict_entry, documents_of};
 ghost use Rattle.ats_lists.specs.KeptList.{kept_list};
-ghost use Rattle.ats_lists.specs.Lists.{lists_of};
+ghost use Rattle.ats_postings.specs.Lists.{lists_of};
 ghost use Rattle.ats_doctree.specs.Impacts.{doc_terms};
 ghost use Rattle.ats_doctree.specs.Sentinels.{terms_leaves};
 ghost use Rattle.ats_index.specs.Kept.{all_list_digests, all_term_digests};

@@ -4,7 +4,7 @@ ghost use Rattle.std.specs.Prelude.{◌≡◌, ◌↔◌, ◌^◌, ◌≤◌, []
 ghost use Rattle.ats_tree.specs.OwnShown.{IsOwnShown};
 ghost use Rattle.ats_tree.specs.declared.hashed.Tree.TheVariants.{Header as HeaderTree, Documents as DocumentsTree, Terms as TermsTree};
 ghost use Rattle.ats_lists.specs.Formats.{list_string};
-ghost use Rattle.ats_lists.specs.Lists.{list};
+ghost use Rattle.ats_postings.specs.Lists.{list};
 ghost use Rattle.ats_commit.specs.OwnShown.{IsOwnListShown};
 ghost use Rattle.ats_commit.specs.Ours.{own_leaves, own_string, ours};
 ghost use Rattle.ats_commit.specs.Places.{numbers_at, IsOfQuery};

@@ -9,7 +9,8 @@ ghost use Rattle.ats_index.specs.Spelling.{list_bytes, lists_bytes, text_bytes, 
 use crate::compare::Takes;
 use crate::memory::OutOfMemory;
 use ats_impact::Collection;
-use ats_lists::{Entry, Format, Lists};
+use ats_lists::{Format, Lists};
+use ats_postings::Entry;
 use byteorder::{BigEndian, ByteOrder};
 
 pub(crate) const MAGIC: [u8; 4] = *b"ATSI";

@@ -16,10 +16,10 @@ use Rattle.ats_terms.proofs.Public.{rises_apart}
 use Rattle.ats_impact.specs.Numbers.{impact}
 use Rattle.ats_impact.specs.Score.{total_terms}
 use Rattle.ats_impact.proofs.Public.{occurs_few}
-use Rattle.ats_lists.specs.Postings.{text_of, count_in, posting, postings_of_run}
+use Rattle.ats_postings.specs.Postings.{text_of, count_in, posting, postings_of_run}
 use Rattle.ats_lists.specs.Gathered.{Pairs, entries_for, HasEntries, HasRun}
-use Rattle.ats_lists.specs.declared.entry.Entry.{Entry}
-use Rattle.ats_lists.proofs.PostingLemmas.{run_none, run_more, run_joined}
+use Rattle.ats_postings.specs.declared.entry.Entry.{Entry}
+use Rattle.ats_postings.proofs.Public.{run_none, run_more, run_joined}
 
 -- ---- the entries of a term
 

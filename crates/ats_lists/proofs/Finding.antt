@@ -10,7 +10,7 @@ use Rattle.std.proofs.lemmas.Cmp.{nat_list_cmp_total, tied_itself}
 use Rattle.std.proofs.lemmas.List.{get_or-map, length-map}
 use Rattle.std.proofs.lemmas.List.Sorted.{searchable_from_sorted}
 use Rattle.ats_terms.specs.Query.{byte_cmp}
-use Rattle.ats_lists.proofs.Rising.{sorted_from_rises}
+use Rattle.ats_postings.proofs.Public.{sorted_from_rises}
 
 keys_sorted : {X : Type 0} (xs : List (List ℕ × X)) → IsStrictlySortedBy byte_cmp (map (λ x. x.0) xs) → IsSortedBy (λ a b. is_lt (byte_cmp a.0 b.0)) xs
 keys_sorted {X} xs rises k d low inside =

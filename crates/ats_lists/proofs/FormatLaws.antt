@@ -17,7 +17,7 @@ use Rattle.ats_lists.specs.Blocks.{blocks_in, block, blocks_from}
 use Rattle.ats_lists.specs.Chain.{link, no_block, chain_digest, chain_from, chain_link, chain_string}
 use Rattle.ats_lists.specs.Formats.{list_root, list_string, prefix_root, prefix_strings, prefix_digests, first_leaves}
 use Rattle.ats_lists.specs.Leaf.{leaf_bytes}
-use Rattle.ats_lists.specs.declared.entry.Entry.{Entry}
+use Rattle.ats_postings.specs.declared.entry.Entry.{Entry}
 use Rattle.ats_lists.specs.declared.format.Format.{Format}
 use Rattle.ats_lists.specs.declared.format.Format.TheVariants.{One, Two}
 use Rattle.ats_lists.proofs.Fronts.{front-places, front-within}

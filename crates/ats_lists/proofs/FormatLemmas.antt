@@ -9,7 +9,7 @@ use Rattle.ats_tree.specs.Differences.{Hashed, Difference, first_difference}
 use Rattle.ats_tree.proofs.Public.{bound_to, known-moved, difference-alike, node-some, Collides}
 use Rattle.ats_lists.specs.Formats.{list_root, list_string, prefix_root, IsListBoundTo}
 use Rattle.ats_lists.specs.Leaf.{leaf_bytes}
-use Rattle.ats_lists.specs.declared.entry.Entry.{Entry}
+use Rattle.ats_postings.specs.declared.entry.Entry.{Entry}
 use Rattle.ats_lists.specs.declared.format.Format.{Format}
 use Rattle.ats_lists.specs.declared.format.Format.TheVariants.{One, Two}
 use Rattle.ats_lists.proofs.Fronts.{front-rises}

@@ -13,7 +13,7 @@ use Rattle.ats_lists.specs.Blocks.{block}
 use Rattle.ats_lists.specs.Chain.{chain_string, IsAtBlock}
 use Rattle.ats_lists.specs.Formats.{deepest, list_string}
 use Rattle.ats_lists.specs.Leaf.{leaf_bytes}
-use Rattle.ats_lists.specs.declared.entry.Entry.{Entry}
+use Rattle.ats_postings.specs.declared.entry.Entry.{Entry}
 use Rattle.ats_lists.specs.declared.format.Format.{Format}
 use Rattle.ats_lists.specs.declared.format.Format.TheVariants.{One, Two}
 use Rattle.ats_lists.proofs.ChainLaws.{not_some, strings-only}

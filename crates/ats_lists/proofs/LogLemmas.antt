@@ -15,10 +15,9 @@ use Rattle.std.proofs.lemmas.Slice.Eq.{bytes_eq-Decides}
 use Rattle.ats_terms.specs.Terms.{IsTerm}
 use Rattle.ats_terms.specs.Query.{byte_cmp}
 use Rattle.ats_lists.specs.Gathered.{Pairs, entries_for, entries_under, term_of, pairs_of, renumbered, AreNewNumbers, IsLogOf}
-use Rattle.ats_lists.specs.declared.entry.Entry.{Entry}
+use Rattle.ats_postings.specs.declared.entry.Entry.{Entry}
 use Rattle.ats_lists.specs.declared.gathering.Logged.{Logged}
-use Rattle.ats_lists.proofs.Rising.{one_place}
-use Rattle.ats_lists.proofs.VocabularyLemmas.{if_some, lookup_made}
+use Rattle.ats_postings.proofs.Public.{one_place, if_some, lookup_made}
 
 -- ---- one entry more
 

@@ -20,7 +20,7 @@ use Rattle.ats_terms.proofs.Public.{front_tells}
 use Rattle.ats_lists.specs.Gathered.{term_of, AreNewNumbers, AreNumbered, AreSlotsOf, IsSlotOf}
 use Rattle.ats_lists.specs.declared.numbering.Slot.{Slot}
 use Rattle.ats_lists.proofs.LogLemmas.{Grows, terms_kept, used_before}
-use Rattle.ats_lists.proofs.Rising.{less_by, one_place}
+use Rattle.ats_postings.proofs.Public.{less_by, one_place}
 
 -- ---- the table
 

@@ -6,14 +6,12 @@ use Rattle.std.specs.BTreeMap.{is_at}
 use Rattle.std.specs.Map.{lookup, keys_of}
 use Rattle.ats_terms.specs.Terms.{IsTerm}
 use Rattle.ats_terms.specs.Query.{byte_cmp}
-use Rattle.ats_lists.specs.Postings.{postings}
-use Rattle.ats_lists.specs.Lists.{by_impact, vocabulary, lists_of}
-use Rattle.ats_lists.specs.Gathered.{Pairs, entries_for, entries_under, term_of, pairs_of, HasRun, AreGathered, IsLogOf}
-use Rattle.ats_lists.specs.declared.entry.Entry.{Entry}
+use Rattle.ats_postings.specs.Postings.{postings}
+use Rattle.ats_postings.specs.Lists.{by_impact, vocabulary, lists_of, AreGathered}
+use Rattle.ats_lists.specs.Gathered.{Pairs, entries_for, entries_under, term_of, pairs_of, HasRun, IsLogOf}
+use Rattle.ats_postings.specs.declared.entry.Entry.{Entry}
 use Rattle.ats_lists.specs.declared.gathering.Logged.{Logged}
-use Rattle.ats_lists.proofs.PostingLemmas.{run_of_all}
-use Rattle.ats_lists.proofs.VocabularyLemmas.{if_some, keys_made}
-use Rattle.ats_lists.proofs.WholeLemmas.{all_gathered, made_lists, terms_are}
+use Rattle.ats_postings.proofs.Public.{run_of_all, if_some, keys_made, all_gathered, made_lists, terms_are}
 use Rattle.ats_lists.proofs.LogLemmas.{parted_is, parted_finds, numbered_terms}
 
 module _ (texts : List (List ℕ)) (terms : List (List ℕ)) (log : List Logged) (run : Pairs) (pairs : pairs_of terms log ≡ run)

@@ -12,7 +12,7 @@ use Rattle.ats_tree.specs.Tree.{mth}
 use Rattle.ats_lists.specs.Chain.{chain, chain_string, chain_elided}
 use Rattle.ats_lists.specs.ChainPrefix.{chain_rebuilt, chain_strings}
 use Rattle.ats_lists.specs.Leaf.{leaf_bytes}
-use Rattle.ats_lists.specs.declared.entry.Entry.{Entry}
+use Rattle.ats_postings.specs.declared.entry.Entry.{Entry}
 use Rattle.ats_lists.specs.declared.format.Format.{Format}
 use Rattle.ats_lists.specs.declared.format.Format.TheVariants.{One, Two}
 

@@ -7,8 +7,8 @@ use Rattle.std.specs.Str.{bytes_eq}
 use Rattle.std.specs.declared.cmp.Ordering.{Ordering}
 use Rattle.ats_terms.specs.Front.{front, AreBytes}
 use Rattle.ats_terms.specs.Terms.{IsTerm}
-use Rattle.ats_lists.specs.Postings.{postings_of_run}
-use Rattle.ats_lists.specs.declared.entry.Entry.{Entry}
+use Rattle.ats_postings.specs.Postings.{postings_of_run}
+use Rattle.ats_postings.specs.declared.entry.Entry.{Entry}
 use Rattle.ats_lists.specs.declared.numbering.Slot.{Slot}
 use Rattle.ats_lists.specs.declared.gathering.Logged.{Logged}
 
@@ -28,15 +28,6 @@ pub record HasEntries (of : List ℕ → List Entry) (pairs : Pairs) : Type 0 wh
 -- the pairs have the postings of the documents from `first` up to, but not including, `behind`
 abbrev pub HasRun : ℕ → ℕ → List (List ℕ) → Pairs → Type 0
 HasRun first behind texts pairs = HasEntries (postings_of_run first (behind - first) texts) pairs
-
--- by document
-abbrev pub doc_cmp : Entry → Entry → Ordering
-doc_cmp a b = nat_cmp a.doc b.doc
-
--- entries in the order of documents, with possible impacts
-pub record AreGathered (entries : List Entry) : Type 0 where
-  pub rise : IsStrictlySortedBy doc_cmp entries
-  pub impacts : All (λ entry. (1 ≤ entry.impact) × (entry.impact ≤ 2200)) entries
 
 -- ---- terms by number
 

@@ -1,5 +1,3 @@
-pub mod Postings
-pub mod Lists
 pub mod Leaf
 pub mod Gathered
 pub mod Blocks

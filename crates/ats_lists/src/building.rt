@@ -3,8 +3,8 @@
 ghost use Rattle.std.specs.Prelude.{◌≡◌, ◌<◌, ◌≤◌, ◌+◌, length, IfOk};
 ghost use Rattle.ats_terms.specs.Terms.{terms};
 ghost use Rattle.ats_terms.specs.Query.{counted};
-ghost use Rattle.ats_lists.specs.Postings.{text_of};
-ghost use Rattle.ats_lists.specs.Lists.{lists_of, AreLists};
+ghost use Rattle.ats_postings.specs.Postings.{text_of};
+ghost use Rattle.ats_postings.specs.Lists.{lists_of, AreLists};
 
 use crate::gathering::Gathered;
 use crate::lists::Lists;

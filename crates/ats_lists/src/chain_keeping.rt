@@ -13,7 +13,7 @@ ghost use Rattle.ats_lists.specs.KeptChain.{ChainDigests, kept_chain, digests_in
 ghost use Rattle.ats_lists.specs.Leaf.{leaf_bytes};
 
 use crate::chain_rebuilding::BLOCK;
-use crate::entry::Entry;
+use ats_postings::Entry;
 use crate::leaves::ListLeaves;
 use crate::memory::OutOfMemory;
 use ats_hash::{Hash32, HashKind, Steps};

@@ -5,7 +5,7 @@ ghost use Rattle.std.specs.List.{range_with_len};
 ghost use Rattle.ats_tree.specs.Nodes.{NodeNumbers};
 ghost use Rattle.ats_tree.specs.Shown.{Shown, positions_of};
 ghost use Rattle.ats_lists.specs.Formats.{deepest, first_leaves, list_root, list_string, prefix_digests, prefix_root, prefix_strings, IsListBoundTo};
-ghost use Rattle.ats_lists.specs.declared.entry.Entry.{Entry};
+ghost use Rattle.ats_postings.specs.declared.entry.Entry.{Entry};
 ghost use Rattle.ats_lists.specs.declared.format.Format.{Format};
 
 use ats_hash::HashKind;

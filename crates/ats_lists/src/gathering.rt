@@ -5,11 +5,11 @@ ghost use Rattle.std.specs.List.{All};
 ghost use Rattle.std.specs.List.Sorted.{IsStrictlySortedBy};
 ghost use Rattle.ats_terms.specs.Terms.{terms};
 ghost use Rattle.ats_terms.specs.Query.{byte_cmp, counted};
-ghost use Rattle.ats_lists.specs.Postings.{text_of};
-ghost use Rattle.ats_lists.specs.Gathered.{entries_under, pairs_of, renumbered, term_of, AreGathered, AreNewNumbers, HasRun, IsLogOf};
-ghost use Rattle.ats_lists.specs.Lists.{by_impact, lists_of, AreLists};
+ghost use Rattle.ats_postings.specs.Postings.{text_of};
+ghost use Rattle.ats_postings.specs.Lists.{AreGathered, by_impact, lists_of, AreLists};
+ghost use Rattle.ats_lists.specs.Gathered.{entries_under, pairs_of, renumbered, term_of, AreNewNumbers, HasRun, IsLogOf};
 
-use crate::entry::Entry;
+use ats_postings::Entry;
 use crate::key::Key;
 use crate::memory::OutOfMemory;
 use crate::numbering::{Numbering, Places};

@@ -3,7 +3,7 @@
 ghost use Rattle.std.specs.Prelude.{◌≤◌, length, map};
 ghost use Rattle.ats_lists.specs.Leaf.{leaf_bytes};
 
-use crate::entry::Entry;
+use ats_postings::Entry;
 use ats_hash::{Hash32, Steps};
 use ats_tree::{HashedString, Leaves, ShortLeaves};
 

@@ -32,13 +32,11 @@ mod chain_clashing;
 mod chain_keeping;
 mod chain_laws;
 mod chain_rebuilding;
-mod entry;
 mod format;
 mod format_laws;
 mod format_number;
 mod gathering;
 mod key;
-mod laws;
 mod leaves;
 mod list_keeping;
 mod lists;
@@ -52,12 +50,10 @@ pub use chain_clashing::chain_first_clash;
 pub use chain_keeping::Chain;
 pub use chain_laws::{chain_of_strings, chain_strings_have_numbers, first_leaves_suffice};
 pub use chain_rebuilding::chain_rebuild;
-pub use entry::Entry;
 pub use format::Format;
 pub use format_laws::{
     first_entries_suffice, first_leaves_are_bound, list_strings_are_shallow, list_strings_have_tags,
 };
-pub use laws::{lists_are_sorted_postings, lists_have_all_documents, vocabulary_has_all_terms};
 pub use leaves::ListLeaves;
 pub use list_keeping::ListDigests;
 pub use lists::Lists;

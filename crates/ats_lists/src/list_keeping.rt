@@ -4,11 +4,11 @@ ghost use Rattle.std.specs.Prelude.{◌≡◌, ℕ, ◌+◌, ◌*◌, ◌^◌, �
 ghost use Rattle.std.specs.List.{range_with_len};
 ghost use Rattle.ats_lists.specs.Formats.{list_root, list_string, prefix_digests};
 ghost use Rattle.ats_lists.specs.KeptList.{kept_list, format_of, entries_of};
-ghost use Rattle.ats_lists.specs.declared.entry.Entry.{Entry};
+ghost use Rattle.ats_postings.specs.declared.entry.Entry.{Entry};
 ghost use Rattle.ats_lists.specs.declared.format.Format.{Format};
 
 use crate::chain_keeping::Chain;
-use crate::entry::Entry;
+use ats_postings::Entry;
 use crate::format::Format;
 use crate::leaves::ListLeaves;
 use crate::memory::OutOfMemory;

@@ -4,11 +4,11 @@ ghost use Rattle.std.specs.Prelude.{◌≡◌, ◌≢◌, ◌<◌, [], List, ℕ
 ghost use Rattle.std.specs.List.{All};
 ghost use Rattle.ats_terms.specs.Terms.{IsTerm};
 ghost use Rattle.ats_terms.specs.Query.{byte_cmp};
-ghost use Rattle.ats_lists.specs.Lists.{lists_of, IsList, AreLists};
-ghost use Rattle.ats_lists.specs.declared.entry.Entry.{Entry as Posting};
+ghost use Rattle.ats_postings.specs.Lists.{lists_of, IsList, AreLists};
+ghost use Rattle.ats_postings.specs.declared.entry.Entry.{Entry as Posting};
 
 use crate::building::ListsBuilder;
-use crate::entry::Entry;
+use ats_postings::Entry;
 use crate::memory::OutOfMemory;
 use crate::term_list::TermList;
 use ats_impact::Collection;
@@ -28,8 +28,8 @@ pub struct Lists {
 
 impl Model for Lists {
     ghost use Rattle.std.specs.Prelude.{List, ℕ};
-    ghost use Rattle.ats_lists.specs.declared.entry.Entry.{Entry};
-    ghost use Rattle.ats_lists.specs.Lists.{AreLists};
+    ghost use Rattle.ats_postings.specs.declared.entry.Entry.{Entry};
+    ghost use Rattle.ats_postings.specs.Lists.{AreLists};
 
     ghost Value = { List (List ℕ × List Entry) };
 

@@ -1,10 +1,9 @@
 //! A term with its entries.
 
 ghost use Rattle.std.specs.Prelude.{◌≡◌, ◌++◌, ◌∷◌, [], IfOk, OnOk};
-ghost use Rattle.ats_lists.specs.Gathered.{AreGathered};
-ghost use Rattle.ats_lists.specs.Lists.{by_impact};
+ghost use Rattle.ats_postings.specs.Lists.{AreGathered, by_impact};
 
-use crate::entry::Entry;
+use ats_postings::Entry;
 use crate::memory::OutOfMemory;
 use std::alloc::Global;
 use std::cmp::Reverse;
@@ -19,7 +18,7 @@ pub(crate) struct TermList {
 
 impl Model for TermList {
     ghost use Rattle.std.specs.Prelude.{List, ℕ};
-    ghost use Rattle.ats_lists.specs.declared.entry.Entry.{Entry};
+    ghost use Rattle.ats_postings.specs.declared.entry.Entry.{Entry};
 
     ghost Value = { List ℕ × List Entry };
 

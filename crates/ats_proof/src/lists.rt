@@ -8,7 +8,7 @@ use crate::bytes::{nth, number_2, number_4};
 use crate::digests::{DigestRun, counted_digests_2};
 use crate::record::ENTRY_BYTES;
 use ats_hash::Steps;
-use ats_lists::Entry;
+use ats_postings::Entry;
 
 /// The prefixes of a proof that are left, one for each present term, in the order of these terms.
 #[derive(Clone, Copy)]

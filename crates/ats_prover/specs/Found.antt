@@ -1,7 +1,7 @@
 -- What an index gives of the terms of a query.
 use Rattle.std.specs.Prelude.{◌≡◌, ◌≤◌, ◌^◌, ℕ, List, length}
 use Rattle.std.specs.List.{All}
-use Rattle.ats_lists.specs.Lists.{IsList}
+use Rattle.ats_postings.specs.Lists.{IsList}
 use Rattle.ats_lists.specs.declared.list_keeping.ListDigests.{ListDigests}
 use Rattle.ats_dict.specs.declared.spot.Spot.{Spot}
 use Rattle.ats_commit.specs.Archive.{Archive}

@@ -3,7 +3,7 @@
 ghost use Rattle.std.specs.Prelude.{◌≡◌, ◌≤◌, ◌<◌, ◌*◌, ℕ, length, map, IfOk, OnOk};
 ghost use Rattle.std.specs.List.{All};
 ghost use Rattle.ats_impact.specs.Numbers.{idf};
-ghost use Rattle.ats_lists.specs.Lists.{IsList};
+ghost use Rattle.ats_postings.specs.Lists.{IsList};
 ghost use Rattle.ats_bound.specs.Schedule.{AreWholeLanes, whole_lanes};
 ghost use Rattle.ats_commit.specs.Trees.{dictionary_of};
 ghost use Rattle.ats_honest.specs.Terms.{AreSpots};
@@ -16,7 +16,8 @@ use ats_dict::Spot;
 use ats_hash::HashKind;
 use ats_impact::idf;
 use ats_index::Index;
-use ats_lists::{Entry, ListDigests};
+use ats_lists::ListDigests;
+use ats_postings::Entry;
 use ats_terms::Query;
 use std::alloc::Global;
 

@@ -2,14 +2,14 @@
 
 ghost use Rattle.std.specs.Prelude.{◌≡◌, ◌++◌, ◌≤◌, length, map, take, IfOk, OnOk};
 ghost use Rattle.std.specs.List.{flat_map};
-ghost use Rattle.ats_lists.specs.declared.entry.Entry.{Entry as Posting};
+ghost use Rattle.ats_postings.specs.declared.entry.Entry.{Entry as Posting};
 ghost use Rattle.ats_bound.specs.Cut.{ShownLane};
 ghost use Rattle.ats_bound.specs.Schedule.{IsCut, shown, whole_lanes};
 ghost use Rattle.ats_honest.specs.Honest.{AreMet};
 
 use crate::fault::OutOfMemory;
 use ats_bound::Lane;
-use ats_lists::Entry;
+use ats_postings::Entry;
 use std::alloc::Global;
 
 // Appends the documents that these entries name.

@@ -4,7 +4,7 @@ ghost use Rattle.std.specs.Prelude.{◌≡◌, ◌+◌, ◌≤◌, ◌<◌, ◌*
 ghost use Rattle.std.specs.List.{All, flat_map};
 ghost use Rattle.std.specs.List.Sorted.{IsStrictlyIncreasing};
 ghost use Rattle.ats_lists.specs.KeptList.{kept_list};
-ghost use Rattle.ats_lists.specs.Lists.{IsList};
+ghost use Rattle.ats_postings.specs.Lists.{IsList};
 ghost use Rattle.ats_lists.specs.declared.format.Format.{Format};
 ghost use Rattle.ats_bound.specs.Schedule.{whole_lanes};
 ghost use Rattle.ats_bound.specs.Schedule.{IsCut};
@@ -20,7 +20,8 @@ use crate::fault::OutOfMemory;
 use crate::shown::{place, write_digests};
 use ats_bound::Lane;
 use ats_hash::HashKind;
-use ats_lists::{Entry, ListDigests};
+use ats_lists::ListDigests;
+use ats_postings::Entry;
 use ats_proof::ProofWriter;
 use ats_tree::Digests;
 use std::alloc::Global;

@@ -47,7 +47,7 @@ fn types_of_archives_cross_threads() {
     cross::<ats_lists::Chain>();
     cross::<ats_lists::Format>();
     cross::<ats_lists::ListDigests>();
-    cross::<ats_lists::Entry>();
+    cross::<ats_postings::Entry>();
     cross::<ats_lists::ListsBuilder<'static>>();
     cross::<ats_lists::Lists>();
     cross::<ats_lists::ListLeaves<'static>>();

@@ -1,7 +1,7 @@
 use Rattle.std.proofs.Common.{◌≡◌, ◌++◌, ℕ, List, [], length, get_or, take, subst, ap₂, arith}
 use Rattle.std.specs.Int.{to_be_bytes, w32}
 use Rattle.std.specs.List.{flat_map}
-use Rattle.ats_lists.specs.declared.entry.Entry.{Entry}
+use Rattle.ats_postings.specs.declared.entry.Entry.{Entry}
 use Rattle.ats_index.specs.Spelling.{list_bytes}
 use Rattle.ats_index.proofs.Writing.{one_more}
 use Rattle.ats_index.proofs.write.put_lists.Goals as goal

@@ -1,5 +1,5 @@
 use Rattle.std.proofs.Common.{◌≡◌, ◌<◌, ◌≤◌, ℕ, [], length, get_or}
-use Rattle.ats_lists.specs.Lists.{by_impact}
+use Rattle.ats_postings.specs.Lists.{by_impact}
 use Rattle.ats_lists.proofs.gathering.sort_each.Given as goal
 
 -- the lists so far are in order, and the others as they were

@@ -1,6 +1,6 @@
 use Rattle.std.proofs.Common.{List, length, subst, sym, ap, ◌∙◌}
 use Rattle.std.specs.List.{All}
-use Rattle.ats_lists.specs.Lists.{IsList}
+use Rattle.ats_postings.specs.Lists.{IsList}
 use Rattle.ats_dict.specs.Entry.{DictEntry}
 use Rattle.ats_dict.specs.declared.spot.Spot.{Spot}
 use Rattle.ats_commit.specs.Trees.{dictionary_of}

@@ -1,9 +1,9 @@
 use Rattle.std.proofs.Common.{◌≡◌, ◌-◌, ◌*◌, ◌<◌, ◌≤◌, ◌++◌, ℕ, suc, List, [], ◌∷◌, length, map, get_or, subst, sym, ap, ap₂, ◌∙◌, arith, take_all, Bor}
 use Rattle.ats_lists.specs.KeptList.{kept_list}
 use Rattle.ats_lists.specs.declared.list_keeping.ListDigests.{ListDigests}
-use Rattle.ats_lists.specs.Lists.{lists_of}
+use Rattle.ats_postings.specs.Lists.{lists_of}
 use Rattle.ats_impact.specs.Numbers.{idf}
-use Rattle.ats_lists.specs.declared.entry.Entry.{Entry}
+use Rattle.ats_postings.specs.declared.entry.Entry.{Entry}
 use Rattle.ats_dict.specs.declared.spot.Spot.{Spot}
 use Rattle.ats_dict.specs.declared.spot.Spot.TheVariants.{At}
 use Rattle.ats_dict.specs.Found.{IsSpot, StandsAt}

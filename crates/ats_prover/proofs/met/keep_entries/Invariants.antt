@@ -1,5 +1,5 @@
 use Rattle.std.proofs.Common.{◌≡◌, ◌++◌, map, take}
-use Rattle.ats_lists.specs.declared.entry.Entry.{Entry}
+use Rattle.ats_postings.specs.declared.entry.Entry.{Entry}
 use Rattle.ats_prover.proofs.met.keep_entries.Given as goal
 
 -- the documents so far

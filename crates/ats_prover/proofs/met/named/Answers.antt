@@ -1,7 +1,7 @@
 use Rattle.std.proofs.Common.{◌++◌, ℕ, List, map, take, get_or, sym, ap, ◌∙◌, arith, take_all}
 use Rattle.std.specs.List.{flat_map}
 use Rattle.std.proofs.lemmas.List.{length-take-le}
-use Rattle.ats_lists.specs.declared.entry.Entry.{Entry}
+use Rattle.ats_postings.specs.declared.entry.Entry.{Entry}
 use Rattle.ats_bound.specs.Schedule.{shown, whole_lanes}
 use Rattle.ats_bound.proofs.Public.{count_at, shown_size}
 use Rattle.ats_honest.proofs.Public.{docs_in}

@@ -1,6 +1,6 @@
 use Rattle.std.proofs.Common.{ℕ, ◌<◌, ◌∷◌, [], length, map, get_or, ap, ◌∙◌, arith}
 use Rattle.std.specs.List.{concat}
-use Rattle.ats_lists.specs.declared.entry.Entry.{Entry}
+use Rattle.ats_postings.specs.declared.entry.Entry.{Entry}
 use Rattle.ats_proof.specs.Written.{Written, after}
 use Rattle.ats_proof.specs.Records.{entry_record}
 use Rattle.ats_proof.specs.Parts.{spelled}

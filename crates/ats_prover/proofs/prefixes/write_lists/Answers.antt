@@ -1,7 +1,7 @@
 use Rattle.std.proofs.Common.{◌≡◌, ◌<◌, ◌++◌, List, [], length, map, get_or, take, subst, sym, ap, ◌∙◌, arith, append-nil, take_all, ℕ, Bor}
 use Rattle.std.specs.List.{flat_map}
 use Rattle.std.proofs.lemmas.List.{length-map, get_or-map}
-use Rattle.ats_lists.specs.Lists.{IsList}
+use Rattle.ats_postings.specs.Lists.{IsList}
 use Rattle.ats_lists.specs.KeptList.{kept_list}
 use Rattle.ats_lists.specs.declared.format.Format.{Format}
 use Rattle.ats_lists.specs.declared.list_keeping.ListDigests.{ListDigests}

@@ -4,7 +4,7 @@ use Rattle.std.proofs.lemmas.Result.{on_ok_weaker}
 use Rattle.std.proofs.lemmas.List.{length-map, get_or_default}
 use Rattle.ats_tree.specs.Elided.{elided_digests}
 use Rattle.ats_tree.specs.Kept.{kept_digests}
-use Rattle.ats_lists.specs.Lists.{IsList}
+use Rattle.ats_postings.specs.Lists.{IsList}
 use Rattle.ats_dict.specs.Entry.{DictEntry}
 use Rattle.ats_dict.specs.Dictionary.{IsDictionary, dict_leaves}
 use Rattle.ats_dict.specs.declared.spot.Spot.{Spot}

@@ -1,7 +1,7 @@
 use Rattle.std.proofs.Common.{ℕ, List, [], false, IsTrue, subst}
 use Rattle.ats_lists.specs.KeptList.{format_of}
-use Rattle.ats_lists.specs.Lists.{list}
-use Rattle.ats_lists.specs.declared.entry.Entry.{Entry}
+use Rattle.ats_postings.specs.Lists.{list}
+use Rattle.ats_postings.specs.declared.entry.Entry.{Entry}
 use Rattle.ats_lists.specs.declared.format.Format.{Format}
 use Rattle.ats_commit.specs.OwnShown.{IsOwnListShown}
 use Rattle.ats_index.proofs.StringLemmas.{entries_found, kept_own, own_absent}

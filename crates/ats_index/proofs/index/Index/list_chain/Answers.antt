@@ -1,8 +1,8 @@
 use Rattle.std.proofs.Common.{◌≡◌, List, [], sym, ap, ◌∙◌}
 use Rattle.std.specs.Prelude.{slice_index_or}
 use Rattle.ats_lists.specs.KeptList.{kept_list}
-use Rattle.ats_lists.specs.Lists.{lists_of}
-use Rattle.ats_lists.specs.declared.entry.Entry.{Entry}
+use Rattle.ats_postings.specs.Lists.{lists_of}
+use Rattle.ats_postings.specs.declared.entry.Entry.{Entry}
 use Rattle.ats_lists.specs.declared.format.Format.{Format}
 use Rattle.ats_lists.specs.declared.format.Format.TheVariants.{Two}
 use Rattle.ats_index.proofs.index.Index.list_chain.Goals as goal

@@ -1,6 +1,6 @@
 use Rattle.std.proofs.Common.{ℕ, List, [], ◌∙◌, ap₂, sym}
 use Rattle.ats_lists.specs.Formats.{list_string}
-use Rattle.ats_lists.specs.declared.entry.Entry.{Entry}
+use Rattle.ats_postings.specs.declared.entry.Entry.{Entry}
 use Rattle.ats_lists.specs.declared.format.Format.{Format}
 use Rattle.ats_commit.specs.Places.{numbers_at}
 use Rattle.ats_index.proofs.StringLemmas.{entries_found, kept_own, list_absent}

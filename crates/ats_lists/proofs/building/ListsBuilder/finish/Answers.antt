@@ -1,7 +1,7 @@
 use Rattle.std.proofs.Common.{◌≡◌, ℕ, List, length, sym, ap, subst, ◌∙◌, arith}
 use Rattle.ats_lists.specs.Gathered.{Pairs, HasRun}
-use Rattle.ats_lists.specs.Lists.{lists_of}
-use Rattle.ats_lists.proofs.WholeLemmas.{lists_within}
+use Rattle.ats_postings.specs.Lists.{lists_of}
+use Rattle.ats_postings.proofs.Public.{lists_within}
 use Rattle.ats_lists.proofs.building.ListsBuilder.finish.Goals as goal
 
 -- the run ends with the last document

@@ -1,6 +1,6 @@
 use Rattle.std.proofs.Common.{◌∙◌, arith}
 use Rattle.ats_lists.proofs.PartedLemmas.{parted_gathered, parted_lists, parted_terms}
-use Rattle.ats_lists.proofs.WholeLemmas.{lists_keep}
+use Rattle.ats_postings.proofs.Public.{lists_keep}
 use Rattle.ats_lists.proofs.gathering.Gathered.sorted.Goals as goal
 
 pub sort_each-requires : goal.sort_each-requires

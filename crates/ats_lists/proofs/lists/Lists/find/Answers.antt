@@ -2,7 +2,7 @@ use Rattle.std.proofs.Common.{ℕ, List, [], get_or, rules}
 use Rattle.std.proofs.lemmas.Fn.{always_returns_same}
 use Rattle.ats_terms.specs.Query.{byte_cmp}
 use Rattle.ats_terms.proofs.Public.{equal_from}
-use Rattle.ats_lists.specs.declared.entry.Entry.{Entry}
+use Rattle.ats_postings.specs.declared.entry.Entry.{Entry}
 use Rattle.ats_lists.proofs.Finding.{searchable, parted}
 use Rattle.ats_lists.proofs.lists.Lists.find.Goals as goal
 

@@ -1,9 +1,9 @@
 use Rattle.std.proofs.Common.{rules, List, ap}
 use Rattle.std.specs.List.Sorted.{IsSorted}
 use Rattle.std.proofs.lemmas.List.Sorted.{answers_always}
-use Rattle.ats_lists.specs.Lists.{entry_cmp}
-use Rattle.ats_lists.specs.declared.entry.Entry.{Entry}
-use Rattle.ats_lists.proofs.Sorting.{sorted_gathered}
+use Rattle.ats_postings.specs.Lists.{entry_cmp}
+use Rattle.ats_postings.specs.declared.entry.Entry.{Entry}
+use Rattle.ats_postings.proofs.Public.{sorted_gathered}
 use Rattle.ats_lists.proofs.term_list.TermList.sort.Goals as goal
 
 pub returns : goal.returns

@@ -1,6 +1,6 @@
 use Rattle.std.proofs.Common.{◌∙◌, ℕ, ◌<◌, length, sym, ap, subst, arith}
 use Rattle.std.specs.List.{All}
-use Rattle.ats_lists.specs.declared.entry.Entry.{Entry}
+use Rattle.ats_postings.specs.declared.entry.Entry.{Entry}
 use Rattle.ats_proof.specs.Parts.{parts_in}
 use Rattle.ats_proof.specs.Reading.{id_size, id_in}
 use Rattle.ats_proof.specs.Runs.{shown_list}

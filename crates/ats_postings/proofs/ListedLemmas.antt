@@ -6,11 +6,11 @@ use Rattle.std.proofs.lemmas.Bool.{cases_Bool, ltb-false}
 use Rattle.std.proofs.lemmas.List.{length-map, get_or-map, get_or_default, nil_from_length}
 use Rattle.std.proofs.lemmas.List.Folds.{list_any_none}
 use Rattle.std.proofs.lemmas.Slice.Eq.{bytes_eq-Decides}
-use Rattle.ats_lists.specs.Postings.{postings}
-use Rattle.ats_lists.specs.Lists.{list, lists_of, vocabulary}
-use Rattle.ats_lists.specs.declared.entry.Entry.{Entry}
-use Rattle.ats_lists.proofs.VocabularyLemmas.{vocabulary_has, postings_frequency}
-use Rattle.ats_lists.proofs.WholeLemmas.{list_frequency}
+use Rattle.ats_postings.specs.Postings.{postings}
+use Rattle.ats_postings.specs.Lists.{list, lists_of, vocabulary}
+use Rattle.ats_postings.specs.declared.entry.Entry.{Entry}
+use Rattle.ats_postings.proofs.VocabularyLemmas.{vocabulary_has, postings_frequency}
+use Rattle.ats_postings.proofs.WholeLemmas.{list_frequency}
 
 -- the lists are in the order of the vocabulary
 lists_at : (texts : List (List ℕ)) (i : ℕ) (d : List ℕ × List Entry) → i < length (vocabulary texts)

@@ -27,10 +27,10 @@ use Rattle.ats_terms.specs.Query.{byte_cmp, put_term, counted, Rises}
 use Rattle.ats_terms.specs.Counted.{weight_of}
 use Rattle.ats_terms.proofs.Public.{counted_counts, rises_less}
 use Rattle.ats_impact.specs.Score.{count, frequency, total_terms}
-use Rattle.ats_lists.specs.Postings.{count_in, posting, postings_of_first, postings}
-use Rattle.ats_lists.specs.Lists.{vocabulary}
-use Rattle.ats_lists.specs.declared.entry.Entry.{Entry}
-use Rattle.ats_lists.proofs.PostingLemmas.{postings_more, postings_none}
+use Rattle.ats_postings.specs.Postings.{count_in, posting, postings_of_first, postings}
+use Rattle.ats_postings.specs.Lists.{vocabulary}
+use Rattle.ats_postings.specs.declared.entry.Entry.{Entry}
+use Rattle.ats_postings.proofs.PostingLemmas.{postings_more, postings_none}
 
 -- ---- look-ups determine the entries in the order of their keys
 

@@ -6,8 +6,8 @@ use Rattle.std.specs.Ordering.{nat_cmp, ordering_then}
 use Rattle.std.specs.declared.cmp.Ordering.{Ordering}
 use Rattle.ats_terms.specs.Terms.{terms, IsTerm}
 use Rattle.ats_terms.specs.Query.{byte_cmp, counted}
-use Rattle.ats_lists.specs.Postings.{postings}
-use Rattle.ats_lists.specs.declared.entry.Entry.{Entry}
+use Rattle.ats_postings.specs.Postings.{postings}
+use Rattle.ats_postings.specs.declared.entry.Entry.{Entry}
 
 -- the entries of impact n, then those of impact n - 1, and so on down to 1; those of one impact in their given order
 unfoldable pub by_impact : ℕ → List Entry → List Entry
@@ -21,6 +21,15 @@ list texts term = by_impact 2200 (postings texts term)
 -- by impact descending, then document ascending
 abbrev pub entry_cmp : Entry → Entry → Ordering
 entry_cmp a b = ordering_then (nat_cmp b.impact a.impact) (nat_cmp a.doc b.doc)
+
+-- by document
+abbrev pub doc_cmp : Entry → Entry → Ordering
+doc_cmp a b = nat_cmp a.doc b.doc
+
+-- entries in the order of documents, with possible impacts
+pub record AreGathered (entries : List Entry) : Type 0 where
+  pub rise : IsStrictlySortedBy doc_cmp entries
+  pub impacts : All (λ entry. (1 ≤ entry.impact) × (entry.impact ≤ 2200)) entries
 
 -- the entries are the postings of the term, by impact descending, then document ascending
 pub record IsListOf (texts : List (List ℕ)) (term : List ℕ) (entries : List Entry) : Type 0 where

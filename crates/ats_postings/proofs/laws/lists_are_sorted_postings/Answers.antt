@@ -1,5 +1,5 @@
-use Rattle.ats_lists.proofs.PostingLemmas.{list_is_sorted, sorted_is_list}
-use Rattle.ats_lists.proofs.laws.lists_are_sorted_postings.Goals as goal
+use Rattle.ats_postings.proofs.PostingLemmas.{list_is_sorted, sorted_is_list}
+use Rattle.ats_postings.proofs.laws.lists_are_sorted_postings.Goals as goal
 
 pub returns-clause-sorted : goal.returns-clause-sorted
 returns-clause-sorted c = list_is_sorted

@@ -4,9 +4,9 @@
 ghost use Rattle.std.specs.Prelude.{◌≡◌, ◌<◌, List, ℕ, length, ◌↔◌};
 ghost use Rattle.std.specs.List.{Contains};
 ghost use Rattle.ats_impact.specs.Score.{frequency};
-ghost use Rattle.ats_lists.specs.Postings.{count_in};
-ghost use Rattle.ats_lists.specs.Lists.{list, vocabulary, IsListOf};
-ghost use Rattle.ats_lists.specs.declared.entry.Entry.{Entry};
+ghost use Rattle.ats_postings.specs.Postings.{count_in};
+ghost use Rattle.ats_postings.specs.Lists.{list, vocabulary, IsListOf};
+ghost use Rattle.ats_postings.specs.declared.entry.Entry.{Entry};
 
 /// The list of a term is its postings by impact descending, then document ascending. No other list is: the order has no
 /// ties.
